@@ -1,0 +1,20 @@
+# Mezulobu: the two commands are `make run FILE=examples/NAME.json` and `make test`.
+PROGRAM := crates/sysmem_replay
+FILE ?= examples/one_participant.json
+
+.PHONY: run proved test bench
+
+# Runs a script: with the proved program where `make proved` has built it, else without proving.
+run:
+	@./run $(abspath $(FILE))
+
+# Proves the program and all that it stands on, and builds it.
+proved:
+	cd $(PROGRAM) && rt run -- run $(abspath $(FILE))
+
+# The whole gate: every proof from nothing, the must-fail edits, the tests, the program.
+test:
+	rt ci
+
+bench:
+	bench/run
