@@ -1,0 +1,3 @@
+pub mod Domain
+pub mod Heap
+pub mod Wishes

@@ -1,0 +1,58 @@
+//! A participant's memory constraints.
+
+ghost use Rattle.std.specs.Prelude.{◌≡◌};
+ghost use Rattle.sysmem_memory.specs.Wishes.{no_wishes};
+
+use crate::heap::Heap;
+use std::alloc::Global;
+use std::marker::Model;
+
+/// What a participant asks of a buffer's memory. Sizes are in bytes.
+#[derive(Debug, Drop)]
+pub struct MemoryConstraints {
+    pub min_size_bytes: u64,
+    pub max_size_bytes: u64,
+    pub physically_contiguous_required: bool,
+    pub secure_required: bool,
+    pub cpu_domain_supported: bool,
+    pub ram_domain_supported: bool,
+    pub inaccessible_domain_supported: bool,
+    /// The heaps that the buffer may lie in; an empty list permits every heap.
+    pub permitted_heaps: Vec<Heap>,
+}
+
+impl Model for MemoryConstraints {
+    ghost use Rattle.sysmem_memory.specs.Wishes.{MemoryWishes};
+
+    ghost Value = { MemoryWishes };
+
+    ghost view = { λ m. record {
+      min_size_bytes = m.min_size_bytes;
+      max_size_bytes = m.max_size_bytes;
+      physically_contiguous_required = m.physically_contiguous_required;
+      secure_required = m.secure_required;
+      cpu_domain_supported = m.cpu_domain_supported;
+      ram_domain_supported = m.ram_domain_supported;
+      inaccessible_domain_supported = m.inaccessible_domain_supported;
+      permitted_heaps = m.permitted_heaps.items;
+    } };
+}
+
+impl MemoryConstraints {
+    /// The constraints of a participant that names none: any size, any heap, CPU access through the caches.
+    /// It takes no memory.
+    pub fn new(alloc: Global) -> MemoryConstraints
+        ensures { result ≡ no_wishes }
+    {
+        MemoryConstraints {
+            min_size_bytes: 0,
+            max_size_bytes: u64::MAX,
+            physically_contiguous_required: false,
+            secure_required: false,
+            cpu_domain_supported: true,
+            ram_domain_supported: false,
+            inaccessible_domain_supported: false,
+            permitted_heaps: Vec::new(alloc),
+        }
+    }
+}

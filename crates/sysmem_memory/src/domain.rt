@@ -1,0 +1,59 @@
+//! Coherency domains and sets of them.
+
+ghost use Rattle.std.specs.Prelude.{◌≡◌, ◌↔◌, Some};
+ghost use Rattle.sysmem_memory.specs.Domain.{domain_name, has_domain};
+ghost use Rattle.sysmem_memory.specs.declared.domain.CoherencyDomain.{CoherencyDomain as Domain};
+
+/// How the CPU sees a buffer's memory: through its caches, in main memory, or not at all.
+#[derive(Clone, Copy, Debug, PartialEq, Eq)]
+pub enum CoherencyDomain {
+    Cpu,
+    Ram,
+    Inaccessible,
+}
+
+impl CoherencyDomain {
+    /// The domain's name in a script and in a report.
+    pub fn name(self) -> &'static str
+        ensures { result.now ≡ domain_name self }
+    {
+        match self {
+            CoherencyDomain::Cpu => "cpu",
+            CoherencyDomain::Ram => "ram",
+            CoherencyDomain::Inaccessible => "inaccessible",
+        }
+    }
+
+    /// The domain of that name, or `None` where there is none.
+    pub fn from_name(name: &str) -> Option<CoherencyDomain>
+        ensures { (d : Domain) → (result ≡ Some d) ↔ (name.now ≡ domain_name d) }
+    {
+        match name {
+            "cpu" => Some(CoherencyDomain::Cpu),
+            "ram" => Some(CoherencyDomain::Ram),
+            "inaccessible" => Some(CoherencyDomain::Inaccessible),
+            _ => None,
+        }
+    }
+}
+
+/// A set of coherency domains.
+#[derive(Clone, Copy, Debug, PartialEq, Eq)]
+pub struct CoherencyDomains {
+    pub cpu: bool,
+    pub ram: bool,
+    pub inaccessible: bool,
+}
+
+impl CoherencyDomains {
+    /// Whether the set has the domain.
+    pub fn has(self, domain: CoherencyDomain) -> bool
+        ensures { result ≡ has_domain self domain }
+    {
+        match domain {
+            CoherencyDomain::Cpu => self.cpu,
+            CoherencyDomain::Ram => self.ram,
+            CoherencyDomain::Inaccessible => self.inaccessible,
+        }
+    }
+}

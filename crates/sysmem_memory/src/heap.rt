@@ -1,0 +1,39 @@
+//! Heaps, by their names, and what a platform says of each.
+
+ghost use Rattle.std.specs.Prelude.{◌≡◌};
+
+use crate::domain::CoherencyDomains;
+use std::marker::Model;
+
+/// A heap's name: its type, 1 to 128 ASCII letters, digits, `.`, `_` or `-`, and its id.
+#[derive(Debug, Drop)]
+pub struct Heap {
+    pub heap_type: String,
+    pub id: u64,
+}
+
+impl Model for Heap {
+    ghost use Rattle.std.specs.String.{string_bytes};
+    ghost use Rattle.sysmem_memory.specs.Heap.{HeapName};
+
+    ghost Value = { HeapName };
+
+    ghost view = { λ h. record { heap_type = string_bytes h.heap_type; id = h.id } };
+}
+
+/// A heap of a platform.
+#[derive(Debug, Drop)]
+pub struct HeapInfo {
+    pub heap: Heap,
+    pub contiguous: bool,
+    pub secure: bool,
+    pub domains: CoherencyDomains,
+}
+
+impl Model for HeapInfo {
+    ghost use Rattle.sysmem_memory.specs.Heap.{HeapFacts};
+
+    ghost Value = { HeapFacts };
+
+    ghost view = { λ h. record { heap = h.heap; contiguous = h.contiguous; secure = h.secure; domains = h.domains } };
+}
