@@ -1,0 +1,6 @@
+pub mod Best
+pub mod Faults
+pub mod Participant
+pub mod Platform
+pub mod Reasons
+pub mod Settings

@@ -1,0 +1,14 @@
+//! The best settings for a flat list of participants on a platform, or the reason why none meet them.
+#![tactic(auto)]
+
+mod constraints;
+mod fault;
+mod platform;
+mod reason;
+mod settings;
+
+pub use constraints::Constraints;
+pub use fault::{Code, Fault, Spot};
+pub use platform::Platform;
+pub use reason::Reason;
+pub use settings::{Offer, Settings};

@@ -1,0 +1,33 @@
+//! What a platform has, as its record says it.
+
+ghost use Rattle.std.specs.Prelude.{◌≡◌, ◌≤◌, length};
+
+use std::marker::Model;
+use sysmem_memory::HeapInfo;
+
+/// A platform: its heaps in order, at least one and at most 64, no two of one type and id.
+#[derive(Debug, Drop)]
+pub struct Platform {
+    heaps: Vec<HeapInfo>,
+}
+
+impl Model for Platform {
+    ghost use Rattle.std.specs.Prelude.{◌≤◌, length};
+    ghost use Rattle.sysmem_merge.specs.Platform.{PlatformFacts};
+
+    ghost Value = { PlatformFacts };
+
+    ghost view = { λ p. record { heaps = p.heaps.items } };
+
+    ghost invariant = { λ p. length p.heaps.items ≤ 64 };
+}
+
+impl Platform {
+    /// The heaps in the platform's order, at most 64.
+    pub fn heaps(&self) -> &[HeapInfo]
+        ensures heaps { result.now ≡ self.now.heaps }
+        ensures few { length result.now ≤ 64 }
+    {
+        &self.heaps
+    }
+}
