@@ -16,5 +16,7 @@ proved:
 test:
 	rt ci
 
-bench:
+# Times the proved program beside the reading of the same bytes as a JSON value.
+bench: proved
+	cd crates/value_reader && rt run -- one_participant.json
 	bench/run
