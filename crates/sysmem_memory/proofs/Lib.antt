@@ -1,1 +1,3 @@
 pub mod FirstRefusing
+pub mod Left
+pub mod Lists
