@@ -5,6 +5,7 @@ mod bounds;
 mod constraints;
 mod domain;
 mod heap;
+pub mod laws;
 mod place;
 mod refusal;
 
