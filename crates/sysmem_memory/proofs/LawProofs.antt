@@ -28,20 +28,23 @@ same_heap_itself a =
     ap (λ b. b && a.id == a.id) (nat_list_eq_equiv.refl a.heap_type) ∙ eq-eqb a.id a.id refl
 
 pub same_heap_is_equal : SameHeapIsEqual
-same_heap_is_equal a b = (λ e.
+same_heap_is_equal a b = (
+  λ e.
       let parts = and_parts (pointwise ◌==◌ a.heap_type b.heap_type) (a.id == b.id) e in
-      equal_names a.heap_type b.heap_type a.id b.id (same_text a.heap_type b.heap_type (sym parts.0)) (grind (arith, parts.1)), λ e. subst (λ c. same_heap a c ≡ true) e (same_heap_itself a))
+      equal_names a.heap_type b.heap_type a.id b.id (same_text a.heap_type b.heap_type (sym parts.0)) (grind (arith, parts.1)),
+  λ e. subst (λ c. same_heap a c ≡ true) e (same_heap_itself a),
+)
 
 pub no_place_before_itself : NoPlaceBeforeItself
 no_place_before_itself p before = elim before [ inl lower ↦ omega (arith, lower) | inr same ↦ omega (arith, same.1) ]
 
 pub earlier_is_transitive : EarlierIsTransitive
 earlier_is_transitive p q r first then = elim first [
-    inl lower ↦ elim then [ inl more ↦ inl (omega (arith, lower, more)) | inr same ↦ inl (omega (arith, lower, same.0)) ]
+  | inl lower ↦ elim then [ inl more ↦ inl (omega (arith, lower, more)) | inr same ↦ inl (omega (arith, lower, same.0)) ]
   | inr same ↦ elim then [
-        inl more ↦ inl (omega (arith, same.0, more))
-      | inr again ↦ inr (same.0 ∙ again.0, omega (arith, same.1, again.1))
-    ]
+    | inl more ↦ inl (omega (arith, same.0, more))
+    | inr again ↦ inr (same.0 ∙ again.0, omega (arith, same.1, again.1))
+  ]
 ]
 
 -- domains of one rank are one domain
@@ -63,10 +66,10 @@ equal_places k n a b e f =
 
 pub places_are_in_one_order : PlacesAreInOneOrder
 places_are_in_one_order p q before after = elim (cases_order p.heap q.heap) [
-    inl same ↦ elim (cases_order (rank p.coherency) (rank q.coherency)) [
-        inl level ↦ equal_places p.heap q.heap p.coherency q.coherency same (same_domain p.coherency q.coherency level)
-      | inr other ↦ elim other [ inl lower ↦ absurd (before (inr (same, lower))) | inr higher ↦ absurd (after (inr (sym same, higher))) ]
-    ]
+  | inl same ↦ elim (cases_order (rank p.coherency) (rank q.coherency)) [
+    | inl level ↦ equal_places p.heap q.heap p.coherency q.coherency same (same_domain p.coherency q.coherency level)
+    | inr other ↦ elim other [ inl lower ↦ absurd (before (inr (same, lower))) | inr higher ↦ absurd (after (inr (sym same, higher))) ]
+  ]
   | inr other ↦ elim other [ inl lower ↦ absurd (before (inl lower)) | inr higher ↦ absurd (after (inl higher)) ]
 ]
 

@@ -56,7 +56,7 @@ left_more h ps p d =
 pub stands_for_none : (left : List CoherencyDomains) (heaps : List HeapFacts) → length heaps ≤ 64 → ((k : ℕ) (h : HeapFacts) (s : CoherencyDomains) → k < length heaps → slice_get heaps k ≡ Some h → slice_get left k ≡ Some s → h.domains ≡ s) → StandsFor left heaps []
 stands_for_none left heaps limit kept = record {
   limit = limit;
-  exactly = λ k h s d at_heap at_left. ap (λ t. has_domain t d) (sym (kept k h s (slice_get_within heaps k h at_heap) at_heap at_left)) ∙ sym (and-true (has_domain h.domains d))
+  exactly = λ k h s d at_heap at_left. ap (λ t. has_domain t d) (sym (kept k h s (slice_get_within heaps k h at_heap) at_heap at_left)) ∙ sym (and-true (has_domain h.domains d));
 }
 
 -- the heap at an index lost what a participant refuses, and nothing else
@@ -68,9 +68,9 @@ LostAt m u heaps old left k =
 pub lost_more : (m : MemoryWishes) (u : usage.Usage) (heaps : List HeapFacts) (old left : List CoherencyDomains) (i : ℕ) (h : HeapFacts) (d y : CoherencyDomains) → i < length left → h ≡ get_or heaps i h → ((e : CoherencyDomain) → has_domain y e ≡ (has_domain (get_or left i d) e && is_none (first_refusing m u h e))) → ((k : ℕ) → k < i → LostAt m u heaps old left k) → ((k : ℕ) (s : CoherencyDomains) → i ≤ k → slice_get left k ≡ Some s → slice_get old k ≡ Some s) → (k : ℕ) → k < i + 1 → LostAt m u heaps old (slice_set left i y) k
 lost_more m u heaps old left i h d y within read lost done rest =
     below_more (LostAt m u heaps old (slice_set left i y)) i (λ k below g t s at_heap at_old at_left. done k below g t s at_heap at_old (slice_get-set_other left i k y s (λ e. omega (arith, e, below)) at_left)) (λ g t s at_heap at_old at_left e.
-          let heap : h ≡ g = read ∙ get_or_from_slice_get heaps i g h at_heap in
-          let was : get_or left i d ≡ t = same_Some (get_or left i d) t (sym (rest i (get_or left i d) (omega arith) (slice_get-get_or left i d within)) ∙ at_old) in
-          ap (λ s. has_domain s e) (sym (slice_get-set_same left i y s within at_left)) ∙ lost e ∙ ap (λ t. has_domain t e && is_none (first_refusing m u h e)) was ∙ ap (λ h. has_domain t e && is_none (first_refusing m u h e)) heap)
+    let heap : h ≡ g = read ∙ get_or_from_slice_get heaps i g h at_heap in
+    let was : get_or left i d ≡ t = same_Some (get_or left i d) t (sym (rest i (get_or left i d) (omega arith) (slice_get-get_or left i d within)) ∙ at_old) in
+    ap (λ s. has_domain s e) (sym (slice_get-set_same left i y s within at_left)) ∙ lost e ∙ ap (λ t. has_domain t e && is_none (first_refusing m u h e)) was ∙ ap (λ h. has_domain t e && is_none (first_refusing m u h e)) heap)
 
 -- the heaps after one more are as they were
 pub rest_less : (old left : List CoherencyDomains) (i : ℕ) (y : CoherencyDomains) → ((k : ℕ) (s : CoherencyDomains) → i ≤ k → slice_get left k ≡ Some s → slice_get old k ≡ Some s) → (k : ℕ) (s : CoherencyDomains) → i + 1 ≤ k → slice_get (slice_set left i y) k ≡ Some s → slice_get old k ≡ Some s
@@ -84,7 +84,7 @@ stands_for_more old left heaps ps p room lost stands = record {
   exactly = λ k h s d at_heap at_left.
       let within = slice_get_within heaps k h at_heap in
       let was = slice_get_some old k (omega (arith, within, room)) in
-      lost k within h was.0 s at_heap was.1 at_left d ∙ ap (λ b. b && is_none (first_refusing p.memory p.usage h d)) (stands.exactly k h was.0 d at_heap was.1) ∙ left_more h ps p d
+      lost k within h was.0 s at_heap was.1 at_left d ∙ ap (λ b. b && is_none (first_refusing p.memory p.usage h d)) (stands.exactly k h was.0 d at_heap was.1) ∙ left_more h ps p d;
 }
 
 -- a place whose domain isn't left is refused
@@ -109,38 +109,39 @@ first_place_left left heaps ps n s d room within at_left first passed stands =
       place = record { heap = info.1; domain = allowed.0 };
       allowed = allowed.1;
       earlier = λ q h place before. elim before [
-          inl lower ↦
+        | inl lower ↦
             let kept = slice_get_some left q.heap (omega (arith, slice_get_within heaps q.heap h place.heap, room)) in
             refused_at left heaps ps q h kept.0 stands place kept.1 (passed q.heap kept.0 lower kept.1 q.coherency)
         | inr same ↦
             refused_at left heaps ps q h s stands place (ap (λ k. slice_get left k) same.0 ∙ at_left) (first.before q.coherency same.1)
-      ]
+      ];
     }
 
 -- a heap that some field refuses has no domain left
 pub nothing_left : (left : CoherencyDomains) (m : MemoryWishes) (u : usage.Usage) (h : HeapFacts) (r : Option Field) → ((u : usage.Usage) (d : CoherencyDomain) → r ≡ find (λ f. refuses_by f m u h d) heap_fields) → true ≡ is_some r → (d : CoherencyDomain) → has_domain (record { cpu = false; ram = false; inaccessible = false }) d ≡ (has_domain left d && is_none (first_refusing m u h d))
 nothing_left left m u h r by_heap some d =
     elim d as (λ d. has_domain (record { cpu = false; ram = false; inaccessible = false }) d ≡ (has_domain left d && is_none (first_refusing m u h d))) [
-        Cpu ↦ closed left.cpu r _ (front Cpu) some
+      | Cpu ↦ closed left.cpu r _ (front Cpu) some
       | Ram ↦ closed left.ram r _ (front Ram) some
       | Inaccessible ↦ closed left.inaccessible r _ (front Inaccessible) some
     ]
   where
-  front : (d : CoherencyDomain) → r ≡ first_refusing m u h d
-  front d = find_front (λ f. refuses_by f m u h d) heap_fields domain_fields r (by_heap u d) some
-  closed : (b : Bool) (r o : Option Field) → r ≡ o → true ≡ is_some r → false ≡ (b && is_none o)
-  closed true None o e some = cc
-  closed true (Some f) o e some = ap is_none e
-  closed false r o e some = refl
+    front : (d : CoherencyDomain) → r ≡ first_refusing m u h d
+    front d = find_front (λ f. refuses_by f m u h d) heap_fields domain_fields r (by_heap u d) some
+
+    closed : (b : Bool) (r o : Option Field) → r ≡ o → true ≡ is_some r → false ≡ (b && is_none o)
+    closed true None o e some = cc
+    closed true (Some f) o e some = ap is_none e
+    closed false r o e some = refl
 
 -- of a heap that no field refuses each domain is left that was, and that no field refuses
 pub domain_still_left : (m : MemoryWishes) (u : usage.Usage) (h : HeapFacts) (r : Option Field) → ((u : usage.Usage) (d : CoherencyDomain) → r ≡ find (λ f. refuses_by f m u h d) heap_fields) → false ≡ is_some r → (left s : CoherencyDomains) → s.cpu ≡ (left.cpu && is_none (find (λ f. refuses_by f m u h Cpu) domain_fields)) → s.ram ≡ (left.ram && is_none (find (λ f. refuses_by f m u h Ram) domain_fields)) → s.inaccessible ≡ (left.inaccessible && is_none (find (λ f. refuses_by f m u h Inaccessible) domain_fields)) → (d : CoherencyDomain) → has_domain s d ≡ (has_domain left d && is_none (first_refusing m u h d))
 domain_still_left m u h r by_heap none left s cpu ram inaccessible d =
     elim d as (λ d. has_domain s d ≡ (has_domain left d && is_none (first_refusing m u h d))) [
-        Cpu ↦ cpu ∙ ap (λ o. left.cpu && is_none o) (rest Cpu)
+      | Cpu ↦ cpu ∙ ap (λ o. left.cpu && is_none o) (rest Cpu)
       | Ram ↦ ram ∙ ap (λ o. left.ram && is_none o) (rest Ram)
       | Inaccessible ↦ inaccessible ∙ ap (λ o. left.inaccessible && is_none o) (rest Inaccessible)
     ]
   where
-  rest : (d : CoherencyDomain) → find (λ f. refuses_by f m u h d) domain_fields ≡ first_refusing m u h d
-  rest d = find_rest (λ f. refuses_by f m u h d) heap_fields domain_fields r (by_heap u d) none
+    rest : (d : CoherencyDomain) → find (λ f. refuses_by f m u h d) domain_fields ≡ first_refusing m u h d
+    rest d = find_rest (λ f. refuses_by f m u h d) heap_fields domain_fields r (by_heap u d) none

@@ -53,10 +53,8 @@ impl MemoryBounds {
     /// Adds a participant: what it refuses is no longer left. The heaps are those that `new` was given.
     pub fn add(&mut self, heaps: &[HeapInfo], memory: &MemoryConstraints, usage: Usage)
         requires { length heaps.now ≤ 64 }
-        ensures {
-            (ps : List PlaceDemand) → StandsFor self.old heaps.now ps
-                → StandsFor self.new heaps.now (ps ++ record { memory = memory.now; usage = usage } ∷ [])
-        }
+        ensures { (ps : List PlaceDemand) → StandsFor self.old heaps.now ps
+            → StandsFor self.new heaps.now (ps ++ record { memory = memory.now; usage = usage } ∷ []) }
     {
         for (index, heap) in heaps.iter().enumerate() {
             self.left[index] = still_left(self.left[index], heap, memory, usage);
@@ -67,12 +65,8 @@ impl MemoryBounds {
     /// The heaps are those that `new` was given.
     pub fn first_place(&self, heaps: &[HeapInfo]) -> Option<Place>
         requires { length heaps.now ≤ 64 }
-        ensures first {
-            (ps : List PlaceDemand) → StandsFor self.now heaps.now ps → IfSome result (IsFirstPlace heaps.now ps)
-        }
-        ensures none {
-            (ps : List PlaceDemand) → StandsFor self.now heaps.now ps → IfNone result (HasNoPlace heaps.now ps)
-        }
+        ensures first { (ps : List PlaceDemand) → StandsFor self.now heaps.now ps → IfSome result (IsFirstPlace heaps.now ps) }
+        ensures none { (ps : List PlaceDemand) → StandsFor self.now heaps.now ps → IfNone result (HasNoPlace heaps.now ps) }
     {
         for heap in 0..heaps.len() {
             if let Some(coherency) = self.left[heap].first() {
@@ -90,9 +84,7 @@ fn still_left(
     memory: &MemoryConstraints,
     usage: Usage,
 ) -> CoherencyDomains
-    ensures {
-        (d : Domain) → has_domain result d ≡ (has_domain left d && is_none (first_refusing memory.now usage heap.now d))
-    }
+    ensures { (d : Domain) → has_domain result d ≡ (has_domain left d && is_none (first_refusing memory.now usage heap.now d)) }
 {
     if heap_refuses(memory, heap).is_some() {
         return CoherencyDomains::NONE;
@@ -115,10 +107,8 @@ fn domain_left(
     memory: &MemoryConstraints,
     usage: Usage,
 ) -> bool
-    ensures {
-        result ≡ (has_domain left domain
-            && is_none (find (λ f. refuses_by f memory.now usage heap.now domain) domain_fields))
-    }
+    ensures { result ≡ (has_domain left domain
+        && is_none (find (λ f. refuses_by f memory.now usage heap.now domain) domain_fields)) }
 {
     left.has(domain) && domain_refuses(memory, usage, heap, domain).is_none()
 }

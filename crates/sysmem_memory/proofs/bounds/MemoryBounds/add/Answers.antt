@@ -9,7 +9,7 @@ pub loop-index-preserved : goal.loop-index-preserved
 loop-index-preserved c = record {
   room = length-set c.loop-index.self-inside.left c.loop-index.index c.still_left.result ∙ c.loop-index.invariant.room;
   done = lost_more c.args.memory.now c.args.usage c.args.heaps.now c.self.inside.left c.loop-index.self-inside.left c.loop-index.index c.index-heaps-index.result _ c.still_left.result (omega arith) c.index-heaps-index.is c.still_left.ensures c.loop-index.invariant.done c.loop-index.invariant.rest;
-  rest = rest_less c.self.inside.left c.loop-index.self-inside.left c.loop-index.index c.still_left.result c.loop-index.invariant.rest
+  rest = rest_less c.self.inside.left c.loop-index.self-inside.left c.loop-index.index c.still_left.result c.loop-index.invariant.rest;
 }
 
 pub returns : goal.returns

@@ -8,5 +8,5 @@ abbrev pub invariant-loop-index : goal.invariant-loop-index
 invariant-loop-index l = record {
   room : length l.self-inside.left ≡ 64;
   done : (k : ℕ) → k < l.index → LostAt l.memory l.usage l.heaps l.initial.self-inside.left l.self-inside.left k;
-  rest : (k : ℕ) (s : CoherencyDomains) → l.index ≤ k → slice_get l.self-inside.left k ≡ Some s → slice_get l.initial.self-inside.left k ≡ Some s
+  rest : (k : ℕ) (s : CoherencyDomains) → l.index ≤ k → slice_get l.self-inside.left k ≡ Some s → slice_get l.initial.self-inside.left k ≡ Some s;
 }

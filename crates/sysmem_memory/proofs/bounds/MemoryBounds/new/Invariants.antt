@@ -7,5 +7,5 @@ use Rattle.sysmem_memory.proofs.bounds.MemoryBounds.new.Given as goal
 abbrev pub invariant-loop-index : goal.invariant-loop-index
 invariant-loop-index l = record {
   room : length l.left ≡ 64;
-  kept : (k : ℕ) (h : HeapFacts) (s : CoherencyDomains) → k < l.index → slice_get l.heaps k ≡ Some h → slice_get l.left k ≡ Some s → h.domains ≡ s
+  kept : (k : ℕ) (h : HeapFacts) (s : CoherencyDomains) → k < l.index → slice_get l.heaps k ≡ Some h → slice_get l.left k ≡ Some s → h.domains ≡ s;
 }
