@@ -1,18 +1,16 @@
 -- The proofs of the laws.
-use Rattle.std.proofs.Common.{◌≡◌, ◌<◌, ℕ, Bool, true, false, ◌&&◌, ◌==◌, List, All, Contains, Decides, refl, sym, ◌∙◌, ap, subst, arith, inl, inr, get_or, slice_get, Some, eq-eqb}
+use Rattle.std.proofs.Common.{◌≡◌, ℕ, true, false, ◌&&◌, ◌==◌, List, All, Contains, refl, sym, ◌∙◌, ap, subst, arith, inl, inr, eq-eqb}
 use Rattle.std.specs.Cmp.Lexicographic.{pointwise, same_text}
 use Rattle.std.proofs.lemmas.Bool.{cases_order}
 use Rattle.std.proofs.lemmas.Cmp.{nat_list_eq_equiv}
 use Rattle.std.proofs.lemmas.List.Elements.{All-contains_itself}
-use Rattle.std.proofs.lemmas.Option.{same_Some}
-use Rattle.sysmem_counts.specs.declared.field.Field.{Field}
 use Rattle.sysmem_memory.specs.declared.domain.CoherencyDomain.{CoherencyDomain}
 use Rattle.sysmem_memory.specs.declared.domain.CoherencyDomain.TheVariants.{Cpu, Ram, Inaccessible}
 use Rattle.sysmem_memory.specs.declared.place.Place.{Place}
 use Rattle.sysmem_memory.specs.Domain.{rank}
 use Rattle.sysmem_memory.specs.Heap.{HeapName, HeapFacts, same_heap}
-use Rattle.sysmem_memory.specs.PlaceTable.{AllowsPlace, IsPlaceLine, PlaceDemand, refuses_by}
-use Rattle.sysmem_memory.specs.Place.{IsPlace, IsEarlier, IsRefused, IsFirstPlace, HasNoPlace}
+use Rattle.sysmem_memory.specs.PlaceTable.{AllowsPlace, PlaceDemand}
+use Rattle.sysmem_memory.specs.Place.{IsEarlier, IsRefused, IsFirstPlace}
 use Rattle.sysmem_memory.specs.Laws.{SameHeapIsEqual, NoPlaceBeforeItself, EarlierIsTransitive, PlacesAreInOneOrder, TrueLineLeavesNoPlace, OneFirstPlace, RefusedByAllIsNoPlace}
 use Rattle.sysmem_memory.proofs.Lists.{and_parts}
 use Rattle.sysmem_memory.proofs.FirstRefusing.{none_refuses}

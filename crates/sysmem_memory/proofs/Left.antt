@@ -11,11 +11,11 @@ use Rattle.sysmem_memory.specs.declared.domain.CoherencyDomain.{CoherencyDomain}
 use Rattle.sysmem_memory.specs.declared.domain.CoherencyDomain.TheVariants.{Cpu, Ram, Inaccessible}
 use Rattle.sysmem_memory.specs.declared.domain.CoherencyDomains.{CoherencyDomains}
 use Rattle.sysmem_memory.specs.declared.place.Place.{Place}
-use Rattle.sysmem_memory.specs.Domain.{has_domain, rank, IsFirstDomain}
+use Rattle.sysmem_memory.specs.Domain.{has_domain, IsFirstDomain}
 use Rattle.sysmem_memory.specs.Heap.{HeapFacts}
 use Rattle.sysmem_memory.specs.Wishes.{MemoryWishes}
 use Rattle.sysmem_memory.specs.PlaceTable.{refuses_by, heap_fields, domain_fields, place_fields, first_refusing, AllowsPlace, PlaceDemand}
-use Rattle.sysmem_memory.specs.Place.{IsPlace, IsEarlier, IsRefused, IsFirstPlace, HasNoPlace, is_left, StandsFor}
+use Rattle.sysmem_memory.specs.Place.{IsPlace, IsRefused, IsFirstPlace, HasNoPlace, is_left, StandsFor}
 use Rattle.sysmem_memory.proofs.FirstRefusing.{find_front, find_rest, find_passes}
 use Rattle.sysmem_memory.proofs.Lists.{slice_get_some, slice_get-set_same, slice_get-set_other, any_fails, and_parts}
 

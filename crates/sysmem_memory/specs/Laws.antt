@@ -1,5 +1,5 @@
 -- The laws of heaps' names, of places' order and of refusals.
-use Rattle.std.specs.Prelude.{◌≡◌, ◌↔◌, Bool, true, List, All, Contains}
+use Rattle.std.specs.Prelude.{◌≡◌, ◌↔◌, true, List, All, Contains}
 use Rattle.sysmem_counts.specs.declared.field.Field.{Field}
 use Rattle.sysmem_memory.specs.declared.domain.CoherencyDomain.{CoherencyDomain}
 use Rattle.sysmem_memory.specs.declared.place.Place.{Place}

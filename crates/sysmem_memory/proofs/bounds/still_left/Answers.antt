@@ -1,4 +1,3 @@
-use Rattle.sysmem_memory.specs.declared.domain.CoherencyDomain.TheVariants.{Cpu, Ram, Inaccessible}
 use Rattle.sysmem_memory.proofs.Left.{nothing_left, domain_still_left}
 use Rattle.sysmem_memory.proofs.bounds.still_left.Goals as goal
 

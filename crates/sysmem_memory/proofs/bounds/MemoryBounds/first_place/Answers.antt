@@ -1,4 +1,4 @@
-use Rattle.std.proofs.Common.{◌≡◌, length, sym, subst, arith, get_or}
+use Rattle.std.proofs.Common.{sym, subst, arith}
 use Rattle.std.proofs.lemmas.Option.{slice_get-get_or}
 use Rattle.sysmem_memory.specs.Place.{StandsFor}
 use Rattle.sysmem_memory.proofs.Left.{first_place_left, no_place_left}
