@@ -37,12 +37,6 @@ line_sound MaxBufferCount ps line count c =
 line_sound BufferCountLimit ps line count c = omega (arith, line, c.limit, needed_le ps count c)
 line_sound _ ps line count c = absurd line
 
--- the first true line is a true line
-pub first_is_line : (field : Field) (ps : List CountConstraints) → IsFirstCountLine field ps → IsCountLine field ps
-first_is_line BufferCountLimit ps first = first.1
-first_is_line MaxBufferCount ps first = first
-first_is_line _ ps first = absurd first
-
 -- a count for all is a count for some
 pub counted_some : CountSuitsSome
 counted_some some all count among c = record {
