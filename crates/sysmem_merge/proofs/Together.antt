@@ -54,7 +54,7 @@ offer_met whole platform ps t meets = let m : MeetsLoosely platform ps t = loose
 
 -- a place that somebody refuses isn't one that all allow
 pub refused_clash : (h : HeapFacts) (d : CoherencyDomain) (ps : List PlaceDemand) → IsRefused h d ps → All (λ p. AllowsPlace p.memory p.usage h d) ps → ⊥
-refused_clash h d ps (f, k, p, below, is, refuses) all =
+refused_clash h d ps (f, (k, p, below, is, refuses)) all =
     let allows : AllowsPlace p.memory p.usage h d = subst (λ (q : PlaceDemand). AllowsPlace q.memory q.usage h d) is (all k p below) in
     cc (refuses, none_refuses p.memory p.usage h d allows f)
 
