@@ -1,8 +1,9 @@
 -- A reason that is true of participants leaves no settings to them, nor to more.
 use Rattle.std.proofs.Common.{arith, ℕ, ◌≡◌, ◌≤◌, ◌<◌, Bool, List, [], ◌∷◌, map, All, Any, refl, subst}
 use Rattle.std.proofs.lemmas.List.Elements.{All-nil, All-cons, All-head, All-tail, All-map, All-weaker}
+use Rattle.sysmem_counts.proofs.Counts.{line_sound, line_of_some}
+use Rattle.sysmem_counts.proofs.Lists.{All-some, Any-not_All}
 use Rattle.sysmem_counts.specs.Counts.{needed, IsCounted, IsLeastCount, HasNoCount, IsCountLine, IsFirstCountLine}
-use Rattle.sysmem_counts.specs.Laws.{CountLineLeavesNone}
 use Rattle.sysmem_counts.specs.Sublist.{IsSublist, ended, taken, left_out}
 use Rattle.sysmem_counts.specs.declared.constraints.CountConstraints.{CountConstraints}
 use Rattle.sysmem_counts.specs.declared.field.Field.{Field}
@@ -32,38 +33,28 @@ map_some f _ _ ended = ended
 map_some f _ _ (taken x some all among) = taken (f x) (map f some) (map f all) (map_some f some all among)
 map_some f _ _ (left_out x some all among) = left_out (f x) (map f some) (map f all) (map_some f some all among)
 
--- what each has, each of some has
-pub All-some : {X : Type 0} (P : X → Type 0) (some all : List X) → IsSublist some all → All P all → All P some
-All-some P _ _ ended holds = All-nil P
-All-some P _ _ (taken x some all among) holds = All-cons P x some (All-head P x all holds) (All-some P some all among (All-tail P x all holds))
-All-some P _ _ (left_out x some all among) holds = All-some P some all among (All-tail P x all holds)
-
--- no element has what each one lacks
-Any-not_All : {X : Type 0} (P Q : X → Type 0) (xs : List X) → ((x : X) → P x → Q x → ⊥) → Any P xs → All Q xs → ⊥
-Any-not_All P Q xs clash (k, x, below, is, p) all = clash x p (subst Q is (all k x below))
-
 -- settings that meet participants are covered by each of some of them
 covers_some : (whole : Bool) (platform : PlatformFacts) (some all : List Participant) (t : Settled) (meets : MeetsLoosely platform all t) → IsSublist some all → All (Covers meets.heap t) some
 covers_some whole platform some all t meets among = All-some (Covers meets.heap t) some all among meets.covers
 
--- each kind of reason, by what the counts' law says of count lines
-pub reason_of_some : CountLineLeavesNone → ReasonOfSomeLeavesNone
-reason_of_some law whole platform some all (Count field) among line t meets =
-    law field (counts_asked some) (counts_asked all) (map_some (λ p. p.counts) some all among) line t.count (loosely whole platform all t meets).counted
-reason_of_some law whole platform some all NoPlace among none t meets =
+-- each kind of reason
+pub reason_of_some : ReasonOfSomeLeavesNone
+reason_of_some whole platform some all (Count field) among line t meets =
+    line_of_some field (counts_asked some) (counts_asked all) (map_some (λ p. p.counts) some all among) line t.count (loosely whole platform all t meets).counted
+reason_of_some whole platform some all NoPlace among none t meets =
     let m : MeetsLoosely platform all t = loosely whole platform all t meets in
     refused_clash m.heap t.place.coherency (place_demands some) (none t.place m.heap m.sound.place)
     (All-map (λ q. AllowsPlace q.memory q.usage m.heap t.place.coherency) place_demand some
       (All-weaker (Covers m.heap t) (λ p. AllowsPlace p.memory p.usage m.heap t.place.coherency) (λ p c. c.place) some (covers_some whole platform some all t m among)))
-reason_of_some law whole platform some all NoOffer among none t meets =
+reason_of_some whole platform some all NoOffer among none t meets =
     let m : MeetsLoosely platform all t = loosely whole platform all t meets in
     let cover : All (Covers m.heap t) some = covers_some whole platform some all t m among in
     none t.offer m.sound.offer t.size_bytes m.sound.some m.sound.fits
     (All-weaker (Covers m.heap t) (λ p. p.memory.min_size_bytes ≤ t.size_bytes) (λ p c. c.min_size) some cover)
     (All-weaker (Covers m.heap t) (λ p. t.size_bytes ≤ p.memory.max_size_bytes) (λ p c. c.max_size) some cover)
 
-pub reason_of_all : CountLineLeavesNone → ReasonLeavesNone
-reason_of_all law whole platform ps reason = reason_of_some law whole platform ps ps reason (itself ps)
+pub reason_of_all : ReasonLeavesNone
+reason_of_all whole platform ps reason = reason_of_some whole platform ps ps reason (itself ps)
 
 -- no reason is before a maximum count
 none_before : (platform : PlatformFacts) (ps : List Participant) (other : Reason) → All (λ p. needed (counts_asked ps) ≤ p.max_buffer_count) (counts_asked ps)
@@ -82,24 +73,23 @@ first_count platform ps BufferCountLimit line = record { holds = line.1; first =
 first_count platform ps _ line = absurd line
 
 -- where some count suits, no count line is true
-no_count_line : CountLineLeavesNone → (ps : List Participant) (count : ℕ) → IsLeastCount (counts_asked ps) count → (field : Field) → ¬ (IsCountLine field (counts_asked ps))
-no_count_line law ps count least field line =
-    law field (counts_asked ps) (counts_asked ps) (itself (counts_asked ps)) line count least.counted
+no_count_line : (ps : List Participant) (count : ℕ) → IsLeastCount (counts_asked ps) count → (field : Field) → ¬ (IsCountLine field (counts_asked ps))
+no_count_line ps count least field line = line_sound field (counts_asked ps) line count least.counted
 
 -- so without a place that is the first reason
-pub first_no_place : CountLineLeavesNone → (platform : PlatformFacts) (ps : List Participant) (count : ℕ) → IsLeastCount (counts_asked ps) count
+pub first_no_place : (platform : PlatformFacts) (ps : List Participant) (count : ℕ) → IsLeastCount (counts_asked ps) count
     → HasNoPlace platform.heaps (place_demands ps) → IsFirstReason platform ps NoPlace
-first_no_place law platform ps count least none = record { holds = none; first = before } where
+first_no_place platform ps count least none = record { holds = none; first = before } where
   before : (other : Reason) → reason_rank other < 2 → ¬ (IsReason platform ps other)
-  before (Count field) below line = no_count_line law ps count least field line
+  before (Count field) below line = no_count_line ps count least field line
   before NoPlace below line = absurd (omega (arith, below))
   before NoOffer below line = absurd (omega (arith, below))
 
 -- and without an offer, where there are a count and a place
-pub first_no_offer : CountLineLeavesNone → (platform : PlatformFacts) (ps : List Participant) (count : ℕ) (place : Place) → IsLeastCount (counts_asked ps) count
+pub first_no_offer : (platform : PlatformFacts) (ps : List Participant) (count : ℕ) (place : Place) → IsLeastCount (counts_asked ps) count
     → IsFirstPlace platform.heaps (place_demands ps) place → NoOfferServes platform ps → IsFirstReason platform ps NoOffer
-first_no_offer law platform ps count place least found none = record { holds = none; first = before } where
+first_no_offer platform ps count place least found none = record { holds = none; first = before } where
   before : (other : Reason) → reason_rank other < 3 → ¬ (IsReason platform ps other)
-  before (Count field) below line = no_count_line law ps count least field line
+  before (Count field) below line = no_count_line ps count least field line
   before NoPlace below line = refused_clash found.info place.coherency (place_demands ps) (line place found.info found.place) found.allowed
   before NoOffer below line = absurd (omega (arith, below))

@@ -2,8 +2,6 @@
 
 ghost use Rattle.sysmem_merge.specs.Laws.{OneBest, ReasonLeavesNone, ReasonOfSomeLeavesNone};
 
-use sysmem_counts::laws::count_line_leaves_none;
-
 /// Participants have one best settings.
 pub fn one_best()
     ensures { OneBest }
@@ -13,6 +11,4 @@ pub fn one_best()
 pub fn reason_leaves_none()
     ensures these { ReasonLeavesNone }
     ensures more { ReasonOfSomeLeavesNone }
-{
-    count_line_leaves_none();
-}
+{}
