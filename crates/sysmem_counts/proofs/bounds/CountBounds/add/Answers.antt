@@ -1,6 +1,5 @@
-use Rattle.std.proofs.Common.{arith, ℕ, ◌≡◌, ◌+◌, ◌++◌, [], ◌∷◌, max, min, ap, subst}
-use Rattle.sysmem_counts.specs.Bounds.{StandsFor}
-use Rattle.sysmem_counts.proofs.Counts.{stands_push, tally_with}
+use Rattle.std.proofs.Common.{arith}
+use Rattle.sysmem_counts.proofs.Counts.{stands_push}
 use Rattle.sysmem_counts.proofs.bounds.CountBounds.add.Goals as goal
 
 -- what is kept afterwards is what is kept with this participant

@@ -1,6 +1,6 @@
-use Rattle.std.proofs.Common.{arith, ℕ, ◌≡◌, List, ap}
+use Rattle.std.proofs.Common.{arith, ◌≡◌, List, ap}
 use Rattle.sysmem_counts.specs.Bounds.{StandsFor}
-use Rattle.sysmem_counts.specs.Counts.{needed, IsLeastCount, IsCountLine, IsFirstCountLine}
+use Rattle.sysmem_counts.specs.Counts.{needed, IsCountLine, IsCountFault}
 use Rattle.sysmem_counts.specs.declared.constraints.CountConstraints.{CountConstraints as Asked}
 use Rattle.sysmem_counts.specs.declared.field.Field.TheVariants.{MaxBufferCount, BufferCountLimit}
 use Rattle.sysmem_counts.proofs.Counts.{above_maximum, least_needed, line_sound, needed-tally, within_maximums}
@@ -25,7 +25,7 @@ maximum_passed c ps stands =
     ))
 
 -- at the second no more than the maximums, and more than the limit
-limit_passed : (c : goal.Then-needed-from-2) (ps : List Asked) → StandsFor c.args.self.now ps → IsFirstCountLine BufferCountLimit ps
+limit_passed : (c : goal.Then-needed-from-2) (ps : List Asked) → StandsFor c.args.self.now ps → IsCountFault ps BufferCountLimit
 limit_passed c ps stands =
     let is : c.max-needed.result ≡ needed ps = omega (
       arith,
