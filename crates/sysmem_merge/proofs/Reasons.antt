@@ -3,7 +3,7 @@ use Rattle.std.proofs.Common.{arith, ℕ, ◌≡◌, ◌≤◌, ◌<◌, Bool, L
 use Rattle.std.proofs.lemmas.List.Elements.{All-nil, All-cons, All-head, All-tail, All-map, All-weaker}
 use Rattle.sysmem_counts.proofs.Counts.{line_sound, line_of_some}
 use Rattle.sysmem_counts.proofs.Lists.{All-some, Any-not_All}
-use Rattle.sysmem_counts.specs.Counts.{needed, IsCounted, IsLeastCount, HasNoCount, IsCountLine, IsFirstCountLine}
+use Rattle.sysmem_counts.specs.Counts.{needed, IsCounted, IsLeastCount, HasNoCount, IsCountLine, IsCountFault}
 use Rattle.sysmem_counts.specs.Sublist.{IsSublist, ended, taken, left_out}
 use Rattle.sysmem_counts.specs.declared.constraints.CountConstraints.{CountConstraints}
 use Rattle.sysmem_counts.specs.declared.field.Field.{Field}
@@ -67,7 +67,7 @@ none_before platform ps NoPlace all before line = absurd (omega (arith, before))
 none_before platform ps NoOffer all before line = absurd (omega (arith, before))
 
 -- the first count line is the first reason
-pub first_count : (platform : PlatformFacts) (ps : List Participant) (field : Field) → IsFirstCountLine field (counts_asked ps) → IsFirstReason platform ps (Count field)
+pub first_count : (platform : PlatformFacts) (ps : List Participant) (field : Field) → IsCountFault (counts_asked ps) field → IsFirstReason platform ps (Count field)
 first_count platform ps MaxBufferCount line = record { holds = line; first = λ other before. absurd (omega (arith, before)) }
 first_count platform ps BufferCountLimit line = record { holds = line.1; first = λ other before. none_before platform ps other line.0 before }
 first_count platform ps _ line = absurd line
