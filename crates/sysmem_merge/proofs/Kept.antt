@@ -35,7 +35,7 @@ stands_push kept platform ps p tally left stands counted placed = record {
   on = stands.on;
   counts = rw map_push (counted (counts_asked ps) stands.counts);
   places = subst (λ (f : PlatformFacts). places.StandsFor left f.heaps (place_demands (ps ++ p ∷ []))) stands.on
-    (rw map_push (placed (place_demands ps) (subst (λ (f : PlatformFacts). places.StandsFor kept.places f.heaps (place_demands ps)) (sym stands.on) stands.places)));
+      (rw map_push (placed (place_demands ps) (subst (λ (f : PlatformFacts). places.StandsFor kept.places f.heaps (place_demands ps)) (sym stands.on) stands.places)));
   sizes = sizes_push ps p kept.least_size kept.greatest_size stands.sizes;
   many = omega (arith, stands.many, length-append ps (p ∷ []));
 }

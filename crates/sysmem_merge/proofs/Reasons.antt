@@ -45,7 +45,7 @@ reason_of_some whole platform some all NoPlace among none t meets =
     let m : MeetsLoosely platform all t = loosely whole platform all t meets in
     refused_clash m.heap t.place.coherency (place_demands some) (none t.place m.heap m.sound.place)
     (All-map (λ q. AllowsPlace q.memory q.usage m.heap t.place.coherency) place_demand some
-      (All-weaker (Covers m.heap t) (λ p. AllowsPlace p.memory p.usage m.heap t.place.coherency) (λ p c. c.place) some (covers_some whole platform some all t m among)))
+    (All-weaker (Covers m.heap t) (λ p. AllowsPlace p.memory p.usage m.heap t.place.coherency) (λ p c. c.place) some (covers_some whole platform some all t m among)))
 reason_of_some whole platform some all NoOffer among none t meets =
     let m : MeetsLoosely platform all t = loosely whole platform all t meets in
     let cover : All (Covers m.heap t) some = covers_some whole platform some all t m among in

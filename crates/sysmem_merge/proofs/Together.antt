@@ -65,7 +65,7 @@ place_met whole platform ps t meets = let m : MeetsLoosely platform ps t = loose
   m.heap,
   m.sound.place,
   λ refused. refused_clash m.heap t.place.coherency (place_demands ps) refused
-    (All-map (λ q. AllowsPlace q.memory q.usage m.heap t.place.coherency) place_demand ps
+      (All-map (λ q. AllowsPlace q.memory q.usage m.heap t.place.coherency) place_demand ps
       (All-weaker (Covers m.heap t) (λ p. AllowsPlace p.memory p.usage m.heap t.place.coherency) (λ p c. c.place) ps m.covers)),
 )
 

@@ -73,10 +73,8 @@ impl<'p> Aggregate<'p> {
     /// Adds one more participant, where fewer than 1,024 were added. Nothing has changed where memory is refused.
     pub fn add(&mut self, asked: &Constraints) -> Result<(), AllocError>
         requires { self.old.added < 1024 }
-        ensures ok {
-            (platform : PlatformFacts) (ps : List Participant) → StandsFor self.old platform ps
-                → OnOk result (StandsFor self.new platform (ps ++ asked.now ∷ []))
-        }
+        ensures ok { (platform : PlatformFacts) (ps : List Participant) → StandsFor self.old platform ps
+            → OnOk result (StandsFor self.new platform (ps ++ asked.now ∷ [])) }
         ensures unchanged { OnErr result (self.new ≡ self.old) }
         ensures grows { self.new.added ≤ self.old.added + 1 }
     {
@@ -94,18 +92,12 @@ impl<'p> Aggregate<'p> {
     /// count and the least size. Where no settings meet them, the first reason that is true of them. `whole` says
     /// that they are all that a decision has, so that one of them must name the image.
     pub fn best_settings(&self, whole: bool) -> Result<Settings, Reason>
-        ensures best {
-            (platform : PlatformFacts) (ps : List Participant) → StandsFor self.now platform ps
-                → IfOk result (IsBest whole platform ps)
-        }
-        ensures none {
-            (platform : PlatformFacts) (ps : List Participant) → StandsFor self.now platform ps
-                → IfErr result (λ _. IsUnmet whole platform ps)
-        }
-        ensures reason {
-            (platform : PlatformFacts) (ps : List Participant) → StandsFor self.now platform ps
-                → IfErr result (IsFirstReason platform ps)
-        }
+        ensures best { (platform : PlatformFacts) (ps : List Participant) → StandsFor self.now platform ps
+            → IfOk result (IsBest whole platform ps) }
+        ensures none { (platform : PlatformFacts) (ps : List Participant) → StandsFor self.now platform ps
+            → IfErr result (λ _. IsUnmet whole platform ps) }
+        ensures reason { (platform : PlatformFacts) (ps : List Participant) → StandsFor self.now platform ps
+            → IfErr result (IsFirstReason platform ps) }
     {
         let count = match self.counts.least_count() {
             Ok(count) => count,

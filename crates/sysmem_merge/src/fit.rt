@@ -18,14 +18,10 @@ pub(crate) struct Fit {
 
 /// The first offer with a size from the least to the greatest, and its least size.
 pub(crate) fn best_fit(least_size: u64, greatest_size: u64, whole: bool) -> Option<Fit>
-    ensures best {
-        (platform : PlatformFacts) (ps : List Participant) → AreSizes ps least_size greatest_size
-            → IfSome result (IsBestFit whole platform ps)
-    }
-    ensures none {
-        (platform : PlatformFacts) (ps : List Participant) → AreSizes ps least_size greatest_size
-            → IfNone result (NoOfferServes platform ps)
-    }
+    ensures best { (platform : PlatformFacts) (ps : List Participant) → AreSizes ps least_size greatest_size
+        → IfSome result (IsBestFit whole platform ps) }
+    ensures none { (platform : PlatformFacts) (ps : List Participant) → AreSizes ps least_size greatest_size
+        → IfNone result (NoOfferServes platform ps) }
 {
     let size_bytes = least_size.max(1);
     if size_bytes > greatest_size {

@@ -1,4 +1,11 @@
 //! The best settings for a flat list of participants on a platform, or the reason why none meet them.
+//!
+//! ```
+//! let mut aggregate = Aggregate::new(rt.alloc(), &platform)?;
+//! aggregate.add(&camera)?;
+//! aggregate.add(&display)?;
+//! let settings = aggregate.best_settings(true);
+//! ```
 #![tactic(auto)]
 
 mod aggregate;
@@ -10,6 +17,8 @@ mod meets;
 mod platform;
 mod reason;
 mod settings;
+#[cfg(test)]
+mod tests;
 
 pub use aggregate::Aggregate;
 pub use constraints::Constraints;

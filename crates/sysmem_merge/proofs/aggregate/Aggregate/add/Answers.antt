@@ -14,6 +14,6 @@ returns-clause-ok c platform ps stands =
     let low = ap (λ (m : MemoryWishes). m.min_size_bytes) wishes in
     let high = ap (λ (m : MemoryWishes). m.max_size_bytes) wishes in
     let pushed = stands_push _ platform ps c.args.asked.now c.add.new.self c.add-2.new.self kept
-      (rw c.counts.ensures at c.add.ensures.added)
-      (rw (c.heaps.ensures.heaps, c.memory-memory.ensures, c.usage.ensures) at c.add-2.ensures) in
+    (rw c.counts.ensures at c.add.ensures.added)
+    (rw (c.heaps.ensures.heaps, c.memory-memory.ensures, c.usage.ensures) at c.add-2.ensures) in
     rw (c.max-self-inside.ensures, c.min-self-inside.ensures, low, high) pushed

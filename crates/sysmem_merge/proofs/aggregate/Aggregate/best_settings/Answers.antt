@@ -20,7 +20,7 @@ returns-in_default-clause-none c platform ps stands =
     let same = heaps_read _ platform ps c.heaps.result.now kept c.heaps.ensures.heaps in
     unmet_by_place c.args.whole platform ps
     (subst (λ (hs : List HeapFacts). HasNoPlace hs (place_demands ps)) same
-      (c.in_default.ensures.none (place_demands ps) (places_kept _ platform ps c.heaps.result.now kept c.heaps.ensures.heaps)))
+    (c.in_default.ensures.none (place_demands ps) (places_kept _ platform ps c.heaps.result.now kept c.heaps.ensures.heaps)))
 
 pub returns-in_default-clause-reason : goal.returns-in_default-clause-reason
 returns-in_default-clause-reason c platform ps stands =
@@ -28,7 +28,7 @@ returns-in_default-clause-reason c platform ps stands =
     let same = heaps_read _ platform ps c.heaps.result.now kept c.heaps.ensures.heaps in
     first_no_place platform ps c.in-Ok.count (c.in-Ok.ensures.cases (counts_asked ps) kept.counts)
     (subst (λ (hs : List HeapFacts). HasNoPlace hs (place_demands ps)) same
-      (c.in_default.ensures.none (place_demands ps) (places_kept _ platform ps c.heaps.result.now kept c.heaps.ensures.heaps)))
+    (c.in_default.ensures.none (place_demands ps) (places_kept _ platform ps c.heaps.result.now kept c.heaps.ensures.heaps)))
 
 pub returns-in_default-best_fit-clause-none : goal.returns-in_default-best_fit-clause-none
 returns-in_default-best_fit-clause-none c platform ps stands =
@@ -41,7 +41,7 @@ returns-in_default-best_fit-clause-reason c platform ps stands =
     let same = heaps_read _ platform ps c.heaps.result.now kept c.heaps.ensures.heaps in
     first_no_offer platform ps c.in-Ok.count c.in-Some.place (c.in-Ok.ensures.cases (counts_asked ps) kept.counts)
     (subst (λ (hs : List HeapFacts). IsFirstPlace hs (place_demands ps) c.in-Some.place) same
-      (c.in-Some.ensures.first (place_demands ps) (places_kept _ platform ps c.heaps.result.now kept c.heaps.ensures.heaps)))
+    (c.in-Some.ensures.first (place_demands ps) (places_kept _ platform ps c.heaps.result.now kept c.heaps.ensures.heaps)))
     (c.in_default-best_fit.ensures.none platform ps kept.sizes)
 
 pub returns-clause-best : goal.returns-clause-best
@@ -51,5 +51,5 @@ returns-clause-best c platform ps stands =
     best_together c.args.whole platform ps c.in-Some-best_fit.fit c.in-Some.place c.in-Ok.count
     (c.in-Some-best_fit.ensures.best platform ps kept.sizes)
     (subst (λ (hs : List HeapFacts). IsFirstPlace hs (place_demands ps) c.in-Some.place) same
-      (c.in-Some.ensures.first (place_demands ps) (places_kept _ platform ps c.heaps.result.now kept c.heaps.ensures.heaps)))
+    (c.in-Some.ensures.first (place_demands ps) (places_kept _ platform ps c.heaps.result.now kept c.heaps.ensures.heaps)))
     (c.in-Ok.ensures.cases (counts_asked ps) kept.counts)
