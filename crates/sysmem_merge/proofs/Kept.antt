@@ -1,5 +1,5 @@
 -- What is kept after one more participant.
-use Rattle.std.proofs.Common.{arith, ℕ, ◌≡◌, ◌+◌, List, [], ◌∷◌, ◌++◌, max, min, map, length, refl, sym, ap, ◌∙◌, subst, length-append}
+use Rattle.std.proofs.Common.{arith, ◌≡◌, ◌+◌, List, [], ◌∷◌, ◌++◌, max, min, map, refl, sym, ap, ◌∙◌, subst, length-append}
 use Rattle.sysmem_counts.specs.Bounds as counts
 use Rattle.sysmem_counts.specs.Tally.{Tally}
 use Rattle.sysmem_counts.specs.declared.constraints.CountConstraints.{CountConstraints}
@@ -7,7 +7,7 @@ use Rattle.sysmem_memory.specs.declared.domain.CoherencyDomains.{CoherencyDomain
 use Rattle.sysmem_memory.specs.Heap.{HeapFacts}
 use Rattle.sysmem_memory.specs.Place as places
 use Rattle.sysmem_memory.specs.PlaceTable.{PlaceDemand}
-use Rattle.sysmem_merge.specs.Aggregate.{AreSizes, StandsFor}
+use Rattle.sysmem_merge.specs.Aggregate.{StandsFor}
 use Rattle.sysmem_merge.specs.Kept.{Kept}
 use Rattle.sysmem_merge.specs.Participant.{Participant, counts_asked, place_demand, place_demands}
 use Rattle.sysmem_merge.specs.Platform.{PlatformFacts}

@@ -1,26 +1,25 @@
 -- A reason that is true of participants leaves no settings to them, nor to more.
-use Rattle.std.proofs.Common.{arith, ℕ, ◌≡◌, ◌≤◌, ◌<◌, Bool, List, [], ◌∷◌, map, All, Any, refl, subst}
-use Rattle.std.proofs.lemmas.List.Elements.{All-nil, All-cons, All-head, All-tail, All-map, All-weaker}
+use Rattle.std.proofs.Common.{arith, ℕ, ◌≤◌, ◌<◌, Bool, List, [], ◌∷◌, map, All}
+use Rattle.std.proofs.lemmas.List.Elements.{All-map, All-weaker}
 use Rattle.sysmem_counts.proofs.Counts.{line_sound, line_of_some}
 use Rattle.sysmem_counts.proofs.Lists.{All-some, Any-not_All}
-use Rattle.sysmem_counts.specs.Counts.{needed, IsCounted, IsLeastCount, HasNoCount, IsCountLine, IsCountFault}
+use Rattle.sysmem_counts.specs.Counts.{needed, IsLeastCount, IsCountLine, IsCountFault}
 use Rattle.sysmem_counts.specs.Sublist.{IsSublist, ended, taken, left_out}
 use Rattle.sysmem_counts.specs.declared.constraints.CountConstraints.{CountConstraints}
 use Rattle.sysmem_counts.specs.declared.field.Field.{Field}
 use Rattle.sysmem_counts.specs.declared.field.Field.TheVariants.{MaxBufferCount, BufferCountLimit}
 use Rattle.sysmem_memory.specs.declared.place.Place.{Place}
 use Rattle.sysmem_memory.specs.Place.{IsFirstPlace, HasNoPlace}
-use Rattle.sysmem_memory.specs.PlaceTable.{AllowsPlace, PlaceDemand}
+use Rattle.sysmem_memory.specs.PlaceTable.{AllowsPlace}
 use Rattle.sysmem_merge.specs.declared.reason.Reason.{Reason}
 use Rattle.sysmem_merge.specs.declared.reason.Reason.TheVariants.{Count, NoPlace, NoOffer}
 use Rattle.sysmem_merge.specs.declared.settings.Settings.{Settings as Settled}
-use Rattle.sysmem_merge.specs.Best.{IsUnmet}
 use Rattle.sysmem_merge.specs.Laws.{ReasonLeavesNone, ReasonOfSomeLeavesNone}
 use Rattle.sysmem_merge.specs.Participant.{Participant, counts_asked, place_demand, place_demands}
 use Rattle.sysmem_merge.specs.Platform.{PlatformFacts}
 use Rattle.sysmem_merge.specs.Reasons.{IsReason, IsFirstReason, NoOfferServes, reason_rank}
-use Rattle.sysmem_merge.specs.Settings.{Covers, MeetsLoosely, MeetsAs}
-use Rattle.sysmem_merge.proofs.Together.{All-unmap, loosely, refused_clash, unmet_by_count}
+use Rattle.sysmem_merge.specs.Settings.{Covers, MeetsLoosely}
+use Rattle.sysmem_merge.proofs.Together.{loosely, refused_clash}
 
 -- a list is some of itself
 pub itself : {X : Type 0} (xs : List X) → IsSublist xs xs

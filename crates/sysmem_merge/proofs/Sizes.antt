@@ -1,12 +1,11 @@
 -- The sizes that participants take, and the best of them.
-use Rattle.std.proofs.Common.{arith, ℕ, ◌≡◌, ◌↔◌, ◌≤◌, ◌<◌, ◌^◌, max, min, Bool, List, [], ◌∷◌, ◌++◌, Some, All, Contains, refl, subst}
+use Rattle.std.proofs.Common.{arith, ℕ, ◌≡◌, ◌≤◌, ◌<◌, ◌^◌, max, min, Bool, List, [], ◌∷◌, ◌++◌, Some, refl, subst}
 use Rattle.std.proofs.lemmas.List.Elements.{All-nil, All-push, All-pop}
 use Rattle.sysmem_merge.specs.declared.settings.Offer.{Offer}
 use Rattle.sysmem_merge.specs.declared.settings.Offer.TheVariants.{NoImage}
-use Rattle.sysmem_merge.specs.declared.fit.Fit.{Fit}
 use Rattle.sysmem_merge.specs.Aggregate.{AreSizes}
 use Rattle.sysmem_merge.specs.Best.{IsEarlierOffer}
-use Rattle.sysmem_merge.specs.Fit.{MeetsOffer, IsBestFit}
+use Rattle.sysmem_merge.specs.Fit.{IsBestFit}
 use Rattle.sysmem_merge.specs.Participant.{Participant}
 use Rattle.sysmem_merge.specs.Platform.{PlatformFacts, offers_of}
 use Rattle.sysmem_merge.specs.Reasons.{NoOfferServes}

@@ -1,21 +1,21 @@
 -- An offer, a place and a count that are best apart are best together.
-use Rattle.std.proofs.Common.{arith, ℕ, ◌≡◌, ◌≤◌, Bool, true, false, List, [], ◌∷◌, map, All, Any, refl, sym, ◌∙◌, subst, ap}
+use Rattle.std.proofs.Common.{ℕ, ◌≡◌, ◌≤◌, Bool, true, false, List, [], ◌∷◌, map, All, refl, subst}
 use Rattle.std.proofs.lemmas.List.Elements.{All-nil, All-cons, All-head, All-tail, All-map, All-weaker}
-use Rattle.sysmem_counts.specs.Counts.{IsCounted, IsLeastCount, HasNoCount}
+use Rattle.sysmem_counts.specs.Counts.{IsLeastCount, HasNoCount}
 use Rattle.sysmem_memory.proofs.FirstRefusing.{none_refuses}
 use Rattle.sysmem_memory.specs.declared.domain.CoherencyDomain.{CoherencyDomain}
 use Rattle.sysmem_memory.specs.declared.place.Place.{Place}
 use Rattle.sysmem_memory.specs.Heap.{HeapFacts}
-use Rattle.sysmem_memory.specs.Place.{IsPlace, IsEarlier, IsRefused, IsFirstPlace, HasNoPlace}
-use Rattle.sysmem_memory.specs.PlaceTable.{AllowsPlace, PlaceDemand, refuses_by}
+use Rattle.sysmem_memory.specs.Place.{IsPlace, IsRefused, IsFirstPlace, HasNoPlace}
+use Rattle.sysmem_memory.specs.PlaceTable.{AllowsPlace, PlaceDemand}
 use Rattle.sysmem_merge.specs.declared.fit.Fit.{Fit}
 use Rattle.sysmem_merge.specs.declared.settings.Settings.{Settings as Settled}
-use Rattle.sysmem_merge.specs.Best.{IsNoBetter, IsBest, IsUnmet}
+use Rattle.sysmem_merge.specs.Best.{IsBest, IsUnmet}
 use Rattle.sysmem_merge.specs.Fit.{MeetsOffer, IsNoBetterFit, IsBestFit}
 use Rattle.sysmem_merge.specs.Participant.{Participant, counts_asked, place_demand, place_demands}
-use Rattle.sysmem_merge.specs.Platform.{PlatformFacts, offers_of}
+use Rattle.sysmem_merge.specs.Platform.{PlatformFacts}
 use Rattle.sysmem_merge.specs.Reasons.{NoOfferServes}
-use Rattle.sysmem_merge.specs.Settings.{IsSound, Covers, IsNamed, Meets, MeetsLoosely, MeetsAs}
+use Rattle.sysmem_merge.specs.Settings.{Covers, IsNamed, MeetsLoosely, MeetsAs}
 
 -- what each image of a list has, each element's image has
 pub All-unmap : {X Y : Type 0} (P : Y → Type 0) (f : X → Y) (xs : List X) → All P (map f xs) → All (λ x. P (f x)) xs

@@ -1,4 +1,4 @@
-use Rattle.std.proofs.Common.{◌<◌, ◌≤◌, max, arith}
+use Rattle.std.proofs.Common.{arith}
 use Rattle.sysmem_merge.proofs.Sizes.{best_size, no_size}
 use Rattle.sysmem_merge.proofs.fit.best_fit.Goals as goal
 
