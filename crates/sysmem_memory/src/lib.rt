@@ -4,7 +4,11 @@
 mod constraints;
 mod domain;
 mod heap;
+mod place;
+mod refusal;
 
 pub use constraints::MemoryConstraints;
 pub use domain::{CoherencyDomain, CoherencyDomains};
 pub use heap::{Heap, HeapInfo};
+pub use place::Place;
+pub use refusal::refuses;
