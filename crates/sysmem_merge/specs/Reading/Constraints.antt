@@ -1,40 +1,37 @@
 -- What a participant's record says.
 use Rattle.std.specs.Prelude.{ℕ, ◌-◌, ◌^◌, ◌||◌, ◌==◌, List, [], ◌∷◌, Bool, true, false, not, Option, Some, None, Result, Ok, Err, nat_eq, ok_or}
 use Rattle.std.specs.Int.RustNames.{bit_and, bit_or}
-use Rattle.serde_json.specs.Data.{Data, Items, no_items, item}
-use Rattle.serde_json.specs.Find.{get, as_str}
+use Rattle.serde_json.specs.Data.{Data}
+use Rattle.serde_json.specs.Find.{as_str}
 use Rattle.sysmem_counts.specs.declared.constraints.CountConstraints.{CountConstraints}
 use Rattle.sysmem_counts.specs.declared.field.Field.{Field}
 use Rattle.sysmem_counts.specs.declared.field.Field.TheVariants as field
 use Rattle.sysmem_counts.specs.declared.usage.Usage.{Usage}
 use Rattle.sysmem_counts.specs.Families.{family_named}
-use Rattle.sysmem_counts.specs.Field.{field_name}
+use Rattle.sysmem_counts.specs.Usage.{usage_bits}
 use Rattle.sysmem_memory.specs.Wishes.{MemoryWishes, no_wishes}
 use Rattle.sysmem_merge.specs.declared.fault.Fault.{Fault}
 use Rattle.sysmem_merge.specs.Faults.{not_taken}
 use Rattle.sysmem_merge.specs.Participant.{Participant}
-use Rattle.sysmem_merge.specs.Reading.Fields.{◌>>=◌, passing, object_of, read_or, required, number_or, flag_or, filled_list_of}
+use Rattle.sysmem_merge.specs.Reading.Fields.{◌>>=◌, passing, read_each, has_only, optional, required, number_or, flag_or, filled_list_of}
 
--- the bits of a list of families
-unfoldable pub families_of : Items → Result ℕ Fault
-families_of no_items = Ok 0
-families_of (item d ds) = do
+-- a usage, and the family that an item names; a repeated one counts once
+abbrev pub with_family : Usage → Data → Result Usage Fault
+with_family usage d = do
   name ← ok_or (as_str d) not_taken
   family ← ok_or (family_named name) not_taken
-  others ← families_of ds
-  Ok (bit_or family others)
+  Ok (record { 0 = bit_or (usage_bits usage) family })
 
 -- none is alone, or absent
-abbrev pub is_usage : ℕ → Bool
-is_usage bits = bits == 1 || not (bit_and bits 1 == 1)
+abbrev pub is_usage : Usage → Bool
+is_usage usage = usage_bits usage == 1 || not (bit_and (usage_bits usage) 1 == 1)
 
--- a list of families that isn't empty; a repeated one counts once
+-- a list of families that isn't empty
 abbrev pub usage_of : Data → Result Usage Fault
 usage_of d = do
-  names ← filled_list_of d
-  bits ← families_of names
-  usage ← passing is_usage bits
-  Ok (record { 0 = usage })
+  items ← filled_list_of d
+  usage ← read_each with_family (record { 0 = 0 }) items
+  passing is_usage usage
 
 abbrev pub counts_of : Data → Result CountConstraints Fault
 counts_of d = do
@@ -57,7 +54,7 @@ memory_fields = field.MinSizeBytes ∷ field.MaxSizeBytes ∷ field.CpuDomainSup
 
 abbrev pub memory_of : Data → Result MemoryWishes Fault
 memory_of d = do
-  _ ← object_of memory_fields d
+  _ ← passing (has_only memory_fields) d
   min_size ← number_or field.MinSizeBytes 0 (2 ^ 64 - 1) d
   max_size ← number_or field.MaxSizeBytes (2 ^ 64 - 1) (2 ^ 64 - 1) d
   cpu ← flag_or field.CpuDomainSupported true d
@@ -82,8 +79,8 @@ constraints_fields = field.Usage ∷ field.MinBufferCountForCamping ∷ field.Mi
 -- the participant that a value states
 abbrev pub participant_of : Data → Result Participant Fault
 participant_of d = do
-  _ ← object_of constraints_fields d
+  _ ← passing (has_only constraints_fields) d
   usage ← required field.Usage usage_of d
   counts ← counts_of d
-  memory ← read_or (Ok no_wishes) memory_of (get (field_name field.BufferMemoryConstraints) d)
+  memory ← optional field.BufferMemoryConstraints no_wishes memory_of d
   Ok (record { usage = usage; counts = counts; memory = memory })

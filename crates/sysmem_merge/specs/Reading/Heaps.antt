@@ -1,7 +1,7 @@
 -- What a platform's record says.
 use Rattle.std.specs.Prelude.{ℕ, ◌-◌, ◌^◌, ◌&&◌, ◌||◌, ◌++◌, List, [], ◌∷◌, length, Bool, true, false, not, Option, Some, None, Result, Ok, Err, nat_eq, nat_le, nat_lt, bytes_eq, codes, ok_or, if◌then◌else◌}
 use Rattle.std.specs.List.{list_all, list_any}
-use Rattle.serde_json.specs.Data.{Data, Items, no_items, item}
+use Rattle.serde_json.specs.Data.{Data}
 use Rattle.serde_json.specs.Find.{as_str}
 use Rattle.sysmem_counts.specs.declared.field.Field.{Field}
 use Rattle.sysmem_counts.specs.declared.field.Field.TheVariants as field
@@ -13,7 +13,7 @@ use Rattle.sysmem_memory.specs.Heap.{HeapFacts, same_heap}
 use Rattle.sysmem_merge.specs.declared.fault.Fault.{Fault}
 use Rattle.sysmem_merge.specs.Faults.{not_taken}
 use Rattle.sysmem_merge.specs.Platform.{PlatformFacts}
-use Rattle.sysmem_merge.specs.Reading.Fields.{◌>>=◌, passing, object_of, required, number_or, flag_or, list_of, filled_list_of}
+use Rattle.sysmem_merge.specs.Reading.Fields.{◌>>=◌, passing, read_each, has_only, required, number_or, flag_or, list_of, filled_list_of}
 
 -- an ASCII letter or digit, `.`, `_` or `-`
 abbrev pub is_heap_byte : ℕ → Bool
@@ -45,20 +45,17 @@ with_domain s Cpu = record s { cpu = true }
 with_domain s Ram = record s { ram = true }
 with_domain s Inaccessible = record s { inaccessible = true }
 
--- these domains and those of a list, none of them twice
-unfoldable pub domains_with : CoherencyDomains → Items → Result CoherencyDomains Fault
-domains_with s no_items = Ok s
-domains_with s (item d ds) = do
+-- the set, and the domain that an item names, which isn't there yet
+abbrev pub with_named : CoherencyDomains → Data → Result CoherencyDomains Fault
+with_named s d = do
   name ← ok_or (as_str d) not_taken
   domain ← ok_or (domain_named name) not_taken
   new ← passing (λ domain. not (has_domain s domain)) domain
-  domains_with (with_domain s new) ds
+  Ok (with_domain s new)
 
 -- a list of domains that isn't empty, with none twice
 abbrev pub domains_of : Data → Result CoherencyDomains Fault
-domains_of d = do
-  names ← filled_list_of d
-  domains_with no_domains names
+domains_of d = filled_list_of d >>= read_each with_named no_domains
 
 -- the fields of a platform's heap
 abbrev pub heap_fields : List Field
@@ -66,7 +63,7 @@ heap_fields = field.HeapType ∷ field.Id ∷ field.Contiguous ∷ field.Secure 
 
 abbrev pub heap_of : Data → Result HeapFacts Fault
 heap_of d = do
-  _ ← object_of heap_fields d
+  _ ← passing (has_only heap_fields) d
   heap_type ← required field.HeapType heap_type_of d
   id ← number_or field.Id 0 (2 ^ 64 - 1) d
   contiguous ← flag_or field.Contiguous false d
@@ -74,23 +71,24 @@ heap_of d = do
   domains ← required field.Domains domains_of d
   Ok (record { heap = record { heap_type = heap_type; id = id }; contiguous = contiguous; secure = secure; domains = domains })
 
+-- the heap is among these
+abbrev pub has_heap : List HeapFacts → HeapFacts → Bool
+has_heap heaps new = list_any (λ h. same_heap h.heap new.heap) heaps
+
 -- there is room for the heap, and it isn't there yet
 abbrev pub may_join : List HeapFacts → HeapFacts → Bool
-may_join heaps new = nat_lt (length heaps) 64 && not (list_any (λ h. same_heap h.heap new.heap) heaps)
+may_join heaps new = nat_lt (length heaps) 64 && not (has_heap heaps new)
 
--- these heaps and then those of a list, at most 64 and none of them twice
-unfoldable pub heaps_with : List HeapFacts → Items → Result (List HeapFacts) Fault
-heaps_with heaps no_items = Ok heaps
-heaps_with heaps (item d ds) = do
+-- the heaps, and the one that an item states
+abbrev pub with_heap : List HeapFacts → Data → Result (List HeapFacts) Fault
+with_heap heaps d = do
   heap ← heap_of d
   new ← passing (may_join heaps) heap
-  heaps_with (heaps ++ new ∷ []) ds
+  Ok (heaps ++ new ∷ [])
 
--- a list of heaps that isn't empty
+-- a list of heaps that isn't empty: at most 64, and none twice
 abbrev pub heaps_of : Data → Result (List HeapFacts) Fault
-heaps_of d = do
-  items ← filled_list_of d
-  heaps_with [] items
+heaps_of d = filled_list_of d >>= read_each with_heap []
 
 -- the fields of a platform
 abbrev pub platform_fields : List Field
@@ -99,7 +97,7 @@ platform_fields = field.Heaps ∷ field.Pairs ∷ field.ColorSpaces ∷ []
 -- the platform that a value states; the pairs and the colour spaces are lists
 abbrev pub platform_of : Data → Result PlatformFacts Fault
 platform_of d = do
-  _ ← object_of platform_fields d
+  _ ← passing (has_only platform_fields) d
   heaps ← required field.Heaps heaps_of d
   _ ← required field.Pairs list_of d
   _ ← required field.ColorSpaces list_of d
