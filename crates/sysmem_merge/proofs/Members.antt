@@ -14,8 +14,6 @@ pub list_all-keys_of : (p : List ℕ → Bool) (es : List (String Global × Valu
 list_all-keys_of p [] = refl
 list_all-keys_of p (e ∷ es) = ap (λ b. p (string_bytes e.0) && b) (list_all-keys_of p es)
 
-pub ruleset keys_rules = list_all-keys_of
-
 -- a list has items where its length isn't 0
 pub has_items-items_view : (vs : List Value) → has_items (items_view vs) ≡ not (length vs == 0)
 has_items-items_view [] = refl

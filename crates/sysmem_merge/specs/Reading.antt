@@ -2,6 +2,5 @@
 pub mod Constraints
 pub mod Fields
 pub mod Heaps
-
 pub use Constraints.{participant_of}
 pub use Heaps.{platform_of}

@@ -9,3 +9,6 @@ mod usage;
 
 pub use constraints::read_constraints;
 pub use platform::read_platform;
+
+#[cfg(test)]
+mod tests;

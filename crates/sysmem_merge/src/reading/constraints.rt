@@ -19,8 +19,16 @@ fn counts_of(record: &Value) -> Result<CountConstraints, Fault>
 {
     Ok(CountConstraints {
         min_buffer_count_for_camping: count_or(record, Field::MinBufferCountForCamping, 0)?,
-        min_buffer_count_for_dedicated_slack: count_or(record, Field::MinBufferCountForDedicatedSlack, 0)?,
-        min_buffer_count_for_shared_slack: count_or(record, Field::MinBufferCountForSharedSlack, 0)?,
+        min_buffer_count_for_dedicated_slack: count_or(
+            record,
+            Field::MinBufferCountForDedicatedSlack,
+            0,
+        )?,
+        min_buffer_count_for_shared_slack: count_or(
+            record,
+            Field::MinBufferCountForSharedSlack,
+            0,
+        )?,
         min_buffer_count: count_or(record, Field::MinBufferCount, 0)?,
         max_buffer_count: count_or(record, Field::MaxBufferCount, u32::MAX)?,
     })

@@ -17,7 +17,6 @@ fn is_named(key: &str, fields: &[Field]) -> bool
     fields.iter().any(|field| field.name() == key)
 }
 
-#[tactic(auto, using(crate::proofs::Members::keys_rules))]
 fn are_named(members: &Map<String, Value>, fields: &[Field]) -> bool
     ensures { result
         ≡ list_all (is_named fields.now) (keys_of (members_view members.now.entries)) }
@@ -52,7 +51,12 @@ fn number_to(value: &Value, greatest: u64) -> Result<u64, Fault>
 }
 
 /// A whole number from 0 to the greatest.
-pub(super) fn number_or(record: &Value, field: Field, absent: u64, greatest: u64) -> Result<u64, Fault>
+pub(super) fn number_or(
+    record: &Value,
+    field: Field,
+    absent: u64,
+    greatest: u64,
+) -> Result<u64, Fault>
     ensures read { result ≡ number_or field absent greatest (view record.now) }
     ensures fits { absent ≤ greatest → IfOk result (λ number. number ≤ greatest) }
 {

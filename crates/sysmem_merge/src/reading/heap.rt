@@ -35,7 +35,11 @@ fn heap_type_of(value: &Value) -> Result<&str, Fault>
     ensures { seen_by (λ text. text.now) result ≡ heap_type_of (view value.now) }
 {
     let text = value.as_str().ok_or(Fault::NOT_TAKEN)?;
-    if is_heap_type(text) { Ok(text) } else { Err(Fault::NOT_TAKEN) }
+    if is_heap_type(text) {
+        Ok(text)
+    } else {
+        Err(Fault::NOT_TAKEN)
+    }
 }
 
 fn domain_named(name: &str) -> Option<CoherencyDomain>
