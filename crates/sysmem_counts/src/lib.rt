@@ -7,10 +7,16 @@
 //! ```
 #![tactic(auto)]
 
+mod bounds;
 mod constraints;
 mod field;
+pub mod laws;
 mod usage;
 
+pub use bounds::{BUFFER_COUNT_LIMIT, CountBounds};
 pub use constraints::CountConstraints;
 pub use field::Field;
 pub use usage::Usage;
+
+#[cfg(test)]
+mod tests;
