@@ -1,9 +1,7 @@
 // What no clause shows: settings and reasons as they were worked out by hand, on a platform of one heap.
 
 use crate::laws::{one_best, reason_leaves_none};
-use crate::{
-    Aggregate, Constraints, Offer, Platform, Reason, Settings, meets_one, read_platform,
-};
+use crate::{Aggregate, Constraints, Offer, Platform, Reason, Settings, meets_one, read_platform};
 use serde_json::Value;
 use std::alloc::{AllocError, Global};
 use std::test::Fail;
@@ -12,7 +10,8 @@ use sysmem_memory::{CoherencyDomain, MemoryConstraints, Place};
 
 // The heap ram, which processors see cached or in main memory.
 fn platform(alloc: Global) -> Result<Platform, Fail> {
-    let text = r#"{"heaps":[{"heap_type":"ram","domains":["cpu","ram"]}],"pairs":[],"color_spaces":[]}"#;
+    let text =
+        r#"{"heaps":[{"heap_type":"ram","domains":["cpu","ram"]}],"pairs":[],"color_spaces":[]}"#;
     let value = Value::from_str(alloc, text)?;
     Ok(read_platform(alloc, &value)?)
 }
