@@ -1,3 +1,3 @@
+pub mod Lines
 pub mod Report
 pub mod State
-pub mod Text

@@ -18,7 +18,7 @@ use Rattle.sysmem_replay.specs.declared.verdict.Verdict.{Verdict}
 use Rattle.sysmem_replay.specs.declared.verdict.Verdict.TheVariants.{Chosen, Empty, NoMemory}
 use Rattle.sysmem_replay.specs.Script.{Deed, duplicates, binds, states, releases, checks, Request}
 use Rattle.sysmem_replay.specs.State.{State, first_state, Action, duplicate, bind, set_constraints, release, applied, participants_of, is_due}
-use Rattle.sysmem_replay.specs.Text.{call_line, verdict_line, pending_lines}
+use Rattle.sysmem_replay.specs.Lines.{call_line, verdict_line, pending_lines}
 
 -- the action that a deed asks for, with the constraints that it states read
 pub data Asks : Deed → Action → Type 0 where
