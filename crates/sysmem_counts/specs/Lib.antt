@@ -1,3 +1,8 @@
+pub mod Bounds
+pub mod Counts
 pub mod Families
 pub mod Field
+pub mod Laws
+pub mod Sublist
+pub mod Tally
 pub mod Usage

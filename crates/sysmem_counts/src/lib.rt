@@ -7,10 +7,13 @@
 //! ```
 #![tactic(auto)]
 
+mod bounds;
 mod constraints;
 mod field;
+pub mod laws;
 mod usage;
 
+pub use bounds::{BUFFER_COUNT_LIMIT, CountBounds};
 pub use constraints::CountConstraints;
 pub use field::Field;
 pub use usage::Usage;

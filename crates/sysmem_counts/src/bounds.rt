@@ -1,0 +1,83 @@
+// What participants together need of the number of buffers.
+
+ghost use Rattle.std.specs.Prelude.{◌≡◌, ◌+◌, ◌<◌, ◌^◌, ◌++◌, [], ◌∷◌, List, IfErr, MatchResult};
+ghost use Rattle.sysmem_counts.specs.Bounds.{StandsFor};
+ghost use Rattle.sysmem_counts.specs.Counts.{HasNoCount, IsCountLine, IsFirstCountLine, IsLeastCount};
+ghost use Rattle.sysmem_counts.specs.Tally.{sum_of};
+ghost use Rattle.sysmem_counts.specs.declared.constraints.CountConstraints.{CountConstraints as Asked};
+
+use crate::constraints::CountConstraints;
+use crate::field::Field;
+use std::marker::Model;
+
+/// The greatest number of buffers of one collection.
+pub const BUFFER_COUNT_LIMIT: u32 = 128;
+
+/// What the participants so far ask of the number of buffers, in one value of fixed size.
+#[derive(Clone, Copy, Debug, PartialEq, Eq)]
+pub struct CountBounds {
+    own: u64,
+    shared: u32,
+    minimum: u32,
+    maximum: u32,
+}
+
+impl Model for CountBounds {
+    ghost use Rattle.std.specs.Prelude.{◌<◌, ◌^◌};
+    ghost use Rattle.sysmem_counts.specs.Tally.{Tally};
+
+    ghost Value = { Tally };
+
+    ghost view = { λ b. record { own = b.own; shared = b.shared; minimum = b.minimum; maximum = b.maximum } };
+
+    ghost invariant = { λ b. b.own < 2 ^ 63 };
+
+    ghost inverse = { λ t. record { own = t.own; shared = t.shared; minimum = t.minimum; maximum = t.maximum } };
+}
+
+impl CountBounds {
+    /// The bounds of no participant at all.
+    pub fn new() -> CountBounds
+        ensures stands { StandsFor result [] }
+        ensures nothing { sum_of result ≡ 0 }
+    {
+        CountBounds {
+            own: 0,
+            shared: 0,
+            minimum: 0,
+            maximum: u32::MAX,
+        }
+    }
+
+    /// Adds one more participant. The sum of camping and dedicated slack so far must be below 2^62;
+    /// one participant raises it by less than 2^33.
+    pub fn add(&mut self, asked: &CountConstraints)
+        requires { sum_of self.old < 2 ^ 62 }
+        ensures added { (ps : List Asked) → StandsFor self.old ps → StandsFor self.new (ps ++ asked.now ∷ []) }
+        ensures grows { sum_of self.new < sum_of self.old + 2 ^ 33 }
+    {
+        self.own += u64::from(asked.min_buffer_count_for_camping)
+            + u64::from(asked.min_buffer_count_for_dedicated_slack);
+        self.shared = self.shared.max(asked.min_buffer_count_for_shared_slack);
+        self.minimum = self.minimum.max(asked.min_buffer_count);
+        self.maximum = self.maximum.min(asked.max_buffer_count);
+    }
+
+    /// The least number of buffers, 1 to 128, that suits all participants. Where none does, the field that
+    /// says so: `MaxBufferCount` if they need more than one of their maximums, else `BufferCountLimit`.
+    pub fn least_count(&self) -> Result<u32, Field>
+        ensures cases { (ps : List Asked) → StandsFor self.now ps → MatchResult result (IsLeastCount ps) (λ field. IsFirstCountLine field ps) }
+        ensures line { (ps : List Asked) → StandsFor self.now ps → IfErr result (λ field. IsCountLine field ps) }
+        ensures none { (ps : List Asked) → StandsFor self.now ps → IfErr result (λ _. HasNoCount ps) }
+    {
+        let together = self.own + u64::from(self.shared);
+        let needed = together.max(u64::from(self.minimum)).max(1);
+        if needed > u64::from(self.maximum) {
+            return Err(Field::MaxBufferCount);
+        }
+        if needed > u64::from(BUFFER_COUNT_LIMIT) {
+            return Err(Field::BufferCountLimit);
+        }
+        Ok(needed as u32)
+    }
+}
