@@ -1,4 +1,5 @@
-use Rattle.std.specs.Prelude.{ℕ, List, codes, Bool}
+-- Coherency domains and sets of them.
+use Rattle.std.specs.Prelude.{◌≡◌, ◌<◌, ℕ, List, codes, Bool, true, false}
 use Rattle.sysmem_memory.specs.declared.domain.CoherencyDomain.{CoherencyDomain}
 use Rattle.sysmem_memory.specs.declared.domain.CoherencyDomain.TheVariants.{Cpu, Ram, Inaccessible}
 use Rattle.sysmem_memory.specs.declared.domain.CoherencyDomains.{CoherencyDomains}
@@ -20,3 +21,8 @@ abbrev pub rank : CoherencyDomain → ℕ
 rank Cpu = 0
 rank Ram = 1
 rank Inaccessible = 2
+
+-- the domain is the set's, and none that comes before it is
+pub record IsFirstDomain (s : CoherencyDomains) (d : CoherencyDomain) : Type 0 where
+  pub has : has_domain s d ≡ true
+  pub before : (e : CoherencyDomain) → rank e < rank d → has_domain s e ≡ false

@@ -1,4 +1,6 @@
-use Rattle.std.specs.Prelude.{ℕ, Bool, List}
+-- Heaps, by their names, and what a platform says of each.
+use Rattle.std.specs.Prelude.{ℕ, Bool, List, ◌==◌, ◌&&◌}
+use Rattle.std.specs.Cmp.Lexicographic.{pointwise}
 use Rattle.sysmem_memory.specs.declared.domain.CoherencyDomains.{CoherencyDomains}
 
 -- a heap, by the bytes of its type and its id
@@ -12,3 +14,7 @@ pub record HeapFacts : Type 0 where
   pub contiguous : Bool
   pub secure : Bool
   pub domains : CoherencyDomains
+
+-- the two names are of one heap
+abbrev pub same_heap : HeapName → HeapName → Bool
+same_heap a b = pointwise ◌==◌ a.heap_type b.heap_type && a.id == b.id

@@ -1,7 +1,7 @@
 //! Coherency domains and sets of them.
 
-ghost use Rattle.std.specs.Prelude.{◌≡◌, ◌↔◌, Some};
-ghost use Rattle.sysmem_memory.specs.Domain.{domain_name, has_domain};
+ghost use Rattle.std.specs.Prelude.{◌≡◌, ◌↔◌, Some, false, IfSome, IfNone};
+ghost use Rattle.sysmem_memory.specs.Domain.{domain_name, has_domain, IsFirstDomain};
 ghost use Rattle.sysmem_memory.specs.declared.domain.CoherencyDomain.{CoherencyDomain as Domain};
 
 /// How the CPU sees a buffer's memory: through its caches, in main memory, or not at all.
@@ -46,6 +46,13 @@ pub struct CoherencyDomains {
 }
 
 impl CoherencyDomains {
+    /// No domain.
+    pub const NONE: CoherencyDomains = CoherencyDomains {
+        cpu: false,
+        ram: false,
+        inaccessible: false,
+    };
+
     /// Whether the set has the domain.
     pub fn has(self, domain: CoherencyDomain) -> bool
         ensures { result ≡ has_domain self domain }
@@ -54,6 +61,22 @@ impl CoherencyDomains {
             CoherencyDomain::Cpu => self.cpu,
             CoherencyDomain::Ram => self.ram,
             CoherencyDomain::Inaccessible => self.inaccessible,
+        }
+    }
+
+    /// The set's first domain in the order cpu, ram, inaccessible, or `None` where it is empty.
+    pub fn first(self) -> Option<CoherencyDomain>
+        ensures first { IfSome result (IsFirstDomain self) }
+        ensures none { IfNone result ((d : Domain) → has_domain self d ≡ false) }
+    {
+        if self.cpu {
+            Some(CoherencyDomain::Cpu)
+        } else if self.ram {
+            Some(CoherencyDomain::Ram)
+        } else if self.inaccessible {
+            Some(CoherencyDomain::Inaccessible)
+        } else {
+            None
         }
     }
 }

@@ -1,6 +1,8 @@
 //! Heaps, by their names, and what a platform says of each.
 
-ghost use Rattle.std.specs.Prelude.{◌≡◌};
+ghost use Rattle.std.proofs.Common.{rules};
+ghost use Rattle.std.specs.Cmp.Rules.{comparing};
+ghost use Rattle.sysmem_memory.specs.Heap.{same_heap};
 
 use crate::domain::CoherencyDomains;
 use std::marker::Model;
@@ -19,6 +21,16 @@ impl Model for Heap {
     ghost Value = { HeapName };
 
     ghost view = { λ h. record { heap_type = string_bytes h.heap_type; id = h.id } };
+}
+
+impl PartialEq for Heap {
+    ghost eq = { same_heap };
+
+    ghost laws = { Prim.search (comparing, rules) };
+
+    fn eq(&self, other: &Heap) -> bool {
+        self.id == other.id && self.heap_type == other.heap_type
+    }
 }
 
 /// A heap of a platform.

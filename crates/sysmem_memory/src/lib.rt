@@ -1,10 +1,16 @@
 //! Which places of a platform a participant's memory constraints allow, and the first place that all of them allow.
 #![tactic(auto)]
 
+mod bounds;
 mod constraints;
 mod domain;
 mod heap;
+mod place;
+mod refusal;
 
+pub use bounds::MemoryBounds;
 pub use constraints::MemoryConstraints;
 pub use domain::{CoherencyDomain, CoherencyDomains};
 pub use heap::{Heap, HeapInfo};
+pub use place::Place;
+pub use refusal::refuses;
