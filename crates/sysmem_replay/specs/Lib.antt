@@ -1,0 +1,6 @@
+pub mod Call
+pub mod Faults
+pub mod Names
+pub mod Platform
+pub mod Script
+pub mod Text
