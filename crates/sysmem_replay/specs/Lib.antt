@@ -1,3 +1,9 @@
+pub mod Call
+pub mod Faults
 pub mod Lines
+pub mod Names
+pub mod Platform
 pub mod Report
+pub mod Script
 pub mod State
+pub mod Text
