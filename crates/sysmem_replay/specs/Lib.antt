@@ -4,3 +4,4 @@ pub mod Names
 pub mod Platform
 pub mod Script
 pub mod Text
+pub mod Transfer
