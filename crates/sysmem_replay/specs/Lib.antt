@@ -7,3 +7,4 @@ pub mod Report
 pub mod Script
 pub mod State
 pub mod Text
+pub mod Transfer

@@ -6,7 +6,7 @@ use Rattle.serde_json.specs.Find.{get_member, as_array}
 use Rattle.sysmem_replay.specs.declared.fault.ScriptFault.{ScriptFault}
 use Rattle.sysmem_replay.specs.declared.fault.ScriptFault.TheVariants.{Misshapen, CallMisshapen, BadName, Platform, TooManyCalls, TooManyActors}
 use Rattle.sysmem_replay.specs.declared.platform.Fault.TheVariants.{Whole}
-use Rattle.sysmem_replay.specs.Call.{Deed, duplicates, binds, states, releases, checks, Shape, keys_of, shape_of}
+use Rattle.sysmem_replay.specs.Call.{Deed, duplicates, Shape, keys_of, shape_of}
 use Rattle.sysmem_replay.specs.Names.{is_name, is_among, with_name, root}
 use Rattle.sysmem_replay.specs.Platform as merge
 

@@ -3,7 +3,9 @@
 
 mod fault;
 mod platform;
+mod transfer;
 
 pub use fault::{RunFault, ScriptFault};
+pub use transfer::{LONGEST, read_up_to_limit, write_fully};
 
 fn main() {}
