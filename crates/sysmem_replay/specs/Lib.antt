@@ -4,7 +4,9 @@ pub mod Lines
 pub mod Names
 pub mod Platform
 pub mod Report
+pub mod Runner
 pub mod Script
+pub mod Seen
 pub mod State
 pub mod Text
 pub mod Transfer

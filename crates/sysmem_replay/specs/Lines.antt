@@ -15,7 +15,8 @@ use Rattle.sysmem_replay.specs.declared.reply.Reply.{Reply}
 use Rattle.sysmem_replay.specs.declared.reply.Reply.TheVariants.{Accepted, Refused, Misread, Skipped}
 use Rattle.sysmem_replay.specs.declared.verdict.Verdict.{Verdict}
 use Rattle.sysmem_replay.specs.declared.verdict.Verdict.TheVariants.{Chosen, Empty, NoMemory}
-use Rattle.sysmem_replay.specs.Script.{Deed, duplicates, binds, states, releases, checks, Request}
+use Rattle.sysmem_replay.specs.Call.{Deed, duplicates, binds, states, releases, checks}
+use Rattle.sysmem_replay.specs.Script.{Request}
 
 abbrev pub refusal_text : Refusal → List ℕ
 refusal_text refusals.NoMemory = codes "E1 NoMemory"

@@ -2,6 +2,8 @@
 use Rattle.std.specs.Prelude.{◌≡◌, ℕ, ◌+◌, ◌++◌, ◌&&◌, List, [], ◌∷◌, length, Bool, true, false, Option, Some, None, is_none, Result, Ok, Err, nat_le, option_and_then, slice_get, slice_set, if◌then◌else◌}
 use Rattle.std.specs.List.{filter_map, list_all}
 use Rattle.sysmem_merge.specs.Participant.{Participant}
+use Rattle.sysmem_replay.specs.declared.action.Action.{Action}
+use Rattle.sysmem_replay.specs.declared.action.Action.TheVariants.{Duplicate, Bind, SetConstraints, Release}
 use Rattle.sysmem_replay.specs.declared.node.Node.{Node}
 use Rattle.sysmem_replay.specs.declared.node.Node.TheVariants.{Token, Collection, Stated, Gone}
 use Rattle.sysmem_replay.specs.declared.reply.Refusal.{Refusal}
@@ -21,26 +23,19 @@ pub record State : Type 0 where
 abbrev pub first_state : State
 first_state = record { nodes = Token ∷ []; names = Some 0 ∷ []; verdict = None; starved = false }
 
--- what an action asks of its node
-pub data Action : Type 0 where
-  duplicate : Action
-  bind : Action
-  set_constraints : Option Participant → Action
-  release : Action
-
 -- the node afterwards; None where its state doesn't allow the action
 abbrev pub changed : Action → Node → Option Node
-changed duplicate Token = Some Token
-changed bind Token = Some Collection
-changed (set_constraints asked) Collection = Some (Stated asked)
-changed release Token = Some (Gone None)
-changed release Collection = Some (Gone None)
-changed release (Stated asked) = Some (Gone asked)
+changed Duplicate Token = Some Token
+changed Bind Token = Some Collection
+changed (SetConstraints asked) Collection = Some (Stated asked)
+changed Release Token = Some (Gone None)
+changed Release Collection = Some (Gone None)
+changed Release (Stated asked) = Some (Gone asked)
 changed _ _ = None
 
 -- the nodes that an action makes
 abbrev pub made_by : Action → List Node
-made_by duplicate = Token ∷ []
+made_by Duplicate = Token ∷ []
 made_by _ = []
 
 -- a domain that was decided other than Chosen
@@ -51,7 +46,7 @@ has_failed _ = false
 
 -- a failed domain refuses every action but a release
 abbrev pub is_barred : Option Verdict → Action → Bool
-is_barred verdict release = false
+is_barred verdict Release = false
 is_barred verdict _ = has_failed verdict
 
 -- a collection has at most 128 nodes

@@ -1,10 +1,20 @@
 //! Replays a script of a buffer negotiation and reports each reply and verdict.
 #![tactic(auto)]
 
+mod action;
+mod decision;
 mod fault;
+mod line;
+mod node;
 mod platform;
+mod reply;
+mod report;
+mod runner;
+mod script;
 mod transfer;
+mod verdict;
 
+pub use report::{Report, report_of};
 pub use fault::{RunFault, ScriptFault};
 pub use transfer::{LONGEST, read_up_to_limit, write_fully};
 

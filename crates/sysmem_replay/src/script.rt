@@ -1,0 +1,4 @@
+//! The calls of a script.
+mod call;
+
+pub use call::{Act, Call};
