@@ -2,11 +2,11 @@
 use Rattle.std.specs.Prelude.{◌≡◌, ℕ, ◌+◌, ◌++◌, ◌||◌, List, [], ◌∷◌, length, Bool, true, false, Option, Some, None, Result, Ok, Err, slice_get, unwrap_or}
 use Rattle.serde_json.specs.Data.{Data}
 use Rattle.sysmem_merge.specs.Best.{IsBest, IsUnmet}
+use Rattle.sysmem_merge.specs.declared.fault.Code.TheVariants.{WantOfMemory}
 use Rattle.sysmem_merge.specs.declared.fault.Fault.{Fault}
 use Rattle.sysmem_merge.specs.declared.settings.Settings.{Settings as Settled}
 use Rattle.sysmem_merge.specs.Participant.{Participant}
 use Rattle.sysmem_merge.specs.Platform.{PlatformFacts}
-use Rattle.sysmem_merge.specs.Faults.{want_of_memory}
 use Rattle.sysmem_merge.specs.Reading.{participant_of}
 use Rattle.sysmem_replay.specs.declared.action.Action.{Action}
 use Rattle.sysmem_replay.specs.declared.action.Action.TheVariants.{Duplicate, Bind, SetConstraints, Release}
@@ -65,8 +65,8 @@ pub data Answers (s : State) (r : Request) : Reply → State → Type 0 where
   skips : node_named s r ≡ None → Answers s r Skipped (unmade s r.deed)
   misreads : (k : ℕ) (d : Data) (fault : Fault) → node_named s r ≡ Some k
     → r.deed ≡ states (Some d) → participant_of d ≡ Err fault → Answers s r (Misread fault) s
-  starves : (k : ℕ) (d : Data) → node_named s r ≡ Some k
-    → r.deed ≡ states (Some d) → Answers s r (Misread want_of_memory) (record s { starved = true })
+  starves : (k : ℕ) (d : Data) (fault : Fault) → node_named s r ≡ Some k
+    → r.deed ≡ states (Some d) → fault.code ≡ WantOfMemory → Answers s r (Misread fault) (record s { starved = true })
   refuses : (k : ℕ) (action : Action) (refusal : Refusal) → node_named s r ≡ Some k
     → Asks r.deed action → applied s k action ≡ Err refusal → Answers s r (Refused refusal) (unmade s r.deed)
   accepts : (k : ℕ) (action : Action) (after : State) → node_named s r ≡ Some k

@@ -1,5 +1,7 @@
 //! What a call asks of its node.
 
+ghost use Rattle.std.specs.Prelude.{◌≡◌};
+
 use sysmem_merge::Constraints;
 
 /// An action on a node. The constraints that it sets were read.
@@ -13,4 +15,15 @@ pub enum Action {
     SetConstraints(Option<Constraints>),
     /// The node is given up.
     Release,
+}
+
+impl Action {
+    ghost use Rattle.sysmem_replay.specs.State.{makes_token};
+
+    /// Whether the action makes a further token.
+    pub fn makes_token(&self) -> bool
+        ensures { result ≡ makes_token self.now }
+    {
+        matches!(self, Action::Duplicate)
+    }
 }

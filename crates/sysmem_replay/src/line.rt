@@ -4,7 +4,7 @@ ghost use Rattle.std.specs.Prelude.{◌≡◌, ℕ, ◌++◌, codes, option_map,
 ghost use Rattle.std.specs.Fmt.{decimal};
 ghost use Rattle.std.specs.String.{string_bytes};
 ghost use Rattle.sysmem_merge.specs.Faults.{fault_text};
-ghost use Rattle.sysmem_replay.specs.Lines.{call_line, deed_name, heap_text, new_name, offer_text, pending_lines, reply_text, verdict_line};
+ghost use Rattle.sysmem_replay.specs.Lines.{call_line, deed_name, heap_text, new_name, offer_text, pending_lines, reply_text, settings_text, verdict_line};
 ghost use Rattle.sysmem_replay.specs.Seen.{deed_seen, seen};
 
 use crate::reply::Reply;
@@ -108,27 +108,29 @@ fn put_fault(text: &mut String, fault: Fault) -> Result<(), AllocError>
 fn put_chosen(text: &mut String, platform: &Platform, settings: Settings) -> Result<(), AllocError>
     ensures { OnOk result (string_bytes text.new ≡ string_bytes text.old ++ verdict_line platform.now (Verdict.Chosen settings)) }
 {
-    put_count(text, settings.count)?;
-    put_size(text, settings.size_bytes)?;
+    text.push_str("domain / chosen - ")?;
+    put_settings(text, platform, settings)?;
+    text.push_str("\n")?;
+    Ok(())
+}
+
+fn put_settings(text: &mut String, platform: &Platform, settings: Settings) -> Result<(), AllocError>
+    ensures { OnOk result (string_bytes text.new ≡ string_bytes text.old ++ settings_text platform.now settings) }
+{
+    put_numbers(text, settings.count, settings.size_bytes)?;
     put_heap(text, platform.heaps().get(settings.place.heap))?;
-    put_rest(text, settings.place.coherency.name(), offer_name(settings.offer))
+    put_rest(text, settings.place.coherency.name(), offer_name(settings.offer))?;
+    Ok(())
 }
 
-fn put_count(text: &mut String, count: u32) -> Result<(), AllocError>
-    ensures { OnOk result (string_bytes text.new ≡ string_bytes text.old ++ (codes "domain / chosen - count " ++ decimal count)) }
+fn put_numbers(text: &mut String, count: u32, size: u64) -> Result<(), AllocError>
+    ensures { OnOk result (string_bytes text.new ≡ string_bytes text.old ++ (codes "count " ++ decimal count ++ codes " size " ++ decimal size ++ codes " place ")) }
 {
-    text.push_str("domain / chosen - count ")?;
-    write!(text, "{count}")
-}
-
-fn put_size(text: &mut String, size: u64) -> Result<(), AllocError>
-    ensures { OnOk result (string_bytes text.new ≡ string_bytes text.old ++ (codes " size " ++ decimal size ++ codes " place ")) }
-{
-    write!(text, " size {size} place ")
+    write!(text, "count {count} size {size} place ")
 }
 
 fn put_heap(text: &mut String, heap: Option<&HeapInfo>) -> Result<(), AllocError>
-    ensures { OnOk result (string_bytes text.new ≡ string_bytes text.old ++ heap_text (option_map (λ info. info.now) heap)) }
+    ensures { OnOk result (string_bytes text.new ≡ string_bytes text.old ++ heap_text (option_map (λ info. info.now) heap.entry)) }
 {
     match heap {
         Some(info) => put_heap_name(text, info.heap.heap_type.as_str(), info.heap.id),
@@ -143,9 +145,9 @@ fn put_heap_name(text: &mut String, heap_type: &str, id: u64) -> Result<(), Allo
 }
 
 fn put_rest(text: &mut String, coherency: &str, image: &str) -> Result<(), AllocError>
-    ensures { OnOk result (string_bytes text.new ≡ string_bytes text.old ++ (codes " " ++ coherency.now ++ codes " image " ++ image.now ++ codes "\n")) }
+    ensures { OnOk result (string_bytes text.new ≡ string_bytes text.old ++ (codes " " ++ coherency.now ++ codes " image " ++ image.now)) }
 {
-    writeln!(text, " {coherency} image {image}")
+    write!(text, " {coherency} image {image}")
 }
 
 /// The image as a report prints it.

@@ -4,6 +4,7 @@
 mod action;
 mod decision;
 mod fault;
+pub mod laws;
 mod line;
 mod node;
 mod platform;

@@ -1,13 +1,14 @@
 //! The collection that a script's calls act on: its nodes, what their names stand for, and its verdict.
 
-ghost use Rattle.std.specs.Prelude.{◌≡◌, ◌≢◌, ◌≤◌, ◌++◌, length, slice_get, unwrap_or, OnOk, IfOk};
+ghost use Rattle.std.specs.Prelude.{◌≡◌, ◌≢◌, ◌+◌, ◌≤◌, ◌++◌, ◌||◌, true, length, nat_le, slice_get, unwrap_or, OnOk, IfOk};
+ghost use Rattle.std.specs.List.{list_all};
 ghost use Rattle.std.specs.Result.{result_err};
 ghost use Rattle.std.specs.String.{string_bytes};
 ghost use Rattle.serde_json.specs.View.{view};
 ghost use Rattle.sysmem_replay.specs.Call.{states};
-ghost use Rattle.sysmem_replay.specs.Report.{Answers, Asks, SettlesIn, Takes, answer_by, checked, named, node_named};
+ghost use Rattle.sysmem_replay.specs.Report.{Answers, Asks, SettlesIn, Takes, answer_by, checked, is_no_memory, named, node_named};
 ghost use Rattle.sysmem_replay.specs.Seen.{deed_seen, seen};
-ghost use Rattle.sysmem_replay.specs.State.{applied, first_state, has_room, is_barred, is_due};
+ghost use Rattle.sysmem_replay.specs.State.{applied, first_state, has_room, is_barred, is_complete, is_due, made_if, starves};
 
 use crate::action::Action;
 use crate::decision::decide;
@@ -19,7 +20,7 @@ use crate::verdict::Verdict;
 use serde_json::Value;
 use std::alloc::{AllocError, Global};
 use std::mem;
-use sysmem_merge::{Code, Platform, read_constraints};
+use sysmem_merge::{Code, Fault, Platform, read_constraints};
 
 const MOST_NODES: usize = 128;
 
@@ -80,7 +81,8 @@ impl Runner {
     {
         let reply = self.answer(alloc, call)?;
         put_call(text, number, call, reply)?;
-        self.settle(alloc, platform, text)
+        self.settle(alloc, platform, text)?;
+        Ok(())
     }
 
     /// Decides where the collection is ready and has no verdict, and puts the verdict's line behind the text.
@@ -91,16 +93,24 @@ impl Runner {
             return Ok(());
         }
         let verdict = decide(alloc, platform, &self.nodes);
+        self.keep_verdict(verdict);
+        put_verdict(text, platform, verdict)?;
+        Ok(())
+    }
+
+    /// Keeps the verdict of a decision.
+    fn keep_verdict(&mut self, verdict: Verdict)
+        ensures { state_of self.new ≡ record (state_of self.old) { verdict = Some verdict; starved = (state_of self.old).starved || is_no_memory verdict } }
+    {
         self.verdict = Some(verdict);
         self.starved = self.starved || verdict.is_no_memory();
-        put_verdict(text, platform, verdict)
     }
 
     /// Whether the collection is ready and has no verdict yet.
     fn is_due(&self) -> bool
         ensures { result ≡ is_due (state_of self.now) }
     {
-        self.verdict.is_none() && self.nodes.iter().all(|node| node.is_complete())
+        self.verdict.is_none() && are_complete(&self.nodes)
     }
 
     /// Makes a call, and gives its reply.
@@ -114,26 +124,51 @@ impl Runner {
         match call.act {
             Act::Duplicate(_) => self.act(call, node, Action::Duplicate),
             Act::Bind => self.act(call, node, Action::Bind),
-            Act::SetConstraints(None) => self.act(call, node, Action::SetConstraints(None)),
-            Act::SetConstraints(Some(value)) => self.set_constraints(alloc, call, node, value),
+            Act::SetConstraints(stated) => self.set_constraints(alloc, call, node, stated),
             Act::Release => self.act(call, node, Action::Release),
             Act::Check => Ok(self.checked(node)),
         }
     }
 
+    /// Reads the constraints that a call states, if any, and sets them on its node.
+    fn set_constraints(
+        &mut self,
+        alloc: Global,
+        call: &Call<'_>,
+        node: usize,
+        stated: Option<&Value>,
+    ) -> Result<Reply, AllocError>
+        requires named { node_named (state_of self.old) (seen call.now) ≡ Some node }
+        requires stated { (seen call.now).deed ≡ deed_seen (Act.SetConstraints stated) }
+        ensures { IfOk result (λ reply. Answers (state_of self.old) (seen call.now) reply (state_of self.new)) }
+    {
+        match stated {
+            None => self.act(call, node, Action::SetConstraints(None)),
+            Some(value) => self.set_read(alloc, call, node, value),
+        }
+    }
+
     /// Reads the constraints that a call states, and sets them on its node.
-    fn set_constraints(&mut self, alloc: Global, call: &Call<'_>, node: usize, value: &Value) -> Result<Reply, AllocError>
+    fn set_read(&mut self, alloc: Global, call: &Call<'_>, node: usize, value: &Value) -> Result<Reply, AllocError>
         requires named { node_named (state_of self.old) (seen call.now) ≡ Some node }
         requires stated { (seen call.now).deed ≡ states (Some (view value.now)) }
         ensures { IfOk result (λ reply. Answers (state_of self.old) (seen call.now) reply (state_of self.new)) }
     {
         match read_constraints(alloc, value) {
             Ok(asked) => self.act(call, node, Action::SetConstraints(Some(asked))),
-            Err(fault) => {
-                self.starved = self.starved || matches!(fault.code, Code::WantOfMemory);
-                Ok(Reply::Misread(fault))
-            }
+            Err(fault) => Ok(self.misread(fault)),
         }
+    }
+
+    /// The reply to constraints that can't be read.
+    fn misread(&mut self, fault: Fault) -> Reply
+        ensures reply { result ≡ Reply.Misread fault }
+        ensures starved {
+            state_of self.new ≡ record (state_of self.old) { starved = (state_of self.old).starved || starves fault.code }
+        }
+    {
+        self.starved = self.starved || starves(fault.code);
+        Reply::Misread(fault)
     }
 
     /// Makes a call's action on its node, or refuses it.
@@ -196,9 +231,18 @@ impl Runner {
         requires { result_err (applied (state_of self.old) node action) ≡ None }
         ensures { OnOk result (applied (state_of self.old) node action ≡ Ok (state_of self.new)) }
     {
-        let makes = matches!(action, Action::Duplicate);
+        let makes = action.makes_token();
         let there = mem::replace(&mut self.nodes[node], Node::Token);
         self.nodes[node] = there.after(action);
+        self.grow(makes)?;
+        Ok(())
+    }
+
+    /// Makes a further token, where one is to be made.
+    fn grow(&mut self, makes: bool) -> Result<(), AllocError>
+        requires { nat_le (length (state_of self.old).nodes + length (made_if makes)) 128 ≡ true }
+        ensures { OnOk result (state_of self.new ≡ record (state_of self.old) { nodes = (state_of self.old).nodes ++ made_if makes }) }
+    {
         if makes {
             self.nodes.push(Node::Token)?;
         }
@@ -234,6 +278,20 @@ impl Runner {
             _ => Ok(()),
         }
     }
+}
+
+/// Whether memory was refused to a reader.
+fn starves(code: Code) -> bool
+    ensures { result ≡ starves code }
+{
+    matches!(code, Code::WantOfMemory)
+}
+
+/// Whether nothing more waits on the nodes.
+fn are_complete(nodes: &[Node]) -> bool
+    ensures { result ≡ list_all is_complete nodes.now }
+{
+    nodes.iter().all(|node| node.is_complete())
 }
 
 /// The reply to a check by the verdict.
