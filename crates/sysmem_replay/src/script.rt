@@ -1,4 +1,0 @@
-//! The calls of a script.
-mod call;
-
-pub use call::{Act, Call};
