@@ -1,2 +1,3 @@
 pub mod KnownBytes
+pub mod Members
 pub mod TransferLemmas

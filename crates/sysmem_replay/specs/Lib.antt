@@ -3,5 +3,6 @@ pub mod Faults
 pub mod Names
 pub mod Platform
 pub mod Script
+pub mod Seen
 pub mod Text
 pub mod Transfer

@@ -3,6 +3,7 @@
 
 mod fault;
 mod platform;
+pub mod script;
 mod transfer;
 
 pub use fault::{RunFault, ScriptFault};

@@ -1,0 +1,1 @@
+//! What the calls so far made known.
