@@ -1,3 +1,4 @@
 pub mod KnownBytes
 pub mod Members
+pub mod TextsLemmas
 pub mod TransferLemmas

@@ -11,5 +11,3 @@ pub list_all-keys_of : (p : List ℕ → Bool) (es : List (String Global × Valu
     → list_all p (keys_of (members_view es)) ≡ list_all (λ key. p (string_bytes key)) (map.keys_of es)
 list_all-keys_of p [] = refl
 list_all-keys_of p (e ∷ es) = ap (λ b. p (string_bytes e.0) && b) (list_all-keys_of p es)
-
-pub ruleset keys_rules = list_all-keys_of

@@ -23,7 +23,6 @@ pub record Shape : Type 0 where
   pub actor : List ℕ
 
 infixl 10 ◌>>=◌
-
 -- a value that is there, and then the next
 abbrev pub ◌>>=◌ : {A B : Type 0} → Option A → (A → Option B) → Option B
 None >>= next = None
@@ -53,18 +52,18 @@ constraints_of call = option_and_then unless_null (get (codes "constraints") cal
 -- what a call of this name does
 abbrev pub deed_of : List ℕ → Data → Option Deed
 deed_of name call =
-  if bytes_eq name (codes "duplicate") then option_map duplicates (text_at (codes "as") call)
-  else if bytes_eq name (codes "bind") then Some binds
-  else if bytes_eq name (codes "set_constraints") then Some (states (constraints_of call))
-  else if bytes_eq name (codes "release") then Some releases
-  else if bytes_eq name (codes "check") then Some checks
-  else None
+    if bytes_eq name (codes "duplicate") then option_map duplicates (text_at (codes "as") call)
+    else if bytes_eq name (codes "bind") then Some binds
+    else if bytes_eq name (codes "set_constraints") then Some (states (constraints_of call))
+    else if bytes_eq name (codes "release") then Some releases
+    else if bytes_eq name (codes "check") then Some checks
+    else None
 
 -- a call of this name may have this key
-abbrev pub may_have : List ℕ → List ℕ → Bool
+unfoldable pub may_have : List ℕ → List ℕ → Bool
 may_have name key = bytes_eq key (codes "call") || bytes_eq key (codes "on") || bytes_eq key (codes "actor")
-  || (bytes_eq key (codes "as") && bytes_eq name (codes "duplicate"))
-  || (bytes_eq key (codes "constraints") && bytes_eq name (codes "set_constraints"))
+    || (bytes_eq key (codes "as") && bytes_eq name (codes "duplicate"))
+    || (bytes_eq key (codes "constraints") && bytes_eq name (codes "set_constraints"))
 
 -- the shape of a call: it is an object with no further keys
 abbrev pub shape_of : Data → Option Shape

@@ -1,5 +1,6 @@
 pub mod Call
 pub mod Faults
+pub mod Known
 pub mod Names
 pub mod Platform
 pub mod Script

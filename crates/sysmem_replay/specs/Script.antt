@@ -63,9 +63,13 @@ requests_from n known (item call calls) = do
   others ← requests_from (n + 1) first.1 calls
   Ok (first.0 ∷ others)
 
--- the requests of a script's calls: the root's name is made, and there was no actor yet
+-- before the first call the root's name is made, and there was no actor yet
+abbrev pub nothing_known : Known
+nothing_known = record { names = root ∷ []; actors = [] }
+
+-- the requests of a script's calls
 abbrev pub requests_of : Items → Result (List Request) ScriptFault
-requests_of calls = requests_from 1 (record { names = root ∷ []; actors = [] }) calls
+requests_of calls = requests_from 1 nothing_known calls
 
 abbrev pub items_len : Items → ℕ
 items_len no_items = 0

@@ -32,10 +32,11 @@ fn actor_of(call: &Value) -> Option<&str>
     }
 }
 
-fn constraints_of(call: &Value) -> Option<&Value> 
+fn constraints_of(call: &Value) -> Option<&Value>
     ensures { option_map (λ d. view d.now) result ≡ constraints_of (view call.now) }
 {
-    call.get("constraints").filter(|constraints| !constraints.is_null())
+    call.get("constraints")
+        .filter(|constraints| !constraints.is_null())
 }
 
 fn act_of<'a>(name: &str, call: &'a Value) -> Option<Act<'a>>
@@ -51,6 +52,7 @@ fn act_of<'a>(name: &str, call: &'a Value) -> Option<Act<'a>>
     }
 }
 
+#[tactic(auto, unfolding(crate::specs::Call::may_have))]
 fn may_have(name: &str, key: &str) -> bool
     ensures { result ≡ may_have name.now key.now }
 {
@@ -61,7 +63,6 @@ fn may_have(name: &str, key: &str) -> bool
         || (key == "constraints" && name == "set_constraints")
 }
 
-#[tactic(auto, using(crate::proofs::Members::keys_rules))]
 fn has_only_known(name: &str, members: &Map<String, Value>) -> bool
     ensures { result ≡ list_all (may_have name.now) (keys_of (members_view members.now.entries)) }
 {
@@ -77,5 +78,9 @@ pub(super) fn shape_of(call: &Value) -> Option<Shape<'_>>
     let on = text_at(call, "on")?;
     let actor = actor_of(call)?;
     let act = act_of(name, call)?;
-    if has_only_known(name, members) { Some(Shape { act, on, actor }) } else { None }
+    if has_only_known(name, members) {
+        Some(Shape { act, on, actor })
+    } else {
+        None
+    }
 }
