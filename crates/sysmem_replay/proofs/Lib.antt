@@ -1,3 +1,4 @@
+pub mod CallsLemmas
 pub mod KnownBytes
 pub mod Members
 pub mod TextsLemmas
