@@ -1,7 +1,10 @@
 pub mod Answering
+pub mod CallsLemmas
 pub mod Entering
 pub mod KnownBytes
+pub mod Members
 pub mod Steps
 pub mod Texts
+pub mod TextsLemmas
 pub mod TransferLemmas
 pub mod Unique

@@ -2,8 +2,8 @@
 use Rattle.std.specs.Prelude.{ℕ, ◌∷◌, [], ◌&&◌, ◌||◌, Bool, List, bytes_eq, codes, Option, Some, None, option_map, option_and_then, if◌then◌else◌}
 use Rattle.std.specs.List.{list_all}
 use Rattle.std.specs.Option.{option_map_or}
-use Rattle.serde_json.specs.Data.{Data, null, object, Members, no_members, member}
-use Rattle.serde_json.specs.Find.{get_member, as_str}
+use Rattle.serde_json.specs.Data.{Data, null, Members, no_members, member}
+use Rattle.serde_json.specs.Find.{get, as_str, as_object}
 use Rattle.sysmem_replay.specs.Names.{main_actor}
 
 -- What a call does to the token that it is made on.
@@ -22,47 +22,55 @@ pub record Shape : Type 0 where
   pub on : List ℕ
   pub actor : List ℕ
 
+infixl 10 ◌>>=◌
+-- a value that is there, and then the next
+abbrev pub ◌>>=◌ : {A B : Type 0} → Option A → (A → Option B) → Option B
+None >>= next = None
+Some a >>= next = next a
+
 abbrev pub keys_of : Members → List (List ℕ)
 keys_of no_members = []
 keys_of (member key value ms) = key ∷ keys_of ms
 
 -- the text at a key
-abbrev pub text_at : List ℕ → Members → Option (List ℕ)
-text_at key ms = option_and_then as_str (get_member key ms)
-
--- a call of this name may have this key
-abbrev pub may_have : List ℕ → List ℕ → Bool
-may_have call key = bytes_eq key (codes "call") || bytes_eq key (codes "on") || bytes_eq key (codes "actor")
-    || (bytes_eq key (codes "as") && bytes_eq call (codes "duplicate"))
-    || (bytes_eq key (codes "constraints") && bytes_eq call (codes "set_constraints"))
-
--- null states no constraints
-abbrev pub stated : Data → Option Data
-stated null = None
-stated d = Some d
-
--- what a call of this name does
-abbrev pub deed_of : List ℕ → Members → Option Deed
-deed_of call ms =
-    if bytes_eq call (codes "duplicate") then option_map duplicates (text_at (codes "as") ms)
-    else if bytes_eq call (codes "bind") then Some binds
-    else if bytes_eq call (codes "set_constraints") then Some (states (option_and_then stated (get_member (codes "constraints") ms)))
-    else if bytes_eq call (codes "release") then Some releases
-    else if bytes_eq call (codes "check") then Some checks
-    else None
+abbrev pub text_at : List ℕ → Data → Option (List ℕ)
+text_at key call = option_and_then as_str (get key call)
 
 -- the actor that a call names, or `main`
-abbrev pub actor_of : Members → Option (List ℕ)
-actor_of ms = option_map_or as_str (get_member (codes "actor") ms) (Some main_actor)
+abbrev pub actor_of : Data → Option (List ℕ)
+actor_of call = option_map_or as_str (get (codes "actor") call) (Some main_actor)
 
--- the shape of a call with these members
-abbrev pub members_shape : List ℕ → Members → Option Shape
-members_shape call ms =
-    if list_all (may_have call) (keys_of ms)
-    then option_and_then (λ on. option_and_then (λ actor. option_map (λ deed. record { deed = deed; on = on; actor = actor }) (deed_of call ms)) (actor_of ms)) (text_at (codes "on") ms)
+-- null states no constraints
+abbrev pub unless_null : Data → Option Data
+unless_null null = None
+unless_null d = Some d
+
+-- the constraints that a call states
+abbrev pub constraints_of : Data → Option Data
+constraints_of call = option_and_then unless_null (get (codes "constraints") call)
+
+-- what a call of this name does
+abbrev pub deed_of : List ℕ → Data → Option Deed
+deed_of name call =
+    if bytes_eq name (codes "duplicate") then option_map duplicates (text_at (codes "as") call)
+    else if bytes_eq name (codes "bind") then Some binds
+    else if bytes_eq name (codes "set_constraints") then Some (states (constraints_of call))
+    else if bytes_eq name (codes "release") then Some releases
+    else if bytes_eq name (codes "check") then Some checks
     else None
 
--- the shape of a call, where it has one
+-- a call of this name may have this key
+unfoldable pub may_have : List ℕ → List ℕ → Bool
+may_have name key = bytes_eq key (codes "call") || bytes_eq key (codes "on") || bytes_eq key (codes "actor")
+    || (bytes_eq key (codes "as") && bytes_eq name (codes "duplicate"))
+    || (bytes_eq key (codes "constraints") && bytes_eq name (codes "set_constraints"))
+
+-- the shape of a call: it is an object with no further keys
 abbrev pub shape_of : Data → Option Shape
-shape_of (object ms) = option_and_then (λ call. members_shape call ms) (text_at (codes "call") ms)
-shape_of _ = None
+shape_of call = do
+  members ← as_object call
+  name ← text_at (codes "call") call
+  on ← text_at (codes "on") call
+  actor ← actor_of call
+  deed ← deed_of name call
+  if list_all (may_have name) (keys_of members) then Some (record { deed = deed; on = on; actor = actor }) else None

@@ -1,5 +1,6 @@
 pub mod Call
 pub mod Faults
+pub mod Known
 pub mod Laws
 pub mod Lines
 pub mod Names

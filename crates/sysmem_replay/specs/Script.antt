@@ -1,11 +1,10 @@
 -- The script that a value stands for, or its first fault.
 use Rattle.std.specs.Prelude.{ℕ, ◌+◌, ◌∷◌, ◌++◌, [], ◌&&◌, ◌||◌, not, Bool, List, length, nat_le, position, bytes_eq, codes, Option, Some, None, option_and_then, option_map, ok_or, Result, Ok, Err, if◌then◌else◌}
 use Rattle.std.specs.List.{list_all}
-use Rattle.serde_json.specs.Data.{Data, object, Items, no_items, item}
-use Rattle.serde_json.specs.Find.{get_member, as_array}
+use Rattle.serde_json.specs.Data.{Data, Items, no_items, item}
+use Rattle.serde_json.specs.Find.{get, as_array, as_object}
 use Rattle.sysmem_replay.specs.declared.fault.ScriptFault.{ScriptFault}
-use Rattle.sysmem_replay.specs.declared.fault.ScriptFault.TheVariants.{Misshapen, CallMisshapen, BadName, Platform, TooManyCalls, TooManyActors}
-use Rattle.sysmem_replay.specs.declared.platform.Fault.TheVariants.{Whole}
+use Rattle.sysmem_replay.specs.declared.fault.ScriptFault.TheVariants.{Misshapen, CallMisshapen, BadName, TooManyCalls, TooManyActors}
 use Rattle.sysmem_replay.specs.Call.{Deed, duplicates, Shape, keys_of, shape_of}
 use Rattle.sysmem_replay.specs.Names.{is_name, is_among, with_name, root}
 use Rattle.sysmem_replay.specs.Platform as merge
@@ -63,9 +62,13 @@ requests_from n known (item call calls) = do
   others ← requests_from (n + 1) first.1 calls
   Ok (first.0 ∷ others)
 
--- the requests of a script's calls: the root's name is made, and there was no actor yet
+-- before the first call the root's name is made, and there was no actor yet
+abbrev pub nothing_known : Known
+nothing_known = record { names = root ∷ []; actors = [] }
+
+-- the requests of a script's calls
 abbrev pub requests_of : Items → Result (List Request) ScriptFault
-requests_of calls = requests_from 1 (record { names = root ∷ []; actors = [] }) calls
+requests_of calls = requests_from 1 nothing_known calls
 
 abbrev pub items_len : Items → ℕ
 items_len no_items = 0
@@ -76,11 +79,10 @@ is_part key = bytes_eq key (codes "platform") || bytes_eq key (codes "calls")
 
 -- the platform and the calls of a script, which has no further parts
 abbrev pub parts_of : Data → Option (Data × Items)
-parts_of (object ms) =
-    if list_all is_part (keys_of ms)
-    then option_and_then (λ platform. option_map (λ calls. (platform, calls)) (option_and_then as_array (get_member (codes "calls") ms))) (get_member (codes "platform") ms)
-    else None
-parts_of _ = None
+parts_of script =
+  option_and_then (λ members. option_and_then (λ platform. option_and_then (λ calls.
+    if list_all is_part (keys_of members) then Some (platform, calls) else None)
+  (option_and_then as_array (get (codes "calls") script))) (get (codes "platform") script)) (as_object script)
 
 -- the calls of a script, which are 4,096 at most
 abbrev pub few_calls : Items → Option Items
@@ -90,7 +92,7 @@ few_calls calls = if nat_le (items_len calls) 4096 then Some calls else None
 abbrev pub script_of : Data → Result Script ScriptFault
 script_of value = do
   parts ← ok_or (parts_of value) Misshapen
-  platform ← ok_or (merge.platform_of parts.0) (Platform Whole)
+  platform ← merge.platform_said parts.0
   calls ← ok_or (few_calls parts.1) TooManyCalls
   requests ← requests_of calls
   Ok (record { platform = platform; requests = requests })

@@ -1,5 +1,5 @@
 -- The bytes of a script, and the value that they spell.
-use Rattle.std.specs.Prelude.{◌≡◌, ℕ, ◌<◌, ◌≤◌, List, length, Result, Err, Some, IsUtf8}
+use Rattle.std.specs.Prelude.{◌≡◌, ℕ, ◌<◌, ◌≤◌, List, length, Result, Ok, Err, Some, IsUtf8}
 use Rattle.serde_json.specs.Data.{Data}
 use Rattle.serde_json.specs.Read.{read}
 use Rattle.sysmem_replay.specs.declared.fault.ScriptFault.{ScriptFault}
@@ -19,3 +19,7 @@ pub data Outcome {A : Type 0} (IsSaid : Data → Result A ScriptFault → Type 0
   too_long : longest < length bytes → Outcome IsSaid bytes (Err TooLong)
   not_json : length bytes ≤ longest → ((value : Data) → ¬ IsJson bytes value) → Outcome IsSaid bytes (Err NotJson)
   spelled : (value : Data) → length bytes ≤ longest → IsJson bytes value → (answer : Result A ScriptFault) → IsSaid value answer → Outcome IsSaid bytes answer
+
+-- The answer is the value itself.
+abbrev pub IsValue : Data → Result Data ScriptFault → Type 0
+IsValue value answer = answer ≡ Ok value

@@ -11,12 +11,12 @@ mod platform;
 mod reply;
 mod report;
 mod runner;
-mod script;
+pub mod script;
 mod transfer;
 mod verdict;
 
-pub use report::{Report, report_of};
 pub use fault::{RunFault, ScriptFault};
+pub use report::{Report, report_of};
 pub use transfer::{LONGEST, read_up_to_limit, write_fully};
 
 fn main() {}
