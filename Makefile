@@ -2,7 +2,7 @@
 PROGRAM := crates/sysmem_replay
 FILE ?= examples/one_participant.json
 
-.PHONY: run proved test bench
+.PHONY: run proved test program-test bench
 
 # Runs a script: with the proved program where `make proved` has built it, else without proving.
 run:
@@ -10,11 +10,18 @@ run:
 
 # Proves the program and all that it stands on, and builds it.
 proved:
-	cd $(PROGRAM) && rt run -- run $(abspath $(FILE))
+	cd $(PROGRAM) && rt run -- run $(abspath examples/one_participant.json)
 
 # The whole gate: every proof from nothing, the must-fail edits, the tests, the program.
 test:
 	rt ci
 
-bench:
+# Tests of the proved program as a whole: each example's report, and each of its allocations refused in turn (needs a C compiler).
+program-test: proved
+	tests/examples
+	tests/want_of_memory
+
+# Times the proved program beside the reading of the same bytes as a JSON value.
+bench: proved
+	cd crates/value_reader && rt run -- one_participant.json
 	bench/run

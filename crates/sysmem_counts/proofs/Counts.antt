@@ -1,11 +1,10 @@
 -- Which numbers of buffers suit participants.
-use Rattle.std.proofs.Common.{arith, ℕ, ◌≡◌, ◌≤◌, ◌<◌, ◌+◌, ◌^◌, max, min, List, [], ◌∷◌, ◌++◌, All, Any, refl, ap, ◌∙◌, subst, sum_by, inl, inr}
-use Rattle.std.proofs.lemmas.List.Elements.{All-push, All-head, All-tail, All-cons, All-nil}
-use Rattle.std.proofs.lemmas.List.Sums.{sum_by-cons, sum_by_push}
-use Rattle.sysmem_counts.specs.Bounds.{least, tally, StandsFor}
-use Rattle.sysmem_counts.specs.Counts.{greatest, own_buffers, held_together, needed, IsCounted, IsLeastCount, HasNoCount, IsCountLine, IsFirstCountLine}
+use Rattle.std.proofs.Common.{arith, ℕ, ◌≡◌, ◌≤◌, ◌<◌, ◌+◌, ◌^◌, max, min, List, [], ◌∷◌, ◌++◌, All, refl, ap}
+use Rattle.std.proofs.lemmas.List.Elements.{All-push}
+use Rattle.std.proofs.lemmas.List.Sums.{sum_by_push}
+use Rattle.sysmem_counts.specs.Bounds.{StandsFor}
+use Rattle.sysmem_counts.specs.Counts.{own_buffers, needed, IsCounted, IsLeastCount, HasNoCount, IsCountLine}
 use Rattle.sysmem_counts.specs.Laws.{CountSuitsSome, CountLineLeavesNone, OneLeastCount}
-use Rattle.sysmem_counts.specs.Sublist.{IsSublist, ended, taken, left_out}
 use Rattle.sysmem_counts.specs.Tally.{Tally}
 use Rattle.sysmem_counts.specs.declared.constraints.CountConstraints.{CountConstraints}
 use Rattle.sysmem_counts.specs.declared.field.Field.{Field}
@@ -36,12 +35,6 @@ line_sound MaxBufferCount ps line count c =
     (λ p low high. omega (arith, low, high, needed_le ps count c)) line c.maximum
 line_sound BufferCountLimit ps line count c = omega (arith, line, c.limit, needed_le ps count c)
 line_sound _ ps line count c = absurd line
-
--- the first true line is a true line
-pub first_is_line : (field : Field) (ps : List CountConstraints) → IsFirstCountLine field ps → IsCountLine field ps
-first_is_line BufferCountLimit ps first = first.1
-first_is_line MaxBufferCount ps first = first
-first_is_line _ ps first = absurd first
 
 -- a count for all is a count for some
 pub counted_some : CountSuitsSome

@@ -44,7 +44,7 @@ IsCountLine MaxBufferCount ps = Any (λ p. p.max_buffer_count < needed ps) ps
 IsCountLine BufferCountLimit ps = 128 < needed ps
 IsCountLine _ ps = ⊥
 
--- the first count line that is true of them, a maximum before the limit
-abbrev pub IsFirstCountLine : Field → List CountConstraints → Type 0
-IsFirstCountLine BufferCountLimit ps = All (λ p. needed ps ≤ p.max_buffer_count) ps × (128 < needed ps)
-IsFirstCountLine field ps = IsCountLine field ps
+-- why participants have no count, with the first line that is true of them: a maximum before the limit
+abbrev pub IsCountFault : List CountConstraints → Field → Type 0
+IsCountFault ps BufferCountLimit = All (λ p. needed ps ≤ p.max_buffer_count) ps × (128 < needed ps)
+IsCountFault ps field = IsCountLine field ps

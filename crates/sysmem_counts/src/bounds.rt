@@ -2,7 +2,7 @@
 
 ghost use Rattle.std.specs.Prelude.{◌≡◌, ◌+◌, ◌<◌, ◌^◌, ◌++◌, [], ◌∷◌, List, IfErr, MatchResult};
 ghost use Rattle.sysmem_counts.specs.Bounds.{StandsFor};
-ghost use Rattle.sysmem_counts.specs.Counts.{HasNoCount, IsCountLine, IsFirstCountLine, IsLeastCount};
+ghost use Rattle.sysmem_counts.specs.Counts.{HasNoCount, IsCountFault, IsCountLine, IsLeastCount};
 ghost use Rattle.sysmem_counts.specs.Tally.{sum_of};
 ghost use Rattle.sysmem_counts.specs.declared.constraints.CountConstraints.{CountConstraints as Asked};
 
@@ -66,7 +66,7 @@ impl CountBounds {
     /// The least number of buffers, 1 to 128, that suits all participants. Where none does, the field that
     /// says so: `MaxBufferCount` if they need more than one of their maximums, else `BufferCountLimit`.
     pub fn least_count(&self) -> Result<u32, Field>
-        ensures cases { (ps : List Asked) → StandsFor self.now ps → MatchResult result (IsLeastCount ps) (λ field. IsFirstCountLine field ps) }
+        ensures cases { (ps : List Asked) → StandsFor self.now ps → MatchResult result (IsLeastCount ps) (IsCountFault ps) }
         ensures line { (ps : List Asked) → StandsFor self.now ps → IfErr result (λ field. IsCountLine field ps) }
         ensures none { (ps : List Asked) → StandsFor self.now ps → IfErr result (λ _. HasNoCount ps) }
     {

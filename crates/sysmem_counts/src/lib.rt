@@ -17,3 +17,6 @@ pub use bounds::{BUFFER_COUNT_LIMIT, CountBounds};
 pub use constraints::CountConstraints;
 pub use field::Field;
 pub use usage::Usage;
+
+#[cfg(test)]
+mod tests;

@@ -1,5 +1,5 @@
 -- The first field that refuses: what is known of it, and of the others.
-use Rattle.std.proofs.Common.{◌≡◌, Bool, true, false, cond, List, [], ◌∷◌, ◌++◌, Option, Some, None, IfSome, IfNone, is_some, refl, sym, ◌∙◌, subst}
+use Rattle.std.proofs.Common.{◌≡◌, Bool, true, false, cond, List, [], ◌∷◌, ◌++◌, Option, Some, None, IfSome, IfNone, is_some, refl, sym, subst}
 use Rattle.std.specs.List.{find}
 use Rattle.sysmem_counts.specs.declared.usage.Usage as usage
 use Rattle.sysmem_counts.specs.declared.field.Field.{Field}

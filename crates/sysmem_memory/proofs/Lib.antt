@@ -1,1 +1,4 @@
 pub mod FirstRefusing
+pub mod LawProofs
+pub mod Left
+pub mod Lists

@@ -1,5 +1,6 @@
 pub mod Domain
 pub mod Heap
+pub mod Laws
 pub mod Place
 pub mod PlaceTable
 pub mod Wishes

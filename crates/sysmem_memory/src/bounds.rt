@@ -1,5 +1,11 @@
 //! The places that a list of participants leaves, folded one participant at a time.
 
+ghost use Rattle.std.specs.Prelude.{◌≡◌, ◌&&◌, is_none};
+ghost use Rattle.std.specs.List.{find};
+ghost use Rattle.sysmem_memory.specs.declared.domain.CoherencyDomain.{CoherencyDomain as Domain};
+ghost use Rattle.sysmem_memory.specs.Domain.{has_domain};
+ghost use Rattle.sysmem_memory.specs.PlaceTable.{refuses_by, first_refusing, domain_fields};
+
 use crate::constraints::MemoryConstraints;
 use crate::domain::{CoherencyDomain, CoherencyDomains};
 use crate::heap::HeapInfo;
@@ -15,12 +21,14 @@ pub struct MemoryBounds {
 }
 
 impl Model for MemoryBounds {
-    ghost use Rattle.std.specs.Prelude.{List};
+    ghost use Rattle.std.specs.Prelude.{◌≡◌, List, length};
     ghost use Rattle.sysmem_memory.specs.declared.domain.CoherencyDomains.{CoherencyDomains as Domains};
 
     ghost Value = { List Domains };
 
     ghost view = { λ b. b.left };
+
+    ghost invariant = { λ b. length b.left ≡ 64 };
 
     ghost inverse = { λ left. record { left = left } };
 }
@@ -45,10 +53,8 @@ impl MemoryBounds {
     /// Adds a participant: what it refuses is no longer left. The heaps are those that `new` was given.
     pub fn add(&mut self, heaps: &[HeapInfo], memory: &MemoryConstraints, usage: Usage)
         requires { length heaps.now ≤ 64 }
-        ensures {
-            (ps : List PlaceDemand) → StandsFor self.old heaps.now ps
-                → StandsFor self.new heaps.now (ps ++ record { memory = memory.now; usage = usage } ∷ [])
-        }
+        ensures { (ps : List PlaceDemand) → StandsFor self.old heaps.now ps
+            → StandsFor self.new heaps.now (ps ++ record { memory = memory.now; usage = usage } ∷ []) }
     {
         for (index, heap) in heaps.iter().enumerate() {
             self.left[index] = still_left(self.left[index], heap, memory, usage);
@@ -59,12 +65,8 @@ impl MemoryBounds {
     /// The heaps are those that `new` was given.
     pub fn first_place(&self, heaps: &[HeapInfo]) -> Option<Place>
         requires { length heaps.now ≤ 64 }
-        ensures first {
-            (ps : List PlaceDemand) → StandsFor self.now heaps.now ps → IfSome result (IsFirstPlace heaps.now ps)
-        }
-        ensures none {
-            (ps : List PlaceDemand) → StandsFor self.now heaps.now ps → IfNone result (HasNoPlace heaps.now ps)
-        }
+        ensures first { (ps : List PlaceDemand) → StandsFor self.now heaps.now ps → IfSome result (IsFirstPlace heaps.now ps) }
+        ensures none { (ps : List PlaceDemand) → StandsFor self.now heaps.now ps → IfNone result (HasNoPlace heaps.now ps) }
     {
         for heap in 0..heaps.len() {
             if let Some(coherency) = self.left[heap].first() {
@@ -81,14 +83,32 @@ fn still_left(
     heap: &HeapInfo,
     memory: &MemoryConstraints,
     usage: Usage,
-) -> CoherencyDomains {
+) -> CoherencyDomains
+    ensures { (d : Domain) → has_domain result d ≡ (has_domain left d && is_none (first_refusing memory.now usage heap.now d)) }
+{
     if heap_refuses(memory, heap).is_some() {
         return CoherencyDomains::NONE;
     }
+    let cpu = domain_left(left, CoherencyDomain::Cpu, heap, memory, usage);
+    let ram = domain_left(left, CoherencyDomain::Ram, heap, memory, usage);
+    let inaccessible = domain_left(left, CoherencyDomain::Inaccessible, heap, memory, usage);
     CoherencyDomains {
-        cpu: left.cpu && domain_refuses(memory, usage, heap, CoherencyDomain::Cpu).is_none(),
-        ram: left.ram && domain_refuses(memory, usage, heap, CoherencyDomain::Ram).is_none(),
-        inaccessible: left.inaccessible
-            && domain_refuses(memory, usage, heap, CoherencyDomain::Inaccessible).is_none(),
+        cpu,
+        ram,
+        inaccessible,
     }
+}
+
+/// Whether the domain is in `left` and no field of such a participant refuses it on a heap that is itself accepted.
+fn domain_left(
+    left: CoherencyDomains,
+    domain: CoherencyDomain,
+    heap: &HeapInfo,
+    memory: &MemoryConstraints,
+    usage: Usage,
+) -> bool
+    ensures { result ≡ (has_domain left domain
+        && is_none (find (λ f. refuses_by f memory.now usage heap.now domain) domain_fields)) }
+{
+    left.has(domain) && domain_refuses(memory, usage, heap, domain).is_none()
 }

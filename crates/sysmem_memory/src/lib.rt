@@ -1,12 +1,21 @@
 //! Which places of a platform a participant's memory constraints allow, and the first place that all of them allow.
+//!
+//! ```
+//! let mut bounds = MemoryBounds::new(&heaps);
+//! bounds.add(&heaps, &memory, Usage::CPU);
+//! let place = bounds.first_place(&heaps);
+//! ```
 #![tactic(auto)]
 
 mod bounds;
 mod constraints;
 mod domain;
 mod heap;
+pub mod laws;
 mod place;
 mod refusal;
+#[cfg(test)]
+mod tests;
 
 pub use bounds::MemoryBounds;
 pub use constraints::MemoryConstraints;

@@ -61,7 +61,10 @@ pub(crate) fn domain_refuses(
     let (supported, field) = match domain {
         CoherencyDomain::Cpu => (memory.cpu_domain_supported, Field::CpuDomainSupported),
         CoherencyDomain::Ram => (memory.ram_domain_supported, Field::RamDomainSupported),
-        CoherencyDomain::Inaccessible => (memory.inaccessible_domain_supported, Field::InaccessibleDomainSupported),
+        CoherencyDomain::Inaccessible => (
+            memory.inaccessible_domain_supported,
+            Field::InaccessibleDomainSupported,
+        ),
     };
     if !supported {
         return Some(field);

@@ -1,5 +1,5 @@
 use Rattle.std.proofs.Common.{◌∙◌}
-use Rattle.sysmem_memory.specs.PlaceTable.{refuses_by, heap_fields, domain_fields, place_fields}
+use Rattle.sysmem_memory.specs.PlaceTable.{refuses_by, heap_fields, domain_fields}
 use Rattle.sysmem_memory.proofs.FirstRefusing.{find_front, find_rest, refused_by_first, allowed_by_none}
 use Rattle.sysmem_memory.proofs.refusal.refuses.Goals as goal
 

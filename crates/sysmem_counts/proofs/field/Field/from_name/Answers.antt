@@ -1,7 +1,6 @@
 use Rattle.sysmem_counts.proofs.field.Field.from_name.Goals as goal
-use Rattle.std.specs.Prelude.{◌≡◌, Option, Some, None}
+use Rattle.std.specs.Prelude.{◌≡◌, Some, None}
 use Rattle.sysmem_counts.specs.Field.{field_name}
-use Rattle.sysmem_counts.specs.declared.field.Field.{Field}
 use Rattle.sysmem_counts.specs.declared.field.Field.TheVariants.{Usage, MinBufferCountForCamping, MinBufferCountForDedicatedSlack, MinBufferCountForSharedSlack, MinBufferCount, MaxBufferCount, BufferMemoryConstraints, ImageFormatConstraints, MinSizeBytes, MaxSizeBytes, PhysicallyContiguousRequired, SecureRequired, CpuDomainSupported, RamDomainSupported, InaccessibleDomainSupported, PermittedHeaps, PixelFormat, PixelFormatModifier, PixelFormatAndModifiers, ColorSpaces, MinSize, MaxSize, SizeAlignment, MinBytesPerRow, MaxBytesPerRow, BytesPerRowDivisor, StartOffsetDivisor, DisplayRectAlignment, RequiredMinSize, RequiredMaxSize, BufferCountLimit, UnnamedPixelFormat, UnnamedPixelFormatModifier, UnnamedColorSpace, Heaps, Pairs, HeapType, Id, Contiguous, Secure, Domains}
 
 -- a text that is none of the names names no field

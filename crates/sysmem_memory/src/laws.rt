@@ -1,0 +1,26 @@
+//! Laws over the definitions alone. None of them makes a call of the crate.
+
+ghost use Rattle.sysmem_memory.specs.Laws.{SameHeapIsEqual, NoPlaceBeforeItself, EarlierIsTransitive, PlacesAreInOneOrder, TrueLineLeavesNoPlace, OneFirstPlace, RefusedByAllIsNoPlace};
+
+/// Two heaps compare equal exactly where their types and their ids are.
+pub fn equal_heaps_are_one()
+    ensures { SameHeapIsEqual }
+{}
+
+/// Places are ordered totally: first by heap, then cpu, ram, inaccessible.
+pub fn places_are_ordered()
+    ensures irreflexive { NoPlaceBeforeItself }
+    ensures transitive { EarlierIsTransitive }
+    ensures total { PlacesAreInOneOrder }
+{}
+
+/// A field that refuses a place to one participant leaves that place to no list that has the participant.
+pub fn a_true_line_leaves_no_place()
+    ensures { TrueLineLeavesNoPlace }
+{}
+
+/// The first place is one place, and where there is none, no place is allowed by all.
+pub fn one_first_place()
+    ensures one { OneFirstPlace }
+    ensures none { RefusedByAllIsNoPlace }
+{}
