@@ -1,2 +1,2 @@
-mod Lists
-mod Counts
+pub mod Lists
+pub mod Counts

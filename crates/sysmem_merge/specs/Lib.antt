@@ -1,5 +1,9 @@
+pub mod Aggregate
 pub mod Best
 pub mod Faults
+pub mod Fit
+pub mod Kept
+pub mod Laws
 pub mod Participant
 pub mod Platform
 pub mod Reasons

@@ -1,6 +1,7 @@
 -- Why no settings meet participants: a conflict that is true of them.
-use Rattle.std.specs.Prelude.{◌≡◌, ℕ, ◌^◌, ◌<◌, ◌≤◌, List, All, Contains}
-use Rattle.sysmem_counts.specs.Count.{IsCountFault}
+use Rattle.std.specs.Prelude.{ℕ, ◌^◌, ◌<◌, ◌≤◌, List, All, Contains}
+use Rattle.sysmem_counts.specs.Counts.{IsCountLine}
+use Rattle.sysmem_counts.specs.declared.field.Field.TheVariants.{MaxBufferCount}
 use Rattle.sysmem_memory.specs.Place.{HasNoPlace}
 use Rattle.sysmem_merge.specs.declared.settings.Offer.{Offer}
 use Rattle.sysmem_merge.specs.declared.reason.Reason.{Reason}
@@ -19,6 +20,18 @@ NoOfferServes platform ps = (offer : Offer) → Contains (offers_of platform) of
 
 -- what a reason says of the participants
 abbrev pub IsReason : PlatformFacts → List Participant → Reason → Type 0
-IsReason platform ps (Count field) = IsCountFault (counts_asked ps) field
+IsReason platform ps (Count field) = IsCountLine field (counts_asked ps)
 IsReason platform ps NoPlace = HasNoPlace platform.heaps (place_demands ps)
 IsReason platform ps NoOffer = NoOfferServes platform ps
+
+-- a reason's place in their order: a maximum count, the limit of the count, places, offers
+abbrev pub reason_rank : Reason → ℕ
+reason_rank (Count MaxBufferCount) = 0
+reason_rank (Count _) = 1
+reason_rank NoPlace = 2
+reason_rank NoOffer = 3
+
+-- a reason that is true of the participants, where none before it is
+pub record IsFirstReason (platform : PlatformFacts) (ps : List Participant) (reason : Reason) : Type 0 where
+  pub holds : IsReason platform ps reason
+  pub first : (other : Reason) → reason_rank other < reason_rank reason → ¬ (IsReason platform ps other)

@@ -1,6 +1,6 @@
 -- When settings meet participants. Settings in a definition are any numbers, so what fits their types is said.
-use Rattle.std.specs.Prelude.{◌≡◌, ℕ, ◌^◌, ◌<◌, ◌≤◌, List, All, Bool, true, false, Some, Contains, slice_get}
-use Rattle.sysmem_counts.specs.Count.{IsCounted}
+use Rattle.std.specs.Prelude.{◌≡◌, ◌^◌, ◌<◌, ◌≤◌, List, All, Bool, true, false, Some, Contains, slice_get}
+use Rattle.sysmem_counts.specs.Counts.{IsCounted}
 use Rattle.sysmem_memory.specs.Heap.{HeapFacts}
 use Rattle.sysmem_memory.specs.Place.{IsPlace}
 use Rattle.sysmem_memory.specs.PlaceTable.{AllowsPlace}

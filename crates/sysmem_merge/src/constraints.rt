@@ -23,6 +23,20 @@ impl Model for Constraints {
 }
 
 impl Constraints {
+    pub(crate) fn new(
+        usage: Usage,
+        counts: CountConstraints,
+        memory: MemoryConstraints,
+    ) -> Constraints
+        ensures { result ≡ record { usage = usage; counts = counts; memory = memory } }
+    {
+        Constraints {
+            usage,
+            counts,
+            memory,
+        }
+    }
+
     /// What the participant does with the buffers.
     pub fn usage(&self) -> Usage
         ensures { result ≡ self.now.usage }

@@ -23,6 +23,13 @@ impl Model for Platform {
 }
 
 impl Platform {
+    pub(crate) fn new(heaps: Vec<HeapInfo>) -> Platform
+        requires { length heaps.items ≤ 64 }
+        ensures { result ≡ record { heaps = heaps.items } }
+    {
+        Platform { heaps }
+    }
+
     /// The heaps in the platform's order, at most 64.
     pub fn heaps(&self) -> &[HeapInfo]
         ensures heaps { result.now ≡ self.now.heaps }

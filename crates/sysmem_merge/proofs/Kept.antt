@@ -1,0 +1,52 @@
+-- What is kept after one more participant.
+use Rattle.std.proofs.Common.{arith, ◌≡◌, ◌+◌, List, [], ◌∷◌, ◌++◌, max, min, map, refl, sym, ap, ◌∙◌, subst, length-append}
+use Rattle.sysmem_counts.specs.Bounds as counts
+use Rattle.sysmem_counts.specs.Tally.{Tally}
+use Rattle.sysmem_counts.specs.declared.constraints.CountConstraints.{CountConstraints}
+use Rattle.sysmem_memory.specs.declared.domain.CoherencyDomains.{CoherencyDomains}
+use Rattle.sysmem_memory.specs.Heap.{HeapFacts}
+use Rattle.sysmem_memory.specs.Place as places
+use Rattle.sysmem_memory.specs.PlaceTable.{PlaceDemand}
+use Rattle.sysmem_merge.specs.Aggregate.{StandsFor}
+use Rattle.sysmem_merge.specs.Kept.{Kept}
+use Rattle.sysmem_merge.specs.Participant.{Participant, counts_asked, place_demand, place_demands}
+use Rattle.sysmem_merge.specs.Platform.{PlatformFacts}
+use Rattle.sysmem_merge.proofs.Sizes.{sizes_push}
+
+-- a list with one more element, each changed alike
+pub map_push : {X Y : Type 0} (f : X → Y) (xs : List X) (x : X) → map f (xs ++ x ∷ []) ≡ map f xs ++ f x ∷ []
+map_push f [] x = refl
+map_push f (y ∷ xs) x = ap (λ rest. f y ∷ rest) (map_push f xs x)
+
+-- each part stands for one more, so the whole does
+pub stands_push : (kept : Kept) (platform : PlatformFacts) (ps : List Participant) (p : Participant) (tally : Tally) (left : List CoherencyDomains)
+    → StandsFor kept platform ps
+    → ((asked : List CountConstraints) → counts.StandsFor kept.counts asked → counts.StandsFor tally (asked ++ p.counts ∷ []))
+    → ((demands : List PlaceDemand) → places.StandsFor kept.places kept.platform.heaps demands → places.StandsFor left kept.platform.heaps (demands ++ place_demand p ∷ []))
+    → StandsFor (record {
+      platform = kept.platform;
+      counts = tally;
+      places = left;
+      least_size = max kept.least_size p.memory.min_size_bytes;
+      greatest_size = min kept.greatest_size p.memory.max_size_bytes;
+      added = kept.added + 1;
+    }) platform (ps ++ p ∷ [])
+stands_push kept platform ps p tally left stands counted placed = record {
+  on = stands.on;
+  counts = rw map_push (counted (counts_asked ps) stands.counts);
+  places = subst (λ (f : PlatformFacts). places.StandsFor left f.heaps (place_demands (ps ++ p ∷ []))) stands.on
+      (rw map_push (placed (place_demands ps) (subst (λ (f : PlatformFacts). places.StandsFor kept.places f.heaps (place_demands ps)) (sym stands.on) stands.places)));
+  sizes = sizes_push ps p kept.least_size kept.greatest_size stands.sizes;
+  many = omega (arith, stands.many, length-append ps (p ∷ []));
+}
+
+-- the heaps that are read are those of the platform that it stands on
+pub heaps_read : (kept : Kept) (platform : PlatformFacts) (ps : List Participant) (heaps : List HeapFacts) → StandsFor kept platform ps
+    → heaps ≡ kept.platform.heaps → heaps ≡ platform.heaps
+heaps_read kept platform ps heaps stands read = read ∙ ap (λ (f : PlatformFacts). f.heaps) stands.on
+
+-- what is kept of the places, for the heaps of the platform as they are read
+pub places_kept : (kept : Kept) (platform : PlatformFacts) (ps : List Participant) (heaps : List HeapFacts) → StandsFor kept platform ps
+    → heaps ≡ kept.platform.heaps → places.StandsFor kept.places heaps (place_demands ps)
+places_kept kept platform ps heaps stands read =
+    subst (λ hs. places.StandsFor kept.places hs (place_demands ps)) (sym (heaps_read kept platform ps heaps stands read)) stands.places

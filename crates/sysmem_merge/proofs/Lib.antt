@@ -1,0 +1,4 @@
+pub mod Kept
+pub mod Reasons
+pub mod Sizes
+pub mod Together

@@ -1,0 +1,94 @@
+-- A reason that is true of participants leaves no settings to them, nor to more.
+use Rattle.std.proofs.Common.{arith, ℕ, ◌≤◌, ◌<◌, Bool, List, [], ◌∷◌, map, All}
+use Rattle.std.proofs.lemmas.List.Elements.{All-map, All-weaker}
+use Rattle.sysmem_counts.proofs.Counts.{line_sound, line_of_some}
+use Rattle.sysmem_counts.proofs.Lists.{All-some, Any-not_All}
+use Rattle.sysmem_counts.specs.Counts.{needed, IsLeastCount, IsCountLine, IsCountFault}
+use Rattle.sysmem_counts.specs.Sublist.{IsSublist, ended, taken, left_out}
+use Rattle.sysmem_counts.specs.declared.constraints.CountConstraints.{CountConstraints}
+use Rattle.sysmem_counts.specs.declared.field.Field.{Field}
+use Rattle.sysmem_counts.specs.declared.field.Field.TheVariants.{MaxBufferCount, BufferCountLimit}
+use Rattle.sysmem_memory.specs.declared.place.Place.{Place}
+use Rattle.sysmem_memory.specs.Place.{IsFirstPlace, HasNoPlace}
+use Rattle.sysmem_memory.specs.PlaceTable.{AllowsPlace}
+use Rattle.sysmem_merge.specs.declared.reason.Reason.{Reason}
+use Rattle.sysmem_merge.specs.declared.reason.Reason.TheVariants.{Count, NoPlace, NoOffer}
+use Rattle.sysmem_merge.specs.declared.settings.Settings.{Settings as Settled}
+use Rattle.sysmem_merge.specs.Laws.{ReasonLeavesNone, ReasonOfSomeLeavesNone}
+use Rattle.sysmem_merge.specs.Participant.{Participant, counts_asked, place_demand, place_demands}
+use Rattle.sysmem_merge.specs.Platform.{PlatformFacts}
+use Rattle.sysmem_merge.specs.Reasons.{IsReason, IsFirstReason, NoOfferServes, reason_rank}
+use Rattle.sysmem_merge.specs.Settings.{Covers, MeetsLoosely}
+use Rattle.sysmem_merge.proofs.Together.{loosely, refused_clash}
+
+-- a list is some of itself
+pub itself : {X : Type 0} (xs : List X) → IsSublist xs xs
+itself [] = ended
+itself (x ∷ xs) = taken x xs xs (itself xs)
+
+-- some of a list, each changed alike
+pub map_some : {X Y : Type 0} (f : X → Y) (some all : List X) → IsSublist some all → IsSublist (map f some) (map f all)
+map_some f _ _ ended = ended
+map_some f _ _ (taken x some all among) = taken (f x) (map f some) (map f all) (map_some f some all among)
+map_some f _ _ (left_out x some all among) = left_out (f x) (map f some) (map f all) (map_some f some all among)
+
+-- settings that meet participants are covered by each of some of them
+covers_some : (whole : Bool) (platform : PlatformFacts) (some all : List Participant) (t : Settled) (meets : MeetsLoosely platform all t) → IsSublist some all → All (Covers meets.heap t) some
+covers_some whole platform some all t meets among = All-some (Covers meets.heap t) some all among meets.covers
+
+-- each kind of reason
+pub reason_of_some : ReasonOfSomeLeavesNone
+reason_of_some whole platform some all (Count field) among line t meets =
+    line_of_some field (counts_asked some) (counts_asked all) (map_some (λ p. p.counts) some all among) line t.count (loosely whole platform all t meets).counted
+reason_of_some whole platform some all NoPlace among none t meets =
+    let m : MeetsLoosely platform all t = loosely whole platform all t meets in
+    refused_clash m.heap t.place.coherency (place_demands some) (none t.place m.heap m.sound.place)
+    (All-map (λ q. AllowsPlace q.memory q.usage m.heap t.place.coherency) place_demand some
+    (All-weaker (Covers m.heap t) (λ p. AllowsPlace p.memory p.usage m.heap t.place.coherency) (λ p c. c.place) some (covers_some whole platform some all t m among)))
+reason_of_some whole platform some all NoOffer among none t meets =
+    let m : MeetsLoosely platform all t = loosely whole platform all t meets in
+    let cover : All (Covers m.heap t) some = covers_some whole platform some all t m among in
+    none t.offer m.sound.offer t.size_bytes m.sound.some m.sound.fits
+    (All-weaker (Covers m.heap t) (λ p. p.memory.min_size_bytes ≤ t.size_bytes) (λ p c. c.min_size) some cover)
+    (All-weaker (Covers m.heap t) (λ p. t.size_bytes ≤ p.memory.max_size_bytes) (λ p c. c.max_size) some cover)
+
+pub reason_of_all : ReasonLeavesNone
+reason_of_all whole platform ps reason = reason_of_some whole platform ps ps reason (itself ps)
+
+-- no reason is before a maximum count
+none_before : (platform : PlatformFacts) (ps : List Participant) (other : Reason) → All (λ p. needed (counts_asked ps) ≤ p.max_buffer_count) (counts_asked ps)
+    → reason_rank other < 1 → ¬ (IsReason platform ps other)
+none_before platform ps (Count MaxBufferCount) all before line =
+    Any-not_All (λ (p : CountConstraints). p.max_buffer_count < needed (counts_asked ps)) (λ p. needed (counts_asked ps) ≤ p.max_buffer_count) (counts_asked ps)
+    (λ p low high. omega (arith, low, high)) line all
+none_before platform ps (Count _) all before line = absurd (omega (arith, before))
+none_before platform ps NoPlace all before line = absurd (omega (arith, before))
+none_before platform ps NoOffer all before line = absurd (omega (arith, before))
+
+-- the first count line is the first reason
+pub first_count : (platform : PlatformFacts) (ps : List Participant) (field : Field) → IsCountFault (counts_asked ps) field → IsFirstReason platform ps (Count field)
+first_count platform ps MaxBufferCount line = record { holds = line; first = λ other before. absurd (omega (arith, before)) }
+first_count platform ps BufferCountLimit line = record { holds = line.1; first = λ other before. none_before platform ps other line.0 before }
+first_count platform ps _ line = absurd line
+
+-- where some count suits, no count line is true
+no_count_line : (ps : List Participant) (count : ℕ) → IsLeastCount (counts_asked ps) count → (field : Field) → ¬ (IsCountLine field (counts_asked ps))
+no_count_line ps count least field line = line_sound field (counts_asked ps) line count least.counted
+
+-- so without a place that is the first reason
+pub first_no_place : (platform : PlatformFacts) (ps : List Participant) (count : ℕ) → IsLeastCount (counts_asked ps) count
+    → HasNoPlace platform.heaps (place_demands ps) → IsFirstReason platform ps NoPlace
+first_no_place platform ps count least none = record { holds = none; first = before } where
+  before : (other : Reason) → reason_rank other < 2 → ¬ (IsReason platform ps other)
+  before (Count field) below line = no_count_line ps count least field line
+  before NoPlace below line = absurd (omega (arith, below))
+  before NoOffer below line = absurd (omega (arith, below))
+
+-- and without an offer, where there are a count and a place
+pub first_no_offer : (platform : PlatformFacts) (ps : List Participant) (count : ℕ) (place : Place) → IsLeastCount (counts_asked ps) count
+    → IsFirstPlace platform.heaps (place_demands ps) place → NoOfferServes platform ps → IsFirstReason platform ps NoOffer
+first_no_offer platform ps count place least found none = record { holds = none; first = before } where
+  before : (other : Reason) → reason_rank other < 3 → ¬ (IsReason platform ps other)
+  before (Count field) below line = no_count_line ps count least field line
+  before NoPlace below line = refused_clash found.info place.coherency (place_demands ps) (line place found.info found.place) found.allowed
+  before NoOffer below line = absurd (omega (arith, below))

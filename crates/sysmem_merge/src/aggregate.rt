@@ -1,0 +1,119 @@
+//! What is kept of participants, and the best settings for them.
+
+ghost use Rattle.std.specs.Prelude.{◌≡◌, ◌+◌, ◌<◌, ◌≤◌, ◌++◌, List, [], ◌∷◌, IfOk, IfErr, OnOk, OnErr};
+ghost use Rattle.sysmem_merge.specs.Aggregate.{StandsFor};
+ghost use Rattle.sysmem_merge.specs.Best.{IsBest, IsUnmet};
+ghost use Rattle.sysmem_merge.specs.Participant.{Participant};
+ghost use Rattle.sysmem_merge.specs.Platform.{PlatformFacts};
+ghost use Rattle.sysmem_merge.specs.Reasons.{IsFirstReason};
+
+use crate::constraints::Constraints;
+use crate::fit::best_fit;
+use crate::platform::Platform;
+use crate::reason::Reason;
+use crate::settings::{Offer, Settings};
+use std::alloc::{AllocError, Global};
+use std::marker::Model;
+use sysmem_counts::CountBounds;
+use sysmem_memory::MemoryBounds;
+
+/// The participants that were added to a platform: what they ask for together.
+#[derive(Debug, Drop)]
+pub struct Aggregate<'p> {
+    platform: &'p Platform,
+    counts: CountBounds,
+    memory: MemoryBounds,
+    least_size: u64,
+    greatest_size: u64,
+    added: u64,
+}
+
+impl<'p> Model for Aggregate<'p> {
+    ghost use Rattle.std.specs.Prelude.{◌*◌, ◌^◌, ◌≤◌};
+    ghost use Rattle.sysmem_counts.specs.Tally.{sum_of};
+    ghost use Rattle.sysmem_merge.specs.Kept.{Kept};
+
+    ghost Value = { Kept };
+
+    ghost view = { λ a. record {
+      platform = a.platform.now;
+      counts = a.counts;
+      places = a.memory;
+      least_size = a.least_size;
+      greatest_size = a.greatest_size;
+      added = a.added;
+    } };
+
+    ghost invariant = { λ a. (sum_of a.counts ≤ a.added * 2 ^ 33) × (a.added ≤ 1024) };
+}
+
+impl<'p> Aggregate<'p> {
+    /// The aggregate of no participant at all.
+    pub fn new(alloc: Global, platform: &'p Platform) -> Result<Aggregate<'p>, AllocError>
+        ensures { IfOk result (λ made. StandsFor made platform.now []) }
+    {
+        let _ = alloc;
+        Ok(Aggregate {
+            platform,
+            counts: CountBounds::new(),
+            memory: MemoryBounds::new(platform.heaps()),
+            least_size: 0,
+            greatest_size: u64::MAX,
+            added: 0,
+        })
+    }
+
+    /// The platform whose offers and places are asked for.
+    pub fn platform(&self) -> &'p Platform
+        ensures { result.now ≡ self.now.platform }
+    {
+        self.platform
+    }
+
+    /// Adds one more participant, where fewer than 1,024 were added. Nothing has changed where memory is refused.
+    pub fn add(&mut self, asked: &Constraints) -> Result<(), AllocError>
+        requires { self.old.added < 1024 }
+        ensures ok { (platform : PlatformFacts) (ps : List Participant) → StandsFor self.old platform ps
+            → OnOk result (StandsFor self.new platform (ps ++ asked.now ∷ [])) }
+        ensures unchanged { OnErr result (self.new ≡ self.old) }
+        ensures grows { self.new.added ≤ self.old.added + 1 }
+    {
+        let memory = asked.memory();
+        let platform = self.platform;
+        self.counts.add(asked.counts());
+        self.memory.add(platform.heaps(), memory, asked.usage());
+        self.least_size = self.least_size.max(memory.min_size_bytes);
+        self.greatest_size = self.greatest_size.min(memory.max_size_bytes);
+        self.added += 1;
+        Ok(())
+    }
+
+    /// The best settings for the participants that were added: the first offer, the first place in it, the least
+    /// count and the least size. Where no settings meet them, the first reason that is true of them. `whole` says
+    /// that they are all that a decision has, so that one of them must name the image.
+    pub fn best_settings(&self, whole: bool) -> Result<Settings, Reason>
+        ensures best { (platform : PlatformFacts) (ps : List Participant) → StandsFor self.now platform ps
+            → IfOk result (IsBest whole platform ps) }
+        ensures none { (platform : PlatformFacts) (ps : List Participant) → StandsFor self.now platform ps
+            → IfErr result (λ _. IsUnmet whole platform ps) }
+        ensures reason { (platform : PlatformFacts) (ps : List Participant) → StandsFor self.now platform ps
+            → IfErr result (IsFirstReason platform ps) }
+    {
+        let count = match self.counts.least_count() {
+            Ok(count) => count,
+            Err(field) => return Err(Reason::Count(field)),
+        };
+        let Some(place) = self.memory.first_place(self.platform.heaps()) else {
+            return Err(Reason::NoPlace);
+        };
+        let Some(fit) = best_fit(self.least_size, self.greatest_size, whole) else {
+            return Err(Reason::NoOffer);
+        };
+        Ok(Settings {
+            offer: fit.offer,
+            place,
+            count,
+            size_bytes: fit.size_bytes,
+        })
+    }
+}

@@ -1,0 +1,25 @@
+//! Whether one participant accepts settings.
+
+ghost use Rattle.std.specs.Prelude.{◌↔◌, IsTrue};
+ghost use Rattle.sysmem_merge.specs.Settings.{CoversOn};
+
+use crate::constraints::Constraints;
+use crate::platform::Platform;
+use crate::settings::Settings;
+use sysmem_memory::refuses;
+
+/// Whether the participant accepts the settings: no memory constraint of its own refuses their place, and their
+/// size is from its least to its greatest. False where the platform has no heap of that index. How many buffers
+/// there are isn't one participant's to accept.
+pub fn meets_one(platform: &Platform, settings: &Settings, asked: &Constraints) -> bool
+    ensures { IsTrue result ↔ CoversOn platform.now settings.now asked.now }
+{
+    let Some(heap) = platform.heaps().get(settings.place.heap) else {
+        return false;
+    };
+    let memory = asked.memory();
+    let refused = refuses(memory, asked.usage(), heap, settings.place.coherency);
+    refused.is_none()
+        && memory.min_size_bytes <= settings.size_bytes
+        && settings.size_bytes <= memory.max_size_bytes
+}
