@@ -6,5 +6,6 @@ pub mod Kept
 pub mod Laws
 pub mod Participant
 pub mod Platform
+pub mod Reading
 pub mod Reasons
 pub mod Settings

@@ -1,7 +1,10 @@
 //! What is wrong with a record that is read.
 
-ghost use Rattle.std.specs.Prelude.{◌≡◌};
-ghost use Rattle.sysmem_merge.specs.Faults.{code_name, spot_name};
+ghost use Rattle.std.specs.Prelude.{◌≡◌, Some};
+ghost use Rattle.sysmem_merge.specs.Faults.{code_name, spot_name, fault_text, want_of_memory};
+
+use std::alloc::{AllocError, AllocFailed};
+use std::fmt;
 
 /// What kind of fault it is.
 #[derive(Clone, Copy, Debug, PartialEq, Eq)]
@@ -47,4 +50,43 @@ impl Spot {
 pub struct Fault {
     pub code: Code,
     pub at: Spot,
+}
+
+impl Fault {
+    /// The record isn't one that the reader takes.
+    pub(crate) const NOT_TAKEN: Fault = Fault {
+        code: Code::WrongKind,
+        at: Spot::Whole,
+    };
+
+    /// Memory was refused while the record was read.
+    pub const WANT_OF_MEMORY: Fault = Fault {
+        code: Code::WantOfMemory,
+        at: Spot::Whole,
+    };
+}
+
+/// The fault as a report prints it: `S3 whole`.
+impl fmt::Display for Fault {
+    ghost output = { λ fault. Some (fault_text fault) };
+
+    fn fmt<W: fmt::Write>(&self, f: &mut fmt::Formatter<W>) -> fmt::Result {
+        write!(f, "{} {}", self.code.name(), self.at.name())
+    }
+}
+
+impl From<AllocError> for Fault {
+    ghost from_gives = { λ _ fault. fault ≡ want_of_memory };
+
+    fn from(_error: AllocError) -> Fault {
+        Fault::WANT_OF_MEMORY
+    }
+}
+
+impl<T: Drop> From<AllocFailed<T>> for Fault {
+    ghost from_gives = { λ _ fault. fault ≡ want_of_memory };
+
+    fn from(_error: AllocFailed<T>) -> Fault {
+        Fault::WANT_OF_MEMORY
+    }
 }

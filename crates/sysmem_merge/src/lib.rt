@@ -15,6 +15,7 @@ mod fit;
 pub mod laws;
 mod meets;
 mod platform;
+mod reading;
 mod reason;
 mod settings;
 #[cfg(test)]
@@ -25,5 +26,6 @@ pub use constraints::Constraints;
 pub use fault::{Code, Fault, Spot};
 pub use meets::meets_one;
 pub use platform::Platform;
+pub use reading::{read_constraints, read_platform};
 pub use reason::Reason;
 pub use settings::{Offer, Settings};

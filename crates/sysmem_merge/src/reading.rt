@@ -1,0 +1,14 @@
+//! Reads the records of a participant and of a platform.
+
+mod constraints;
+mod field;
+mod heap;
+mod memory;
+mod platform;
+mod usage;
+
+pub use constraints::read_constraints;
+pub use platform::read_platform;
+
+#[cfg(test)]
+mod tests;
