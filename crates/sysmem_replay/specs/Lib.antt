@@ -4,6 +4,7 @@ pub mod Known
 pub mod Laws
 pub mod Lines
 pub mod Names
+pub mod Outcome
 pub mod Platform
 pub mod Report
 pub mod Runner

@@ -2,8 +2,8 @@
 ghost use Rattle.std.specs.Prelude.{◌≡◌};
 ghost use Rattle.sysmem_replay.specs.declared.fault.RunFault.TheVariants.{NoMemory};
 
-use crate::platform::Fault;
 use std::alloc::{AllocError, AllocFailed};
+use sysmem_merge::Fault;
 use thiserror::Error;
 
 /// Why a run ended before its report was written.

@@ -19,16 +19,17 @@ pub use calls::read_calls;
 pub use text::parse_script;
 
 use crate::fault::{RunFault, ScriptFault};
-use crate::platform::{Platform, read_platform};
+use crate::platform::read_platform;
 use serde_json::{Map, Value};
 use std::alloc::Global;
+use sysmem_merge::Platform;
 
 const MOST_CALLS: usize = 4096;
 
 /// A script: the platform that it names, and its calls.
 #[derive(Drop)]
 pub struct Script<'a> {
-    pub platform: Platform<'a>,
+    pub platform: Platform,
     pub calls: Vec<Call<'a>>,
 }
 
@@ -60,7 +61,7 @@ pub fn read_script(alloc: Global, script: &Value) -> Result<Script<'_>, RunFault
     let Some((platform, calls)) = parts_of(script) else {
         return Err(RunFault::Script(ScriptFault::Misshapen));
     };
-    let platform = read_platform(platform)?;
+    let platform = read_platform(alloc, platform)?;
     if calls.len() > MOST_CALLS {
         return Err(RunFault::Script(ScriptFault::TooManyCalls));
     }

@@ -1,0 +1,23 @@
+-- What a run answers on the bytes that it reads.
+use Rattle.std.specs.Prelude.{◌≡◌, ℕ, List, Bool, Result, Ok, Err}
+use Rattle.serde_json.specs.Data.{Data}
+use Rattle.sysmem_replay.specs.declared.fault.ScriptFault.{ScriptFault}
+use Rattle.sysmem_replay.specs.Report.{Report}
+use Rattle.sysmem_replay.specs.Script.{Script, script_of}
+use Rattle.sysmem_replay.specs.State.{first_state}
+use Rattle.sysmem_replay.specs.Text.{Outcome}
+
+-- a report, and whether memory was refused in it
+pub record Reported : Type 0 where
+  pub text : List ℕ
+  pub starved : Bool
+
+-- what the value of a script gives: its first fault, or a report of its calls
+pub data IsReported (value : Data) : Result Reported ScriptFault → Type 0 where
+  refused : (fault : ScriptFault) → script_of value ≡ Err fault → IsReported value (Err fault)
+  reported : (script : Script) (report : Reported) → script_of value ≡ Ok script
+    → Report script.platform 1 first_state script.requests report.text report.starved → IsReported value (Ok report)
+
+-- what the bytes of a script give: a fault of theirs, or what their value gives
+abbrev pub RunsTo : List ℕ → Result Reported ScriptFault → Type 0
+RunsTo input said = Outcome IsReported input said
