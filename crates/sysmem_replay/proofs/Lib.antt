@@ -1,3 +1,4 @@
+pub mod Adding
 pub mod Answering
 pub mod CallsLemmas
 pub mod Entering

@@ -1,6 +1,6 @@
 //! The lines of a report, each put behind the text so far.
 
-ghost use Rattle.std.specs.Prelude.{◌≡◌, ℕ, ◌++◌, codes, option_map, OnOk};
+ghost use Rattle.std.specs.Prelude.{◌≡◌, ℕ, ◌++◌, codes, option_map, slice_get, OnOk};
 ghost use Rattle.std.specs.Fmt.{decimal};
 ghost use Rattle.std.specs.String.{string_bytes};
 ghost use Rattle.sysmem_merge.specs.Faults.{fault_text};
@@ -118,7 +118,7 @@ fn put_settings(text: &mut String, platform: &Platform, settings: Settings) -> R
     ensures { OnOk result (string_bytes text.new ≡ string_bytes text.old ++ settings_text platform.now settings) }
 {
     put_numbers(text, settings.count, settings.size_bytes)?;
-    put_heap(text, platform.heaps().get(settings.place.heap))?;
+    put_heap(text, heap_at(platform, settings.place.heap))?;
     put_rest(text, settings.place.coherency.name(), offer_name(settings.offer))?;
     Ok(())
 }
@@ -127,6 +127,12 @@ fn put_numbers(text: &mut String, count: u32, size: u64) -> Result<(), AllocErro
     ensures { OnOk result (string_bytes text.new ≡ string_bytes text.old ++ (codes "count " ++ decimal count ++ codes " size " ++ decimal size ++ codes " place ")) }
 {
     write!(text, "count {count} size {size} place ")
+}
+
+fn heap_at(platform: &Platform, index: usize) -> Option<&HeapInfo>
+    ensures { option_map (λ info. info.now) result ≡ slice_get platform.now.heaps index }
+{
+    platform.heaps().get(index)
 }
 
 fn put_heap(text: &mut String, heap: Option<&HeapInfo>) -> Result<(), AllocError>

@@ -89,9 +89,17 @@ impl Runner {
     fn settle(&mut self, alloc: Global, platform: &Platform, text: &mut String) -> Result<(), AllocError>
         ensures { OnOk result (SettlesIn platform.now (state_of self.old) (state_of self.new) (string_bytes text.old) (string_bytes text.new)) }
     {
-        if !self.is_due() {
-            return Ok(());
+        if self.is_due() {
+            return self.decide(alloc, platform, text);
         }
+        Ok(())
+    }
+
+    /// Decides, and puts the verdict's line behind the text.
+    fn decide(&mut self, alloc: Global, platform: &Platform, text: &mut String) -> Result<(), AllocError>
+        requires { is_due (state_of self.old) ≡ true }
+        ensures { OnOk result (SettlesIn platform.now (state_of self.old) (state_of self.new) (string_bytes text.old) (string_bytes text.new)) }
+    {
         let verdict = decide(alloc, platform, &self.nodes);
         self.keep_verdict(verdict);
         put_verdict(text, platform, verdict)?;
