@@ -1,27 +1,20 @@
 // What no clause shows: settings and reasons as they were worked out by hand, on a platform of one heap.
 
 use crate::laws::{one_best, reason_leaves_none};
-use crate::{Aggregate, Constraints, Offer, Platform, Reason, Settings, meets_one};
+use crate::{
+    Aggregate, Constraints, Offer, Platform, Reason, Settings, meets_one, read_platform,
+};
+use serde_json::Value;
 use std::alloc::{AllocError, Global};
 use std::test::Fail;
 use sysmem_counts::{CountConstraints, Field, Usage};
-use sysmem_memory::{CoherencyDomain, CoherencyDomains, Heap, HeapInfo, MemoryConstraints, Place};
+use sysmem_memory::{CoherencyDomain, MemoryConstraints, Place};
 
 // The heap ram, which processors see cached or in main memory.
 fn platform(alloc: Global) -> Result<Platform, Fail> {
-    let heap_type = String::from_str(alloc, "ram")?;
-    let mut heaps = Vec::new(alloc);
-    heaps.push(HeapInfo {
-        heap: Heap { heap_type, id: 0 },
-        contiguous: false,
-        secure: false,
-        domains: CoherencyDomains {
-            cpu: true,
-            ram: true,
-            inaccessible: false,
-        },
-    })?;
-    Ok(Platform::new(heaps))
+    let text = r#"{"heaps":[{"heap_type":"ram","domains":["cpu","ram"]}],"pairs":[],"color_spaces":[]}"#;
+    let value = Value::from_str(alloc, text)?;
+    Ok(read_platform(alloc, &value)?)
 }
 
 // A participant that uses a processor, and asks for these numbers of buffers and nothing more.

@@ -1,5 +1,5 @@
 -- What a participant's record says.
-use Rattle.std.specs.Prelude.{ℕ, ◌-◌, ◌^◌, ◌||◌, ◌==◌, List, [], ◌∷◌, Bool, true, false, not, Option, Some, None, Result, Ok, Err, nat_eq, ok_or}
+use Rattle.std.specs.Prelude.{◌-◌, ◌^◌, ◌||◌, ◌==◌, List, [], ◌∷◌, Bool, true, false, not, Result, Ok, ok_or}
 use Rattle.std.specs.Int.RustNames.{bit_and, bit_or}
 use Rattle.serde_json.specs.Data.{Data}
 use Rattle.serde_json.specs.Find.{as_str}

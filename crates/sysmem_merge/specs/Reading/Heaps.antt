@@ -1,5 +1,5 @@
 -- What a platform's record says.
-use Rattle.std.specs.Prelude.{ℕ, ◌-◌, ◌^◌, ◌&&◌, ◌||◌, ◌++◌, List, [], ◌∷◌, length, Bool, true, false, not, Option, Some, None, Result, Ok, Err, nat_eq, nat_le, nat_lt, bytes_eq, codes, ok_or, if◌then◌else◌}
+use Rattle.std.specs.Prelude.{ℕ, ◌-◌, ◌^◌, ◌&&◌, ◌||◌, ◌++◌, List, [], ◌∷◌, length, Bool, true, false, not, Option, Some, None, Result, Ok, nat_eq, nat_le, nat_lt, bytes_eq, ok_or, if◌then◌else◌}
 use Rattle.std.specs.List.{list_all, list_any}
 use Rattle.serde_json.specs.Data.{Data}
 use Rattle.serde_json.specs.Find.{as_str}

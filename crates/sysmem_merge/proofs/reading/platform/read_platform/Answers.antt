@@ -1,4 +1,3 @@
-use Rattle.std.proofs.Common.{rules}
 use Rattle.sysmem_merge.proofs.Heaps.{heaps_of-IsPlatform}
 use Rattle.sysmem_merge.proofs.reading.platform.read_platform.Goals as goal
 
