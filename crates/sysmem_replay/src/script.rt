@@ -68,3 +68,6 @@ pub fn read_script(alloc: Global, script: &Value) -> Result<Script<'_>, RunFault
     let calls = read_calls(alloc, calls)?;
     Ok(Script { platform, calls })
 }
+
+#[cfg(test)]
+mod tests;

@@ -55,3 +55,6 @@ pub fn write_fully<W: Write>(writer: &mut W, bytes: &[u8]) -> Result<(), RunFaul
     }
     Ok(())
 }
+
+#[cfg(test)]
+mod tests;
