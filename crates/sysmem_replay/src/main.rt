@@ -10,6 +10,7 @@ mod node;
 mod platform;
 mod reply;
 mod report;
+mod run;
 mod runner;
 pub mod script;
 mod transfer;
@@ -17,6 +18,7 @@ mod verdict;
 
 pub use fault::{RunFault, ScriptFault};
 pub use report::{Report, report_of};
+pub use run::Ended;
 pub use transfer::{LONGEST, read_up_to_limit, write_fully};
 
 fn main() {}
