@@ -1,7 +1,11 @@
 -- What the calls of a script make: nodes, what their names stand for, and the verdict.
 use Rattle.std.specs.Prelude.{◌≡◌, ℕ, ◌+◌, ◌++◌, ◌&&◌, List, [], ◌∷◌, length, Bool, true, false, Option, Some, None, is_none, Result, Ok, Err, nat_le, option_and_then, slice_get, slice_set, if◌then◌else◌}
 use Rattle.std.specs.List.{filter_map, list_all}
+use Rattle.sysmem_merge.specs.declared.fault.Code.{Code}
+use Rattle.sysmem_merge.specs.declared.fault.Code.TheVariants.{WantOfMemory}
 use Rattle.sysmem_merge.specs.Participant.{Participant}
+use Rattle.sysmem_replay.specs.declared.action.Action.{Action}
+use Rattle.sysmem_replay.specs.declared.action.Action.TheVariants.{Duplicate, Bind, SetConstraints, Release}
 use Rattle.sysmem_replay.specs.declared.node.Node.{Node}
 use Rattle.sysmem_replay.specs.declared.node.Node.TheVariants.{Token, Collection, Stated, Gone}
 use Rattle.sysmem_replay.specs.declared.reply.Refusal.{Refusal}
@@ -21,27 +25,24 @@ pub record State : Type 0 where
 abbrev pub first_state : State
 first_state = record { nodes = Token ∷ []; names = Some 0 ∷ []; verdict = None; starved = false }
 
--- what an action asks of its node
-pub data Action : Type 0 where
-  duplicate : Action
-  bind : Action
-  set_constraints : Option Participant → Action
-  release : Action
-
 -- the node afterwards; None where its state doesn't allow the action
 abbrev pub changed : Action → Node → Option Node
-changed duplicate Token = Some Token
-changed bind Token = Some Collection
-changed (set_constraints asked) Collection = Some (Stated asked)
-changed release Token = Some (Gone None)
-changed release Collection = Some (Gone None)
-changed release (Stated asked) = Some (Gone asked)
+changed Duplicate Token = Some Token
+changed Bind Token = Some Collection
+changed (SetConstraints asked) Collection = Some (Stated asked)
+changed Release Token = Some (Gone None)
+changed Release Collection = Some (Gone None)
+changed Release (Stated asked) = Some (Gone asked)
 changed _ _ = None
 
--- the nodes that an action makes
-abbrev pub made_by : Action → List Node
-made_by duplicate = Token ∷ []
-made_by _ = []
+-- a duplicate makes a further token
+abbrev pub makes_token : Action → Bool
+makes_token Duplicate = true
+makes_token _ = false
+
+abbrev pub made_if : Bool → List Node
+made_if true = Token ∷ []
+made_if false = []
 
 -- a domain that was decided other than Chosen
 abbrev pub has_failed : Option Verdict → Bool
@@ -51,18 +52,18 @@ has_failed _ = false
 
 -- a failed domain refuses every action but a release
 abbrev pub is_barred : Option Verdict → Action → Bool
-is_barred verdict release = false
+is_barred verdict Release = false
 is_barred verdict _ = has_failed verdict
 
 -- a collection has at most 128 nodes
 abbrev pub has_room : List Node → Action → Bool
-has_room nodes action = nat_le (length nodes + length (made_by action)) 128
+has_room nodes action = nat_le (length nodes + length (made_if (makes_token action))) 128
 
 -- the action on a node whose state is now this one, if it allows it
 abbrev pub entered : State → ℕ → Action → Option Node → Result State Refusal
 entered s k action None = Err WrongState
 entered s k action (Some node) = if has_room s.nodes action
-  then Ok (record s { nodes = slice_set s.nodes k node ++ made_by action }) else Err TooManyNodes
+  then Ok (record s { nodes = slice_set s.nodes k node ++ made_if (makes_token action) }) else Err TooManyNodes
 
 -- the action on node k: the first refusal in their order, or the state afterwards
 abbrev pub applied : State → ℕ → Action → Result State Refusal
@@ -88,3 +89,8 @@ is_complete _ = false
 -- the domain is ready and has no verdict yet
 abbrev pub is_due : State → Bool
 is_due s = is_none s.verdict && list_all is_complete s.nodes
+
+-- a reader's fault for want of memory
+abbrev pub starves : Code → Bool
+starves WantOfMemory = true
+starves _ = false

@@ -1,74 +1,25 @@
--- The lines of a report. Each ends with a newline.
-use Rattle.std.specs.Prelude.{ℕ, ◌++◌, List, [], ◌∷◌, Option, Some, None, codes, option_map, slice_get}
-use Rattle.std.specs.Fmt.{decimal}
-use Rattle.std.specs.Option.{option_map_or}
-use Rattle.sysmem_memory.specs.Domain.{domain_name}
-use Rattle.sysmem_memory.specs.Heap.{HeapFacts}
-use Rattle.sysmem_merge.specs.declared.settings.Offer.{Offer}
-use Rattle.sysmem_merge.specs.declared.settings.Offer.TheVariants.{NoImage}
-use Rattle.sysmem_merge.specs.declared.settings.Settings.{Settings as Settled}
-use Rattle.sysmem_merge.specs.Platform.{PlatformFacts}
-use Rattle.sysmem_merge.specs.Faults.{fault_text}
-use Rattle.sysmem_replay.specs.declared.reply.Refusal.{Refusal}
-use Rattle.sysmem_replay.specs.declared.reply.Refusal.TheVariants as refusals
-use Rattle.sysmem_replay.specs.declared.reply.Reply.{Reply}
-use Rattle.sysmem_replay.specs.declared.reply.Reply.TheVariants.{Accepted, Refused, Misread, Skipped}
-use Rattle.sysmem_replay.specs.declared.verdict.Verdict.{Verdict}
-use Rattle.sysmem_replay.specs.declared.verdict.Verdict.TheVariants.{Chosen, Empty, NoMemory}
-use Rattle.sysmem_replay.specs.Script.{Deed, duplicates, binds, states, releases, checks, Request}
+-- The bytes of a script, and the value that they spell.
+use Rattle.std.specs.Prelude.{◌≡◌, ℕ, ◌<◌, ◌≤◌, List, length, Result, Ok, Err, Some, IsUtf8}
+use Rattle.serde_json.specs.Data.{Data}
+use Rattle.serde_json.specs.Read.{read}
+use Rattle.sysmem_replay.specs.declared.fault.ScriptFault.{ScriptFault}
+use Rattle.sysmem_replay.specs.declared.fault.ScriptFault.TheVariants.{TooLong, NotJson}
 
-abbrev pub refusal_text : Refusal → List ℕ
-refusal_text refusals.NoMemory = codes "E1 NoMemory"
-refusal_text refusals.WrongState = codes "E2 WrongState"
-refusal_text refusals.TooManyNodes = codes "E3 TooManyNodes"
-refusal_text refusals.DomainFailed = codes "E6 DomainFailed"
-refusal_text refusals.ConstraintsIntersectionEmpty = codes "E7 ConstraintsIntersectionEmpty"
-refusal_text refusals.Pending = codes "E9 Pending"
+-- the length of the longest script, in bytes
+abbrev pub longest : ℕ
+longest = 4194304
 
-abbrev pub reply_text : Reply → List ℕ
-reply_text Accepted = codes "ok"
-reply_text (Refused refusal) = refusal_text refusal
-reply_text (Misread fault) = fault_text fault
-reply_text Skipped = codes "skipped"
+-- The bytes are one JSON value.
+pub record IsJson (bytes : List ℕ) (value : Data) : Type 0 where
+  pub text : IsUtf8 bytes
+  pub spelled : read bytes ≡ Some value
 
--- the call's name
-abbrev pub deed_name : Deed → List ℕ
-deed_name (duplicates name) = codes "duplicate"
-deed_name binds = codes "bind"
-deed_name (states constraints) = codes "set_constraints"
-deed_name releases = codes "release"
-deed_name checks = codes "check"
+-- What the bytes of a script give, where `IsSaid value` is what its value gives.
+pub data Outcome {A : Type 0} (IsSaid : Data → Result A ScriptFault → Type 0) (bytes : List ℕ) : Result A ScriptFault → Type 0 where
+  too_long : longest < length bytes → Outcome IsSaid bytes (Err TooLong)
+  not_json : length bytes ≤ longest → ((value : Data) → ¬ IsJson bytes value) → Outcome IsSaid bytes (Err NotJson)
+  spelled : (value : Data) → length bytes ≤ longest → IsJson bytes value → (answer : Result A ScriptFault) → IsSaid value answer → Outcome IsSaid bytes answer
 
--- the name that the call gives, behind a space
-abbrev pub new_name : Deed → List ℕ
-new_name (duplicates name) = codes " " ++ name
-new_name _ = []
-
--- `7 duplicate root a ok`
-abbrev pub call_line : ℕ → Request → Reply → List ℕ
-call_line number r reply = decimal number ++ codes " " ++ deed_name r.deed ++ codes " " ++ r.on ++ new_name r.deed ++ codes " " ++ reply_text reply ++ codes "\n"
-
--- `ram#0`, of the heap of a place
-abbrev pub heap_text : Option HeapFacts → List ℕ
-heap_text (Some h) = h.heap.heap_type ++ codes "#" ++ decimal h.heap.id
-heap_text None = []
-
-abbrev pub offer_text : Offer → List ℕ
-offer_text NoImage = codes "none"
-
--- `count 2 size 4096 place ram#0 cpu image none`
-abbrev pub settings_text : PlatformFacts → Settled → List ℕ
-settings_text platform s = codes "count " ++ decimal s.count ++ codes " size " ++ decimal s.size_bytes
-  ++ codes " place " ++ heap_text (slice_get platform.heaps s.place.heap) ++ codes " " ++ domain_name s.place.coherency
-  ++ codes " image " ++ offer_text s.offer
-
--- the line of the domain of the root token, which has no groups to select from
-abbrev pub verdict_line : PlatformFacts → Verdict → List ℕ
-verdict_line platform (Chosen s) = codes "domain / chosen - " ++ settings_text platform s ++ codes "\n"
-verdict_line platform Empty = codes "domain / empty\n"
-verdict_line platform NoMemory = codes "domain / no_memory\n"
-
--- the last line of a report whose domain has no verdict
-abbrev pub pending_lines : Option Verdict → List ℕ
-pending_lines None = codes "domain / pending\n"
-pending_lines (Some verdict) = []
+-- The answer is the value itself.
+abbrev pub IsValue : Data → Result Data ScriptFault → Type 0
+IsValue value answer = answer ≡ Ok value

@@ -1,5 +1,8 @@
 //! A node of the collection.
 
+ghost use Rattle.std.specs.Prelude.{◌≡◌, ◌≢◌, is_some};
+
+use crate::action::Action;
 use sysmem_merge::Constraints;
 
 /// What a node is. Gone nodes keep the constraints that they had set.
@@ -13,4 +16,60 @@ pub enum Node {
     Stated(Option<Constraints>),
     /// A released token or collection.
     Gone(Option<Constraints>),
+}
+
+impl Node {
+    ghost use Rattle.std.specs.Prelude.{option_map};
+    ghost use Rattle.sysmem_replay.specs.State.{changed, constraints_at, is_complete};
+
+    /// Whether the node's state allows the action.
+    pub fn allows(&self, action: &Action) -> bool
+        ensures { result ≡ is_some (changed action.now self.now) }
+    {
+        match action {
+            Action::Duplicate | Action::Bind => matches!(self, Node::Token),
+            Action::SetConstraints(_) => matches!(self, Node::Collection),
+            Action::Release => !matches!(self, Node::Gone(_)),
+        }
+    }
+
+    /// The node after an action that its state allows.
+    pub fn after(self, action: Action) -> Node
+        requires { changed action self ≢ None }
+        ensures { changed action self ≡ Some result }
+    {
+        match action {
+            Action::Duplicate => self,
+            Action::Bind => Node::Collection,
+            Action::SetConstraints(asked) => Node::Stated(asked),
+            Action::Release => self.released(),
+        }
+    }
+
+    /// The node when it is gone, with the constraints that it has.
+    fn released(self) -> Node
+        ensures { result ≡ Node.Gone (constraints_at self) }
+    {
+        match self {
+            Node::Token | Node::Collection => Node::Gone(None),
+            Node::Stated(asked) | Node::Gone(asked) => Node::Gone(asked),
+        }
+    }
+
+    /// The constraints that the node set, if any.
+    pub fn constraints(&self) -> Option<&Constraints>
+        ensures { option_map (λ asked. asked.now) result ≡ constraints_at self.now }
+    {
+        match self {
+            Node::Token | Node::Collection => None,
+            Node::Stated(asked) | Node::Gone(asked) => asked.as_ref(),
+        }
+    }
+
+    /// Whether nothing more waits on the node.
+    pub fn is_complete(&self) -> bool
+        ensures { result ≡ is_complete self.now }
+    {
+        matches!(self, Node::Stated(_) | Node::Gone(_))
+    }
 }

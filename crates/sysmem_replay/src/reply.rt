@@ -1,7 +1,7 @@
 //! What a call answers.
 
 ghost use Rattle.std.specs.Prelude.{◌≡◌};
-ghost use Rattle.sysmem_replay.specs.Text.{refusal_text};
+ghost use Rattle.sysmem_replay.specs.Lines.{refusal_text};
 
 use sysmem_merge::Fault;
 

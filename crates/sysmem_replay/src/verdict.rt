@@ -1,5 +1,7 @@
 //! What a decision came to.
 
+ghost use Rattle.std.specs.Prelude.{◌≡◌};
+
 use sysmem_merge::Settings;
 
 /// The verdict of a domain.
@@ -11,4 +13,15 @@ pub enum Verdict {
     Empty,
     /// Memory was refused while the decision was taken.
     NoMemory,
+}
+
+impl Verdict {
+    ghost use Rattle.sysmem_replay.specs.Report.{is_no_memory};
+
+    /// Whether memory was refused.
+    pub fn is_no_memory(self) -> bool
+        ensures { result ≡ is_no_memory self }
+    {
+        matches!(self, Verdict::NoMemory)
+    }
 }

@@ -1,0 +1,89 @@
+-- How a reply answers a call, from what the runner's functions say.
+use Rattle.std.proofs.Common.{◌≡◌, ℕ, ◌<◌, ◌≤◌, ◌++◌, ◌||◌, List, [], ◌∷◌, length, Bool, true, false, Option, Some, None, Result, Ok, Err, ◌⊎◌, inl, inr, refl, sym, ◌∙◌, ap, append_assoc}
+use Rattle.std.specs.Prelude.{slice_get, slice_set}
+use Rattle.std.specs.Result.{result_err}
+use Rattle.serde_json.specs.Data.{Data}
+use Rattle.sysmem_merge.specs.declared.fault.Fault.{Fault}
+use Rattle.sysmem_merge.specs.declared.fault.Code.{Code}
+use Rattle.sysmem_merge.specs.declared.fault.Code.TheVariants.{WantOfMemory, WrongKind}
+use Rattle.sysmem_merge.specs.Faults.{want_of_memory}
+use Rattle.sysmem_merge.specs.Participant.{Participant}
+use Rattle.sysmem_merge.specs.Reading.{participant_of}
+use Rattle.sysmem_replay.specs.declared.action.Action.{Action}
+use Rattle.sysmem_replay.specs.declared.action.Action.TheVariants.{SetConstraints}
+use Rattle.sysmem_replay.specs.declared.node.Node.{Node}
+use Rattle.sysmem_replay.specs.declared.node.Node.TheVariants.{Token}
+use Rattle.sysmem_replay.specs.declared.reply.Refusal.{Refusal}
+use Rattle.sysmem_replay.specs.declared.reply.Reply.{Reply}
+use Rattle.sysmem_replay.specs.declared.reply.Reply.TheVariants.{Accepted, Refused, Misread, Skipped}
+use Rattle.sysmem_replay.specs.declared.verdict.Verdict.{Verdict}
+use Rattle.sysmem_merge.specs.Platform.{PlatformFacts}
+use Rattle.sysmem_replay.specs.Call.{Deed, states, checks}
+use Rattle.sysmem_replay.specs.Lines.{call_line, verdict_line}
+use Rattle.sysmem_replay.specs.Report.{Answers, Asks, Decides, Settles, SettlesIn, Takes, decides, takes, is_no_memory, to_set, skips, misreads, starves as starved_by, refuses, accepts, answers, unmade, with_name, node_named, checked, named}
+use Rattle.sysmem_replay.specs.Script.{Request}
+use Rattle.sysmem_replay.specs.State.{State, applied, is_due, participants_of, starves}
+
+pub skipped_as : (s t : State) (r : Request) → node_named s r ≡ None → t ≡ unmade s r.deed → Answers s r Skipped t
+skipped_as s t r none e = rw e (skips none)
+
+is_refused : (x : Result State Refusal) (refusal : Refusal) → Some refusal ≡ result_err x → x ≡ Err refusal
+is_refused (Ok s) refusal e = absurd (cc)
+is_refused (Err other) refusal e = cc
+
+pub refused_as : (s t : State) (r : Request) (k : ℕ) (action : Action) (refusal : Refusal) → node_named s r ≡ Some k → Asks r.deed action
+  → Some refusal ≡ result_err (applied s k action) → t ≡ unmade s r.deed → Answers s r (Refused refusal) t
+refused_as s t r k action refusal here asks why e = rw e (refuses k action refusal here asks (is_refused (applied s k action) refusal why))
+
+pub accepted_as : (s mid t : State) (r : Request) (k made : ℕ) (action : Action) → node_named s r ≡ Some k → Asks r.deed action
+  → applied s k action ≡ Ok mid → made ≡ length s.nodes → t ≡ record mid { names = mid.names ++ named r.deed (Some made) }
+  → Answers s r Accepted t
+accepted_as s mid t r k made action here asks made_it many e = rw (e, many) (accepts k action mid here asks made_it)
+
+pub asks_set : (deed : Deed) (d : Data) (asked : Participant) → deed ≡ states (Some d) → participant_of d ≡ Ok asked
+  → Asks deed (SetConstraints (Some asked))
+asks_set deed d asked e read = rw e (to_set d asked read)
+
+or_true : (b : Bool) → (b || true) ≡ true
+or_true true = refl
+or_true false = refl
+
+or_false : (b : Bool) → (b || false) ≡ b
+or_false true = refl
+or_false false = refl
+
+by_code : (s t : State) (r : Request) (k : ℕ) (d : Data) (fault : Fault) (code : Code) → node_named s r ≡ Some k → r.deed ≡ states (Some d)
+  → ((fault ≡ want_of_memory → ⊥) → participant_of d ≡ Err fault) → fault.code ≡ code → t ≡ record s { starved = s.starved || starves fault.code }
+  → Answers s r (Misread fault) t
+by_code s t r k d fault WantOfMemory here deed said g e =
+    let all : (s.starved || starves fault.code) ≡ true = rw g (or_true s.starved) in
+    rw (e, all) (starved_by k d fault here deed g)
+by_code s t r k d fault WrongKind here deed said g e =
+    let all : (s.starved || starves fault.code) ≡ s.starved = rw g (or_false s.starved) in
+    rw (e, all) (misreads k d fault here deed (said (λ (want : fault ≡ want_of_memory). absurd (cc (g, ap (λ (f : Fault). f.code) want)))))
+
+-- a fault for want of memory starves, and every other one is what is wrong with the record
+pub misread_as : (s t : State) (r : Request) (k : ℕ) (d : Data) (fault : Fault) → node_named s r ≡ Some k → r.deed ≡ states (Some d)
+  → ((fault ≡ want_of_memory → ⊥) → participant_of d ≡ Err fault) → t ≡ record s { starved = s.starved || starves fault.code }
+  → Answers s r (Misread fault) t
+misread_as s t r k d fault here deed said e = by_code s t r k d fault fault.code here deed said refl e
+
+-- a decision of a domain that is due settles it
+pub settled_as : (platform : PlatformFacts) (s t : State) (before after : List ℕ) (verdict : Verdict) → is_due s ≡ true
+  → Decides platform (participants_of s) verdict → t ≡ record s { verdict = Some verdict; starved = s.starved || is_no_memory verdict }
+  → after ≡ before ++ verdict_line platform verdict → SettlesIn platform s t before after
+settled_as platform s t before after verdict due decision e put = record {
+  line = verdict_line platform verdict;
+  settles = rw e (decides verdict due decision);
+  put = put;
+}
+
+-- a reply and what follows it are a step
+pub takes_as : (platform : PlatformFacts) (number : ℕ) (s : State) (r : Request) (mid t : State) (before between after : List ℕ) (reply : Reply)
+  → Answers s r reply mid → between ≡ before ++ call_line number r reply → SettlesIn platform mid t between after
+  → Takes platform number s r t before after
+takes_as platform number s r mid t before between after reply answered e settled = record {
+  lines = call_line number r reply ++ settled.line;
+  step = takes reply mid t settled.line answered settled.settles;
+  put = settled.put ∙ rw (e, append_assoc) refl;
+}

@@ -1,0 +1,12 @@
+pub mod Adding
+pub mod Answering
+pub mod CallsLemmas
+pub mod Entering
+pub mod KnownBytes
+pub mod Members
+pub mod Running
+pub mod Steps
+pub mod Texts
+pub mod TextsLemmas
+pub mod TransferLemmas
+pub mod Unique

@@ -1,0 +1,183 @@
+-- Calls have one report, where memory is not refused.
+use Rattle.std.proofs.Common.{◌≡◌, ℕ, ◌+◌, ◌++◌, ◌||◌, List, [], ◌∷◌, Bool, true, false, Option, Some, None, Result, Ok, Err, refl, sym, ◌∙◌, ap, subst}
+use Rattle.std.specs.Prelude.{slice_get, option_and_then}
+use Rattle.serde_json.specs.Data.{Data}
+use Rattle.sysmem_merge.specs.Best.{IsBest, IsUnmet}
+use Rattle.sysmem_merge.specs.Laws.{OneBest}
+use Rattle.sysmem_merge.specs.Participant.{Participant}
+use Rattle.sysmem_merge.specs.Platform.{PlatformFacts}
+use Rattle.sysmem_merge.specs.Reading.{participant_of}
+use Rattle.sysmem_merge.specs.declared.settings.Settings.{Settings as Settled}
+use Rattle.sysmem_merge.specs.declared.fault.Fault.{Fault}
+use Rattle.sysmem_replay.specs.declared.action.Action.{Action}
+use Rattle.sysmem_replay.specs.declared.action.Action.TheVariants.{Duplicate, Bind, SetConstraints, Release}
+use Rattle.sysmem_replay.specs.declared.node.Node.{Node}
+use Rattle.sysmem_replay.specs.declared.reply.Refusal.{Refusal}
+use Rattle.sysmem_replay.specs.declared.reply.Reply.{Reply}
+use Rattle.sysmem_replay.specs.declared.reply.Reply.TheVariants.{Accepted, Refused, Misread, Skipped}
+use Rattle.sysmem_replay.specs.declared.verdict.Verdict.{Verdict}
+use Rattle.sysmem_replay.specs.declared.verdict.Verdict.TheVariants.{Chosen, Empty, NoMemory}
+use Rattle.sysmem_replay.specs.Call.{Deed, duplicates, binds, states, releases, checks}
+use Rattle.sysmem_replay.specs.Laws.{OneReport}
+use Rattle.sysmem_replay.specs.Lines.{call_line, verdict_line, pending_lines}
+use Rattle.sysmem_replay.specs.Report.{Answers, skips, misreads, starves, refuses, accepts, answers, Asks, to_duplicate, to_bind, to_set_none, to_set, to_release, Decides, chooses, none_meet, has_no_memory, is_no_memory, Settles, waits, decides, Step, takes, Report, ended, continued, node_named, unmade, with_name, checked}
+use Rattle.sysmem_replay.specs.Script.{Request}
+use Rattle.sysmem_replay.specs.State.{State, first_state, applied, changed, has_room, is_barred, is_due, participants_of}
+
+-- participants have one best settings on the platform
+abbrev pub OneBestOn : PlatformFacts → Type 0
+OneBestOn platform = (ps : List Participant) (a b : Settled) → IsBest true platform ps a → IsBest true platform ps b → a ≡ b
+
+absurd_true : {A : Type 0} → true ≡ false → A
+absurd_true e = absurd (cc)
+
+-- a test that isn't true is false
+not_true : (b c : Bool) → (b ≡ true → c ≡ true) → c ≡ false → b ≡ false
+not_true false c h e = refl
+not_true true c h e = absurd_true (sym (h refl) ∙ e)
+
+or_left : (b c : Bool) → (b || c) ≡ false → b ≡ false
+or_left false c e = refl
+or_left true c e = absurd_true e
+
+or_right : (b c : Bool) → (b || c) ≡ false → c ≡ false
+or_right false c e = e
+or_right true c e = absurd_true e
+
+-- what an action answers on a node
+act_on : State → Request → Result State Refusal → Reply × State
+act_on s r (Ok after) = (Accepted, with_name s r.deed after)
+act_on s r (Err refusal) = (Refused refusal, unmade s r.deed)
+
+-- what reading constraints and setting them answers
+set_on : State → Request → ℕ → Result Participant Fault → Reply × State
+set_on s r k (Ok asked) = act_on s r (applied s k (SetConstraints (Some asked)))
+set_on s r k (Err fault) = (Misread fault, s)
+
+-- what a call answers on a node, where memory is not refused
+answer_at : State → Request → ℕ → Deed → Reply × State
+answer_at s r k (duplicates name) = act_on s r (applied s k Duplicate)
+answer_at s r k binds = act_on s r (applied s k Bind)
+answer_at s r k (states None) = act_on s r (applied s k (SetConstraints None))
+answer_at s r k (states (Some d)) = set_on s r k (participant_of d)
+answer_at s r k releases = act_on s r (applied s k Release)
+answer_at s r k checks = (checked (slice_get s.nodes k) s.verdict, s)
+
+answer_for : State → Request → Option ℕ → Reply × State
+answer_for s r None = (Skipped, unmade s r.deed)
+answer_for s r (Some k) = answer_at s r k r.deed
+
+asked_for : (s : State) (r : Request) (k : ℕ) (deed : Deed) (action : Action) → Asks deed action → answer_at s r k deed ≡ act_on s r (applied s k action)
+unfolding answer_at set_on
+asked_for s r k _ _ (to_duplicate name) = refl
+asked_for s r k _ _ to_bind = refl
+asked_for s r k _ _ to_set_none = refl
+asked_for s r k _ _ (to_set d asked read) = rw read refl
+asked_for s r k _ _ to_release = refl
+
+-- a call answers this, where memory is not refused
+is_answer : (s : State) (r : Request) (reply : Reply) (t : State) → Answers s r reply t → t.starved ≡ false → (reply, t) ≡ answer_for s r (node_named s r)
+unfolding answer_for answer_at act_on set_on
+is_answer s r _ _ (skips none) e = rw none refl
+is_answer s r _ _ (misreads k d fault here deed read) e = rw (here, deed, read) refl
+is_answer s r _ _ (starves k d fault here deed want) e = absurd_true e
+is_answer s r _ _ (refuses k action refusal here asks why) e = rw (here, asked_for s r k r.deed action asks, why) refl
+is_answer s r _ _ (accepts k action after here asks made) e = rw (here, asked_for s r k r.deed action asks, made) refl
+is_answer s r _ _ (answers k here deed) e = rw (here, deed) refl
+
+-- a decision has one verdict, where memory is not refused
+one_verdict : (platform : PlatformFacts) (ps : List Participant) (v w : Verdict) → OneBestOn platform
+  → Decides platform ps v → Decides platform ps w → is_no_memory v ≡ false → is_no_memory w ≡ false → v ≡ w
+one_verdict platform ps _ _ best (chooses a x) (chooses b y) e f = ap Chosen (best ps a b x y)
+one_verdict platform ps _ _ best (chooses a x) (none_meet y) e f = absurd (y a x.meets)
+one_verdict platform ps _ _ best (none_meet x) (chooses b y) e f = absurd (x b y.meets)
+one_verdict platform ps _ _ best (none_meet x) (none_meet y) e f = refl
+one_verdict platform ps _ _ best has_no_memory second e f = absurd_true e
+one_verdict platform ps _ _ best (chooses a x) has_no_memory e f = absurd_true f
+one_verdict platform ps _ _ best (none_meet x) has_no_memory e f = absurd_true f
+
+-- the state after a decision
+abbrev decided : State → Verdict → State
+decided s v = record s { verdict = Some v; starved = s.starved || is_no_memory v }
+
+-- what follows a reply is one, where memory is not refused
+one_settling : (platform : PlatformFacts) (s t u : State) (a b : List ℕ) → OneBestOn platform
+  → Settles platform s t a → Settles platform s u b → t.starved ≡ false → u.starved ≡ false → (t ≡ u) × (a ≡ b)
+one_settling platform s _ _ _ _ best (waits idle) (waits _) e f = (refl, refl)
+one_settling platform s _ _ _ _ best (waits idle) (decides w ready y) e f = absurd_true (sym ready ∙ idle)
+one_settling platform s _ _ _ _ best (decides v ready x) (waits idle) e f = absurd_true (sym ready ∙ idle)
+one_settling platform s _ _ _ _ best (decides v ready x) (decides w _ y) e f =
+    let same : v ≡ w = one_verdict platform (participants_of s) v w best x y (or_right s.starved (is_no_memory v) e) (or_right s.starved (is_no_memory w) f) in
+    (ap (λ (z : Verdict). decided s z) same, ap (λ (z : Verdict). verdict_line platform z) same)
+
+-- what followed a state that isn't starved, wasn't either
+unstarved_before : (platform : PlatformFacts) (s t : State) (a : List ℕ) → Settles platform s t a → t.starved ≡ false → s.starved ≡ false
+unstarved_before platform s _ _ (waits idle) e = e
+unstarved_before platform s _ _ (decides v ready x) e = or_left s.starved (is_no_memory v) e
+
+joined : (a b c d : List ℕ) → a ≡ b → c ≡ d → a ++ c ≡ b ++ d
+joined a b c d e f = cc
+
+one_step : (platform : PlatformFacts) (number : ℕ) (s t u : State) (r : Request) (a b : List ℕ) → OneBestOn platform
+  → Step platform number s r t a → Step platform number s r u b → t.starved ≡ false → u.starved ≡ false → (t ≡ u) × (a ≡ b)
+one_step platform number s t u r _ _ best (takes reply mid _ line answered settled) (takes reply' mid' _ line' answered' settled') e f =
+    let first : (reply, mid) ≡ answer_for s r (node_named s r) = is_answer s r reply mid answered (unstarved_before platform mid t line settled e) in
+    let second : (reply', mid') ≡ answer_for s r (node_named s r) = is_answer s r reply' mid' answered' (unstarved_before platform mid' u line' settled' f) in
+    let same_reply : reply ≡ reply' = ap (λ (p : Reply × State). p.0) (first ∙ sym second) in
+    let same_mid : mid' ≡ mid = ap (λ (p : Reply × State). p.1) (second ∙ sym first) in
+    let settled_too : Settles platform mid u line' = subst (λ (m : State). Settles platform m u line') same_mid settled' in
+    let same : (t ≡ u) × (line ≡ line') = one_settling platform mid t u line line' best settled settled_too e f in
+    (same.0, joined (call_line number r reply) (call_line number r reply') line line' (ap (call_line number r) same_reply) same.1)
+
+abbrev starved_in : State → Result State Refusal → Bool
+starved_in s (Ok t) = t.starved
+starved_in s (Err refusal) = s.starved
+
+kept_by : (s after : State) (k : ℕ) (action : Action) (barred : Bool) (node : Option Node) (room : Bool)
+  → is_barred s.verdict action ≡ barred → option_and_then (changed action) (slice_get s.nodes k) ≡ node → has_room s.nodes action ≡ room
+  → applied s k action ≡ Ok after → after.starved ≡ s.starved
+kept_by s after k action true node room b n h e = let f = rw b at e in absurd (cc)
+kept_by s after k action false None room b n h e = let f = rw (b, n) at e in absurd (cc)
+kept_by s after k action false (Some node) false b n h e = let f = rw (b, n, h) at e in absurd (cc)
+kept_by s after k action false (Some node) true b n h e = let f = rw (b, n, h) at e in sym (ap (λ (x : Result State Refusal). starved_in s x) f)
+
+-- an accepted action starves nothing
+kept_starved : (s after : State) (k : ℕ) (action : Action) → applied s k action ≡ Ok after → after.starved ≡ s.starved
+kept_starved s after k action e = kept_by s after k action (is_barred s.verdict action) (option_and_then (changed action) (slice_get s.nodes k)) (has_room s.nodes action) refl refl refl e
+
+-- memory that was refused stays so
+answer_starves : (s t : State) (r : Request) (reply : Reply) → Answers s r reply t → s.starved ≡ true → t.starved ≡ true
+answer_starves s _ r _ (skips none) e = e
+answer_starves s _ r _ (misreads k d fault here deed read) e = e
+answer_starves s _ r _ (starves k d fault here deed want) e = refl
+answer_starves s _ r _ (refuses k action refusal here asks why) e = e
+answer_starves s _ r _ (accepts k action after here asks made) e = kept_starved s after k action made ∙ e
+answer_starves s _ r _ (answers k here deed) e = e
+
+settling_starves : (platform : PlatformFacts) (s t : State) (a : List ℕ) → Settles platform s t a → s.starved ≡ true → t.starved ≡ true
+settling_starves platform s _ _ (waits idle) e = e
+settling_starves platform s _ _ (decides v ready x) e = rw e refl
+
+step_starves : (platform : PlatformFacts) (number : ℕ) (s t : State) (r : Request) (a : List ℕ) → Step platform number s r t a → s.starved ≡ true → t.starved ≡ true
+step_starves platform number s _ r _ (takes reply mid t line answered settled) e =
+    settling_starves platform mid t line settled (answer_starves s mid r reply answered e)
+
+pub report_starves : (platform : PlatformFacts) (number : ℕ) (s : State) (rs : List Request) (a : List ℕ) (starved : Bool)
+  → Report platform number s rs a starved → s.starved ≡ true → starved ≡ true
+report_starves platform _ _ _ _ _ (ended number s) e = e
+report_starves platform _ _ _ _ _ (continued number s t r rs text rest starved step report) e =
+    report_starves platform (number + 1) t rs rest starved report (step_starves platform number s t r text step e)
+
+same_report : (platform : PlatformFacts) (number : ℕ) (s : State) (rs : List Request) (a b : List ℕ) (x y : Bool) → OneBestOn platform
+  → Report platform number s rs a x → Report platform number s rs b y → x ≡ false → y ≡ false → a ≡ b
+same_report platform _ _ _ _ _ _ _ best (ended number s) (ended _ _) e f = refl
+same_report platform _ _ _ _ _ _ _ best (continued number s t r rs text rest x step report) (continued _ _ u _ _ line others y step' report') e f =
+    let same : (t ≡ u) × (text ≡ line) = one_step platform number s t u r text line best step step'
+          (not_true t.starved x (report_starves platform (number + 1) t rs rest x report) e)
+          (not_true u.starved y (report_starves platform (number + 1) u rs others y report') f) in
+    let there : Report platform (number + 1) t rs others y = subst (λ (v : State). Report platform (number + 1) v rs others y) (sym same.0) report' in
+    joined text line rest others same.1 (same_report platform (number + 1) t rs rest others x y best report there e f)
+
+pub one_report : OneBest → OneReport
+one_report best platform rs a b first second =
+    same_report platform 1 first_state rs a b false false (λ ps x y. best true platform ps x y) first second refl refl

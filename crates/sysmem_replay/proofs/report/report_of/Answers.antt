@@ -1,0 +1,15 @@
+use Rattle.std.proofs.Common.{◌<◌, ◌≤◌, length, map, arith}
+use Rattle.std.specs.String.{string_bytes}
+use Rattle.sysmem_replay.specs.Runner.{state_of}
+use Rattle.sysmem_replay.specs.Seen.{seen}
+use Rattle.sysmem_replay.proofs.Steps.{reaches-take, reaches-end, drop-seen}
+use Rattle.sysmem_replay.proofs.report.report_of.Goals as goal
+
+pub loop-index-preserved : goal.loop-index-preserved
+loop-index-preserved c =
+    let within : c.loop-index.index < length c.args.calls.now = omega arith in
+    reaches-take _ (map seen c.args.calls.now) c.loop-index.index (state_of c.loop-index.runner) _ _ (string_bytes c.loop-index.text) _
+    (drop-seen c.args.calls.now c.loop-index.index c.index-calls-index.result within c.index-calls-index.is) c.in_ok-take.ensures c.loop-index.invariant
+
+pub returns : goal.returns
+returns c = ?

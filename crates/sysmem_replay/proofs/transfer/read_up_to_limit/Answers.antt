@@ -1,0 +1,10 @@
+use Rattle.std.proofs.Common.{ℕ, ◌+◌, ◌-◌, ◌≤◌, length, length-take, vec_len, arith}
+use Rattle.sysmem_replay.specs.Text.{longest}
+use Rattle.sysmem_replay.proofs.TransferLemmas.{ReadsFew-then}
+use Rattle.sysmem_replay.proofs.transfer.read_up_to_limit.Goals as goal
+
+pub returns-in_err-extend_from_slice-clause-few : goal.returns-in_err-extend_from_slice-clause-few
+returns-in_err-extend_from_slice-clause-few g c =
+    let bound = c.in-Ok.ensures.bound in
+    let room : length c.read.new.buf ≤ longest + 1 - vec_len c.loop-chunk.bytes = omega (arith, length-take {A = ℕ}, c.read.auto.buf) in
+    ReadsFew-then _ _ _ c.loop-chunk.bytes.items c.read.new.buf c.in-Ok.count c.loop-chunk.invariant.taken c.in-Ok.ensures.bytes.0 bound.0 (omega (arith, bound.0, room))

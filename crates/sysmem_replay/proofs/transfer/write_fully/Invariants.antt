@@ -1,0 +1,14 @@
+-- What was written and what is left are the bytes.
+use Rattle.std.proofs.Common.{◌≡◌, ◌++◌, List, ℕ, length}
+use Rattle.std.specs.Io.KnownBytes.{Appends}
+use Rattle.sysmem_replay.proofs.transfer.write_fully.Given as goal
+
+abbrev pub invariant-loop-rest : goal.invariant-loop-rest
+invariant-loop-rest g l = record {
+  front : List ℕ;
+  parts : front ++ l.rest ≡ l.bytes;
+  written : Appends (g.W.Write.contents l.fn.writer) (g.W.Write.contents l.writer) front;
+}
+
+abbrev pub decreases-loop-rest : goal.decreases-loop-rest
+decreases-loop-rest g l = length l.rest

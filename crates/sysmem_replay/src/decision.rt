@@ -1,0 +1,62 @@
+//! The decision of a ready collection.
+
+ghost use Rattle.std.specs.Prelude.{◌+◌, ◌<◌, ◌≤◌, ◌++◌, List, [], ◌∷◌, length, IfOk, OnOk};
+ghost use Rattle.std.specs.List.{filter_map};
+ghost use Rattle.sysmem_merge.specs.Aggregate.{StandsFor};
+ghost use Rattle.sysmem_merge.specs.Participant.{Participant};
+ghost use Rattle.sysmem_merge.specs.Platform.{PlatformFacts};
+ghost use Rattle.sysmem_replay.specs.Report.{Decides};
+ghost use Rattle.sysmem_replay.specs.State.{constraints_at};
+
+use crate::node::Node;
+use crate::verdict::Verdict;
+use std::alloc::{AllocError, Global};
+use sysmem_merge::{Aggregate, Platform};
+
+/// Decides for the nodes that have constraints, at most 128: the best settings for them, or that none meet them.
+pub fn decide(alloc: Global, platform: &Platform, nodes: &[Node]) -> Verdict
+    requires { length nodes.now ≤ 128 }
+    ensures { Decides platform.now (filter_map constraints_at nodes.now) result }
+{
+    match aggregate_of(alloc, platform, nodes) {
+        Ok(aggregate) => verdict_of(&aggregate),
+        Err(_) => Verdict::NoMemory,
+    }
+}
+
+fn verdict_of(aggregate: &Aggregate<'_>) -> Verdict
+    ensures {
+        (platform : PlatformFacts) (ps : List Participant) → StandsFor aggregate.now platform ps → Decides platform ps result
+    }
+{
+    match aggregate.best_settings(true) {
+        Ok(settings) => Verdict::Chosen(settings),
+        Err(_) => Verdict::Empty,
+    }
+}
+
+/// What the nodes' participants ask for together, in the order of the nodes.
+fn aggregate_of<'p>(alloc: Global, platform: &'p Platform, nodes: &[Node]) -> Result<Aggregate<'p>, AllocError>
+    requires { length nodes.now ≤ 128 }
+    ensures { IfOk result (λ aggregate. StandsFor aggregate platform.now (filter_map constraints_at nodes.now)) }
+{
+    let mut aggregate = Aggregate::new(alloc, platform)?;
+    for node in nodes {
+        add_node(&mut aggregate, node)?;
+    }
+    Ok(aggregate)
+}
+
+fn add_node(aggregate: &mut Aggregate<'_>, node: &Node) -> Result<(), AllocError>
+    requires { aggregate.old.added < 1024 }
+    ensures added {
+        (platform : PlatformFacts) (ps : List Participant) → StandsFor aggregate.old platform ps
+            → OnOk result (StandsFor aggregate.new platform (ps ++ filter_map constraints_at (node.now ∷ [])))
+    }
+    ensures grows { aggregate.new.added ≤ aggregate.old.added + 1 }
+{
+    match node.constraints() {
+        Some(asked) => aggregate.add(asked),
+        None => Ok(()),
+    }
+}

@@ -1,0 +1,69 @@
+//! The faults that end a run.
+ghost use Rattle.std.specs.Prelude.{◌≡◌};
+ghost use Rattle.sysmem_replay.specs.declared.fault.RunFault.TheVariants.{NoMemory};
+
+use std::alloc::{AllocError, AllocFailed};
+use sysmem_merge::Fault;
+use thiserror::Error;
+
+/// Why a run ended before its report was written.
+#[derive(Clone, Copy, Debug, PartialEq, Eq, Error)]
+pub enum RunFault {
+    /// A reader gave an error.
+    #[error("read fault")]
+    Read,
+    /// A writer gave an error, or took no byte.
+    #[error("write fault")]
+    Write,
+    /// A growth was refused.
+    #[error("no memory")]
+    NoMemory,
+    /// The script is refused.
+    #[error("script refused: {0}")]
+    Script(ScriptFault),
+}
+
+/// Why a script is refused. Calls are numbered from 1.
+#[derive(Clone, Copy, Debug, PartialEq, Eq, Error)]
+pub enum ScriptFault {
+    /// It is longer than 4,194,304 bytes.
+    #[error("Q1")]
+    TooLong,
+    /// It is not one JSON value.
+    #[error("Q2")]
+    NotJson,
+    /// It is no object with a `platform` and a list of `calls`, and nothing else.
+    #[error("Q3")]
+    Misshapen,
+    /// This call has a wrong kind, an unknown or missing key, or an unknown name of a call.
+    #[error("Q3 at call {0}")]
+    CallMisshapen(usize),
+    /// This call has a bad name, is made on a name that no earlier call made, or makes one again.
+    #[error("Q4 at call {0}")]
+    BadName(usize),
+    /// The platform is refused.
+    #[error("Q5 {0}")]
+    Platform(Fault),
+    /// It has more than 4,096 calls.
+    #[error("Q6")]
+    TooManyCalls,
+    /// This call is made by a 17th actor.
+    #[error("Q6 at call {0}")]
+    TooManyActors(usize),
+}
+
+impl From<AllocError> for RunFault {
+    ghost from_gives = { λ _ e. e ≡ NoMemory };
+
+    fn from(_e: AllocError) -> RunFault {
+        RunFault::NoMemory
+    }
+}
+
+impl<T: Drop> From<AllocFailed<T>> for RunFault {
+    ghost from_gives = { λ _ e. e ≡ NoMemory };
+
+    fn from(_e: AllocFailed<T>) -> RunFault {
+        RunFault::NoMemory
+    }
+}

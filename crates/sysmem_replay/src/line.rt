@@ -1,0 +1,166 @@
+//! The lines of a report, each put behind the text so far.
+
+ghost use Rattle.std.specs.Prelude.{◌≡◌, ℕ, ◌++◌, codes, option_map, slice_get, OnOk};
+ghost use Rattle.std.specs.Fmt.{decimal};
+ghost use Rattle.std.specs.String.{string_bytes};
+ghost use Rattle.sysmem_merge.specs.Faults.{fault_text};
+ghost use Rattle.sysmem_replay.specs.Lines.{call_line, deed_name, heap_text, new_name, offer_text, pending_lines, reply_text, settings_text, verdict_line};
+ghost use Rattle.sysmem_replay.specs.Seen.{deed_seen, seen};
+
+use crate::reply::Reply;
+use crate::script::{Act, Call};
+use crate::verdict::Verdict;
+use std::alloc::AllocError;
+use std::fmt::Write;
+use sysmem_memory::HeapInfo;
+use sysmem_merge::{Fault, Offer, Platform, Settings};
+
+/// Puts the line of a call behind the text: `7 duplicate root a ok`.
+pub fn put_call(text: &mut String, number: usize, call: &Call<'_>, reply: Reply) -> Result<(), AllocError>
+    ensures { OnOk result (string_bytes text.new ≡ string_bytes text.old ++ call_line number (seen call.now) reply) }
+{
+    put_head(text, number, &call.act, call.on)?;
+    put_new_name(text, &call.act)?;
+    put_reply(text, reply)
+}
+
+/// Puts a verdict's line behind the text: `domain / empty`.
+pub fn put_verdict(text: &mut String, platform: &Platform, verdict: Verdict) -> Result<(), AllocError>
+    ensures { OnOk result (string_bytes text.new ≡ string_bytes text.old ++ verdict_line platform.now verdict) }
+{
+    match verdict {
+        Verdict::Chosen(settings) => put_chosen(text, platform, settings),
+        Verdict::Empty => text.push_str("domain / empty\n"),
+        Verdict::NoMemory => text.push_str("domain / no_memory\n"),
+    }
+}
+
+/// Puts the last line of a report without a verdict behind the text: `domain / pending`.
+pub fn put_pending(text: &mut String, verdict: Option<Verdict>) -> Result<(), AllocError>
+    ensures { OnOk result (string_bytes text.new ≡ string_bytes text.old ++ pending_lines verdict) }
+{
+    match verdict {
+        Some(_) => Ok(()),
+        None => text.push_str("domain / pending\n"),
+    }
+}
+
+/// The name of what a call does.
+fn act_name(act: &Act<'_>) -> &'static str
+    ensures { result.now ≡ deed_name (deed_seen act.now) }
+{
+    match act {
+        Act::Duplicate(_) => "duplicate",
+        Act::Bind => "bind",
+        Act::SetConstraints(_) => "set_constraints",
+        Act::Release => "release",
+        Act::Check => "check",
+    }
+}
+
+fn put_head(text: &mut String, number: usize, act: &Act<'_>, on: &str) -> Result<(), AllocError>
+    ensures { OnOk result (string_bytes text.new ≡ string_bytes text.old ++ (decimal number ++ codes " " ++ deed_name (deed_seen act.now) ++ codes " " ++ on.now)) }
+{
+    let name = act_name(act);
+    write!(text, "{number} {name} {on}")
+}
+
+fn put_new_name(text: &mut String, act: &Act<'_>) -> Result<(), AllocError>
+    ensures { OnOk result (string_bytes text.new ≡ string_bytes text.old ++ new_name (deed_seen act.now)) }
+{
+    match act {
+        Act::Duplicate(name) => put_name(text, name),
+        _ => Ok(()),
+    }
+}
+
+fn put_name(text: &mut String, name: &str) -> Result<(), AllocError>
+    ensures { OnOk result (string_bytes text.new ≡ string_bytes text.old ++ (codes " " ++ name.now)) }
+{
+    write!(text, " {name}")
+}
+
+fn put_reply(text: &mut String, reply: Reply) -> Result<(), AllocError>
+    ensures { OnOk result (string_bytes text.new ≡ string_bytes text.old ++ (codes " " ++ reply_text reply ++ codes "\n")) }
+{
+    match reply {
+        Reply::Accepted => text.push_str(" ok\n"),
+        Reply::Refused(refusal) => put_end(text, refusal.text()),
+        Reply::Misread(fault) => put_fault(text, fault),
+        Reply::Skipped => text.push_str(" skipped\n"),
+    }
+}
+
+fn put_end(text: &mut String, words: &str) -> Result<(), AllocError>
+    ensures { OnOk result (string_bytes text.new ≡ string_bytes text.old ++ (codes " " ++ words.now ++ codes "\n")) }
+{
+    writeln!(text, " {words}")
+}
+
+fn put_fault(text: &mut String, fault: Fault) -> Result<(), AllocError>
+    ensures { OnOk result (string_bytes text.new ≡ string_bytes text.old ++ (codes " " ++ fault_text fault ++ codes "\n")) }
+{
+    let code = fault.code.name();
+    let at = fault.at.name();
+    writeln!(text, " {code} {at}")
+}
+
+fn put_chosen(text: &mut String, platform: &Platform, settings: Settings) -> Result<(), AllocError>
+    ensures { OnOk result (string_bytes text.new ≡ string_bytes text.old ++ verdict_line platform.now (Verdict.Chosen settings)) }
+{
+    text.push_str("domain / chosen - ")?;
+    put_settings(text, platform, settings)?;
+    text.push_str("\n")?;
+    Ok(())
+}
+
+fn put_settings(text: &mut String, platform: &Platform, settings: Settings) -> Result<(), AllocError>
+    ensures { OnOk result (string_bytes text.new ≡ string_bytes text.old ++ settings_text platform.now settings) }
+{
+    put_numbers(text, settings.count, settings.size_bytes)?;
+    put_heap(text, heap_at(platform, settings.place.heap))?;
+    put_rest(text, settings.place.coherency.name(), offer_name(settings.offer))?;
+    Ok(())
+}
+
+fn put_numbers(text: &mut String, count: u32, size: u64) -> Result<(), AllocError>
+    ensures { OnOk result (string_bytes text.new ≡ string_bytes text.old ++ (codes "count " ++ decimal count ++ codes " size " ++ decimal size ++ codes " place ")) }
+{
+    write!(text, "count {count} size {size} place ")
+}
+
+fn heap_at(platform: &Platform, index: usize) -> Option<&HeapInfo>
+    ensures { option_map (λ info. info.now) result ≡ slice_get platform.now.heaps index }
+{
+    platform.heaps().get(index)
+}
+
+fn put_heap(text: &mut String, heap: Option<&HeapInfo>) -> Result<(), AllocError>
+    ensures { OnOk result (string_bytes text.new ≡ string_bytes text.old ++ heap_text (option_map (λ info. info.now) heap.entry)) }
+{
+    match heap {
+        Some(info) => put_heap_name(text, info.heap.heap_type.as_str(), info.heap.id),
+        None => Ok(()),
+    }
+}
+
+fn put_heap_name(text: &mut String, heap_type: &str, id: u64) -> Result<(), AllocError>
+    ensures { OnOk result (string_bytes text.new ≡ string_bytes text.old ++ (heap_type.now ++ codes "#" ++ decimal id)) }
+{
+    write!(text, "{heap_type}#{id}")
+}
+
+fn put_rest(text: &mut String, coherency: &str, image: &str) -> Result<(), AllocError>
+    ensures { OnOk result (string_bytes text.new ≡ string_bytes text.old ++ (codes " " ++ coherency.now ++ codes " image " ++ image.now)) }
+{
+    write!(text, " {coherency} image {image}")
+}
+
+/// The image as a report prints it.
+fn offer_name(offer: Offer) -> &'static str
+    ensures { result.now ≡ offer_text offer }
+{
+    match offer {
+        Offer::NoImage => "none",
+    }
+}

@@ -1,0 +1,22 @@
+//! The platform that a script names.
+ghost use Rattle.serde_json.specs.View.{view};
+ghost use Rattle.sysmem_replay.specs.Faults.{Gives};
+ghost use Rattle.sysmem_replay.specs.Platform.{platform_held, platform_said};
+
+use crate::fault::{RunFault, ScriptFault};
+use serde_json::Value;
+use std::alloc::Global;
+use sysmem_merge::{Code, Platform};
+
+/// Reads the platform that a value stands for.
+pub fn read_platform(alloc: Global, value: &Value) -> Result<Platform, RunFault>
+    ensures { Gives platform_held result (platform_said (view value.now)) }
+{
+    match sysmem_merge::read_platform(alloc, value) {
+        Ok(platform) => Ok(platform),
+        Err(fault) => match fault.code {
+            Code::WantOfMemory => Err(RunFault::NoMemory),
+            Code::WrongKind => Err(RunFault::Script(ScriptFault::Platform(fault))),
+        },
+    }
+}

@@ -1,0 +1,73 @@
+//! Reads a script: from its bytes to the platform and the calls that it names, or to its first fault.
+ghost use Rattle.std.specs.Prelude.{◌≡◌, map, option_map};
+ghost use Rattle.std.specs.List.{list_all};
+ghost use Rattle.serde_json.specs.View.{items_view, members_view, view};
+ghost use Rattle.sysmem_replay.specs.Call.{keys_of};
+ghost use Rattle.sysmem_replay.specs.Faults.{Gives};
+ghost use Rattle.sysmem_replay.specs.Script.{is_part, parts_of, script_of};
+ghost use Rattle.sysmem_replay.specs.Seen.{script_seen};
+
+mod call;
+mod calls;
+mod known;
+mod names;
+mod shape;
+mod text;
+
+pub use call::{Act, Call};
+pub use calls::read_calls;
+pub use text::parse_script;
+
+use crate::fault::{RunFault, ScriptFault};
+use crate::platform::read_platform;
+use serde_json::{Map, Value};
+use std::alloc::Global;
+use sysmem_merge::Platform;
+
+const MOST_CALLS: usize = 4096;
+
+/// A script: the platform that it names, and its calls.
+#[derive(Drop)]
+pub struct Script<'a> {
+    pub platform: Platform,
+    pub calls: Vec<Call<'a>>,
+}
+
+fn is_part(key: &str) -> bool
+    ensures { result ≡ is_part key.now }
+{
+    key == "platform" || key == "calls"
+}
+
+fn has_only_parts(members: &Map<String, Value>) -> bool
+    ensures { result ≡ list_all is_part (keys_of (members_view members.now.entries)) }
+{
+    members.keys().all(|key| is_part(key.as_str()))
+}
+
+fn parts_of(script: &Value) -> Option<(&Value, &[Value])>
+    ensures { option_map (λ parts. (view parts.0.now, items_view parts.1.now)) result ≡ parts_of (view script.now) }
+{
+    let members = script.as_object()?;
+    let platform = script.get("platform")?;
+    let calls = script.get("calls")?.as_array()?;
+    if has_only_parts(members) { Some((platform, calls)) } else { None }
+}
+
+/// Reads the script that a value stands for, up to its first fault: its parts, the platform, the number of calls, then each call.
+pub fn read_script(alloc: Global, script: &Value) -> Result<Script<'_>, RunFault>
+    ensures { Gives script_seen result (script_of (view script.now)) }
+{
+    let Some((platform, calls)) = parts_of(script) else {
+        return Err(RunFault::Script(ScriptFault::Misshapen));
+    };
+    let platform = read_platform(alloc, platform)?;
+    if calls.len() > MOST_CALLS {
+        return Err(RunFault::Script(ScriptFault::TooManyCalls));
+    }
+    let calls = read_calls(alloc, calls)?;
+    Ok(Script { platform, calls })
+}
+
+#[cfg(test)]
+mod tests;
