@@ -1,0 +1,70 @@
+//! The command line: the job that the words behind the program's name ask for.
+ghost use Rattle.std.specs.Prelude.{◌≡◌, ◌⊎◌, IfErr, IfNone, IfOk, IfSome, IsSomeAnd, [], map, string_bytes};
+ghost use Rattle.clap.specs.Words.{HasKind, app_of, fault_of, found_of, rows_of, subcommand_of};
+ghost use Rattle.clap.specs.declared.builder.command.Command.TheViews.{out-Command as fields_of};
+ghost use Rattle.sysmem_replay.specs.CommandLine.{AsksFor, replay_app, run_app};
+
+use clap::error::ErrorKind;
+use clap::{Arg, ArgMatches, Command, Error};
+use std::alloc::{AllocError, Global};
+
+/// What a command line asks for, with the files that it names.
+#[derive(Clone, Copy, Debug, PartialEq, Eq)]
+pub enum Job<'a> {
+    /// Replay a script and print its report.
+    Run { file: &'a str },
+}
+
+/// Reads the words behind the program's name. A request for help is an `Err` too, of the kind
+/// `DisplayHelp`, as is want of memory, of the kind `OutOfMemory`.
+pub fn read_words<'a>(alloc: Global, words: &'a [String]) -> Result<Job<'a>, Error>
+    ensures entries { IfOk result (λ job. IsSomeAnd (subcommand_of replay_app (map string_bytes words.entry.now)) (λ entries. AsksFor entries job)) }
+    ensures taken { IfOk result (λ _. fault_of replay_app (map string_bytes words.entry.now) ≡ []) }
+{
+    let mut command = replay_command(alloc)?;
+    let matches = command.try_get_matches_from_mut(words)?;
+    let job = match matches.subcommand() {
+        Some((name, entries)) => asked_job(name, entries),
+        None => None,
+    };
+    match job {
+        Some(job) => Ok(job),
+        None => Err(command.error(ErrorKind::MissingSubcommand, "no job was asked for")?),
+    }
+}
+
+/// The job that a subcommand's entries ask for.
+fn asked_job<'a>(name: &str, entries: &ArgMatches<'a>) -> Option<Job<'a>>
+    ensures some { IfSome result (AsksFor (name.now, rows_of (found_of entries.now))) }
+{
+    match name {
+        "run" => Some(Job::Run {
+            file: entries.get_str("FILE")?,
+        }),
+        _ => None,
+    }
+}
+
+/// The program's command line, one subcommand for each job.
+fn replay_command<'a>(alloc: Global) -> Result<Command<'a>, AllocError>
+    ensures { IfOk result (λ c. app_of c ≡ replay_app) }
+{
+    let command = Command::new(alloc, "sysmem_replay")
+        .about("Replays the calls of a script on shared buffer collections and prints what sysmem would answer")
+        .no_binary_name(true)
+        .subcommand_required(true);
+    let run = run_command(alloc)?;
+    command.subcommand(run)
+}
+
+fn run_command<'a>(alloc: Global) -> Result<Command<'a>, AllocError>
+    ensures app { IfOk result (λ c. app_of c ≡ run_app) }
+    ensures local { IfOk result (λ c. (fields_of c).has_globals ≡ false) }
+{
+    let file = Arg::new(alloc, "FILE")
+        .required(true)
+        .help("The script: a JSON file of at most 4194304 bytes, with a platform and the calls on it");
+    let command = Command::new(alloc, "run")
+        .about("Replays a script and prints its report: a line for each call, then the buffers that were settled on");
+    command.arg(file)
+}
