@@ -1,8 +1,8 @@
 //! The command line: the job that the words behind the program's name ask for.
-ghost use Rattle.std.specs.Prelude.{◌≡◌, ◌⊎◌, IfErr, IfNone, IfOk, IfSome, IsSomeAnd, [], map, string_bytes};
-ghost use Rattle.clap.specs.Words.{HasKind, app_of, fault_of, found_of, rows_of, subcommand_of};
+ghost use Rattle.std.specs.Prelude.{◌≡◌, IfNone, IfOk, IfSome, IsSomeAnd, false, map, string_bytes};
+ghost use Rattle.clap.specs.Words.{FailsBy, app_of, fault_of, subcommand_of, subcommand_rows_of};
 ghost use Rattle.clap.specs.declared.builder.command.Command.TheViews.{out-Command as fields_of};
-ghost use Rattle.sysmem_replay.specs.CommandLine.{AsksFor, replay_app, run_app};
+ghost use Rattle.sysmem_replay.specs.CommandLine.{AsksFor, AsksForNone, replay_app, run_app};
 
 use clap::error::ErrorKind;
 use clap::{Arg, ArgMatches, Command, Error};
@@ -15,28 +15,28 @@ pub enum Job<'a> {
     Run { file: &'a str },
 }
 
-/// Reads the words behind the program's name. A request for help is an `Err` too, of the kind
-/// `DisplayHelp`, as is want of memory, of the kind `OutOfMemory`.
+/// Reads the words behind the program's name. It answers a request for help by an `Err` of the kind
+/// `DisplayHelp`, and want of memory by one of the kind `OutOfMemory`.
 pub fn read_words<'a>(alloc: Global, words: &'a [String]) -> Result<Job<'a>, Error>
-    ensures entries { IfOk result (λ job. IsSomeAnd (subcommand_of replay_app (map string_bytes words.entry.now)) (λ entries. AsksFor entries job)) }
-    ensures taken { IfOk result (λ _. fault_of replay_app (map string_bytes words.entry.now) ≡ []) }
+    ensures entries { IfOk result (λ job. IsSomeAnd (subcommand_of replay_app
+        (map string_bytes words.entry.now)) (λ entries. AsksFor entries job)) }
+    ensures kinds { FailsBy (fault_of replay_app (map string_bytes words.entry.now)) result }
 {
     let mut command = replay_command(alloc)?;
     let matches = command.try_get_matches_from_mut(words)?;
-    let job = match matches.subcommand() {
-        Some((name, entries)) => asked_job(name, entries),
-        None => None,
-    };
-    match job {
+    match job_in(&matches) {
         Some(job) => Ok(job),
-        None => Err(command.error(ErrorKind::MissingSubcommand, "no job was asked for")?),
+        None => Err(command.error(ErrorKind::MissingSubcommand, "no job is asked for")?),
     }
 }
 
-/// The job that a subcommand's entries ask for.
-fn asked_job<'a>(name: &str, entries: &ArgMatches<'a>) -> Option<Job<'a>>
-    ensures some { IfSome result (AsksFor (name.now, rows_of (found_of entries.now))) }
+/// The job that the subcommand asks for, with its files.
+fn job_in<'a>(matches: &ArgMatches<'a>) -> Option<Job<'a>>
+    ensures some { IfSome result (λ job. IsSomeAnd (subcommand_rows_of matches.now)
+        (λ entries. AsksFor entries job)) }
+    ensures none { IfNone result (IfSome (subcommand_rows_of matches.now) AsksForNone) }
 {
+    let (name, entries) = matches.subcommand()?;
     match name {
         "run" => Some(Job::Run {
             file: entries.get_str("FILE")?,
@@ -52,6 +52,7 @@ fn replay_command<'a>(alloc: Global) -> Result<Command<'a>, AllocError>
     let command = Command::new(alloc, "sysmem_replay")
         .about("Replays the calls of a script on shared buffer collections and prints what sysmem would answer")
         .no_binary_name(true)
+        .disable_help_subcommand(true)
         .subcommand_required(true);
     let run = run_command(alloc)?;
     command.subcommand(run)

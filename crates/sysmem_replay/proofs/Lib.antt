@@ -1,0 +1,3 @@
+mod Asked
+mod Entries
+mod Filled
