@@ -66,3 +66,6 @@ pub fn refusal_ending(kind: ErrorKind) -> Ending
         },
     }
 }
+
+#[cfg(test)]
+mod tests;

@@ -45,12 +45,13 @@ fn job_in<'a>(matches: &ArgMatches<'a>) -> Option<Job<'a>>
     }
 }
 
-/// The program's command line, one subcommand for each job.
+/// The program's command line, with a subcommand for each job.
 fn replay_command<'a>(alloc: Global) -> Result<Command<'a>, AllocError>
     ensures { IfOk result (λ c. app_of c ≡ replay_app) }
 {
     let command = Command::new(alloc, "sysmem_replay")
-        .about("Replays the calls of a script on shared buffer collections and prints what sysmem would answer")
+        .bin_name("sysmem_replay")?
+        .about("Negotiates shared buffers as Fuchsia's sysmem would, for the calls of a script")
         .no_binary_name(true)
         .disable_help_subcommand(true)
         .subcommand_required(true);
@@ -64,8 +65,11 @@ fn run_command<'a>(alloc: Global) -> Result<Command<'a>, AllocError>
 {
     let file = Arg::new(alloc, "FILE")
         .required(true)
-        .help("The script: a JSON file of at most 4194304 bytes, with a platform and the calls on it");
+        .help("A JSON script, of at most 4194304 bytes: a platform, and the calls to replay on it");
     let command = Command::new(alloc, "run")
-        .about("Replays a script and prints its report: a line for each call, then the buffers that were settled on");
+        .about("Replays a script, and prints a line for each call and each decision");
     command.arg(file)
 }
+
+#[cfg(test)]
+mod tests;
