@@ -1,11 +1,11 @@
 -- Where clap finds no fault in the words, they ask for a job.
-use Rattle.std.proofs.Common.{◌≡◌, ◌∙◌, ◌&&◌, ◌||◌, Bool, cond, true, false, not, refl, sym, ap, List, [], ◌∷◌, Option, Some, None, codes, is_some, IfSome, IsSomeAnd}
+use Rattle.std.proofs.Common.{◌≡◌, ◌||◌, Bool, cond, true, false, not, refl, List, [], Option, Some, None, codes, is_some, IfSome, IsSomeAnd}
 use Rattle.std.specs.Prelude.{option_map}
 use Rattle.std.specs.Option.{option_map_or}
-use Rattle.clap.specs.Walk.{Names, Row, Text, answers_to, finished, nothing_held, rows_after, stop_after, walk}
-use Rattle.clap.specs.Simple.{App, Shape, built, built_leaf, entered, inherited, label_of, marked_built, names_of, rows_at, subcommand_of, with_leaf_noted}
+use Rattle.clap.specs.Walk.{Names, Row, Text, answers_to, nothing_held, rows_after, stop_after}
+use Rattle.clap.specs.Simple.{Shape, built, built_leaf, entered, inherited, label_of, marked_built, names_of, rows_at, subcommand_of, with_leaf_noted}
 use Rattle.clap.specs.Takes.{is_given}
-use Rattle.clap.specs.Kinds.{Kinds, check_kinds}
+use Rattle.clap.specs.Kinds.{check_kinds}
 use Rattle.clap.specs.Faults.{check_fault, entered_fault, fault_of, level_fault}
 use Rattle.sysmem_replay.specs.CommandLine.{AsksForNone, IsRunOf, replay_app, run_app}
 use Rattle.sysmem_replay.proofs.Filled.{each_has_value, faults, given_is_read, level_parts}

@@ -1,5 +1,5 @@
 -- What clap says of the subcommand, as one pair.
-use Rattle.std.proofs.Common.{◌≡◌, ◌∙◌, true, is_some, true≢false, refl, sym, ap, ap₂, List, Option, Some, None, option_map, unwrap_or, subst, IsSomeAnd, IfSome, IfNone}
+use Rattle.std.proofs.Common.{◌≡◌, ◌∙◌, is_some, true≢false, refl, sym, ap, ap₂, List, Option, Some, None, option_map, unwrap_or, subst, IsSomeAnd, IfSome, IfNone}
 use Rattle.std.specs.Prelude.{Box}
 use Rattle.std.specs.Box.{box_value}
 use Rattle.clap.specs.declared.parser.matches.SubCommand.{SubCommand}

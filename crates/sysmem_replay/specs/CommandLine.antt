@@ -1,5 +1,5 @@
 -- The command line: what clap is given of it, and which job its entries ask for.
-use Rattle.std.specs.Prelude.{◌≡◌, ℕ, List, true, Some, codes}
+use Rattle.std.specs.Prelude.{◌≡◌, List, true, Some, codes}
 use Rattle.clap.specs.Words.{App, Row, Rule, Shape, Text, first_of, new_app, new_rule, with_rule}
 use Rattle.clap.specs.Words.{with_subcommand}
 use Rattle.clap.specs.Simple.{on_top}

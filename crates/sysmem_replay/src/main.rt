@@ -11,10 +11,9 @@ use clap::Error;
 use ending::{Ending, ending_of, refusal_ending};
 use fault::RunFault;
 use run::Ended;
-use std::env;
 use std::fs::File;
-use std::io;
 use std::process::ExitCode;
+use std::{env, io};
 use words::{Job, read_words};
 
 fn main(rt: HostRuntime) -> ExitCode {
@@ -35,7 +34,9 @@ fn given_words(rt: &HostRuntime) -> Result<Vec<String>, Ending> {
         Err(error) => return Err(unread_words(rt, error.kind())),
     };
     let _program = words.next();
-    words.collect(rt.alloc()).map_err(|_| ending_of(Err(RunFault::NoMemory)))
+    words
+        .collect(rt.alloc())
+        .map_err(|_| ending_of(Err(RunFault::NoMemory)))
 }
 
 /// Does what the words ask for.
@@ -62,7 +63,12 @@ fn run_file(rt: &HostRuntime, file: &str) -> Result<Ended, RunFault> {
     let Ok(mut script) = File::open(rt, file) else {
         return Err(RunFault::Read);
     };
-    run::run(rt.alloc(), &mut script, &mut io::writer(rt), &mut io::sink())
+    run::run(
+        rt.alloc(),
+        &mut script,
+        &mut io::writer(rt),
+        &mut io::sink(),
+    )
 }
 
 fn unread_words(rt: &HostRuntime, kind: io::ErrorKind) -> Ending {

@@ -63,11 +63,12 @@ fn run_command<'a>(alloc: Global) -> Result<Command<'a>, AllocError>
     ensures app { IfOk result (λ c. app_of c ≡ run_app) }
     ensures local { IfOk result (λ c. (fields_of c).has_globals ≡ false) }
 {
-    let file = Arg::new(alloc, "FILE")
-        .required(true)
-        .help("A JSON script, of at most 4194304 bytes: a platform, and the calls to replay on it");
-    let command = Command::new(alloc, "run")
-        .about("Replays a script, and prints a line for each call and each decision");
+    let file = Arg::new(alloc, "FILE").required(true).help(
+        "A JSON script, of at most 4194304 bytes: a platform, and the calls to replay on it",
+    );
+    let command = Command::new(alloc, "run").about(
+        "Replays a script, and prints a line for each call and each decision",
+    );
     command.arg(file)
 }
 

@@ -22,7 +22,11 @@ fn ends_a_run(rt: HostRuntime) -> Result<(), Fail> {
         (Err(RunFault::Read), 1, "read fault"),
         (Err(RunFault::Write), 1, "write fault"),
         (Err(RunFault::NoMemory), 4, "no memory"),
-        (Err(RunFault::Script(ScriptFault::NotJson)), 3, "script refused: Q2"),
+        (
+            Err(RunFault::Script(ScriptFault::NotJson)),
+            3,
+            "script refused: Q2",
+        ),
     ];
     for (outcome, status, text) in cases {
         let ending = ending_of(outcome);

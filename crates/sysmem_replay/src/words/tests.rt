@@ -45,7 +45,11 @@ fn refuses_what_is_no_job(rt: HostRuntime) -> Result<(), Fail> {
         let Err(refusal) = read_words(rt.alloc(), words.as_slice()) else {
             return Err(Fail::from("a job was read"));
         };
-        assert!(rt; refusal.kind() == kind, "{:?} and not {kind:?}", refusal.kind());
+        assert!(rt;
+            refusal.kind() == kind,
+            "{:?} and not {kind:?}",
+            refusal.kind()
+        );
         assert!(rt; refusal.use_stderr());
     }
     Ok(())
@@ -57,7 +61,10 @@ fn answers_a_request_for_help(rt: HostRuntime) -> Result<(), Fail> {
         (&["--help"], "Usage: sysmem_replay <COMMAND>"),
         (&["-h"], "Usage: sysmem_replay <COMMAND>"),
         (&["run", "--help"], "Usage: sysmem_replay run <FILE>"),
-        (&["run", "row.json", "-h"], "Usage: sysmem_replay run <FILE>"),
+        (
+            &["run", "row.json", "-h"],
+            "Usage: sysmem_replay run <FILE>",
+        ),
     ];
     for (words, usage) in cases {
         let words = owned(rt.alloc(), words)?;
@@ -76,7 +83,10 @@ fn answers_a_request_for_help(rt: HostRuntime) -> Result<(), Fail> {
 fn says_what_is_missing(rt: HostRuntime) -> Result<(), Fail> {
     let cases: [(&[&str], &str); 3] = [
         (&[], "'sysmem_replay' requires a subcommand"),
-        (&["run"], "the following required arguments were not provided:\n  <FILE>"),
+        (
+            &["run"],
+            "the following required arguments were not provided:\n  <FILE>",
+        ),
         (&["replay"], "unrecognized subcommand 'replay'"),
     ];
     for (words, said) in cases {

@@ -1,5 +1,5 @@
-use Rattle.std.proofs.Common.{◌≡◌, ◌∙◌, ap, sym, codes, option_map, Some, None, rules}
-use Rattle.clap.specs.Words.{first_of, found_of, rows_of, subcommand_rows_of}
+use Rattle.std.proofs.Common.{◌≡◌, ◌∙◌, ap, sym, codes, option_map, Some, None}
+use Rattle.clap.specs.Words.{first_of, found_of, rows_of}
 use Rattle.clap.proofs.WalkLemmas.{first_value-rows}
 use Rattle.sysmem_replay.specs.CommandLine.{AsksForNone, IsRunOf}
 use Rattle.sysmem_replay.proofs.Entries.{entered_is, none_entered, some_entered, some≢none}
