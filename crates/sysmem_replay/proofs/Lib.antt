@@ -1,7 +1,10 @@
 pub mod Adding
 pub mod Answering
+mod Asked
 pub mod CallsLemmas
 pub mod Entering
+mod Entries
+mod Filled
 pub mod KnownBytes
 pub mod Members
 pub mod Running

@@ -1,4 +1,6 @@
 pub mod Call
+pub mod CommandLine
+pub mod Endings
 pub mod Faults
 pub mod Known
 pub mod Laws

@@ -1,8 +1,10 @@
-//! Replays a script of a buffer negotiation and reports each reply and verdict.
+//! `sysmem_replay run FILE` replays a script of calls on shared buffer collections and prints its
+//! report.
 #![tactic(auto)]
 
 mod action;
 mod decision;
+mod ending;
 mod fault;
 pub mod laws;
 mod line;
@@ -15,10 +17,82 @@ mod runner;
 pub mod script;
 mod transfer;
 mod verdict;
+mod words;
 
+pub use ending::{Ending, ending_of, refusal_ending};
 pub use fault::{RunFault, ScriptFault};
 pub use report::{Report, report_of};
-pub use run::Ended;
+pub use run::{Ended, run};
 pub use transfer::{LONGEST, read_up_to_limit, write_fully};
+pub use words::{Job, read_words};
 
-fn main() {}
+use clap::Error;
+use std::fs::File;
+use std::process::ExitCode;
+use std::{env, io};
+
+fn main(rt: HostRuntime) -> ExitCode {
+    let ending = match given_words(&rt) {
+        Ok(words) => obey(&rt, words.as_slice()),
+        Err(ending) => ending,
+    };
+    if let Some(fault) = ending.fault {
+        let _unsaid = eprintln!(rt; "{fault}");
+    }
+    ExitCode::from(ending.status)
+}
+
+/// The words behind the program's name.
+fn given_words(rt: &HostRuntime) -> Result<Vec<String>, Ending> {
+    let mut words = match env::args(rt) {
+        Ok(words) => words,
+        Err(error) => return Err(unread_words(rt, error.kind())),
+    };
+    let _program = words.next();
+    words
+        .collect(rt.alloc())
+        .map_err(|_| ending_of(Err(RunFault::NoMemory)))
+}
+
+/// Does what the words ask for.
+fn obey(rt: &HostRuntime, words: &[String]) -> Ending {
+    match read_words(rt.alloc(), words) {
+        Ok(Job::Run { file }) => ending_of(run_file(rt, file)),
+        Err(refusal) => tell(rt, &refusal),
+    }
+}
+
+/// Tells why the words ask for no job.
+fn tell(rt: &HostRuntime, refusal: &Error) -> Ending {
+    let ending = refusal_ending(refusal.kind());
+    if ending.fault.is_some() {
+        return ending;
+    }
+    match refusal.print(rt) {
+        Err(_) if !refusal.use_stderr() => ending_of(Err(RunFault::Write)),
+        _ => ending,
+    }
+}
+
+fn run_file(rt: &HostRuntime, file: &str) -> Result<Ended, RunFault> {
+    let Ok(mut script) = File::open(rt, file) else {
+        return Err(RunFault::Read);
+    };
+    run::run(
+        rt.alloc(),
+        &mut script,
+        &mut io::writer(rt),
+        &mut io::sink(),
+    )
+}
+
+fn unread_words(rt: &HostRuntime, kind: io::ErrorKind) -> Ending {
+    if kind == io::ErrorKind::OutOfMemory {
+        return ending_of(Err(RunFault::NoMemory));
+    }
+    let _unsaid = eprintln!(rt; "error: the command line is not UTF-8");
+    Ending {
+        status: 2,
+        fault: None,
+    }
+}

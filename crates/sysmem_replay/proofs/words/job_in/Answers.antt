@@ -1,0 +1,24 @@
+use Rattle.std.proofs.Common.{◌≡◌, ◌∙◌, ap, sym, codes, option_map, Some, None}
+use Rattle.clap.specs.Words.{first_of, found_of, rows_of}
+use Rattle.clap.proofs.WalkLemmas.{first_value-rows}
+use Rattle.sysmem_replay.specs.CommandLine.{AsksForNone, IsRunOf}
+use Rattle.sysmem_replay.proofs.Entries.{entered_is, none_entered, some_entered, some≢none}
+use Rattle.sysmem_replay.proofs.words.job_in.Goals as goal
+
+pub returns-in_err-get_str-in-run-clause-none : goal.returns-in_err-get_str-in-run-clause-none
+returns-in_err-get_str-in-run-clause-none c =
+    let rows = rows_of (found_of c.in_ok-name.entries.now) in
+    let unread : first_of (codes "FILE") rows ≡ None =
+    sym (first_value-rows (found_of c.in_ok-name.entries.now) (codes "FILE")) ∙ sym c.get_str.ensures ∙ ap (option_map (λ s. s.now)) (c.in_err-get_str-in-run.was) in
+    none_entered _ c.args.matches.now (c.in_ok-name.name.now, rows) AsksForNone
+    (entered_is c.args.matches.now c.in_ok-name.name.now rows c.in_ok-name.ensures.name c.in_ok-name.ensures.rows)
+    (λ file h. some≢none file (sym h.1 ∙ unread))
+
+pub returns-in_ok-get_str-in-run-clause-some : goal.returns-in_ok-get_str-in-run-clause-some
+returns-in_ok-get_str-in-run-clause-some c =
+    let rows = rows_of (found_of c.in_ok-name.entries.now) in
+    let file = c.in_ok-get_str-in-run.field-0.now in
+    let read : first_of (codes "FILE") rows ≡ Some file =
+    sym (first_value-rows (found_of c.in_ok-name.entries.now) (codes "FILE")) ∙ sym c.get_str.ensures ∙ ap (option_map (λ s. s.now)) (c.in_ok-get_str-in-run.was) in
+    some_entered c.args.matches.now (c.in_ok-name.name.now, rows) (λ e. IsRunOf e file)
+    (entered_is c.args.matches.now c.in_ok-name.name.now rows c.in_ok-name.ensures.name c.in_ok-name.ensures.rows) (c.in-run.is, read)

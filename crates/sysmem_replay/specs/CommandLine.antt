@@ -1,0 +1,40 @@
+-- The command line: what clap is given of it, and which job its entries ask for.
+use Rattle.std.specs.Prelude.{◌≡◌, List, true, Some, codes}
+use Rattle.clap.specs.Words.{App, Row, Rule, Shape, Text, first_of, new_app, new_rule, with_rule}
+use Rattle.clap.specs.Words.{with_subcommand}
+use Rattle.clap.specs.Simple.{on_top}
+use Rattle.sysmem_replay.specs.declared.words.Job.{Job}
+use Rattle.sysmem_replay.specs.declared.words.Job.TheVariants.{Run}
+
+-- FILE, which has to be there
+abbrev pub file_rule : Rule
+file_rule = record (new_rule (codes "FILE")) { required = true }
+
+-- run FILE
+abbrev pub run_app : App
+run_app = with_rule (new_app (codes "run")) file_rule
+
+-- the words begin with no program's name, and have to name a job
+abbrev pub settings : Shape → Shape
+settings s = record s {
+  no_binary_name = true;
+  disable_help_subcommand = true;
+  subcommand_required = true;
+}
+
+-- sysmem_replay, with a subcommand for each job
+abbrev pub replay_app : App
+replay_app = with_subcommand (on_top settings (new_app (codes "sysmem_replay"))) run_app.top
+
+-- a subcommand's name and entries are `run` and this FILE
+abbrev pub IsRunOf : Text × List Row → Text → Type 0
+IsRunOf entries file =
+    (entries.0 ≡ codes "run") × (first_of (codes "FILE") entries.1 ≡ Some file)
+
+-- they are this job and its files
+abbrev pub AsksFor : Text × List Row → Job → Type 0
+AsksFor entries (Run file) = IsRunOf entries file.now
+
+-- they are no job's
+abbrev pub AsksForNone : Text × List Row → Type 0
+AsksForNone entries = (file : Text) → ¬ IsRunOf entries file

@@ -1,0 +1,37 @@
+-- The exit statuses of the program, and the fault that it prints.
+use Rattle.std.specs.Prelude.{ℕ, Option, Some, None, Result, Ok, Err}
+use Rattle.clap.specs.declared.error.kind.ErrorKind.{ErrorKind}
+use Rattle.clap.specs.declared.error.kind.ErrorKind.TheVariants.{DisplayHelp, DisplayVersion, OutOfMemory}
+use Rattle.sysmem_replay.specs.declared.fault.RunFault.{RunFault}
+use Rattle.sysmem_replay.specs.declared.fault.RunFault.TheVariants.{Read, Write, NoMemory, Script}
+use Rattle.sysmem_replay.specs.declared.run.Ended.{Ended}
+use Rattle.sysmem_replay.specs.declared.run.Ended.TheVariants.{Done, MemoryRefused, CheckedNo}
+
+-- the exit status of a run
+abbrev pub run_code : Result Ended RunFault → ℕ
+run_code (Ok Done) = 0
+run_code (Err Read) = 1
+run_code (Err Write) = 1
+run_code (Err (Script fault)) = 3
+run_code (Ok MemoryRefused) = 4
+run_code (Err NoMemory) = 4
+run_code (Ok CheckedNo) = 6
+
+-- the fault whose text a run leaves on standard error
+abbrev pub fault_said : Result Ended RunFault → Option RunFault
+fault_said (Ok Done) = None
+fault_said (Ok MemoryRefused) = Some NoMemory
+fault_said (Ok CheckedNo) = None
+fault_said (Err fault) = Some fault
+
+-- the exit status of a command line that asks for no job
+abbrev pub refusal_code : ErrorKind → ℕ
+refusal_code DisplayHelp = 0
+refusal_code DisplayVersion = 0
+refusal_code OutOfMemory = 4
+refusal_code _ = 2
+
+-- the fault that stands in place of the parser's text
+abbrev pub refusal_said : ErrorKind → Option RunFault
+refusal_said OutOfMemory = Some NoMemory
+refusal_said _ = None

@@ -1,0 +1,71 @@
+//! How the program ends: its exit status, and what it says on standard error.
+ghost use Rattle.std.specs.Prelude.{◌≡◌, Err, Some};
+ghost use Rattle.sysmem_replay.specs.Endings.{fault_said, refusal_code, refusal_said, run_code};
+
+use crate::fault::RunFault;
+use crate::run::Ended;
+use clap::error::ErrorKind;
+
+/// An exit status, and the fault whose text goes to standard error.
+#[derive(Clone, Copy, Debug, PartialEq, Eq)]
+pub struct Ending {
+    pub status: u8,
+    pub fault: Option<RunFault>,
+}
+
+/// The ending of a run: 0 where it is done, 1 for a read or write fault, 3 for a script that is
+/// refused, 4 for want of memory and 6 for a certificate that is wrong.
+pub fn ending_of(outcome: Result<Ended, RunFault>) -> Ending
+    ensures status { result.status ≡ run_code outcome }
+    ensures fault { result.fault ≡ fault_said outcome }
+{
+    match outcome {
+        Ok(Ended::Done) => Ending {
+            status: 0,
+            fault: None,
+        },
+        Ok(Ended::MemoryRefused) => fault_ending(RunFault::NoMemory),
+        Ok(Ended::CheckedNo) => Ending {
+            status: 6,
+            fault: None,
+        },
+        Err(fault) => fault_ending(fault),
+    }
+}
+
+fn fault_ending(fault: RunFault) -> Ending
+    ensures status { result.status ≡ run_code (Err fault) }
+    ensures fault { result.fault ≡ Some fault }
+{
+    let status = match fault {
+        RunFault::Read | RunFault::Write => 1,
+        RunFault::Script(_) => 3,
+        RunFault::NoMemory => 4,
+    };
+    Ending {
+        status,
+        fault: Some(fault),
+    }
+}
+
+/// The ending of a command line that asks for no job: 0 for help, 4 for want of memory, and else 2.
+/// Where it has no fault, the parser's own text is what the user is told.
+pub fn refusal_ending(kind: ErrorKind) -> Ending
+    ensures status { result.status ≡ refusal_code kind }
+    ensures fault { result.fault ≡ refusal_said kind }
+{
+    match kind {
+        ErrorKind::DisplayHelp | ErrorKind::DisplayVersion => Ending {
+            status: 0,
+            fault: None,
+        },
+        ErrorKind::OutOfMemory => fault_ending(RunFault::NoMemory),
+        _ => Ending {
+            status: 2,
+            fault: None,
+        },
+    }
+}
+
+#[cfg(test)]
+mod tests;

@@ -1,0 +1,76 @@
+//! The command line: the job that the words behind the program's name ask for.
+ghost use Rattle.std.specs.Prelude.{◌≡◌, IfNone, IfOk, IfSome, IsSomeAnd, false, map, string_bytes};
+ghost use Rattle.clap.specs.Words.{FailsBy, app_of, fault_of, subcommand_of, subcommand_rows_of};
+ghost use Rattle.clap.specs.declared.builder.command.Command.TheViews.{out-Command as fields_of};
+ghost use Rattle.sysmem_replay.specs.CommandLine.{AsksFor, AsksForNone, replay_app, run_app};
+
+use clap::error::ErrorKind;
+use clap::{Arg, ArgMatches, Command, Error};
+use std::alloc::{AllocError, Global};
+
+/// What a command line asks for, with the files that it names.
+#[derive(Clone, Copy, Debug, PartialEq, Eq)]
+pub enum Job<'a> {
+    /// Replay a script and print its report.
+    Run { file: &'a str },
+}
+
+/// Reads the words behind the program's name. It answers a request for help by an `Err` of the kind
+/// `DisplayHelp`, and want of memory by one of the kind `OutOfMemory`.
+pub fn read_words<'a>(alloc: Global, words: &'a [String]) -> Result<Job<'a>, Error>
+    ensures entries { IfOk result (λ job. IsSomeAnd (subcommand_of replay_app
+        (map string_bytes words.entry.now)) (λ entries. AsksFor entries job)) }
+    ensures kinds { FailsBy (fault_of replay_app (map string_bytes words.entry.now)) result }
+{
+    let mut command = replay_command(alloc)?;
+    let matches = command.try_get_matches_from_mut(words)?;
+    match job_in(&matches) {
+        Some(job) => Ok(job),
+        None => Err(command.error(ErrorKind::MissingSubcommand, "no job is asked for")?),
+    }
+}
+
+/// The job that the subcommand asks for, with its files.
+fn job_in<'a>(matches: &ArgMatches<'a>) -> Option<Job<'a>>
+    ensures some { IfSome result (λ job. IsSomeAnd (subcommand_rows_of matches.now)
+        (λ entries. AsksFor entries job)) }
+    ensures none { IfNone result (IfSome (subcommand_rows_of matches.now) AsksForNone) }
+{
+    let (name, entries) = matches.subcommand()?;
+    match name {
+        "run" => Some(Job::Run {
+            file: entries.get_str("FILE")?,
+        }),
+        _ => None,
+    }
+}
+
+/// The program's command line, with a subcommand for each job.
+fn replay_command<'a>(alloc: Global) -> Result<Command<'a>, AllocError>
+    ensures { IfOk result (λ c. app_of c ≡ replay_app) }
+{
+    let command = Command::new(alloc, "sysmem_replay")
+        .bin_name("sysmem_replay")?
+        .about("Negotiates shared buffers as Fuchsia's sysmem would, for the calls of a script")
+        .no_binary_name(true)
+        .disable_help_subcommand(true)
+        .subcommand_required(true);
+    let run = run_command(alloc)?;
+    command.subcommand(run)
+}
+
+fn run_command<'a>(alloc: Global) -> Result<Command<'a>, AllocError>
+    ensures app { IfOk result (λ c. app_of c ≡ run_app) }
+    ensures local { IfOk result (λ c. (fields_of c).has_globals ≡ false) }
+{
+    let file = Arg::new(alloc, "FILE").required(true).help(
+        "A JSON script, of at most 4194304 bytes: a platform, and the calls to replay on it",
+    );
+    let command = Command::new(alloc, "run").about(
+        "Replays a script, and prints a line for each call and each decision",
+    );
+    command.arg(file)
+}
+
+#[cfg(test)]
+mod tests;
