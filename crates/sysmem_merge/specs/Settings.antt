@@ -29,7 +29,7 @@ pub record CoversOn (platform : PlatformFacts) (s : Settled) (p : Participant) :
   pub has : slice_get platform.heaps s.place.heap ≡ Some heap
   pub covers : Covers heap s p
 
--- no image needs no name: an image's format, modifier and colour space each need a participant that names it
+-- no image needs no name; of an image the format, the modifier and the colour space each need some participant that names it
 abbrev pub IsNamed : Offer → List Participant → Type 0
 IsNamed NoImage ps = Unit {0}
 
@@ -45,7 +45,7 @@ pub record Meets (platform : PlatformFacts) (ps : List Participant) (s : Settled
   pub loosely : MeetsLoosely platform ps s
   pub named : IsNamed s.offer ps
 
--- whole: the participants are all that a decision has, so that the image has to be named by one of them
+-- whole: the participants are all that a decision has, so that each part of the image's name has to be named by some of them
 abbrev pub MeetsAs : Bool → PlatformFacts → List Participant → Settled → Type 0
 MeetsAs true = Meets
 MeetsAs false = MeetsLoosely

@@ -90,7 +90,8 @@ impl<'p> Aggregate<'p> {
 
     /// The best settings for the participants that were added: the first offer, the first place in it, the least
     /// count and the least size. Where no settings meet them, the first reason that is true of them. `whole` says
-    /// that they are all that a decision has, so that one of them must name the image.
+    /// that they are all that a decision has, so that an image's format, modifier and colour space must each be named
+    /// by some of them.
     pub fn best_settings(&self, whole: bool) -> Result<Settings, Reason>
         ensures best { (platform : PlatformFacts) (ps : List Participant) → StandsFor self.now platform ps
             → IfOk result (IsBest whole platform ps) }

@@ -8,7 +8,7 @@ use crate::platform::Platform;
 use crate::settings::Settings;
 use sysmem_memory::refuses;
 
-/// Whether the participant accepts the settings: no memory constraint of its own refuses their place, and their
+/// Whether the participant accepts the settings: nothing that it says of memory, nor its usage, refuses their place, and their
 /// size is from its least to its greatest. False where the platform has no heap of that index. How many buffers
 /// there are isn't one participant's to accept.
 pub fn meets_one(platform: &Platform, settings: &Settings, asked: &Constraints) -> bool

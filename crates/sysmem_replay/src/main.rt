@@ -12,7 +12,7 @@ mod node;
 mod platform;
 mod reply;
 mod report;
-mod run;
+pub mod run;
 mod runner;
 pub mod script;
 mod transfer;
@@ -22,7 +22,7 @@ mod words;
 pub use ending::{Ending, ending_of, refusal_ending};
 pub use fault::{RunFault, ScriptFault};
 pub use report::{Report, report_of};
-pub use run::{Ended, run};
+pub use run::Ended;
 pub use transfer::{LONGEST, read_up_to_limit, write_fully};
 pub use words::{Job, read_words};
 
