@@ -1,10 +1,9 @@
 -- What the bytes of a script give, from what their value gives and from what a reader gave.
-use Rattle.std.proofs.Common.{◌≡◌, ℕ, ◌<◌, ◌≤◌, List, [], ◌++◌, Option, Some, None, Result, Ok, Err, length, sym, ap, ◌∙◌, subst, length-append, append-nil, arith}
-use Rattle.std.specs.Io.KnownBytes.{Consumes, IsAtEnd}
+use Rattle.std.proofs.Common.{◌≡◌, ℕ, ◌≤◌, List, ◌++◌, Option, Some, None, Result, Ok, Err, length, sym, ap, ◌∙◌, subst, length-append, append-nil, arith}
 use Rattle.serde_json.specs.Data.{Data}
 use Rattle.sysmem_replay.specs.declared.fault.ScriptFault.{ScriptFault}
 use Rattle.sysmem_replay.specs.declared.fault.ScriptFault.TheVariants.{NotJson}
-use Rattle.sysmem_replay.specs.Text.{IsJson, IsValue, Outcome, longest, too_long, not_json, spelled}
+use Rattle.sysmem_replay.specs.Text.{IsValue, Outcome, longest, too_long, not_json, spelled}
 use Rattle.sysmem_replay.specs.Transfer.{ReadsScript}
 
 -- a script that is short enough was read whole
