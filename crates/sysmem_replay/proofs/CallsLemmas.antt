@@ -1,8 +1,8 @@
 -- The requests of some calls and of the calls after them.
-use Rattle.std.proofs.Common.{◌≡◌, ℕ, ◌+◌, ◌<◌, ◌≤◌, List, [], ◌∷◌, ◌++◌, Option, Some, None, ok_or, Result, Ok, Err, Bool, true, false, nat_le, if◌then◌else◌, length, get_or, drop, suc, map, refl, sym, ap, ◌∙◌, append_assoc, append-nil, add-one, drop-cons, arith}
+use Rattle.std.proofs.Common.{◌≡◌, ℕ, ◌+◌, ◌<◌, ◌≤◌, List, [], ◌∷◌, ◌++◌, Some, None, ok_or, Result, Ok, Err, true, false, nat_le, if◌then◌else◌, length, get_or, drop, suc, map, refl, sym, ap, ◌∙◌, append_assoc, append-nil, add-one, drop-cons, arith}
 use Rattle.std.proofs.lemmas.Bool.Decides.{nat_tests}
 use Rattle.std.proofs.lemmas.List.{drop_all, map-append}
-use Rattle.serde_json.specs.Data.{Data, Items, no_items, item}
+use Rattle.serde_json.specs.Data.{Data, Items, item}
 use Rattle.serde_json.specs.View.{view, items_view}
 use Rattle.serde_json.specs.declared.value.Value.{Value}
 use Rattle.sysmem_replay.specs.declared.fault.RunFault.{RunFault}
@@ -97,13 +97,13 @@ module _ (script platform : Data) (calls : List Value) (held : Platform)
   script-crowded many =
       script-parts
       ∙ ap (λ b. ok_or (if b then Some (items_view calls) else None) TooManyCalls >>= λ few. requests_of few >>= λ requests. Ok (record { platform = held; requests = requests }))
-        (let more : nat_le (items_len (items_view calls)) 4096 ≡ false = grind (arith, nat_tests, items_len-items_view calls) in more)
+      (let more : nat_le (items_len (items_view calls)) 4096 ≡ false = grind (arith, nat_tests, items_len-items_view calls) in more)
 
   script-calls : length calls ≤ 4096 → script_of script ≡ (requests_of (items_view calls) >>= λ requests. Ok (record { platform = held; requests = requests }))
   script-calls few =
       script-parts
       ∙ ap (λ b. ok_or (if b then Some (items_view calls) else None) TooManyCalls >>= λ few. requests_of few >>= λ requests. Ok (record { platform = held; requests = requests }))
-        (let more : nat_le (items_len (items_view calls)) 4096 ≡ true = grind (arith, nat_tests, items_len-items_view calls) in more)
+      (let more : nat_le (items_len (items_view calls)) 4096 ≡ true = grind (arith, nat_tests, items_len-items_view calls) in more)
 
   pub script-fault : length calls ≤ 4096 → (fault : ScriptFault) → requests_of (items_view calls) ≡ Err fault → script_of script ≡ Err fault
   script-fault few fault read =
