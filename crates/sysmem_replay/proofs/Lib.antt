@@ -1,4 +1,5 @@
 pub mod Adding
+pub mod AnswerLemmas
 pub mod Answering
 mod Asked
 pub mod CallsLemmas

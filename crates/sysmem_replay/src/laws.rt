@@ -1,6 +1,6 @@
 //! What is true of reports, whoever writes them.
 
-ghost use Rattle.sysmem_replay.specs.Laws.{OneReport};
+ghost use Rattle.sysmem_replay.specs.Laws.{OneAnswer, OneReport};
 
 use sysmem_merge::laws::one_best;
 
@@ -9,4 +9,11 @@ pub fn one_report()
     ensures { OneReport }
 {
     one_best();
+}
+
+/// The bytes of a script give one answer, where memory is not refused: a fault, or a report.
+pub fn one_answer()
+    ensures { OneAnswer }
+{
+    one_report();
 }
