@@ -97,13 +97,13 @@ module _ (script platform : Data) (calls : List Value) (held : Platform)
   script-crowded many =
       script-parts
       ∙ ap (λ b. ok_or (if b then Some (items_view calls) else None) TooManyCalls >>= λ few. requests_of few >>= λ requests. Ok (record { platform = held; requests = requests }))
-        (let more : nat_le (items_len (items_view calls)) 4096 ≡ false = grind (arith, nat_tests, items_len-items_view calls) in more)
+      (let more : nat_le (items_len (items_view calls)) 4096 ≡ false = grind (arith, nat_tests, items_len-items_view calls) in more)
 
   script-calls : length calls ≤ 4096 → script_of script ≡ (requests_of (items_view calls) >>= λ requests. Ok (record { platform = held; requests = requests }))
   script-calls few =
       script-parts
       ∙ ap (λ b. ok_or (if b then Some (items_view calls) else None) TooManyCalls >>= λ few. requests_of few >>= λ requests. Ok (record { platform = held; requests = requests }))
-        (let more : nat_le (items_len (items_view calls)) 4096 ≡ true = grind (arith, nat_tests, items_len-items_view calls) in more)
+      (let more : nat_le (items_len (items_view calls)) 4096 ≡ true = grind (arith, nat_tests, items_len-items_view calls) in more)
 
   pub script-fault : length calls ≤ 4096 → (fault : ScriptFault) → requests_of (items_view calls) ≡ Err fault → script_of script ≡ Err fault
   script-fault few fault read =

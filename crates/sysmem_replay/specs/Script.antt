@@ -80,9 +80,9 @@ is_part key = bytes_eq key (codes "platform") || bytes_eq key (codes "calls")
 -- the platform and the calls of a script, which has no further parts
 abbrev pub parts_of : Data → Option (Data × Items)
 parts_of script =
-  option_and_then (λ members. option_and_then (λ platform. option_and_then (λ calls.
+    option_and_then (λ members. option_and_then (λ platform. option_and_then (λ calls.
     if list_all is_part (keys_of members) then Some (platform, calls) else None)
-  (option_and_then as_array (get (codes "calls") script))) (get (codes "platform") script)) (as_object script)
+    (option_and_then as_array (get (codes "calls") script))) (get (codes "platform") script)) (as_object script)
 
 -- the calls of a script, which are 4,096 at most
 abbrev pub few_calls : Items → Option Items

@@ -14,15 +14,14 @@ mod names;
 mod shape;
 mod text;
 
-pub use call::{Act, Call};
-pub use calls::read_calls;
-pub use text::parse_script;
-
 use crate::fault::{RunFault, ScriptFault};
 use crate::platform::read_platform;
+pub use call::{Act, Call};
+pub use calls::read_calls;
 use serde_json::{Map, Value};
 use std::alloc::Global;
 use sysmem_merge::Platform;
+pub use text::parse_script;
 
 const MOST_CALLS: usize = 4096;
 
@@ -51,7 +50,11 @@ fn parts_of(script: &Value) -> Option<(&Value, &[Value])>
     let members = script.as_object()?;
     let platform = script.get("platform")?;
     let calls = script.get("calls")?.as_array()?;
-    if has_only_parts(members) { Some((platform, calls)) } else { None }
+    if has_only_parts(members) {
+        Some((platform, calls))
+    } else {
+        None
+    }
 }
 
 /// Reads the script that a value stands for, up to its first fault: its parts, the platform, the number of calls, then each call.

@@ -45,10 +45,19 @@ fn bytes_and_outermost_object(rt: HostRuntime) -> Result<(), Fail> {
         ("{\"platform\":{}}", "script refused: Q3"),
         ("{\"platform\":{},\"calls\":{}}", "script refused: Q3"),
         ("{\"platform\":7,\"calls\":7}", "script refused: Q3"),
-        ("{\"platform\":{},\"calls\":[],\"x\":1}", "script refused: Q3"),
-        ("{\"platform\":7,\"calls\":[7]}", "script refused: Q5 S3 whole"),
+        (
+            "{\"platform\":{},\"calls\":[],\"x\":1}",
+            "script refused: Q3",
+        ),
+        (
+            "{\"platform\":7,\"calls\":[7]}",
+            "script refused: Q5 S3 whole",
+        ),
         ("{\"platform\":7,\"calls\":[],\"platform\":{}}", "0 calls"),
-        ("{\"platform\":{},\"calls\":[7]}", "script refused: Q3 at call 1"),
+        (
+            "{\"platform\":{},\"calls\":[7]}",
+            "script refused: Q3 at call 1",
+        ),
     ] {
         let said = answer(rt.alloc(), text.as_bytes())?;
         assert_eq!(rt; said.as_str(), wanted, "{text}");
@@ -60,21 +69,57 @@ fn bytes_and_outermost_object(rt: HostRuntime) -> Result<(), Fail> {
 fn shapes_of_calls(rt: HostRuntime) -> Result<(), Fail> {
     for (calls, wanted) in [
         ("{\"call\":\"bind\",\"on\":\"root\"}", "1 calls"),
-        ("{\"call\":\"bind\",\"on\":\"root\",\"actor\":\"a\"}", "1 calls"),
-        ("{\"call\":\"bind\",\"on\":\"root\",\"actor\":null}", "script refused: Q3 at call 1"),
-        ("{\"call\":\"bind\",\"on\":\"root\",\"as\":\"b\"}", "script refused: Q3 at call 1"),
-        ("{\"call\":\"bind\",\"on\":\"root\",\"constraints\":null}", "script refused: Q3 at call 1"),
+        (
+            "{\"call\":\"bind\",\"on\":\"root\",\"actor\":\"a\"}",
+            "1 calls",
+        ),
+        (
+            "{\"call\":\"bind\",\"on\":\"root\",\"actor\":null}",
+            "script refused: Q3 at call 1",
+        ),
+        (
+            "{\"call\":\"bind\",\"on\":\"root\",\"as\":\"b\"}",
+            "script refused: Q3 at call 1",
+        ),
+        (
+            "{\"call\":\"bind\",\"on\":\"root\",\"constraints\":null}",
+            "script refused: Q3 at call 1",
+        ),
         ("{\"call\":\"bind\"}", "script refused: Q3 at call 1"),
         ("{\"on\":\"root\"}", "script refused: Q3 at call 1"),
-        ("{\"call\":\"bind\",\"on\":7}", "script refused: Q3 at call 1"),
-        ("{\"call\":\"blind\",\"on\":\"root\"}", "script refused: Q3 at call 1"),
-        ("{\"call\":\"blind\",\"call\":\"bind\",\"on\":\"root\"}", "1 calls"),
-        ("{\"call\":\"duplicate\",\"on\":\"root\"}", "script refused: Q3 at call 1"),
-        ("{\"call\":\"duplicate\",\"on\":\"root\",\"as\":7}", "script refused: Q3 at call 1"),
-        ("{\"call\":\"duplicate\",\"on\":\"root\",\"as\":\"b\"}", "1 calls"),
+        (
+            "{\"call\":\"bind\",\"on\":7}",
+            "script refused: Q3 at call 1",
+        ),
+        (
+            "{\"call\":\"blind\",\"on\":\"root\"}",
+            "script refused: Q3 at call 1",
+        ),
+        (
+            "{\"call\":\"blind\",\"call\":\"bind\",\"on\":\"root\"}",
+            "1 calls",
+        ),
+        (
+            "{\"call\":\"duplicate\",\"on\":\"root\"}",
+            "script refused: Q3 at call 1",
+        ),
+        (
+            "{\"call\":\"duplicate\",\"on\":\"root\",\"as\":7}",
+            "script refused: Q3 at call 1",
+        ),
+        (
+            "{\"call\":\"duplicate\",\"on\":\"root\",\"as\":\"b\"}",
+            "1 calls",
+        ),
         ("{\"call\":\"set_constraints\",\"on\":\"root\"}", "1 calls"),
-        ("{\"call\":\"set_constraints\",\"on\":\"root\",\"constraints\":7}", "1 calls"),
-        ("{\"call\":\"release\",\"on\":\"root\"},{\"call\":\"check\",\"on\":\"root\"},[]", "script refused: Q3 at call 3"),
+        (
+            "{\"call\":\"set_constraints\",\"on\":\"root\",\"constraints\":7}",
+            "1 calls",
+        ),
+        (
+            "{\"call\":\"release\",\"on\":\"root\"},{\"call\":\"check\",\"on\":\"root\"},[]",
+            "script refused: Q3 at call 3",
+        ),
     ] {
         let said = answer_calls(rt.alloc(), calls)?;
         assert_eq!(rt; said.as_str(), wanted, "{calls}");
@@ -85,17 +130,50 @@ fn shapes_of_calls(rt: HostRuntime) -> Result<(), Fail> {
 #[test]
 fn names_of_calls(rt: HostRuntime) -> Result<(), Fail> {
     for (calls, wanted) in [
-        ("{\"call\":\"bind\",\"on\":\"a\"}", "script refused: Q4 at call 1"),
-        ("{\"call\":\"duplicate\",\"on\":\"root\",\"as\":\"root\"}", "script refused: Q4 at call 1"),
-        ("{\"call\":\"duplicate\",\"on\":\"root\",\"as\":\"a\"},{\"call\":\"duplicate\",\"on\":\"a\",\"as\":\"a\"}", "script refused: Q4 at call 2"),
-        ("{\"call\":\"duplicate\",\"on\":\"a\",\"as\":\"a\"}", "script refused: Q4 at call 1"),
-        ("{\"call\":\"duplicate\",\"on\":\"root\",\"as\":\"\"}", "script refused: Q4 at call 1"),
-        ("{\"call\":\"duplicate\",\"on\":\"root\",\"as\":\"a b\"}", "script refused: Q4 at call 1"),
-        ("{\"call\":\"duplicate\",\"on\":\"root\",\"as\":\"\\u00e9\"}", "script refused: Q4 at call 1"),
-        ("{\"call\":\"duplicate\",\"on\":\"root\",\"as\":\"aZ09_-aZ09_-aZ09_-aZ09_-aZ09_-32\"}", "1 calls"),
-        ("{\"call\":\"duplicate\",\"on\":\"root\",\"as\":\"aZ09_-aZ09_-aZ09_-aZ09_-aZ09_-33_\"}", "script refused: Q4 at call 1"),
-        ("{\"call\":\"bind\",\"on\":\"root\",\"actor\":\"\"}", "script refused: Q4 at call 1"),
-        ("{\"call\":\"bind\",\"on\":\"a\",\"actor\":7}", "script refused: Q3 at call 1"),
+        (
+            "{\"call\":\"bind\",\"on\":\"a\"}",
+            "script refused: Q4 at call 1",
+        ),
+        (
+            "{\"call\":\"duplicate\",\"on\":\"root\",\"as\":\"root\"}",
+            "script refused: Q4 at call 1",
+        ),
+        (
+            "{\"call\":\"duplicate\",\"on\":\"root\",\"as\":\"a\"},{\"call\":\"duplicate\",\"on\":\"a\",\"as\":\"a\"}",
+            "script refused: Q4 at call 2",
+        ),
+        (
+            "{\"call\":\"duplicate\",\"on\":\"a\",\"as\":\"a\"}",
+            "script refused: Q4 at call 1",
+        ),
+        (
+            "{\"call\":\"duplicate\",\"on\":\"root\",\"as\":\"\"}",
+            "script refused: Q4 at call 1",
+        ),
+        (
+            "{\"call\":\"duplicate\",\"on\":\"root\",\"as\":\"a b\"}",
+            "script refused: Q4 at call 1",
+        ),
+        (
+            "{\"call\":\"duplicate\",\"on\":\"root\",\"as\":\"\\u00e9\"}",
+            "script refused: Q4 at call 1",
+        ),
+        (
+            "{\"call\":\"duplicate\",\"on\":\"root\",\"as\":\"aZ09_-aZ09_-aZ09_-aZ09_-aZ09_-32\"}",
+            "1 calls",
+        ),
+        (
+            "{\"call\":\"duplicate\",\"on\":\"root\",\"as\":\"aZ09_-aZ09_-aZ09_-aZ09_-aZ09_-33_\"}",
+            "script refused: Q4 at call 1",
+        ),
+        (
+            "{\"call\":\"bind\",\"on\":\"root\",\"actor\":\"\"}",
+            "script refused: Q4 at call 1",
+        ),
+        (
+            "{\"call\":\"bind\",\"on\":\"a\",\"actor\":7}",
+            "script refused: Q3 at call 1",
+        ),
     ] {
         let said = answer_calls(rt.alloc(), calls)?;
         assert_eq!(rt; said.as_str(), wanted, "{calls}");
@@ -113,15 +191,32 @@ fn numbers_of_calls_and_actors(rt: HostRuntime) -> Result<(), Fail> {
     }
     let mut calls = String::new(rt.alloc());
     for actor in 1..=16 {
-        let one = format!(in rt.alloc(); "{{\"call\":\"check\",\"on\":\"root\",\"actor\":\"a{actor}\"}},")?;
+        let one = format!(in rt.alloc();
+            "{{\"call\":\"check\",\"on\":\"root\",\"actor\":\"a{actor}\"}},"
+        )?;
         calls.push_str(one.as_str())?;
     }
     for (last, wanted) in [
-        ("{\"call\":\"check\",\"on\":\"root\",\"actor\":\"a1\"}", "17 calls"),
-        ("{\"call\":\"check\",\"on\":\"root\",\"actor\":\"a17\"}", "script refused: Q6 at call 17"),
-        ("{\"call\":\"check\",\"on\":\"root\"}", "script refused: Q6 at call 17"),
-        ("{\"call\":\"check\",\"on\":\"a\",\"actor\":\"a17\"}", "script refused: Q4 at call 17"),
-        ("{\"call\":\"check\",\"on\":\"a\",\"actor\":\"a17\",\"as\":\"b\"}", "script refused: Q3 at call 17"),
+        (
+            "{\"call\":\"check\",\"on\":\"root\",\"actor\":\"a1\"}",
+            "17 calls",
+        ),
+        (
+            "{\"call\":\"check\",\"on\":\"root\",\"actor\":\"a17\"}",
+            "script refused: Q6 at call 17",
+        ),
+        (
+            "{\"call\":\"check\",\"on\":\"root\"}",
+            "script refused: Q6 at call 17",
+        ),
+        (
+            "{\"call\":\"check\",\"on\":\"a\",\"actor\":\"a17\"}",
+            "script refused: Q4 at call 17",
+        ),
+        (
+            "{\"call\":\"check\",\"on\":\"a\",\"actor\":\"a17\",\"as\":\"b\"}",
+            "script refused: Q3 at call 17",
+        ),
     ] {
         let all = format!(in rt.alloc(); "{}{last}", calls.as_str())?;
         let said = answer_calls(rt.alloc(), all.as_str())?;
@@ -148,7 +243,8 @@ fn too_long_by_one_byte(rt: HostRuntime) -> Result<(), Fail> {
 
 #[test]
 fn places_of_names(rt: HostRuntime) -> Result<(), Fail> {
-    let text = "[{\"call\":\"duplicate\",\"on\":\"root\",\"as\":\"a\"},{\"call\":\"duplicate\",\"on\":\"a\",\"as\":\"b\"},{\"call\":\"bind\",\"on\":\"b\"},{\"call\":\"set_constraints\",\"on\":\"b\",\"constraints\":null}]";
+    let text =
+        "[{\"call\":\"duplicate\",\"on\":\"root\",\"as\":\"a\"},{\"call\":\"duplicate\",\"on\":\"a\",\"as\":\"b\"},{\"call\":\"bind\",\"on\":\"b\"},{\"call\":\"set_constraints\",\"on\":\"b\",\"constraints\":null}]";
     let value = Value::from_str(rt.alloc(), text)?;
     let values = value.as_array().ok_or("no list")?;
     let calls = read_calls(rt.alloc(), values)?;

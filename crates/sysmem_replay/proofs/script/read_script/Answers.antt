@@ -15,8 +15,8 @@ pub returns-in_err-calls : goal.returns-in_err-calls
 returns-in_err-calls c =
     let p = err_from_is_err_and c.from_residual-in_err-calls.result c.from_residual-in_err-calls.ensures.1 in
     rw (p.1, p.2) (fault_given {X = Vec Call Global} {Y = Script} (λ calls. map seen calls.items) script_seen _ _ _
-      (script-fault (view c.args.script.now) _ c.in-Some.calls.now _ (sym c.in-Some.ensures) c.in_ok-platform.ensures c.if-calls-gt-MOST_CALLS.false)
-      c.in_err-calls.ensures)
+    (script-fault (view c.args.script.now) _ c.in-Some.calls.now _ (sym c.in-Some.ensures) c.in_ok-platform.ensures c.if-calls-gt-MOST_CALLS.false)
+    c.in_err-calls.ensures)
 
 pub returns : goal.returns
 returns c =

@@ -14,6 +14,6 @@ returns-in-Ok c =
 pub returns-else-is_memory : goal.returns-else-is_memory
 returns-else-is_memory c =
     not_json c.if-bytes-gt-LONGEST.false
-      (λ value json.
-        let none = c.in-Err.ensures.err (λ memory. true≢false (sym (c.is_memory.ensures.1 memory) ∙ c.if-is_memory.false)) json.text in
-        cc (none, json.spelled))
+    (λ value json.
+    let none = c.in-Err.ensures.err (λ memory. true≢false (sym (c.is_memory.ensures.1 memory) ∙ c.if-is_memory.false)) json.text in
+    cc (none, json.spelled))
