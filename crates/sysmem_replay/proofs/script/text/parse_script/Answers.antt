@@ -1,4 +1,4 @@
-use Rattle.std.proofs.Common.{◌≡◌, true, false, Some, None, sym, ◌∙◌, refl, true≢false}
+use Rattle.std.proofs.Common.{sym, ◌∙◌, refl, true≢false}
 use Rattle.serde_json.specs.View.{view}
 use Rattle.sysmem_replay.specs.Text.{too_long, not_json, spelled}
 use Rattle.sysmem_replay.proofs.script.text.parse_script.Goals as goal
