@@ -4,6 +4,7 @@ pub mod CallsLemmas
 pub mod Entering
 pub mod KnownBytes
 pub mod Members
+pub mod OutcomeLemmas
 pub mod Running
 pub mod Steps
 pub mod Texts

@@ -1,5 +1,5 @@
 -- A search among references to texts is a search among the texts.
-use Rattle.std.proofs.Common.{◌≡◌, ℕ, ◌+◌, ◌∷◌, ◌++◌, [], List, Bool, true, false, ◌||◌, ◌&&◌, not, cond, map, length, position, Option, Some, None, ap, refl, ◌∙◌, sym, nat_le, nat_lt, bytes_eq, if◌then◌else◌}
+use Rattle.std.proofs.Common.{◌≡◌, ℕ, ◌+◌, ◌∷◌, ◌++◌, [], List, Bool, true, false, ◌||◌, not, cond, length, position, Some, None, ap, refl, ◌∙◌, sym, nat_le, nat_lt, bytes_eq, if◌then◌else◌}
 use Rattle.std.proofs.lemmas.List.{length-map}
 use Rattle.std.specs.List.{list_any, position_or_len}
 use Rattle.std.specs.Borrow.{Bor}
