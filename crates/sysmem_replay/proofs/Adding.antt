@@ -8,7 +8,7 @@ use Rattle.sysmem_replay.specs.declared.node.Node.{Node}
 use Rattle.sysmem_replay.specs.State.{constraints_at}
 
 pub filter_map-take_more : (nodes : List Node) (i : ℕ) (node : Node) → i < length nodes → node ≡ get_or nodes i node
-  → filter_map constraints_at (take (i + 1) nodes) ≡ filter_map constraints_at (take i nodes) ++ filter_map constraints_at (node ∷ [])
+    → filter_map constraints_at (take (i + 1) nodes) ≡ filter_map constraints_at (take i nodes) ++ filter_map constraints_at (node ∷ [])
 filter_map-take_more nodes i node within e =
     ap (λ (l : List Node). filter_map constraints_at l) (take_more nodes i node within)
     ∙ (filter_map-append constraints_at (take i nodes) (get_or nodes i node ∷ [])

@@ -32,16 +32,16 @@ is_refused (Ok s) refusal e = absurd (cc)
 is_refused (Err other) refusal e = cc
 
 pub refused_as : (s t : State) (r : Request) (k : ℕ) (action : Action) (refusal : Refusal) → node_named s r ≡ Some k → Asks r.deed action
-  → Some refusal ≡ result_err (applied s k action) → t ≡ unmade s r.deed → Answers s r (Refused refusal) t
+    → Some refusal ≡ result_err (applied s k action) → t ≡ unmade s r.deed → Answers s r (Refused refusal) t
 refused_as s t r k action refusal here asks why e = rw e (refuses k action refusal here asks (is_refused (applied s k action) refusal why))
 
 pub accepted_as : (s mid t : State) (r : Request) (k made : ℕ) (action : Action) → node_named s r ≡ Some k → Asks r.deed action
-  → applied s k action ≡ Ok mid → made ≡ length s.nodes → t ≡ record mid { names = mid.names ++ named r.deed (Some made) }
-  → Answers s r Accepted t
+    → applied s k action ≡ Ok mid → made ≡ length s.nodes → t ≡ record mid { names = mid.names ++ named r.deed (Some made) }
+    → Answers s r Accepted t
 accepted_as s mid t r k made action here asks made_it many e = rw (e, many) (accepts k action mid here asks made_it)
 
 pub asks_set : (deed : Deed) (d : Data) (asked : Participant) → deed ≡ states (Some d) → participant_of d ≡ Ok asked
-  → Asks deed (SetConstraints (Some asked))
+    → Asks deed (SetConstraints (Some asked))
 asks_set deed d asked e read = rw e (to_set d asked read)
 
 or_true : (b : Bool) → (b || true) ≡ true
@@ -53,8 +53,8 @@ or_false true = refl
 or_false false = refl
 
 by_code : (s t : State) (r : Request) (k : ℕ) (d : Data) (fault : Fault) (code : Code) → node_named s r ≡ Some k → r.deed ≡ states (Some d)
-  → ((fault ≡ want_of_memory → ⊥) → participant_of d ≡ Err fault) → fault.code ≡ code → t ≡ record s { starved = s.starved || starves fault.code }
-  → Answers s r (Misread fault) t
+    → ((fault ≡ want_of_memory → ⊥) → participant_of d ≡ Err fault) → fault.code ≡ code → t ≡ record s { starved = s.starved || starves fault.code }
+    → Answers s r (Misread fault) t
 by_code s t r k d fault WantOfMemory here deed said g e =
     let all : (s.starved || starves fault.code) ≡ true = rw g (or_true s.starved) in
     rw (e, all) (starved_by k d fault here deed g)
@@ -64,14 +64,14 @@ by_code s t r k d fault WrongKind here deed said g e =
 
 -- a fault for want of memory starves, and every other one is what is wrong with the record
 pub misread_as : (s t : State) (r : Request) (k : ℕ) (d : Data) (fault : Fault) → node_named s r ≡ Some k → r.deed ≡ states (Some d)
-  → ((fault ≡ want_of_memory → ⊥) → participant_of d ≡ Err fault) → t ≡ record s { starved = s.starved || starves fault.code }
-  → Answers s r (Misread fault) t
+    → ((fault ≡ want_of_memory → ⊥) → participant_of d ≡ Err fault) → t ≡ record s { starved = s.starved || starves fault.code }
+    → Answers s r (Misread fault) t
 misread_as s t r k d fault here deed said e = by_code s t r k d fault fault.code here deed said refl e
 
 -- a decision of a domain that is due settles it
 pub settled_as : (platform : PlatformFacts) (s t : State) (before after : List ℕ) (verdict : Verdict) → is_due s ≡ true
-  → Decides platform (participants_of s) verdict → t ≡ record s { verdict = Some verdict; starved = s.starved || is_no_memory verdict }
-  → after ≡ before ++ verdict_line platform verdict → SettlesIn platform s t before after
+    → Decides platform (participants_of s) verdict → t ≡ record s { verdict = Some verdict; starved = s.starved || is_no_memory verdict }
+    → after ≡ before ++ verdict_line platform verdict → SettlesIn platform s t before after
 settled_as platform s t before after verdict due decision e put = record {
   line = verdict_line platform verdict;
   settles = rw e (decides verdict due decision);
@@ -80,8 +80,8 @@ settled_as platform s t before after verdict due decision e put = record {
 
 -- a reply and what follows it are a step
 pub takes_as : (platform : PlatformFacts) (number : ℕ) (s : State) (r : Request) (mid t : State) (before between after : List ℕ) (reply : Reply)
-  → Answers s r reply mid → between ≡ before ++ call_line number r reply → SettlesIn platform mid t between after
-  → Takes platform number s r t before after
+    → Answers s r reply mid → between ≡ before ++ call_line number r reply → SettlesIn platform mid t between after
+    → Takes platform number s r t before after
 takes_as platform number s r mid t before between after reply answered e settled = record {
   lines = call_line number r reply ++ settled.line;
   step = takes reply mid t settled.line answered settled.settles;

@@ -24,20 +24,20 @@ whole-read : (input rest bytes : List ℕ) → input ≡ bytes ++ rest → (leng
 whole-read input rest bytes e all short = e ∙ (ap (λ (t : List ℕ). bytes ++ t) (all short) ∙ append-nil bytes)
 
 runs-read : (input rest bytes : List ℕ) (said : Result Reported ScriptFault) → input ≡ bytes ++ rest → (length bytes ≤ longest → rest ≡ [])
-  → RunsTo bytes said → RunsTo input said
+    → RunsTo bytes said → RunsTo input said
 runs-read input rest bytes _ e all (too_long long) = rw e (too_long (omega (arith, length-append bytes rest)))
 runs-read input rest bytes _ e all (not_json short none) = rw (whole-read input rest bytes e all short) (not_json short none)
 runs-read input rest bytes _ e all (spelled value short json answer said) = rw (whole-read input rest bytes e all short) (spelled value short json answer said)
 
 -- what holds of the bytes that were read holds of the input
 pub runs-input : (old new : Option (List ℕ)) (bytes : List ℕ) (said : Result Reported ScriptFault) → ReadsScript old new bytes → RunsTo bytes said
-  → IfSome old (λ input. RunsTo input said)
+    → IfSome old (λ input. RunsTo input said)
 runs-input None new bytes said read runs = tt
 runs-input (Some input) None bytes said read runs = absurd read.taken
 runs-input (Some input) (Some rest) bytes said read runs = runs-read input rest bytes said read.taken read.all runs
 
 pub writes-input : (old new before after : Option (List ℕ)) (bytes text : List ℕ) (starved : Bool) → ReadsScript old new bytes
-  → RunsTo bytes (Ok (record { text = text; starved = starved })) → Appends before after text → IfSome old (λ input. Writes input starved before after)
+    → RunsTo bytes (Ok (record { text = text; starved = starved })) → Appends before after text → IfSome old (λ input. Writes input starved before after)
 writes-input None new before after bytes text starved read runs written = tt
 writes-input (Some input) new before after bytes text starved read runs written = record {
   text = text;
@@ -46,7 +46,7 @@ writes-input (Some input) new before after bytes text starved read runs written 
 }
 
 pub part-input : (old new before after : Option (List ℕ)) (bytes : List ℕ) (report : Reported) → ReadsScript old new bytes
-  → RunsTo bytes (Ok report) → WritesFront before after report.text → IfSome old (λ input. WritesPart input before after)
+    → RunsTo bytes (Ok report) → WritesFront before after report.text → IfSome old (λ input. WritesPart input before after)
 part-input None new before after bytes report read runs front = tt
 part-input (Some input) new before after bytes report read runs front = record {
   report = report;
@@ -75,7 +75,7 @@ spells bytes d _ answer e (spelled value short json _ is) said =
 
 -- bytes that spell a value
 pub runs-value : (bytes : List ℕ) (d : Data) (result : Result Held RunFault) → Outcome IsValue bytes (Ok d)
-  → Answers report_seen result (IsReported d) → Answers report_seen result (RunsTo bytes)
+    → Answers report_seen result (IsReported d) → Answers report_seen result (RunsTo bytes)
 runs-value bytes d (Ok report) spelled_by said = spells bytes d (Ok d) (Ok (report_seen report)) refl spelled_by said
 runs-value bytes d (Err Read) spelled_by said = said
 runs-value bytes d (Err Write) spelled_by said = said
@@ -91,7 +91,17 @@ value-fault d (script_fault fault) said = refused fault said
 
 -- the report of a script is one of its value
 pub script-report : (d : Data) (script : HeldScript) (result : Result Held RunFault) → script_of d ≡ Ok (script_seen script)
-  → IfOk result (λ report. Report (script_seen script).platform 1 first_state (script_seen script).requests (string_bytes report.text) report.starved)
-  → IfErr result (λ fault. fault ≡ NoMemory) → Answers report_seen result (IsReported d)
+    → IfOk result (λ report. Report (script_seen script).platform 1 first_state (script_seen script).requests (string_bytes report.text) report.starved)
+    → IfErr result (λ fault. fault ≡ NoMemory) → Answers report_seen result (IsReported d)
 script-report d script (Ok report) read said none = reported (script_seen script) (report_seen report) read said
 script-report d script (Err fault) read said none = rw none tt
+
+-- a script that is refused
+pub refused-input : (old new : Option (List ℕ)) (bytes : List ℕ) (found : RunFault) (fault : ScriptFault) → ReadsScript old new bytes
+    → Answers {X = Held} {A = Reported} report_seen (Err found) (RunsTo bytes) → found ≡ script_fault fault → IfSome old (λ input. RunsTo input (Err fault))
+refused-input old new bytes Read fault read said e = absurd said
+refused-input old new bytes Write fault read said e = absurd said
+refused-input old new bytes NoMemory fault read said e = absurd (cc)
+refused-input old new bytes (script_fault other) fault read said e =
+    let same : other ≡ fault = (cc) in
+    runs-input old new bytes (Err fault) read (rw (← same) said)

@@ -15,23 +15,23 @@ Reaches platform rs place s text = (rest : List ℕ) (starved : Bool) → Report
     → Report platform 1 first_state rs (text ++ rest) starved
 
 pub reaches-take : (platform : PlatformFacts) (rs : List Request) (place : ℕ) (s t : State) (r : Request) (before after : List ℕ)
-  → drop place rs ≡ r ∷ drop (place + 1) rs → Takes platform (place + 1) s r t before after
-  → Reaches platform rs place s before → Reaches platform rs (place + 1) t after
+    → drop place rs ≡ r ∷ drop (place + 1) rs → Takes platform (place + 1) s r t before after
+    → Reaches platform rs place s before → Reaches platform rs (place + 1) t after
 reaches-take platform rs place s t r before after here takes reached rest starved report =
     let whole = reached (takes.lines ++ rest) starved (rw here (continued (place + 1) s t r (drop (place + 1) rs) takes.lines rest starved takes.step report)) in
     rw (takes.put, append_assoc) whole
 
 -- the call at a place, and the calls behind it
 pub drop-seen : (calls : List Call) (place : ℕ) (call : Call) → place < length calls → call ≡ get_or calls place call
-  → drop place (map seen calls) ≡ seen call ∷ drop (place + 1) (map seen calls)
+    → drop place (map seen calls) ≡ seen call ∷ drop (place + 1) (map seen calls)
 drop-seen calls place call within e =
     drop-map seen place calls ∙ (at_drop_more (λ (l : List Call). map seen l) calls place call within
     ∙ (ap (λ (c : Call). seen c ∷ map seen (drop (place + 1) calls)) (sym e) ∙ ap (λ (l : List Request). seen call ∷ l) (sym (drop-map seen (place + 1) calls))))
 
 -- behind all calls the report ends
 pub reaches-end : (platform : PlatformFacts) (calls : List Call) (place : ℕ) (s : State) (before after : List ℕ) → length calls ≤ place
-  → Reaches platform (map seen calls) place s before → after ≡ before ++ pending_lines s.verdict
-  → Report platform 1 first_state (map seen calls) after s.starved
+    → Reaches platform (map seen calls) place s before → after ≡ before ++ pending_lines s.verdict
+    → Report platform 1 first_state (map seen calls) after s.starved
 reaches-end platform calls place s before after all reached e =
     let none : drop place (map seen calls) ≡ [] = at_drop_all (λ (l : List Request). l) (map seen calls) place (rw length-map all) in
     rw e (reached (pending_lines s.verdict) s.starved (rw none (ended (place + 1) s)))

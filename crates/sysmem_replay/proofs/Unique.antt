@@ -87,7 +87,7 @@ is_answer s r _ _ (answers k here deed) e = rw (here, deed) refl
 
 -- a decision has one verdict, where memory is not refused
 one_verdict : (platform : PlatformFacts) (ps : List Participant) (v w : Verdict) → OneBestOn platform
-  → Decides platform ps v → Decides platform ps w → is_no_memory v ≡ false → is_no_memory w ≡ false → v ≡ w
+    → Decides platform ps v → Decides platform ps w → is_no_memory v ≡ false → is_no_memory w ≡ false → v ≡ w
 one_verdict platform ps _ _ best (chooses a x) (chooses b y) e f = ap Chosen (best ps a b x y)
 one_verdict platform ps _ _ best (chooses a x) (none_meet y) e f = absurd (y a x.meets)
 one_verdict platform ps _ _ best (none_meet x) (chooses b y) e f = absurd (x b y.meets)
@@ -102,7 +102,7 @@ decided s v = record s { verdict = Some v; starved = s.starved || is_no_memory v
 
 -- what follows a reply is one, where memory is not refused
 one_settling : (platform : PlatformFacts) (s t u : State) (a b : List ℕ) → OneBestOn platform
-  → Settles platform s t a → Settles platform s u b → t.starved ≡ false → u.starved ≡ false → (t ≡ u) × (a ≡ b)
+    → Settles platform s t a → Settles platform s u b → t.starved ≡ false → u.starved ≡ false → (t ≡ u) × (a ≡ b)
 one_settling platform s _ _ _ _ best (waits idle) (waits _) e f = (refl, refl)
 one_settling platform s _ _ _ _ best (waits idle) (decides w ready y) e f = absurd_true (sym ready ∙ idle)
 one_settling platform s _ _ _ _ best (decides v ready x) (waits idle) e f = absurd_true (sym ready ∙ idle)
@@ -119,7 +119,7 @@ joined : (a b c d : List ℕ) → a ≡ b → c ≡ d → a ++ c ≡ b ++ d
 joined a b c d e f = cc
 
 one_step : (platform : PlatformFacts) (number : ℕ) (s t u : State) (r : Request) (a b : List ℕ) → OneBestOn platform
-  → Step platform number s r t a → Step platform number s r u b → t.starved ≡ false → u.starved ≡ false → (t ≡ u) × (a ≡ b)
+    → Step platform number s r t a → Step platform number s r u b → t.starved ≡ false → u.starved ≡ false → (t ≡ u) × (a ≡ b)
 one_step platform number s t u r _ _ best (takes reply mid _ line answered settled) (takes reply' mid' _ line' answered' settled') e f =
     let first : (reply, mid) ≡ answer_for s r (node_named s r) = is_answer s r reply mid answered (unstarved_before platform mid t line settled e) in
     let second : (reply', mid') ≡ answer_for s r (node_named s r) = is_answer s r reply' mid' answered' (unstarved_before platform mid' u line' settled' f) in
@@ -134,12 +134,12 @@ starved_in s (Ok t) = t.starved
 starved_in s (Err refusal) = s.starved
 
 kept_by : (s after : State) (k : ℕ) (action : Action) (barred : Bool) (node : Option Node) (room : Bool)
-  → is_barred s.verdict action ≡ barred → option_and_then (changed action) (slice_get s.nodes k) ≡ node → has_room s.nodes action ≡ room
-  → applied s k action ≡ Ok after → after.starved ≡ s.starved
-kept_by s after k action true node room b n h e = let f = rw b at e in absurd (cc)
+    → is_barred s.verdict action ≡ barred → option_and_then (changed action) (slice_get s.nodes k) ≡ node → has_room s.nodes action ≡ room
+    → applied s k action ≡ Ok after → after.starved ≡ s.starved
+kept_by s after k action true found room b n h e = let f = rw b at e in absurd (cc)
 kept_by s after k action false None room b n h e = let f = rw (b, n) at e in absurd (cc)
-kept_by s after k action false (Some node) false b n h e = let f = rw (b, n, h) at e in absurd (cc)
-kept_by s after k action false (Some node) true b n h e = let f = rw (b, n, h) at e in sym (ap (λ (x : Result State Refusal). starved_in s x) f)
+kept_by s after k action false (Some found) false b n h e = let f = rw (b, n, h) at e in absurd (cc)
+kept_by s after k action false (Some found) true b n h e = let f = rw (b, n, h) at e in sym (ap (λ (x : Result State Refusal). starved_in s x) f)
 
 -- an accepted action starves nothing
 kept_starved : (s after : State) (k : ℕ) (action : Action) → applied s k action ≡ Ok after → after.starved ≡ s.starved
@@ -163,18 +163,18 @@ step_starves platform number s _ r _ (takes reply mid t line answered settled) e
     settling_starves platform mid t line settled (answer_starves s mid r reply answered e)
 
 pub report_starves : (platform : PlatformFacts) (number : ℕ) (s : State) (rs : List Request) (a : List ℕ) (starved : Bool)
-  → Report platform number s rs a starved → s.starved ≡ true → starved ≡ true
+    → Report platform number s rs a starved → s.starved ≡ true → starved ≡ true
 report_starves platform _ _ _ _ _ (ended number s) e = e
 report_starves platform _ _ _ _ _ (continued number s t r rs text rest starved step report) e =
     report_starves platform (number + 1) t rs rest starved report (step_starves platform number s t r text step e)
 
 same_report : (platform : PlatformFacts) (number : ℕ) (s : State) (rs : List Request) (a b : List ℕ) (x y : Bool) → OneBestOn platform
-  → Report platform number s rs a x → Report platform number s rs b y → x ≡ false → y ≡ false → a ≡ b
+    → Report platform number s rs a x → Report platform number s rs b y → x ≡ false → y ≡ false → a ≡ b
 same_report platform _ _ _ _ _ _ _ best (ended number s) (ended _ _) e f = refl
 same_report platform _ _ _ _ _ _ _ best (continued number s t r rs text rest x step report) (continued _ _ u _ _ line others y step' report') e f =
     let same : (t ≡ u) × (text ≡ line) = one_step platform number s t u r text line best step step'
-          (not_true t.starved x (report_starves platform (number + 1) t rs rest x report) e)
-          (not_true u.starved y (report_starves platform (number + 1) u rs others y report') f) in
+    (not_true t.starved x (report_starves platform (number + 1) t rs rest x report) e)
+    (not_true u.starved y (report_starves platform (number + 1) u rs others y report') f) in
     let there : Report platform (number + 1) t rs others y = subst (λ (v : State). Report platform (number + 1) v rs others y) (sym same.0) report' in
     joined text line rest others same.1 (same_report platform (number + 1) t rs rest others x y best report there e f)
 

@@ -60,8 +60,8 @@ offer_text NoImage = codes "none"
 -- `count 2 size 4096 place ram#0 cpu image none`
 abbrev pub settings_text : PlatformFacts → Settled → List ℕ
 settings_text platform s = (codes "count " ++ decimal s.count ++ codes " size " ++ decimal s.size_bytes ++ codes " place ")
-  ++ heap_text (slice_get platform.heaps s.place.heap)
-  ++ (codes " " ++ domain_name s.place.coherency ++ codes " image " ++ offer_text s.offer)
+    ++ heap_text (slice_get platform.heaps s.place.heap)
+    ++ (codes " " ++ domain_name s.place.coherency ++ codes " image " ++ offer_text s.offer)
 
 -- the line of the domain of the root token, which has no groups to select from
 abbrev pub verdict_line : PlatformFacts → Verdict → List ℕ

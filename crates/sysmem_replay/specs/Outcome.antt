@@ -24,7 +24,7 @@ report_seen report = record { text = string_bytes report.text; starved = report.
 pub data IsReported (value : Data) : Result Reported ScriptFault → Type 0 where
   refused : (fault : ScriptFault) → script_of value ≡ Err fault → IsReported value (Err fault)
   reported : (script : Script) (report : Reported) → script_of value ≡ Ok script
-    → Report script.platform 1 first_state script.requests report.text report.starved → IsReported value (Ok report)
+      → Report script.platform 1 first_state script.requests report.text report.starved → IsReported value (Ok report)
 
 -- what the bytes of a script give: a fault of theirs, or what their value gives
 abbrev pub RunsTo : List ℕ → Result Reported ScriptFault → Type 0

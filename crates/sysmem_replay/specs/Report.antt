@@ -33,8 +33,8 @@ pub data Asks : Deed → Action → Type 0 where
 
 -- the name that a deed gives to a node, or to none
 abbrev pub named : Deed → Option ℕ → List (Option ℕ)
-named (duplicates name) node = node ∷ []
-named _ node = []
+named (duplicates name) made = made ∷ []
+named _ made = []
 
 -- the name of a node that was not made stands for none
 abbrev pub unmade : State → Deed → State
@@ -64,15 +64,15 @@ node_named s r = unwrap_or (slice_get s.names r.place) None
 pub data Answers (s : State) (r : Request) : Reply → State → Type 0 where
   skips : node_named s r ≡ None → Answers s r Skipped (unmade s r.deed)
   misreads : (k : ℕ) (d : Data) (fault : Fault) → node_named s r ≡ Some k
-    → r.deed ≡ states (Some d) → participant_of d ≡ Err fault → Answers s r (Misread fault) s
+      → r.deed ≡ states (Some d) → participant_of d ≡ Err fault → Answers s r (Misread fault) s
   starves : (k : ℕ) (d : Data) (fault : Fault) → node_named s r ≡ Some k
-    → r.deed ≡ states (Some d) → fault.code ≡ WantOfMemory → Answers s r (Misread fault) (record s { starved = true })
+      → r.deed ≡ states (Some d) → fault.code ≡ WantOfMemory → Answers s r (Misread fault) (record s { starved = true })
   refuses : (k : ℕ) (action : Action) (refusal : Refusal) → node_named s r ≡ Some k
-    → Asks r.deed action → applied s k action ≡ Err refusal → Answers s r (Refused refusal) (unmade s r.deed)
+      → Asks r.deed action → applied s k action ≡ Err refusal → Answers s r (Refused refusal) (unmade s r.deed)
   accepts : (k : ℕ) (action : Action) (after : State) → node_named s r ≡ Some k
-    → Asks r.deed action → applied s k action ≡ Ok after → Answers s r Accepted (with_name s r.deed after)
+      → Asks r.deed action → applied s k action ≡ Ok after → Answers s r Accepted (with_name s r.deed after)
   answers : (k : ℕ) → node_named s r ≡ Some k
-    → r.deed ≡ checks → Answers s r (checked (slice_get s.nodes k) s.verdict) s
+      → r.deed ≡ checks → Answers s r (checked (slice_get s.nodes k) s.verdict) s
 
 -- the verdict for want of memory
 abbrev pub is_no_memory : Verdict → Bool
@@ -89,19 +89,19 @@ pub data Decides (platform : PlatformFacts) (ps : List Participant) : Verdict �
 pub data Settles (platform : PlatformFacts) (s : State) : State → List ℕ → Type 0 where
   waits : is_due s ≡ false → Settles platform s s []
   decides : (verdict : Verdict) → is_due s ≡ true → Decides platform (participants_of s) verdict
-    → Settles platform s (record s { verdict = Some verdict; starved = s.starved || is_no_memory verdict }) (verdict_line platform verdict)
+      → Settles platform s (record s { verdict = Some verdict; starved = s.starved || is_no_memory verdict }) (verdict_line platform verdict)
 
 -- a call's step: its reply, and then what follows
 pub data Step (platform : PlatformFacts) (number : ℕ) (s : State) (r : Request) : State → List ℕ → Type 0 where
   takes : (reply : Reply) (answered after : State) (line : List ℕ) → Answers s r reply answered → Settles platform answered after line
-    → Step platform number s r after (call_line number r reply ++ line)
+      → Step platform number s r after (call_line number r reply ++ line)
 
 -- the report of calls from a state on, and whether memory was refused in the end
 pub data Report (platform : PlatformFacts) : ℕ → State → List Request → List ℕ → Bool → Type 0 where
   ended : (number : ℕ) (s : State) → Report platform number s [] (pending_lines s.verdict) s.starved
   continued : (number : ℕ) (s after : State) (r : Request) (rs : List Request) (text rest : List ℕ) (starved : Bool)
-    → Step platform number s r after text → Report platform (number + 1) after rs rest starved
-    → Report platform number s (r ∷ rs) (text ++ rest) starved
+      → Step platform number s r after text → Report platform (number + 1) after rs rest starved
+      → Report platform number s (r ∷ rs) (text ++ rest) starved
 
 -- a settling, whose line is put behind a text
 pub record SettlesIn (platform : PlatformFacts) (s t : State) (before after : List ℕ) : Type 0 where

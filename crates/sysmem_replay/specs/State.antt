@@ -63,12 +63,12 @@ has_room nodes action = nat_le (length nodes + length (made_if (makes_token acti
 abbrev pub entered : State → ℕ → Action → Option Node → Result State Refusal
 entered s k action None = Err WrongState
 entered s k action (Some node) = if has_room s.nodes action
-  then Ok (record s { nodes = slice_set s.nodes k node ++ made_if (makes_token action) }) else Err TooManyNodes
+    then Ok (record s { nodes = slice_set s.nodes k node ++ made_if (makes_token action) }) else Err TooManyNodes
 
 -- the action on node k: the first refusal in their order, or the state afterwards
 abbrev pub applied : State → ℕ → Action → Result State Refusal
 applied s k action = if is_barred s.verdict action then Err DomainFailed
-  else entered s k action (option_and_then (changed action) (slice_get s.nodes k))
+    else entered s k action (option_and_then (changed action) (slice_get s.nodes k))
 
 -- the constraints of a node, which it keeps when it is gone
 abbrev pub constraints_at : Node → Option Participant

@@ -25,9 +25,7 @@ pub fn decide(alloc: Global, platform: &Platform, nodes: &[Node]) -> Verdict
 }
 
 fn verdict_of(aggregate: &Aggregate<'_>) -> Verdict
-    ensures {
-        (platform : PlatformFacts) (ps : List Participant) → StandsFor aggregate.now platform ps → Decides platform ps result
-    }
+    ensures { (platform : PlatformFacts) (ps : List Participant) → StandsFor aggregate.now platform ps → Decides platform ps result }
 {
     match aggregate.best_settings(true) {
         Ok(settings) => Verdict::Chosen(settings),
@@ -36,7 +34,11 @@ fn verdict_of(aggregate: &Aggregate<'_>) -> Verdict
 }
 
 /// What the nodes' participants ask for together, in the order of the nodes.
-fn aggregate_of<'p>(alloc: Global, platform: &'p Platform, nodes: &[Node]) -> Result<Aggregate<'p>, AllocError>
+fn aggregate_of<'p>(
+    alloc: Global,
+    platform: &'p Platform,
+    nodes: &[Node],
+) -> Result<Aggregate<'p>, AllocError>
     requires { length nodes.now ≤ 128 }
     ensures { IfOk result (λ aggregate. StandsFor aggregate platform.now (filter_map constraints_at nodes.now)) }
 {
@@ -49,10 +51,8 @@ fn aggregate_of<'p>(alloc: Global, platform: &'p Platform, nodes: &[Node]) -> Re
 
 fn add_node(aggregate: &mut Aggregate<'_>, node: &Node) -> Result<(), AllocError>
     requires { aggregate.old.added < 1024 }
-    ensures added {
-        (platform : PlatformFacts) (ps : List Participant) → StandsFor aggregate.old platform ps
-            → OnOk result (StandsFor aggregate.new platform (ps ++ filter_map constraints_at (node.now ∷ [])))
-    }
+    ensures added { (platform : PlatformFacts) (ps : List Participant) → StandsFor aggregate.old platform ps
+        → OnOk result (StandsFor aggregate.new platform (ps ++ filter_map constraints_at (node.now ∷ []))) }
     ensures grows { aggregate.new.added ≤ aggregate.old.added + 1 }
 {
     match node.constraints() {

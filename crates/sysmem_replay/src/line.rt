@@ -16,7 +16,12 @@ use sysmem_memory::HeapInfo;
 use sysmem_merge::{Fault, Offer, Platform, Settings};
 
 /// Puts the line of a call behind the text: `7 duplicate root a ok`.
-pub fn put_call(text: &mut String, number: usize, call: &Call<'_>, reply: Reply) -> Result<(), AllocError>
+pub fn put_call(
+    text: &mut String,
+    number: usize,
+    call: &Call<'_>,
+    reply: Reply,
+) -> Result<(), AllocError>
     ensures { OnOk result (string_bytes text.new ≡ string_bytes text.old ++ call_line number (seen call.now) reply) }
 {
     put_head(text, number, &call.act, call.on)?;
@@ -25,7 +30,11 @@ pub fn put_call(text: &mut String, number: usize, call: &Call<'_>, reply: Reply)
 }
 
 /// Puts a verdict's line behind the text: `domain / empty`.
-pub fn put_verdict(text: &mut String, platform: &Platform, verdict: Verdict) -> Result<(), AllocError>
+pub fn put_verdict(
+    text: &mut String,
+    platform: &Platform,
+    verdict: Verdict,
+) -> Result<(), AllocError>
     ensures { OnOk result (string_bytes text.new ≡ string_bytes text.old ++ verdict_line platform.now verdict) }
 {
     match verdict {
@@ -114,12 +123,20 @@ fn put_chosen(text: &mut String, platform: &Platform, settings: Settings) -> Res
     Ok(())
 }
 
-fn put_settings(text: &mut String, platform: &Platform, settings: Settings) -> Result<(), AllocError>
+fn put_settings(
+    text: &mut String,
+    platform: &Platform,
+    settings: Settings,
+) -> Result<(), AllocError>
     ensures { OnOk result (string_bytes text.new ≡ string_bytes text.old ++ settings_text platform.now settings) }
 {
     put_numbers(text, settings.count, settings.size_bytes)?;
     put_heap(text, heap_at(platform, settings.place.heap))?;
-    put_rest(text, settings.place.coherency.name(), offer_name(settings.offer))?;
+    put_rest(
+        text,
+        settings.place.coherency.name(),
+        offer_name(settings.offer),
+    )?;
     Ok(())
 }
 

@@ -22,7 +22,11 @@ pub struct Report {
 }
 
 /// The report of the calls on a platform, made in their order on one collection.
-pub fn report_of(alloc: Global, platform: &Platform, calls: &[Call<'_>]) -> Result<Report, AllocError>
+pub fn report_of(
+    alloc: Global,
+    platform: &Platform,
+    calls: &[Call<'_>],
+) -> Result<Report, AllocError>
     ensures { IfOk result (λ report. IsReport platform.now 1 first_state (map seen calls.now) (string_bytes report.text) report.starved) }
 {
     let mut runner = Runner::new(alloc)?;

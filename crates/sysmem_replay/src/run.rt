@@ -85,3 +85,6 @@ fn report_on_script(alloc: Global, script: &Script<'_>) -> Result<Report, RunFau
         Err(_) => Err(RunFault::NoMemory),
     }
 }
+
+#[cfg(test)]
+mod tests;

@@ -86,7 +86,12 @@ impl Runner {
     }
 
     /// Decides where the collection is ready and has no verdict, and puts the verdict's line behind the text.
-    fn settle(&mut self, alloc: Global, platform: &Platform, text: &mut String) -> Result<(), AllocError>
+    fn settle(
+        &mut self,
+        alloc: Global,
+        platform: &Platform,
+        text: &mut String,
+    ) -> Result<(), AllocError>
         ensures { OnOk result (SettlesIn platform.now (state_of self.old) (state_of self.new) (string_bytes text.old) (string_bytes text.new)) }
     {
         if self.is_due() {
@@ -96,7 +101,12 @@ impl Runner {
     }
 
     /// Decides, and puts the verdict's line behind the text.
-    fn decide(&mut self, alloc: Global, platform: &Platform, text: &mut String) -> Result<(), AllocError>
+    fn decide(
+        &mut self,
+        alloc: Global,
+        platform: &Platform,
+        text: &mut String,
+    ) -> Result<(), AllocError>
         requires { is_due (state_of self.old) ≡ true }
         ensures { OnOk result (SettlesIn platform.now (state_of self.old) (state_of self.new) (string_bytes text.old) (string_bytes text.new)) }
     {
@@ -157,7 +167,13 @@ impl Runner {
     }
 
     /// Reads the constraints that a call states, and sets them on its node.
-    fn set_read(&mut self, alloc: Global, call: &Call<'_>, node: usize, value: &Value) -> Result<Reply, AllocError>
+    fn set_read(
+        &mut self,
+        alloc: Global,
+        call: &Call<'_>,
+        node: usize,
+        value: &Value,
+    ) -> Result<Reply, AllocError>
         requires named { node_named (state_of self.old) (seen call.now) ≡ Some node }
         requires stated { (seen call.now).deed ≡ states (Some (view value.now)) }
         ensures { IfOk result (λ reply. Answers (state_of self.old) (seen call.now) reply (state_of self.new)) }
@@ -171,9 +187,7 @@ impl Runner {
     /// The reply to constraints that can't be read.
     fn misread(&mut self, fault: Fault) -> Reply
         ensures reply { result ≡ Reply.Misread fault }
-        ensures starved {
-            state_of self.new ≡ record (state_of self.old) { starved = (state_of self.old).starved || starves fault.code }
-        }
+        ensures starved { state_of self.new ≡ record (state_of self.old) { starved = (state_of self.old).starved || starves fault.code } }
     {
         self.starved = self.starved || starves(fault.code);
         Reply::Misread(fault)

@@ -17,7 +17,9 @@ fn answer(alloc: Global, bytes: &[u8]) -> Result<String, AllocError> {
 
 // What a script with these calls answers.
 fn answer_calls(alloc: Global, calls: &str) -> Result<String, AllocError> {
-    let script = format!(in alloc; "{{\"platform\":{{}},\"calls\":[{calls}]}}")?;
+    let script = format!(in alloc;
+        "{{\"platform\":{{\"heaps\":[{{\"heap_type\":\"ram\",\"domains\":[\"cpu\"]}}],\"pairs\":[],\"color_spaces\":[]}},\"calls\":[{calls}]}}"
+    )?;
     answer(alloc, script.as_bytes())
 }
 
@@ -36,26 +38,44 @@ fn repeated(alloc: Global, text: &str, times: usize) -> Result<String, AllocErro
 #[test]
 fn bytes_and_outermost_object(rt: HostRuntime) -> Result<(), Fail> {
     for (text, wanted) in [
-        ("{\"platform\":{},\"calls\":[]}", "0 calls"),
-        (" {\"calls\":[], \"platform\":{}}\n", "0 calls"),
+        (
+            "{\"platform\":{\"heaps\":[{\"heap_type\":\"ram\",\"domains\":[\"cpu\"]}],\"pairs\":[],\"color_spaces\":[]},\"calls\":[]}",
+            "0 calls",
+        ),
+        (
+            " {\"calls\":[], \"platform\":{\"heaps\":[{\"heap_type\":\"ram\",\"domains\":[\"cpu\"]}],\"pairs\":[],\"color_spaces\":[]}}\n",
+            "0 calls",
+        ),
         ("", "script refused: Q2"),
-        ("{\"platform\":{},\"calls\":[]} 1", "script refused: Q2"),
+        (
+            "{\"platform\":{\"heaps\":[{\"heap_type\":\"ram\",\"domains\":[\"cpu\"]}],\"pairs\":[],\"color_spaces\":[]},\"calls\":[]} 1",
+            "script refused: Q2",
+        ),
         ("[]", "script refused: Q3"),
         ("{\"calls\":[]}", "script refused: Q3"),
-        ("{\"platform\":{}}", "script refused: Q3"),
-        ("{\"platform\":{},\"calls\":{}}", "script refused: Q3"),
+        (
+            "{\"platform\":{\"heaps\":[{\"heap_type\":\"ram\",\"domains\":[\"cpu\"]}],\"pairs\":[],\"color_spaces\":[]}}",
+            "script refused: Q3",
+        ),
+        (
+            "{\"platform\":{\"heaps\":[{\"heap_type\":\"ram\",\"domains\":[\"cpu\"]}],\"pairs\":[],\"color_spaces\":[]},\"calls\":{}}",
+            "script refused: Q3",
+        ),
         ("{\"platform\":7,\"calls\":7}", "script refused: Q3"),
         (
-            "{\"platform\":{},\"calls\":[],\"x\":1}",
+            "{\"platform\":{\"heaps\":[{\"heap_type\":\"ram\",\"domains\":[\"cpu\"]}],\"pairs\":[],\"color_spaces\":[]},\"calls\":[],\"x\":1}",
             "script refused: Q3",
         ),
         (
             "{\"platform\":7,\"calls\":[7]}",
             "script refused: Q5 S3 whole",
         ),
-        ("{\"platform\":7,\"calls\":[],\"platform\":{}}", "0 calls"),
         (
-            "{\"platform\":{},\"calls\":[7]}",
+            "{\"platform\":7,\"calls\":[],\"platform\":{\"heaps\":[{\"heap_type\":\"ram\",\"domains\":[\"cpu\"]}],\"pairs\":[],\"color_spaces\":[]}}",
+            "0 calls",
+        ),
+        (
+            "{\"platform\":{\"heaps\":[{\"heap_type\":\"ram\",\"domains\":[\"cpu\"]}],\"pairs\":[],\"color_spaces\":[]},\"calls\":[7]}",
             "script refused: Q3 at call 1",
         ),
     ] {
@@ -228,7 +248,9 @@ fn numbers_of_calls_and_actors(rt: HostRuntime) -> Result<(), Fail> {
 #[test]
 fn too_long_by_one_byte(rt: HostRuntime) -> Result<(), Fail> {
     let mut text = String::new(rt.alloc());
-    text.push_str("{\"platform\":{},\"calls\":[]}")?;
+    text.push_str(
+        "{\"platform\":{\"heaps\":[{\"heap_type\":\"ram\",\"domains\":[\"cpu\"]}],\"pairs\":[],\"color_spaces\":[]},\"calls\":[]}",
+    )?;
     let rest = 4_194_304 - 26;
     for _ in 0..rest {
         text.push_str(" ")?;

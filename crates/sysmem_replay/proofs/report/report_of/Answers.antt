@@ -12,4 +12,7 @@ loop-index-preserved c =
     (drop-seen c.args.calls.now c.loop-index.index c.index-calls-index.result within c.index-calls-index.is) c.in_ok-take.ensures c.loop-index.invariant
 
 pub returns : goal.returns
-returns c = ?
+returns c =
+    let all : length c.args.calls.now ≤ c.loop-index.index = omega arith in
+    let put = rw c.verdict.ensures at c.in_ok-put_pending.ensures in
+    rw c.is_starved.ensures (reaches-end _ c.args.calls.now c.loop-index.index (state_of c.loop-index.runner) (string_bytes c.loop-index.text) _ all c.loop-index.invariant put)
