@@ -33,7 +33,7 @@ one_said one value _ _ (reported script a e first) (reported other b h second) x
     let both : Ok other ≡ Ok script = sym h ∙ e in
     let same : other ≡ script = cc in
     let there : Report script.platform 1 first_state script.requests b.text false =
-        subst (λ (z : Script). Report z.platform 1 first_state z.requests b.text false) same (fed_report other b y second) in
+    subst (λ (z : Script). Report z.platform 1 first_state z.requests b.text false) same (fed_report other b y second) in
     ap Ok (same_fields a b (one script.platform script.requests a.text b.text (fed_report script a x first) there) (x ∙ sym y))
 
 too_long_alone : (n : ℕ) → longest < n → n ≤ longest → ⊥

@@ -19,17 +19,16 @@ mod transfer;
 mod verdict;
 mod words;
 
+use clap::Error;
 pub use ending::{Ending, ending_of, refusal_ending};
 pub use fault::{RunFault, ScriptFault};
 pub use report::{Report, report_of};
 pub use run::Ended;
-pub use transfer::{LONGEST, read_up_to_limit, write_fully};
-pub use words::{Job, read_words};
-
-use clap::Error;
 use std::fs::File;
 use std::process::ExitCode;
 use std::{env, io};
+pub use transfer::{LONGEST, read_up_to_limit, write_fully};
+pub use words::{Job, read_words};
 
 fn main(rt: HostRuntime) -> ExitCode {
     let ending = match given_words(&rt) {

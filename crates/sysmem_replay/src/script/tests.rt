@@ -18,7 +18,7 @@ fn answer(alloc: Global, bytes: &[u8]) -> Result<String, AllocError> {
 // What a script with these calls answers.
 fn answer_calls(alloc: Global, calls: &str) -> Result<String, AllocError> {
     let script = format!(in alloc;
-        "{{\"platform\":{{\"heaps\":[{{\"heap_type\":\"ram\",\"domains\":[\"cpu\"]}}],\"pairs\":[],\"color_spaces\":[]}},\"calls\":[{calls}]}}"
+        r#"{{"platform":{{"heaps":[{{"heap_type":"ram","domains":["cpu"]}}],"pairs":[],"color_spaces":[]}},"calls":[{calls}]}}"#
     )?;
     answer(alloc, script.as_bytes())
 }
@@ -39,7 +39,7 @@ fn repeated(alloc: Global, text: &str, times: usize) -> Result<String, AllocErro
 fn bytes_and_outermost_object(rt: HostRuntime) -> Result<(), Fail> {
     for (text, wanted) in [
         (
-            "{\"platform\":{\"heaps\":[{\"heap_type\":\"ram\",\"domains\":[\"cpu\"]}],\"pairs\":[],\"color_spaces\":[]},\"calls\":[]}",
+            r#"{"platform":{"heaps":[{"heap_type":"ram","domains":["cpu"]}],"pairs":[],"color_spaces":[]},"calls":[]}"#,
             "0 calls",
         ),
         (
@@ -48,34 +48,34 @@ fn bytes_and_outermost_object(rt: HostRuntime) -> Result<(), Fail> {
         ),
         ("", "script refused: Q2"),
         (
-            "{\"platform\":{\"heaps\":[{\"heap_type\":\"ram\",\"domains\":[\"cpu\"]}],\"pairs\":[],\"color_spaces\":[]},\"calls\":[]} 1",
+            r#"{"platform":{"heaps":[{"heap_type":"ram","domains":["cpu"]}],"pairs":[],"color_spaces":[]},"calls":[]} 1"#,
             "script refused: Q2",
         ),
         ("[]", "script refused: Q3"),
-        ("{\"calls\":[]}", "script refused: Q3"),
+        (r#"{"calls":[]}"#, "script refused: Q3"),
         (
-            "{\"platform\":{\"heaps\":[{\"heap_type\":\"ram\",\"domains\":[\"cpu\"]}],\"pairs\":[],\"color_spaces\":[]}}",
+            r#"{"platform":{"heaps":[{"heap_type":"ram","domains":["cpu"]}],"pairs":[],"color_spaces":[]}}"#,
             "script refused: Q3",
         ),
         (
-            "{\"platform\":{\"heaps\":[{\"heap_type\":\"ram\",\"domains\":[\"cpu\"]}],\"pairs\":[],\"color_spaces\":[]},\"calls\":{}}",
+            r#"{"platform":{"heaps":[{"heap_type":"ram","domains":["cpu"]}],"pairs":[],"color_spaces":[]},"calls":{}}"#,
             "script refused: Q3",
         ),
-        ("{\"platform\":7,\"calls\":7}", "script refused: Q3"),
+        (r#"{"platform":7,"calls":7}"#, "script refused: Q3"),
         (
-            "{\"platform\":{\"heaps\":[{\"heap_type\":\"ram\",\"domains\":[\"cpu\"]}],\"pairs\":[],\"color_spaces\":[]},\"calls\":[],\"x\":1}",
+            r#"{"platform":{"heaps":[{"heap_type":"ram","domains":["cpu"]}],"pairs":[],"color_spaces":[]},"calls":[],"x":1}"#,
             "script refused: Q3",
         ),
         (
-            "{\"platform\":7,\"calls\":[7]}",
+            r#"{"platform":7,"calls":[7]}"#,
             "script refused: Q5 S3 whole",
         ),
         (
-            "{\"platform\":7,\"calls\":[],\"platform\":{\"heaps\":[{\"heap_type\":\"ram\",\"domains\":[\"cpu\"]}],\"pairs\":[],\"color_spaces\":[]}}",
+            r#"{"platform":7,"calls":[],"platform":{"heaps":[{"heap_type":"ram","domains":["cpu"]}],"pairs":[],"color_spaces":[]}}"#,
             "0 calls",
         ),
         (
-            "{\"platform\":{\"heaps\":[{\"heap_type\":\"ram\",\"domains\":[\"cpu\"]}],\"pairs\":[],\"color_spaces\":[]},\"calls\":[7]}",
+            r#"{"platform":{"heaps":[{"heap_type":"ram","domains":["cpu"]}],"pairs":[],"color_spaces":[]},"calls":[7]}"#,
             "script refused: Q3 at call 1",
         ),
     ] {
@@ -88,56 +88,44 @@ fn bytes_and_outermost_object(rt: HostRuntime) -> Result<(), Fail> {
 #[test]
 fn shapes_of_calls(rt: HostRuntime) -> Result<(), Fail> {
     for (calls, wanted) in [
-        ("{\"call\":\"bind\",\"on\":\"root\"}", "1 calls"),
+        (r#"{"call":"bind","on":"root"}"#, "1 calls"),
+        (r#"{"call":"bind","on":"root","actor":"a"}"#, "1 calls"),
         (
-            "{\"call\":\"bind\",\"on\":\"root\",\"actor\":\"a\"}",
+            r#"{"call":"bind","on":"root","actor":null}"#,
+            "script refused: Q3 at call 1",
+        ),
+        (
+            r#"{"call":"bind","on":"root","as":"b"}"#,
+            "script refused: Q3 at call 1",
+        ),
+        (
+            r#"{"call":"bind","on":"root","constraints":null}"#,
+            "script refused: Q3 at call 1",
+        ),
+        (r#"{"call":"bind"}"#, "script refused: Q3 at call 1"),
+        (r#"{"on":"root"}"#, "script refused: Q3 at call 1"),
+        (r#"{"call":"bind","on":7}"#, "script refused: Q3 at call 1"),
+        (
+            r#"{"call":"blind","on":"root"}"#,
+            "script refused: Q3 at call 1",
+        ),
+        (r#"{"call":"blind","call":"bind","on":"root"}"#, "1 calls"),
+        (
+            r#"{"call":"duplicate","on":"root"}"#,
+            "script refused: Q3 at call 1",
+        ),
+        (
+            r#"{"call":"duplicate","on":"root","as":7}"#,
+            "script refused: Q3 at call 1",
+        ),
+        (r#"{"call":"duplicate","on":"root","as":"b"}"#, "1 calls"),
+        (r#"{"call":"set_constraints","on":"root"}"#, "1 calls"),
+        (
+            r#"{"call":"set_constraints","on":"root","constraints":7}"#,
             "1 calls",
         ),
         (
-            "{\"call\":\"bind\",\"on\":\"root\",\"actor\":null}",
-            "script refused: Q3 at call 1",
-        ),
-        (
-            "{\"call\":\"bind\",\"on\":\"root\",\"as\":\"b\"}",
-            "script refused: Q3 at call 1",
-        ),
-        (
-            "{\"call\":\"bind\",\"on\":\"root\",\"constraints\":null}",
-            "script refused: Q3 at call 1",
-        ),
-        ("{\"call\":\"bind\"}", "script refused: Q3 at call 1"),
-        ("{\"on\":\"root\"}", "script refused: Q3 at call 1"),
-        (
-            "{\"call\":\"bind\",\"on\":7}",
-            "script refused: Q3 at call 1",
-        ),
-        (
-            "{\"call\":\"blind\",\"on\":\"root\"}",
-            "script refused: Q3 at call 1",
-        ),
-        (
-            "{\"call\":\"blind\",\"call\":\"bind\",\"on\":\"root\"}",
-            "1 calls",
-        ),
-        (
-            "{\"call\":\"duplicate\",\"on\":\"root\"}",
-            "script refused: Q3 at call 1",
-        ),
-        (
-            "{\"call\":\"duplicate\",\"on\":\"root\",\"as\":7}",
-            "script refused: Q3 at call 1",
-        ),
-        (
-            "{\"call\":\"duplicate\",\"on\":\"root\",\"as\":\"b\"}",
-            "1 calls",
-        ),
-        ("{\"call\":\"set_constraints\",\"on\":\"root\"}", "1 calls"),
-        (
-            "{\"call\":\"set_constraints\",\"on\":\"root\",\"constraints\":7}",
-            "1 calls",
-        ),
-        (
-            "{\"call\":\"release\",\"on\":\"root\"},{\"call\":\"check\",\"on\":\"root\"},[]",
+            r#"{"call":"release","on":"root"},{"call":"check","on":"root"},[]"#,
             "script refused: Q3 at call 3",
         ),
     ] {
@@ -151,47 +139,47 @@ fn shapes_of_calls(rt: HostRuntime) -> Result<(), Fail> {
 fn names_of_calls(rt: HostRuntime) -> Result<(), Fail> {
     for (calls, wanted) in [
         (
-            "{\"call\":\"bind\",\"on\":\"a\"}",
+            r#"{"call":"bind","on":"a"}"#,
             "script refused: Q4 at call 1",
         ),
         (
-            "{\"call\":\"duplicate\",\"on\":\"root\",\"as\":\"root\"}",
+            r#"{"call":"duplicate","on":"root","as":"root"}"#,
             "script refused: Q4 at call 1",
         ),
         (
-            "{\"call\":\"duplicate\",\"on\":\"root\",\"as\":\"a\"},{\"call\":\"duplicate\",\"on\":\"a\",\"as\":\"a\"}",
+            r#"{"call":"duplicate","on":"root","as":"a"},{"call":"duplicate","on":"a","as":"a"}"#,
             "script refused: Q4 at call 2",
         ),
         (
-            "{\"call\":\"duplicate\",\"on\":\"a\",\"as\":\"a\"}",
+            r#"{"call":"duplicate","on":"a","as":"a"}"#,
             "script refused: Q4 at call 1",
         ),
         (
-            "{\"call\":\"duplicate\",\"on\":\"root\",\"as\":\"\"}",
+            r#"{"call":"duplicate","on":"root","as":""}"#,
             "script refused: Q4 at call 1",
         ),
         (
-            "{\"call\":\"duplicate\",\"on\":\"root\",\"as\":\"a b\"}",
+            r#"{"call":"duplicate","on":"root","as":"a b"}"#,
             "script refused: Q4 at call 1",
         ),
         (
-            "{\"call\":\"duplicate\",\"on\":\"root\",\"as\":\"\\u00e9\"}",
+            r#"{"call":"duplicate","on":"root","as":"\u00e9"}"#,
             "script refused: Q4 at call 1",
         ),
         (
-            "{\"call\":\"duplicate\",\"on\":\"root\",\"as\":\"aZ09_-aZ09_-aZ09_-aZ09_-aZ09_-32\"}",
+            r#"{"call":"duplicate","on":"root","as":"aZ09_-aZ09_-aZ09_-aZ09_-aZ09_-32"}"#,
             "1 calls",
         ),
         (
-            "{\"call\":\"duplicate\",\"on\":\"root\",\"as\":\"aZ09_-aZ09_-aZ09_-aZ09_-aZ09_-33_\"}",
+            r#"{"call":"duplicate","on":"root","as":"aZ09_-aZ09_-aZ09_-aZ09_-aZ09_-33_"}"#,
             "script refused: Q4 at call 1",
         ),
         (
-            "{\"call\":\"bind\",\"on\":\"root\",\"actor\":\"\"}",
+            r#"{"call":"bind","on":"root","actor":""}"#,
             "script refused: Q4 at call 1",
         ),
         (
-            "{\"call\":\"bind\",\"on\":\"a\",\"actor\":7}",
+            r#"{"call":"bind","on":"a","actor":7}"#,
             "script refused: Q3 at call 1",
         ),
     ] {
@@ -203,7 +191,7 @@ fn names_of_calls(rt: HostRuntime) -> Result<(), Fail> {
 
 #[test]
 fn numbers_of_calls_and_actors(rt: HostRuntime) -> Result<(), Fail> {
-    let call = "{\"call\":\"check\",\"on\":\"root\"}";
+    let call = r#"{"call":"check","on":"root"}"#;
     for (times, wanted) in [(4096, "4096 calls"), (4097, "script refused: Q6")] {
         let calls = repeated(rt.alloc(), call, times)?;
         let said = answer_calls(rt.alloc(), calls.as_str())?;
@@ -211,30 +199,25 @@ fn numbers_of_calls_and_actors(rt: HostRuntime) -> Result<(), Fail> {
     }
     let mut calls = String::new(rt.alloc());
     for actor in 1..=16 {
-        let one = format!(in rt.alloc();
-            "{{\"call\":\"check\",\"on\":\"root\",\"actor\":\"a{actor}\"}},"
-        )?;
+        let one = format!(in rt.alloc(); r#"{{"call":"check","on":"root","actor":"a{actor}"}},"#)?;
         calls.push_str(one.as_str())?;
     }
     for (last, wanted) in [
+        (r#"{"call":"check","on":"root","actor":"a1"}"#, "17 calls"),
         (
-            "{\"call\":\"check\",\"on\":\"root\",\"actor\":\"a1\"}",
-            "17 calls",
-        ),
-        (
-            "{\"call\":\"check\",\"on\":\"root\",\"actor\":\"a17\"}",
+            r#"{"call":"check","on":"root","actor":"a17"}"#,
             "script refused: Q6 at call 17",
         ),
         (
-            "{\"call\":\"check\",\"on\":\"root\"}",
+            r#"{"call":"check","on":"root"}"#,
             "script refused: Q6 at call 17",
         ),
         (
-            "{\"call\":\"check\",\"on\":\"a\",\"actor\":\"a17\"}",
+            r#"{"call":"check","on":"a","actor":"a17"}"#,
             "script refused: Q4 at call 17",
         ),
         (
-            "{\"call\":\"check\",\"on\":\"a\",\"actor\":\"a17\",\"as\":\"b\"}",
+            r#"{"call":"check","on":"a","actor":"a17","as":"b"}"#,
             "script refused: Q3 at call 17",
         ),
     ] {
@@ -249,10 +232,9 @@ fn numbers_of_calls_and_actors(rt: HostRuntime) -> Result<(), Fail> {
 fn too_long_by_one_byte(rt: HostRuntime) -> Result<(), Fail> {
     let mut text = String::new(rt.alloc());
     text.push_str(
-        "{\"platform\":{\"heaps\":[{\"heap_type\":\"ram\",\"domains\":[\"cpu\"]}],\"pairs\":[],\"color_spaces\":[]},\"calls\":[]}",
+        r#"{"platform":{"heaps":[{"heap_type":"ram","domains":["cpu"]}],"pairs":[],"color_spaces":[]},"calls":[]}"#,
     )?;
-    let rest = 4_194_304 - 26;
-    for _ in 0..rest {
+    for _ in text.len()..4_194_304 {
         text.push_str(" ")?;
     }
     let said = answer(rt.alloc(), text.as_bytes())?;
@@ -266,7 +248,7 @@ fn too_long_by_one_byte(rt: HostRuntime) -> Result<(), Fail> {
 #[test]
 fn places_of_names(rt: HostRuntime) -> Result<(), Fail> {
     let text =
-        "[{\"call\":\"duplicate\",\"on\":\"root\",\"as\":\"a\"},{\"call\":\"duplicate\",\"on\":\"a\",\"as\":\"b\"},{\"call\":\"bind\",\"on\":\"b\"},{\"call\":\"set_constraints\",\"on\":\"b\",\"constraints\":null}]";
+        r#"[{"call":"duplicate","on":"root","as":"a"},{"call":"duplicate","on":"a","as":"b"},{"call":"bind","on":"b"},{"call":"set_constraints","on":"b","constraints":null}]"#;
     let value = Value::from_str(rt.alloc(), text)?;
     let values = value.as_array().ok_or("no list")?;
     let calls = read_calls(rt.alloc(), values)?;
