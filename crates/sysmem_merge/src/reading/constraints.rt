@@ -14,28 +14,28 @@ use serde_json::Value;
 use std::alloc::Global;
 use sysmem_counts::{CountConstraints, Field};
 
-fn counts_of(record: &Value) -> Result<CountConstraints, Fault>
-    ensures { result ≡ counts_of (view record.now) }
+fn counts_of(object: &Value) -> Result<CountConstraints, Fault>
+    ensures { result ≡ counts_of (view object.now) }
 {
     Ok(CountConstraints {
-        min_buffer_count_for_camping: count_or(record, Field::MinBufferCountForCamping, 0)?,
+        min_buffer_count_for_camping: count_or(object, Field::MinBufferCountForCamping, 0)?,
         min_buffer_count_for_dedicated_slack: count_or(
-            record,
+            object,
             Field::MinBufferCountForDedicatedSlack,
             0,
         )?,
         min_buffer_count_for_shared_slack: count_or(
-            record,
+            object,
             Field::MinBufferCountForSharedSlack,
             0,
         )?,
-        min_buffer_count: count_or(record, Field::MinBufferCount, 0)?,
-        max_buffer_count: count_or(record, Field::MaxBufferCount, u32::MAX)?,
+        min_buffer_count: count_or(object, Field::MinBufferCount, 0)?,
+        max_buffer_count: count_or(object, Field::MaxBufferCount, u32::MAX)?,
     })
 }
 
-fn participant_of(alloc: Global, record: &Value) -> Result<Constraints, Fault>
-    ensures { result ≡ participant_of (view record.now) }
+fn participant_of(alloc: Global, object: &Value) -> Result<Constraints, Fault>
+    ensures { result ≡ participant_of (view object.now) }
 {
     let fields = [
         Field::Usage,
@@ -46,12 +46,12 @@ fn participant_of(alloc: Global, record: &Value) -> Result<Constraints, Fault>
         Field::MaxBufferCount,
         Field::BufferMemoryConstraints,
     ];
-    if !has_only(record, &fields) {
+    if !has_only(object, &fields) {
         return Err(Fault::NOT_TAKEN);
     }
-    let usage = usage_of(stated(record, Field::Usage)?)?;
-    let counts = counts_of(record)?;
-    let memory = memory_in(alloc, record)?;
+    let usage = usage_of(stated(object, Field::Usage)?)?;
+    let counts = counts_of(object)?;
+    let memory = memory_in(alloc, object)?;
     Ok(Constraints::new(usage, counts, memory))
 }
 

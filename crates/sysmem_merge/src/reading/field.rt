@@ -35,10 +35,10 @@ pub(super) fn has_only(value: &Value, fields: &[Field]) -> bool
 }
 
 /// The value of a field that the record must have.
-pub(super) fn stated(record: &Value, field: Field) -> Result<&Value, Fault>
-    ensures { seen_by (λ value. view value.now) result ≡ stated field (view record.now) }
+pub(super) fn stated(object: &Value, field: Field) -> Result<&Value, Fault>
+    ensures { seen_by (λ value. view value.now) result ≡ stated field (view object.now) }
 {
-    record.get(field.name()).ok_or(Fault::NOT_TAKEN)
+    object.get(field.name()).ok_or(Fault::NOT_TAKEN)
 }
 
 fn number_to(value: &Value, greatest: u64) -> Result<u64, Fault>
@@ -52,33 +52,33 @@ fn number_to(value: &Value, greatest: u64) -> Result<u64, Fault>
 
 /// A whole number from 0 to the greatest.
 pub(super) fn number_or(
-    record: &Value,
+    object: &Value,
     field: Field,
     absent: u64,
     greatest: u64,
 ) -> Result<u64, Fault>
-    ensures read { result ≡ number_or field absent greatest (view record.now) }
+    ensures read { result ≡ number_or field absent greatest (view object.now) }
     ensures fits { absent ≤ greatest → IfOk result (λ number. number ≤ greatest) }
 {
-    match record.get(field.name()) {
+    match object.get(field.name()) {
         None => Ok(absent),
         Some(value) => number_to(value, greatest),
     }
 }
 
 /// A number of 32 bits.
-pub(super) fn count_or(record: &Value, field: Field, absent: u32) -> Result<u32, Fault>
-    ensures { result ≡ number_or field absent (2 ^ 32 - 1) (view record.now) }
+pub(super) fn count_or(object: &Value, field: Field, absent: u32) -> Result<u32, Fault>
+    ensures { result ≡ number_or field absent (2 ^ 32 - 1) (view object.now) }
 {
-    let number = number_or(record, field, u64::from(absent), u64::from(u32::MAX))?;
+    let number = number_or(object, field, u64::from(absent), u64::from(u32::MAX))?;
     Ok(number as u32)
 }
 
 /// True or false.
-pub(super) fn flag_or(record: &Value, field: Field, absent: bool) -> Result<bool, Fault>
-    ensures { result ≡ flag_or field absent (view record.now) }
+pub(super) fn flag_or(object: &Value, field: Field, absent: bool) -> Result<bool, Fault>
+    ensures { result ≡ flag_or field absent (view object.now) }
 {
-    match record.get(field.name()) {
+    match object.get(field.name()) {
         None => Ok(absent),
         Some(value) => value.as_bool().ok_or(Fault::NOT_TAKEN),
     }

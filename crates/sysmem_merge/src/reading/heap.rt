@@ -91,8 +91,8 @@ fn domains_of(value: &Value) -> Result<CoherencyDomains, Fault>
 }
 
 /// A platform's heap.
-pub(super) fn heap_of(alloc: Global, record: &Value) -> Result<HeapInfo, Fault>
-    ensures { Answers (heap_of (view record.now)) result }
+pub(super) fn heap_of(alloc: Global, object: &Value) -> Result<HeapInfo, Fault>
+    ensures { Answers (heap_of (view object.now)) result }
 {
     let fields = [
         Field::HeapType,
@@ -101,14 +101,14 @@ pub(super) fn heap_of(alloc: Global, record: &Value) -> Result<HeapInfo, Fault>
         Field::Secure,
         Field::Domains,
     ];
-    if !has_only(record, &fields) {
+    if !has_only(object, &fields) {
         return Err(Fault::NOT_TAKEN);
     }
-    let heap_type = heap_type_of(stated(record, Field::HeapType)?)?;
-    let id = number_or(record, Field::Id, 0, u64::MAX)?;
-    let contiguous = flag_or(record, Field::Contiguous, false)?;
-    let secure = flag_or(record, Field::Secure, false)?;
-    let domains = domains_of(stated(record, Field::Domains)?)?;
+    let heap_type = heap_type_of(stated(object, Field::HeapType)?)?;
+    let id = number_or(object, Field::Id, 0, u64::MAX)?;
+    let contiguous = flag_or(object, Field::Contiguous, false)?;
+    let secure = flag_or(object, Field::Secure, false)?;
+    let domains = domains_of(stated(object, Field::Domains)?)?;
     let heap = Heap {
         heap_type: String::from_str(alloc, heap_type)?,
         id,

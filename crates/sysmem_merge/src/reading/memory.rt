@@ -14,8 +14,8 @@ use std::alloc::Global;
 use sysmem_counts::Field;
 use sysmem_memory::MemoryConstraints;
 
-fn memory_of(alloc: Global, record: &Value) -> Result<MemoryConstraints, Fault>
-    ensures { result ≡ memory_of (view record.now) }
+fn memory_of(alloc: Global, object: &Value) -> Result<MemoryConstraints, Fault>
+    ensures { result ≡ memory_of (view object.now) }
 {
     let fields = [
         Field::MinSizeBytes,
@@ -24,26 +24,26 @@ fn memory_of(alloc: Global, record: &Value) -> Result<MemoryConstraints, Fault>
         Field::RamDomainSupported,
         Field::InaccessibleDomainSupported,
     ];
-    if !has_only(record, &fields) {
+    if !has_only(object, &fields) {
         return Err(Fault::NOT_TAKEN);
     }
     Ok(MemoryConstraints {
-        min_size_bytes: number_or(record, Field::MinSizeBytes, 0, u64::MAX)?,
-        max_size_bytes: number_or(record, Field::MaxSizeBytes, u64::MAX, u64::MAX)?,
+        min_size_bytes: number_or(object, Field::MinSizeBytes, 0, u64::MAX)?,
+        max_size_bytes: number_or(object, Field::MaxSizeBytes, u64::MAX, u64::MAX)?,
         physically_contiguous_required: false,
         secure_required: false,
-        cpu_domain_supported: flag_or(record, Field::CpuDomainSupported, true)?,
-        ram_domain_supported: flag_or(record, Field::RamDomainSupported, false)?,
-        inaccessible_domain_supported: flag_or(record, Field::InaccessibleDomainSupported, false)?,
+        cpu_domain_supported: flag_or(object, Field::CpuDomainSupported, true)?,
+        ram_domain_supported: flag_or(object, Field::RamDomainSupported, false)?,
+        inaccessible_domain_supported: flag_or(object, Field::InaccessibleDomainSupported, false)?,
         permitted_heaps: Vec::new(alloc),
     })
 }
 
 /// The memory constraints of a participant's record.
-pub(super) fn memory_in(alloc: Global, record: &Value) -> Result<MemoryConstraints, Fault>
-    ensures { result ≡ optional BufferMemoryConstraints no_wishes memory_of (view record.now) }
+pub(super) fn memory_in(alloc: Global, object: &Value) -> Result<MemoryConstraints, Fault>
+    ensures { result ≡ optional BufferMemoryConstraints no_wishes memory_of (view object.now) }
 {
-    match record.get(Field::BufferMemoryConstraints.name()) {
+    match object.get(Field::BufferMemoryConstraints.name()) {
         None => Ok(MemoryConstraints::new(alloc)),
         Some(value) => memory_of(alloc, value),
     }
