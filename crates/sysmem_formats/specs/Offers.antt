@@ -5,6 +5,10 @@ use Rattle.sysmem_formats.specs.declared.offer.Pair.{Pair}
 use Rattle.sysmem_formats.specs.declared.offer.Offer.{Offer}
 use Rattle.sysmem_formats.specs.declared.offer.Offer.TheVariants.{NoImage, Image}
 
--- all offers in order: no image, then each pair with each colour space, pairs before colour spaces
+-- the offers with an image: each pair with each colour space, pairs before colour spaces
+abbrev pub images : List Pair → List ColourSpace → List Offer
+images pairs colours = flat_map (λ p. map (λ c. Image p c) colours) pairs
+
+-- all offers in order: no image, then those with an image
 abbrev pub offers : List Pair → List ColourSpace → List Offer
-offers pairs colours = NoImage ∷ flat_map (λ p. map (λ c. Image p c) colours) pairs
+offers pairs colours = NoImage ∷ images pairs colours

@@ -1,8 +1,18 @@
 ghost use Rattle.std.specs.Prelude.{◌≡◌, ◌↔◌, ◌<◌, ◌≤◌, ◌^◌, IsTrue};
 ghost use Rattle.sysmem_formats.specs.Layout.{
-    bytes_per_pixel_of, row_bytes_of, image_bytes_of, width_alignment_of, height_alignment_of,
-    row_divisor_of, pixel_bytes, plane_bytes, rows_of, row_up_to, format_width_alignment,
-    format_height_alignment, IsTiledMisfit,
+  bytes_per_pixel_of,
+  row_bytes_of,
+  image_bytes_of,
+  width_alignment_of,
+  height_alignment_of,
+  row_divisor_of,
+  pixel_bytes,
+  plane_bytes,
+  rows_of,
+  row_up_to,
+  format_width_alignment,
+  format_height_alignment,
+  IsTiledMisfit,
 };
 
 use crate::modifier::Modifier;

@@ -24,5 +24,5 @@ pub use offer::{Offer, Pair};
 pub use order::offer_at;
 pub use pixel_format::PixelFormat;
 
-
-
+#[cfg(test)]
+mod tests;

@@ -1,10 +1,10 @@
 ghost use Rattle.std.specs.Prelude.{◌≡◌, slice_get};
-ghost use Rattle.sysmem_formats.specs.Offers.{offers};
+ghost use Rattle.sysmem_formats.specs.Offers.{offers, images};
 
 use crate::colour_space::ColourSpace;
 use crate::offer::{Offer, Pair};
 
-/// The offer at this place in a platform's order, or `None` behind the last one: first no image, then
+/// The offer at this place of a platform's order, or `None` behind the last one: first no image, then
 /// each pair with each colour space, pairs before colour spaces.
 pub fn offer_at(pairs: &[Pair], colours: &[ColourSpace], index: usize) -> Option<Offer>
     ensures { result ≡ slice_get (offers pairs.now colours.now) index }
@@ -12,11 +12,20 @@ pub fn offer_at(pairs: &[Pair], colours: &[ColourSpace], index: usize) -> Option
     if index == 0 {
         return Some(Offer::NoImage);
     }
-    if colours.is_empty() {
+    image_at(pairs, colours, index - 1)
+}
+
+/// The offer at this place among those with an image.
+fn image_at(pairs: &[Pair], colours: &[ColourSpace], index: usize) -> Option<Offer>
+    ensures { result ≡ slice_get (images pairs.now colours.now) index }
+{
+    let count = colours.len();
+    if count == 0 {
         return None;
     }
-    let image = index - 1;
-    let pair = pairs.get(image / colours.len())?;
-    let colour = colours.get(image % colours.len())?;
-    Some(Offer::Image(*pair, *colour))
+    let place = index / count;
+    if place >= pairs.len() {
+        return None;
+    }
+    Some(Offer::Image(pairs[place], colours[index % count]))
 }
