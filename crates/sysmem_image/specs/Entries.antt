@@ -1,4 +1,4 @@
-use Rattle.std.specs.Prelude.{Bool, true, false, ◌&&◌, ◌==◌, if◌then◌else◌, List, [], ◌∷◌, map, Option, Some, None}
+use Rattle.std.specs.Prelude.{Bool, true, false, ◌&&◌, ◌==◌, find, List, map, Option, Some, None}
 use Rattle.sysmem_formats.specs.declared.pixel_format.PixelFormat.{PixelFormat}
 use Rattle.sysmem_formats.specs.declared.modifier.Modifier.{Modifier}
 use Rattle.sysmem_formats.specs.declared.offer.Offer.{Offer}
@@ -25,8 +25,7 @@ matches (Image pair _) entry = agrees_format pair.format entry.format && agrees_
 
 -- a participant's entry for the offer: the first of its list that matches
 abbrev pub first_match : Offer → List Entry → Option Entry
-first_match o [] = None
-first_match o (entry ∷ entries) = if matches o entry then Some entry else first_match o entries
+first_match o entries = find (matches o) entries
 
 -- whether the entry's colour spaces contain the offer's, or DO_NOT_CARE; no image has none
 abbrev pub takes_colour : Offer → Entry → Bool

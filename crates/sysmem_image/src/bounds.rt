@@ -1,8 +1,8 @@
 ghost use Rattle.std.specs.Prelude.{◌≤◌};
 
-use crate::bounds_table;
+use crate::own::own_bounds;
 use crate::size::Size;
-use sysmem_formats::{Offer, own_alignment, own_row_divisor};
+use sysmem_formats::Offer;
 
 /// What an entry, or several entries merged, ask of an image.
 ///
@@ -30,22 +30,6 @@ pub struct ImageBounds {
     pub ghost display_height_some: { 1 ≤ display_rect_alignment.height },
 }
 
-macro_rules! absent {
-    (() $($name:ident: $shape:ident $rule:ident $field:ident $role:ident $absent:ident $range:ident $more:tt,)*) => {{
-        $(let $name = absent_value!($shape $absent);)*
-        ImageBounds { $($name,)* }
-    }};
-}
-
-macro_rules! absent_value {
-    (number zero) => { 0 };
-    (number one) => { 1 };
-    (number most) => { u32::MAX };
-    (size $absent:ident) => {
-        Size { width: absent_value!(number $absent), height: absent_value!(number $absent) }
-    };
-}
-
 impl ImageBounds {
     ghost use Rattle.std.specs.Prelude.{[]};
     ghost use Rattle.sysmem_image.specs.Bounds.{IsOwn};
@@ -57,10 +41,6 @@ impl ImageBounds {
         ensures own { IsOwn offer.now result }
         ensures merged { MergedOf offer.now [] result }
     {
-        let (width, height) = own_alignment(offer);
-        let mut bounds = bounds_table!(absent!());
-        bounds.size_alignment = Size { width, height };
-        bounds.bytes_per_row_divisor = own_row_divisor(offer);
-        bounds
+        own_bounds(offer)
     }
 }

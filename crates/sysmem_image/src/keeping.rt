@@ -36,8 +36,8 @@ macro_rules! keeps_field {
 /// The first field, in the table's order, in which bounds don't keep to what an entry asks for, or
 /// `None` where they keep to all of it.
 pub fn first_failing(bounds: &ImageBounds, entry: &Entry) -> Option<Field>
-    ensures kept { IfNone result ((o : Offer) → IsTighter bounds.now (effective o entry.now)) }
-    ensures failing { IfSome result (λ field. (o : Offer) → IsFirstFailing field bounds.now (effective o entry.now)) }
+    ensures kept { (o : Offer) → IfNone result (IsTighter bounds.now (effective o entry.now)) }
+    ensures failing { (o : Offer) → IfSome result (λ field. IsFirstFailing field bounds.now (effective o entry.now)) }
 {
     let asked = effective(entry);
     failing_field(bounds, &asked)

@@ -17,6 +17,7 @@ pub mod laws;
 mod matching;
 mod merging;
 mod multiples;
+mod own;
 mod size;
 mod smallest;
 mod table;

@@ -10,12 +10,7 @@ use sysmem_formats::Offer;
 pub fn entry_for<'a>(entries: &'a [Entry], offer: &Offer) -> Option<&'a Entry>
     ensures { option_copied result ≡ first_match offer.now entries.now }
 {
-    for entry in entries {
-        if matches(entry, offer) {
-            return Some(entry);
-        }
-    }
-    None
+    entries.iter().find(|entry| matches(entry, offer))
 }
 
 /// Whether the entry's colour spaces contain the offer's, or `DO_NOT_CARE`. True for no image.

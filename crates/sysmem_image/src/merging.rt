@@ -35,16 +35,16 @@ macro_rules! merged_field {
 ///
 /// Refuses with the first field whose common multiple is above 32 bits; the bounds are unchanged then.
 pub fn merge_into(bounds: &mut ImageBounds, entry: &Entry) -> Result<(), Field>
-    ensures ok { OnOk result ((o : Offer) (s : ImageBounds) →
+    ensures ok { (o : Offer) → OnOk result ((s : ImageBounds) →
         IsTighter s bounds.new ↔ (IsTighter s bounds.old × IsTighter s (effective o entry.now))) }
-    ensures merged { OnOk result ((o : Offer) (es : List ImageBounds) →
-        MergedOf o es bounds.old → MergedOf o (es ++ effective o entry.now ∷ []) bounds.new) }
+    ensures merged { (o : Offer) (es : List ImageBounds) → MergedOf o es bounds.old →
+        OnOk result (MergedOf o (es ++ effective o entry.now ∷ []) bounds.new) }
     ensures unchanged { OnErr result (bounds.new ≡ bounds.old) }
-    ensures line { IfErr result (λ field. (o : Offer) (es : List ImageBounds) →
-        MergedOf o es bounds.old → IsFirstLine field o (es ++ effective o entry.now ∷ [])) }
+    ensures line { (o : Offer) (es : List ImageBounds) → MergedOf o es bounds.old →
+        IfErr result (λ field. IsFirstLine field o (es ++ effective o entry.now ∷ [])) }
     ensures steady { IfErr result IsSteady }
-    ensures none { OnErr result ((o : Offer) (es : List ImageBounds) →
-        MergedOf o es bounds.old → NoneMerge o (es ++ effective o entry.now ∷ [])) }
+    ensures none { (o : Offer) (es : List ImageBounds) → MergedOf o es bounds.old →
+        OnErr result (NoneMerge o (es ++ effective o entry.now ∷ [])) }
 {
     let more = effective(entry);
     *bounds = merged(bounds, &more)?;

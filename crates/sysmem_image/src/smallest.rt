@@ -1,6 +1,7 @@
-ghost use Rattle.std.specs.Prelude.{◌≡◌, ℕ, ◌≤◌, ◌<◌, ◌^◌, ◌↔◌, IsTrue, List, IfOk, IfErr};
+ghost use Rattle.std.specs.Prelude.{◌≡◌, ℕ, ◌≤◌, ◌<◌, ◌^◌, ◌↔◌, IsTrue, List, IfOk, IfErr, OnErr};
 ghost use Rattle.std.specs.Int.{◌∣◌};
 ghost use Rattle.sysmem_image.specs.declared.bounds.ImageBounds.{ImageBounds};
+ghost use Rattle.sysmem_counts.specs.declared.field.Field.{Field};
 ghost use Rattle.sysmem_image.specs.Size.{IsSizeUpTo};
 ghost use Rattle.sysmem_image.specs.Merged.{MergedOf};
 ghost use Rattle.sysmem_image.specs.Corners.{IsCorner, HasNoCorner, EarlierHold, IsLeastAbove};
@@ -36,8 +37,8 @@ pub fn corner(bounds: &ImageBounds, offer: &Offer) -> Result<Corner, Field>
     ensures corner { IfOk result (λ k. IsCorner offer.now bounds.now k) }
     ensures required { IfOk result (λ _. IsSizeUpTo bounds.now.min_size bounds.now.required_min_size) }
     ensures none { IfErr result (λ field. HasNoCorner field offer.now bounds.now) }
-    ensures line { IfErr result (λ field. (es : List ImageBounds) →
-        MergedOf offer.now es bounds.now → IsFirstLine field offer.now es) }
+    ensures line { (es : List ImageBounds) → MergedOf offer.now es bounds.now →
+        IfErr result (λ field. IsFirstLine field offer.now es) }
 {
     corner_of(bounds, offer)
 }
@@ -57,20 +58,8 @@ fn corner_of(bounds: &ImageBounds, offer: &Offer) -> Result<Corner, Field>
     if !required {
         return Err(Field::RequiredMinSize);
     }
-    let width = least_within(
-        step.width,
-        low.width,
-        u64::from(large.width),
-        high.width,
-        Field::MaxSize,
-    )?;
-    let height = least_within(
-        step.height,
-        low.height,
-        u64::from(large.height),
-        high.height,
-        Field::MaxSize,
-    )?;
+    let width = least_side(step.width, low.width, large.width, high.width)?;
+    let height = least_side(step.height, low.height, large.height, high.height)?;
     let bytes_per_row = least_within(
         bounds_table!(part!(row_step bounds)),
         bounds_table!(part!(row_low bounds)),
@@ -87,6 +76,17 @@ fn corner_of(bounds: &ImageBounds, offer: &Offer) -> Result<Corner, Field>
     })
 }
 
+/// The least multiple of a side's step that isn't below its two lower bounds.
+fn least_side(step: u32, low: u32, large: u32, max: u32) -> Result<u32, Field>
+    requires { 1 ≤ step }
+    ensures ok { IfOk result (λ m. IsLeastAbove step low large m) }
+    ensures within { IfOk result (λ m. m ≤ max) }
+    ensures named { IfErr result (λ f. f ≡ Field.MaxSize) }
+    ensures none { OnErr result ((k : ℕ) → step ∣ k → low ≤ k → large ≤ k → max < k) }
+{
+    least_within(step, low, u64::from(large), max, Field::MaxSize)
+}
+
 /// The least multiple of a step that isn't below two numbers, or the field where it is above a third.
 fn least_within(step: u32, low: u32, other: u64, max: u32, field: Field) -> Result<u32, Field>
     requires step { 1 ≤ step }
@@ -94,7 +94,7 @@ fn least_within(step: u32, low: u32, other: u64, max: u32, field: Field) -> Resu
     ensures ok { IfOk result (λ m. IsLeastAbove step low other m) }
     ensures within { IfOk result (λ m. m ≤ max) }
     ensures named { IfErr result (λ f. f ≡ field) }
-    ensures none { IfErr result (λ _. (k : ℕ) → step ∣ k → low ≤ k → other ≤ k → max < k) }
+    ensures none { OnErr result ((k : ℕ) → step ∣ k → low ≤ k → other ≤ k → max < k) }
 {
     let from = other.max(u64::from(low));
     let least = from.next_multiple_of(u64::from(step));
