@@ -93,6 +93,6 @@ impl ColourSet {
     pub fn accepts(&self, colour: ColourSpace) -> bool
         ensures { result ≡ accepts self.now colour }
     {
-        self.any || self.lists(colour)
+        self.lists_any() || self.lists(colour)
     }
 }

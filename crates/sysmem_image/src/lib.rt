@@ -31,3 +31,6 @@ pub use merging::merge_into;
 pub use multiples::lcm_capped;
 pub use size::{Corner, Size};
 pub use smallest::corner;
+
+#[cfg(test)]
+mod tests;
