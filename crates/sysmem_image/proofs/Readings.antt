@@ -95,7 +95,7 @@ merged_reads o es b old = record {
 
 -- where bounds were merged, no line about a common multiple is true
 no_size_line : (o : Offer) (es : List ImageBounds) (b : ImageBounds) → MergedOf o es b → ¬ IsBoundsLine SizeAlignment o es
-no_size_line o es b old = λ line. let meet = alignments_meet o es b old in elim line as (λ _. ⊥) [ inl no ↦ no meet.0 | inr no ↦ no meet.1 ]
+no_size_line o es b old = λ line. let meet = alignments_meet o es b old in elim line as (λ _. ⊥) [ inl unmet ↦ unmet meet.0 | inr unmet ↦ unmet meet.1 ]
 
 no_row_line : (o : Offer) (es : List ImageBounds) (b : ImageBounds) → MergedOf o es b → ¬ IsBoundsLine BytesPerRowDivisor o es
 no_row_line o es b old = λ line. line (divisors_meet o es b old)
@@ -105,17 +105,17 @@ no_start_line o es b old = λ line. line (common_merged 1 (λ e. e.start_offset_
 
 no_display_line : (o : Offer) (es : List ImageBounds) (b : ImageBounds) → MergedOf o es b → ¬ IsBoundsLine DisplayRectAlignment o es
 no_display_line o es b old = λ line. elim line as (λ _. ⊥) [
-  inl no ↦ no (common_merged 1 (λ e. e.display_rect_alignment.width) es b.display_rect_alignment.width b.display_width_some old.in_range.display_rect_alignment.width old.display_width_step)
-| inr no ↦ no (common_merged 1 (λ e. e.display_rect_alignment.height) es b.display_rect_alignment.height b.display_height_some old.in_range.display_rect_alignment.height old.display_height_step)
+  inl unmet ↦ unmet (common_merged 1 (λ e. e.display_rect_alignment.width) es b.display_rect_alignment.width b.display_width_some old.in_range.display_rect_alignment.width old.display_width_step)
+  | inr unmet ↦ unmet (common_merged 1 (λ e. e.display_rect_alignment.height) es b.display_rect_alignment.height b.display_height_some old.in_range.display_rect_alignment.height old.display_height_step)
 ]
 
 -- where min_size is at most required_min_size, their line isn't true
 no_required_line : (o : Offer) (es : List ImageBounds) (b : ImageBounds) → MergedOf o es b → IsSizeUpTo b.min_size b.required_min_size → ¬ IsBoundsLine RequiredMinSize o es
 no_required_line o es b old fits = λ line. elim line as (λ _. ⊥) [
-  inl no ↦ no b.min_size.width b.min_width_some old.in_range.min_size.width
+  inl unmet ↦ unmet b.min_size.width b.min_width_some old.in_range.min_size.width
     ((old.min_width.exactly b.min_size.width old.min_width.suits).0 (omega arith))
     ((old.required_min_width.exactly b.min_size.width old.in_range.min_size.width).0 fits.width)
-| inr no ↦ no b.min_size.height b.min_height_some old.in_range.min_size.height
+  | inr unmet ↦ unmet b.min_size.height b.min_height_some old.in_range.min_size.height
     ((old.min_height.exactly b.min_size.height old.min_height.suits).0 (omega arith))
     ((old.required_min_height.exactly b.min_size.height old.in_range.min_size.height).0 fits.height)
 ]
@@ -126,8 +126,8 @@ no_max_line o es b old has = λ line.
     let narrow : has.width ≤ 4294967295 = omega (arith, has.max_width, old.in_range.max_size.width) in
     let low : has.height ≤ 4294967295 = omega (arith, has.max_height, old.in_range.max_size.height) in
     elim line.1 as (λ _. ⊥) [
-      inl no ↦ no has.width narrow ((width_reads o es b old has.width).0 has.is_width) ((old.max_width.exactly has.width narrow).0 has.max_width)
-    | inr no ↦ no has.height low ((height_reads o es b old has.height).0 has.is_height) ((old.max_height.exactly has.height low).0 has.max_height)
+      inl unmet ↦ unmet has.width narrow ((width_reads o es b old has.width).0 has.is_width) ((old.max_width.exactly has.width narrow).0 has.max_width)
+    | inr unmet ↦ unmet has.height low ((height_reads o es b old has.height).0 has.is_height) ((old.max_height.exactly has.height low).0 has.max_height)
     ]
 
 -- where the merged min_size is above the merged required_min_size, so it is in the list
@@ -156,13 +156,13 @@ corner_line RequiredMinSize o es b none old =
       ]
     ]
 corner_line MaxSize o es b none old = (alignments_meet o es b old, elim none as (λ _. WidthAbove o es ⊎ HeightAbove o es) [
-  inl no ↦ inl (λ w small fits maxima.
-    let below : b.max_size.width < w = no w ((width_reads o es b old w).1 fits) in
+  inl unmet ↦ inl (λ w small fits maxima.
+    let below : b.max_size.width < w = unmet w ((width_reads o es b old w).1 fits) in
     let up_to : w ≤ b.max_size.width = (old.max_width.exactly w small).1 maxima in
     let never : ⊥ = omega arith in
     never)
-| inr no ↦ inr (λ h small fits maxima.
-    let below : b.max_size.height < h = no h ((height_reads o es b old h).1 fits) in
+  | inr unmet ↦ inr (λ h small fits maxima.
+    let below : b.max_size.height < h = unmet h ((height_reads o es b old h).1 fits) in
     let up_to : h ≤ b.max_size.height = (old.max_height.exactly h small).1 maxima in
     let never : ⊥ = omega arith in
     never)

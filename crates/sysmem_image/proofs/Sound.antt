@@ -63,8 +63,8 @@ fits_image o es s i sound all =
 -- bounds that keep to a list in the field have a common multiple: the line isn't true
 size_line_holds : (o : Offer) (es : List ImageBounds) → IsBoundsLine SizeAlignment o es → (s : ImageBounds) → IsInRange s → Suits o s → All (λ e. DividesSize e.size_alignment s.size_alignment) es → ⊥
 size_line_holds o es line s in_range suits all = elim line as (λ _. ⊥) [
-  inl no ↦ no (common_kept (width_alignment_of o) (λ e. e.size_alignment.width) es s.size_alignment.width s.width_step_some in_range.size_alignment.width suits.width (all_map (λ e. DividesSize e.size_alignment s.size_alignment) (λ e. e.size_alignment.width ∣ s.size_alignment.width) es (λ e k. k.width) all))
-| inr no ↦ no (common_kept (height_alignment_of o) (λ e. e.size_alignment.height) es s.size_alignment.height s.height_step_some in_range.size_alignment.height suits.height (all_map (λ e. DividesSize e.size_alignment s.size_alignment) (λ e. e.size_alignment.height ∣ s.size_alignment.height) es (λ e k. k.height) all))
+  inl unmet ↦ unmet (common_kept (width_alignment_of o) (λ e. e.size_alignment.width) es s.size_alignment.width s.width_step_some in_range.size_alignment.width suits.width (all_map (λ e. DividesSize e.size_alignment s.size_alignment) (λ e. e.size_alignment.width ∣ s.size_alignment.width) es (λ e k. k.width) all))
+  | inr unmet ↦ unmet (common_kept (height_alignment_of o) (λ e. e.size_alignment.height) es s.size_alignment.height s.height_step_some in_range.size_alignment.height suits.height (all_map (λ e. DividesSize e.size_alignment s.size_alignment) (λ e. e.size_alignment.height ∣ s.size_alignment.height) es (λ e k. k.height) all))
 ]
 
 row_line_holds : (o : Offer) (es : List ImageBounds) → IsBoundsLine BytesPerRowDivisor o es → (s : ImageBounds) → IsInRange s → Suits o s → All (λ e. e.bytes_per_row_divisor ∣ s.bytes_per_row_divisor) es → ⊥
@@ -75,8 +75,8 @@ start_line_holds o es line s in_range all = line (common_kept 1 (λ e. e.start_o
 
 display_line_holds : (o : Offer) (es : List ImageBounds) → IsBoundsLine DisplayRectAlignment o es → (s : ImageBounds) → IsInRange s → All (λ e. DividesSize e.display_rect_alignment s.display_rect_alignment) es → ⊥
 display_line_holds o es line s in_range all = elim line as (λ _. ⊥) [
-  inl no ↦ no (common_kept 1 (λ e. e.display_rect_alignment.width) es s.display_rect_alignment.width s.display_width_some in_range.display_rect_alignment.width (one-dvd s.display_rect_alignment.width) (all_map (λ e. DividesSize e.display_rect_alignment s.display_rect_alignment) (λ e. e.display_rect_alignment.width ∣ s.display_rect_alignment.width) es (λ e k. k.width) all))
-| inr no ↦ no (common_kept 1 (λ e. e.display_rect_alignment.height) es s.display_rect_alignment.height s.display_height_some in_range.display_rect_alignment.height (one-dvd s.display_rect_alignment.height) (all_map (λ e. DividesSize e.display_rect_alignment s.display_rect_alignment) (λ e. e.display_rect_alignment.height ∣ s.display_rect_alignment.height) es (λ e k. k.height) all))
+  inl unmet ↦ unmet (common_kept 1 (λ e. e.display_rect_alignment.width) es s.display_rect_alignment.width s.display_width_some in_range.display_rect_alignment.width (one-dvd s.display_rect_alignment.width) (all_map (λ e. DividesSize e.display_rect_alignment s.display_rect_alignment) (λ e. e.display_rect_alignment.width ∣ s.display_rect_alignment.width) es (λ e k. k.width) all))
+  | inr unmet ↦ unmet (common_kept 1 (λ e. e.display_rect_alignment.height) es s.display_rect_alignment.height s.display_height_some in_range.display_rect_alignment.height (one-dvd s.display_rect_alignment.height) (all_map (λ e. DividesSize e.display_rect_alignment s.display_rect_alignment) (λ e. e.display_rect_alignment.height ∣ s.display_rect_alignment.height) es (λ e k. k.height) all))
 ]
 
 -- a true line leaves no sound bounds that keep to the list in the fields that it reads
@@ -86,10 +86,10 @@ line_holds BytesPerRowDivisor o es line s i sound all = row_line_holds o es line
 line_holds StartOffsetDivisor o es line s i sound all = start_line_holds o es line s sound.in_range all
 line_holds DisplayRectAlignment o es line s i sound all = display_line_holds o es line s sound.in_range all
 line_holds RequiredMinSize o es line s i sound all = elim line as (λ _. ⊥) [
-  inl no ↦ no s.min_size.width s.min_width_some sound.in_range.min_size.width
+  inl unmet ↦ unmet s.min_size.width s.min_width_some sound.in_range.min_size.width
     (all_map (KeepsLine RequiredMinSize s) (λ e. e.min_size.width ≤ s.min_size.width) es (λ e k. k.0.width) all)
     (all_map (KeepsLine RequiredMinSize s) (λ e. s.min_size.width ≤ e.required_min_size.width) es (λ e k. omega (arith, k.1.width, sound.required.width)) all)
-| inr no ↦ no s.min_size.height s.min_height_some sound.in_range.min_size.height
+  | inr unmet ↦ unmet s.min_size.height s.min_height_some sound.in_range.min_size.height
     (all_map (KeepsLine RequiredMinSize s) (λ e. e.min_size.height ≤ s.min_size.height) es (λ e k. k.0.height) all)
     (all_map (KeepsLine RequiredMinSize s) (λ e. s.min_size.height ≤ e.required_min_size.height) es (λ e k. omega (arith, k.1.height, sound.required.height)) all)
 ]
@@ -98,9 +98,9 @@ line_holds MaxSize o es line s i sound all =
     let steps = all_map (KeepsLine MaxSize s) (λ e. DividesSize e.size_alignment s.size_alignment) es (λ e k. k.2) all in
     let larges = all_map (KeepsLine MaxSize s) (λ e. IsSizeUpTo e.required_max_size s.required_max_size) es (λ e k. k.3) all in
     elim line.1 as (λ _. ⊥) [
-      inl no ↦ no i.width (omega (arith, sound.admitted.max_width, sound.in_range.max_size.width)) (fits_width o es s i sound mins steps larges)
+      inl unmet ↦ unmet i.width (omega (arith, sound.admitted.max_width, sound.in_range.max_size.width)) (fits_width o es s i sound mins steps larges)
         (all_map (KeepsLine MaxSize s) (λ e. i.width ≤ e.max_size.width) es (λ e k. omega (arith, k.1.width, sound.admitted.max_width)) all)
-    | inr no ↦ no i.height (omega (arith, sound.admitted.max_height, sound.in_range.max_size.height)) (fits_height o es s i sound mins steps larges)
+    | inr unmet ↦ unmet i.height (omega (arith, sound.admitted.max_height, sound.in_range.max_size.height)) (fits_height o es s i sound mins steps larges)
         (all_map (KeepsLine MaxSize s) (λ e. i.height ≤ e.max_size.height) es (λ e k. omega (arith, k.1.height, sound.admitted.max_height)) all)
     ]
 line_holds MaxBytesPerRow o es line s i sound all =

@@ -59,8 +59,8 @@ none_more own f es e none = λ common. none (common.0, record {
 -- the alignments have common multiples: their line isn't true
 no_size_line : (o : Offer) (es : List ImageBounds) (a b : ImageBounds) → MergedOf o es a → HasSizeMultiple a.size_alignment b.size_alignment → ¬ IsBoundsLine SizeAlignment o (es ++ b ∷ [])
 no_size_line o es a b old has = λ line. elim line as (λ _. ⊥) [
-  inl no ↦ no (common_more (width_alignment_of o) (λ e. e.size_alignment.width) es b a.size_alignment.width old.width_step has.width)
-| inr no ↦ no (common_more (height_alignment_of o) (λ e. e.size_alignment.height) es b a.size_alignment.height old.height_step has.height)
+  inl unmet ↦ unmet (common_more (width_alignment_of o) (λ e. e.size_alignment.width) es b a.size_alignment.width old.width_step has.width)
+  | inr unmet ↦ unmet (common_more (height_alignment_of o) (λ e. e.size_alignment.height) es b a.size_alignment.height old.height_step has.height)
 ]
 
 -- the same of the row divisors
@@ -101,13 +101,13 @@ above_line _ o es a b above old = absurd above
 pub steady_line : (f : Field) → IsSteady f → (o : Offer) (es : List ImageBounds) (e : ImageBounds) → IsBoundsLine f o es → IsBoundsLine f o (es ++ e ∷ [])
 steady_line SizeAlignment steady o es e line = elim line as (λ _. IsBoundsLine SizeAlignment o (es ++ e ∷ [])) [
   inl w ↦ inl (none_more (width_alignment_of o) (λ x. x.size_alignment.width) es e w)
-| inr h ↦ inr (none_more (height_alignment_of o) (λ x. x.size_alignment.height) es e h)
+  | inr h ↦ inr (none_more (height_alignment_of o) (λ x. x.size_alignment.height) es e h)
 ]
 steady_line BytesPerRowDivisor steady o es e line = none_more (row_divisor_of o) (λ x. x.bytes_per_row_divisor) es e line
 steady_line StartOffsetDivisor steady o es e line = none_more 1 (λ x. x.start_offset_divisor) es e line
 steady_line DisplayRectAlignment steady o es e line = elim line as (λ _. IsBoundsLine DisplayRectAlignment o (es ++ e ∷ [])) [
   inl w ↦ inl (none_more 1 (λ x. x.display_rect_alignment.width) es e w)
-| inr h ↦ inr (none_more 1 (λ x. x.display_rect_alignment.height) es e h)
+  | inr h ↦ inr (none_more 1 (λ x. x.display_rect_alignment.height) es e h)
 ]
 steady_line _ steady o es e line = absurd steady
 

@@ -10,13 +10,13 @@ pub returns-in_err-bounds-clause-line : goal.returns-in_err-bounds-clause-line
 returns-in_err-bounds-clause-line c = λ o es old.
     let p = err_from_is_err_and c.from_residual.result c.from_residual.ensures.1 in
     let above = rw (c.effective-more.ensures o) at c.in_err-bounds.ensures.above in
-    rw (p.1, p.2) (above_line c.in_err-bounds.field-0 o es c.args.bounds.now (effective o c.args.entry.now) above old)
+    rw (p.1, p.2) (above_line _ o es c.args.bounds.now (effective o c.args.entry.now) above old)
 
 pub returns-in_err-bounds-clause-none : goal.returns-in_err-bounds-clause-none
 returns-in_err-bounds-clause-none c = λ o es old.
     let p = err_from_is_err_and c.from_residual.result c.from_residual.ensures.1 in
     let above = rw (c.effective-more.ensures o) at c.in_err-bounds.ensures.above in
-    rw p.1 (above_none c.in_err-bounds.field-0 o es c.args.bounds.now (effective o c.args.entry.now) above old)
+    rw p.1 (above_none _ o es c.args.bounds.now (effective o c.args.entry.now) above old)
 
 pub returns-clause-ok : goal.returns-clause-ok
 returns-clause-ok c = λ o s.
