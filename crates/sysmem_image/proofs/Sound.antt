@@ -1,4 +1,4 @@
-use Rattle.std.proofs.Common.{ℕ, ◌<◌, ◌≤◌, ◌⊎◌, List, [], ◌∷◌, ◌++◌, arith, inl, inr}
+use Rattle.std.proofs.Common.{◌≤◌, List, [], ◌∷◌, ◌++◌, arith, inl, inr}
 use Rattle.std.specs.Prelude.{All}
 use Rattle.std.specs.Int.{◌∣◌}
 use Rattle.std.proofs.Math.Nat.{one-dvd}
@@ -23,7 +23,7 @@ fits_width o es s i sound mins steps larges = record {
   own = dvd_trans (width_alignment_of o) sound.suits.width sound.admitted.width_step;
   step = all_map (λ e. DividesSize e.size_alignment s.size_alignment) (λ e. e.size_alignment.width ∣ i.width) es (λ e k. dvd_trans e.size_alignment.width k.width sound.admitted.width_step) steps;
   least = all_map (λ e. IsSizeUpTo e.min_size s.min_size) (λ e. e.min_size.width ≤ i.width) es (λ e k. omega (arith, k.width, sound.admitted.min_width)) mins;
-  required = all_map (λ e. IsSizeUpTo e.required_max_size s.required_max_size) (λ e. e.required_max_size.width ≤ i.width) es (λ e k. omega (arith, k.width, sound.large.width)) larges
+  required = all_map (λ e. IsSizeUpTo e.required_max_size s.required_max_size) (λ e. e.required_max_size.width ≤ i.width) es (λ e k. omega (arith, k.width, sound.large.width)) larges;
 }
 
 -- the height of a sound image is as a list asks, if the bounds keep to its fields
@@ -33,7 +33,7 @@ fits_height o es s i sound mins steps larges = record {
   own = dvd_trans (height_alignment_of o) sound.suits.height sound.admitted.height_step;
   step = all_map (λ e. DividesSize e.size_alignment s.size_alignment) (λ e. e.size_alignment.height ∣ i.height) es (λ e k. dvd_trans e.size_alignment.height k.height sound.admitted.height_step) steps;
   least = all_map (λ e. IsSizeUpTo e.min_size s.min_size) (λ e. e.min_size.height ≤ i.height) es (λ e k. omega (arith, k.height, sound.admitted.min_height)) mins;
-  required = all_map (λ e. IsSizeUpTo e.required_max_size s.required_max_size) (λ e. e.required_max_size.height ≤ i.height) es (λ e k. omega (arith, k.height, sound.large.height)) larges
+  required = all_map (λ e. IsSizeUpTo e.required_max_size s.required_max_size) (λ e. e.required_max_size.height ≤ i.height) es (λ e k. omega (arith, k.height, sound.large.height)) larges;
 }
 
 -- the row of a sound image is as a list asks, if the bounds keep to its fields
@@ -43,7 +43,7 @@ fits_row o es s i sound mins steps = record {
   own = dvd_trans (row_divisor_of o) sound.suits.row sound.admitted.row_step;
   step = all_map (λ e. e.bytes_per_row_divisor ∣ s.bytes_per_row_divisor) (λ e. e.bytes_per_row_divisor ∣ i.row) es (λ e k. dvd_trans e.bytes_per_row_divisor k sound.admitted.row_step) steps;
   least = all_map (λ e. e.min_bytes_per_row ≤ s.min_bytes_per_row) (λ e. e.min_bytes_per_row ≤ i.row) es (λ e k. omega (arith, k, sound.admitted.min_row)) mins;
-  row_bytes = sound.admitted.row_bytes
+  row_bytes = sound.admitted.row_bytes;
 }
 
 -- a sound image is as a list asks, if the bounds keep to it in the fields that the corner reads
@@ -56,14 +56,14 @@ fits_image o es s i sound all =
       width = fits_width o es s i sound mins steps larges;
       height = fits_height o es s i sound mins steps larges;
       row = fits_row o es s i sound
-        (all_map (KeepsCorner s) (λ e. e.min_bytes_per_row ≤ s.min_bytes_per_row) es (λ e k. k.min_bytes_per_row) all)
-        (all_map (KeepsCorner s) (λ e. e.bytes_per_row_divisor ∣ s.bytes_per_row_divisor) es (λ e k. k.bytes_per_row_divisor) all)
+          (all_map (KeepsCorner s) (λ e. e.min_bytes_per_row ≤ s.min_bytes_per_row) es (λ e k. k.min_bytes_per_row) all)
+          (all_map (KeepsCorner s) (λ e. e.bytes_per_row_divisor ∣ s.bytes_per_row_divisor) es (λ e k. k.bytes_per_row_divisor) all);
     }
 
 -- bounds that keep to a list in the field have a common multiple: the line isn't true
 size_line_holds : (o : Offer) (es : List ImageBounds) → IsBoundsLine SizeAlignment o es → (s : ImageBounds) → IsInRange s → Suits o s → All (λ e. DividesSize e.size_alignment s.size_alignment) es → ⊥
 size_line_holds o es line s in_range suits all = elim line as (λ _. ⊥) [
-  inl unmet ↦ unmet (common_kept (width_alignment_of o) (λ e. e.size_alignment.width) es s.size_alignment.width s.width_step_some in_range.size_alignment.width suits.width (all_map (λ e. DividesSize e.size_alignment s.size_alignment) (λ e. e.size_alignment.width ∣ s.size_alignment.width) es (λ e k. k.width) all))
+  | inl unmet ↦ unmet (common_kept (width_alignment_of o) (λ e. e.size_alignment.width) es s.size_alignment.width s.width_step_some in_range.size_alignment.width suits.width (all_map (λ e. DividesSize e.size_alignment s.size_alignment) (λ e. e.size_alignment.width ∣ s.size_alignment.width) es (λ e k. k.width) all))
   | inr unmet ↦ unmet (common_kept (height_alignment_of o) (λ e. e.size_alignment.height) es s.size_alignment.height s.height_step_some in_range.size_alignment.height suits.height (all_map (λ e. DividesSize e.size_alignment s.size_alignment) (λ e. e.size_alignment.height ∣ s.size_alignment.height) es (λ e k. k.height) all))
 ]
 
@@ -75,7 +75,7 @@ start_line_holds o es line s in_range all = line (common_kept 1 (λ e. e.start_o
 
 display_line_holds : (o : Offer) (es : List ImageBounds) → IsBoundsLine DisplayRectAlignment o es → (s : ImageBounds) → IsInRange s → All (λ e. DividesSize e.display_rect_alignment s.display_rect_alignment) es → ⊥
 display_line_holds o es line s in_range all = elim line as (λ _. ⊥) [
-  inl unmet ↦ unmet (common_kept 1 (λ e. e.display_rect_alignment.width) es s.display_rect_alignment.width s.display_width_some in_range.display_rect_alignment.width (one-dvd s.display_rect_alignment.width) (all_map (λ e. DividesSize e.display_rect_alignment s.display_rect_alignment) (λ e. e.display_rect_alignment.width ∣ s.display_rect_alignment.width) es (λ e k. k.width) all))
+  | inl unmet ↦ unmet (common_kept 1 (λ e. e.display_rect_alignment.width) es s.display_rect_alignment.width s.display_width_some in_range.display_rect_alignment.width (one-dvd s.display_rect_alignment.width) (all_map (λ e. DividesSize e.display_rect_alignment s.display_rect_alignment) (λ e. e.display_rect_alignment.width ∣ s.display_rect_alignment.width) es (λ e k. k.width) all))
   | inr unmet ↦ unmet (common_kept 1 (λ e. e.display_rect_alignment.height) es s.display_rect_alignment.height s.display_height_some in_range.display_rect_alignment.height (one-dvd s.display_rect_alignment.height) (all_map (λ e. DividesSize e.display_rect_alignment s.display_rect_alignment) (λ e. e.display_rect_alignment.height ∣ s.display_rect_alignment.height) es (λ e k. k.height) all))
 ]
 
@@ -86,27 +86,27 @@ line_holds BytesPerRowDivisor o es line s i sound all = row_line_holds o es line
 line_holds StartOffsetDivisor o es line s i sound all = start_line_holds o es line s sound.in_range all
 line_holds DisplayRectAlignment o es line s i sound all = display_line_holds o es line s sound.in_range all
 line_holds RequiredMinSize o es line s i sound all = elim line as (λ _. ⊥) [
-  inl unmet ↦ unmet s.min_size.width s.min_width_some sound.in_range.min_size.width
-    (all_map (KeepsLine RequiredMinSize s) (λ e. e.min_size.width ≤ s.min_size.width) es (λ e k. k.0.width) all)
-    (all_map (KeepsLine RequiredMinSize s) (λ e. s.min_size.width ≤ e.required_min_size.width) es (λ e k. omega (arith, k.1.width, sound.required.width)) all)
+  | inl unmet ↦ unmet s.min_size.width s.min_width_some sound.in_range.min_size.width
+      (all_map (KeepsLine RequiredMinSize s) (λ e. e.min_size.width ≤ s.min_size.width) es (λ e k. k.0.width) all)
+      (all_map (KeepsLine RequiredMinSize s) (λ e. s.min_size.width ≤ e.required_min_size.width) es (λ e k. omega (arith, k.1.width, sound.required.width)) all)
   | inr unmet ↦ unmet s.min_size.height s.min_height_some sound.in_range.min_size.height
-    (all_map (KeepsLine RequiredMinSize s) (λ e. e.min_size.height ≤ s.min_size.height) es (λ e k. k.0.height) all)
-    (all_map (KeepsLine RequiredMinSize s) (λ e. s.min_size.height ≤ e.required_min_size.height) es (λ e k. omega (arith, k.1.height, sound.required.height)) all)
+      (all_map (KeepsLine RequiredMinSize s) (λ e. e.min_size.height ≤ s.min_size.height) es (λ e k. k.0.height) all)
+      (all_map (KeepsLine RequiredMinSize s) (λ e. s.min_size.height ≤ e.required_min_size.height) es (λ e k. omega (arith, k.1.height, sound.required.height)) all)
 ]
 line_holds MaxSize o es line s i sound all =
     let mins = all_map (KeepsLine MaxSize s) (λ e. IsSizeUpTo e.min_size s.min_size) es (λ e k. k.0) all in
     let steps = all_map (KeepsLine MaxSize s) (λ e. DividesSize e.size_alignment s.size_alignment) es (λ e k. k.2) all in
     let larges = all_map (KeepsLine MaxSize s) (λ e. IsSizeUpTo e.required_max_size s.required_max_size) es (λ e k. k.3) all in
     elim line.1 as (λ _. ⊥) [
-      inl unmet ↦ unmet i.width (omega (arith, sound.admitted.max_width, sound.in_range.max_size.width)) (fits_width o es s i sound mins steps larges)
-        (all_map (KeepsLine MaxSize s) (λ e. i.width ≤ e.max_size.width) es (λ e k. omega (arith, k.1.width, sound.admitted.max_width)) all)
-    | inr unmet ↦ unmet i.height (omega (arith, sound.admitted.max_height, sound.in_range.max_size.height)) (fits_height o es s i sound mins steps larges)
-        (all_map (KeepsLine MaxSize s) (λ e. i.height ≤ e.max_size.height) es (λ e k. omega (arith, k.1.height, sound.admitted.max_height)) all)
+      | inl unmet ↦ unmet i.width (omega (arith, sound.admitted.max_width, sound.in_range.max_size.width)) (fits_width o es s i sound mins steps larges)
+          (all_map (KeepsLine MaxSize s) (λ e. i.width ≤ e.max_size.width) es (λ e k. omega (arith, k.1.width, sound.admitted.max_width)) all)
+      | inr unmet ↦ unmet i.height (omega (arith, sound.admitted.max_height, sound.in_range.max_size.height)) (fits_height o es s i sound mins steps larges)
+          (all_map (KeepsLine MaxSize s) (λ e. i.height ≤ e.max_size.height) es (λ e k. omega (arith, k.1.height, sound.admitted.max_height)) all)
     ]
 line_holds MaxBytesPerRow o es line s i sound all =
     let fits = fits_image o es s i sound (all_map (KeepsLine MaxBytesPerRow s) (KeepsCorner s) es (λ e k. k.0) all) in
     line.2 i.width i.row (omega (arith, sound.admitted.max_row, sound.in_range.max_bytes_per_row)) fits.width fits.row
-      (all_map (KeepsLine MaxBytesPerRow s) (λ e. i.row ≤ e.max_bytes_per_row) es (λ e k. omega (arith, k.1, sound.admitted.max_row)) all)
+    (all_map (KeepsLine MaxBytesPerRow s) (λ e. i.row ≤ e.max_bytes_per_row) es (λ e k. omega (arith, k.1, sound.admitted.max_row)) all)
 line_holds _ o es line s i sound all = absurd line
 
 -- a true line about a common multiple leaves no bounds that keep to each of the list

@@ -1,5 +1,3 @@
-use Rattle.std.proofs.Common.{IfSome, IfNone}
-use Rattle.sysmem_image.specs.Bounds.{IsTighter, IsFirstFailing}
 use Rattle.sysmem_image.proofs.keeping.first_failing.Goals as goal
 
 pub returns-clause-kept : goal.returns-clause-kept

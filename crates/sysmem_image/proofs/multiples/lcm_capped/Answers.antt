@@ -1,4 +1,4 @@
-use Rattle.std.proofs.Common.{◌≡◌, ◌*◌, ◌/◌, ◌≤◌, ◌<◌, sym, subst, arith}
+use Rattle.std.proofs.Common.{◌≡◌, ◌*◌, ◌/◌, ◌≤◌, subst, arith}
 use Rattle.sysmem_image.specs.Multiples.{IsLcm}
 use Rattle.sysmem_image.proofs.Divide.{lcm_from_gcd, lcm_some, lcm_above}
 use Rattle.sysmem_image.proofs.multiples.lcm_capped.Goals as goal

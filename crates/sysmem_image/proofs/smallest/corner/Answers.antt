@@ -1,4 +1,3 @@
-use Rattle.std.proofs.Common.{IfErr}
 use Rattle.sysmem_image.proofs.Readings.{first_line_of}
 use Rattle.sysmem_image.proofs.smallest.corner.Goals as goal
 

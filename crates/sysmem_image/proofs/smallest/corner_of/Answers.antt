@@ -8,10 +8,10 @@ returns-clause-corner c =
       width = c.in_ok-width.width;
       height = c.in_ok-height.height;
       bytes_per_row = c.in_ok-bytes_per_row.bytes_per_row;
-      bytes = c.image_bytes-bytes.result
+      bytes = c.image_bytes-bytes.result;
     } in
     let long = rw c.row_bytes.ensures.value at c.in_ok-bytes_per_row.ensures.ok in
     corner_from c.args.offer.now c.args.bounds.now k
-      c.in_ok-width.ensures.ok c.in_ok-width.ensures.within
-      c.in_ok-height.ensures.ok c.in_ok-height.ensures.within
-      long c.in_ok-bytes_per_row.ensures.within c.image_bytes-bytes.ensures
+    c.in_ok-width.ensures.ok c.in_ok-width.ensures.within
+    c.in_ok-height.ensures.ok c.in_ok-height.ensures.within
+    long c.in_ok-bytes_per_row.ensures.within c.image_bytes-bytes.ensures
