@@ -3,8 +3,6 @@ use Rattle.sysmem_formats.specs.declared.pixel_format.PixelFormat.{PixelFormat}
 use Rattle.sysmem_formats.specs.declared.pixel_format.PixelFormat.TheVariants.{R8G8B8A8, B8G8R8A8, R8G8B8X8, B8G8R8X8, R8G8B8, B8G8R8, R5G6B5, R8G8, YUY2, R8, L8, I420, YV12, NV12, P010}
 use Rattle.sysmem_formats.specs.declared.modifier.Modifier.{Modifier}
 use Rattle.sysmem_formats.specs.declared.modifier.Modifier.TheVariants.{Linear, IntelXTiled, IntelYTiled}
-use Rattle.sysmem_formats.specs.declared.colour_space.ColourSpace.{ColourSpace}
-use Rattle.sysmem_formats.specs.declared.colour_space.ColourSpace.TheVariants.{Srgb, Rec601Ntsc, Rec601NtscFullRange, Rec601Pal, Rec601PalFullRange, Rec709, Rec2020, Rec2100}
 
 -- a number for each pixel format, by which definitions compare two of them
 abbrev pub format_code : PixelFormat → ℕ
@@ -29,14 +27,3 @@ abbrev pub modifier_code : Modifier → ℕ
 modifier_code Linear = 0
 modifier_code IntelXTiled = 1
 modifier_code IntelYTiled = 2
-
--- a number for each colour space, by which definitions compare two of them
-abbrev pub colour_code : ColourSpace → ℕ
-colour_code Srgb = 0
-colour_code Rec601Ntsc = 1
-colour_code Rec601NtscFullRange = 2
-colour_code Rec601Pal = 3
-colour_code Rec601PalFullRange = 4
-colour_code Rec709 = 5
-colour_code Rec2020 = 6
-colour_code Rec2100 = 7

@@ -1,11 +1,13 @@
-use Rattle.std.proofs.Common.{◌≡◌, ◌↔◌, ℕ, ◌≤◌, max, min, arith}
+use Rattle.std.proofs.Common.{subst, sym, ◌≡◌, ◌↔◌, ℕ, ◌≤◌, max, min, arith}
 use Rattle.std.specs.Int.{◌∣◌}
 use Rattle.std.proofs.lemmas.Nat.Gcd.{dvd_trans, dvd_refl}
 use Rattle.sysmem_image.specs.declared.size.Size.{Size}
 use Rattle.sysmem_image.specs.declared.bounds.ImageBounds.{ImageBounds}
 use Rattle.sysmem_image.specs.Size.{IsSizeUpTo, DividesSize, IsSizeGreatest, IsSizeLeast}
 use Rattle.sysmem_image.specs.Multiples.{IsLcm, IsSizeLcm}
-use Rattle.sysmem_image.specs.Bounds.{IsTighter}
+use Rattle.sysmem_formats.specs.declared.offer.Offer.{Offer}
+use Rattle.sysmem_formats.specs.Layout.{width_alignment_of, height_alignment_of, row_divisor_of}
+use Rattle.sysmem_image.specs.Bounds.{IsTighter, Suits}
 use Rattle.sysmem_image.specs.Merged.{IsMerged}
 
 -- at least the greatest is at least both
@@ -136,3 +138,20 @@ tighter_trans a b c p q = record {
   required_min_size = record { width = omega (arith, p.required_min_size.width, q.required_min_size.width); height = omega (arith, p.required_min_size.height, q.required_min_size.height) };
   required_max_size = record { width = omega (arith, p.required_max_size.width, q.required_max_size.width); height = omega (arith, p.required_max_size.height, q.required_max_size.height) };
 }
+
+-- numbers equal to the offer's own divide the bounds' steps exactly where these suit the offer
+pub suits_from : (o : Offer) (b : ImageBounds) (w h r : ℕ) → w ≡ width_alignment_of o → h ≡ height_alignment_of o → r ≡ row_divisor_of o → (DividesSize (record { width = w; height = h }) b.size_alignment × (r ∣ b.bytes_per_row_divisor)) ↔ Suits o b
+suits_from o b w h r is_width is_height is_row = (
+  λ both. record {
+    width = subst (λ z. z ∣ b.size_alignment.width) is_width both.0.width;
+    height = subst (λ z. z ∣ b.size_alignment.height) is_height both.0.height;
+    row = subst (λ z. z ∣ b.bytes_per_row_divisor) is_row both.1;
+  },
+  λ s. (
+    record {
+      width = subst (λ z. z ∣ b.size_alignment.width) (sym is_width) s.width;
+      height = subst (λ z. z ∣ b.size_alignment.height) (sym is_height) s.height;
+    },
+    subst (λ z. z ∣ b.bytes_per_row_divisor) (sym is_row) s.row,
+  ),
+)

@@ -2,7 +2,7 @@ ghost use Rattle.std.specs.Prelude.{◌≤◌, ◌↔◌, IsTrue, IfSome, OnSome
 ghost use Rattle.std.specs.Int.{◌∣◌};
 ghost use Rattle.sysmem_formats.specs.declared.offer.Offer.{Offer};
 ghost use Rattle.sysmem_image.specs.Size.{IsSizeUpTo, DividesSize};
-ghost use Rattle.sysmem_image.specs.Bounds.{IsTighter, IsFirstFailing};
+ghost use Rattle.sysmem_image.specs.Bounds.{IsTighter, IsFirstFailing, Suits};
 ghost use Rattle.sysmem_image.specs.Entries.{effective};
 
 use crate::bounds::ImageBounds;
@@ -11,6 +11,7 @@ use crate::entry::Entry;
 use crate::merging::effective;
 use crate::size::Size;
 use sysmem_counts::Field;
+use sysmem_formats::{Offer, own_alignment, own_row_divisor};
 
 macro_rules! failing {
     (($a:expr, $b:expr) $($name:ident: $shape:ident $rule:ident $field:ident $role:ident $absent:ident $range:ident $more:tt,)*) => {{
@@ -41,6 +42,16 @@ pub fn first_failing(bounds: &ImageBounds, entry: &Entry) -> Option<Field>
 {
     let asked = effective(entry);
     failing_field(bounds, &asked)
+}
+
+/// Whether alignments and row divisor are multiples of the offer's own.
+pub fn suits(bounds: &ImageBounds, offer: &Offer) -> bool
+    ensures { IsTrue result ↔ Suits offer.now bounds.now }
+{
+    let (width, height) = own_alignment(offer);
+    let sides = divides_size(Size { width, height }, bounds.size_alignment);
+    let row = divides(own_row_divisor(offer), bounds.bytes_per_row_divisor);
+    sides && row
 }
 
 /// The first field in which bounds don't keep to others.

@@ -25,7 +25,7 @@ mod table;
 pub use bounds::ImageBounds;
 pub use colours::ColourSet;
 pub use entry::Entry;
-pub use keeping::first_failing;
+pub use keeping::{first_failing, suits};
 pub use matching::{entry_for, takes_colour};
 pub use merging::merge_into;
 pub use multiples::lcm_capped;

@@ -212,3 +212,13 @@ fn failing_fields(rt: HostRuntime) {
         Some(Field::BytesPerRowDivisor)
     );
 }
+
+#[test]
+fn suited_bounds(rt: HostRuntime) {
+    let nv12 = offer(PixelFormat::NV12, Modifier::Linear);
+    let tiled = offer(PixelFormat::B8G8R8A8, Modifier::IntelXTiled);
+    assert!(rt; suits(&ImageBounds::of(&nv12), &nv12));
+    assert!(rt; !suits(&ImageBounds::of(&tiled), &nv12));
+    assert!(rt; !suits(&ImageBounds::of(&nv12), &tiled));
+    assert!(rt; suits(&ImageBounds::of(&nv12), &Offer::NoImage));
+}
