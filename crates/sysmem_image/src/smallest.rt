@@ -10,7 +10,7 @@ ghost use Rattle.sysmem_image.specs.Lines.{IsFirstLine};
 use crate::bounds::ImageBounds;
 use crate::bounds_table;
 use crate::keeping::is_size_up_to;
-use crate::size::{Corner, Size};
+use crate::size::Corner;
 use sysmem_counts::Field;
 use sysmem_formats::{Offer, image_bytes, row_bytes};
 

@@ -13,8 +13,8 @@
 /// - `range` of the values that are read: `any` of 32 bits; `some`, where 0 is read as 1; `multiple`,
 ///   from 1 to 65,536.
 ///
-/// A callback matches the braces at a row's end as `{ $($more:tt)* }`, so that a further column needs
-/// no change of it.
+/// A callback matches the braces at a row's end as one `$more:tt`, so that a further column, which goes
+/// in there, needs no change of it.
 #[macro_export]
 macro_rules! bounds_table {
     ($do:ident!($($args:tt)*)) => {
