@@ -1,0 +1,107 @@
+use Rattle.std.specs.Prelude.{◌≢◌, ℕ, ◌+◌, ◌-◌, ◌*◌, ◌/◌}
+use Rattle.sysmem_formats.specs.declared.pixel_format.PixelFormat.{PixelFormat}
+use Rattle.sysmem_formats.specs.declared.pixel_format.PixelFormat.TheVariants.{R8G8B8A8, B8G8R8A8, R8G8B8X8, B8G8R8X8, R8G8B8, B8G8R8, R5G6B5, R8G8, YUY2, R8, L8, I420, YV12, NV12, P010}
+use Rattle.sysmem_formats.specs.declared.modifier.Modifier.{Modifier}
+use Rattle.sysmem_formats.specs.declared.modifier.Modifier.TheVariants.{Linear, IntelXTiled, IntelYTiled}
+use Rattle.sysmem_formats.specs.declared.offer.Pair.{Pair}
+use Rattle.sysmem_formats.specs.declared.offer.Offer.{Offer}
+use Rattle.sysmem_formats.specs.declared.offer.Offer.TheVariants.{NoImage, Image}
+
+-- bytes of one pixel in a row; for the formats with subsampled colour, in a row of the luma plane
+abbrev pub pixel_bytes : PixelFormat → ℕ
+pixel_bytes R8G8B8A8 = 4
+pixel_bytes B8G8R8A8 = 4
+pixel_bytes R8G8B8X8 = 4
+pixel_bytes B8G8R8X8 = 4
+pixel_bytes R8G8B8 = 3
+pixel_bytes B8G8R8 = 3
+pixel_bytes R5G6B5 = 2
+pixel_bytes R8G8 = 2
+pixel_bytes YUY2 = 2
+pixel_bytes P010 = 2
+pixel_bytes R8 = 1
+pixel_bytes L8 = 1
+pixel_bytes I420 = 1
+pixel_bytes YV12 = 1
+pixel_bytes NV12 = 1
+
+-- bytes of one pixel in a row of the offer
+abbrev pub bytes_per_pixel_of : Offer → ℕ
+bytes_per_pixel_of NoImage = 1
+bytes_per_pixel_of (Image pair _) = pixel_bytes pair.format
+
+-- the least multiple of a step that is not below n
+abbrev pub up_to : ℕ → ℕ → ℕ
+up_to step n = (n + (step - 1)) / step * step
+
+-- the bytes of a row, with what a tile adds to them
+abbrev pub row_up_to : Modifier → ℕ → ℕ
+row_up_to Linear bytes = bytes
+row_up_to IntelXTiled bytes = up_to 512 bytes
+row_up_to IntelYTiled bytes = up_to 128 bytes
+
+-- row bytes of a width; the width may be any number
+abbrev pub row_bytes_of : Offer → ℕ → ℕ
+row_bytes_of NoImage width = 0
+row_bytes_of (Image pair _) width = row_up_to pair.modifier (width * pixel_bytes pair.format)
+
+-- rows of a height, with what a tile adds to them
+abbrev pub rows_of : Modifier → ℕ → ℕ
+rows_of Linear height = height
+rows_of IntelXTiled height = up_to 8 height
+rows_of IntelYTiled height = up_to 32 height
+
+-- the bytes of all planes, where the first or only one has n: planes of subsampled colour add a half
+abbrev pub plane_bytes : PixelFormat → ℕ → ℕ
+plane_bytes I420 n = (3 * n + 1) / 2
+plane_bytes YV12 n = (3 * n + 1) / 2
+plane_bytes NV12 n = (3 * n + 1) / 2
+plane_bytes P010 n = (3 * n + 1) / 2
+plane_bytes _ n = n
+
+-- image bytes of a row in bytes and a height in pixels
+abbrev pub image_bytes_of : Offer → ℕ → ℕ → ℕ
+image_bytes_of NoImage row height = 0
+image_bytes_of (Image pair _) row height = plane_bytes pair.format (row * rows_of pair.modifier height)
+
+-- own alignment of the width of a format
+abbrev pub format_width_alignment : PixelFormat → ℕ
+format_width_alignment I420 = 2
+format_width_alignment YV12 = 2
+format_width_alignment NV12 = 2
+format_width_alignment P010 = 2
+format_width_alignment YUY2 = 2
+format_width_alignment _ = 1
+
+-- own alignment of the height of a format, and own divisor of its rows where they aren't tiled
+abbrev pub format_height_alignment : PixelFormat → ℕ
+format_height_alignment I420 = 2
+format_height_alignment YV12 = 2
+format_height_alignment NV12 = 2
+format_height_alignment P010 = 2
+format_height_alignment _ = 1
+
+-- own alignment of the width
+abbrev pub width_alignment_of : Offer → ℕ
+width_alignment_of NoImage = 1
+width_alignment_of (Image pair _) = format_width_alignment pair.format
+
+-- own alignment of the height
+abbrev pub height_alignment_of : Offer → ℕ
+height_alignment_of NoImage = 1
+height_alignment_of (Image pair _) = format_height_alignment pair.format
+
+-- own divisor of the bytes of a row of a format and a modifier
+abbrev pub row_divisor : PixelFormat → Modifier → ℕ
+row_divisor format Linear = format_height_alignment format
+row_divisor format IntelXTiled = 512
+row_divisor format IntelYTiled = 128
+
+-- own divisor of the bytes of a row
+abbrev pub row_divisor_of : Offer → ℕ
+row_divisor_of NoImage = 1
+row_divisor_of (Image pair _) = row_divisor pair.format pair.modifier
+
+-- a tiled modifier with a format that isn't of 4 bytes, which no constraints and no platform may name
+abbrev pub IsTiledMisfit : Pair → Type 0
+IsTiledMisfit pair = (pair.modifier ≢ Linear) × (pixel_bytes pair.format ≢ 4)

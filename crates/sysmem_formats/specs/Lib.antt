@@ -1,0 +1,4 @@
+pub mod Names
+pub mod Layout
+pub mod Offers
+pub mod Codes

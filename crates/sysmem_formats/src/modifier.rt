@@ -1,0 +1,37 @@
+ghost use Rattle.std.specs.Prelude.{◌≡◌, ◌↔◌};
+
+/// How the rows of an image lie in memory: one after another, or in tiles.
+#[derive(Clone, Copy, Debug, PartialEq, Eq)]
+pub enum Modifier {
+    Linear,
+    IntelXTiled,
+    IntelYTiled,
+}
+
+impl Modifier {
+    ghost use Rattle.sysmem_formats.specs.declared.modifier.Modifier.{Modifier};
+    ghost use Rattle.sysmem_formats.specs.Names.{modifier_name};
+
+    /// The modifier's name in constraints, platforms and reports.
+    pub fn name(self) -> &'static str
+        ensures { result.now ≡ modifier_name self }
+    {
+        match self {
+            Modifier::Linear => "LINEAR",
+            Modifier::IntelXTiled => "INTEL_I915_X_TILED",
+            Modifier::IntelYTiled => "INTEL_I915_Y_TILED",
+        }
+    }
+
+    /// The modifier of this name, or `None` where no modifier has it. `DO_NOT_CARE` names none.
+    pub fn from_name(name: &str) -> Option<Modifier>
+        ensures { (modifier : Modifier) → (result ≡ Some modifier) ↔ (name.now ≡ modifier_name modifier) }
+    {
+        match name {
+            "LINEAR" => Some(Modifier::Linear),
+            "INTEL_I915_X_TILED" => Some(Modifier::IntelXTiled),
+            "INTEL_I915_Y_TILED" => Some(Modifier::IntelYTiled),
+            _ => None,
+        }
+    }
+}

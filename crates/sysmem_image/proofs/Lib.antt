@@ -1,0 +1,9 @@
+pub mod Divide
+pub mod Meets
+pub mod Rows
+pub mod Steps
+pub mod Readings
+pub mod Layouts
+pub mod Smaller
+pub mod Sound
+pub mod Exact

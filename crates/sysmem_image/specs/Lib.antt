@@ -1,0 +1,10 @@
+pub mod Size
+pub mod Multiples
+pub mod Bounds
+pub mod Images
+pub mod Merged
+pub mod Corners
+pub mod Lines
+pub mod Colours
+pub mod Entries
+pub mod Laws

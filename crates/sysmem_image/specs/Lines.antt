@@ -1,0 +1,130 @@
+use Rattle.std.specs.Prelude.{ℕ, ◌≤◌, ◌⊎◌, List, [], ◌∷◌, All}
+use Rattle.std.specs.Int.{◌∣◌}
+use Rattle.sysmem_counts.specs.declared.field.Field.{Field}
+use Rattle.sysmem_counts.specs.declared.field.Field.TheVariants.{SizeAlignment, BytesPerRowDivisor, StartOffsetDivisor, DisplayRectAlignment, RequiredMinSize, MaxSize, MaxBytesPerRow}
+use Rattle.sysmem_formats.specs.declared.offer.Offer.{Offer}
+use Rattle.sysmem_formats.specs.Layout.{width_alignment_of, height_alignment_of, row_divisor_of, row_bytes_of}
+use Rattle.sysmem_image.specs.declared.bounds.ImageBounds.{ImageBounds}
+use Rattle.sysmem_image.specs.Size.{IsSizeUpTo, DividesSize}
+
+-- n is a common multiple, up to the limit, of the own number and those of a list
+pub record IsCommon (first : ℕ) (f : ImageBounds → ℕ) (es : List ImageBounds) (n : ℕ) : Type 0 where
+  pub some : 1 ≤ n
+  pub small : n ≤ 4294967295
+  pub own : first ∣ n
+  pub each : All (λ e. f e ∣ n) es
+
+-- there is such a common multiple
+abbrev pub HasCommon : ℕ → (ImageBounds → ℕ) → List ImageBounds → Type 0
+HasCommon first f es = (n : ℕ) × IsCommon first f es n
+
+-- there is none: the least common multiple is above the limit
+abbrev pub NoCommon : ℕ → (ImageBounds → ℕ) → List ImageBounds → Type 0
+NoCommon first f es = ¬ HasCommon first f es
+
+-- a width of the offer's and the list's alignments, not below what the list asks for; it may be of any
+-- number of bits
+pub record FitsWidth (o : Offer) (es : List ImageBounds) (w : ℕ) : Type 0 where
+  pub some : 1 ≤ w
+  pub own : width_alignment_of o ∣ w
+  pub step : All (λ e. e.size_alignment.width ∣ w) es
+  pub least : All (λ e. e.min_size.width ≤ w) es
+  pub required : All (λ e. e.required_max_size.width ≤ w) es
+
+-- the same of a height
+pub record FitsHeight (o : Offer) (es : List ImageBounds) (h : ℕ) : Type 0 where
+  pub some : 1 ≤ h
+  pub own : height_alignment_of o ∣ h
+  pub step : All (λ e. e.size_alignment.height ∣ h) es
+  pub least : All (λ e. e.min_size.height ≤ h) es
+  pub required : All (λ e. e.required_max_size.height ≤ h) es
+
+-- a row of the offer's and the list's divisors for a width, not below what the list asks for
+pub record FitsRow (o : Offer) (es : List ImageBounds) (w r : ℕ) : Type 0 where
+  pub some : 1 ≤ r
+  pub own : row_divisor_of o ∣ r
+  pub step : All (λ e. e.bytes_per_row_divisor ∣ r) es
+  pub least : All (λ e. e.min_bytes_per_row ≤ r) es
+  pub row_bytes : row_bytes_of o w ≤ r
+
+-- the alignments have common multiples up to the limit, as each line that reads them needs
+abbrev pub AlignmentsMeet : Offer → List ImageBounds → Type 0
+AlignmentsMeet o es = HasCommon (width_alignment_of o) (λ e. e.size_alignment.width) es × HasCommon (height_alignment_of o) (λ e. e.size_alignment.height) es
+
+-- the row divisors have a common multiple up to the limit, as each line that reads them needs
+abbrev pub DivisorsMeet : Offer → List ImageBounds → Type 0
+DivisorsMeet o es = HasCommon (row_divisor_of o) (λ e. e.bytes_per_row_divisor) es
+
+-- the greatest min_size of a list is above its least required_min_size in the dimension
+abbrev pub MinAboveRequired : (ImageBounds → ℕ) → (ImageBounds → ℕ) → List ImageBounds → Type 0
+MinAboveRequired min required es = (n : ℕ) → 1 ≤ n → n ≤ 4294967295 → All (λ e. min e ≤ n) es → All (λ e. n ≤ required e) es → ⊥
+
+-- the corner's width is above the least max_size
+abbrev pub WidthAbove : Offer → List ImageBounds → Type 0
+WidthAbove o es = (w : ℕ) → w ≤ 4294967295 → FitsWidth o es w → All (λ e. w ≤ e.max_size.width) es → ⊥
+
+-- the corner's height is above the least max_size
+abbrev pub HeightAbove : Offer → List ImageBounds → Type 0
+HeightAbove o es = (h : ℕ) → h ≤ 4294967295 → FitsHeight o es h → All (λ e. h ≤ e.max_size.height) es → ⊥
+
+-- the corner's row is above the least max_bytes_per_row, where the corner may be wider than 32 bits
+abbrev pub RowAbove : Offer → List ImageBounds → Type 0
+RowAbove o es = (w r : ℕ) → r ≤ 4294967295 → FitsWidth o es w → FitsRow o es w r → All (λ e. r ≤ e.max_bytes_per_row) es → ⊥
+
+-- the line of the conflict table that the field heads is true of the bounds of a list, in exact arithmetic
+abbrev pub IsBoundsLine : Field → Offer → List ImageBounds → Type 0
+IsBoundsLine SizeAlignment o es = NoCommon (width_alignment_of o) (λ e. e.size_alignment.width) es ⊎ NoCommon (height_alignment_of o) (λ e. e.size_alignment.height) es
+IsBoundsLine BytesPerRowDivisor o es = NoCommon (row_divisor_of o) (λ e. e.bytes_per_row_divisor) es
+IsBoundsLine StartOffsetDivisor o es = NoCommon 1 (λ e. e.start_offset_divisor) es
+IsBoundsLine DisplayRectAlignment o es = NoCommon 1 (λ e. e.display_rect_alignment.width) es ⊎ NoCommon 1 (λ e. e.display_rect_alignment.height) es
+IsBoundsLine RequiredMinSize o es = MinAboveRequired (λ e. e.min_size.width) (λ e. e.required_min_size.width) es ⊎ MinAboveRequired (λ e. e.min_size.height) (λ e. e.required_min_size.height) es
+IsBoundsLine MaxSize o es = AlignmentsMeet o es × (WidthAbove o es ⊎ HeightAbove o es)
+IsBoundsLine MaxBytesPerRow o es = AlignmentsMeet o es × DivisorsMeet o es × RowAbove o es
+IsBoundsLine _ o es = ⊥
+
+-- the lines of bounds that stand before that of the field in the conflict table
+abbrev pub lines_before : Field → List Field
+lines_before BytesPerRowDivisor = SizeAlignment ∷ []
+lines_before StartOffsetDivisor = SizeAlignment ∷ BytesPerRowDivisor ∷ []
+lines_before DisplayRectAlignment = SizeAlignment ∷ BytesPerRowDivisor ∷ StartOffsetDivisor ∷ []
+lines_before RequiredMinSize = SizeAlignment ∷ BytesPerRowDivisor ∷ StartOffsetDivisor ∷ DisplayRectAlignment ∷ []
+lines_before MaxSize = SizeAlignment ∷ BytesPerRowDivisor ∷ StartOffsetDivisor ∷ DisplayRectAlignment ∷ RequiredMinSize ∷ []
+lines_before MaxBytesPerRow = SizeAlignment ∷ BytesPerRowDivisor ∷ StartOffsetDivisor ∷ DisplayRectAlignment ∷ RequiredMinSize ∷ MaxSize ∷ []
+lines_before _ = []
+
+-- none of these lines is true
+abbrev pub NoLines : List Field → Offer → List ImageBounds → Type 0
+NoLines [] o es = Unit {0}
+NoLines (field ∷ fields) o es = (¬ IsBoundsLine field o es) × NoLines fields o es
+
+-- the first line of bounds that is true, in the order of the conflict table
+pub record IsFirstLine (field : Field) (o : Offer) (es : List ImageBounds) : Type 0 where
+  pub line : IsBoundsLine field o es
+  pub before : NoLines (lines_before field) o es
+
+-- a line about a common multiple: once true of a list, it is true of each longer one
+abbrev pub IsSteady : Field → Type 0
+IsSteady SizeAlignment = Unit {0}
+IsSteady BytesPerRowDivisor = Unit {0}
+IsSteady StartOffsetDivisor = Unit {0}
+IsSteady DisplayRectAlignment = Unit {0}
+IsSteady _ = ⊥
+
+-- the bounds a keep to b in the fields that the corner reads
+pub record KeepsCorner (a b : ImageBounds) : Type 0 where
+  pub min_size : IsSizeUpTo b.min_size a.min_size
+  pub size_alignment : DividesSize b.size_alignment a.size_alignment
+  pub min_bytes_per_row : b.min_bytes_per_row ≤ a.min_bytes_per_row
+  pub bytes_per_row_divisor : b.bytes_per_row_divisor ∣ a.bytes_per_row_divisor
+  pub required_max_size : IsSizeUpTo b.required_max_size a.required_max_size
+
+-- the bounds a keep to b in the fields that the line reads
+abbrev pub KeepsLine : Field → ImageBounds → ImageBounds → Type 0
+KeepsLine SizeAlignment a b = DividesSize b.size_alignment a.size_alignment
+KeepsLine BytesPerRowDivisor a b = b.bytes_per_row_divisor ∣ a.bytes_per_row_divisor
+KeepsLine StartOffsetDivisor a b = b.start_offset_divisor ∣ a.start_offset_divisor
+KeepsLine DisplayRectAlignment a b = DividesSize b.display_rect_alignment a.display_rect_alignment
+KeepsLine RequiredMinSize a b = IsSizeUpTo b.min_size a.min_size × IsSizeUpTo a.required_min_size b.required_min_size
+KeepsLine MaxSize a b = IsSizeUpTo b.min_size a.min_size × IsSizeUpTo a.max_size b.max_size × DividesSize b.size_alignment a.size_alignment × IsSizeUpTo b.required_max_size a.required_max_size
+KeepsLine MaxBytesPerRow a b = KeepsCorner a b × (a.max_bytes_per_row ≤ b.max_bytes_per_row)
+KeepsLine _ a b = Unit {0}

@@ -1,0 +1,35 @@
+use Rattle.std.specs.Prelude.{ℕ, ◌≤◌, ◌<◌, ◌⊎◌}
+use Rattle.std.specs.Int.{◌∣◌}
+use Rattle.sysmem_image.specs.declared.size.Size.{Size}
+
+-- m is the least common multiple of a and b: a common multiple that divides each other one
+pub record IsLcm (a b m : ℕ) : Type 0 where
+  pub left : a ∣ m
+  pub right : b ∣ m
+  pub least : (k : ℕ) → a ∣ k → b ∣ k → m ∣ k
+
+-- the same of both dimensions
+pub record IsSizeLcm (a b m : Size) : Type 0 where
+  pub width : IsLcm a.width b.width m.width
+  pub height : IsLcm a.height b.height m.height
+
+-- each common multiple of a and b, but 0, is above the limit
+abbrev pub IsAboveLimit : ℕ → ℕ → Type 0
+IsAboveLimit a b = (k : ℕ) → 1 ≤ k → a ∣ k → b ∣ k → 4294967295 < k
+
+-- the same of one dimension at least
+abbrev pub IsSizeAboveLimit : Size → Size → Type 0
+IsSizeAboveLimit a b = IsAboveLimit a.width b.width ⊎ IsAboveLimit a.height b.height
+
+-- a and b have a common multiple up to the limit
+pub record HasMultiple (a b : ℕ) : Type 0 where
+  pub multiple : ℕ
+  pub some : 1 ≤ multiple
+  pub small : multiple ≤ 4294967295
+  pub left : a ∣ multiple
+  pub right : b ∣ multiple
+
+-- the same of both dimensions
+pub record HasSizeMultiple (a b : Size) : Type 0 where
+  pub width : HasMultiple a.width b.width
+  pub height : HasMultiple a.height b.height

@@ -1,0 +1,33 @@
+use Rattle.std.specs.Prelude.{ℕ, ◌≤◌, ◌≡◌, max, min}
+use Rattle.std.specs.Int.{◌∣◌}
+use Rattle.sysmem_image.specs.declared.size.Size.{Size}
+
+-- both dimensions of a are at most those of b
+pub record IsSizeUpTo (a b : Size) : Type 0 where
+  pub width : a.width ≤ b.width
+  pub height : a.height ≤ b.height
+
+-- both dimensions of a divide those of b
+pub record DividesSize (a b : Size) : Type 0 where
+  pub width : a.width ∣ b.width
+  pub height : a.height ∣ b.height
+
+-- both dimensions are within 32 bits
+pub record IsSizeInRange (a : Size) : Type 0 where
+  pub width : a.width ≤ 4294967295
+  pub height : a.height ≤ 4294967295
+
+-- both dimensions have this value
+pub record IsSquare (a : Size) (n : ℕ) : Type 0 where
+  pub width : a.width ≡ n
+  pub height : a.height ≡ n
+
+-- m has the greater width and the greater height
+pub record IsSizeGreatest (a b m : Size) : Type 0 where
+  pub width : m.width ≡ max a.width b.width
+  pub height : m.height ≡ max a.height b.height
+
+-- m has the lesser width and the lesser height
+pub record IsSizeLeast (a b m : Size) : Type 0 where
+  pub width : m.width ≡ min a.width b.width
+  pub height : m.height ≡ min a.height b.height

@@ -1,0 +1,36 @@
+//! Bounds on images, and the smallest image that they admit.
+//!
+//! ```
+//! let mut bounds = ImageBounds::of(&offer);
+//! for entry in entries {
+//!     merge_into(&mut bounds, entry)?;
+//! }
+//! let corner = corner(&bounds, &offer)?;
+//! ```
+#![tactic(auto)]
+
+mod bounds;
+mod colours;
+mod entry;
+mod keeping;
+pub mod laws;
+mod matching;
+mod merging;
+mod multiples;
+mod own;
+mod size;
+mod smallest;
+mod table;
+
+pub use bounds::ImageBounds;
+pub use colours::ColourSet;
+pub use entry::Entry;
+pub use keeping::{first_failing, suits};
+pub use matching::{entry_for, takes_colour};
+pub use merging::merge_into;
+pub use multiples::lcm_capped;
+pub use size::{Corner, Size};
+pub use smallest::corner;
+
+#[cfg(test)]
+mod tests;

@@ -1,0 +1,224 @@
+use super::*;
+use sysmem_counts::Field;
+use sysmem_formats::{ColourSpace, Modifier, Offer, Pair, PixelFormat};
+
+fn offer(format: PixelFormat, modifier: Modifier) -> Offer {
+    Offer::Image(Pair { format, modifier }, ColourSpace::Srgb)
+}
+
+/// An entry of a format that asks for nothing else.
+fn entry(format: PixelFormat) -> Entry {
+    Entry {
+        format: Some(format),
+        modifier: Some(Modifier::Linear),
+        colours: ColourSet::new(),
+        bounds: ImageBounds::of(&Offer::NoImage),
+    }
+}
+
+/// An entry of a format whose images are at least of a size.
+fn at_least(format: PixelFormat, width: u32, height: u32) -> Entry {
+    let mut asked = entry(format);
+    asked.bounds.required_max_size = Size { width, height };
+    asked
+}
+
+/// The corner of merged entries, or the field that refuses it.
+fn smallest(offer: &Offer, entries: &[Entry]) -> Result<Corner, Field> {
+    let mut bounds = ImageBounds::of(offer);
+    for entry in entries {
+        merge_into(&mut bounds, entry)?;
+    }
+    corner(&bounds, offer)
+}
+
+fn image(width: u32, height: u32, bytes_per_row: u32, bytes: u128) -> Result<Corner, Field> {
+    Ok(Corner {
+        width,
+        height,
+        bytes_per_row,
+        bytes,
+    })
+}
+
+#[test]
+fn bgra_1080p(rt: HostRuntime) {
+    let mut asked = at_least(PixelFormat::B8G8R8A8, 1920, 1080);
+    asked.bounds.bytes_per_row_divisor = 64;
+    let offer = offer(PixelFormat::B8G8R8A8, Modifier::Linear);
+    assert_eq!(rt;
+        smallest(&offer, &[asked]),
+        image(1920, 1080, 7680, 8294400)
+    );
+}
+
+#[test]
+fn nv12(rt: HostRuntime) {
+    let offer = offer(PixelFormat::NV12, Modifier::Linear);
+    let mut asked = at_least(PixelFormat::NV12, 1920, 1080);
+    asked.bounds.size_alignment = Size {
+        width: 16,
+        height: 16,
+    };
+    assert_eq!(rt;
+        smallest(&offer, &[asked]),
+        image(1920, 1088, 1920, 3133440)
+    );
+    assert_eq!(rt;
+        smallest(&offer, &[at_least(PixelFormat::NV12, 3, 3)]),
+        image(4, 4, 4, 24)
+    );
+    assert_eq!(rt; smallest(&offer, &[]), image(2, 2, 2, 6));
+    assert_eq!(rt; smallest(&Offer::NoImage, &[]), image(1, 1, 1, 0));
+}
+
+#[test]
+fn divisors(rt: HostRuntime) {
+    let mut first = at_least(PixelFormat::R8, 100, 10);
+    first.bounds.required_min_size = Size {
+        width: 15,
+        height: 5,
+    };
+    first.bounds.bytes_per_row_divisor = 48;
+    let mut second = entry(PixelFormat::R8);
+    second.bounds.bytes_per_row_divisor = 64;
+    let offer = offer(PixelFormat::R8, Modifier::Linear);
+    assert_eq!(rt;
+        smallest(&offer, &[first, second]),
+        image(100, 10, 192, 1920)
+    );
+    assert_eq!(rt; lcm_capped(48, 64), Some(192));
+}
+
+#[test]
+fn widest_and_tallest(rt: HostRuntime) {
+    let offer = offer(PixelFormat::R8, Modifier::Linear);
+    let wide = at_least(PixelFormat::R8, 1920, 100);
+    let tall = at_least(PixelFormat::R8, 100, 1080);
+    assert_eq!(rt;
+        smallest(&offer, &[wide, tall]),
+        image(1920, 1080, 1920, 2073600)
+    );
+    let mut small = entry(PixelFormat::R8);
+    small.bounds.required_min_size = Size {
+        width: 15,
+        height: 15,
+    };
+    let mut large = entry(PixelFormat::R8);
+    large.bounds.min_size = Size {
+        width: 16,
+        height: 16,
+    };
+    assert_eq!(rt;
+        smallest(&offer, &[small, large]),
+        Err(Field::RequiredMinSize)
+    );
+}
+
+#[test]
+fn x_tiled(rt: HostRuntime) {
+    let offer = offer(PixelFormat::B8G8R8A8, Modifier::IntelXTiled);
+    let asked = at_least(PixelFormat::B8G8R8A8, 100, 10);
+    assert_eq!(rt; smallest(&offer, &[asked]), image(100, 10, 512, 8192));
+}
+
+#[test]
+fn row_too_long(rt: HostRuntime) {
+    let offer = offer(PixelFormat::R8G8B8A8, Modifier::Linear);
+    let mut asked = at_least(PixelFormat::R8G8B8A8, 4294967295, 1);
+    assert_eq!(rt; smallest(&offer, &[asked]), Err(Field::MaxBytesPerRow));
+    asked.bounds.max_size = Size {
+        width: 4294967294,
+        height: 1,
+    };
+    assert_eq!(rt; smallest(&offer, &[asked]), Err(Field::MaxSize));
+}
+
+#[test]
+fn large_divisors(rt: HostRuntime) {
+    let offer = offer(PixelFormat::R8, Modifier::Linear);
+    let mut first = entry(PixelFormat::R8);
+    first.bounds.bytes_per_row_divisor = 65521;
+    let mut second = entry(PixelFormat::R8);
+    second.bounds.bytes_per_row_divisor = 65519;
+    let mut third = entry(PixelFormat::R8);
+    third.bounds.bytes_per_row_divisor = 2;
+    let both = image(1, 1, 4292870399, 4292870399);
+    assert_eq!(rt; smallest(&offer, &[first, second]), both);
+    assert_eq!(rt;
+        smallest(&offer, &[first, second, third]),
+        Err(Field::BytesPerRowDivisor)
+    );
+    assert_eq!(rt; lcm_capped(65521, 65519), Some(4292870399));
+    assert_eq!(rt; lcm_capped(4292870399, 2), None);
+}
+
+/// The first entry that matches is taken, and DO_NOT_CARE matches each format and modifier.
+#[test]
+fn first_entry(rt: HostRuntime) {
+    let mut any = at_least(PixelFormat::R8, 7, 7);
+    any.format = None;
+    any.modifier = None;
+    let entries = [entry(PixelFormat::R8), any, entry(PixelFormat::NV12)];
+    let found = |offer: &Offer| entry_for(&entries, offer).map(|entry| entry
+        .bounds
+        .required_max_size
+        .width);
+    assert_eq!(rt; found(&offer(PixelFormat::R8, Modifier::Linear)), Some(0));
+    assert_eq!(rt; found(&offer(PixelFormat::NV12, Modifier::Linear)), Some(7));
+    assert_eq!(rt;
+        found(&offer(PixelFormat::B8G8R8A8, Modifier::IntelXTiled)),
+        Some(7)
+    );
+    assert_eq!(rt; found(&Offer::NoImage), None);
+    assert!(rt; entry_for(&entries[..1], &offer(PixelFormat::NV12, Modifier::Linear)).is_none());
+}
+
+#[test]
+fn colours(rt: HostRuntime) {
+    let offer = offer(PixelFormat::R8, Modifier::Linear);
+    let mut asked = entry(PixelFormat::R8);
+    assert!(rt; !takes_colour(&asked, &offer));
+    assert!(rt; takes_colour(&asked, &Offer::NoImage));
+    asked.colours.insert(ColourSpace::Rec709);
+    assert!(rt; !takes_colour(&asked, &offer));
+    assert!(rt; asked.colours.lists(ColourSpace::Rec709));
+    asked.colours.insert_any();
+    assert!(rt; takes_colour(&asked, &offer));
+    assert!(rt; asked.colours.lists_any());
+    assert!(rt; !asked.colours.lists(ColourSpace::Srgb));
+    assert!(rt; asked.colours.accepts(ColourSpace::Srgb));
+}
+
+/// Merged bounds keep to each entry, and an entry's own bounds to none that asks for more.
+#[test]
+fn failing_fields(rt: HostRuntime) {
+    let mut first = at_least(PixelFormat::R8, 100, 10);
+    first.bounds.bytes_per_row_divisor = 48;
+    let mut second = entry(PixelFormat::R8);
+    second.bounds.bytes_per_row_divisor = 64;
+    second.bounds.max_bytes_per_row = 9600;
+    let mut merged = ImageBounds::of(&offer(PixelFormat::R8, Modifier::Linear));
+    assert_eq!(rt; merge_into(&mut merged, &first), Ok(()));
+    assert_eq!(rt; merge_into(&mut merged, &second), Ok(()));
+    assert_eq!(rt; first_failing(&merged, &first), None);
+    assert_eq!(rt; first_failing(&merged, &second), None);
+    assert_eq!(rt;
+        first_failing(&first.bounds, &second),
+        Some(Field::MaxBytesPerRow)
+    );
+    assert_eq!(rt;
+        first_failing(&second.bounds, &first),
+        Some(Field::BytesPerRowDivisor)
+    );
+}
+
+#[test]
+fn suited_bounds(rt: HostRuntime) {
+    let nv12 = offer(PixelFormat::NV12, Modifier::Linear);
+    let tiled = offer(PixelFormat::B8G8R8A8, Modifier::IntelXTiled);
+    assert!(rt; suits(&ImageBounds::of(&nv12), &nv12));
+    assert!(rt; !suits(&ImageBounds::of(&tiled), &nv12));
+    assert!(rt; !suits(&ImageBounds::of(&nv12), &tiled));
+    assert!(rt; suits(&ImageBounds::of(&nv12), &Offer::NoImage));
+}
