@@ -48,9 +48,13 @@ fn given_words(rt: &HostRuntime) -> Result<Vec<String>, Ending> {
         Err(error) => return Err(unread_words(rt, error.kind())),
     };
     let _program = words.next();
-    words
-        .collect(rt.alloc())
-        .map_err(|_| ending_of(Err(RunFault::NoMemory)))
+    let mut given = Vec::new(rt.alloc());
+    for word in words {
+        if given.push(word).is_err() {
+            return Err(ending_of(Err(RunFault::NoMemory)));
+        }
+    }
+    Ok(given)
 }
 
 /// Does what the words ask for.
