@@ -9,7 +9,6 @@ use Rattle.sysmem_merge.specs.Fit.{IsBestFit}
 use Rattle.sysmem_merge.specs.Participant.{Participant}
 use Rattle.sysmem_merge.specs.Platform.{PlatformFacts, offers_of}
 use Rattle.sysmem_merge.specs.Reasons.{NoOfferServes}
-use Rattle.sysmem_merge.specs.Settings.{IsNamed}
 
 -- nobody asks for anything
 pub sizes_of_none : AreSizes [] 0 18446744073709551615
@@ -39,10 +38,6 @@ one_offer NoImage NoImage = refl
 -- no offer is earlier than itself
 pub not_earlier : (os : List Offer) (a : Offer) → ¬ (IsEarlierOffer os a a)
 not_earlier os a earlier = omega (arith, earlier.before earlier.place earlier.here)
-
--- 'no image' needs no name
-pub needs_no_name : (o : Offer) (ps : List Participant) → IsNamed o ps
-needs_no_name NoImage ps = tt
 
 -- the least size serves, where it isn't above the greatest
 pub best_size : (whole : Bool) (platform : PlatformFacts) (ps : List Participant) (least greatest : ℕ) → AreSizes ps least greatest

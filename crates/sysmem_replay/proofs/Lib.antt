@@ -8,7 +8,6 @@ mod Entries
 mod Filled
 pub mod KnownBytes
 pub mod Members
-pub mod OutcomeLemmas
 pub mod Running
 pub mod Steps
 pub mod Texts
