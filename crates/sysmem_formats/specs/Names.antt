@@ -1,3 +1,4 @@
+-- The names of formats, modifiers and colour spaces.
 use Rattle.std.specs.Prelude.{ℕ, List, codes}
 use Rattle.sysmem_formats.specs.declared.pixel_format.PixelFormat.{PixelFormat}
 use Rattle.sysmem_formats.specs.declared.pixel_format.PixelFormat.TheVariants.{R8G8B8A8, B8G8R8A8, R8G8B8X8, B8G8R8X8, R8G8B8, B8G8R8, R5G6B5, R8G8, YUY2, R8, L8, I420, YV12, NV12, P010}

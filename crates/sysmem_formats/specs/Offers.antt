@@ -1,3 +1,4 @@
+-- The offers of a platform, in order.
 use Rattle.std.specs.Prelude.{List, ◌∷◌, map}
 use Rattle.std.specs.List.{flat_map}
 use Rattle.sysmem_formats.specs.declared.colour_space.ColourSpace.{ColourSpace}

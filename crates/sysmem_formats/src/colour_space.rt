@@ -1,3 +1,5 @@
+//! Colour spaces and their names.
+
 ghost use Rattle.std.specs.Prelude.{◌≡◌, ◌↔◌};
 
 /// Which colours the numbers of an image stand for.

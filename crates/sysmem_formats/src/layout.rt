@@ -1,3 +1,5 @@
+//! Where the bytes of an image lie: its rows, its planes, and what an offer asks of them.
+
 ghost use Rattle.std.specs.Prelude.{◌≡◌, ◌↔◌, ◌<◌, ◌≤◌, ◌^◌, IsTrue};
 ghost use Rattle.sysmem_formats.specs.Layout.{
   bytes_per_pixel_of,

@@ -1,3 +1,5 @@
+//! Modifiers, which say how pixels are laid out, and their names.
+
 ghost use Rattle.std.specs.Prelude.{◌≡◌, ◌↔◌};
 
 /// How the rows of an image lie in memory: one after another, or in tiles.

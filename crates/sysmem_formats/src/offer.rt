@@ -1,3 +1,5 @@
+//! What buffers can hold.
+
 use crate::colour_space::ColourSpace;
 use crate::modifier::Modifier;
 use crate::pixel_format::PixelFormat;

@@ -1,3 +1,5 @@
+//! The order of a platform's offers.
+
 ghost use Rattle.std.specs.Prelude.{◌≡◌, slice_get};
 ghost use Rattle.sysmem_formats.specs.Offers.{offers, images};
 

@@ -1,3 +1,5 @@
+//! Pixel formats and their names.
+
 ghost use Rattle.std.specs.Prelude.{◌≡◌, ◌↔◌};
 
 /// How the pixels of an image are stored.

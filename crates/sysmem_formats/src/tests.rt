@@ -1,3 +1,5 @@
+//! Names, layouts and orders, with values of public tables.
+
 use super::*;
 
 const BGRA: PixelFormat = PixelFormat::B8G8R8A8;

@@ -1,3 +1,4 @@
+-- Divisors and multiples.
 use Rattle.std.proofs.Common.{◌≡◌, ℕ, ◌+◌, ◌-◌, ◌*◌, ◌/◌, ◌%◌, ◌<◌, ◌≤◌, sym, ap, subst, arith}
 use Rattle.std.specs.Int.{◌∣◌}
 use Rattle.std.proofs.Math.Nat.{dvd-add_iff_left, dvd-mul_right, dvd-mul_left, dvd_of_mul-dvd-mul_right, mod-add-div, div-mul_cancel, mul-dvd-mul_right, mul-pos, pos_of_dvd_of_pos, dvd-sub, lt_of_not-le}

@@ -1,3 +1,4 @@
+-- Merged bounds are exact.
 use Rattle.std.proofs.Common.{◌↔◌, ◌<◌, ◌≤◌, List, map, length, subst, sym, arith}
 use Rattle.std.specs.Prelude.{All}
 use Rattle.std.specs.Int.{◌∣◌}

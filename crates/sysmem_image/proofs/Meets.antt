@@ -1,3 +1,4 @@
+-- Bounds that keep to two others.
 use Rattle.std.proofs.Common.{subst, sym, ◌≡◌, ◌↔◌, ℕ, ◌≤◌, max, min, arith}
 use Rattle.std.specs.Int.{◌∣◌}
 use Rattle.std.proofs.lemmas.Nat.Gcd.{dvd_trans, dvd_refl}

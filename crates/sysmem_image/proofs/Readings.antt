@@ -1,3 +1,4 @@
+-- What corners and lines read of merged bounds is what they read of the list.
 use Rattle.std.proofs.Common.{◌↔◌, ℕ, ◌<◌, ◌≤◌, ◌⊎◌, List, arith, inl, inr}
 use Rattle.std.specs.Prelude.{Result, Ok, Err, IfErr}
 use Rattle.std.specs.Int.{◌∣◌}

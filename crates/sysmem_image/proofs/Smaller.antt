@@ -1,3 +1,4 @@
+-- The corner is least.
 use Rattle.std.proofs.Common.{◌≡◌, ℕ, ◌≤◌, arith, sym, subst}
 use Rattle.sysmem_formats.specs.declared.offer.Offer.{Offer}
 use Rattle.sysmem_formats.specs.Layout.{row_bytes_of, image_bytes_of}

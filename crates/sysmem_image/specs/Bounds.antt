@@ -1,3 +1,4 @@
+-- Bounds on images: when they keep to others, and the bounds of no entry.
 use Rattle.std.specs.Prelude.{◌≡◌, ◌≤◌, List, [], ◌∷◌}
 use Rattle.std.specs.Int.{◌∣◌}
 use Rattle.sysmem_counts.specs.declared.field.Field.{Field}

@@ -1,3 +1,4 @@
+-- The colour spaces that an entry lists.
 use Rattle.std.specs.Prelude.{Bool, true, false, ◌||◌}
 use Rattle.sysmem_formats.specs.declared.colour_space.ColourSpace.{ColourSpace}
 use Rattle.sysmem_formats.specs.declared.colour_space.ColourSpace.TheVariants.{Srgb, Rec601Ntsc, Rec601NtscFullRange, Rec601Pal, Rec601PalFullRange, Rec709, Rec2020, Rec2100}

@@ -1,3 +1,4 @@
+-- A participant's entry for an offer, and the bounds that it puts on it.
 use Rattle.std.specs.Prelude.{Bool, true, false, ◌&&◌, ◌==◌, find, List, map, Option, Some, None}
 use Rattle.sysmem_formats.specs.declared.pixel_format.PixelFormat.{PixelFormat}
 use Rattle.sysmem_formats.specs.declared.modifier.Modifier.{Modifier}

@@ -1,3 +1,4 @@
+-- The images that bounds admit.
 use Rattle.std.specs.Prelude.{ℕ, ◌≤◌}
 use Rattle.std.specs.Int.{◌∣◌}
 use Rattle.sysmem_formats.specs.declared.offer.Offer.{Offer}

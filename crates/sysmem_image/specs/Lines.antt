@@ -1,3 +1,4 @@
+-- The lines of the conflict table that speak of bounds, read from a list of them in exact arithmetic.
 use Rattle.std.specs.Prelude.{ℕ, ◌≤◌, ◌⊎◌, List, [], ◌∷◌, All}
 use Rattle.std.specs.Int.{◌∣◌}
 use Rattle.sysmem_counts.specs.declared.field.Field.{Field}

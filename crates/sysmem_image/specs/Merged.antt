@@ -1,3 +1,4 @@
+-- What merged bounds stand for.
 use Rattle.std.specs.Prelude.{◌≡◌, ℕ, ◌≤◌, ◌↔◌, max, min, List, All}
 use Rattle.std.specs.Int.{◌∣◌}
 use Rattle.sysmem_counts.specs.declared.field.Field.{Field}

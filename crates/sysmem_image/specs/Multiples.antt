@@ -1,3 +1,4 @@
+-- Common multiples and their limit.
 use Rattle.std.specs.Prelude.{ℕ, ◌≤◌, ◌<◌, ◌⊎◌}
 use Rattle.std.specs.Int.{◌∣◌}
 use Rattle.sysmem_image.specs.declared.size.Size.{Size}

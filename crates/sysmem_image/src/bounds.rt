@@ -1,3 +1,5 @@
+//! The bounds that are put on images.
+
 ghost use Rattle.std.specs.Prelude.{◌≤◌};
 
 use crate::own::own_bounds;

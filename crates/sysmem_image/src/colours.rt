@@ -1,3 +1,5 @@
+//! The colour spaces that an entry lists.
+
 ghost use Rattle.std.specs.Prelude.{◌≡◌};
 
 use sysmem_formats::ColourSpace;

@@ -1,3 +1,5 @@
+//! The entries of a participant.
+
 use crate::bounds::ImageBounds;
 use crate::colours::ColourSet;
 use sysmem_formats::{Modifier, PixelFormat};

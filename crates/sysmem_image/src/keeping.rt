@@ -1,3 +1,5 @@
+//! Whether bounds keep to what an entry asks for.
+
 ghost use Rattle.std.specs.Prelude.{◌≤◌, ◌↔◌, IsTrue, IfSome, OnSome, IfNone};
 ghost use Rattle.std.specs.Int.{◌∣◌};
 ghost use Rattle.sysmem_formats.specs.declared.offer.Offer.{Offer};

@@ -1,3 +1,5 @@
+//! A participant's entry for an offer.
+
 ghost use Rattle.std.specs.Prelude.{◌≡◌};
 ghost use Rattle.std.specs.Option.{option_copied};
 ghost use Rattle.sysmem_image.specs.Entries.{matches, first_match, takes_colour};

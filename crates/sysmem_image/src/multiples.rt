@@ -1,3 +1,5 @@
+//! Least common multiples within 32 bits.
+
 ghost use Rattle.std.specs.Prelude.{ℕ, ◌*◌, ◌≤◌, ◌<◌, IfSome, IfNone};
 ghost use Rattle.std.specs.Int.{◌∣◌};
 ghost use Rattle.sysmem_image.specs.Multiples.{IsLcm, IsAboveLimit};

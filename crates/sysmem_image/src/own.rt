@@ -1,3 +1,5 @@
+//! The bounds of an offer on which no entry puts any.
+
 ghost use Rattle.sysmem_image.specs.Bounds.{IsOwn, IsInRange};
 
 use crate::bounds::ImageBounds;

@@ -1,3 +1,5 @@
+//! The smallest image that bounds admit.
+
 ghost use Rattle.std.specs.Prelude.{◌≡◌, ℕ, ◌≤◌, ◌<◌, ◌^◌, ◌↔◌, IsTrue, List, IfOk, IfErr, OnErr};
 ghost use Rattle.std.specs.Int.{◌∣◌};
 ghost use Rattle.sysmem_image.specs.declared.bounds.ImageBounds.{ImageBounds};

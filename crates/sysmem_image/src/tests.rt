@@ -1,3 +1,5 @@
+//! Bounds, corners and entries, as they were worked out by hand.
+
 use super::*;
 use sysmem_counts::Field;
 use sysmem_formats::{ColourSpace, Modifier, Offer, Pair, PixelFormat};

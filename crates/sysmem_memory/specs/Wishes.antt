@@ -1,3 +1,4 @@
+-- A participant's memory constraints.
 use Rattle.std.specs.Prelude.{ℕ, Bool, true, false, List, [], ◌-◌, ◌^◌}
 use Rattle.sysmem_memory.specs.Heap.{HeapName}
 

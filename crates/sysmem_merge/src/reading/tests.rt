@@ -1,3 +1,5 @@
+//! Records at the edges of what the readers take.
+
 use super::{read_constraints, read_platform};
 use crate::fault::Fault;
 use bitflags::Flags;

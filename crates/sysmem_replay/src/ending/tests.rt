@@ -1,3 +1,5 @@
+//! The exit status and text of each ending.
+
 use super::{Ending, ending_of, refusal_ending};
 use crate::fault::{RunFault, ScriptFault};
 use crate::run::Ended;

@@ -1,3 +1,5 @@
+//! Command lines that are taken and refused.
+
 use super::{Job, read_words};
 use clap::error::ErrorKind;
 use std::alloc::{AllocError, Global};
