@@ -9,8 +9,9 @@ use Rattle.sysmem_memory.specs.Place as places
 use Rattle.sysmem_memory.specs.PlaceTable.{PlaceDemand}
 use Rattle.sysmem_merge.specs.Aggregate.{StandsFor}
 use Rattle.sysmem_merge.specs.Kept.{Kept}
-use Rattle.sysmem_merge.specs.Participant.{Participant, counts_asked, place_demand, place_demands}
-use Rattle.sysmem_merge.specs.Platform.{PlatformFacts}
+use Rattle.sysmem_merge.specs.Demands.{counts_asked, place_demand, place_demands}
+use Rattle.sysmem_sanitise.specs.Participant.{Participant}
+use Rattle.sysmem_sanitise.specs.Platform.{PlatformFacts}
 use Rattle.sysmem_merge.proofs.Sizes.{sizes_push}
 
 -- a list with one more element, each changed alike

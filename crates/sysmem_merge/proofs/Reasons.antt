@@ -15,8 +15,9 @@ use Rattle.sysmem_merge.specs.declared.reason.Reason.{Reason}
 use Rattle.sysmem_merge.specs.declared.reason.Reason.TheVariants.{Count, NoPlace, NoOffer}
 use Rattle.sysmem_merge.specs.declared.settings.Settings.{Settings as Settled}
 use Rattle.sysmem_merge.specs.Laws.{ReasonLeavesNone, ReasonOfSomeLeavesNone}
-use Rattle.sysmem_merge.specs.Participant.{Participant, counts_asked, place_demand, place_demands}
-use Rattle.sysmem_merge.specs.Platform.{PlatformFacts}
+use Rattle.sysmem_merge.specs.Demands.{counts_asked, place_demand, place_demands}
+use Rattle.sysmem_sanitise.specs.Participant.{Participant}
+use Rattle.sysmem_sanitise.specs.Platform.{PlatformFacts}
 use Rattle.sysmem_merge.specs.Reasons.{IsReason, IsFirstReason, NoOfferServes, reason_rank}
 use Rattle.sysmem_merge.specs.Settings.{Covers, MeetsLoosely}
 use Rattle.sysmem_merge.proofs.Together.{loosely, refused_clash}

@@ -6,8 +6,8 @@ use Rattle.sysmem_merge.specs.declared.settings.Offer.TheVariants.{NoImage}
 use Rattle.sysmem_merge.specs.Aggregate.{AreSizes}
 use Rattle.sysmem_merge.specs.Best.{IsEarlierOffer}
 use Rattle.sysmem_merge.specs.Fit.{IsBestFit}
-use Rattle.sysmem_merge.specs.Participant.{Participant}
-use Rattle.sysmem_merge.specs.Platform.{PlatformFacts, offers_of}
+use Rattle.sysmem_sanitise.specs.Participant.{Participant}
+use Rattle.sysmem_sanitise.specs.Platform.{PlatformFacts, offers_of}
 use Rattle.sysmem_merge.specs.Reasons.{NoOfferServes}
 
 -- nobody asks for anything

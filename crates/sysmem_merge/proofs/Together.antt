@@ -12,8 +12,9 @@ use Rattle.sysmem_merge.specs.declared.fit.Fit.{Fit}
 use Rattle.sysmem_merge.specs.declared.settings.Settings.{Settings as Settled}
 use Rattle.sysmem_merge.specs.Best.{IsBest, IsUnmet}
 use Rattle.sysmem_merge.specs.Fit.{MeetsOffer, IsNoBetterFit, IsBestFit}
-use Rattle.sysmem_merge.specs.Participant.{Participant, counts_asked, place_demand, place_demands}
-use Rattle.sysmem_merge.specs.Platform.{PlatformFacts}
+use Rattle.sysmem_merge.specs.Demands.{counts_asked, place_demand, place_demands}
+use Rattle.sysmem_sanitise.specs.Participant.{Participant}
+use Rattle.sysmem_sanitise.specs.Platform.{PlatformFacts}
 use Rattle.sysmem_merge.specs.Reasons.{NoOfferServes}
 use Rattle.sysmem_merge.specs.Settings.{Covers, IsNamed, MeetsLoosely, MeetsAs}
 

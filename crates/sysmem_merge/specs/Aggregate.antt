@@ -1,20 +1,60 @@
 -- For which participants what is kept stands.
-use Rattle.std.specs.Prelude.{◌≡◌, ◌↔◌, ℕ, ◌^◌, ◌<◌, ◌≤◌, List, length, All}
+use Rattle.std.specs.Prelude.{◌≡◌, ◌↔◌, ℕ, ◌^◌, ◌<◌, ◌≤◌, List, length, All, Bool, true, Some, slice_get}
 use Rattle.sysmem_counts.specs.Bounds as counts
+use Rattle.sysmem_counts.specs.declared.field.Field.{Field}
+use Rattle.sysmem_counts.specs.declared.field.Field.TheVariants.{PixelFormat, ColorSpaces}
+use Rattle.sysmem_formats.specs.declared.offer.Offer.{Offer}
+use Rattle.sysmem_image.specs.Lines.{IsSteady}
+use Rattle.sysmem_image.specs.Merged.{MergedOf}
 use Rattle.sysmem_memory.specs.Place as places
+use Rattle.sysmem_merge.specs.declared.kept.KeptBounds.{KeptBounds}
+use Rattle.sysmem_merge.specs.declared.kept.KeptBounds.TheVariants.{Merged, Refused}
+use Rattle.sysmem_merge.specs.declared.kept.KeptOffer.{KeptOffer}
+use Rattle.sysmem_merge.specs.Demands.{OfferDemand, counts_asked, place_demands, offer_demands}
 use Rattle.sysmem_merge.specs.Kept.{Kept}
-use Rattle.sysmem_merge.specs.Participant.{Participant, counts_asked, place_demands}
-use Rattle.sysmem_merge.specs.Platform.{PlatformFacts}
+use Rattle.sysmem_merge.specs.Offers.{has_format, has_colour, bounds_asked, format_named, modifier_named, colour_named}
+use Rattle.sysmem_merge.specs.Reasons.{IsOfferLine}
+use Rattle.sysmem_sanitise.specs.Participant.{Participant}
+use Rattle.sysmem_sanitise.specs.Platform.{PlatformFacts, offers_of}
 
 -- the sizes of 64 bits that every participant takes are those from the least to the greatest
-pub record AreSizes (ps : List Participant) (least greatest : ℕ) : Type 0 where
-  pub low : (size : ℕ) → (least ≤ size) ↔ All (λ p. p.memory.min_size_bytes ≤ size) ps
-  pub high : (size : ℕ) → size < 2 ^ 64 → (size ≤ greatest) ↔ All (λ p. size ≤ p.memory.max_size_bytes) ps
+pub record AreSizes (ds : List OfferDemand) (least greatest : ℕ) : Type 0 where
+  pub low : (size : ℕ) → (least ≤ size) ↔ All (λ d. d.min_size_bytes ≤ size) ds
+  pub high : (size : ℕ) → size < 2 ^ 64 → (size ≤ greatest) ↔ All (λ d. size ≤ d.max_size_bytes) ds
+
+-- a line that stays true of more participants
+abbrev pub IsLasting : Field → Type 0
+IsLasting PixelFormat = Unit {0}
+IsLasting ColorSpaces = Unit {0}
+IsLasting field = IsSteady field
+
+-- a participant takes the offer and its colour space
+pub record IsListed (o : Offer) (d : OfferDemand) : Type 0 where
+  pub format : has_format o d ≡ true
+  pub colour : has_colour o d ≡ true
+
+-- the merged bounds of participants that all take the offer, or a lasting line that is true of them
+abbrev pub AreKeptBounds : Offer → List OfferDemand → KeptBounds → Type 0
+AreKeptBounds o ds (Merged b) = MergedOf o (bounds_asked o ds) b × All (IsListed o) ds
+AreKeptBounds o ds (Refused field) = IsLasting field × IsOfferLine field o ds
+
+-- what is kept of an offer stands for these participants
+pub record IsKept (o : Offer) (ds : List OfferDemand) (kept : KeptOffer) : Type 0 where
+  pub bounds : AreKeptBounds o ds kept.bounds
+  pub format : kept.format_named ≡ format_named o ds
+  pub modifier : kept.modifier_named ≡ modifier_named o ds
+  pub colour : kept.colour_named ≡ colour_named o ds
+
+-- what is kept of each offer of a list, in its order
+pub record AreKept (os : List Offer) (ds : List OfferDemand) (kept : List KeptOffer) : Type 0 where
+  pub many : length kept ≡ length os
+  pub each : (k : ℕ) (o : Offer) (one : KeptOffer) → slice_get os k ≡ Some o → slice_get kept k ≡ Some one → IsKept o ds one
 
 -- what is kept stands for these participants on the platform, part by part
 pub record StandsFor (kept : Kept) (platform : PlatformFacts) (ps : List Participant) : Type 0 where
   pub on : kept.platform ≡ platform
   pub counts : counts.StandsFor kept.counts (counts_asked ps)
   pub places : places.StandsFor kept.places platform.heaps (place_demands ps)
-  pub sizes : AreSizes ps kept.least_size kept.greatest_size
+  pub offers : AreKept (offers_of platform) (offer_demands ps) kept.offers
+  pub sizes : AreSizes (offer_demands ps) kept.least_size kept.greatest_size
   pub many : kept.added ≡ length ps

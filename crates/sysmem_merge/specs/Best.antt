@@ -1,11 +1,12 @@
 -- Which settings are best for participants.
 use Rattle.std.specs.Prelude.{◌≡◌, ℕ, ◌<◌, ◌≤◌, List, Bool, Some, slice_get}
+use Rattle.sysmem_formats.specs.declared.offer.Offer.{Offer}
+use Rattle.sysmem_image.specs.Bounds.{IsTighter}
 use Rattle.sysmem_memory.specs.Place.{IsEarlier}
-use Rattle.sysmem_merge.specs.declared.settings.Offer.{Offer}
 use Rattle.sysmem_merge.specs.declared.settings.Settings.{Settings as Settled}
-use Rattle.sysmem_merge.specs.Participant.{Participant}
-use Rattle.sysmem_merge.specs.Platform.{PlatformFacts, offers_of}
 use Rattle.sysmem_merge.specs.Settings.{MeetsAs}
+use Rattle.sysmem_sanitise.specs.Participant.{Participant}
+use Rattle.sysmem_sanitise.specs.Platform.{PlatformFacts, offers_of}
 
 -- the list has a before each place where it has b
 pub record IsEarlierOffer (offers : List Offer) (a b : Offer) : Type 0 where
@@ -13,12 +14,14 @@ pub record IsEarlierOffer (offers : List Offer) (a b : Offer) : Type 0 where
   pub here : slice_get offers place ≡ Some a
   pub before : (k : ℕ) → slice_get offers k ≡ Some b → place < k
 
--- t is no better than s: no earlier offer, with the same offer no earlier place, no smaller count, and in the same place no smaller size
+-- t is no better than s: no earlier offer, with the same offer no earlier place, no smaller count, and in the same place no
+-- smaller size and no bounds that ask for less
 pub record IsNoBetter (platform : PlatformFacts) (t s : Settled) : Type 0 where
   pub offer : ¬ (IsEarlierOffer (offers_of platform) t.offer s.offer)
   pub place : t.offer ≡ s.offer → ¬ (IsEarlier t.place s.place)
   pub count : s.count ≤ t.count
   pub size : t.offer ≡ s.offer → t.place ≡ s.place → s.size_bytes ≤ t.size_bytes
+  pub bounds : t.offer ≡ s.offer → t.place ≡ s.place → IsTighter t.bounds s.bounds
 
 -- settings that meet these participants, and than which no others that do are better
 pub record IsBest (whole : Bool) (platform : PlatformFacts) (ps : List Participant) (s : Settled) : Type 0 where

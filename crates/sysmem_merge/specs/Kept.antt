@@ -2,13 +2,16 @@
 use Rattle.std.specs.Prelude.{ℕ, List}
 use Rattle.sysmem_counts.specs.Tally.{Tally}
 use Rattle.sysmem_memory.specs.declared.domain.CoherencyDomains.{CoherencyDomains}
-use Rattle.sysmem_merge.specs.Platform.{PlatformFacts}
+use Rattle.sysmem_merge.specs.declared.kept.KeptOffer.{KeptOffer}
+use Rattle.sysmem_sanitise.specs.Platform.{PlatformFacts}
 
--- the platform, what is kept of the counts, the coherency domains that are left of each heap, the least and the greatest size, and how many were added
+-- the platform, what is kept of the counts, the coherency domains that are left of each heap, what is kept of each offer, the
+-- least and the greatest size, and how many were added
 pub record Kept : Type 0 where
   pub platform : PlatformFacts
   pub counts : Tally
   pub places : List CoherencyDomains
+  pub offers : List KeptOffer
   pub least_size : ℕ
   pub greatest_size : ℕ
   pub added : ℕ

@@ -1,11 +1,9 @@
 pub mod Aggregate
 pub mod Best
-pub mod Faults
+pub mod Demands
 pub mod Fit
 pub mod Kept
 pub mod Laws
-pub mod Participant
-pub mod Platform
-pub mod Reading
+pub mod Offers
 pub mod Reasons
 pub mod Settings

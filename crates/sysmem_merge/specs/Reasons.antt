@@ -1,28 +1,54 @@
 -- Why no settings meet participants: a conflict that is true of them.
-use Rattle.std.specs.Prelude.{ℕ, ◌^◌, ◌<◌, ◌≤◌, List, All, Contains}
+use Rattle.std.specs.Prelude.{◌≡◌, ◌⊎◌, ◌≢◌, ℕ, ◌^◌, ◌<◌, ◌≤◌, List, All, Any, Bool, true, false, Contains}
 use Rattle.sysmem_counts.specs.Counts.{IsCountLine}
-use Rattle.sysmem_counts.specs.declared.field.Field.TheVariants.{MaxBufferCount}
+use Rattle.sysmem_counts.specs.declared.field.Field.{Field}
+use Rattle.sysmem_counts.specs.declared.field.Field.TheVariants.{MaxBufferCount, PixelFormat, ColorSpaces, MaxSizeBytes, UnnamedPixelFormat, UnnamedPixelFormatModifier, UnnamedColorSpace}
+use Rattle.sysmem_formats.specs.declared.offer.Offer.{Offer}
+use Rattle.sysmem_formats.specs.declared.offer.Offer.TheVariants.{NoImage}
+use Rattle.sysmem_formats.specs.Layout.{image_bytes_of}
+use Rattle.sysmem_image.specs.declared.bounds.ImageBounds.{ImageBounds}
+use Rattle.sysmem_image.specs.Lines.{FitsWidth, FitsHeight, FitsRow, AlignmentsMeet, DivisorsMeet, IsBoundsLine}
 use Rattle.sysmem_memory.specs.Place.{HasNoPlace}
-use Rattle.sysmem_merge.specs.declared.settings.Offer.{Offer}
 use Rattle.sysmem_merge.specs.declared.reason.Reason.{Reason}
 use Rattle.sysmem_merge.specs.declared.reason.Reason.TheVariants.{Count, NoPlace, NoOffer}
-use Rattle.sysmem_merge.specs.Participant.{Participant, counts_asked, place_demands}
-use Rattle.sysmem_merge.specs.Platform.{PlatformFacts, offers_of}
+use Rattle.sysmem_merge.specs.Demands.{OfferDemand, counts_asked, place_demands, offer_demands}
+use Rattle.sysmem_merge.specs.Offers.{has_format, has_colour, bounds_asked, format_named, modifier_named, colour_named}
+use Rattle.sysmem_sanitise.specs.Participant.{Participant}
+use Rattle.sysmem_sanitise.specs.Platform.{PlatformFacts, offers_of}
 
--- no size is large enough for each participant and small enough for each
-abbrev pub IsMaxSizeLine : List Participant → Type 0
-IsMaxSizeLine ps = (n : ℕ) → 1 ≤ n → n < 2 ^ 64
-    → All (λ p. p.memory.min_size_bytes ≤ n) ps → All (λ p. n ≤ p.memory.max_size_bytes) ps → ⊥
+-- no size holds the corner of these bounds, is large enough for each participant and small enough for each
+abbrev pub SizeAbove : Offer → List ImageBounds → List OfferDemand → Type 0
+SizeAbove o es ds = (w h r n : ℕ) → FitsWidth o es w → FitsHeight o es h → FitsRow o es w r
+    → image_bytes_of o r h ≤ n → 1 ≤ n → n < 2 ^ 64
+    → All (λ d. d.min_size_bytes ≤ n) ds → All (λ d. n ≤ d.max_size_bytes) ds → ⊥
 
--- each offer of the platform fails: 'no image' by its size alone
-abbrev pub NoOfferServes : PlatformFacts → List Participant → Type 0
-NoOfferServes platform ps = (offer : Offer) → Contains (offers_of platform) offer → IsMaxSizeLine ps
+-- the line of the conflict table that the field heads is true of the participants for the offer
+abbrev pub IsOfferLine : Field → Offer → List OfferDemand → Type 0
+IsOfferLine PixelFormat o ds = Any (λ d. has_format o d ≡ false) ds
+IsOfferLine ColorSpaces o ds = Any (λ d. has_colour o d ≡ false) ds
+IsOfferLine MaxSizeBytes o ds = AlignmentsMeet o (bounds_asked o ds) × DivisorsMeet o (bounds_asked o ds) × SizeAbove o (bounds_asked o ds) ds
+IsOfferLine field o ds = IsBoundsLine field o (bounds_asked o ds)
+
+-- no participant names the format, the modifier or the colour space of an image
+abbrev pub IsUnnamedLine : Field → Offer → List OfferDemand → Type 0
+IsUnnamedLine UnnamedPixelFormat o ds = (o ≢ NoImage) × (format_named o ds ≡ false)
+IsUnnamedLine UnnamedPixelFormatModifier o ds = (o ≢ NoImage) × (modifier_named o ds ≡ false)
+IsUnnamedLine UnnamedColorSpace o ds = (o ≢ NoImage) × (colour_named o ds ≡ false)
+IsUnnamedLine _ o ds = ⊥
+
+-- a line is true of the participants for the offer; an unnamed one counts where they are all that a decision has
+abbrev pub IsOfferRefused : Bool → Offer → List OfferDemand → Type 0
+IsOfferRefused whole o ds = ((field : Field) × IsOfferLine field o ds) ⊎ ((whole ≡ true) × ((field : Field) × IsUnnamedLine field o ds))
+
+-- each offer of a list is refused
+abbrev pub AreOffersRefused : Bool → List Offer → List OfferDemand → Type 0
+AreOffersRefused whole os ds = (o : Offer) → Contains os o → IsOfferRefused whole o ds
 
 -- what a reason says of the participants
-abbrev pub IsReason : PlatformFacts → List Participant → Reason → Type 0
-IsReason platform ps (Count field) = IsCountLine field (counts_asked ps)
-IsReason platform ps NoPlace = HasNoPlace platform.heaps (place_demands ps)
-IsReason platform ps NoOffer = NoOfferServes platform ps
+abbrev pub IsReason : Bool → PlatformFacts → List Participant → Reason → Type 0
+IsReason whole platform ps (Count field) = IsCountLine field (counts_asked ps)
+IsReason whole platform ps NoPlace = HasNoPlace platform.heaps (place_demands ps)
+IsReason whole platform ps NoOffer = AreOffersRefused whole (offers_of platform) (offer_demands ps)
 
 -- a reason's place in their order: a maximum count, the limit of the count, places, offers
 abbrev pub reason_rank : Reason → ℕ
@@ -32,6 +58,6 @@ reason_rank NoPlace = 2
 reason_rank NoOffer = 3
 
 -- a reason that is true of the participants, where none before it is
-pub record IsFirstReason (platform : PlatformFacts) (ps : List Participant) (reason : Reason) : Type 0 where
-  pub holds : IsReason platform ps reason
-  pub first : (other : Reason) → reason_rank other < reason_rank reason → ¬ (IsReason platform ps other)
+pub record IsFirstReason (whole : Bool) (platform : PlatformFacts) (ps : List Participant) (reason : Reason) : Type 0 where
+  pub holds : IsReason whole platform ps reason
+  pub first : (other : Reason) → reason_rank other < reason_rank reason → ¬ (IsReason whole platform ps other)

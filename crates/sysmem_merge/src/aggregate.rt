@@ -3,19 +3,19 @@
 ghost use Rattle.std.specs.Prelude.{◌≡◌, ◌+◌, ◌<◌, ◌≤◌, ◌++◌, List, [], ◌∷◌, IfOk, IfErr, OnOk, OnErr};
 ghost use Rattle.sysmem_merge.specs.Aggregate.{StandsFor};
 ghost use Rattle.sysmem_merge.specs.Best.{IsBest, IsUnmet};
-ghost use Rattle.sysmem_merge.specs.Participant.{Participant};
-ghost use Rattle.sysmem_merge.specs.Platform.{PlatformFacts};
+ghost use Rattle.sysmem_sanitise.specs.Participant.{Participant};
+ghost use Rattle.sysmem_sanitise.specs.Platform.{PlatformFacts};
 ghost use Rattle.sysmem_merge.specs.Reasons.{IsFirstReason};
 
-use crate::constraints::Constraints;
-use crate::fit::best_fit;
-use crate::platform::Platform;
+use crate::kept::KeptOffer;
 use crate::reason::Reason;
-use crate::settings::{Offer, Settings};
+use crate::settings::Settings;
+use crate::walk::first_fit;
 use std::alloc::{AllocError, Global};
 use std::marker::Model;
 use sysmem_counts::CountBounds;
 use sysmem_memory::MemoryBounds;
+use sysmem_sanitise::{Constraints, Platform};
 
 /// The participants that were added to a platform: what they ask for together.
 #[derive(Debug, Drop)]
@@ -23,6 +23,7 @@ pub struct Aggregate<'p> {
     platform: &'p Platform,
     counts: CountBounds,
     memory: MemoryBounds,
+    offers: Vec<KeptOffer>,
     least_size: u64,
     greatest_size: u64,
     added: u64,
@@ -39,6 +40,7 @@ impl<'p> Model for Aggregate<'p> {
       platform = a.platform.now;
       counts = a.counts;
       places = a.memory;
+      offers = a.offers.items;
       least_size = a.least_size;
       greatest_size = a.greatest_size;
       added = a.added;
@@ -52,11 +54,12 @@ impl<'p> Aggregate<'p> {
     pub fn new(alloc: Global, platform: &'p Platform) -> Result<Aggregate<'p>, AllocError>
         ensures { IfOk result (λ made. StandsFor made platform.now []) }
     {
-        let _ = alloc;
+        let offers = kept_offers(alloc, platform)?;
         Ok(Aggregate {
             platform,
             counts: CountBounds::new(),
             memory: MemoryBounds::new(platform.heaps()),
+            offers,
             least_size: 0,
             greatest_size: u64::MAX,
             added: 0,
@@ -98,7 +101,7 @@ impl<'p> Aggregate<'p> {
         ensures none { (platform : PlatformFacts) (ps : List Participant) → StandsFor self.now platform ps
             → IfErr result (λ _. IsUnmet whole platform ps) }
         ensures reason { (platform : PlatformFacts) (ps : List Participant) → StandsFor self.now platform ps
-            → IfErr result (IsFirstReason platform ps) }
+            → IfErr result (IsFirstReason whole platform ps) }
     {
         let count = match self.counts.least_count() {
             Ok(count) => count,
@@ -107,7 +110,7 @@ impl<'p> Aggregate<'p> {
         let Some(place) = self.memory.first_place(self.platform.heaps()) else {
             return Err(Reason::NoPlace);
         };
-        let Some(fit) = best_fit(self.least_size, self.greatest_size, whole) else {
+        let Some(fit) = first_fit(self.platform, &self.offers, self.least_size, self.greatest_size, whole) else {
             return Err(Reason::NoOffer);
         };
         Ok(Settings {
@@ -115,6 +118,7 @@ impl<'p> Aggregate<'p> {
             place,
             count,
             size_bytes: fit.size_bytes,
+            bounds: fit.bounds,
         })
     }
 }

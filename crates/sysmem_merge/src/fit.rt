@@ -1,34 +1,52 @@
-//! The first offer that participants can share, with its size.
+//! The least size and bounds of one offer that participants can share.
 
-ghost use Rattle.std.specs.Prelude.{List, IfSome, IfNone};
-ghost use Rattle.sysmem_merge.specs.Aggregate.{AreSizes};
+ghost use Rattle.std.specs.Prelude.{List, IfOk, IfErr};
+ghost use Rattle.sysmem_merge.specs.Aggregate.{AreSizes, AreKeptBounds};
+ghost use Rattle.sysmem_merge.specs.Demands.{OfferDemand};
 ghost use Rattle.sysmem_merge.specs.Fit.{IsBestFit};
-ghost use Rattle.sysmem_merge.specs.Participant.{Participant};
-ghost use Rattle.sysmem_merge.specs.Platform.{PlatformFacts};
-ghost use Rattle.sysmem_merge.specs.Reasons.{NoOfferServes};
+ghost use Rattle.sysmem_merge.specs.Reasons.{IsOfferLine};
 
-use crate::settings::Offer;
+use crate::kept::KeptBounds;
+use sysmem_counts::Field;
+use sysmem_formats::Offer;
+use sysmem_image::{ImageBounds, corner};
 
-/// What settings say of images: an offer and a buffer's size for it, in bytes.
+/// What settings say of images: an offer, the bounds on its images, and a buffer's size for it in bytes.
 #[derive(Clone, Copy, Debug, PartialEq, Eq)]
 pub(crate) struct Fit {
     pub offer: Offer,
+    pub bounds: ImageBounds,
     pub size_bytes: u64,
 }
 
-/// The first offer with a size from the least to the greatest, and its least size.
-pub(crate) fn best_fit(least_size: u64, greatest_size: u64, whole: bool) -> Option<Fit>
-    ensures best { (platform : PlatformFacts) (ps : List Participant) → AreSizes ps least_size greatest_size
-        → IfSome result (IsBestFit whole platform ps) }
-    ensures none { (platform : PlatformFacts) (ps : List Participant) → AreSizes ps least_size greatest_size
-        → IfNone result (NoOfferServes platform ps) }
+/// The least size from the least to the greatest that holds the corner of the bounds, at least 1, or the field whose
+/// line in the table of conflicts is true.
+pub(crate) fn best_fit(
+    kept: &KeptBounds,
+    offer: &Offer,
+    least_size: u64,
+    greatest_size: u64,
+) -> Result<Fit, Field>
+    ensures best { (ds : List OfferDemand) → AreKeptBounds offer.now ds kept.now → AreSizes ds least_size greatest_size
+        → IfOk result (IsBestFit offer.now ds) }
+    ensures line { (ds : List OfferDemand) → AreKeptBounds offer.now ds kept.now → AreSizes ds least_size greatest_size
+        → IfErr result (λ field. IsOfferLine field offer.now ds) }
 {
-    let size_bytes = least_size.max(1);
-    if size_bytes > greatest_size {
-        return None;
+    let bounds = match kept {
+        KeptBounds::Merged(bounds) => *bounds,
+        KeptBounds::Refused(field) => return Err(*field),
+    };
+    let corner = match corner(&bounds, offer) {
+        Ok(corner) => corner,
+        Err(field) => return Err(field),
+    };
+    let bytes = corner.bytes.max(u128::from(least_size)).max(1);
+    if bytes > u128::from(greatest_size) {
+        return Err(Field::MaxSizeBytes);
     }
-    Some(Fit {
-        offer: Offer::NoImage,
-        size_bytes,
+    Ok(Fit {
+        offer: *offer,
+        bounds,
+        size_bytes: bytes as u64,
     })
 }

@@ -9,23 +9,17 @@
 #![tactic(auto)]
 
 mod aggregate;
-mod constraints;
-mod fault;
 mod fit;
+mod kept;
 pub mod laws;
 mod meets;
-mod platform;
-mod reading;
 mod reason;
 mod settings;
+mod walk;
 #[cfg(test)]
 mod tests;
 
 pub use aggregate::Aggregate;
-pub use constraints::Constraints;
-pub use fault::{Code, Fault, Spot};
 pub use meets::meets_one;
-pub use platform::Platform;
-pub use reading::{read_constraints, read_platform};
 pub use reason::Reason;
-pub use settings::{Offer, Settings};
+pub use settings::Settings;

@@ -3,12 +3,12 @@
 ghost use Rattle.std.specs.Prelude.{◌↔◌, IsTrue};
 ghost use Rattle.sysmem_merge.specs.Settings.{CoversOn};
 
-use crate::constraints::Constraints;
-use crate::platform::Platform;
 use crate::settings::Settings;
 use sysmem_memory::refuses;
+use sysmem_sanitise::{Constraints, Platform};
 
-/// Whether the participant accepts the settings: nothing that it says of memory, nor its usage, refuses their place, and their
+/// Whether the participant accepts the settings: it has an entry for their offer, with its colour space, or no entries at
+/// all; their bounds keep to that entry's; nothing that it says of memory, nor its usage, refuses their place, and their
 /// size is from its least to its greatest. False where the platform has no heap of that index. How many buffers
 /// there are isn't one participant's to accept.
 pub fn meets_one(platform: &Platform, settings: &Settings, asked: &Constraints) -> bool
@@ -22,4 +22,5 @@ pub fn meets_one(platform: &Platform, settings: &Settings, asked: &Constraints) 
     refused.is_none()
         && memory.min_size_bytes <= settings.size_bytes
         && settings.size_bytes <= memory.max_size_bytes
+        && accepts_offer(settings, asked.entries())
 }

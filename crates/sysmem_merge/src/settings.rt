@@ -1,13 +1,8 @@
-//! What a decision gives: an offer, a place, a count and a size.
+//! What a decision gives: an offer, a place, a count, a size and bounds.
 
+use sysmem_formats::Offer;
+use sysmem_image::ImageBounds;
 use sysmem_memory::Place;
-
-/// What the buffers hold. An offer of images joins with the formats.
-#[derive(Clone, Copy, Debug, PartialEq, Eq)]
-pub enum Offer {
-    /// Plain bytes, no image.
-    NoImage,
-}
 
 /// Settings that participants can share.
 #[derive(Clone, Copy, Debug, PartialEq, Eq)]
@@ -20,4 +15,6 @@ pub struct Settings {
     pub count: u32,
     /// The size of each buffer in bytes, at least 1.
     pub size_bytes: u64,
+    /// What images in the buffers have to keep to; without an image the bounds of no entry.
+    pub bounds: ImageBounds,
 }

@@ -3,12 +3,12 @@ use Rattle.std.proofs.Common.{◌≡◌, ℕ, ◌<◌, ◌≤◌, ◌++◌, ◌|
 use Rattle.std.specs.Prelude.{slice_get, slice_set}
 use Rattle.std.specs.Result.{result_err}
 use Rattle.serde_json.specs.Data.{Data}
-use Rattle.sysmem_merge.specs.declared.fault.Fault.{Fault}
-use Rattle.sysmem_merge.specs.declared.fault.Code.{Code}
-use Rattle.sysmem_merge.specs.declared.fault.Code.TheVariants.{WantOfMemory, WrongKind}
-use Rattle.sysmem_merge.specs.Faults.{want_of_memory}
-use Rattle.sysmem_merge.specs.Participant.{Participant}
-use Rattle.sysmem_merge.specs.Reading.{participant_of}
+use Rattle.sysmem_sanitise.specs.declared.fault.Fault.{Fault}
+use Rattle.sysmem_sanitise.specs.declared.fault.Code.{Code}
+use Rattle.sysmem_sanitise.specs.declared.fault.Code.TheVariants.{WantOfMemory, WrongKind}
+use Rattle.sysmem_sanitise.specs.Faults.{want_of_memory}
+use Rattle.sysmem_sanitise.specs.Participant.{Participant}
+use Rattle.sysmem_sanitise.specs.Reading.{participant_of}
 use Rattle.sysmem_replay.specs.declared.action.Action.{Action}
 use Rattle.sysmem_replay.specs.declared.action.Action.TheVariants.{SetConstraints}
 use Rattle.sysmem_replay.specs.declared.node.Node.{Node}
@@ -17,7 +17,7 @@ use Rattle.sysmem_replay.specs.declared.reply.Refusal.{Refusal}
 use Rattle.sysmem_replay.specs.declared.reply.Reply.{Reply}
 use Rattle.sysmem_replay.specs.declared.reply.Reply.TheVariants.{Accepted, Refused, Misread, Skipped}
 use Rattle.sysmem_replay.specs.declared.verdict.Verdict.{Verdict}
-use Rattle.sysmem_merge.specs.Platform.{PlatformFacts}
+use Rattle.sysmem_sanitise.specs.Platform.{PlatformFacts}
 use Rattle.sysmem_replay.specs.Call.{Deed, states, checks}
 use Rattle.sysmem_replay.specs.Lines.{call_line, verdict_line}
 use Rattle.sysmem_replay.specs.Report.{Answers, Asks, Decides, Settles, SettlesIn, Takes, decides, takes, is_no_memory, to_set, skips, misreads, starves as starved_by, refuses, accepts, answers, unmade, with_name, node_named, checked, named}

@@ -1,6 +1,6 @@
 -- What is true of reports, whoever writes them.
 use Rattle.std.specs.Prelude.{◌≡◌, ℕ, List, false, Result, Ok, Err}
-use Rattle.sysmem_merge.specs.Platform.{PlatformFacts}
+use Rattle.sysmem_sanitise.specs.Platform.{PlatformFacts}
 use Rattle.sysmem_replay.specs.declared.fault.ScriptFault.{ScriptFault}
 use Rattle.sysmem_replay.specs.Outcome.{Reported, RunsTo}
 use Rattle.sysmem_replay.specs.Report.{Report}

@@ -7,8 +7,8 @@ use Rattle.sysmem_memory.specs.Heap.{HeapFacts}
 use Rattle.sysmem_merge.specs.declared.settings.Offer.{Offer}
 use Rattle.sysmem_merge.specs.declared.settings.Offer.TheVariants.{NoImage}
 use Rattle.sysmem_merge.specs.declared.settings.Settings.{Settings as Settled}
-use Rattle.sysmem_merge.specs.Platform.{PlatformFacts}
-use Rattle.sysmem_merge.specs.Faults.{fault_text}
+use Rattle.sysmem_sanitise.specs.Platform.{PlatformFacts}
+use Rattle.sysmem_sanitise.specs.Faults.{fault_text}
 use Rattle.sysmem_replay.specs.declared.reply.Refusal.{Refusal}
 use Rattle.sysmem_replay.specs.declared.reply.Refusal.TheVariants as refusals
 use Rattle.sysmem_replay.specs.declared.reply.Reply.{Reply}

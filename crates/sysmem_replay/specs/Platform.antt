@@ -1,9 +1,9 @@
 -- The platform that a script names.
 use Rattle.std.specs.Prelude.{Result, Ok, Err}
 use Rattle.serde_json.specs.Data.{Data}
-use Rattle.sysmem_merge.specs.declared.fault.Fault.{Fault}
-use Rattle.sysmem_merge.specs.Platform.{PlatformFacts}
-use Rattle.sysmem_merge.specs.Reading.{platform_of}
+use Rattle.sysmem_sanitise.specs.declared.fault.Fault.{Fault}
+use Rattle.sysmem_sanitise.specs.Platform.{PlatformFacts}
+use Rattle.sysmem_sanitise.specs.Reading.{platform_of}
 use Rattle.sysmem_replay.specs.declared.fault.ScriptFault.{ScriptFault}
 use Rattle.sysmem_replay.specs.declared.fault.ScriptFault.TheVariants.{Platform as refused}
 

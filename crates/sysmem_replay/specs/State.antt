@@ -1,9 +1,9 @@
 -- What the calls of a script make: nodes, what their names stand for, and the verdict.
 use Rattle.std.specs.Prelude.{◌≡◌, ℕ, ◌+◌, ◌++◌, ◌&&◌, List, [], ◌∷◌, length, Bool, true, false, Option, Some, None, is_none, Result, Ok, Err, nat_le, option_and_then, slice_get, slice_set, if◌then◌else◌}
 use Rattle.std.specs.List.{filter_map, list_all}
-use Rattle.sysmem_merge.specs.declared.fault.Code.{Code}
-use Rattle.sysmem_merge.specs.declared.fault.Code.TheVariants.{WantOfMemory}
-use Rattle.sysmem_merge.specs.Participant.{Participant}
+use Rattle.sysmem_sanitise.specs.declared.fault.Code.{Code}
+use Rattle.sysmem_sanitise.specs.declared.fault.Code.TheVariants.{WantOfMemory}
+use Rattle.sysmem_sanitise.specs.Participant.{Participant}
 use Rattle.sysmem_replay.specs.declared.action.Action.{Action}
 use Rattle.sysmem_replay.specs.declared.action.Action.TheVariants.{Duplicate, Bind, SetConstraints, Release}
 use Rattle.sysmem_replay.specs.declared.node.Node.{Node}

@@ -3,8 +3,8 @@
 ghost use Rattle.std.specs.Prelude.{◌+◌, ◌<◌, ◌≤◌, ◌++◌, List, [], ◌∷◌, length, IfOk, OnOk};
 ghost use Rattle.std.specs.List.{filter_map};
 ghost use Rattle.sysmem_merge.specs.Aggregate.{StandsFor};
-ghost use Rattle.sysmem_merge.specs.Participant.{Participant};
-ghost use Rattle.sysmem_merge.specs.Platform.{PlatformFacts};
+ghost use Rattle.sysmem_sanitise.specs.Participant.{Participant};
+ghost use Rattle.sysmem_sanitise.specs.Platform.{PlatformFacts};
 ghost use Rattle.sysmem_replay.specs.Report.{Decides};
 ghost use Rattle.sysmem_replay.specs.State.{constraints_at};
 

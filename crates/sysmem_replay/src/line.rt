@@ -3,7 +3,7 @@
 ghost use Rattle.std.specs.Prelude.{◌≡◌, ℕ, ◌++◌, codes, option_map, slice_get, OnOk};
 ghost use Rattle.std.specs.Fmt.{decimal};
 ghost use Rattle.std.specs.String.{string_bytes};
-ghost use Rattle.sysmem_merge.specs.Faults.{fault_text};
+ghost use Rattle.sysmem_sanitise.specs.Faults.{fault_text};
 ghost use Rattle.sysmem_replay.specs.Lines.{call_line, deed_name, heap_text, new_name, offer_text, pending_lines, reply_text, settings_text, verdict_line};
 ghost use Rattle.sysmem_replay.specs.Seen.{deed_seen, seen};
 

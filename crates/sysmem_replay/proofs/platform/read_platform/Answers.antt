@@ -1,5 +1,5 @@
 use Rattle.std.proofs.Common.{ap}
-use Rattle.sysmem_merge.specs.declared.fault.Fault.{Fault}
+use Rattle.sysmem_sanitise.specs.declared.fault.Fault.{Fault}
 use Rattle.sysmem_replay.specs.Platform.{script_says}
 use Rattle.sysmem_replay.proofs.platform.read_platform.Goals as goal
 

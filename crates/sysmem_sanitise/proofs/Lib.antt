@@ -1,0 +1,3 @@
+mod Domains
+mod Heaps
+mod Members

@@ -1,0 +1,4 @@
+pub mod Faults
+pub mod Participant
+pub mod Platform
+pub mod Reading

@@ -1,0 +1,86 @@
+-- What a participant's record says.
+use Rattle.std.specs.Prelude.{◌-◌, ◌^◌, ◌||◌, ◌==◌, List, [], ◌∷◌, Bool, true, false, not, Result, Ok, ok_or}
+use Rattle.std.specs.Int.RustNames.{bit_and, bit_or}
+use Rattle.serde_json.specs.Data.{Data}
+use Rattle.serde_json.specs.Find.{as_str}
+use Rattle.sysmem_counts.specs.declared.constraints.CountConstraints.{CountConstraints}
+use Rattle.sysmem_counts.specs.declared.field.Field.{Field}
+use Rattle.sysmem_counts.specs.declared.field.Field.TheVariants as field
+use Rattle.sysmem_counts.specs.declared.usage.Usage.{Usage}
+use Rattle.sysmem_counts.specs.Families.{family_named}
+use Rattle.sysmem_counts.specs.Usage.{usage_bits}
+use Rattle.sysmem_memory.specs.Wishes.{MemoryWishes, no_wishes}
+use Rattle.sysmem_sanitise.specs.declared.fault.Fault.{Fault}
+use Rattle.sysmem_sanitise.specs.Faults.{not_taken}
+use Rattle.sysmem_sanitise.specs.Participant.{Participant}
+use Rattle.sysmem_sanitise.specs.Reading.Fields.{◌>>=◌, passing, read_each, has_only, optional, required, number_or, flag_or, filled_list_of}
+
+-- a usage, and the family that an item names; a repeated one counts once
+abbrev pub with_family : Usage → Data → Result Usage Fault
+with_family usage d = do
+  name ← ok_or (as_str d) not_taken
+  family ← ok_or (family_named name) not_taken
+  Ok (record { 0 = bit_or (usage_bits usage) family })
+
+-- none is alone, or absent
+abbrev pub is_usage : Usage → Bool
+is_usage usage = usage_bits usage == 1 || not (bit_and (usage_bits usage) 1 == 1)
+
+-- a list of families that isn't empty
+abbrev pub usage_of : Data → Result Usage Fault
+usage_of d = do
+  items ← filled_list_of d
+  usage ← read_each with_family (record { 0 = 0 }) items
+  passing is_usage usage
+
+abbrev pub counts_of : Data → Result CountConstraints Fault
+counts_of d = do
+  camping ← number_or field.MinBufferCountForCamping 0 (2 ^ 32 - 1) d
+  dedicated ← number_or field.MinBufferCountForDedicatedSlack 0 (2 ^ 32 - 1) d
+  shared ← number_or field.MinBufferCountForSharedSlack 0 (2 ^ 32 - 1) d
+  minimum ← number_or field.MinBufferCount 0 (2 ^ 32 - 1) d
+  maximum ← number_or field.MaxBufferCount (2 ^ 32 - 1) (2 ^ 32 - 1) d
+  Ok (record {
+    min_buffer_count_for_camping = camping;
+    min_buffer_count_for_dedicated_slack = dedicated;
+    min_buffer_count_for_shared_slack = shared;
+    min_buffer_count = minimum;
+    max_buffer_count = maximum;
+  })
+
+-- the fields of memory constraints
+abbrev pub memory_fields : List Field
+memory_fields = field.MinSizeBytes ∷ field.MaxSizeBytes ∷ field.CpuDomainSupported ∷ field.RamDomainSupported ∷ field.InaccessibleDomainSupported ∷ []
+
+abbrev pub memory_of : Data → Result MemoryWishes Fault
+memory_of d = do
+  _ ← passing (has_only memory_fields) d
+  min_size ← number_or field.MinSizeBytes 0 (2 ^ 64 - 1) d
+  max_size ← number_or field.MaxSizeBytes (2 ^ 64 - 1) (2 ^ 64 - 1) d
+  cpu ← flag_or field.CpuDomainSupported true d
+  ram ← flag_or field.RamDomainSupported false d
+  inaccessible ← flag_or field.InaccessibleDomainSupported false d
+  Ok (record {
+    min_size_bytes = min_size;
+    max_size_bytes = max_size;
+    physically_contiguous_required = false;
+    secure_required = false;
+    cpu_domain_supported = cpu;
+    ram_domain_supported = ram;
+    inaccessible_domain_supported = inaccessible;
+    permitted_heaps = [];
+  })
+
+-- the fields of a participant's constraints
+abbrev pub constraints_fields : List Field
+constraints_fields = field.Usage ∷ field.MinBufferCountForCamping ∷ field.MinBufferCountForDedicatedSlack ∷ field.MinBufferCountForSharedSlack
+    ∷ field.MinBufferCount ∷ field.MaxBufferCount ∷ field.BufferMemoryConstraints ∷ []
+
+-- the participant that a value states
+abbrev pub participant_of : Data → Result Participant Fault
+participant_of d = do
+  _ ← passing (has_only constraints_fields) d
+  usage ← required field.Usage usage_of d
+  counts ← counts_of d
+  memory ← optional field.BufferMemoryConstraints no_wishes memory_of d
+  Ok (record { usage = usage; counts = counts; memory = memory; entries = [] })

@@ -1,0 +1,92 @@
+-- Reading one field of a record: the value that it states, or a fault.
+use Rattle.std.specs.Prelude.{◌≡◌, ◌≢◌, ℕ, List, [], ◌∷◌, Bool, true, false, Option, Some, None, Result, Ok, Err, nat_le, bytes_eq, ok_or, option_and_then, if◌then◌else◌}
+use Rattle.std.specs.List.{list_all, list_any}
+use Rattle.serde_json.specs.Data.{Data, object, Items, no_items, item, Members, no_members, member}
+use Rattle.serde_json.specs.Find.{get, as_array, as_bool, as_number, as_u64}
+use Rattle.sysmem_counts.specs.declared.field.Field.{Field}
+use Rattle.sysmem_counts.specs.Field.{field_name}
+use Rattle.sysmem_sanitise.specs.declared.fault.Fault.{Fault}
+use Rattle.sysmem_sanitise.specs.Faults.{not_taken, want_of_memory}
+
+infixl 10 ◌>>=◌
+-- what is read, and then what comes after it, up to the first fault
+abbrev pub ◌>>=◌ : {A B : Type 0} → Result A Fault → (A → Result B Fault) → Result B Fault
+Ok a >>= next = next a
+Err fault >>= next = Err fault
+
+-- what was read, if it passes the test
+abbrev pub passing : {A : Type 0} → (A → Bool) → A → Result A Fault
+passing test a = if test a then Ok a else Err not_taken
+
+-- a key that names one of these fields
+unfoldable pub is_named : List Field → List ℕ → Bool
+is_named fields key = list_any (λ field. bytes_eq (field_name field) key) fields
+
+abbrev pub keys_of : Members → List (List ℕ)
+keys_of no_members = []
+keys_of (member key value ms) = key ∷ keys_of ms
+
+-- an object that has no other fields than these
+abbrev pub has_only : List Field → Data → Bool
+has_only fields (object ms) = list_all (is_named fields) (keys_of ms)
+has_only fields _ = false
+
+-- the value of a field that may be missing
+abbrev pub read_or : {A : Type 0} → A → (Data → Result A Fault) → Option Data → Result A Fault
+read_or absent read None = Ok absent
+read_or absent read (Some d) = read d
+
+-- a field that a record may leave out
+abbrev pub optional : {A : Type 0} → Field → A → (Data → Result A Fault) → Data → Result A Fault
+optional field absent read d = read_or absent read (get (field_name field) d)
+
+-- the value of a field that a record must have
+abbrev pub stated : Field → Data → Result Data Fault
+stated field d = ok_or (get (field_name field) d) not_taken
+
+-- a field that a record must have
+abbrev pub required : {A : Type 0} → Field → (Data → Result A Fault) → Data → Result A Fault
+required field read d = stated field d >>= read
+
+-- a whole number from 0 to the greatest
+abbrev pub number_to : ℕ → Data → Result ℕ Fault
+number_to greatest d = do
+  n ← ok_or (option_and_then as_u64 (as_number d)) not_taken
+  passing (λ n. nat_le n greatest) n
+
+abbrev pub number_or : Field → ℕ → ℕ → Data → Result ℕ Fault
+number_or field absent greatest d = optional field absent (number_to greatest) d
+
+-- true or false
+abbrev pub flag_of : Data → Result Bool Fault
+flag_of d = ok_or (as_bool d) not_taken
+
+abbrev pub flag_or : Field → Bool → Data → Result Bool Fault
+flag_or field absent d = optional field absent flag_of d
+
+-- a list of any items
+abbrev pub list_of : Data → Result Items Fault
+list_of d = ok_or (as_array d) not_taken
+
+abbrev pub has_items : Items → Bool
+has_items no_items = false
+has_items (item d ds) = true
+
+-- a list that isn't empty
+abbrev pub filled_list_of : Data → Result Items Fault
+filled_list_of d = list_of d >>= passing has_items
+
+-- a list read item by item, each with what was read before it
+abbrev pub read_each : {S : Type 0} → (S → Data → Result S Fault) → S → Items → Result S Fault
+read_each read before no_items = Ok before
+read_each read before (item d ds) = read before d >>= λ after. read_each read after ds
+
+-- what a reader answers, seen through a view of what it read
+abbrev pub seen_by : {A B : Type 0} → (A → B) → Result A Fault → Result B Fault
+seen_by view (Ok a) = Ok (view a)
+seen_by view (Err fault) = Err fault
+
+-- the answer is what the record says, but where memory was refused
+abbrev pub Answers : {A : Type 0} → Result A Fault → Result A Fault → Type 0
+Answers said (Ok a) = said ≡ Ok a
+Answers said (Err fault) = fault ≢ want_of_memory → said ≡ Err fault

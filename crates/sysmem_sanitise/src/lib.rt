@@ -1,0 +1,17 @@
+//! What participants and platforms state in their records: exactly the profile's, or the first fault.
+//!
+//! ```
+//! let platform = read_platform(rt.alloc(), &value["platform"])?;
+//! let camera = read_constraints(rt.alloc(), &value["camera"])?;
+//! ```
+#![tactic(auto)]
+
+mod constraints;
+mod fault;
+mod platform;
+mod reading;
+
+pub use constraints::Constraints;
+pub use fault::{Code, Fault, Spot};
+pub use platform::Platform;
+pub use reading::{read_constraints, read_platform};

@@ -1,0 +1,70 @@
+//! What a platform has, as its record says it.
+
+ghost use Rattle.std.specs.Prelude.{◌≡◌, ◌≤◌, length};
+ghost use Rattle.sysmem_sanitise.specs.Platform.{IsPlatform};
+
+use std::marker::Model;
+use sysmem_formats::{ColourSpace, Pair};
+use sysmem_memory::HeapInfo;
+
+/// A platform: its heaps in order, at least one and at most 64, no two of one type and id; its pairs of a format
+/// and a modifier, and its colour spaces.
+#[derive(Debug, Drop)]
+pub struct Platform {
+    heaps: Vec<HeapInfo>,
+    pairs: Vec<Pair>,
+    colours: Vec<ColourSpace>,
+}
+
+impl Model for Platform {
+    ghost use Rattle.sysmem_sanitise.specs.Platform.{PlatformFacts, IsPlatform};
+
+    ghost Value = { PlatformFacts };
+
+    ghost view = { λ p. record {
+      heaps = p.heaps.items;
+      pairs = p.pairs.items;
+      colours = p.colours.items;
+    } };
+
+    ghost invariant = { λ p. IsPlatform p.heaps.items p.pairs.items p.colours.items };
+}
+
+impl Platform {
+    pub(crate) fn new(
+        heaps: Vec<HeapInfo>,
+        pairs: Vec<Pair>,
+        colours: Vec<ColourSpace>,
+    ) -> Platform
+        requires { IsPlatform heaps.items pairs.items colours.items }
+        ensures { result ≡ record { heaps = heaps.items; pairs = pairs.items; colours = colours.items } }
+    {
+        Platform {
+            heaps,
+            pairs,
+            colours,
+        }
+    }
+
+    /// The heaps in the platform's order: 1 to 64, no two of one type and id.
+    pub fn heaps(&self) -> &[HeapInfo]
+        ensures heaps { result.now ≡ self.now.heaps }
+        ensures few { length result.now ≤ 64 }
+    {
+        &self.heaps
+    }
+
+    /// The pairs of a format and a modifier that it has, in its order.
+    pub fn pairs(&self) -> &[Pair]
+        ensures { result.now ≡ self.now.pairs }
+    {
+        &self.pairs
+    }
+
+    /// The colour spaces that it has, in its order.
+    pub fn colours(&self) -> &[ColourSpace]
+        ensures { result.now ≡ self.now.colours }
+    {
+        &self.colours
+    }
+}

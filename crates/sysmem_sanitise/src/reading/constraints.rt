@@ -1,0 +1,66 @@
+//! Reads a participant's record.
+
+ghost use Rattle.std.specs.Prelude.{◌≡◌, ◌≢◌, Ok, Err, IfOk, IfErr};
+ghost use Rattle.serde_json.specs.View.{view};
+ghost use Rattle.sysmem_sanitise.specs.Faults.{want_of_memory};
+ghost use Rattle.sysmem_sanitise.specs.Reading.Constraints.{counts_of, participant_of};
+
+use super::field::{count_or, has_only, stated};
+use super::memory::memory_in;
+use super::usage::usage_of;
+use crate::constraints::Constraints;
+use crate::fault::Fault;
+use serde_json::Value;
+use std::alloc::Global;
+use sysmem_counts::{CountConstraints, Field};
+
+fn counts_of(object: &Value) -> Result<CountConstraints, Fault>
+    ensures { result ≡ counts_of (view object.now) }
+{
+    Ok(CountConstraints {
+        min_buffer_count_for_camping: count_or(object, Field::MinBufferCountForCamping, 0)?,
+        min_buffer_count_for_dedicated_slack: count_or(
+            object,
+            Field::MinBufferCountForDedicatedSlack,
+            0,
+        )?,
+        min_buffer_count_for_shared_slack: count_or(
+            object,
+            Field::MinBufferCountForSharedSlack,
+            0,
+        )?,
+        min_buffer_count: count_or(object, Field::MinBufferCount, 0)?,
+        max_buffer_count: count_or(object, Field::MaxBufferCount, u32::MAX)?,
+    })
+}
+
+fn participant_of(alloc: Global, object: &Value) -> Result<Constraints, Fault>
+    ensures { result ≡ participant_of (view object.now) }
+{
+    let fields = [
+        Field::Usage,
+        Field::MinBufferCountForCamping,
+        Field::MinBufferCountForDedicatedSlack,
+        Field::MinBufferCountForSharedSlack,
+        Field::MinBufferCount,
+        Field::MaxBufferCount,
+        Field::BufferMemoryConstraints,
+    ];
+    if !has_only(object, &fields) {
+        return Err(Fault::NOT_TAKEN);
+    }
+    let usage = usage_of(stated(object, Field::Usage)?)?;
+    let counts = counts_of(object)?;
+    let memory = memory_in(alloc, object)?;
+    Ok(Constraints::new(usage, counts, memory, Vec::new(alloc)))
+}
+
+/// Reads a participant's record: `usage`, the five counts, and sizes and coherency domains in
+/// `buffer_memory_constraints`. Another key is a fault, as is a value of the wrong kind or out of range.
+pub fn read_constraints(alloc: Global, value: &Value) -> Result<Constraints, Fault>
+    ensures taken { IfOk result (λ constraints. participant_of (view value.now) ≡ Ok constraints) }
+    ensures refused { IfErr result
+        (λ fault. fault ≢ want_of_memory → participant_of (view value.now) ≡ Err fault) }
+{
+    participant_of(alloc, value)
+}
