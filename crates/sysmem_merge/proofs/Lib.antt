@@ -1,4 +1,4 @@
-pub mod Kept
+pub mod Adding
 pub mod Reasons
 pub mod Sizes
 pub mod Together

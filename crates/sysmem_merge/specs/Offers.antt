@@ -1,5 +1,5 @@
 -- What a participant says of an offer.
-use Rattle.std.specs.Prelude.{◌≡◌, ◌||◌, ◌&&◌, List, [], ◌∷◌, Bool, true, false, Option, Some, None, is_empty, is_some}
+use Rattle.std.specs.Prelude.{◌≡◌, ◌||◌, ◌&&◌, ◌==◌, List, [], ◌∷◌, Bool, true, false, Option, Some, None, length, is_some}
 use Rattle.std.specs.List.{list_any}
 use Rattle.sysmem_formats.specs.declared.offer.Offer.{Offer}
 use Rattle.sysmem_formats.specs.declared.offer.Offer.TheVariants.{NoImage, Image}
@@ -11,7 +11,7 @@ use Rattle.sysmem_merge.specs.Demands.{OfferDemand}
 
 -- a participant with entries takes only the offers for which it has one; without entries it takes every offer
 abbrev pub has_format : Offer → OfferDemand → Bool
-has_format o d = is_empty d.entries || is_some (first_match o d.entries)
+has_format o d = length d.entries == 0 || is_some (first_match o d.entries)
 
 -- the colour spaces of an entry for the offer contain the offer's
 abbrev pub entry_takes_colour : Offer → Option Entry → Bool

@@ -8,6 +8,7 @@ ghost use Rattle.sysmem_sanitise.specs.Platform.{PlatformFacts};
 ghost use Rattle.sysmem_merge.specs.Reasons.{IsFirstReason};
 
 use crate::kept::KeptOffer;
+use crate::offers::{add_to_offers, kept_offers};
 use crate::reason::Reason;
 use crate::settings::Settings;
 use crate::walk::first_fit;
@@ -85,6 +86,7 @@ impl<'p> Aggregate<'p> {
         let platform = self.platform;
         self.counts.add(asked.counts());
         self.memory.add(platform.heaps(), memory, asked.usage());
+        add_to_offers(&mut self.offers, platform, asked.entries());
         self.least_size = self.least_size.max(memory.min_size_bytes);
         self.greatest_size = self.greatest_size.min(memory.max_size_bytes);
         self.added += 1;

@@ -1,9 +1,10 @@
 //! What is kept of an offer for the participants that were added.
 
-ghost use Rattle.std.specs.Prelude.{[], ◌++◌, ◌∷◌, List};
+ghost use Rattle.std.specs.Prelude.{◌≡◌, [], ◌++◌, ◌∷◌, List};
 ghost use Rattle.sysmem_formats.specs.declared.offer.Offer.{Offer};
 ghost use Rattle.sysmem_merge.specs.Aggregate.{IsKept};
 ghost use Rattle.sysmem_merge.specs.Demands.{OfferDemand};
+ghost use Rattle.sysmem_merge.specs.Offers.{is_named};
 
 use sysmem_counts::Field;
 use sysmem_formats::Offer;
@@ -37,6 +38,16 @@ impl KeptOffer {
             format_named: false,
             modifier_named: false,
             colour_named: false,
+        }
+    }
+
+    /// Whether somebody named each part of the offer's name. No image needs no name.
+    pub(crate) fn is_named(&self, offer: &Offer) -> bool
+        ensures { (ds : List OfferDemand) → IsKept offer.now ds self.now → result ≡ is_named offer.now ds }
+    {
+        match offer {
+            Offer::NoImage => true,
+            Offer::Image(_, _) => self.format_named && self.modifier_named && self.colour_named,
         }
     }
 

@@ -13,6 +13,7 @@ mod fit;
 mod kept;
 pub mod laws;
 mod meets;
+mod offers;
 mod reason;
 mod settings;
 mod walk;

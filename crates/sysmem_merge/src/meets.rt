@@ -4,6 +4,7 @@ ghost use Rattle.std.specs.Prelude.{◌↔◌, IsTrue};
 ghost use Rattle.sysmem_merge.specs.Settings.{CoversOn};
 
 use crate::settings::Settings;
+use sysmem_image::{Entry, entry_for, first_failing, takes_colour};
 use sysmem_memory::refuses;
 use sysmem_sanitise::{Constraints, Platform};
 
@@ -23,4 +24,14 @@ pub fn meets_one(platform: &Platform, settings: &Settings, asked: &Constraints) 
         && memory.min_size_bytes <= settings.size_bytes
         && settings.size_bytes <= memory.max_size_bytes
         && accepts_offer(settings, asked.entries())
+}
+
+/// Whether the participant's entries take the settings' offer, with its colour space, and their bounds.
+fn accepts_offer(settings: &Settings, entries: &[Entry]) -> bool {
+    match entry_for(entries, &settings.offer) {
+        None => entries.is_empty(),
+        Some(entry) => {
+            takes_colour(entry, &settings.offer) && first_failing(&settings.bounds, entry).is_none()
+        }
+    }
 }

@@ -33,3 +33,37 @@ pub(crate) fn first_fit(
     }
     None
 }
+
+/// What suits the participants of the offer at this index, if it does.
+fn fit_at(
+    platform: &Platform,
+    index: usize,
+    kept: &KeptOffer,
+    least_size: u64,
+    greatest_size: u64,
+    whole: bool,
+) -> Option<Fit> {
+    let offer = offer_at(platform.pairs(), platform.colours(), index)?;
+    fit_of(kept, &offer, least_size, greatest_size, whole)
+}
+
+/// The least size and bounds of an offer that suit the participants, if it is named where that is asked for.
+fn fit_of(
+    kept: &KeptOffer,
+    offer: &Offer,
+    least_size: u64,
+    greatest_size: u64,
+    whole: bool,
+) -> Option<Fit>
+    ensures best { (ds : List OfferDemand) → IsKept offer.now ds kept.now → AreSizes ds least_size greatest_size
+        → IfSome result (IsBestFit offer.now ds) }
+    ensures named { (ds : List OfferDemand) → IsKept offer.now ds kept.now
+        → IfSome result (λ _. whole ≡ true → is_named offer.now ds ≡ true) }
+    ensures none { (ds : List OfferDemand) → IsKept offer.now ds kept.now → AreSizes ds least_size greatest_size
+        → IfNone result (IsOfferRefused whole offer.now ds) }
+{
+    if whole && !kept.is_named(offer) {
+        return None;
+    }
+    best_fit(&kept.bounds, offer, least_size, greatest_size).ok()
+}

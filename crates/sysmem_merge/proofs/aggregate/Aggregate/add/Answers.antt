@@ -2,7 +2,7 @@ use Rattle.std.proofs.Common.{sym, ap, ◌∙◌, subst}
 use Rattle.sysmem_memory.specs.Wishes.{MemoryWishes}
 use Rattle.sysmem_merge.specs.Aggregate.{StandsFor}
 use Rattle.sysmem_merge.specs.Kept.{Kept}
-use Rattle.sysmem_merge.proofs.Kept.{stands_push}
+use Rattle.sysmem_merge.proofs.Adding.{stands_push}
 use Rattle.sysmem_merge.proofs.aggregate.Aggregate.add.Goals as goal
 
 pub returns-clause-ok : goal.returns-clause-ok

@@ -4,7 +4,7 @@ use Rattle.sysmem_memory.specs.Place.{IsFirstPlace, HasNoPlace}
 use Rattle.sysmem_merge.specs.Aggregate.{StandsFor}
 use Rattle.sysmem_merge.specs.Kept.{Kept}
 use Rattle.sysmem_merge.specs.Demands.{counts_asked, place_demands}
-use Rattle.sysmem_merge.proofs.Kept.{heaps_read, places_kept}
+use Rattle.sysmem_merge.proofs.Adding.{heaps_read, places_kept}
 use Rattle.sysmem_merge.proofs.Reasons.{first_no_place, first_no_offer}
 use Rattle.sysmem_merge.proofs.Together.{best_together, unmet_by_count, unmet_by_place, unmet_by_offer}
 use Rattle.sysmem_merge.proofs.aggregate.Aggregate.best_settings.Goals as goal
