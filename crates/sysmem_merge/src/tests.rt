@@ -1,62 +1,47 @@
-// What no clause shows: settings and reasons as they were worked out by hand, on a platform of one heap.
+// What no clause shows: settings and reasons as they were worked out by hand, on a platform of one heap and two formats.
 
 use crate::laws::{one_best, reason_leaves_none};
-use crate::{Aggregate, Constraints, Offer, Platform, Reason, Settings, meets_one, read_platform};
+use crate::{Aggregate, Reason, Settings, meets_one};
 use serde_json::Value;
-use std::alloc::{AllocError, Global};
+use std::alloc::Global;
 use std::test::Fail;
-use sysmem_counts::{CountConstraints, Field, Usage};
-use sysmem_memory::{CoherencyDomain, MemoryConstraints, Place};
+use sysmem_counts::Field;
+use sysmem_formats::{ColourSpace, Modifier, Offer, Pair, PixelFormat};
+use sysmem_image::ImageBounds;
+use sysmem_memory::{CoherencyDomain, Place};
+use sysmem_sanitise::{Constraints, Platform, read_constraints, read_platform};
 
-// The heap ram, which processors see cached or in main memory.
+const ANY: &str = r#"{"usage":["cpu"]}"#;
+
+// The heap ram, which processors see cached or in main memory; NV12 and R8 images.
 fn platform(alloc: Global) -> Result<Platform, Fail> {
-    let text =
-        r#"{"heaps":[{"heap_type":"ram","domains":["cpu","ram"]}],"pairs":[],"color_spaces":[]}"#;
+    let text = r#"{"heaps":[{"heap_type":"ram","domains":["cpu","ram"]}],"pairs":[{"pixel_format":"NV12"},{"pixel_format":"R8"}],"color_spaces":["SRGB"]}"#;
     let value = Value::from_str(alloc, text)?;
     Ok(read_platform(alloc, &value)?)
 }
 
-// A participant that uses a processor, and asks for these numbers of buffers and nothing more.
-fn counting(alloc: Global, counts: CountConstraints) -> Constraints {
-    Constraints::new(Usage::CPU, counts, MemoryConstraints::new(alloc))
-}
-
-// One that asks for so many buffers of its own.
-fn camping(alloc: Global, buffers: u32) -> Constraints {
-    let mut counts = CountConstraints::ABSENT;
-    counts.min_buffer_count_for_camping = buffers;
-    counting(alloc, counts)
-}
-
-// One that takes sizes from the least to the greatest.
-fn sized(alloc: Global, least: u64, greatest: u64) -> Constraints {
-    let mut memory = MemoryConstraints::new(alloc);
-    memory.min_size_bytes = least;
-    memory.max_size_bytes = greatest;
-    Constraints::new(Usage::CPU, CountConstraints::ABSENT, memory)
-}
-
-// One that wants secure memory.
-fn secure(alloc: Global) -> Constraints {
-    let mut memory = MemoryConstraints::new(alloc);
-    memory.secure_required = true;
-    Constraints::new(Usage::VIDEO, CountConstraints::ABSENT, memory)
+fn asked(alloc: Global, text: &str) -> Result<Constraints, Fail> {
+    let value = Value::from_str(alloc, text)?;
+    Ok(read_constraints(alloc, &value)?)
 }
 
 // The best settings for two participants.
-fn shared_by(
+fn shared(
     alloc: Global,
-    platform: &Platform,
-    first: &Constraints,
-    second: &Constraints,
-) -> Result<Result<Settings, Reason>, AllocError> {
-    let mut aggregate = Aggregate::new(alloc, platform)?;
-    aggregate.add(first)?;
-    aggregate.add(second)?;
-    Ok(aggregate.best_settings(true))
+    first: &str,
+    second: &str,
+    whole: bool,
+) -> Result<Result<Settings, Reason>, Fail> {
+    let platform = platform(alloc)?;
+    let first = asked(alloc, first)?;
+    let second = asked(alloc, second)?;
+    let mut aggregate = Aggregate::new(alloc, &platform)?;
+    aggregate.add(&first)?;
+    aggregate.add(&second)?;
+    Ok(aggregate.best_settings(whole))
 }
 
-// Settings in the cached memory of the only heap.
+// Settings in the cached memory of the only heap, without an image.
 fn cached(count: u32, size_bytes: u64) -> Settings {
     Settings {
         offer: Offer::NoImage,
@@ -66,105 +51,85 @@ fn cached(count: u32, size_bytes: u64) -> Settings {
         },
         count,
         size_bytes,
+        bounds: ImageBounds::of(&Offer::NoImage),
     }
 }
 
+// Linear images of the format.
+fn linear(format: PixelFormat) -> Offer {
+    let modifier = Modifier::Linear;
+    Offer::Image(Pair { format, modifier }, ColourSpace::Srgb)
+}
+
 #[test]
-fn one_participant(rt: HostRuntime) -> Result<(), Fail> {
+fn no_participant(rt: HostRuntime) -> Result<(), Fail> {
     let platform = platform(rt.alloc())?;
-    let mut aggregate = Aggregate::new(rt.alloc(), &platform)?;
+    let aggregate = Aggregate::new(rt.alloc(), &platform)?;
     assert_eq!(rt; aggregate.platform().heaps().len(), 1);
     assert_eq!(rt; aggregate.best_settings(true), Ok(cached(1, 1)));
-    let mut memory = MemoryConstraints::new(rt.alloc());
-    memory.min_size_bytes = 4096;
-    let mut counts = CountConstraints::ABSENT;
-    counts.min_buffer_count_for_camping = 2;
-    aggregate.add(&Constraints::new(Usage::CPU, counts, memory))?;
-    assert_eq!(rt; aggregate.best_settings(true), Ok(cached(2, 4096)));
-    assert_eq!(rt; aggregate.best_settings(false), Ok(cached(2, 4096)));
     Ok(())
 }
 
 #[test]
-fn slack(rt: HostRuntime) -> Result<(), Fail> {
-    let platform = platform(rt.alloc())?;
-    let mut counts = CountConstraints::ABSENT;
-    counts.min_buffer_count_for_camping = 2;
-    counts.min_buffer_count_for_shared_slack = 1;
-    let first = counting(rt.alloc(), counts);
-    counts.min_buffer_count_for_camping = 3;
-    counts.min_buffer_count_for_dedicated_slack = 1;
-    counts.min_buffer_count_for_shared_slack = 2;
-    let second = counting(rt.alloc(), counts);
-    assert_eq!(rt;
-        shared_by(rt.alloc(), &platform, &first, &second)?,
-        Ok(cached(8, 1))
-    );
-    counts.max_buffer_count = 7;
-    let fewer = counting(rt.alloc(), counts);
-    let too_many = Err(Reason::Count(Field::MaxBufferCount));
-    assert_eq!(rt; shared_by(rt.alloc(), &platform, &first, &fewer)?, too_many);
+fn counts_and_sizes(rt: HostRuntime) -> Result<(), Fail> {
+    let first = r#"{"usage":["cpu"],"min_buffer_count_for_camping":2,"min_buffer_count_for_shared_slack":1,"buffer_memory_constraints":{"min_size_bytes":4096}}"#;
+    let second = r#"{"usage":["cpu"],"min_buffer_count_for_camping":3,"min_buffer_count_for_dedicated_slack":1,"min_buffer_count_for_shared_slack":2}"#;
+    assert_eq!(rt; shared(rt.alloc(), first, second, true)?, Ok(cached(8, 4096)));
+    assert_eq!(rt; shared(rt.alloc(), first, second, false)?, Ok(cached(8, 4096)));
     Ok(())
 }
 
 #[test]
-fn count_limit(rt: HostRuntime) -> Result<(), Fail> {
-    let platform = platform(rt.alloc())?;
-    let none = camping(rt.alloc(), 0);
-    let most = camping(rt.alloc(), 128);
-    assert_eq!(rt;
-        shared_by(rt.alloc(), &platform, &most, &none)?,
-        Ok(cached(128, 1))
-    );
-    let above = camping(rt.alloc(), 129);
+fn reasons(rt: HostRuntime) -> Result<(), Fail> {
+    let many = r#"{"usage":["cpu"],"min_buffer_count":129}"#;
+    let large = r#"{"usage":["cpu"],"buffer_memory_constraints":{"min_size_bytes":4097}}"#;
+    let small = r#"{"usage":["cpu"],"buffer_memory_constraints":{"max_size_bytes":4096}}"#;
+    let secure = r#"{"usage":["video"],"buffer_memory_constraints":{"secure_required":true,"max_size_bytes":4096}}"#;
     let limit = Err(Reason::Count(Field::BufferCountLimit));
-    assert_eq!(rt; shared_by(rt.alloc(), &platform, &above, &none)?, limit);
-    assert_eq!(rt;
-        shared_by(rt.alloc(), &platform, &above, &secure(rt.alloc()))?,
-        limit
-    );
+    assert_eq!(rt; shared(rt.alloc(), many, secure, true)?, limit);
+    assert_eq!(rt; shared(rt.alloc(), large, secure, true)?, Err(Reason::NoPlace));
+    assert_eq!(rt; shared(rt.alloc(), large, small, true)?, Err(Reason::NoOffer));
     Ok(())
 }
 
+// One that takes R8 of 16 by 16 alone, and one that takes whatever is chosen: the first offer, NV12, is passed by.
 #[test]
-fn no_size_and_no_place(rt: HostRuntime) -> Result<(), Fail> {
-    let platform = platform(rt.alloc())?;
-    let large = sized(rt.alloc(), 4097, u64::MAX);
-    let small = sized(rt.alloc(), 0, 4096);
-    let none = sized(rt.alloc(), 0, 0);
-    let secure = secure(rt.alloc());
-    let no_offer = Err(Reason::NoOffer);
-    assert_eq!(rt; shared_by(rt.alloc(), &platform, &large, &small)?, no_offer);
-    assert_eq!(rt; shared_by(rt.alloc(), &platform, &small, &none)?, no_offer);
-    assert_eq!(rt;
-        shared_by(rt.alloc(), &platform, &none, &secure)?,
-        Err(Reason::NoPlace)
-    );
+fn one_names_the_format(rt: HostRuntime) -> Result<(), Fail> {
+    let camera = r#"{"usage":["cpu"],"image_format_constraints":[{"pixel_format":"R8","color_spaces":["SRGB"],"min_size":{"width":16,"height":16}}]}"#;
+    let any = r#"{"usage":["cpu"],"image_format_constraints":[{"pixel_format":"DO_NOT_CARE","color_spaces":["DO_NOT_CARE"]}]}"#;
+    let Ok(settings) = shared(rt.alloc(), camera, any, true)? else {
+        return Err(Fail::from("no settings"));
+    };
+    assert_eq!(rt; settings.offer, linear(PixelFormat::R8));
+    assert_eq!(rt; settings.size_bytes, 256);
+    assert_eq!(rt; settings.bounds.min_size.width, 16);
+    assert_eq!(rt; shared(rt.alloc(), any, ANY, true)?, Err(Reason::NoOffer));
+    let Ok(unnamed) = shared(rt.alloc(), any, ANY, false)? else {
+        return Err(Fail::from("no settings"));
+    };
+    assert_eq!(rt; unnamed.offer, linear(PixelFormat::NV12));
+    assert_eq!(rt; unnamed.size_bytes, 6);
     Ok(())
 }
 
 #[test]
 fn accepts_alone(rt: HostRuntime) -> Result<(), Fail> {
     let platform = platform(rt.alloc())?;
-    let asked = sized(rt.alloc(), 2, 3);
-    let mut main_memory = cached(1, 2);
-    main_memory.place.coherency = CoherencyDomain::Ram;
-    let mut elsewhere = cached(1, 2);
-    elsewhere.place.heap = 1;
-    for (settings, accepted) in [
-        (cached(1, 1), false),
-        (cached(1, 2), true),
-        (cached(129, 3), true),
-        (cached(1, 4), false),
-        (main_memory, false),
-        (elsewhere, false),
-    ] {
-        assert_eq!(rt;
-            meets_one(&platform, &settings, &asked),
-            accepted,
-            "{settings:?}"
-        );
-    }
+    let any = asked(rt.alloc(), ANY)?;
+    let camera = asked(
+        rt.alloc(),
+        r#"{"usage":["cpu"],"image_format_constraints":[{"pixel_format":"R8","color_spaces":["SRGB"],"bytes_per_row_divisor":64}]}"#,
+    )?;
+    let plain = cached(1, 1);
+    assert!(rt; meets_one(&platform, &plain, &any));
+    assert!(rt; !meets_one(&platform, &plain, &camera));
+    let mut image = plain;
+    image.offer = linear(PixelFormat::R8);
+    assert!(rt; !meets_one(&platform, &image, &camera));
+    image.bounds.bytes_per_row_divisor = 128;
+    assert!(rt; meets_one(&platform, &image, &camera));
+    image.place.coherency = CoherencyDomain::Ram;
+    assert!(rt; !meets_one(&platform, &image, &camera));
     one_best();
     reason_leaves_none();
     Ok(())
