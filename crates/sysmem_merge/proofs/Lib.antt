@@ -1,4 +1,5 @@
 pub mod Adding
+pub mod Asked
 pub mod Reasons
 pub mod Sizes
 pub mod Together
