@@ -1,5 +1,5 @@
 -- The sizes that participants take.
-use Rattle.std.proofs.Common.{arith, ℕ, ◌≡◌, ◌≤◌, ◌<◌, ◌^◌, max, min, List, [], ◌∷◌, ◌++◌, Some, refl}
+use Rattle.std.proofs.Common.{arith, ℕ, ◌≤◌, max, min, List, [], ◌∷◌, ◌++◌, Some, refl}
 use Rattle.std.proofs.lemmas.List.Elements.{All-nil, All-push, All-pop}
 use Rattle.sysmem_formats.specs.declared.offer.Offer.{Offer}
 use Rattle.sysmem_merge.specs.Aggregate.{AreSizes}
