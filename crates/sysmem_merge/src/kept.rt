@@ -55,5 +55,6 @@ impl KeptOffer {
     pub(crate) fn add(&mut self, offer: &Offer, entries: &[Entry])
         ensures { (ds : List OfferDemand) (d : OfferDemand) → d.entries ≡ entries.now → IsKept offer.now ds self.old
             → IsKept offer.now (ds ++ d ∷ []) self.new }
-    {}
+    {
+    }
 }

@@ -12,7 +12,10 @@ use sysmem_image::Entry;
 use sysmem_sanitise::Platform;
 
 /// What is kept of each offer of the platform before any participant, in the platform's order.
-pub(crate) fn kept_offers(alloc: Global, platform: &Platform) -> Result<Vec<KeptOffer>, AllocError>
+pub(crate) fn kept_offers(
+    alloc: Global,
+    platform: &Platform,
+) -> Result<Vec<KeptOffer>, AllocError>
     ensures { IfOk result (λ kept. AreKept (offers_of platform.now) [] kept.items) }
 {
     let mut kept = Vec::new(alloc);
