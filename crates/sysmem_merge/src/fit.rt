@@ -19,8 +19,9 @@ pub(crate) struct Fit {
     pub size_bytes: u64,
 }
 
-/// The least size from the least to the greatest that holds the corner of the bounds, at least 1, or the field whose
-/// line in the table of conflicts is true.
+/// The offer with the participants' merged bounds and the least size in bytes, at least 1, that holds the bounds' corner and
+/// that the participants take, from `least_size` to `greatest_size`. Where nothing of the offer suits them, the field
+/// whose line in the table of conflicts is true.
 pub(crate) fn best_fit(
     kept: &KeptBounds,
     offer: &Offer,
@@ -36,10 +37,7 @@ pub(crate) fn best_fit(
         KeptBounds::Merged(bounds) => *bounds,
         KeptBounds::Refused(field) => return Err(*field),
     };
-    let corner = match corner(&bounds, offer) {
-        Ok(corner) => corner,
-        Err(field) => return Err(field),
-    };
+    let corner = corner(&bounds, offer)?;
     let bytes = corner.bytes.max(u128::from(least_size)).max(1);
     if bytes > u128::from(greatest_size) {
         return Err(Field::MaxSizeBytes);
