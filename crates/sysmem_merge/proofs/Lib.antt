@@ -1,4 +1,6 @@
 pub mod Adding
+pub mod FirstFits
+pub mod Lines
 pub mod Reasons
 pub mod Sizes
 pub mod Together
