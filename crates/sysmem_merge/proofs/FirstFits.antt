@@ -10,12 +10,14 @@ use Rattle.sysmem_formats.specs.declared.offer.Pair.{Pair}
 use Rattle.sysmem_formats.specs.Offers.{offers}
 use Rattle.sysmem_merge.specs.declared.fit.Fit.{Fit}
 use Rattle.sysmem_merge.specs.declared.kept.KeptOffer.{KeptOffer}
-use Rattle.sysmem_merge.specs.Aggregate.{IsKept, AreKept}
+use Rattle.sysmem_merge.specs.Aggregate.{IsKept, AreKept, StandsFor}
 use Rattle.sysmem_merge.specs.Best.{IsEarlierOffer}
-use Rattle.sysmem_merge.specs.Demands.{OfferDemand}
+use Rattle.sysmem_merge.specs.Demands.{OfferDemand, offer_demands}
 use Rattle.sysmem_merge.specs.Fit.{MeetsFit, IsBestFit, IsFirstFit}
+use Rattle.sysmem_merge.specs.Kept.{Kept}
 use Rattle.sysmem_merge.specs.Offers.{is_named, format_named, modifier_named, colour_named}
 use Rattle.sysmem_merge.specs.Reasons.{IsOfferLine, IsUnnamedLine, IsOfferRefused}
+use Rattle.sysmem_sanitise.specs.Participant.{Participant}
 use Rattle.sysmem_sanitise.specs.Platform.{PlatformFacts, offers_of}
 use Rattle.sysmem_merge.proofs.Lines.{line_unmet}
 
@@ -99,3 +101,10 @@ pub offer_read : (platform : PlatformFacts) (pairs : List Pair) (colours : List 
 offer_read platform pairs colours k found o p same_pairs same_colours read is here =
     let same : offers pairs colours ≡ offers_of platform = ap (λ ps. offers ps colours) same_pairs ∙ ap (λ cs. offers platform.pairs cs) same_colours in
     same_content o p (sym here ∙ (sym (read ∙ ap (λ os. slice_get os k) same) ∙ is))
+
+-- what is kept of the offers, as it is read, for the offers of the platform that it stands on
+pub offers_kept : (kept : Kept) (platform : PlatformFacts) (ps : List Participant) (read : List KeptOffer) → StandsFor kept platform ps
+    → read ≡ kept.offers → AreKept (offers_of kept.platform) (offer_demands ps) read
+offers_kept kept platform ps read stands same =
+    subst (λ (f : PlatformFacts). AreKept (offers_of f) (offer_demands ps) read) (sym stands.on)
+    (subst (λ (all : List KeptOffer). AreKept (offers_of platform) (offer_demands ps) all) (sym same) stands.offers)
