@@ -1,13 +1,11 @@
 -- A reason that is true of participants leaves no settings to them, nor to more.
-use Rattle.std.proofs.Common.{arith, ℕ, ◌≤◌, ◌<◌, inl, inr, Bool, false, List, [], ◌∷◌, map, All, refl}
+use Rattle.std.proofs.Common.{arith, ℕ, ◌<◌, inl, inr, Bool, false, List, [], ◌∷◌, map, All, refl}
 use Rattle.std.proofs.lemmas.List.Elements.{All-map, All-weaker}
 use Rattle.sysmem_counts.proofs.Counts.{line_sound, line_of_some}
-use Rattle.sysmem_counts.proofs.Lists.{All-some, Any-not_All}
-use Rattle.sysmem_counts.specs.Counts.{needed, IsLeastCount, IsCountLine, IsCountFault}
+use Rattle.sysmem_counts.proofs.Lists.{All-some}
+use Rattle.sysmem_counts.specs.Counts.{IsLeastCount, IsCountLine}
 use Rattle.sysmem_counts.specs.Sublist.{IsSublist, ended, taken, left_out}
-use Rattle.sysmem_counts.specs.declared.constraints.CountConstraints.{CountConstraints}
 use Rattle.sysmem_counts.specs.declared.field.Field.{Field}
-use Rattle.sysmem_counts.specs.declared.field.Field.TheVariants.{MaxBufferCount, BufferCountLimit}
 use Rattle.sysmem_formats.specs.declared.offer.Offer.{Offer}
 use Rattle.sysmem_memory.specs.declared.place.Place.{Place}
 use Rattle.sysmem_memory.specs.Place.{IsFirstPlace, HasNoPlace}
@@ -63,22 +61,6 @@ pub reason_of_all : ReasonLeavesNone
 reason_of_all whole platform ps (Count field) line = reason_of_some whole platform ps ps (Count field) (itself ps) line
 reason_of_all whole platform ps NoPlace none = unmet_by_place whole platform ps none
 reason_of_all whole platform ps NoOffer refused = unmet_by_offer whole platform ps refused
-
--- no reason is before a maximum count
-none_before : (whole : Bool) (platform : PlatformFacts) (ps : List Participant) (other : Reason) → All (λ p. needed (counts_asked ps) ≤ p.max_buffer_count) (counts_asked ps)
-    → reason_rank other < 1 → ¬ (IsReason whole platform ps other)
-none_before whole platform ps (Count MaxBufferCount) all before line =
-    Any-not_All (λ (p : CountConstraints). p.max_buffer_count < needed (counts_asked ps)) (λ p. needed (counts_asked ps) ≤ p.max_buffer_count) (counts_asked ps)
-    (λ p low high. omega (arith, low, high)) line all
-none_before whole platform ps (Count _) all before line = absurd (omega (arith, before))
-none_before whole platform ps NoPlace all before line = absurd (omega (arith, before))
-none_before whole platform ps NoOffer all before line = absurd (omega (arith, before))
-
--- the first count line is the first reason
-pub first_count : (whole : Bool) (platform : PlatformFacts) (ps : List Participant) (field : Field) → IsCountFault (counts_asked ps) field → IsFirstReason whole platform ps (Count field)
-first_count whole platform ps MaxBufferCount line = record { holds = line; first = λ other before. absurd (omega (arith, before)) }
-first_count whole platform ps BufferCountLimit line = record { holds = line.1; first = λ other before. none_before whole platform ps other line.0 before }
-first_count whole platform ps _ line = absurd line
 
 -- where some count suits, no count line is true
 no_count_line : (ps : List Participant) (count : ℕ) → IsLeastCount (counts_asked ps) count → (field : Field) → ¬ (IsCountLine field (counts_asked ps))
