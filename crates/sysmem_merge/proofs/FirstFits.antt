@@ -1,6 +1,6 @@
 -- The first of a list of offers that suits participants.
-use Rattle.std.proofs.Common.{arith, ℕ, ◌≡◌, ◌&&◌, ◌<◌, ◌≤◌, ◌⊎◌, inl, inr, Bool, true, false, List, length, Option, Some, Contains, slice_get, get_or, refl, sym, ap, ◌∙◌, subst}
-use Rattle.std.proofs.lemmas.Option.{slice_get-get_or, slice_get_read, slice_get_within, get_or_from_slice_get}
+use Rattle.std.proofs.Common.{ℕ, ◌≡◌, ◌≢◌, ◌&&◌, ◌<◌, inl, inr, Bool, true, false, List, length, Option, Some, Contains, slice_get, get_or, refl, sym, ap, ◌∙◌, subst}
+use Rattle.std.proofs.lemmas.Option.{slice_get-get_or, slice_get_read, slice_get_within, get_or_from_slice_get, same_Some}
 use Rattle.sysmem_counts.specs.declared.field.Field.{Field}
 use Rattle.sysmem_counts.specs.declared.field.Field.TheVariants.{UnnamedPixelFormat, UnnamedPixelFormatModifier, UnnamedColorSpace}
 use Rattle.sysmem_formats.specs.declared.colour_space.ColourSpace.{ColourSpace}
@@ -11,12 +11,11 @@ use Rattle.sysmem_formats.specs.Offers.{offers}
 use Rattle.sysmem_merge.specs.declared.fit.Fit.{Fit}
 use Rattle.sysmem_merge.specs.declared.kept.KeptOffer.{KeptOffer}
 use Rattle.sysmem_merge.specs.Aggregate.{IsKept, AreKept, StandsFor}
-use Rattle.sysmem_merge.specs.Best.{IsEarlierOffer}
 use Rattle.sysmem_merge.specs.Demands.{OfferDemand, offer_demands}
 use Rattle.sysmem_merge.specs.Fit.{MeetsFit, IsBestFit, IsFirstFit}
 use Rattle.sysmem_merge.specs.Kept.{Kept}
 use Rattle.sysmem_merge.specs.Offers.{is_named, format_named, modifier_named, colour_named}
-use Rattle.sysmem_merge.specs.Reasons.{IsOfferLine, IsUnnamedLine, IsOfferRefused}
+use Rattle.sysmem_merge.specs.Reasons.{IsUnnamedLine, IsOfferRefused}
 use Rattle.sysmem_sanitise.specs.Participant.{Participant}
 use Rattle.sysmem_sanitise.specs.Platform.{PlatformFacts, offers_of}
 use Rattle.sysmem_merge.proofs.Lines.{line_unmet}
@@ -45,14 +44,18 @@ unnamed_line (Image pair colour) ds unnamed =
     (λ no_modifier. (UnnamedPixelFormatModifier, (image, no_modifier)))
     (λ no_colour. (UnnamedColorSpace, (image, no_colour)))
 
--- and an offer with such a part isn't named
+-- each part of an image's name is named where the image is
+image_named : (o : Offer) (ds : List OfferDemand) → o ≢ NoImage → is_named o ds ≡ true
+    → ((format_named o ds ≡ true) × (modifier_named o ds ≡ true) × (colour_named o ds ≡ true))
+image_named NoImage ds image named = absurd (image refl)
+image_named (Image pair colour) ds image named =
+    none_false (format_named (Image pair colour) ds) (modifier_named (Image pair colour) ds) (colour_named (Image pair colour) ds) named
+
+-- so an offer with a part that nobody names isn't named
 unnamed_is : (field : Field) (o : Offer) (ds : List OfferDemand) → IsUnnamedLine field o ds → is_named o ds ≡ true → ⊥
-unnamed_is UnnamedPixelFormat NoImage ds line named = line.0 refl
-unnamed_is UnnamedPixelFormat (Image pair colour) ds line named = let parts = none_false (format_named (Image pair colour) ds) (modifier_named (Image pair colour) ds) (colour_named (Image pair colour) ds) named in cc (line.1, parts.0)
-unnamed_is UnnamedPixelFormatModifier NoImage ds line named = line.0 refl
-unnamed_is UnnamedPixelFormatModifier (Image pair colour) ds line named = let parts = none_false (format_named (Image pair colour) ds) (modifier_named (Image pair colour) ds) (colour_named (Image pair colour) ds) named in cc (line.1, parts.1)
-unnamed_is UnnamedColorSpace NoImage ds line named = line.0 refl
-unnamed_is UnnamedColorSpace (Image pair colour) ds line named = let parts = none_false (format_named (Image pair colour) ds) (modifier_named (Image pair colour) ds) (colour_named (Image pair colour) ds) named in cc (line.1, parts.2)
+unnamed_is UnnamedPixelFormat o ds line named = let parts = image_named o ds line.0 named in cc (line.1, parts.0)
+unnamed_is UnnamedPixelFormatModifier o ds line named = let parts = image_named o ds line.0 named in cc (line.1, parts.1)
+unnamed_is UnnamedColorSpace o ds line named = let parts = image_named o ds line.0 named in cc (line.1, parts.2)
 unnamed_is _ o ds line named = absurd line
 
 -- a refused offer leaves no fit that is named where that is asked for
@@ -73,7 +76,7 @@ pub place_of : (os : List Offer) (o : Offer) → Contains os o → (k : ℕ) × 
 place_of os o has = (has.0, has.1, slice_get_read os (length os) has.0 o refl has.1 (sym has.2))
 
 -- and what has a place is contained
-pub contained_at : (os : List Offer) (k : ℕ) (o : Offer) → slice_get os k ≡ Some o → Contains os o
+contained_at : (os : List Offer) (k : ℕ) (o : Offer) → slice_get os k ≡ Some o → Contains os o
 contained_at os k o here = (k, slice_get_within os k o here, get_or_from_slice_get os k o o here)
 
 -- the best fit of an offer is the first one, where each offer before it is refused
@@ -91,16 +94,13 @@ first_from whole os ds k fit within best named before =
       first = λ o earlier. before earlier.place o (earlier.before k here) earlier.here;
     }
 
-same_content : {X : Type 0} (x y : X) → Some x ≡ Some y → x ≡ y
-same_content x y same = cc
-
 -- the offer that is read at a place is the platform's offer there
 pub offer_read : (platform : PlatformFacts) (pairs : List Pair) (colours : List ColourSpace) (k : ℕ) (found : Option Offer) (o p : Offer)
     → pairs ≡ platform.pairs → colours ≡ platform.colours → found ≡ slice_get (offers pairs colours) k → found ≡ Some p
     → slice_get (offers_of platform) k ≡ Some o → o ≡ p
 offer_read platform pairs colours k found o p same_pairs same_colours read is here =
     let same : offers pairs colours ≡ offers_of platform = ap (λ ps. offers ps colours) same_pairs ∙ ap (λ cs. offers platform.pairs cs) same_colours in
-    same_content o p (sym here ∙ (sym (read ∙ ap (λ os. slice_get os k) same) ∙ is))
+    same_Some o p (sym here ∙ (sym (read ∙ ap (λ os. slice_get os k) same) ∙ is))
 
 -- what is kept of the offers, as it is read, for the offers of the platform that it stands on
 pub offers_kept : (kept : Kept) (platform : PlatformFacts) (ps : List Participant) (read : List KeptOffer) → StandsFor kept platform ps

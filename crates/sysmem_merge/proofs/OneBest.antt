@@ -1,7 +1,7 @@
 -- Participants have one best settings.
 use denote.Enum.Bare.{Bare, sameb, same_true, same_false}
 use denote.Enum.Declared.{Declared}
-use Rattle.std.proofs.Common.{arith, rules, ℕ, zero, suc, ◌≡◌, ◌≢◌, ◌≤◌, ◌<◌, ◌⊎◌, inl, inr, Bool, true, false, List, [], ◌∷◌, Some, Contains, slice_get, refl, sym, ap, ◌∙◌, subst}
+use Rattle.std.proofs.Common.{arith, ℕ, zero, suc, ◌≡◌, ◌≢◌, ◌≤◌, ◌⊎◌, inl, inr, Bool, true, false, List, [], ◌∷◌, Some, Contains, slice_get, refl, sym, ap, ◌∙◌}
 use Rattle.std.proofs.Math.Nat.{le_antisymm}
 use Rattle.std.proofs.lemmas.Bool.{cases_lt}
 use Rattle.std.proofs.lemmas.Nat.Gcd.{dvd_antisymm}
@@ -17,19 +17,14 @@ use Rattle.sysmem_image.specs.declared.bounds.ImageBounds.{ImageBounds}
 use Rattle.sysmem_image.specs.declared.size.Size.{Size}
 use Rattle.sysmem_image.specs.Bounds.{IsTighter}
 use Rattle.sysmem_image.specs.Size.{IsSizeUpTo, DividesSize}
-use Rattle.sysmem_memory.specs.declared.domain.CoherencyDomain.{CoherencyDomain}
-use Rattle.sysmem_memory.specs.declared.domain.CoherencyDomain.TheVariants.{Cpu, Ram, Inaccessible}
-use Rattle.sysmem_memory.specs.declared.place.Place.{Place}
-use Rattle.sysmem_memory.specs.Domain.{rank}
-use Rattle.sysmem_memory.specs.Place.{IsEarlier}
+use Rattle.sysmem_memory.proofs.LawProofs.{places_are_in_one_order}
 use Rattle.sysmem_merge.specs.contracts.settings.Settings.{the_type as settings_type}
-use Rattle.sysmem_merge.specs.declared.settings.Settings.{Settings as Settled}
-use Rattle.sysmem_merge.specs.Best.{IsEarlierOffer, IsNoBetter, IsBest}
+use Rattle.sysmem_merge.specs.Best.{IsEarlierOffer, IsNoBetter}
 use Rattle.sysmem_merge.specs.Laws.{OneBest}
-use Rattle.sysmem_merge.proofs.FirstFits.{place_of}
-use Rattle.sysmem_merge.proofs.Together.{loosely}
 use Rattle.sysmem_merge.specs.Settings.{MeetsLoosely}
 use Rattle.sysmem_sanitise.specs.Platform.{offers_of}
+use Rattle.sysmem_merge.proofs.FirstFits.{place_of}
+use Rattle.sysmem_merge.proofs.Together.{loosely}
 
 -- values of an enum without fields are equal or not
 enum_cases : (D : Declared) → Bare D.parts → (a b : D.D) → (a ≡ b) ⊎ (a ≢ b)
@@ -41,12 +36,12 @@ enum_cases D bare a b = by_test (sameb D a b) refl where
 -- pairs are equal or not
 pair_cases : (p q : Pair) → (p ≡ q) ⊎ (p ≢ q)
 pair_cases p q = elim (enum_cases format_type tt p.format q.format) as (λ _. (p ≡ q) ⊎ (p ≢ q)) [
-    inr differ ↦ inr (λ same. differ (ap (λ (r : Pair). r.format) same))
+  | inr differ ↦ inr (λ same. differ (ap (λ (r : Pair). r.format) same))
   | inl formats ↦ elim (enum_cases modifier_type tt p.modifier q.modifier) as (λ _. (p ≡ q) ⊎ (p ≢ q)) [
-        inr differ ↦ inr (λ same. differ (ap (λ (r : Pair). r.modifier) same))
-      | inl modifiers ↦ inl (ap (λ f. record { format = f; modifier = p.modifier }) formats ∙ ap (λ m. record { format = q.format; modifier = m }) modifiers)
-      ]
+    | inr differ ↦ inr (λ same. differ (ap (λ (r : Pair). r.modifier) same))
+    | inl modifiers ↦ inl (ap (λ f. record { format = f; modifier = p.modifier }) formats ∙ ap (λ m. record { format = q.format; modifier = m }) modifiers)
   ]
+]
 
 -- offers are equal or not
 offer_cases : (a b : Offer) → (a ≡ b) ⊎ (a ≢ b)
@@ -54,84 +49,62 @@ offer_cases NoImage NoImage = inl refl
 offer_cases NoImage (Image q d) = inr (λ same. cc)
 offer_cases (Image p c) NoImage = inr (λ same. cc)
 offer_cases (Image p c) (Image q d) = elim (pair_cases p q) as (λ _. (Image p c ≡ Image q d) ⊎ (Image p c ≢ Image q d)) [
-    inr differ ↦ inr (λ same. differ (cc))
+  | inr differ ↦ inr (λ same. differ (cc))
   | inl pairs ↦ elim (enum_cases colour_type tt c d) as (λ _. (Image p c ≡ Image q d) ⊎ (Image p c ≢ Image q d)) [
-        inr differ ↦ inr (λ same. differ (cc))
-      | inl colours ↦ inl (cc)
-      ]
+    | inr differ ↦ inr (λ same. differ (cc))
+    | inl colours ↦ inl (cc)
   ]
+]
 
--- the first place of an offer
+-- an offer's first place in a list
 record IsFirstAt (os : List Offer) (o : Offer) (k : ℕ) : Type 0 where
   here : slice_get os k ≡ Some o
   first : (j : ℕ) → slice_get os j ≡ Some o → k ≤ j
 
+-- what has a place has a first one
 first_at : (os : List Offer) (o : Offer) (k : ℕ) → slice_get os k ≡ Some o → (i : ℕ) × IsFirstAt os o i
 first_at [] o k here = cc
 first_at (p ∷ os) o k here = elim (offer_cases p o) as (λ _. (i : ℕ) × IsFirstAt (p ∷ os) o i) [
-    inl same ↦ (0, record { here = ap (λ q. Some q) same; first = λ j there. omega arith })
+  | inl same ↦ (0, record { here = ap (λ q. Some q) same; first = λ j there. omega arith })
   | inr differ ↦ later (λ j there. first_at os o j there) k here differ
-  ] where
+] where
   behind : (i : ℕ) → IsFirstAt os o i → p ≢ o → (j : ℕ) → slice_get (p ∷ os) j ≡ Some o → suc i ≤ j
   behind i at differ zero there = absurd (differ (same_Some p o there))
   behind i at differ (suc j) there = let before = at.first j there in omega arith
+
   later : ((j : ℕ) → slice_get os j ≡ Some o → (i : ℕ) × IsFirstAt os o i) → (k : ℕ) → slice_get (p ∷ os) k ≡ Some o → p ≢ o → (i : ℕ) × IsFirstAt (p ∷ os) o i
   later rest zero here differ = absurd (differ (same_Some p o here))
   later rest (suc k) here differ = let at = rest k here in (suc at.0, record { here = at.1.here; first = behind at.0 at.1 differ })
 
--- a number that isn't less than another is at least that
-not_lt : (m n : ℕ) → ¬ (m < n) → n ≤ m
-not_lt m n isnt = elim (cases_lt m n) as (λ _. n ≤ m) [ inl less ↦ absurd (isnt less) | inr least ↦ least ]
-
 -- contained offers of which neither is earlier are one
-pub same_offer : (os : List Offer) (a b : Offer) → Contains os a → Contains os b → ¬ (IsEarlierOffer os a b) → ¬ (IsEarlierOffer os b a) → a ≡ b
+same_offer : (os : List Offer) (a b : Offer) → Contains os a → Contains os b → ¬ (IsEarlierOffer os a b) → ¬ (IsEarlierOffer os b a) → a ≡ b
 same_offer os a b has_a has_b not_before not_behind =
     let of_a = place_of os a has_a in
     let of_b = place_of os b has_b in
     let at_a = first_at os a of_a.0 of_a.2 in
     let at_b = first_at os b of_b.0 of_b.2 in
     elim (cases_lt at_a.0 at_b.0) as (λ _. a ≡ b) [
-        inl before ↦ absurd (not_before (record { place = at_a.0; here = at_a.1.here; before = λ k there. omega (arith, at_b.1.first k there) }))
+      | inl before ↦ absurd (not_before (record { place = at_a.0; here = at_a.1.here; before = λ k there. omega (arith, at_b.1.first k there) }))
       | inr not ↦ elim (cases_lt at_b.0 at_a.0) as (λ _. a ≡ b) [
-            inl behind ↦ absurd (not_behind (record { place = at_b.0; here = at_b.1.here; before = λ k there. omega (arith, at_a.1.first k there) }))
-          | inr neither ↦
+        | inl behind ↦ absurd (not_behind (record { place = at_b.0; here = at_b.1.here; before = λ k there. omega (arith, at_a.1.first k there) }))
+        | inr neither ↦
             let same : at_a.0 ≡ at_b.0 = omega arith in
             same_Some a b (sym at_a.1.here ∙ (ap (λ k. slice_get os k) same ∙ at_b.1.here))
-          ]
       ]
+    ]
 
--- coherency domains of one rank are one
-same_rank : (c d : CoherencyDomain) → rank c ≡ rank d → c ≡ d
-same_rank c d same = sym (back c) ∙ (ap domain_of same ∙ back d) where
-  domain_of : ℕ → CoherencyDomain
-  domain_of zero = Cpu
-  domain_of (suc zero) = Ram
-  domain_of (suc (suc n)) = Inaccessible
-  back : (e : CoherencyDomain) → domain_of (rank e) ≡ e
-  back Cpu = refl
-  back Ram = refl
-  back Inaccessible = refl
-
--- places of which neither is earlier are one
-same_place : (a b : Place) → ¬ (IsEarlier a b) → ¬ (IsEarlier b a) → a ≡ b
-same_place a b not_before not_behind =
-    let heaps : a.heap ≡ b.heap = le_antisymm (not_lt b.heap a.heap (λ less. not_behind (inl less))) (not_lt a.heap b.heap (λ less. not_before (inl less))) in
-    let ranks : rank a.coherency ≡ rank b.coherency = le_antisymm (not_lt (rank b.coherency) (rank a.coherency) (λ less. not_behind (inr (sym heaps, less))))
-        (not_lt (rank a.coherency) (rank b.coherency) (λ less. not_before (inr (heaps, less)))) in
-    let domains = same_rank a.coherency b.coherency ranks in
-    ap (λ h. record { heap = h; coherency = a.coherency }) heaps ∙ ap (λ d. record { heap = b.heap; coherency = d }) domains
-
--- numbers that divide each other and are at most each other, in both dimensions
+-- sizes each up to the other are one
 sizes_both : (a b : Size) → IsSizeUpTo a b → IsSizeUpTo b a → a ≡ b
 sizes_both a b up down =
     ap (λ w. record { width = w; height = a.height }) (le_antisymm up.width down.width) ∙ ap (λ h. record { width = b.width; height = h }) (le_antisymm up.height down.height)
 
+-- and so are sizes that divide each other
 steps_both : (a b : Size) → DividesSize a b → DividesSize b a → a ≡ b
 steps_both a b up down =
     ap (λ w. record { width = w; height = a.height }) (dvd_antisymm up.width down.width) ∙ ap (λ h. record { width = b.width; height = h }) (dvd_antisymm up.height down.height)
 
 -- bounds that keep to each other are one
-pub tighter_both : (a b : ImageBounds) → IsTighter a b → IsTighter b a → a ≡ b
+tighter_both : (a b : ImageBounds) → IsTighter a b → IsTighter b a → a ≡ b
 tighter_both a b up down =
     let min_size = sizes_both a.min_size b.min_size down.min_size up.min_size in
     let max_size = sizes_both a.max_size b.max_size up.max_size down.max_size in
@@ -153,7 +126,7 @@ one_best whole platform ps a b of_a of_b =
     let up : IsNoBetter platform a b = of_b.best a of_a.meets in
     let down : IsNoBetter platform b a = of_a.best b of_b.meets in
     let offer = same_offer (offers_of platform) a.offer b.offer met_a.sound.offer met_b.sound.offer up.offer down.offer in
-    let place = same_place a.place b.place (up.place offer) (down.place (sym offer)) in
+    let place = places_are_in_one_order a.place b.place (up.place offer) (down.place (sym offer)) in
     let count : a.count ≡ b.count = le_antisymm down.count up.count in
     let size : a.size_bytes ≡ b.size_bytes = le_antisymm (down.size (sym offer) (sym place)) (up.size offer place) in
     let bounds = tighter_both a.bounds b.bounds (up.bounds offer place) (down.bounds (sym offer) (sym place)) in

@@ -1,5 +1,5 @@
 -- The first fit, the first place and the least count are best together.
-use Rattle.std.proofs.Common.{ℕ, ◌≡◌, ◌≤◌, Bool, true, false, List, [], ◌∷◌, map, All, refl, subst}
+use Rattle.std.proofs.Common.{ℕ, ◌≡◌, Bool, true, false, List, [], ◌∷◌, map, All, refl, subst}
 use Rattle.std.proofs.lemmas.List.Elements.{All-nil, All-cons, All-head, All-tail, All-map, All-weaker}
 use Rattle.sysmem_counts.specs.Counts.{IsLeastCount, HasNoCount}
 use Rattle.sysmem_memory.proofs.FirstRefusing.{none_refuses}
@@ -12,7 +12,7 @@ use Rattle.sysmem_merge.specs.declared.fit.Fit.{Fit}
 use Rattle.sysmem_merge.specs.declared.settings.Settings.{Settings as Settled}
 use Rattle.sysmem_merge.specs.Best.{IsBest, IsUnmet}
 use Rattle.sysmem_merge.specs.Demands.{OfferDemand, counts_asked, place_demand, place_demands, offer_demand, offer_demands}
-use Rattle.sysmem_merge.specs.Fit.{CoversFit, MeetsFit, IsNoBetterFit, IsFirstFit}
+use Rattle.sysmem_merge.specs.Fit.{CoversFit, MeetsFit, IsFirstFit}
 use Rattle.sysmem_merge.specs.Reasons.{AreOffersRefused}
 use Rattle.sysmem_merge.specs.Settings.{Covers, IsNamed, MeetsLoosely, MeetsAs}
 use Rattle.sysmem_sanitise.specs.Participant.{Participant}
@@ -85,11 +85,21 @@ best_together whole platform ps fit place count found first least =
     let met : MeetsLoosely platform ps s = record {
       heap = first.info;
       sound = record {
-        offer = found.offered; place = first.place; some = sound.some; fits = sound.fits; own = sound.own;
-        image = sound.image; bounds = sound.bounds; bytes = sound.bytes;
+        offer = found.offered;
+        place = first.place;
+        some = sound.some;
+        fits = sound.fits;
+        own = sound.own;
+        image = sound.image;
+        bounds = sound.bounds;
+        bytes = sound.bytes;
       };
       covers = λ k d inside. let fits = covered k d inside in record {
-        format = fits.format; colour = fits.colour; bounds = fits.bounds; min_size = fits.min_size; max_size = fits.max_size;
+        format = fits.format;
+        colour = fits.colour;
+        bounds = fits.bounds;
+        min_size = fits.min_size;
+        max_size = fits.max_size;
         place = allowed k d inside;
       };
       counted = least.counted;
@@ -98,12 +108,12 @@ best_together whole platform ps fit place count found first least =
       best = λ t meets.
           let m : MeetsLoosely platform ps t = loosely whole platform ps t meets in
           let suits : MeetsFit (offer_demands ps) (fit_of t) = fit_met platform ps t m in record {
-        offer = λ earlier. refused_unmet whole t.offer (offer_demands ps) (found.first t.offer earlier) (fit_of t) refl suits (named whole platform ps t meets);
-        place = λ _ earlier. let at = place_met whole platform ps t meets in at.2 (first.earlier t.place at.0 at.1 earlier);
-        count = least.least t.count m.counted;
-        size = λ same _. (found.best.best (fit_of t) same suits).size;
-        bounds = λ same _. (found.best.best (fit_of t) same suits).bounds;
-      };
+            offer = λ earlier. refused_unmet whole t.offer (offer_demands ps) (found.first t.offer earlier) (fit_of t) refl suits (named whole platform ps t meets);
+            place = λ _ earlier. let at = place_met whole platform ps t meets in at.2 (first.earlier t.place at.0 at.1 earlier);
+            count = least.least t.count m.counted;
+            size = λ same _. (found.best.best (fit_of t) same suits).size;
+            bounds = λ same _. (found.best.best (fit_of t) same suits).bounds;
+          };
     }
 
 -- without a count, a place or an offer no settings meet participants

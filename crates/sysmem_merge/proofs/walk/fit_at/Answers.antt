@@ -1,5 +1,4 @@
 use Rattle.std.proofs.Common.{◌≡◌}
-use Rattle.sysmem_formats.specs.declared.offer.Offer.{Offer}
 use Rattle.sysmem_merge.proofs.FirstFits.{offer_read}
 use Rattle.sysmem_merge.proofs.walk.fit_at.Goals as goal
 
