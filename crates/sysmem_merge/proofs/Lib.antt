@@ -1,7 +1,9 @@
 pub mod Adding
 pub mod Asked
+pub mod FirstFits
 pub mod Fits
 pub mod Lines
+pub mod OneBest
 pub mod Reasons
 pub mod Sizes
 pub mod Together

@@ -1,13 +1,12 @@
 -- A reason that is true of participants leaves no settings to them, nor to more.
-use Rattle.std.proofs.Common.{arith, ℕ, ◌≤◌, ◌<◌, Bool, List, [], ◌∷◌, map, All}
+use Rattle.std.proofs.Common.{arith, ℕ, ◌<◌, inl, inr, Bool, false, List, [], ◌∷◌, map, All, refl}
 use Rattle.std.proofs.lemmas.List.Elements.{All-map, All-weaker}
 use Rattle.sysmem_counts.proofs.Counts.{line_sound, line_of_some}
-use Rattle.sysmem_counts.proofs.Lists.{All-some, Any-not_All}
-use Rattle.sysmem_counts.specs.Counts.{needed, IsLeastCount, IsCountLine, IsCountFault}
+use Rattle.sysmem_counts.proofs.Lists.{All-some}
+use Rattle.sysmem_counts.specs.Counts.{IsLeastCount, IsCountLine}
 use Rattle.sysmem_counts.specs.Sublist.{IsSublist, ended, taken, left_out}
-use Rattle.sysmem_counts.specs.declared.constraints.CountConstraints.{CountConstraints}
 use Rattle.sysmem_counts.specs.declared.field.Field.{Field}
-use Rattle.sysmem_counts.specs.declared.field.Field.TheVariants.{MaxBufferCount, BufferCountLimit}
+use Rattle.sysmem_formats.specs.declared.offer.Offer.{Offer}
 use Rattle.sysmem_memory.specs.declared.place.Place.{Place}
 use Rattle.sysmem_memory.specs.Place.{IsFirstPlace, HasNoPlace}
 use Rattle.sysmem_memory.specs.PlaceTable.{AllowsPlace}
@@ -15,12 +14,13 @@ use Rattle.sysmem_merge.specs.declared.reason.Reason.{Reason}
 use Rattle.sysmem_merge.specs.declared.reason.Reason.TheVariants.{Count, NoPlace, NoOffer}
 use Rattle.sysmem_merge.specs.declared.settings.Settings.{Settings as Settled}
 use Rattle.sysmem_merge.specs.Laws.{ReasonLeavesNone, ReasonOfSomeLeavesNone}
-use Rattle.sysmem_merge.specs.Demands.{counts_asked, place_demand, place_demands}
+use Rattle.sysmem_merge.specs.Demands.{OfferDemand, counts_asked, place_demand, place_demands, offer_demand, offer_demands}
 use Rattle.sysmem_sanitise.specs.Participant.{Participant}
-use Rattle.sysmem_sanitise.specs.Platform.{PlatformFacts}
-use Rattle.sysmem_merge.specs.Reasons.{IsReason, IsFirstReason, NoOfferServes, reason_rank}
+use Rattle.sysmem_sanitise.specs.Platform.{PlatformFacts, offers_of}
+use Rattle.sysmem_merge.specs.Reasons.{IsOfferLine, IsOfferRefused, AreOffersRefused, IsReason, IsFirstReason, reason_rank}
 use Rattle.sysmem_merge.specs.Settings.{Covers, MeetsLoosely}
-use Rattle.sysmem_merge.proofs.Together.{loosely, refused_clash}
+use Rattle.sysmem_merge.proofs.Lines.{line_unmet}
+use Rattle.sysmem_merge.proofs.Together.{loosely, fit_of, fit_met, refused_clash, unmet_by_place, unmet_by_offer}
 
 -- a list is some of itself
 pub itself : {X : Type 0} (xs : List X) → IsSublist xs xs
@@ -37,6 +37,10 @@ map_some f _ _ (left_out x some all among) = left_out (f x) (map f some) (map f 
 covers_some : (whole : Bool) (platform : PlatformFacts) (some all : List Participant) (t : Settled) (meets : MeetsLoosely platform all t) → IsSublist some all → All (Covers meets.heap t) some
 covers_some whole platform some all t meets among = All-some (Covers meets.heap t) some all among meets.covers
 
+-- an offer that is refused to some, whoever else joins, is refused by a line
+refused_line : (o : Offer) (ds : List OfferDemand) → IsOfferRefused false o ds → (field : Field) × IsOfferLine field o ds
+refused_line o ds refused = elim refused as (λ _. (field : Field) × IsOfferLine field o ds) [ inl line ↦ line | inr unnamed ↦ cc (unnamed.0) ]
+
 -- each kind of reason
 pub reason_of_some : ReasonOfSomeLeavesNone
 reason_of_some whole platform some all (Count field) among line t meets =
@@ -45,51 +49,37 @@ reason_of_some whole platform some all NoPlace among none t meets =
     let m : MeetsLoosely platform all t = loosely whole platform all t meets in
     refused_clash m.heap t.place.coherency (place_demands some) (none t.place m.heap m.sound.place)
     (All-map (λ q. AllowsPlace q.memory q.usage m.heap t.place.coherency) place_demand some
-    (All-weaker (Covers m.heap t) (λ p. AllowsPlace p.memory p.usage m.heap t.place.coherency) (λ p c. c.place) some (covers_some whole platform some all t m among)))
-reason_of_some whole platform some all NoOffer among none t meets =
+    (All-weaker (Covers m.heap t) (λ p. AllowsPlace p.memory p.usage m.heap t.place.coherency) (λ p c. c.place) some
+    (All-some (Covers m.heap t) some all among m.covers)))
+reason_of_some whole platform some all NoOffer among refused t meets =
     let m : MeetsLoosely platform all t = loosely whole platform all t meets in
-    let cover : All (Covers m.heap t) some = covers_some whole platform some all t m among in
-    none t.offer m.sound.offer t.size_bytes m.sound.some m.sound.fits
-    (All-weaker (Covers m.heap t) (λ p. p.memory.min_size_bytes ≤ t.size_bytes) (λ p c. c.min_size) some cover)
-    (All-weaker (Covers m.heap t) (λ p. t.size_bytes ≤ p.memory.max_size_bytes) (λ p c. c.max_size) some cover)
+    let line = refused_line t.offer (offer_demands some) (refused t.offer m.sound.offer) in
+    line_unmet line.0 t.offer (offer_demands some) (offer_demands all) line.1
+    (λ P. All-some P (offer_demands some) (offer_demands all) (map_some offer_demand some all among)) (fit_of t) refl (fit_met platform all t m)
 
 pub reason_of_all : ReasonLeavesNone
-reason_of_all whole platform ps reason = reason_of_some whole platform ps ps reason (itself ps)
-
--- no reason is before a maximum count
-none_before : (platform : PlatformFacts) (ps : List Participant) (other : Reason) → All (λ p. needed (counts_asked ps) ≤ p.max_buffer_count) (counts_asked ps)
-    → reason_rank other < 1 → ¬ (IsReason platform ps other)
-none_before platform ps (Count MaxBufferCount) all before line =
-    Any-not_All (λ (p : CountConstraints). p.max_buffer_count < needed (counts_asked ps)) (λ p. needed (counts_asked ps) ≤ p.max_buffer_count) (counts_asked ps)
-    (λ p low high. omega (arith, low, high)) line all
-none_before platform ps (Count _) all before line = absurd (omega (arith, before))
-none_before platform ps NoPlace all before line = absurd (omega (arith, before))
-none_before platform ps NoOffer all before line = absurd (omega (arith, before))
-
--- the first count line is the first reason
-pub first_count : (platform : PlatformFacts) (ps : List Participant) (field : Field) → IsCountFault (counts_asked ps) field → IsFirstReason platform ps (Count field)
-first_count platform ps MaxBufferCount line = record { holds = line; first = λ other before. absurd (omega (arith, before)) }
-first_count platform ps BufferCountLimit line = record { holds = line.1; first = λ other before. none_before platform ps other line.0 before }
-first_count platform ps _ line = absurd line
+reason_of_all whole platform ps (Count field) line = reason_of_some whole platform ps ps (Count field) (itself ps) line
+reason_of_all whole platform ps NoPlace none = unmet_by_place whole platform ps none
+reason_of_all whole platform ps NoOffer refused = unmet_by_offer whole platform ps refused
 
 -- where some count suits, no count line is true
 no_count_line : (ps : List Participant) (count : ℕ) → IsLeastCount (counts_asked ps) count → (field : Field) → ¬ (IsCountLine field (counts_asked ps))
 no_count_line ps count least field line = line_sound field (counts_asked ps) line count least.counted
 
 -- so without a place that is the first reason
-pub first_no_place : (platform : PlatformFacts) (ps : List Participant) (count : ℕ) → IsLeastCount (counts_asked ps) count
-    → HasNoPlace platform.heaps (place_demands ps) → IsFirstReason platform ps NoPlace
-first_no_place platform ps count least none = record { holds = none; first = before } where
-  before : (other : Reason) → reason_rank other < 2 → ¬ (IsReason platform ps other)
+pub first_no_place : (whole : Bool) (platform : PlatformFacts) (ps : List Participant) (count : ℕ) → IsLeastCount (counts_asked ps) count
+    → HasNoPlace platform.heaps (place_demands ps) → IsFirstReason whole platform ps NoPlace
+first_no_place whole platform ps count least none = record { holds = none; first = before } where
+  before : (other : Reason) → reason_rank other < 2 → ¬ (IsReason whole platform ps other)
   before (Count field) below line = no_count_line ps count least field line
   before NoPlace below line = absurd (omega (arith, below))
   before NoOffer below line = absurd (omega (arith, below))
 
 -- and without an offer, where there are a count and a place
-pub first_no_offer : (platform : PlatformFacts) (ps : List Participant) (count : ℕ) (place : Place) → IsLeastCount (counts_asked ps) count
-    → IsFirstPlace platform.heaps (place_demands ps) place → NoOfferServes platform ps → IsFirstReason platform ps NoOffer
-first_no_offer platform ps count place least found none = record { holds = none; first = before } where
-  before : (other : Reason) → reason_rank other < 3 → ¬ (IsReason platform ps other)
+pub first_no_offer : (whole : Bool) (platform : PlatformFacts) (ps : List Participant) (count : ℕ) (place : Place) → IsLeastCount (counts_asked ps) count
+    → IsFirstPlace platform.heaps (place_demands ps) place → AreOffersRefused whole (offers_of platform) (offer_demands ps) → IsFirstReason whole platform ps NoOffer
+first_no_offer whole platform ps count place least found none = record { holds = none; first = before } where
+  before : (other : Reason) → reason_rank other < 3 → ¬ (IsReason whole platform ps other)
   before (Count field) below line = no_count_line ps count least field line
   before NoPlace below line = refused_clash found.info place.coherency (place_demands ps) (line place found.info found.place) found.allowed
   before NoOffer below line = absurd (omega (arith, below))

@@ -1,5 +1,5 @@
--- An offer, a place and a count that are best apart are best together.
-use Rattle.std.proofs.Common.{ℕ, ◌≡◌, ◌≤◌, Bool, true, false, List, [], ◌∷◌, map, All, refl, subst}
+-- The first fit, the first place and the least count are best together.
+use Rattle.std.proofs.Common.{ℕ, ◌≡◌, Bool, true, false, List, [], ◌∷◌, map, All, refl, subst}
 use Rattle.std.proofs.lemmas.List.Elements.{All-nil, All-cons, All-head, All-tail, All-map, All-weaker}
 use Rattle.sysmem_counts.specs.Counts.{IsLeastCount, HasNoCount}
 use Rattle.sysmem_memory.proofs.FirstRefusing.{none_refuses}
@@ -11,12 +11,13 @@ use Rattle.sysmem_memory.specs.PlaceTable.{AllowsPlace, PlaceDemand}
 use Rattle.sysmem_merge.specs.declared.fit.Fit.{Fit}
 use Rattle.sysmem_merge.specs.declared.settings.Settings.{Settings as Settled}
 use Rattle.sysmem_merge.specs.Best.{IsBest, IsUnmet}
-use Rattle.sysmem_merge.specs.Fit.{MeetsOffer, IsNoBetterFit, IsBestFit}
-use Rattle.sysmem_merge.specs.Demands.{counts_asked, place_demand, place_demands}
-use Rattle.sysmem_sanitise.specs.Participant.{Participant}
-use Rattle.sysmem_sanitise.specs.Platform.{PlatformFacts}
-use Rattle.sysmem_merge.specs.Reasons.{NoOfferServes}
+use Rattle.sysmem_merge.specs.Demands.{OfferDemand, counts_asked, place_demand, place_demands, offer_demand, offer_demands}
+use Rattle.sysmem_merge.specs.Fit.{CoversFit, MeetsFit, IsFirstFit}
+use Rattle.sysmem_merge.specs.Reasons.{AreOffersRefused}
 use Rattle.sysmem_merge.specs.Settings.{Covers, IsNamed, MeetsLoosely, MeetsAs}
+use Rattle.sysmem_sanitise.specs.Participant.{Participant}
+use Rattle.sysmem_sanitise.specs.Platform.{PlatformFacts, offers_of}
+use Rattle.sysmem_merge.proofs.FirstFits.{refused_unmet}
 
 -- what each image of a list has, each element's image has
 pub All-unmap : {X Y : Type 0} (P : Y → Type 0) (f : X → Y) (xs : List X) → All P (map f xs) → All (λ x. P (f x)) xs
@@ -40,17 +41,18 @@ meets_as false platform ps t meets names = meets
 
 -- what settings say of images
 abbrev pub fit_of : Settled → Fit
-fit_of t = record { offer = t.offer; size_bytes = t.size_bytes }
+fit_of t = record { offer = t.offer; bounds = t.bounds; size_bytes = t.size_bytes }
 
--- settings that meet participants meet them in offer and size
-pub offer_met : (whole : Bool) (platform : PlatformFacts) (ps : List Participant) (t : Settled) → MeetsAs whole platform ps t → MeetsOffer whole platform ps (fit_of t)
-offer_met whole platform ps t meets = let m : MeetsLoosely platform ps t = loosely whole platform ps t meets in record {
-  offered = m.sound.offer;
-  some = m.sound.some;
-  fits = m.sound.fits;
-  min_size = All-weaker (Covers m.heap t) (λ p. p.memory.min_size_bytes ≤ t.size_bytes) (λ p c. c.min_size) ps m.covers;
-  max_size = All-weaker (Covers m.heap t) (λ p. t.size_bytes ≤ p.memory.max_size_bytes) (λ p c. c.max_size) ps m.covers;
-  named = named whole platform ps t meets;
+-- a participant that covers settings covers what they say of images
+pub covers_fit : (h : HeapFacts) (t : Settled) (p : Participant) → Covers h t p → CoversFit (fit_of t) (offer_demand p)
+covers_fit h t p c = record { format = c.format; colour = c.colour; bounds = c.bounds; min_size = c.min_size; max_size = c.max_size }
+
+-- settings that meet participants meet them in what they say of images
+pub fit_met : (platform : PlatformFacts) (ps : List Participant) (t : Settled) → MeetsLoosely platform ps t → MeetsFit (offer_demands ps) (fit_of t)
+fit_met platform ps t m = record {
+  sound = record { some = m.sound.some; fits = m.sound.fits; own = m.sound.own; image = m.sound.image; bounds = m.sound.bounds; bytes = m.sound.bytes };
+  covers = All-map (CoversFit (fit_of t)) offer_demand ps
+      (All-weaker (Covers m.heap t) (λ p. CoversFit (fit_of t) (offer_demand p)) (covers_fit m.heap t) ps m.covers);
 }
 
 -- a place that somebody refuses isn't one that all allow
@@ -70,26 +72,48 @@ place_met whole platform ps t meets = let m : MeetsLoosely platform ps t = loose
       (All-weaker (Covers m.heap t) (λ p. AllowsPlace p.memory p.usage m.heap t.place.coherency) (λ p c. c.place) ps m.covers)),
 )
 
--- the best offer, the first place and the least count together
+-- the first fit, the first place and the least count together
 pub best_together : (whole : Bool) (platform : PlatformFacts) (ps : List Participant) (fit : Fit) (place : Place) (count : ℕ)
-    → IsBestFit whole platform ps fit → IsFirstPlace platform.heaps (place_demands ps) place → IsLeastCount (counts_asked ps) count
-    → IsBest whole platform ps (record { offer = fit.offer; place = place; count = count; size_bytes = fit.size_bytes })
-best_together whole platform ps fit place count best first least =
-    let s : Settled = record { offer = fit.offer; place = place; count = count; size_bytes = fit.size_bytes } in
+    → IsFirstFit whole (offers_of platform) (offer_demands ps) fit → IsFirstPlace platform.heaps (place_demands ps) place
+    → IsLeastCount (counts_asked ps) count
+    → IsBest whole platform ps (record { offer = fit.offer; place = place; count = count; size_bytes = fit.size_bytes; bounds = fit.bounds })
+best_together whole platform ps fit place count found first least =
+    let s : Settled = record { offer = fit.offer; place = place; count = count; size_bytes = fit.size_bytes; bounds = fit.bounds } in
+    let sound = found.best.meets.sound in
     let allowed = All-unmap (λ (q : PlaceDemand). AllowsPlace q.memory q.usage first.info place.coherency) place_demand ps first.allowed in
+    let covered = All-unmap (λ (d : OfferDemand). CoversFit fit d) offer_demand ps found.best.meets.covers in
     let met : MeetsLoosely platform ps s = record {
       heap = first.info;
-      sound = record { offer = best.meets.offered; place = first.place; some = best.meets.some; fits = best.meets.fits };
-      covers = λ k d inside. record { place = allowed k d inside; min_size = best.meets.min_size k d inside; max_size = best.meets.max_size k d inside };
+      sound = record {
+        offer = found.offered;
+        place = first.place;
+        some = sound.some;
+        fits = sound.fits;
+        own = sound.own;
+        image = sound.image;
+        bounds = sound.bounds;
+        bytes = sound.bytes;
+      };
+      covers = λ k d inside. let fits = covered k d inside in record {
+        format = fits.format;
+        colour = fits.colour;
+        bounds = fits.bounds;
+        min_size = fits.min_size;
+        max_size = fits.max_size;
+        place = allowed k d inside;
+      };
       counted = least.counted;
     } in record {
-      meets = meets_as whole platform ps s met best.meets.named;
-      best = λ t meets. let beaten : IsNoBetterFit platform (fit_of t) fit = best.best (fit_of t) (offer_met whole platform ps t meets) in record {
-        offer = beaten.offer;
-        place = λ _ earlier. let at = place_met whole platform ps t meets in at.2 (first.earlier t.place at.0 at.1 earlier);
-        count = least.least t.count (loosely whole platform ps t meets).counted;
-        size = λ same _. beaten.size same;
-      };
+      meets = meets_as whole platform ps s met found.named;
+      best = λ t meets.
+          let m : MeetsLoosely platform ps t = loosely whole platform ps t meets in
+          let suits : MeetsFit (offer_demands ps) (fit_of t) = fit_met platform ps t m in record {
+            offer = λ earlier. refused_unmet whole t.offer (offer_demands ps) (found.first t.offer earlier) (fit_of t) refl suits (named whole platform ps t meets);
+            place = λ _ earlier. let at = place_met whole platform ps t meets in at.2 (first.earlier t.place at.0 at.1 earlier);
+            count = least.least t.count m.counted;
+            size = λ same _. (found.best.best (fit_of t) same suits).size;
+            bounds = λ same _. (found.best.best (fit_of t) same suits).bounds;
+          };
     }
 
 -- without a count, a place or an offer no settings meet participants
@@ -100,6 +124,7 @@ pub unmet_by_place : (whole : Bool) (platform : PlatformFacts) (ps : List Partic
 unmet_by_place whole platform ps none t meets =
     let at = place_met whole platform ps t meets in at.2 (none t.place at.0 at.1)
 
-pub unmet_by_offer : (whole : Bool) (platform : PlatformFacts) (ps : List Participant) → NoOfferServes platform ps → IsUnmet whole platform ps
-unmet_by_offer whole platform ps none t meets =
-    let m : MeetsOffer whole platform ps (fit_of t) = offer_met whole platform ps t meets in none t.offer m.offered t.size_bytes m.some m.fits m.min_size m.max_size
+pub unmet_by_offer : (whole : Bool) (platform : PlatformFacts) (ps : List Participant) → AreOffersRefused whole (offers_of platform) (offer_demands ps) → IsUnmet whole platform ps
+unmet_by_offer whole platform ps refused t meets =
+    let m : MeetsLoosely platform ps t = loosely whole platform ps t meets in
+    refused_unmet whole t.offer (offer_demands ps) (refused t.offer m.sound.offer) (fit_of t) refl (fit_met platform ps t m) (named whole platform ps t meets)

@@ -1,6 +1,7 @@
 //! The first offer of a platform that participants can share.
 
-ghost use Rattle.std.specs.Prelude.{◌≡◌, true, List, IfSome, IfNone};
+ghost use Rattle.std.specs.Prelude.{◌≡◌, true, List, Some, slice_get, IfSome, IfNone};
+ghost use Rattle.sysmem_formats.specs.declared.offer.Offer.{Offer};
 ghost use Rattle.sysmem_merge.specs.Aggregate.{AreSizes, IsKept, AreKept};
 ghost use Rattle.sysmem_merge.specs.Demands.{OfferDemand};
 ghost use Rattle.sysmem_merge.specs.Fit.{IsBestFit, IsFirstFit};
@@ -26,8 +27,8 @@ pub(crate) fn first_fit(
     ensures none { (ds : List OfferDemand) → AreKept (offers_of platform.now) ds kept.now → AreSizes ds least_size greatest_size
         → IfNone result (AreOffersRefused whole (offers_of platform.now) ds) }
 {
-    for (index, kept) in kept.iter().enumerate() {
-        if let Some(fit) = fit_at(platform, index, kept, least_size, greatest_size, whole) {
+    for (index, one) in kept.iter().enumerate() {
+        if let Some(fit) = fit_at(platform, index, one, least_size, greatest_size, whole) {
             return Some(fit);
         }
     }
@@ -42,7 +43,14 @@ fn fit_at(
     least_size: u64,
     greatest_size: u64,
     whole: bool,
-) -> Option<Fit> {
+) -> Option<Fit>
+    ensures best { (o : Offer) (ds : List OfferDemand) → slice_get (offers_of platform.now) index ≡ Some o → IsKept o ds kept.now
+        → AreSizes ds least_size greatest_size → IfSome result (IsBestFit o ds) }
+    ensures named { (o : Offer) (ds : List OfferDemand) → slice_get (offers_of platform.now) index ≡ Some o → IsKept o ds kept.now
+        → IfSome result (λ _. whole ≡ true → is_named o ds ≡ true) }
+    ensures none { (o : Offer) (ds : List OfferDemand) → slice_get (offers_of platform.now) index ≡ Some o → IsKept o ds kept.now
+        → AreSizes ds least_size greatest_size → IfNone result (IsOfferRefused whole o ds) }
+{
     let offer = offer_at(platform.pairs(), platform.colours(), index)?;
     fit_of(kept, &offer, least_size, greatest_size, whole)
 }
