@@ -1,4 +1,6 @@
 pub mod Adding
+pub mod Asked
+pub mod Keeping
 pub mod Reasons
 pub mod Sizes
 pub mod Together
