@@ -1,21 +1,57 @@
--- What one more participant adds to the bounds that participants put on an offer.
-use Rattle.std.proofs.Common.{◌≡◌, List, [], ◌∷◌, ◌++◌, refl, ap, ◌∙◌}
-use Rattle.std.specs.Prelude.{Option, Some, None}
+-- What the participants' entries ask of an offer, as a list of bounds.
+use Rattle.std.proofs.Common.{◌≡◌, List, [], ◌∷◌, ◌++◌, Option, Some, None, All, refl, ap, ◌∙◌}
+use Rattle.std.proofs.lemmas.List.Elements.{All-nil, All-cons, All-head, All-tail}
 use Rattle.sysmem_formats.specs.declared.offer.Offer.{Offer}
 use Rattle.sysmem_image.specs.declared.bounds.ImageBounds.{ImageBounds}
 use Rattle.sysmem_image.specs.declared.entry.Entry.{Entry}
-use Rattle.sysmem_image.specs.Entries.{first_match}
+use Rattle.sysmem_image.specs.Entries.{effective, first_match}
 use Rattle.sysmem_merge.specs.Demands.{OfferDemand}
-use Rattle.sysmem_merge.specs.Offers.{with_entry, bounds_asked}
+use Rattle.sysmem_merge.specs.Offers.{OnEntry, Asks, with_entry, bounds_asked}
 
--- the bounds of an entry stand before all others
-with_entry_append : (o : Offer) (x : Option Entry) (es fs : List ImageBounds) → with_entry o x (es ++ fs) ≡ with_entry o x es ++ fs
-with_entry_append o (Some entry) es fs = refl
-with_entry_append o None es fs = refl
+-- the bounds of an entry stand before the others, so before those with which they end
+with_entry_append : (o : Offer) (entry : Option Entry) (xs ys : List ImageBounds) → with_entry o entry (xs ++ ys) ≡ with_entry o entry xs ++ ys
+with_entry_append o (Some entry) xs ys = refl
+with_entry_append o None xs ys = refl
 
--- the bounds of one more participant's entry come last
-pub bounds_asked_push : (o : Offer) (ds : List OfferDemand) (d : OfferDemand)
-    → bounds_asked o (ds ++ d ∷ []) ≡ bounds_asked o ds ++ with_entry o (first_match o d.entries) []
+-- one more participant: the bounds of its entry come last
+pub bounds_asked_push : (o : Offer) (ds : List OfferDemand) (d : OfferDemand) → bounds_asked o (ds ++ d ∷ []) ≡ bounds_asked o ds ++ with_entry o (first_match o d.entries) []
 bounds_asked_push o [] d = refl
-bounds_asked_push o (e ∷ ds) d = ap (with_entry o (first_match o e.entries)) (bounds_asked_push o ds d)
-    ∙ with_entry_append o (first_match o e.entries) (bounds_asked o ds) (with_entry o (first_match o d.entries) [])
+bounds_asked_push o (x ∷ xs) d =
+    ap (with_entry o (first_match o x.entries)) (bounds_asked_push o xs d)
+    ∙ with_entry_append o (first_match o x.entries) (bounds_asked o xs) (with_entry o (first_match o d.entries) [])
+
+-- what holds of an entry's bounds and of the others holds of all
+on_entry_all : (o : Offer) (P : ImageBounds → Type 0) (entry : Option Entry) (rest : List ImageBounds) → OnEntry o P entry → All P rest → All P (with_entry o entry rest)
+on_entry_all o P (Some entry) rest on all = All-cons P (effective o entry) rest on all
+on_entry_all o P None rest on all = all
+
+-- and the other way round
+all_on_entry : (o : Offer) (P : ImageBounds → Type 0) (entry : Option Entry) (rest : List ImageBounds) → All P (with_entry o entry rest) → OnEntry o P entry
+all_on_entry o P (Some entry) rest all = All-head P (effective o entry) rest all
+all_on_entry o P None rest all = tt
+
+all_rest : (o : Offer) (P : ImageBounds → Type 0) (entry : Option Entry) (rest : List ImageBounds) → All P (with_entry o entry rest) → All P rest
+all_rest o P (Some entry) rest all = All-tail P (effective o entry) rest all
+all_rest o P None rest all = all
+
+-- what the bounds that each participant asks have, all bounds that are asked have
+pub asked_all : (o : Offer) (P : ImageBounds → Type 0) (ds : List OfferDemand) → All (Asks o P) ds → All P (bounds_asked o ds)
+asked_all o P [] all = All-nil P
+asked_all o P (d ∷ ds) all =
+    on_entry_all o P (first_match o d.entries) (bounds_asked o ds) (All-head (Asks o P) d ds all) (asked_all o P ds (All-tail (Asks o P) d ds all))
+
+-- and what all of them have, those that each participant asks have
+pub asked_each : (o : Offer) (P : ImageBounds → Type 0) (ds : List OfferDemand) → All P (bounds_asked o ds) → All (Asks o P) ds
+asked_each o P [] all = All-nil (Asks o P)
+asked_each o P (d ∷ ds) all =
+    All-cons (Asks o P) d ds (all_on_entry o P (first_match o d.entries) (bounds_asked o ds) all)
+    (asked_each o P ds (all_rest o P (first_match o d.entries) (bounds_asked o ds) all))
+
+-- what follows from a fact follows of an entry's bounds
+on_entry_weaker : (o : Offer) (P Q : ImageBounds → Type 0) → ((e : ImageBounds) → P e → Q e) → (entry : Option Entry) → OnEntry o P entry → OnEntry o Q entry
+on_entry_weaker o P Q step (Some entry) on = step (effective o entry) on
+on_entry_weaker o P Q step None on = tt
+
+-- and of those that a participant asks
+pub asks_weaker : (o : Offer) (P Q : ImageBounds → Type 0) → ((e : ImageBounds) → P e → Q e) → (d : OfferDemand) → Asks o P d → Asks o Q d
+asks_weaker o P Q step d asks = on_entry_weaker o P Q step (first_match o d.entries) asks

@@ -141,6 +141,6 @@ pub kept_unnamed : (o : Offer) (ds : List OfferDemand) (d : OfferDemand) (old : 
     → AreKeptBounds o (ds ++ d ∷ []) bounds → IsKept o (ds ++ d ∷ []) (record old { bounds = bounds })
 kept_unnamed o ds d old bounds found kept are = kept_more o ds d None old (record old { bounds = bounds }) found kept are
     (sym (or-false old.format_named)) (sym (or-false old.modifier_named)) (none_named old.colour_named o) where
-  none_named : (b : Bool) (o : Offer) → b ≡ (b || names_colour o None)
-  none_named b NoImage = sym (or-false b)
-  none_named b (Image pair colour) = sym (or-false b)
+      none_named : (b : Bool) (o : Offer) → b ≡ (b || names_colour o None)
+      none_named b NoImage = sym (or-false b)
+      none_named b (Image pair colour) = sym (or-false b)

@@ -112,7 +112,13 @@ impl<'p> Aggregate<'p> {
         let Some(place) = self.memory.first_place(self.platform.heaps()) else {
             return Err(Reason::NoPlace);
         };
-        let Some(fit) = first_fit(self.platform, &self.offers, self.least_size, self.greatest_size, whole) else {
+        let Some(fit) = first_fit(
+            self.platform,
+            &self.offers,
+            self.least_size,
+            self.greatest_size,
+            whole,
+        ) else {
             return Err(Reason::NoOffer);
         };
         Ok(Settings {
