@@ -1,5 +1,6 @@
 -- What is kept after one more participant.
-use Rattle.std.proofs.Common.{arith, ◌≡◌, ◌+◌, List, [], ◌∷◌, ◌++◌, max, min, map, refl, sym, ap, ◌∙◌, subst, length-append}
+use Rattle.std.proofs.Common.{arith, ℕ, length, take, drop, ◌≡◌, ◌+◌, List, [], ◌∷◌, ◌++◌, max, min, map, refl, sym, ap, ◌∙◌, subst, length-append}
+use Rattle.std.proofs.Math.Seq.{take-append_seam}
 use Rattle.sysmem_counts.specs.Bounds as counts
 use Rattle.sysmem_counts.specs.Tally.{Tally}
 use Rattle.sysmem_counts.specs.declared.constraints.CountConstraints.{CountConstraints}
@@ -7,11 +8,12 @@ use Rattle.sysmem_memory.specs.declared.domain.CoherencyDomains.{CoherencyDomain
 use Rattle.sysmem_memory.specs.Heap.{HeapFacts}
 use Rattle.sysmem_memory.specs.Place as places
 use Rattle.sysmem_memory.specs.PlaceTable.{PlaceDemand}
-use Rattle.sysmem_merge.specs.Aggregate.{StandsFor}
 use Rattle.sysmem_merge.specs.Kept.{Kept}
-use Rattle.sysmem_merge.specs.Demands.{counts_asked, place_demand, place_demands}
+use Rattle.sysmem_merge.specs.declared.kept.KeptOffer.{KeptOffer}
+use Rattle.sysmem_merge.specs.Aggregate.{AreKept, StandsFor}
+use Rattle.sysmem_merge.specs.Demands.{OfferDemand, counts_asked, place_demand, place_demands, offer_demand, offer_demands}
 use Rattle.sysmem_sanitise.specs.Participant.{Participant}
-use Rattle.sysmem_sanitise.specs.Platform.{PlatformFacts}
+use Rattle.sysmem_sanitise.specs.Platform.{PlatformFacts, offers_of}
 use Rattle.sysmem_merge.proofs.Sizes.{sizes_push}
 
 -- a list with one more element, each changed alike
@@ -19,25 +21,33 @@ pub map_push : {X Y : Type 0} (f : X → Y) (xs : List X) (x : X) → map f (xs 
 map_push f [] x = refl
 map_push f (y ∷ xs) x = ap (λ rest. f y ∷ rest) (map_push f xs x)
 
+-- a vector whose elements were all written has those that were written
+pub all_written : {X : Type 0} (many : ℕ) (old new : List X) → many ≡ length new → take many (new ++ drop (length new) old) ≡ new
+all_written many old new is = ap (λ n. take n (new ++ drop (length new) old)) is ∙ take-append_seam new (drop (length new) old)
+
 -- each part stands for one more, so the whole does
-pub stands_push : (kept : Kept) (platform : PlatformFacts) (ps : List Participant) (p : Participant) (tally : Tally) (left : List CoherencyDomains)
+pub stands_push : (kept : Kept) (platform : PlatformFacts) (ps : List Participant) (p : Participant) (tally : Tally) (left : List CoherencyDomains) (offers : List KeptOffer)
     → StandsFor kept platform ps
     → ((asked : List CountConstraints) → counts.StandsFor kept.counts asked → counts.StandsFor tally (asked ++ p.counts ∷ []))
     → ((demands : List PlaceDemand) → places.StandsFor kept.places kept.platform.heaps demands → places.StandsFor left kept.platform.heaps (demands ++ place_demand p ∷ []))
+    → ((ds : List OfferDemand) → AreKept (offers_of kept.platform) ds kept.offers → AreKept (offers_of kept.platform) (ds ++ offer_demand p ∷ []) offers)
     → StandsFor (record {
       platform = kept.platform;
       counts = tally;
       places = left;
+      offers = offers;
       least_size = max kept.least_size p.memory.min_size_bytes;
       greatest_size = min kept.greatest_size p.memory.max_size_bytes;
       added = kept.added + 1;
     }) platform (ps ++ p ∷ [])
-stands_push kept platform ps p tally left stands counted placed = record {
+stands_push kept platform ps p tally left offers stands counted placed offered = record {
   on = stands.on;
   counts = rw map_push (counted (counts_asked ps) stands.counts);
   places = subst (λ (f : PlatformFacts). places.StandsFor left f.heaps (place_demands (ps ++ p ∷ []))) stands.on
       (rw map_push (placed (place_demands ps) (subst (λ (f : PlatformFacts). places.StandsFor kept.places f.heaps (place_demands ps)) (sym stands.on) stands.places)));
-  sizes = sizes_push ps p kept.least_size kept.greatest_size stands.sizes;
+  offers = subst (λ (f : PlatformFacts). AreKept (offers_of f) (offer_demands (ps ++ p ∷ [])) offers) stands.on
+      (rw map_push (offered (offer_demands ps) (subst (λ (f : PlatformFacts). AreKept (offers_of f) (offer_demands ps) kept.offers) (sym stands.on) stands.offers)));
+  sizes = rw map_push (sizes_push (offer_demands ps) (offer_demand p) kept.least_size kept.greatest_size stands.sizes);
   many = omega (arith, stands.many, length-append ps (p ∷ []));
 }
 

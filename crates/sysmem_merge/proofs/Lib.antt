@@ -1,8 +1,11 @@
+pub mod Accepting
 pub mod Adding
 pub mod Asked
 pub mod FirstFits
 pub mod Fits
+pub mod Keeping
 pub mod Lines
+pub mod Many
 pub mod OneBest
 pub mod Reasons
 pub mod Sizes

@@ -5,6 +5,7 @@ use Rattle.sysmem_formats.specs.declared.offer.Offer.{Offer}
 use Rattle.sysmem_formats.specs.declared.offer.Offer.TheVariants.{NoImage, Image}
 use Rattle.sysmem_image.specs.declared.bounds.ImageBounds.{ImageBounds}
 use Rattle.sysmem_image.specs.declared.entry.Entry.{Entry}
+use Rattle.sysmem_image.specs.Bounds.{IsTighter}
 use Rattle.sysmem_image.specs.Colours.{lists}
 use Rattle.sysmem_image.specs.Entries.{effective, first_match, takes_colour}
 use Rattle.sysmem_merge.specs.Demands.{OfferDemand}
@@ -28,6 +29,12 @@ OnEntry o P None = Unit {0}
 
 abbrev pub Asks : Offer → (ImageBounds → Type 0) → OfferDemand → Type 0
 Asks o P d = OnEntry o P (first_match o d.entries)
+
+-- a participant takes the offer, its colour space and these bounds
+pub record AcceptsOffer (o : Offer) (b : ImageBounds) (d : OfferDemand) : Type 0 where
+  pub format : has_format o d ≡ true
+  pub colour : has_colour o d ≡ true
+  pub bounds : Asks o (IsTighter b) d
 
 -- the bounds of an entry, and then others
 abbrev pub with_entry : Offer → Option Entry → List ImageBounds → List ImageBounds

@@ -1,14 +1,15 @@
 //! What is kept of an offer for the participants that were added.
 
-ghost use Rattle.std.specs.Prelude.{◌≡◌, [], ◌++◌, ◌∷◌, List};
+ghost use Rattle.std.specs.Prelude.{◌≡◌, ◌||◌, [], ◌++◌, ◌∷◌, List, Some};
 ghost use Rattle.sysmem_formats.specs.declared.offer.Offer.{Offer};
-ghost use Rattle.sysmem_merge.specs.Aggregate.{IsKept};
+ghost use Rattle.sysmem_image.specs.Entries.{first_match};
+ghost use Rattle.sysmem_merge.specs.Aggregate.{AreKeptBounds, IsKept, refused_for};
 ghost use Rattle.sysmem_merge.specs.Demands.{OfferDemand};
-ghost use Rattle.sysmem_merge.specs.Offers.{is_named};
+ghost use Rattle.sysmem_merge.specs.Offers.{names_format, names_modifier, names_colour, is_named};
 
 use sysmem_counts::Field;
 use sysmem_formats::Offer;
-use sysmem_image::{Entry, ImageBounds};
+use sysmem_image::{Entry, ImageBounds, entry_for, merge_into, takes_colour};
 
 /// What participants ask of an offer's images together.
 #[derive(Clone, Copy, Debug, PartialEq, Eq)]
@@ -56,5 +57,64 @@ impl KeptOffer {
         ensures { (ds : List OfferDemand) (d : OfferDemand) → d.entries ≡ entries.now → IsKept offer.now ds self.old
             → IsKept offer.now (ds ++ d ∷ []) self.new }
     {
+        match entry_for(entries, offer) {
+            Some(entry) => {
+                self.bounds.add(offer, entry);
+                self.name(offer, entry);
+            }
+            None => {
+                if !entries.is_empty() {
+                    self.bounds.refuse(Field::PixelFormat);
+                }
+            }
+        }
+    }
+
+    /// Keeps which parts of the offer's name one more entry for it names.
+    fn name(&mut self, offer: &Offer, entry: &Entry)
+        ensures bounds { self.new.bounds ≡ self.old.bounds }
+        ensures format { self.new.format_named ≡ (self.old.format_named || names_format (Some entry.now)) }
+        ensures modifier { self.new.modifier_named ≡ (self.old.modifier_named || names_modifier (Some entry.now)) }
+        ensures colour { self.new.colour_named ≡ (self.old.colour_named || names_colour offer.now (Some entry.now)) }
+    {
+        self.format_named = self.format_named || entry.format.is_some();
+        self.modifier_named = self.modifier_named || entry.modifier.is_some();
+        self.colour_named = self.colour_named || names_colour(offer, entry);
+    }
+}
+
+impl KeptBounds {
+    /// Keeps what one more participant's entry for the offer asks.
+    fn add(&mut self, offer: &Offer, entry: &Entry)
+        ensures { (ds : List OfferDemand) (d : OfferDemand) → Some entry.now ≡ first_match offer.now d.entries
+            → AreKeptBounds offer.now ds self.old → AreKeptBounds offer.now (ds ++ d ∷ []) self.new }
+    {
+        if !takes_colour(entry, offer) {
+            return self.refuse(Field::ColorSpaces);
+        }
+        if let KeptBounds::Merged(bounds) = self {
+            if let Err(field) = merge_into(bounds, entry) {
+                *self = KeptBounds::Refused(field);
+            }
+        }
+    }
+
+    /// Refuses the offer for a field, if it isn't refused already.
+    fn refuse(&mut self, field: Field)
+        ensures { self.new ≡ refused_for field self.old }
+    {
+        if let KeptBounds::Merged(_) = self {
+            *self = KeptBounds::Refused(field);
+        }
+    }
+}
+
+/// Whether the entry names the offer's colour space itself.
+fn names_colour(offer: &Offer, entry: &Entry) -> bool
+    ensures { result ≡ names_colour offer.now (Some entry.now) }
+{
+    match offer {
+        Offer::NoImage => false,
+        Offer::Image(_, colour) => entry.colours.lists(*colour),
     }
 }

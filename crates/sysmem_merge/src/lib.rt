@@ -16,9 +16,9 @@ mod meets;
 mod offers;
 mod reason;
 mod settings;
-mod walk;
 #[cfg(test)]
 mod tests;
+mod walk;
 
 pub use aggregate::Aggregate;
 pub use meets::meets_one;

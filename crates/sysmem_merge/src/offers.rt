@@ -1,7 +1,8 @@
 //! What is kept of each offer of a platform.
 
-ghost use Rattle.std.specs.Prelude.{◌≡◌, List, [], ◌∷◌, ◌++◌, IfOk};
-ghost use Rattle.sysmem_merge.specs.Aggregate.{AreKept};
+ghost use Rattle.std.specs.Prelude.{◌≡◌, List, [], ◌∷◌, ◌++◌, IfOk, Some, slice_get};
+ghost use Rattle.sysmem_formats.specs.declared.offer.Offer.{Offer};
+ghost use Rattle.sysmem_merge.specs.Aggregate.{IsKept, AreKept};
 ghost use Rattle.sysmem_merge.specs.Demands.{OfferDemand};
 ghost use Rattle.sysmem_sanitise.specs.Platform.{offers_of};
 
@@ -12,10 +13,7 @@ use sysmem_image::Entry;
 use sysmem_sanitise::Platform;
 
 /// What is kept of each offer of the platform before any participant, in the platform's order.
-pub(crate) fn kept_offers(
-    alloc: Global,
-    platform: &Platform,
-) -> Result<Vec<KeptOffer>, AllocError>
+pub(crate) fn kept_offers(alloc: Global, platform: &Platform) -> Result<Vec<KeptOffer>, AllocError>
     ensures { IfOk result (λ kept. AreKept (offers_of platform.now) [] kept.items) }
 {
     let mut kept = Vec::new(alloc);
@@ -33,8 +31,16 @@ pub(crate) fn add_to_offers(kept: &mut [KeptOffer], platform: &Platform, entries
         → AreKept (offers_of platform.now) (ds ++ d ∷ []) kept.new }
 {
     for (index, one) in kept.iter_mut().enumerate() {
-        if let Some(offer) = offer_at(platform.pairs(), platform.colours(), index) {
-            one.add(&offer, entries);
-        }
+        add_to_offer(one, platform, index, entries);
+    }
+}
+
+/// Keeps what one more participant asks of the platform's offer at this index by its entries.
+fn add_to_offer(kept: &mut KeptOffer, platform: &Platform, index: usize, entries: &[Entry])
+    ensures { (o : Offer) (ds : List OfferDemand) (d : OfferDemand) → slice_get (offers_of platform.now) index ≡ Some o
+        → d.entries ≡ entries.now → IsKept o ds kept.old → IsKept o (ds ++ d ∷ []) kept.new }
+{
+    if let Some(offer) = offer_at(platform.pairs(), platform.colours(), index) {
+        kept.add(&offer, entries);
     }
 }
