@@ -1,5 +1,4 @@
-use borrow.Author.Count.{below_more}
-use Rattle.std.proofs.Common.{arith, ◌≡◌, Some, slice_get}
+use Rattle.std.proofs.Common.{arith, ◌≡◌, Some, slice_get, below_more}
 use Rattle.sysmem_formats.specs.declared.offer.Offer.{Offer}
 use Rattle.sysmem_merge.specs.Reasons.{IsOfferRefused}
 use Rattle.sysmem_sanitise.specs.Platform.{offers_of}
