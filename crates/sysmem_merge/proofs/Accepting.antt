@@ -1,7 +1,7 @@
 -- Whether one participant accepts an offer and bounds on its images, and settings with them.
-use Rattle.std.proofs.Common.{◌≡◌, ◌↔◌, ◌||◌, ◌==◌, ◌≤◌, Bool, true, false, List, length, Option, Some, None, IfSome, IfNone, not, IsTrue, slice_get, refl, sym, ap, ◌∙◌, subst}
+use Rattle.std.proofs.Common.{◌≡◌, ◌↔◌, ◌||◌, ◌==◌, ◌≤◌, Bool, true, false, length, Option, Some, None, IfSome, IfNone, not, IsTrue, slice_get, refl, sym, ap, ◌∙◌, subst}
 use Rattle.std.specs.Prelude.{is_some}
-use Rattle.std.proofs.Math.Bool.{or-false, or-true}
+use Rattle.std.proofs.Math.Bool.{or-true}
 use Rattle.std.proofs.lemmas.Option.{same_Some}
 use Rattle.sysmem_counts.specs.declared.field.Field.{Field}
 use Rattle.sysmem_counts.specs.declared.field.Field.TheVariants.{MinSize, MaxSize, SizeAlignment, MinBytesPerRow, MaxBytesPerRow, BytesPerRowDivisor, StartOffsetDivisor, DisplayRectAlignment, RequiredMinSize, RequiredMaxSize}
@@ -15,7 +15,7 @@ use Rattle.sysmem_memory.specs.PlaceTable.{AllowsPlace}
 use Rattle.sysmem_merge.specs.declared.settings.Settings.{Settings as Settled}
 use Rattle.sysmem_merge.specs.Demands.{OfferDemand, offer_demand}
 use Rattle.sysmem_merge.specs.Offers.{OnEntry, entry_takes_colour, AcceptsOffer}
-use Rattle.sysmem_merge.specs.Settings.{Covers, CoversOn}
+use Rattle.sysmem_merge.specs.Settings.{CoversOn}
 use Rattle.sysmem_sanitise.specs.Participant.{Participant}
 use Rattle.sysmem_sanitise.specs.Platform.{PlatformFacts}
 

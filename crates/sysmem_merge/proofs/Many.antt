@@ -1,5 +1,5 @@
 -- What is kept of each offer of a list.
-use Rattle.std.proofs.Common.{arith, ℕ, ◌+◌, ◌≡◌, ◌<◌, ◌≤◌, List, [], ◌∷◌, ◌++◌, inl, inr, Option, Some, None, length, slice_get, slice_set, refl, sym, ap, ◌∙◌, subst, below_more, length-append}
+use Rattle.std.proofs.Common.{arith, ℕ, ◌+◌, ◌≡◌, ◌<◌, ◌≤◌, List, [], ◌∷◌, ◌++◌, inl, inr, Option, Some, None, length, slice_get, slice_set, sym, ap, ◌∙◌, subst, below_more, length-append}
 use Rattle.std.proofs.lemmas.List.{length-set}
 use Rattle.std.proofs.lemmas.Option.{slice_get_within, slice_get_cases, same_Some}
 use Rattle.sysmem_formats.proofs.Places.{slice_get-append_left, slice_get-append_add}

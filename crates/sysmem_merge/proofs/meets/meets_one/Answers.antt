@@ -1,4 +1,4 @@
-use Rattle.std.proofs.Common.{sym, refl, ap, ◌∙◌}
+use Rattle.std.proofs.Common.{sym, refl, ◌∙◌}
 use Rattle.std.proofs.lemmas.Option.{slice_get_read}
 use Rattle.sysmem_merge.specs.Demands.{offer_demand}
 use Rattle.sysmem_merge.proofs.Accepting.{covers_when, covers_place, covers_size, covers_offer}

@@ -1,4 +1,4 @@
-use Rattle.std.proofs.Common.{arith, Some, None, slice_get, length, ◌≤◌, ◌<◌, ℕ}
+use Rattle.std.proofs.Common.{arith, Some, None, length, ◌<◌}
 use Rattle.std.proofs.lemmas.Option.{slice_get_within}
 use Rattle.sysmem_formats.specs.Offers.{offers}
 use Rattle.sysmem_merge.proofs.Many.{offer_read, new_more, new_all, none_past}

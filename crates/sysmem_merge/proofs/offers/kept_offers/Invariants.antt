@@ -1,4 +1,4 @@
-use Rattle.std.proofs.Common.{ℕ, ◌-◌, length}
+use Rattle.std.proofs.Common.{◌-◌, length}
 use Rattle.sysmem_formats.specs.Offers.{offers}
 use Rattle.sysmem_merge.proofs.Many.{AreNew}
 use Rattle.sysmem_merge.proofs.offers.kept_offers.Given as goal

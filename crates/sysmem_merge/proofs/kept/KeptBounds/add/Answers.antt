@@ -1,5 +1,4 @@
-use Rattle.std.proofs.Common.{sym, ◌∙◌, subst}
-use Rattle.sysmem_merge.specs.Aggregate.{AreKeptBounds}
+use Rattle.std.proofs.Common.{sym, ◌∙◌}
 use Rattle.sysmem_merge.specs.Offers.{bounds_asked}
 use Rattle.sysmem_merge.proofs.Keeping.{refused_line, merged_more, still_refused, kept_colourless}
 use Rattle.sysmem_merge.proofs.kept.KeptBounds.add.Goals as goal
