@@ -1,3 +1,3 @@
-mod Domains
-mod Heaps
 mod Members
+mod Names
+mod Platforms

@@ -1,25 +1,39 @@
 -- A reader's faults as a report prints them.
 use Rattle.std.specs.Prelude.{ℕ, ◌++◌, List, codes}
+use Rattle.sysmem_counts.specs.declared.field.Field.{Field}
+use Rattle.sysmem_counts.specs.Field.{field_name}
 use Rattle.sysmem_sanitise.specs.declared.fault.Code.{Code}
-use Rattle.sysmem_sanitise.specs.declared.fault.Code.TheVariants.{WrongKind, WantOfMemory}
+use Rattle.sysmem_sanitise.specs.declared.fault.Code.TheVariants.{NotAnObject, UnknownField, WrongKind, UnknownName, BadUsage, NoColourSpaces, BadMultiple, RepeatedPair, TooMany, RepeatedHeap, BadPlatformList, TiledMisfit, WantOfMemory}
 use Rattle.sysmem_sanitise.specs.declared.fault.Fault.{Fault}
 use Rattle.sysmem_sanitise.specs.declared.fault.Spot.{Spot}
-use Rattle.sysmem_sanitise.specs.declared.fault.Spot.TheVariants.{Whole}
+use Rattle.sysmem_sanitise.specs.declared.fault.Spot.TheVariants.{Whole, At}
 
 abbrev pub code_name : Code → List ℕ
+code_name NotAnObject = codes "S1"
+code_name UnknownField = codes "S2"
 code_name WrongKind = codes "S3"
+code_name UnknownName = codes "S4"
+code_name BadUsage = codes "S5"
+code_name NoColourSpaces = codes "S6"
+code_name BadMultiple = codes "S7"
+code_name RepeatedPair = codes "S8"
+code_name TooMany = codes "S9"
+code_name RepeatedHeap = codes "S10"
+code_name BadPlatformList = codes "S11"
+code_name TiledMisfit = codes "S12"
 code_name WantOfMemory = codes "S13"
 
 abbrev pub spot_name : Spot → List ℕ
 spot_name Whole = codes "whole"
+spot_name (At field) = field_name field
 
--- `S3 whole`
+-- `S3 id`
 abbrev pub fault_text : Fault → List ℕ
 fault_text fault = code_name fault.code ++ codes " " ++ spot_name fault.at
 
--- a record that the reader doesn't take
-abbrev pub not_taken : Fault
-not_taken = record { code = WrongKind; at = Whole }
+-- what is wrong with a field
+abbrev pub wrong : Code → Field → Fault
+wrong code field = record { code = code; at = At field }
 
 -- memory was refused while a record was read
 abbrev pub want_of_memory : Fault

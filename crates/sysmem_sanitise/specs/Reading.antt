@@ -2,5 +2,8 @@
 pub mod Constraints
 pub mod Fields
 pub mod Heaps
+pub mod Names
+pub mod Pairs
+pub mod Platform
 pub use Constraints.{participant_of}
-pub use Heaps.{platform_of}
+pub use Platform.{platform_of}

@@ -1,27 +1,61 @@
 //! What is wrong with a record that is read.
 
 ghost use Rattle.std.specs.Prelude.{◌≡◌, Some};
-ghost use Rattle.sysmem_sanitise.specs.Faults.{code_name, spot_name, fault_text, want_of_memory};
+ghost use Rattle.sysmem_sanitise.specs.Faults.{code_name, spot_name, fault_text, want_of_memory, wrong};
 
 use std::alloc::{AllocError, AllocFailed};
 use std::fmt;
+use sysmem_counts::Field;
 
 /// What kind of fault it is.
 #[derive(Clone, Copy, Debug, PartialEq, Eq)]
 pub enum Code {
+    /// A value that isn't an object, where one is due.
+    NotAnObject,
+    /// An object with a field that it can't have.
+    UnknownField,
     /// A value of the wrong kind or out of range, or a required field that is missing.
     WrongKind,
+    /// A name that names nothing.
+    UnknownName,
+    /// A usage that is missing, empty, or none together with another.
+    BadUsage,
+    /// An entry without colour spaces.
+    NoColourSpaces,
+    /// An alignment or a divisor that isn't from 1 to 65,536.
+    BadMultiple,
+    /// A pair of format and modifier that the participant gives twice.
+    RepeatedPair,
+    /// More than 64 entries or heaps.
+    TooMany,
+    /// A permitted heap that is given twice.
+    RepeatedHeap,
+    /// A list of a platform that is empty, or has an item twice.
+    BadPlatformList,
+    /// A tiled modifier with a format that isn't of 4 bytes.
+    TiledMisfit,
     /// Memory was refused.
     WantOfMemory,
 }
 
 impl Code {
-    /// The code as a report prints it: `S3`, `S13`.
+    /// The code as a report prints it: `S1` to `S13`.
     pub fn name(self) -> &'static str
         ensures { result.now ≡ code_name self }
     {
         match self {
+            Code::NotAnObject => "S1",
+            Code::UnknownField => "S2",
             Code::WrongKind => "S3",
+            Code::UnknownName => "S4",
+            Code::BadUsage => "S5",
+            Code::NoColourSpaces => "S6",
+            Code::BadMultiple => "S7",
+            Code::RepeatedPair => "S8",
+            Code::TooMany => "S9",
+            Code::RepeatedHeap => "S10",
+            Code::BadPlatformList => "S11",
+            Code::TiledMisfit => "S12",
             Code::WantOfMemory => "S13",
         }
     }
@@ -32,15 +66,18 @@ impl Code {
 pub enum Spot {
     /// The record as a whole.
     Whole,
+    /// A field, or the object that it holds.
+    At(Field),
 }
 
 impl Spot {
-    /// The spot as a report prints it: `whole`.
+    /// The spot as a report prints it: `whole`, or the field's name.
     pub fn name(self) -> &'static str
         ensures { result.now ≡ spot_name self }
     {
         match self {
             Spot::Whole => "whole",
+            Spot::At(field) => field.name(),
         }
     }
 }
@@ -53,20 +90,24 @@ pub struct Fault {
 }
 
 impl Fault {
-    /// The record isn't one that the reader takes.
-    pub(crate) const NOT_TAKEN: Fault = Fault {
-        code: Code::WrongKind,
-        at: Spot::Whole,
-    };
-
     /// Memory was refused while the record was read.
     pub const WANT_OF_MEMORY: Fault = Fault {
         code: Code::WantOfMemory,
         at: Spot::Whole,
     };
+
+    /// What is wrong with a field.
+    pub(crate) fn of(code: Code, field: Field) -> Fault
+        ensures { result ≡ wrong code field }
+    {
+        Fault {
+            code,
+            at: Spot::At(field),
+        }
+    }
 }
 
-/// The fault as a report prints it: `S3 whole`.
+/// The fault as a report prints it: `S3 id`.
 impl fmt::Display for Fault {
     ghost output = { λ fault. Some (fault_text fault) };
 

@@ -3,7 +3,10 @@
 mod constraints;
 mod field;
 mod heap;
+mod heap_info;
 mod memory;
+mod name;
+mod pair;
 mod platform;
 mod usage;
 

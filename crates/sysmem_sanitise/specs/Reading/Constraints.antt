@@ -1,8 +1,7 @@
 -- What a participant's record says.
-use Rattle.std.specs.Prelude.{◌-◌, ◌^◌, ◌||◌, ◌==◌, List, [], ◌∷◌, Bool, true, false, not, Result, Ok, ok_or}
+use Rattle.std.specs.Prelude.{◌-◌, ◌^◌, ◌&&◌, ◌||◌, ◌==◌, List, [], ◌∷◌, Bool, true, false, not, Result, Ok, ok_or}
 use Rattle.std.specs.Int.RustNames.{bit_and, bit_or}
 use Rattle.serde_json.specs.Data.{Data}
-use Rattle.serde_json.specs.Find.{as_str}
 use Rattle.sysmem_counts.specs.declared.constraints.CountConstraints.{CountConstraints}
 use Rattle.sysmem_counts.specs.declared.field.Field.{Field}
 use Rattle.sysmem_counts.specs.declared.field.Field.TheVariants as field
@@ -10,28 +9,33 @@ use Rattle.sysmem_counts.specs.declared.usage.Usage.{Usage}
 use Rattle.sysmem_counts.specs.Families.{family_named}
 use Rattle.sysmem_counts.specs.Usage.{usage_bits}
 use Rattle.sysmem_memory.specs.Wishes.{MemoryWishes, no_wishes}
+use Rattle.sysmem_sanitise.specs.declared.fault.Code.TheVariants as code
 use Rattle.sysmem_sanitise.specs.declared.fault.Fault.{Fault}
-use Rattle.sysmem_sanitise.specs.Faults.{not_taken}
+use Rattle.sysmem_sanitise.specs.declared.fault.Spot.TheVariants.{Whole, At}
+use Rattle.sysmem_sanitise.specs.Faults.{wrong}
 use Rattle.sysmem_sanitise.specs.Participant.{Participant}
-use Rattle.sysmem_sanitise.specs.Reading.Fields.{◌>>=◌, passing, read_each, has_only, optional, required, number_or, flag_or, filled_list_of}
+use Rattle.sysmem_sanitise.specs.Reading.Fields.{◌>>=◌, passing, read_each, object_of, optional, stated, number_or, flag_or, list_of, named}
+use Rattle.sysmem_sanitise.specs.Reading.Heaps.{permitted_of}
+
+abbrev pub no_usage : Usage
+no_usage = record { 0 = 0 }
 
 -- a usage, and the family that an item names; a repeated one counts once
 abbrev pub with_family : Usage → Data → Result Usage Fault
 with_family usage d = do
-  name ← ok_or (as_str d) not_taken
-  family ← ok_or (family_named name) not_taken
+  family ← named family_named field.Usage d
   Ok (record { 0 = bit_or (usage_bits usage) family })
 
--- none is alone, or absent
+-- some families, and none alone or absent
 abbrev pub is_usage : Usage → Bool
-is_usage usage = usage_bits usage == 1 || not (bit_and (usage_bits usage) 1 == 1)
+is_usage usage = usage_bits usage == 1 || (not (usage_bits usage == 0) && not (bit_and (usage_bits usage) 1 == 1))
 
--- a list of families that isn't empty
+-- a list of families
 abbrev pub usage_of : Data → Result Usage Fault
 usage_of d = do
-  items ← filled_list_of d
-  usage ← read_each with_family (record { 0 = 0 }) items
-  passing is_usage usage
+  items ← list_of field.Usage d
+  usage ← read_each with_family no_usage items
+  passing (wrong code.BadUsage field.Usage) is_usage usage
 
 abbrev pub counts_of : Data → Result CountConstraints Fault
 counts_of d = do
@@ -50,25 +54,29 @@ counts_of d = do
 
 -- the fields of memory constraints
 abbrev pub memory_fields : List Field
-memory_fields = field.MinSizeBytes ∷ field.MaxSizeBytes ∷ field.CpuDomainSupported ∷ field.RamDomainSupported ∷ field.InaccessibleDomainSupported ∷ []
+memory_fields = field.MinSizeBytes ∷ field.MaxSizeBytes ∷ field.PhysicallyContiguousRequired ∷ field.SecureRequired
+    ∷ field.CpuDomainSupported ∷ field.RamDomainSupported ∷ field.InaccessibleDomainSupported ∷ field.PermittedHeaps ∷ []
 
 abbrev pub memory_of : Data → Result MemoryWishes Fault
 memory_of d = do
-  _ ← passing (has_only memory_fields) d
+  _ ← object_of (At field.BufferMemoryConstraints) memory_fields d
   min_size ← number_or field.MinSizeBytes 0 (2 ^ 64 - 1) d
   max_size ← number_or field.MaxSizeBytes (2 ^ 64 - 1) (2 ^ 64 - 1) d
+  contiguous ← flag_or field.PhysicallyContiguousRequired false d
+  secure ← flag_or field.SecureRequired false d
   cpu ← flag_or field.CpuDomainSupported true d
   ram ← flag_or field.RamDomainSupported false d
   inaccessible ← flag_or field.InaccessibleDomainSupported false d
+  heaps ← optional field.PermittedHeaps [] permitted_of d
   Ok (record {
     min_size_bytes = min_size;
     max_size_bytes = max_size;
-    physically_contiguous_required = false;
-    secure_required = false;
+    physically_contiguous_required = contiguous;
+    secure_required = secure;
     cpu_domain_supported = cpu;
     ram_domain_supported = ram;
     inaccessible_domain_supported = inaccessible;
-    permitted_heaps = [];
+    permitted_heaps = heaps;
   })
 
 -- the fields of a participant's constraints
@@ -79,8 +87,8 @@ constraints_fields = field.Usage ∷ field.MinBufferCountForCamping ∷ field.Mi
 -- the participant that a value states
 abbrev pub participant_of : Data → Result Participant Fault
 participant_of d = do
-  _ ← passing (has_only constraints_fields) d
-  usage ← required field.Usage usage_of d
+  _ ← object_of Whole constraints_fields d
+  usage ← stated code.BadUsage field.Usage d >>= usage_of
   counts ← counts_of d
   memory ← optional field.BufferMemoryConstraints no_wishes memory_of d
   Ok (record { usage = usage; counts = counts; memory = memory; entries = [] })

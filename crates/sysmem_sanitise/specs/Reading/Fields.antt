@@ -1,12 +1,15 @@
--- Reading one field of a record: the value that it states, or a fault.
+-- Reading one field of a record: the value that it states, or what is wrong with it.
 use Rattle.std.specs.Prelude.{◌≡◌, ◌≢◌, ℕ, List, [], ◌∷◌, Bool, true, false, Option, Some, None, Result, Ok, Err, nat_le, bytes_eq, ok_or, option_and_then, if◌then◌else◌}
 use Rattle.std.specs.List.{list_all, list_any}
 use Rattle.serde_json.specs.Data.{Data, object, Items, no_items, item, Members, no_members, member}
-use Rattle.serde_json.specs.Find.{get, as_array, as_bool, as_number, as_u64}
+use Rattle.serde_json.specs.Find.{get, as_array, as_bool, as_number, as_str, as_u64}
 use Rattle.sysmem_counts.specs.declared.field.Field.{Field}
 use Rattle.sysmem_counts.specs.Field.{field_name}
+use Rattle.sysmem_sanitise.specs.declared.fault.Code.{Code}
+use Rattle.sysmem_sanitise.specs.declared.fault.Code.TheVariants.{NotAnObject, UnknownField, WrongKind, UnknownName}
 use Rattle.sysmem_sanitise.specs.declared.fault.Fault.{Fault}
-use Rattle.sysmem_sanitise.specs.Faults.{not_taken, want_of_memory}
+use Rattle.sysmem_sanitise.specs.declared.fault.Spot.{Spot}
+use Rattle.sysmem_sanitise.specs.Faults.{wrong, want_of_memory}
 
 infixl 10 ◌>>=◌
 -- what is read, and then what comes after it, up to the first fault
@@ -15,8 +18,8 @@ Ok a >>= next = next a
 Err fault >>= next = Err fault
 
 -- what was read, if it passes the test
-abbrev pub passing : {A : Type 0} → (A → Bool) → A → Result A Fault
-passing test a = if test a then Ok a else Err not_taken
+abbrev pub passing : {A : Type 0} → Fault → (A → Bool) → A → Result A Fault
+passing fault test a = if test a then Ok a else Err fault
 
 -- a key that names one of these fields
 unfoldable pub is_named : List Field → List ℕ → Bool
@@ -26,55 +29,59 @@ abbrev pub keys_of : Members → List (List ℕ)
 keys_of no_members = []
 keys_of (member key value ms) = key ∷ keys_of ms
 
--- an object that has no other fields than these
-abbrev pub has_only : List Field → Data → Bool
-has_only fields (object ms) = list_all (is_named fields) (keys_of ms)
-has_only fields _ = false
+-- an object at a spot, with no other fields than these
+abbrev pub object_of : Spot → List Field → Data → Result Data Fault
+object_of spot fields (object ms) =
+    if list_all (is_named fields) (keys_of ms) then Ok (object ms)
+    else Err (record { code = UnknownField; at = spot })
+object_of spot fields _ = Err (record { code = NotAnObject; at = spot })
 
--- the value of a field that may be missing
-abbrev pub read_or : {A : Type 0} → A → (Data → Result A Fault) → Option Data → Result A Fault
-read_or absent read None = Ok absent
+-- what a value reads as, or what stands for a missing one
+abbrev pub read_or : {A : Type 0} → Result A Fault → (Data → Result A Fault) → Option Data → Result A Fault
+read_or absent read None = absent
 read_or absent read (Some d) = read d
 
 -- a field that a record may leave out
 abbrev pub optional : {A : Type 0} → Field → A → (Data → Result A Fault) → Data → Result A Fault
-optional field absent read d = read_or absent read (get (field_name field) d)
+optional field absent read d = read_or (Ok absent) read (get (field_name field) d)
 
--- the value of a field that a record must have
-abbrev pub stated : Field → Data → Result Data Fault
-stated field d = ok_or (get (field_name field) d) not_taken
+-- the value of a field that a record must have, and the code of its want
+abbrev pub stated : Code → Field → Data → Result Data Fault
+stated code field d = ok_or (get (field_name field) d) (wrong code field)
 
 -- a field that a record must have
 abbrev pub required : {A : Type 0} → Field → (Data → Result A Fault) → Data → Result A Fault
-required field read d = stated field d >>= read
+required field read d = stated WrongKind field d >>= read
 
 -- a whole number from 0 to the greatest
-abbrev pub number_to : ℕ → Data → Result ℕ Fault
-number_to greatest d = do
-  n ← ok_or (option_and_then as_u64 (as_number d)) not_taken
-  passing (λ n. nat_le n greatest) n
+abbrev pub number_of : Field → ℕ → Data → Result ℕ Fault
+number_of field greatest d = do
+  n ← ok_or (option_and_then as_u64 (as_number d)) (wrong WrongKind field)
+  passing (wrong WrongKind field) (λ n. nat_le n greatest) n
 
 abbrev pub number_or : Field → ℕ → ℕ → Data → Result ℕ Fault
-number_or field absent greatest d = optional field absent (number_to greatest) d
+number_or field absent greatest d = optional field absent (number_of field greatest) d
 
 -- true or false
-abbrev pub flag_of : Data → Result Bool Fault
-flag_of d = ok_or (as_bool d) not_taken
+abbrev pub flag_of : Field → Data → Result Bool Fault
+flag_of field d = ok_or (as_bool d) (wrong WrongKind field)
 
 abbrev pub flag_or : Field → Bool → Data → Result Bool Fault
-flag_or field absent d = optional field absent flag_of d
+flag_or field absent d = optional field absent (flag_of field) d
+
+-- any text
+abbrev pub text_of : Field → Data → Result (List ℕ) Fault
+text_of field d = ok_or (as_str d) (wrong WrongKind field)
+
+-- a text that names something
+abbrev pub named : {A : Type 0} → (List ℕ → Option A) → Field → Data → Result A Fault
+named find field d = do
+  name ← text_of field d
+  ok_or (find name) (wrong UnknownName field)
 
 -- a list of any items
-abbrev pub list_of : Data → Result Items Fault
-list_of d = ok_or (as_array d) not_taken
-
-abbrev pub has_items : Items → Bool
-has_items no_items = false
-has_items (item d ds) = true
-
--- a list that isn't empty
-abbrev pub filled_list_of : Data → Result Items Fault
-filled_list_of d = list_of d >>= passing has_items
+abbrev pub list_of : Field → Data → Result Items Fault
+list_of field d = ok_or (as_array d) (wrong WrongKind field)
 
 -- a list read item by item, each with what was read before it
 abbrev pub read_each : {S : Type 0} → (S → Data → Result S Fault) → S → Items → Result S Fault

@@ -1,19 +1,20 @@
--- What a platform's record says.
-use Rattle.std.specs.Prelude.{ℕ, ◌-◌, ◌^◌, ◌&&◌, ◌||◌, ◌++◌, List, [], ◌∷◌, length, Bool, true, false, not, Option, Some, None, Result, Ok, nat_eq, nat_le, nat_lt, bytes_eq, ok_or, if◌then◌else◌}
+-- What a heap's name says, and what a platform's heap says.
+use Rattle.std.specs.Prelude.{ℕ, ◌-◌, ◌^◌, ◌&&◌, ◌||◌, ◌++◌, ◌==◌, List, [], ◌∷◌, length, Bool, true, false, not, Result, Ok, nat_eq, nat_le, nat_lt}
 use Rattle.std.specs.List.{list_all, list_any}
 use Rattle.serde_json.specs.Data.{Data}
-use Rattle.serde_json.specs.Find.{as_str}
 use Rattle.sysmem_counts.specs.declared.field.Field.{Field}
 use Rattle.sysmem_counts.specs.declared.field.Field.TheVariants as field
 use Rattle.sysmem_memory.specs.declared.domain.CoherencyDomain.{CoherencyDomain}
 use Rattle.sysmem_memory.specs.declared.domain.CoherencyDomain.TheVariants.{Cpu, Ram, Inaccessible}
 use Rattle.sysmem_memory.specs.declared.domain.CoherencyDomains.{CoherencyDomains}
-use Rattle.sysmem_memory.specs.Domain.{domain_name, has_domain}
-use Rattle.sysmem_memory.specs.Heap.{HeapFacts, same_heap}
+use Rattle.sysmem_memory.specs.Domain.{has_domain}
+use Rattle.sysmem_memory.specs.Heap.{HeapName, HeapFacts, same_heap}
+use Rattle.sysmem_sanitise.specs.declared.fault.Code.TheVariants as code
 use Rattle.sysmem_sanitise.specs.declared.fault.Fault.{Fault}
-use Rattle.sysmem_sanitise.specs.Faults.{not_taken}
-use Rattle.sysmem_sanitise.specs.Platform.{PlatformFacts}
-use Rattle.sysmem_sanitise.specs.Reading.Fields.{◌>>=◌, passing, read_each, has_only, required, number_or, flag_or, list_of, filled_list_of}
+use Rattle.sysmem_sanitise.specs.declared.fault.Spot.TheVariants.{At}
+use Rattle.sysmem_sanitise.specs.Faults.{wrong}
+use Rattle.sysmem_sanitise.specs.Reading.Fields.{◌>>=◌, passing, read_each, object_of, required, number_or, flag_or, text_of, list_of, named}
+use Rattle.sysmem_sanitise.specs.Reading.Names.{domain_named}
 
 -- an ASCII letter or digit, `.`, `_` or `-`
 abbrev pub is_heap_byte : ℕ → Bool
@@ -25,16 +26,15 @@ is_heap_type text = nat_le 1 (length text) && nat_le (length text) 128 && list_a
 
 abbrev pub heap_type_of : Data → Result (List ℕ) Fault
 heap_type_of d = do
-  text ← ok_or (as_str d) not_taken
-  passing is_heap_type text
+  text ← text_of field.HeapType d
+  passing (wrong code.WrongKind field.HeapType) is_heap_type text
 
--- the domain of this name
-abbrev pub domain_named : List ℕ → Option CoherencyDomain
-domain_named name =
-    if bytes_eq (domain_name Cpu) name then Some Cpu
-    else if bytes_eq (domain_name Ram) name then Some Ram
-    else if bytes_eq (domain_name Inaccessible) name then Some Inaccessible
-    else None
+-- the name of a heap: its type, and its id
+abbrev pub heap_name_of : Data → Result HeapName Fault
+heap_name_of d = do
+  heap_type ← required field.HeapType heap_type_of d
+  id ← number_or field.Id 0 (2 ^ 64 - 1) d
+  Ok (record { heap_type = heap_type; id = id })
 
 abbrev pub no_domains : CoherencyDomains
 no_domains = record { cpu = false; ram = false; inaccessible = false }
@@ -48,14 +48,19 @@ with_domain s Inaccessible = record s { inaccessible = true }
 -- the set, and the domain that an item names, which isn't there yet
 abbrev pub with_named : CoherencyDomains → Data → Result CoherencyDomains Fault
 with_named s d = do
-  name ← ok_or (as_str d) not_taken
-  domain ← ok_or (domain_named name) not_taken
-  new ← passing (λ domain. not (has_domain s domain)) domain
+  domain ← named domain_named field.Domains d
+  new ← passing (wrong code.BadPlatformList field.Domains) (λ domain. not (has_domain s domain)) domain
   Ok (with_domain s new)
+
+abbrev pub has_domains : CoherencyDomains → Bool
+has_domains s = s.cpu || s.ram || s.inaccessible
 
 -- a list of domains that isn't empty, with none twice
 abbrev pub domains_of : Data → Result CoherencyDomains Fault
-domains_of d = filled_list_of d >>= read_each with_named no_domains
+domains_of d = do
+  items ← list_of field.Domains d
+  domains ← read_each with_named no_domains items
+  passing (wrong code.BadPlatformList field.Domains) has_domains domains
 
 -- the fields of a platform's heap
 abbrev pub heap_fields : List Field
@@ -63,42 +68,55 @@ heap_fields = field.HeapType ∷ field.Id ∷ field.Contiguous ∷ field.Secure 
 
 abbrev pub heap_of : Data → Result HeapFacts Fault
 heap_of d = do
-  _ ← passing (has_only heap_fields) d
-  heap_type ← required field.HeapType heap_type_of d
-  id ← number_or field.Id 0 (2 ^ 64 - 1) d
+  _ ← object_of (At field.Heaps) heap_fields d
+  heap ← heap_name_of d
   contiguous ← flag_or field.Contiguous false d
   secure ← flag_or field.Secure false d
   domains ← required field.Domains domains_of d
-  Ok (record { heap = record { heap_type = heap_type; id = id }; contiguous = contiguous; secure = secure; domains = domains })
+  Ok (record { heap = heap; contiguous = contiguous; secure = secure; domains = domains })
 
 -- the heap is among these
 abbrev pub has_heap : List HeapFacts → HeapFacts → Bool
 has_heap heaps new = list_any (λ h. same_heap h.heap new.heap) heaps
 
--- there is room for the heap, and it isn't there yet
-abbrev pub may_join : List HeapFacts → HeapFacts → Bool
-may_join heaps new = nat_lt (length heaps) 64 && not (has_heap heaps new)
-
--- the heaps, and the one that an item states
+-- the heaps, and the one that an item states: the 65th is refused before a repeated one
 abbrev pub with_heap : List HeapFacts → Data → Result (List HeapFacts) Fault
 with_heap heaps d = do
   heap ← heap_of d
-  new ← passing (may_join heaps) heap
+  roomy ← passing (wrong code.TooMany field.Heaps) (λ _. nat_lt (length heaps) 64) heap
+  new ← passing (wrong code.BadPlatformList field.Heaps) (λ heap. not (has_heap heaps heap)) roomy
   Ok (heaps ++ new ∷ [])
 
 -- a list of heaps that isn't empty: at most 64, and none twice
 abbrev pub heaps_of : Data → Result (List HeapFacts) Fault
-heaps_of d = filled_list_of d >>= read_each with_heap []
+heaps_of d = do
+  items ← list_of field.Heaps d
+  heaps ← read_each with_heap [] items
+  passing (wrong code.BadPlatformList field.Heaps) (λ heaps. not (length heaps == 0)) heaps
 
--- the fields of a platform
-abbrev pub platform_fields : List Field
-platform_fields = field.Heaps ∷ field.Pairs ∷ field.ColorSpaces ∷ []
+-- the fields of a permitted heap
+abbrev pub name_fields : List Field
+name_fields = field.HeapType ∷ field.Id ∷ []
 
--- the platform that a value states; the pairs and the colour spaces are lists
-abbrev pub platform_of : Data → Result PlatformFacts Fault
-platform_of d = do
-  _ ← passing (has_only platform_fields) d
-  heaps ← required field.Heaps heaps_of d
-  _ ← required field.Pairs list_of d
-  _ ← required field.ColorSpaces list_of d
-  Ok (record { heaps = heaps; pairs = []; colours = [] })
+abbrev pub permitted_heap : Data → Result HeapName Fault
+permitted_heap d = do
+  _ ← object_of (At field.PermittedHeaps) name_fields d
+  heap_name_of d
+
+-- the heap is among these
+abbrev pub permits : List HeapName → HeapName → Bool
+permits heaps new = list_any (λ h. same_heap h new) heaps
+
+-- the permitted heaps, and the one that an item states: the 65th is refused before a repeated one
+abbrev pub with_permitted : List HeapName → Data → Result (List HeapName) Fault
+with_permitted heaps d = do
+  heap ← permitted_heap d
+  roomy ← passing (wrong code.TooMany field.PermittedHeaps) (λ _. nat_lt (length heaps) 64) heap
+  new ← passing (wrong code.RepeatedHeap field.PermittedHeaps) (λ heap. not (permits heaps heap)) roomy
+  Ok (heaps ++ new ∷ [])
+
+-- a list of at most 64 heaps, with none twice; an empty list permits every heap
+abbrev pub permitted_of : Data → Result (List HeapName) Fault
+permitted_of d = do
+  items ← list_of field.PermittedHeaps d
+  read_each with_permitted [] items

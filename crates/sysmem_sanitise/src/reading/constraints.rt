@@ -4,12 +4,13 @@ ghost use Rattle.std.specs.Prelude.{◌≡◌, ◌≢◌, Ok, Err, IfOk, IfErr};
 ghost use Rattle.serde_json.specs.View.{view};
 ghost use Rattle.sysmem_sanitise.specs.Faults.{want_of_memory};
 ghost use Rattle.sysmem_sanitise.specs.Reading.Constraints.{counts_of, participant_of};
+ghost use Rattle.sysmem_sanitise.specs.Reading.Fields.{Answers};
 
-use super::field::{count_or, has_only, stated};
+use super::field::{count_or, expect_object, stated};
 use super::memory::memory_in;
 use super::usage::usage_of;
 use crate::constraints::Constraints;
-use crate::fault::Fault;
+use crate::fault::{Code, Fault, Spot};
 use serde_json::Value;
 use std::alloc::Global;
 use sysmem_counts::{CountConstraints, Field};
@@ -35,7 +36,7 @@ fn counts_of(object: &Value) -> Result<CountConstraints, Fault>
 }
 
 fn participant_of(alloc: Global, object: &Value) -> Result<Constraints, Fault>
-    ensures { result ≡ participant_of (view object.now) }
+    ensures { Answers (participant_of (view object.now)) result }
 {
     let fields = [
         Field::Usage,
@@ -46,10 +47,8 @@ fn participant_of(alloc: Global, object: &Value) -> Result<Constraints, Fault>
         Field::MaxBufferCount,
         Field::BufferMemoryConstraints,
     ];
-    if !has_only(object, &fields) {
-        return Err(Fault::NOT_TAKEN);
-    }
-    let usage = usage_of(stated(object, Field::Usage)?)?;
+    expect_object(object, Spot::Whole, &fields)?;
+    let usage = usage_of(stated(object, Code::BadUsage, Field::Usage)?)?;
     let counts = counts_of(object)?;
     let memory = memory_in(alloc, object)?;
     Ok(Constraints::new(usage, counts, memory, Vec::new(alloc)))

@@ -4,9 +4,9 @@ ghost use Rattle.std.specs.Prelude.{◌≡◌, ◌-◌, ◌^◌, ◌≤◌, ok_o
 ghost use Rattle.std.specs.List.{list_all};
 ghost use Rattle.serde_json.specs.View.{view, items_view, members_view};
 ghost use Rattle.sysmem_counts.specs.Field.{field_name};
-ghost use Rattle.sysmem_sanitise.specs.Reading.Fields.{keys_of, has_only, is_named, number_to, number_or, flag_or, stated, list_of, filled_list_of, seen_by};
+ghost use Rattle.sysmem_sanitise.specs.Reading.Fields.{keys_of, object_of, is_named, number_of, number_or, flag_or, stated, text_of, list_of, seen_by};
 
-use crate::fault::Fault;
+use crate::fault::{Code, Fault, Spot};
 use serde_json::{Map, Value};
 use sysmem_counts::Field;
 
@@ -24,33 +24,47 @@ fn are_named(members: &Map<String, Value>, fields: &[Field]) -> bool
     members.keys().all(|key| is_named(key.as_str(), fields))
 }
 
-/// Whether the value is an object that has no other fields than these.
-pub(super) fn has_only(value: &Value, fields: &[Field]) -> bool
-    ensures { result ≡ has_only fields.now (view value.now) }
+/// Whether the value is an object that has no other fields than these; else the fault at its spot.
+pub(super) fn expect_object(value: &Value, at: Spot, fields: &[Field]) -> Result<(), Fault>
+    ensures { seen_by (λ _. view value.now) result ≡ object_of at fields.now (view value.now) }
 {
     match value.as_object() {
-        Some(members) => are_named(members, fields),
-        None => false,
+        None => Err(Fault {
+            code: Code::NotAnObject,
+            at,
+        }),
+        Some(members) => {
+            if are_named(members, fields) {
+                Ok(())
+            } else {
+                Err(Fault {
+                    code: Code::UnknownField,
+                    at,
+                })
+            }
+        }
     }
 }
 
-/// The value of a field that the record must have.
-pub(super) fn stated(object: &Value, field: Field) -> Result<&Value, Fault>
-    ensures { seen_by (λ value. view value.now) result ≡ stated field (view object.now) }
+/// The value of a field that the record must have, or the code of its want.
+pub(super) fn stated(object: &Value, code: Code, field: Field) -> Result<&Value, Fault>
+    ensures { seen_by (λ value. view value.now) result ≡ stated code field (view object.now) }
 {
-    object.get(field.name()).ok_or(Fault::NOT_TAKEN)
-}
-
-fn number_to(value: &Value, greatest: u64) -> Result<u64, Fault>
-    ensures { result ≡ number_to greatest (view value.now) }
-{
-    match value.as_u64() {
-        Some(number) if number <= greatest => Ok(number),
-        _ => Err(Fault::NOT_TAKEN),
-    }
+    object.get(field.name()).ok_or(Fault::of(code, field))
 }
 
 /// A whole number from 0 to the greatest.
+pub(super) fn number_of(value: &Value, field: Field, greatest: u64) -> Result<u64, Fault>
+    ensures read { result ≡ number_of field greatest (view value.now) }
+    ensures fits { IfOk result (λ number. number ≤ greatest) }
+{
+    match value.as_u64() {
+        Some(number) if number <= greatest => Ok(number),
+        _ => Err(Fault::of(Code::WrongKind, field)),
+    }
+}
+
+/// A whole number from 0 to the greatest, or what a record without it has.
 pub(super) fn number_or(
     object: &Value,
     field: Field,
@@ -62,7 +76,7 @@ pub(super) fn number_or(
 {
     match object.get(field.name()) {
         None => Ok(absent),
-        Some(value) => number_to(value, greatest),
+        Some(value) => number_of(value, field, greatest),
     }
 }
 
@@ -80,28 +94,23 @@ pub(super) fn flag_or(object: &Value, field: Field, absent: bool) -> Result<bool
 {
     match object.get(field.name()) {
         None => Ok(absent),
-        Some(value) => value.as_bool().ok_or(Fault::NOT_TAKEN),
+        Some(value) => value.as_bool().ok_or(Fault::of(Code::WrongKind, field)),
     }
+}
+
+/// Any text.
+pub(super) fn text_of(value: &Value, field: Field) -> Result<&str, Fault>
+    ensures { seen_by (λ text. text.now) result ≡ text_of field (view value.now) }
+{
+    value.as_str().ok_or(Fault::of(Code::WrongKind, field))
 }
 
 /// A list of any items.
-pub(super) fn list_of(value: &Value) -> Result<&[Value], Fault>
-    ensures { seen_by (λ list. items_view list.now) result ≡ list_of (view value.now) }
+pub(super) fn list_of(value: &Value, field: Field) -> Result<&[Value], Fault>
+    ensures { seen_by (λ list. items_view list.now) result ≡ list_of field (view value.now) }
 {
     match value.as_array() {
         Some(list) => Ok(list.as_slice()),
-        None => Err(Fault::NOT_TAKEN),
+        None => Err(Fault::of(Code::WrongKind, field)),
     }
-}
-
-/// A list that isn't empty.
-#[tactic(auto, using(crate::proofs::Members::items_rules))]
-pub(super) fn filled_list_of(value: &Value) -> Result<&[Value], Fault>
-    ensures { seen_by (λ list. items_view list.now) result ≡ filled_list_of (view value.now) }
-{
-    let list = list_of(value)?;
-    if list.is_empty() {
-        return Err(Fault::NOT_TAKEN);
-    }
-    Ok(list)
 }

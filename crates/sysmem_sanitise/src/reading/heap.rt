@@ -1,17 +1,17 @@
-//! Reads a heap of a platform.
+//! Reads the name of a heap, and a list of permitted heaps.
 
-ghost use Rattle.std.specs.Prelude.{◌≡◌};
+ghost use Rattle.std.specs.Prelude.{◌≡◌, []};
 ghost use Rattle.std.specs.List.{list_all};
 ghost use Rattle.serde_json.specs.View.{view, items_view};
 ghost use Rattle.sysmem_sanitise.specs.Reading.Fields.{seen_by, read_each, Answers};
-ghost use Rattle.sysmem_sanitise.specs.Reading.Heaps.{is_heap_byte, is_heap_type, heap_type_of, domain_named, domains_of, heap_of, no_domains, with_domain, with_named};
+ghost use Rattle.sysmem_sanitise.specs.Reading.Heaps.{is_heap_byte, is_heap_type, heap_type_of, heap_name_of, permits, permitted_heap, with_permitted, permitted_of};
 
-use super::field::{filled_list_of, flag_or, has_only, number_or, stated};
-use crate::fault::Fault;
+use super::field::{expect_object, list_of, number_or, stated, text_of};
+use crate::fault::{Code, Fault, Spot};
 use serde_json::Value;
 use std::alloc::Global;
 use sysmem_counts::Field;
-use sysmem_memory::{CoherencyDomain, CoherencyDomains, Heap, HeapInfo};
+use sysmem_memory::Heap;
 
 fn is_heap_byte(byte: u8) -> bool
     ensures { result ≡ is_heap_byte byte }
@@ -34,89 +34,69 @@ fn is_heap_type(text: &str) -> bool
 fn heap_type_of(value: &Value) -> Result<&str, Fault>
     ensures { seen_by (λ text. text.now) result ≡ heap_type_of (view value.now) }
 {
-    let text = value.as_str().ok_or(Fault::NOT_TAKEN)?;
+    let text = text_of(value, Field::HeapType)?;
     if is_heap_type(text) {
         Ok(text)
     } else {
-        Err(Fault::NOT_TAKEN)
+        Err(Fault::of(Code::WrongKind, Field::HeapType))
     }
 }
 
-fn domain_named(name: &str) -> Option<CoherencyDomain>
-    ensures { result ≡ domain_named name.now }
+/// The type and the id of a heap.
+pub(super) fn heap_name_of(alloc: Global, object: &Value) -> Result<Heap, Fault>
+    ensures { Answers (heap_name_of (view object.now)) result }
 {
-    CoherencyDomain::from_name(name)
-}
-
-fn with_domain(mut domains: CoherencyDomains, domain: CoherencyDomain) -> CoherencyDomains
-    ensures { result ≡ with_domain domains domain }
-{
-    match domain {
-        CoherencyDomain::Cpu => domains.cpu = true,
-        CoherencyDomain::Ram => domains.ram = true,
-        CoherencyDomain::Inaccessible => domains.inaccessible = true,
-    }
-    domains
-}
-
-fn with_named(domains: CoherencyDomains, value: &Value) -> Result<CoherencyDomains, Fault>
-    ensures { result ≡ with_named domains (view value.now) }
-{
-    let name = value.as_str().ok_or(Fault::NOT_TAKEN)?;
-    let domain = domain_named(name).ok_or(Fault::NOT_TAKEN)?;
-    if domains.has(domain) {
-        return Err(Fault::NOT_TAKEN);
-    }
-    Ok(with_domain(domains, domain))
-}
-
-fn domains_in(list: &[Value]) -> Result<CoherencyDomains, Fault>
-    ensures { result ≡ read_each with_named no_domains (items_view list.now) }
-{
-    let mut domains = CoherencyDomains {
-        cpu: false,
-        ram: false,
-        inaccessible: false,
-    };
-    for value in list {
-        domains = with_named(domains, value)?;
-    }
-    Ok(domains)
-}
-
-fn domains_of(value: &Value) -> Result<CoherencyDomains, Fault>
-    ensures { result ≡ domains_of (view value.now) }
-{
-    domains_in(filled_list_of(value)?)
-}
-
-/// A platform's heap.
-pub(super) fn heap_of(alloc: Global, object: &Value) -> Result<HeapInfo, Fault>
-    ensures { Answers (heap_of (view object.now)) result }
-{
-    let fields = [
-        Field::HeapType,
-        Field::Id,
-        Field::Contiguous,
-        Field::Secure,
-        Field::Domains,
-    ];
-    if !has_only(object, &fields) {
-        return Err(Fault::NOT_TAKEN);
-    }
-    let heap_type = heap_type_of(stated(object, Field::HeapType)?)?;
+    let heap_type = heap_type_of(stated(object, Code::WrongKind, Field::HeapType)?)?;
     let id = number_or(object, Field::Id, 0, u64::MAX)?;
-    let contiguous = flag_or(object, Field::Contiguous, false)?;
-    let secure = flag_or(object, Field::Secure, false)?;
-    let domains = domains_of(stated(object, Field::Domains)?)?;
-    let heap = Heap {
+    Ok(Heap {
         heap_type: String::from_str(alloc, heap_type)?,
         id,
-    };
-    Ok(HeapInfo {
-        heap,
-        contiguous,
-        secure,
-        domains,
     })
+}
+
+fn permitted_heap(alloc: Global, object: &Value) -> Result<Heap, Fault>
+    ensures { Answers (permitted_heap (view object.now)) result }
+{
+    let fields = [Field::HeapType, Field::Id];
+    expect_object(object, Spot::At(Field::PermittedHeaps), &fields)?;
+    heap_name_of(alloc, object)
+}
+
+fn permits(heaps: &[Heap], new: &Heap) -> bool
+    ensures { result ≡ permits heaps.now new.now }
+{
+    heaps.iter().any(|heap| *heap == *new)
+}
+
+fn add_permitted(alloc: Global, heaps: &mut Vec<Heap>, value: &Value) -> Result<(), Fault>
+    ensures { Answers (with_permitted heaps.old.items (view value.now))
+        (seen_by (λ _. heaps.new.items) result) }
+{
+    let heap = permitted_heap(alloc, value)?;
+    if 64 <= heaps.len() {
+        return Err(Fault::of(Code::TooMany, Field::PermittedHeaps));
+    }
+    if permits(heaps, &heap) {
+        return Err(Fault::of(Code::RepeatedHeap, Field::PermittedHeaps));
+    }
+    heaps.push(heap)?;
+    Ok(())
+}
+
+fn permitted_in(alloc: Global, list: &[Value]) -> Result<Vec<Heap>, Fault>
+    ensures { Answers (read_each with_permitted [] (items_view list.now))
+        (seen_by (λ heaps. heaps.items) result) }
+{
+    let mut heaps = Vec::new(alloc);
+    for value in list {
+        add_permitted(alloc, &mut heaps, value)?;
+    }
+    Ok(heaps)
+}
+
+/// A list of at most 64 heaps, no two of one type and id.
+pub(super) fn permitted_of(alloc: Global, value: &Value) -> Result<Vec<Heap>, Fault>
+    ensures { Answers (permitted_of (view value.now)) (seen_by (λ heaps. heaps.items) result) }
+{
+    permitted_in(alloc, list_of(value, Field::PermittedHeaps)?)
 }

@@ -2,26 +2,26 @@
 
 ghost use Rattle.std.specs.Prelude.{◌≡◌};
 ghost use Rattle.serde_json.specs.View.{view, items_view};
-ghost use Rattle.sysmem_sanitise.specs.Reading.Constraints.{with_family, usage_of};
+ghost use Rattle.sysmem_sanitise.specs.Reading.Constraints.{no_usage, with_family, usage_of};
 ghost use Rattle.sysmem_sanitise.specs.Reading.Fields.{read_each};
 
-use super::field::filled_list_of;
-use crate::fault::Fault;
+use super::field::{list_of, text_of};
+use crate::fault::{Code, Fault};
 use bitflags::Flags;
 use serde_json::Value;
-use sysmem_counts::Usage;
+use sysmem_counts::{Field, Usage};
 
 fn with_family(mut usage: Usage, value: &Value) -> Result<Usage, Fault>
     ensures { result ≡ with_family usage (view value.now) }
 {
-    let name = value.as_str().ok_or(Fault::NOT_TAKEN)?;
-    let family = Usage::from_name(name).ok_or(Fault::NOT_TAKEN)?;
+    let name = text_of(value, Field::Usage)?;
+    let family = Usage::from_name(name).ok_or(Fault::of(Code::UnknownName, Field::Usage))?;
     usage.insert(family);
     Ok(usage)
 }
 
 fn families_of(list: &[Value]) -> Result<Usage, Fault>
-    ensures { result ≡ read_each with_family (record { 0 = 0 }) (items_view list.now) }
+    ensures { result ≡ read_each with_family no_usage (items_view list.now) }
 {
     let mut usage = Usage::empty();
     for value in list {
@@ -34,10 +34,10 @@ fn families_of(list: &[Value]) -> Result<Usage, Fault>
 pub(super) fn usage_of(value: &Value) -> Result<Usage, Fault>
     ensures { result ≡ usage_of (view value.now) }
 {
-    let usage = families_of(filled_list_of(value)?)?;
-    if usage == Usage::NONE || !usage.contains(Usage::NONE) {
+    let usage = families_of(list_of(value, Field::Usage)?)?;
+    if usage == Usage::NONE || (!usage.is_empty() && !usage.contains(Usage::NONE)) {
         Ok(usage)
     } else {
-        Err(Fault::NOT_TAKEN)
+        Err(Fault::of(Code::BadUsage, Field::Usage))
     }
 }

@@ -1,5 +1,18 @@
-use Rattle.sysmem_sanitise.proofs.Heaps.{heaps_of-IsPlatform}
+use Rattle.sysmem_sanitise.proofs.Platforms.{heaps_of-are, pairs_of-are, colours_of-are}
 use Rattle.sysmem_sanitise.proofs.reading.platform.read_platform.Goals as goal
 
-pub new-requires-3 : goal.new-requires-3
-new-requires-3 c = let is = heaps_of-IsPlatform _ _ c.in_ok-heaps.ensures in record { some = is.some; few = is.few; distinct = is.distinct }
+pub new-requires : goal.new-requires
+new-requires c =
+    let hs = heaps_of-are _ _ c.in_ok-heaps.ensures in
+    let ps = pairs_of-are _ _ c.in_ok-pairs.ensures in
+    let cs = colours_of-are _ _ c.in_ok-colours.ensures in
+    record {
+      some_heaps = hs.some;
+      few_heaps = hs.few;
+      distinct_heaps = hs.distinct;
+      some_pairs = ps.some;
+      distinct_pairs = ps.distinct;
+      fitting_pairs = ps.fitting;
+      some_colours = cs.some;
+      distinct_colours = cs.distinct;
+    }

@@ -2,7 +2,7 @@ use Rattle.std.proofs.Common.{sym, ◌∙◌, arith}
 use Rattle.std.proofs.lemmas.Result.{err_from_is_err_and}
 use Rattle.sysmem_sanitise.specs.Reading.Heaps.{with_heap}
 use Rattle.sysmem_sanitise.proofs.Members.{each_fault}
-use Rattle.sysmem_sanitise.proofs.reading.platform.heaps_in.Goals as goal
+use Rattle.sysmem_sanitise.proofs.reading.heap_info.heaps_in.Goals as goal
 
 pub returns-in_err-add_heap : goal.returns-in_err-add_heap
 returns-in_err-add_heap c =

@@ -1,0 +1,185 @@
+-- What a platform's record states is what a platform may have.
+use Rattle.std.proofs.Common.{◌≡◌, ◌≢◌, ℕ, zero, suc, ◌<◌, ◌≤◌, ◌==◌, Bool, true, false, not, ◌||◌, ◌&&◌, List, [], ◌∷◌, ◌++◌, length, get_or, Result, Ok, Err, refl, subst, arith, rules, tests, length-append}
+use Rattle.std.specs.Prelude.{All, AllPairs, nat_lt}
+use Rattle.std.specs.List.{list_any}
+use Rattle.std.proofs.lemmas.List.Elements.{All-push}
+use Rattle.std.proofs.lemmas.List.Quantifiers.{all_pairs_push}
+use Rattle.serde_json.specs.Data.{Data, Items, no_items, item}
+use Rattle.sysmem_formats.specs.declared.colour_space.ColourSpace.{ColourSpace}
+use Rattle.sysmem_formats.specs.declared.colour_space.ColourSpace.TheVariants.{Srgb, Rec601Ntsc, Rec601NtscFullRange, Rec601Pal, Rec601PalFullRange, Rec709, Rec2020, Rec2100}
+use Rattle.sysmem_formats.specs.declared.offer.Pair.{Pair}
+use Rattle.sysmem_formats.specs.Layout.{IsTiledMisfit}
+use Rattle.sysmem_memory.specs.Heap.{HeapFacts, same_heap}
+use Rattle.sysmem_sanitise.specs.declared.fault.Fault.{Fault}
+use Rattle.sysmem_sanitise.specs.Reading.Fields.{◌>>=◌, passing, list_of, named, read_each}
+use Rattle.sysmem_sanitise.specs.Reading.Heaps.{heap_of, has_heap, with_heap, heaps_of}
+use Rattle.sysmem_sanitise.specs.Reading.Names.{colour_named}
+use Rattle.sysmem_sanitise.specs.Reading.Pairs.{same_pair, has_pair, same_colour, has_colour, is_misfit}
+use Rattle.sysmem_sanitise.specs.Reading.Platform.{pair_of, with_pair, pairs_of, with_colour, colours_of}
+
+-- where two steps give an answer, each does
+bind-ok : {A B : Type 0} (first : Result A Fault) (next : A → Result B Fault) (b : B) → (first >>= next) ≡ Ok b → (a : A) × (first ≡ Ok a) × (next a ≡ Ok b)
+bind-ok (Ok a) next b gives = (a, refl, gives)
+bind-ok (Err fault) next b gives = absurd (cc)
+
+-- what was given is one thing
+ok-same : {A : Type 0} (a b : A) → (let r : Result A Fault = Ok a in r ≡ Ok b) → a ≡ b
+ok-same a b e = cc
+
+passing-by : {A : Type 0} (fault : Fault) (test : A → Bool) (a b : A) (t : Bool) → test a ≡ t → passing fault test a ≡ Ok b → (test a ≡ true) × (a ≡ b)
+passing-by fault test a b true holds gives = (holds, ok-same a b (rw holds at gives))
+passing-by fault test a b false holds gives = absurd (let h = rw holds at gives in cc)
+
+-- what passes is what was tested
+pub record Passed {A : Type 0} (test : A → Bool) (a b : A) : Type 0 where
+  pub holds : test b ≡ true
+  pub same : a ≡ b
+
+passing-ok : {A : Type 0} (fault : Fault) (test : A → Bool) (a b : A) → passing fault test a ≡ Ok b → Passed test a b
+passing-ok fault test a b gives =
+    let (holds, same) = passing-by fault test a b _ refl gives in
+    record { holds = subst (λ x. test x ≡ true) same holds; same = same }
+
+not-true : (b : Bool) → not b ≡ true → b ≡ false
+not-true true h = absurd (cc)
+not-true false h = refl
+
+or-false : (a b : Bool) → (a || b) ≡ false → (a ≡ false) × (b ≡ false)
+or-false true b h = absurd (cc)
+or-false false b h = (refl, h)
+
+-- an element of a list of which none passes
+none_passes : {X : Type 0} (p : X → Bool) (xs : List X) (k : ℕ) (d : X) → list_any p xs ≡ false → k < length xs → p (get_or xs k d) ≡ false
+none_passes p [] k d none within = absurd (omega arith)
+none_passes p (x ∷ xs) zero d none within = (or-false (p x) (list_any p xs) none).0
+none_passes p (x ∷ xs) (suc k) d none within = none_passes p xs k d (or-false (p x) (list_any p xs) none).1 (omega arith)
+
+-- what each item keeps, all items keep
+each-keeps : {X : Type 0} (read : List X → Data → Result (List X) Fault) (Kept : List X → Type 0)
+    → ((xs ys : List X) (d : Data) → Kept xs → read xs d ≡ Ok ys → Kept ys)
+    → (ds : Items) (xs ys : List X) → Kept xs → read_each read xs ds ≡ Ok ys → Kept ys
+each-keeps read Kept keeps no_items xs ys kept gives = subst Kept (ok-same xs ys gives) kept
+each-keeps read Kept keeps (item d ds) xs ys kept gives =
+    let (next, first, rest) = bind-ok (read xs d) _ ys gives in
+    each-keeps read Kept keeps ds next ys (keeps xs next d kept first) rest
+
+some : {X : Type 0} (xs : List X) → not (length xs == 0) ≡ true → 1 ≤ length xs
+some [] h = absurd (cc)
+some (x ∷ xs) h = omega arith
+
+-- the heaps so far
+record Heaps (hs : List HeapFacts) : Type 0 where
+  few : length hs ≤ 64
+  distinct : AllPairs (λ a b. same_heap a.heap b.heap ≡ false) hs
+
+below : (n : ℕ) → nat_lt n 64 ≡ true → n < 64
+below n h = search (rules, tests)
+
+with_heap-keeps : (hs ts : List HeapFacts) (d : Data) → Heaps hs → with_heap hs d ≡ Ok ts → Heaps ts
+with_heap-keeps hs ts d kept gives =
+    let (heap, read, after) = bind-ok (heap_of d) _ ts gives in
+    let (roomy, room, after2) = bind-ok (passing _ (λ _. nat_lt (length hs) 64) heap) _ ts after in
+    let (new, passes, made) = bind-ok (passing _ (λ heap. not (has_heap hs heap)) roomy) _ ts after2 in
+    let few = below (length hs) (passing-ok _ (λ _. nat_lt (length hs) 64) heap roomy room).holds in
+    let absent : has_heap hs new ≡ false = not-true _ (passing-ok _ (λ heap. not (has_heap hs heap)) roomy new passes).holds in
+    let is : hs ++ new ∷ [] ≡ ts = ok-same _ _ made in
+    subst Heaps is (record {
+      few = simp length-append (omega arith);
+      distinct = all_pairs_push (λ a b. same_heap a.heap b.heap ≡ false) hs new kept.distinct (λ k e within. none_passes (λ h. same_heap h.heap new.heap) hs k e absent within);
+    })
+
+-- what a record's heaps are
+pub record AreHeaps (hs : List HeapFacts) : Type 0 where
+  pub some : 1 ≤ length hs
+  pub few : length hs ≤ 64
+  pub distinct : AllPairs (λ a b. same_heap a.heap b.heap ≡ false) hs
+
+pub heaps_of-are : (d : Data) (ts : List HeapFacts) → heaps_of d ≡ Ok ts → AreHeaps ts
+heaps_of-are d ts gives =
+    let (items, listed, after) = bind-ok (list_of _ d) _ ts gives in
+    let (hs, each, tested) = bind-ok (read_each with_heap [] items) _ ts after in
+    let passed = passing-ok _ (λ heaps. not (length heaps == 0)) hs ts tested in
+    let kept = subst Heaps passed.same (each-keeps with_heap Heaps with_heap-keeps items [] hs (record { few = omega arith; distinct = λ i j e below within. absurd (omega arith) }) each) in
+    record { some = some ts passed.holds; few = kept.few; distinct = kept.distinct }
+
+and-true : (a b : Bool) → (a && b) ≡ true → (a ≡ true) × (b ≡ true)
+and-true true b h = (refl, h)
+and-true false b h = absurd (cc)
+
+-- a pair is the same as itself
+same_pair-itself : (a : Pair) → same_pair a a ≡ true
+same_pair-itself a = search (rules, tests)
+
+distinct_pair : (a b : Pair) → same_pair a b ≡ false → a ≢ b
+distinct_pair a b h e = let t : same_pair a b ≡ true = subst (λ (x : Pair). same_pair a x ≡ true) e (same_pair-itself a) in absurd (cc)
+
+same_colour-itself : (a : ColourSpace) → same_colour a a ≡ true
+same_colour-itself Srgb = refl
+same_colour-itself Rec601Ntsc = refl
+same_colour-itself Rec601NtscFullRange = refl
+same_colour-itself Rec601Pal = refl
+same_colour-itself Rec601PalFullRange = refl
+same_colour-itself Rec709 = refl
+same_colour-itself Rec2020 = refl
+same_colour-itself Rec2100 = refl
+
+distinct_colour : (a b : ColourSpace) → same_colour a b ≡ false → a ≢ b
+distinct_colour a b h e = let t : same_colour a b ≡ true = subst (λ (x : ColourSpace). same_colour a x ≡ true) e (same_colour-itself a) in absurd (cc)
+
+fitting : (p : Pair) → is_misfit p ≡ false → IsTiledMisfit p → ⊥
+fitting p h misfit = search (rules, tests)
+
+-- the pairs so far
+record Pairs (ps : List Pair) : Type 0 where
+  distinct : AllPairs (λ a b. a ≢ b) ps
+  fitting : All (λ p. IsTiledMisfit p → ⊥) ps
+
+with_pair-keeps : (ps ts : List Pair) (d : Data) → Pairs ps → with_pair ps d ≡ Ok ts → Pairs ts
+with_pair-keeps ps ts d kept gives =
+    let (pair, read, after) = bind-ok (pair_of d) _ ts gives in
+    let (fits, tested, after2) = bind-ok (passing _ (λ pair. not (is_misfit pair)) pair) _ ts after in
+    let (new, passes, made) = bind-ok (passing _ (λ pair. not (has_pair ps pair)) fits) _ ts after2 in
+    let fit = passing-ok _ (λ pair. not (is_misfit pair)) pair fits tested in
+    let passed = passing-ok _ (λ pair. not (has_pair ps pair)) fits new passes in
+    let fits-new : is_misfit new ≡ false = not-true _ (subst (λ (x : Pair). not (is_misfit x) ≡ true) passed.same fit.holds) in
+    let absent = not-true _ passed.holds in
+    let is : ps ++ new ∷ [] ≡ ts = ok-same _ _ made in
+    subst Pairs is (record {
+      distinct = all_pairs_push (λ a b. a ≢ b) ps new kept.distinct (λ k e within. distinct_pair _ _ (none_passes (λ p. same_pair p new) ps k e absent within));
+      fitting = All-push (λ p. IsTiledMisfit p → ⊥) ps new kept.fitting (fitting new fits-new);
+    })
+
+-- what a record's pairs are
+pub record ArePairs (ps : List Pair) : Type 0 where
+  pub some : 1 ≤ length ps
+  pub distinct : AllPairs (λ a b. a ≢ b) ps
+  pub fitting : All (λ p. IsTiledMisfit p → ⊥) ps
+
+pub pairs_of-are : (d : Data) (ts : List Pair) → pairs_of d ≡ Ok ts → ArePairs ts
+pairs_of-are d ts gives =
+    let (items, listed, after) = bind-ok (list_of _ d) _ ts gives in
+    let (ps, each, tested) = bind-ok (read_each with_pair [] items) _ ts after in
+    let passed = passing-ok _ (λ pairs. not (length pairs == 0)) ps ts tested in
+    let kept = subst Pairs passed.same (each-keeps with_pair Pairs with_pair-keeps items [] ps (record { distinct = λ i j e below within. absurd (omega arith); fitting = λ k e within. absurd (omega arith) }) each) in
+    record { some = some ts passed.holds; distinct = kept.distinct; fitting = kept.fitting }
+
+with_colour-keeps : (cs ts : List ColourSpace) (d : Data) → AllPairs (λ a b. a ≢ b) cs → with_colour cs d ≡ Ok ts → AllPairs (λ a b. a ≢ b) ts
+with_colour-keeps cs ts d kept gives =
+    let (colour, read, after) = bind-ok (named colour_named _ d) _ ts gives in
+    let (new, passes, made) = bind-ok (passing _ (λ colour. not (has_colour cs colour)) colour) _ ts after in
+    let absent = not-true _ (passing-ok _ (λ colour. not (has_colour cs colour)) colour new passes).holds in
+    let is : cs ++ new ∷ [] ≡ ts = ok-same _ _ made in
+    subst (AllPairs (λ a b. a ≢ b)) is (all_pairs_push (λ a b. a ≢ b) cs new kept (λ k e within. distinct_colour _ _ (none_passes (λ c. same_colour c new) cs k e absent within)))
+
+-- what a record's colour spaces are
+pub record AreColours (cs : List ColourSpace) : Type 0 where
+  pub some : 1 ≤ length cs
+  pub distinct : AllPairs (λ a b. a ≢ b) cs
+
+pub colours_of-are : (d : Data) (ts : List ColourSpace) → colours_of d ≡ Ok ts → AreColours ts
+colours_of-are d ts gives =
+    let (items, listed, after) = bind-ok (list_of _ d) _ ts gives in
+    let (cs, each, tested) = bind-ok (read_each with_colour [] items) _ ts after in
+    let passed = passing-ok _ (λ colours. not (length colours == 0)) cs ts tested in
+    let kept = subst (AllPairs (λ a b. a ≢ b)) passed.same (each-keeps with_colour (AllPairs (λ a b. a ≢ b)) with_colour-keeps items [] cs (λ i j e below within. absurd (omega arith)) each) in
+    record { some = some ts passed.holds; distinct = kept }

@@ -1,0 +1,67 @@
+-- What a platform's record says.
+use Rattle.std.specs.Prelude.{ℕ, ◌&&◌, ◌||◌, ◌++◌, ◌==◌, List, [], ◌∷◌, length, Bool, not, Option, Some, None, Result, Ok}
+use Rattle.serde_json.specs.Data.{Data}
+use Rattle.sysmem_counts.specs.declared.field.Field.{Field}
+use Rattle.sysmem_counts.specs.declared.field.Field.TheVariants as field
+use Rattle.sysmem_formats.specs.declared.colour_space.ColourSpace.{ColourSpace}
+use Rattle.sysmem_formats.specs.declared.modifier.Modifier.{Modifier}
+use Rattle.sysmem_formats.specs.declared.modifier.Modifier.TheVariants.{Linear}
+use Rattle.sysmem_formats.specs.declared.pixel_format.PixelFormat.{PixelFormat}
+use Rattle.sysmem_formats.specs.declared.offer.Pair.{Pair}
+use Rattle.sysmem_sanitise.specs.declared.fault.Code.TheVariants as code
+use Rattle.sysmem_sanitise.specs.declared.fault.Fault.{Fault}
+use Rattle.sysmem_sanitise.specs.declared.fault.Spot.TheVariants.{Whole, At}
+use Rattle.sysmem_sanitise.specs.Faults.{wrong}
+use Rattle.sysmem_sanitise.specs.Platform.{PlatformFacts}
+use Rattle.sysmem_sanitise.specs.Reading.Fields.{◌>>=◌, passing, read_each, object_of, optional, required, list_of, named}
+use Rattle.sysmem_sanitise.specs.Reading.Heaps.{heaps_of}
+use Rattle.sysmem_sanitise.specs.Reading.Names.{format_named, modifier_named, colour_named}
+use Rattle.sysmem_sanitise.specs.Reading.Pairs.{pair_fields, has_pair, has_colour, is_misfit}
+
+-- a format and its modifier, LINEAR if it is missing
+abbrev pub pair_of : Data → Result Pair Fault
+pair_of d = do
+  _ ← object_of (At field.Pairs) pair_fields d
+  format ← required field.PixelFormat (named format_named field.PixelFormat) d
+  modifier ← optional field.PixelFormatModifier Linear (named modifier_named field.PixelFormatModifier) d
+  Ok (record { format = format; modifier = modifier })
+
+-- the pairs, and the one that an item states: no tiled misfit, and not there yet
+abbrev pub with_pair : List Pair → Data → Result (List Pair) Fault
+with_pair pairs d = do
+  pair ← pair_of d
+  fitting ← passing (wrong code.TiledMisfit field.Pairs) (λ pair. not (is_misfit pair)) pair
+  new ← passing (wrong code.BadPlatformList field.Pairs) (λ pair. not (has_pair pairs pair)) fitting
+  Ok (pairs ++ new ∷ [])
+
+abbrev pub pairs_of : Data → Result (List Pair) Fault
+pairs_of d = do
+  items ← list_of field.Pairs d
+  pairs ← read_each with_pair [] items
+  passing (wrong code.BadPlatformList field.Pairs) (λ pairs. not (length pairs == 0)) pairs
+
+-- the colour spaces, and the one that an item names, which isn't there yet
+abbrev pub with_colour : List ColourSpace → Data → Result (List ColourSpace) Fault
+with_colour colours d = do
+  colour ← named colour_named field.ColorSpaces d
+  new ← passing (wrong code.BadPlatformList field.ColorSpaces) (λ colour. not (has_colour colours colour)) colour
+  Ok (colours ++ new ∷ [])
+
+abbrev pub colours_of : Data → Result (List ColourSpace) Fault
+colours_of d = do
+  items ← list_of field.ColorSpaces d
+  colours ← read_each with_colour [] items
+  passing (wrong code.BadPlatformList field.ColorSpaces) (λ colours. not (length colours == 0)) colours
+
+-- the fields of a platform
+abbrev pub platform_fields : List Field
+platform_fields = field.Heaps ∷ field.Pairs ∷ field.ColorSpaces ∷ []
+
+-- the platform that a value states
+abbrev pub platform_of : Data → Result PlatformFacts Fault
+platform_of d = do
+  _ ← object_of Whole platform_fields d
+  heaps ← required field.Heaps heaps_of d
+  pairs ← required field.Pairs pairs_of d
+  colours ← required field.ColorSpaces colours_of d
+  Ok (record { heaps = heaps; pairs = pairs; colours = colours })

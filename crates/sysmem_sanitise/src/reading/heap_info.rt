@@ -1,0 +1,129 @@
+//! Reads the heaps of a platform.
+
+ghost use Rattle.std.specs.Prelude.{◌≡◌, []};
+ghost use Rattle.serde_json.specs.View.{view, items_view};
+ghost use Rattle.sysmem_sanitise.specs.Reading.Fields.{seen_by, read_each, Answers};
+ghost use Rattle.sysmem_sanitise.specs.Reading.Heaps.{no_domains, with_domain, with_named, has_domains, domains_of, heap_of, has_heap, with_heap, heaps_of};
+
+use super::field::{expect_object, flag_or, list_of, stated};
+use super::heap::heap_name_of;
+use super::name::domain_of;
+use crate::fault::{Code, Fault, Spot};
+use serde_json::Value;
+use std::alloc::Global;
+use sysmem_counts::Field;
+use sysmem_memory::{CoherencyDomain, CoherencyDomains, HeapInfo};
+
+fn with_domain(mut domains: CoherencyDomains, domain: CoherencyDomain) -> CoherencyDomains
+    ensures { result ≡ with_domain domains domain }
+{
+    match domain {
+        CoherencyDomain::Cpu => domains.cpu = true,
+        CoherencyDomain::Ram => domains.ram = true,
+        CoherencyDomain::Inaccessible => domains.inaccessible = true,
+    }
+    domains
+}
+
+fn with_named(domains: CoherencyDomains, value: &Value) -> Result<CoherencyDomains, Fault>
+    ensures { result ≡ with_named domains (view value.now) }
+{
+    let domain = domain_of(value, Field::Domains)?;
+    if domains.has(domain) {
+        return Err(Fault::of(Code::BadPlatformList, Field::Domains));
+    }
+    Ok(with_domain(domains, domain))
+}
+
+fn domains_in(list: &[Value]) -> Result<CoherencyDomains, Fault>
+    ensures { result ≡ read_each with_named no_domains (items_view list.now) }
+{
+    let mut domains = CoherencyDomains::NONE;
+    for value in list {
+        domains = with_named(domains, value)?;
+    }
+    Ok(domains)
+}
+
+fn has_domains(domains: CoherencyDomains) -> bool
+    ensures { result ≡ has_domains domains }
+{
+    domains.cpu || domains.ram || domains.inaccessible
+}
+
+fn domains_of(value: &Value) -> Result<CoherencyDomains, Fault>
+    ensures { result ≡ domains_of (view value.now) }
+{
+    let domains = domains_in(list_of(value, Field::Domains)?)?;
+    if has_domains(domains) {
+        Ok(domains)
+    } else {
+        Err(Fault::of(Code::BadPlatformList, Field::Domains))
+    }
+}
+
+fn heap_of(alloc: Global, object: &Value) -> Result<HeapInfo, Fault>
+    ensures { Answers (heap_of (view object.now)) result }
+{
+    let fields = [
+        Field::HeapType,
+        Field::Id,
+        Field::Contiguous,
+        Field::Secure,
+        Field::Domains,
+    ];
+    expect_object(object, Spot::At(Field::Heaps), &fields)?;
+    let heap = heap_name_of(alloc, object)?;
+    let contiguous = flag_or(object, Field::Contiguous, false)?;
+    let secure = flag_or(object, Field::Secure, false)?;
+    let domains = domains_of(stated(object, Code::WrongKind, Field::Domains)?)?;
+    Ok(HeapInfo {
+        heap,
+        contiguous,
+        secure,
+        domains,
+    })
+}
+
+fn has_heap(heaps: &[HeapInfo], new: &HeapInfo) -> bool
+    ensures { result ≡ has_heap heaps.now new.now }
+{
+    heaps.iter().any(|heap| heap.heap == new.heap)
+}
+
+fn add_heap(alloc: Global, heaps: &mut Vec<HeapInfo>, value: &Value) -> Result<(), Fault>
+    ensures { Answers (with_heap heaps.old.items (view value.now))
+        (seen_by (λ _. heaps.new.items) result) }
+{
+    let heap = heap_of(alloc, value)?;
+    if 64 <= heaps.len() {
+        return Err(Fault::of(Code::TooMany, Field::Heaps));
+    }
+    if has_heap(heaps, &heap) {
+        return Err(Fault::of(Code::BadPlatformList, Field::Heaps));
+    }
+    heaps.push(heap)?;
+    Ok(())
+}
+
+fn heaps_in(alloc: Global, list: &[Value]) -> Result<Vec<HeapInfo>, Fault>
+    ensures { Answers (read_each with_heap [] (items_view list.now))
+        (seen_by (λ heaps. heaps.items) result) }
+{
+    let mut heaps = Vec::new(alloc);
+    for value in list {
+        add_heap(alloc, &mut heaps, value)?;
+    }
+    Ok(heaps)
+}
+
+/// A list of 1 to 64 heaps, no two of one type and id.
+pub(super) fn heaps_of(alloc: Global, value: &Value) -> Result<Vec<HeapInfo>, Fault>
+    ensures { Answers (heaps_of (view value.now)) (seen_by (λ heaps. heaps.items) result) }
+{
+    let heaps = heaps_in(alloc, list_of(value, Field::Heaps)?)?;
+    if heaps.is_empty() {
+        return Err(Fault::of(Code::BadPlatformList, Field::Heaps));
+    }
+    Ok(heaps)
+}

@@ -1,0 +1,137 @@
+//! Reads the pairs and the colour spaces of a platform.
+
+ghost use Rattle.std.specs.Prelude.{◌≡◌, []};
+ghost use Rattle.serde_json.specs.View.{view, items_view};
+ghost use Rattle.sysmem_counts.specs.declared.field.Field.TheVariants.{PixelFormatModifier};
+ghost use Rattle.sysmem_formats.specs.declared.modifier.Modifier.TheVariants.{Linear};
+ghost use Rattle.sysmem_sanitise.specs.Reading.Fields.{seen_by, read_each, Answers, optional, named};
+ghost use Rattle.sysmem_sanitise.specs.Reading.Names.{modifier_named};
+ghost use Rattle.sysmem_sanitise.specs.Reading.Pairs.{same_pair, has_pair, has_colour, is_misfit};
+ghost use Rattle.sysmem_sanitise.specs.Reading.Platform.{pair_of, with_pair, pairs_of, with_colour, colours_of};
+
+use super::field::{expect_object, list_of, stated};
+use super::name::{colour_of, format_of, modifier_of};
+use crate::fault::{Code, Fault, Spot};
+use serde_json::Value;
+use std::alloc::Global;
+use sysmem_counts::Field;
+use sysmem_formats::{ColourSpace, Modifier, Pair, is_tiled_misfit};
+
+fn modifier_in(object: &Value) -> Result<Modifier, Fault>
+    ensures { result ≡ optional PixelFormatModifier Linear (named modifier_named PixelFormatModifier) (view object.now) }
+{
+    match object.get(Field::PixelFormatModifier.name()) {
+        None => Ok(Modifier::Linear),
+        Some(value) => modifier_of(value, Field::PixelFormatModifier),
+    }
+}
+
+fn pair_of(object: &Value) -> Result<Pair, Fault>
+    ensures { result ≡ pair_of (view object.now) }
+{
+    expect_object(
+        object,
+        Spot::At(Field::Pairs),
+        &[Field::PixelFormat, Field::PixelFormatModifier],
+    )?;
+    let format = stated(object, Code::WrongKind, Field::PixelFormat)?;
+    Ok(Pair {
+        format: format_of(format, Field::PixelFormat)?,
+        modifier: modifier_in(object)?,
+    })
+}
+
+fn has_pair(pairs: &[Pair], new: Pair) -> bool
+    ensures { result ≡ has_pair pairs.now new }
+{
+    pairs.iter().any(|pair| is_same(*pair, new))
+}
+
+fn is_same(a: Pair, b: Pair) -> bool
+    ensures { result ≡ same_pair a b }
+{
+    a == b
+}
+
+fn is_misfit(pair: Pair) -> bool
+    ensures { result ≡ is_misfit pair }
+{
+    is_tiled_misfit(pair)
+}
+
+fn add_pair(pairs: &mut Vec<Pair>, value: &Value) -> Result<(), Fault>
+    ensures { Answers (with_pair pairs.old.items (view value.now))
+        (seen_by (λ _. pairs.new.items) result) }
+{
+    let pair = pair_of(value)?;
+    if is_misfit(pair) {
+        return Err(Fault::of(Code::TiledMisfit, Field::Pairs));
+    }
+    if has_pair(pairs, pair) {
+        return Err(Fault::of(Code::BadPlatformList, Field::Pairs));
+    }
+    pairs.push(pair)?;
+    Ok(())
+}
+
+fn pairs_in(alloc: Global, list: &[Value]) -> Result<Vec<Pair>, Fault>
+    ensures { Answers (read_each with_pair [] (items_view list.now))
+        (seen_by (λ pairs. pairs.items) result) }
+{
+    let mut pairs = Vec::new(alloc);
+    for value in list {
+        add_pair(&mut pairs, value)?;
+    }
+    Ok(pairs)
+}
+
+/// A list of pairs that isn't empty, no two alike and none a tiled modifier with a format that isn't of 4 bytes.
+pub(super) fn pairs_of(alloc: Global, value: &Value) -> Result<Vec<Pair>, Fault>
+    ensures { Answers (pairs_of (view value.now)) (seen_by (λ pairs. pairs.items) result) }
+{
+    let pairs = pairs_in(alloc, list_of(value, Field::Pairs)?)?;
+    if pairs.is_empty() {
+        return Err(Fault::of(Code::BadPlatformList, Field::Pairs));
+    }
+    Ok(pairs)
+}
+
+fn has_colour(colours: &[ColourSpace], new: ColourSpace) -> bool
+    ensures { result ≡ has_colour colours.now new }
+{
+    colours.contains(&new)
+}
+
+fn add_colour(colours: &mut Vec<ColourSpace>, value: &Value) -> Result<(), Fault>
+    ensures { Answers (with_colour colours.old.items (view value.now))
+        (seen_by (λ _. colours.new.items) result) }
+{
+    let colour = colour_of(value, Field::ColorSpaces)?;
+    if has_colour(colours, colour) {
+        return Err(Fault::of(Code::BadPlatformList, Field::ColorSpaces));
+    }
+    colours.push(colour)?;
+    Ok(())
+}
+
+fn colours_in(alloc: Global, list: &[Value]) -> Result<Vec<ColourSpace>, Fault>
+    ensures { Answers (read_each with_colour [] (items_view list.now))
+        (seen_by (λ colours. colours.items) result) }
+{
+    let mut colours = Vec::new(alloc);
+    for value in list {
+        add_colour(&mut colours, value)?;
+    }
+    Ok(colours)
+}
+
+/// A list of colour spaces that isn't empty, no two alike.
+pub(super) fn colours_of(alloc: Global, value: &Value) -> Result<Vec<ColourSpace>, Fault>
+    ensures { Answers (colours_of (view value.now)) (seen_by (λ colours. colours.items) result) }
+{
+    let colours = colours_in(alloc, list_of(value, Field::ColorSpaces)?)?;
+    if colours.is_empty() {
+        return Err(Fault::of(Code::BadPlatformList, Field::ColorSpaces));
+    }
+    Ok(colours)
+}
