@@ -13,6 +13,6 @@ CountSuitsSome = (some all : List CountConstraints) (count : ℕ) → IsSublist 
 abbrev pub CountLineLeavesNone : Type 0
 CountLineLeavesNone = (field : Field) (some all : List CountConstraints) → IsSublist some all → IsCountLine field some → HasNoCount all
 
--- participants have one least count
+-- participants have at most one least count
 abbrev pub OneLeastCount : Type 0
 OneLeastCount = (ps : List CountConstraints) (a b : ℕ) → IsLeastCount ps a → IsLeastCount ps b → a ≡ b

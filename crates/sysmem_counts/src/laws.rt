@@ -12,7 +12,7 @@ pub fn count_line_leaves_none()
     ensures { CountLineLeavesNone }
 {}
 
-/// Participants have one least count.
+/// Participants have at most one least count.
 pub fn one_least_count()
     ensures { OneLeastCount }
 {}

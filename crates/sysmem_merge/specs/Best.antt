@@ -14,8 +14,8 @@ pub record IsEarlierOffer (offers : List Offer) (a b : Offer) : Type 0 where
   pub here : slice_get offers place ≡ Some a
   pub before : (k : ℕ) → slice_get offers k ≡ Some b → place < k
 
--- t is no better than s: no earlier offer, with the same offer no earlier place, no smaller count, and in the same place no
--- smaller size and no bounds that ask for less
+-- t is no better than s: no earlier offer, with the same offer no earlier place, no smaller count, and with the same offer in the
+-- same place no smaller size and no bounds that ask for less
 pub record IsNoBetter (platform : PlatformFacts) (t s : Settled) : Type 0 where
   pub offer : ¬ (IsEarlierOffer (offers_of platform) t.offer s.offer)
   pub place : t.offer ≡ s.offer → ¬ (IsEarlier t.place s.place)

@@ -8,7 +8,7 @@ use Rattle.sysmem_merge.specs.Reasons.{IsReason}
 use Rattle.sysmem_sanitise.specs.Participant.{Participant}
 use Rattle.sysmem_sanitise.specs.Platform.{PlatformFacts}
 
--- participants have one best settings
+-- participants have at most one best settings
 abbrev pub OneBest : Type 0
 OneBest = (whole : Bool) (platform : PlatformFacts) (ps : List Participant) (a b : Settled)
     → IsBest whole platform ps a → IsBest whole platform ps b → a ≡ b
@@ -18,7 +18,7 @@ abbrev pub ReasonLeavesNone : Type 0
 ReasonLeavesNone = (whole : Bool) (platform : PlatformFacts) (ps : List Participant) (reason : Reason)
     → IsReason whole platform ps reason → IsUnmet whole platform ps
 
--- nor does it leave any to more participants, if it doesn't rest on what none of them names
+-- nor does it leave any to more participants, with these among them in their order, if it doesn't rest on what none of them names
 abbrev pub ReasonOfSomeLeavesNone : Type 0
 ReasonOfSomeLeavesNone = (whole : Bool) (platform : PlatformFacts) (some all : List Participant) (reason : Reason)
     → IsSublist some all → IsReason false platform some reason → IsUnmet whole platform all

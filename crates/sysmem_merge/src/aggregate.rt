@@ -74,12 +74,13 @@ impl<'p> Aggregate<'p> {
         self.platform
     }
 
-    /// Adds one more participant, where fewer than 1,024 were added. Nothing has changed where memory is refused.
+    /// Adds one more participant, where fewer than 1,024 were added. It takes no memory so far, so it isn't refused.
     pub fn add(&mut self, asked: &Constraints) -> Result<(), AllocError>
         requires { self.old.added < 1024 }
         ensures ok { (platform : PlatformFacts) (ps : List Participant) → StandsFor self.old platform ps
             → OnOk result (StandsFor self.new platform (ps ++ asked.now ∷ [])) }
         ensures unchanged { OnErr result (self.new ≡ self.old) }
+        ensures always { IfErr result (λ _. ⊥) }
         ensures grows { self.new.added ≤ self.old.added + 1 }
     {
         let memory = asked.memory();
@@ -93,10 +94,10 @@ impl<'p> Aggregate<'p> {
         Ok(())
     }
 
-    /// The best settings for the participants that were added: the first offer, the first place in it, the least
-    /// count and the least size. Where no settings meet them, the first reason that is true of them. `whole` says
-    /// that they are all that a decision has, so that an image's format, modifier and colour space must each be named
-    /// by some of them.
+    /// The best settings for the participants that were added: the first offer, then the first place, the least count, and for
+    /// these the least size and the merged bounds. Where no settings meet them, the first reason that is true of them.
+    /// `whole` says that they are all that a decision has, so that an image's format, modifier and colour space must each be
+    /// named by some of them.
     pub fn best_settings(&self, whole: bool) -> Result<Settings, Reason>
         ensures best { (platform : PlatformFacts) (ps : List Participant) → StandsFor self.now platform ps
             → IfOk result (IsBest whole platform ps) }

@@ -14,7 +14,7 @@ use sysmem_sanitise::{Constraints, Platform};
 /// Whether the participant accepts the settings: it has an entry for their offer, with its colour space, or no entries at
 /// all; their bounds keep to that entry's; nothing that it says of memory, nor its usage, refuses their place, and their
 /// size is from its least to its greatest. False where the platform has no heap of that index. How many buffers
-/// there are isn't one participant's to accept.
+/// there are isn't one participant's to accept, nor is it tested whether the platform can provide them.
 pub fn meets_one(platform: &Platform, settings: &Settings, asked: &Constraints) -> bool
     ensures { IsTrue result ↔ CoversOn platform.now settings.now asked.now }
 {
