@@ -26,9 +26,15 @@ use Rattle.sysmem_sanitise.specs.Reading.Fields.{◌>>=◌, passing, read_each, 
 use Rattle.sysmem_sanitise.specs.Reading.Names.{format_named, modifier_named, colour_named, choice_named}
 use Rattle.sysmem_sanitise.specs.Reading.Pairs.{pair_fields, is_misfit}
 
--- pairs that ask for the same, DO_NOT_CARE as such
+-- DO_NOT_CARE is the same as itself alone
+abbrev pub same_format : Option PixelFormat → Option PixelFormat → Bool
+same_format a b = option_eq (λ x y. format_code x == format_code y) a b
+
+abbrev pub same_modifier : Option Modifier → Option Modifier → Bool
+same_modifier a b = option_eq (λ x y. modifier_code x == modifier_code y) a b
+
 abbrev pub same_asked : AskedPair → AskedPair → Bool
-same_asked a b = option_eq (λ x y. format_code x == format_code y) a.format b.format && option_eq (λ x y. modifier_code x == modifier_code y) a.modifier b.modifier
+same_asked a b = same_format a.format b.format && same_modifier a.modifier b.modifier
 
 -- a tiled modifier with a named format that isn't of 4 bytes
 abbrev pub is_unfit : Option PixelFormat → Option Modifier → Bool

@@ -5,7 +5,7 @@ ghost use Rattle.serde_json.specs.Find.{get, as_array};
 ghost use Rattle.serde_json.specs.View.{view, items_view};
 ghost use Rattle.sysmem_counts.specs.declared.field.Field.TheVariants.{PixelFormatAndModifiers};
 ghost use Rattle.sysmem_counts.specs.Field.{field_name};
-ghost use Rattle.sysmem_sanitise.specs.Reading.Entries.{asked_by, same_asked, is_unfit, modifier_beside, asked_of, has_entry, has_asked, with_asked, has_further, no_pair, own_pair, with_further, further_of, asked_pairs};
+ghost use Rattle.sysmem_sanitise.specs.Reading.Entries.{asked_by, same_format, same_modifier, same_asked, is_unfit, modifier_beside, asked_of, has_entry, has_asked, with_asked, has_further, no_pair, own_pair, with_further, further_of, asked_pairs};
 ghost use Rattle.sysmem_sanitise.specs.Reading.Fields.{Answers, read_each, seen_by};
 
 use super::field::{expect_object, list_of, stated};
@@ -54,10 +54,22 @@ fn is_unfit(asked: AskedPair) -> bool
     }
 }
 
+fn is_same_format(a: Option<PixelFormat>, b: Option<PixelFormat>) -> bool
+    ensures { result ≡ same_format a b }
+{
+    a == b
+}
+
+fn is_same_modifier(a: Option<Modifier>, b: Option<Modifier>) -> bool
+    ensures { result ≡ same_modifier a b }
+{
+    a == b
+}
+
 fn is_same(a: AskedPair, b: AskedPair) -> bool
     ensures { result ≡ same_asked a b }
 {
-    a.format == b.format && a.modifier == b.modifier
+    is_same_format(a.format, b.format) && is_same_modifier(a.modifier, b.modifier)
 }
 
 fn asked_by(entry: &Entry) -> AskedPair
@@ -103,6 +115,7 @@ fn add_asked(
     Ok(())
 }
 
+#[tactic(auto, using(crate::proofs::Members::items_rules))]
 fn has_further(object: &Value) -> bool
     ensures { result ≡ has_further (view object.now) }
 {
