@@ -187,6 +187,10 @@ pub(super) fn asked_pairs(
     let own = own_pair(alloc, entries, object)?;
     match object.get(Field::PixelFormatAndModifiers.name()) {
         None => Ok(own),
-        Some(value) => further_in(entries, own, list_of(value, Field::PixelFormatAndModifiers)?),
+        Some(value) => further_in(
+            entries,
+            own,
+            list_of(value, Field::PixelFormatAndModifiers)?,
+        ),
     }
 }
