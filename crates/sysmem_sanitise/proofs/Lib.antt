@@ -1,3 +1,4 @@
+mod Bounds
 mod Members
 mod Names
 mod Platforms

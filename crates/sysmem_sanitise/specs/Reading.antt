@@ -1,5 +1,7 @@
 -- What the records of a participant and of a platform say.
+pub mod Bounds
 pub mod Constraints
+pub mod Entries
 pub mod Fields
 pub mod Heaps
 pub mod Names

@@ -7,6 +7,7 @@
 #![tactic(auto)]
 
 mod constraints;
+mod copying;
 mod fault;
 mod platform;
 mod reading;

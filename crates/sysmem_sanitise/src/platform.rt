@@ -1,8 +1,10 @@
 //! What a platform has, as its record says it.
 
-ghost use Rattle.std.specs.Prelude.{◌≡◌, ◌≤◌, length};
+ghost use Rattle.std.specs.Prelude.{◌≡◌, ◌≤◌, length, IfOk};
 ghost use Rattle.sysmem_sanitise.specs.Platform.{IsPlatform};
 
+use crate::copying::{copied, copied_heaps};
+use std::alloc::AllocError;
 use std::marker::Model;
 use sysmem_formats::{ColourSpace, Pair};
 use sysmem_memory::HeapInfo;
@@ -31,11 +33,7 @@ impl Model for Platform {
 }
 
 impl Platform {
-    pub(crate) fn new(
-        heaps: Vec<HeapInfo>,
-        pairs: Vec<Pair>,
-        colours: Vec<ColourSpace>,
-    ) -> Platform
+    pub(crate) fn new(heaps: Vec<HeapInfo>, pairs: Vec<Pair>, colours: Vec<ColourSpace>) -> Platform
         requires { IsPlatform heaps.items pairs.items colours.items }
         ensures { result ≡ record { heaps = heaps.items; pairs = pairs.items; colours = colours.items } }
     {
@@ -66,5 +64,16 @@ impl Platform {
         ensures { result.now ≡ self.now.colours }
     {
         &self.colours
+    }
+
+    /// A platform that is equal to this one, in memory of its own. It fails where memory is refused.
+    pub fn copy(&self) -> Result<Platform, AllocError>
+        ensures { IfOk result (λ copy. copy ≡ self.now) }
+    {
+        let alloc = *self.heaps.allocator();
+        let heaps = copied_heaps(alloc, &self.heaps)?;
+        let pairs = copied(alloc, &self.pairs)?;
+        let colours = copied(alloc, &self.colours)?;
+        Ok(Platform::new(heaps, pairs, colours))
     }
 }

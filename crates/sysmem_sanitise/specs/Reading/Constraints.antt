@@ -14,6 +14,7 @@ use Rattle.sysmem_sanitise.specs.declared.fault.Fault.{Fault}
 use Rattle.sysmem_sanitise.specs.declared.fault.Spot.TheVariants.{Whole, At}
 use Rattle.sysmem_sanitise.specs.Faults.{wrong}
 use Rattle.sysmem_sanitise.specs.Participant.{Participant}
+use Rattle.sysmem_sanitise.specs.Reading.Entries.{entries_of}
 use Rattle.sysmem_sanitise.specs.Reading.Fields.{◌>>=◌, passing, read_each, object_of, optional, stated, number_or, flag_or, list_of, named}
 use Rattle.sysmem_sanitise.specs.Reading.Heaps.{permitted_of}
 
@@ -82,7 +83,7 @@ memory_of d = do
 -- the fields of a participant's constraints
 abbrev pub constraints_fields : List Field
 constraints_fields = field.Usage ∷ field.MinBufferCountForCamping ∷ field.MinBufferCountForDedicatedSlack ∷ field.MinBufferCountForSharedSlack
-    ∷ field.MinBufferCount ∷ field.MaxBufferCount ∷ field.BufferMemoryConstraints ∷ []
+    ∷ field.MinBufferCount ∷ field.MaxBufferCount ∷ field.BufferMemoryConstraints ∷ field.ImageFormatConstraints ∷ []
 
 -- the participant that a value states
 abbrev pub participant_of : Data → Result Participant Fault
@@ -91,4 +92,5 @@ participant_of d = do
   usage ← stated code.BadUsage field.Usage d >>= usage_of
   counts ← counts_of d
   memory ← optional field.BufferMemoryConstraints no_wishes memory_of d
-  Ok (record { usage = usage; counts = counts; memory = memory; entries = [] })
+  entries ← optional field.ImageFormatConstraints [] entries_of d
+  Ok (record { usage = usage; counts = counts; memory = memory; entries = entries })

@@ -41,4 +41,4 @@ domain_named name = find_named domain_name domains name
 
 -- DO_NOT_CARE, which is None, or what the name names
 abbrev pub choice_named : {X : Type 0} → (List ℕ → Option X) → List ℕ → Option (Option X)
-choice_named find name = if bytes_eq (codes "DO_NOT_CARE") name then Some None else option_map Some (find name)
+choice_named find name = if bytes_eq name (codes "DO_NOT_CARE") then Some None else option_map Some (find name)

@@ -6,6 +6,7 @@ ghost use Rattle.sysmem_sanitise.specs.Faults.{want_of_memory};
 ghost use Rattle.sysmem_sanitise.specs.Reading.Constraints.{counts_of, participant_of};
 ghost use Rattle.sysmem_sanitise.specs.Reading.Fields.{Answers};
 
+use super::entry::entries_in;
 use super::field::{count_or, expect_object, stated};
 use super::memory::memory_in;
 use super::usage::usage_of;
@@ -46,16 +47,18 @@ fn participant_of(alloc: Global, object: &Value) -> Result<Constraints, Fault>
         Field::MinBufferCount,
         Field::MaxBufferCount,
         Field::BufferMemoryConstraints,
+        Field::ImageFormatConstraints,
     ];
     expect_object(object, Spot::Whole, &fields)?;
     let usage = usage_of(stated(object, Code::BadUsage, Field::Usage)?)?;
     let counts = counts_of(object)?;
     let memory = memory_in(alloc, object)?;
-    Ok(Constraints::new(usage, counts, memory, Vec::new(alloc)))
+    let entries = entries_in(alloc, object)?;
+    Ok(Constraints::new(usage, counts, memory, entries))
 }
 
-/// Reads a participant's record: `usage`, the five counts, and sizes and coherency domains in
-/// `buffer_memory_constraints`. Another key is a fault, as is a value of the wrong kind or out of range.
+/// Reads a participant's record: its usage, the five counts, its memory constraints and its image entries. One
+/// with further pairs stands for several entries. At most 64 permitted heaps and 64 entries are read.
 pub fn read_constraints(alloc: Global, value: &Value) -> Result<Constraints, Fault>
     ensures taken { IfOk result (λ constraints. participant_of (view value.now) ≡ Ok constraints) }
     ensures refused { IfErr result

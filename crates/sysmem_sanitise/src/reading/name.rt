@@ -63,3 +63,54 @@ pub(super) fn domain_of(value: &Value, field: Field) -> Result<CoherencyDomain, 
 {
     domain_named(text_of(value, field)?).ok_or(Fault::of(Code::UnknownName, field))
 }
+
+fn format_choice(name: &str) -> Option<Option<PixelFormat>>
+    ensures { result ≡ choice_named format_named name.now }
+{
+    if name == "DO_NOT_CARE" {
+        Some(None)
+    } else {
+        Some(Some(format_named(name)?))
+    }
+}
+
+/// A pixel format, or `None` for `DO_NOT_CARE`.
+pub(super) fn format_choice_of(value: &Value, field: Field) -> Result<Option<PixelFormat>, Fault>
+    ensures { result ≡ named (choice_named format_named) field (view value.now) }
+{
+    format_choice(text_of(value, field)?).ok_or(Fault::of(Code::UnknownName, field))
+}
+
+fn modifier_choice(name: &str) -> Option<Option<Modifier>>
+    ensures { result ≡ choice_named modifier_named name.now }
+{
+    if name == "DO_NOT_CARE" {
+        Some(None)
+    } else {
+        Some(Some(modifier_named(name)?))
+    }
+}
+
+/// A modifier, or `None` for `DO_NOT_CARE`.
+pub(super) fn modifier_choice_of(value: &Value, field: Field) -> Result<Option<Modifier>, Fault>
+    ensures { result ≡ named (choice_named modifier_named) field (view value.now) }
+{
+    modifier_choice(text_of(value, field)?).ok_or(Fault::of(Code::UnknownName, field))
+}
+
+fn colour_choice(name: &str) -> Option<Option<ColourSpace>>
+    ensures { result ≡ choice_named colour_named name.now }
+{
+    if name == "DO_NOT_CARE" {
+        Some(None)
+    } else {
+        Some(Some(colour_named(name)?))
+    }
+}
+
+/// A colour space, or `None` for `DO_NOT_CARE`.
+pub(super) fn colour_choice_of(value: &Value, field: Field) -> Result<Option<ColourSpace>, Fault>
+    ensures { result ≡ named (choice_named colour_named) field (view value.now) }
+{
+    colour_choice(text_of(value, field)?).ok_or(Fault::of(Code::UnknownName, field))
+}

@@ -1,0 +1,170 @@
+-- The bounds that an entry puts on images.
+use Rattle.std.specs.Prelude.{ℕ, ◌≤◌, ◌-◌, ◌^◌, ◌&&◌, ◌||◌, max, List, [], ◌∷◌, Bool, Result, Ok, Err, codes, bytes_eq, nat_le, if◌then◌else◌}
+use Rattle.std.proofs.Common.{arith}
+use Rattle.std.specs.List.{list_all}
+use Rattle.serde_json.specs.Data.{Data, object}
+use Rattle.serde_json.specs.Find.{get}
+use Rattle.sysmem_counts.specs.declared.field.Field.{Field}
+use Rattle.sysmem_counts.specs.declared.field.Field.TheVariants as field
+use Rattle.sysmem_image.specs.declared.bounds.ImageBounds.{ImageBounds}
+use Rattle.sysmem_image.specs.declared.size.Size.{Size}
+use Rattle.sysmem_sanitise.specs.declared.fault.Code.TheVariants as code
+use Rattle.sysmem_sanitise.specs.declared.fault.Fault.{Fault}
+use Rattle.sysmem_sanitise.specs.Faults.{wrong}
+use Rattle.sysmem_sanitise.specs.Reading.Fields.{◌>>=◌, passing, keys_of, read_or, optional, number_of}
+
+-- the greatest number of 32 bits
+abbrev pub most : ℕ
+most = 2 ^ 32 - 1
+
+-- 0 to the greatest
+abbrev pub any_number : Field → Data → Result ℕ Fault
+any_number field d = number_of field most d
+
+-- 0 to the greatest, and 0 is read as 1
+abbrev pub some_number : Field → Data → Result ℕ Fault
+some_number field d = do
+  n ← any_number field d
+  Ok (max n 1)
+
+abbrev pub is_multiple : ℕ → Bool
+is_multiple n = nat_le 1 n && nat_le n 65536
+
+-- 1 to 65,536
+abbrev pub multiple : Field → Data → Result ℕ Fault
+multiple field d = do
+  n ← number_of field (2 ^ 64 - 1) d
+  passing (wrong code.BadMultiple field) is_multiple n
+
+abbrev pub is_side : List ℕ → Bool
+is_side key = bytes_eq key (codes "width") || bytes_eq key (codes "height")
+
+-- an object that has no other keys than width and height
+abbrev pub sides_of : Field → Data → Result Data Fault
+sides_of field (object ms) = if list_all is_side (keys_of ms) then Ok (object ms) else Err (wrong code.UnknownField field)
+sides_of field _ = Err (wrong code.WrongKind field)
+
+-- one side, which must be there
+abbrev pub side : Field → ℕ → List ℕ → Data → Result ℕ Fault
+side field greatest name d = read_or (Err (wrong code.WrongKind field)) (number_of field greatest) (get name d)
+
+-- a width and a height, each from 0 to the greatest
+abbrev pub size_to : Field → ℕ → Data → Result Size Fault
+size_to field greatest d = do
+  _ ← sides_of field d
+  width ← side field greatest (codes "width") d
+  height ← side field greatest (codes "height") d
+  Ok (record { width = width; height = height })
+
+-- both 0 to the greatest
+abbrev pub any_size : Field → Data → Result Size Fault
+any_size field d = size_to field most d
+
+-- a size whose sides are 1 or more
+abbrev pub some_sides : Size → Size
+some_sides size = record { width = max size.width 1; height = max size.height 1 }
+
+-- both 0 to the greatest, and 0 is read as 1
+abbrev pub some_size : Field → Data → Result Size Fault
+some_size field d = do
+  size ← any_size field d
+  Ok (some_sides size)
+
+-- both 1 to 65,536
+abbrev pub multiple_size : Field → Data → Result Size Fault
+multiple_size field d = do
+  size ← size_to field (2 ^ 64 - 1) d
+  passing (wrong code.BadMultiple field) (λ size. is_multiple size.width && is_multiple size.height) size
+
+-- a number that is read so, or its absent value
+abbrev pub bound_or : (Field → Data → Result ℕ Fault) → Field → ℕ → Data → Result ℕ Fault
+bound_or read field absent d = optional field absent (read field) d
+
+-- a size that is read so, or one with the absent value on both sides
+abbrev pub size_or : (Field → Data → Result Size Fault) → Field → ℕ → Data → Result Size Fault
+size_or read field absent d = optional field (record { width = absent; height = absent }) (read field) d
+
+-- the numbers of an entry's bounds
+pub record StatedBounds : Type 0 where
+  pub min_size : Size
+  pub max_size : Size
+  pub size_alignment : Size
+  pub min_bytes_per_row : ℕ
+  pub max_bytes_per_row : ℕ
+  pub bytes_per_row_divisor : ℕ
+  pub start_offset_divisor : ℕ
+  pub display_rect_alignment : Size
+  pub required_min_size : Size
+  pub required_max_size : Size
+
+abbrev pub stated_bounds : Data → Result StatedBounds Fault
+stated_bounds d = do
+  min_size ← size_or some_size field.MinSize 1 d
+  max_size ← size_or any_size field.MaxSize most d
+  size_alignment ← size_or multiple_size field.SizeAlignment 1 d
+  min_bytes_per_row ← bound_or some_number field.MinBytesPerRow 1 d
+  max_bytes_per_row ← bound_or any_number field.MaxBytesPerRow most d
+  bytes_per_row_divisor ← bound_or multiple field.BytesPerRowDivisor 1 d
+  start_offset_divisor ← bound_or multiple field.StartOffsetDivisor 1 d
+  display_rect_alignment ← size_or multiple_size field.DisplayRectAlignment 1 d
+  required_min_size ← size_or some_size field.RequiredMinSize most d
+  required_max_size ← size_or any_size field.RequiredMaxSize 0 d
+  Ok (record {
+    min_size = min_size;
+    max_size = max_size;
+    size_alignment = size_alignment;
+    min_bytes_per_row = min_bytes_per_row;
+    max_bytes_per_row = max_bytes_per_row;
+    bytes_per_row_divisor = bytes_per_row_divisor;
+    start_offset_divisor = start_offset_divisor;
+    display_rect_alignment = display_rect_alignment;
+    required_min_size = required_min_size;
+    required_max_size = required_max_size;
+  })
+
+pub some_max : (n : ℕ) → 1 ≤ max n 1
+some_max n = omega arith
+
+-- the bounds of these numbers: those that must be 1 or more are, as they are read
+abbrev pub bounds_by : StatedBounds → ImageBounds
+bounds_by s = record {
+  min_size = some_sides s.min_size;
+  max_size = s.max_size;
+  size_alignment = some_sides s.size_alignment;
+  min_bytes_per_row = max s.min_bytes_per_row 1;
+  max_bytes_per_row = s.max_bytes_per_row;
+  bytes_per_row_divisor = max s.bytes_per_row_divisor 1;
+  start_offset_divisor = max s.start_offset_divisor 1;
+  display_rect_alignment = some_sides s.display_rect_alignment;
+  required_min_size = s.required_min_size;
+  required_max_size = s.required_max_size;
+  min_width_some = some_max s.min_size.width;
+  min_height_some = some_max s.min_size.height;
+  width_step_some = some_max s.size_alignment.width;
+  height_step_some = some_max s.size_alignment.height;
+  min_row_some = some_max s.min_bytes_per_row;
+  row_step_some = some_max s.bytes_per_row_divisor;
+  start_step_some = some_max s.start_offset_divisor;
+  display_width_some = some_max s.display_rect_alignment.width;
+  display_height_some = some_max s.display_rect_alignment.height;
+}
+
+-- the numbers of bounds
+abbrev pub stated_by : ImageBounds → StatedBounds
+stated_by b = record {
+  min_size = b.min_size;
+  max_size = b.max_size;
+  size_alignment = b.size_alignment;
+  min_bytes_per_row = b.min_bytes_per_row;
+  max_bytes_per_row = b.max_bytes_per_row;
+  bytes_per_row_divisor = b.bytes_per_row_divisor;
+  start_offset_divisor = b.start_offset_divisor;
+  display_rect_alignment = b.display_rect_alignment;
+  required_min_size = b.required_min_size;
+  required_max_size = b.required_max_size;
+}
+
+abbrev pub bounds_of : Data → Result ImageBounds Fault
+bounds_of d = do
+  stated ← stated_bounds d
+  Ok (bounds_by stated)

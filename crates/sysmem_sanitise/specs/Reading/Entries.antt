@@ -1,0 +1,153 @@
+-- The image entries of a participant's record. One with further pairs stands for several.
+use Rattle.std.specs.Prelude.{ℕ, ◌+◌, ◌&&◌, ◌||◌, ◌==◌, ◌++◌, List, [], ◌∷◌, length, map, Bool, true, false, not, Option, Some, None, Result, Ok, nat_lt, option_map, option_and_then, is_some, if◌then◌else◌}
+use Rattle.std.specs.List.{list_any}
+use Rattle.std.specs.Option.{option_eq}
+use Rattle.serde_json.specs.Data.{Data, Items, no_items, item}
+use Rattle.serde_json.specs.Find.{get, as_array}
+use Rattle.sysmem_counts.specs.declared.field.Field.{Field}
+use Rattle.sysmem_counts.specs.declared.field.Field.TheVariants as field
+use Rattle.sysmem_counts.specs.Field.{field_name}
+use Rattle.sysmem_formats.specs.declared.colour_space.ColourSpace.{ColourSpace}
+use Rattle.sysmem_formats.specs.declared.modifier.Modifier.{Modifier}
+use Rattle.sysmem_formats.specs.declared.modifier.Modifier.TheVariants.{Linear}
+use Rattle.sysmem_formats.specs.declared.pixel_format.PixelFormat.{PixelFormat}
+use Rattle.sysmem_formats.specs.Codes.{format_code, modifier_code}
+use Rattle.sysmem_image.specs.declared.bounds.ImageBounds.{ImageBounds}
+use Rattle.sysmem_image.specs.declared.colours.ColourSet.{ColourSet}
+use Rattle.sysmem_image.specs.declared.entry.Entry.{Entry}
+use Rattle.sysmem_image.specs.Colours.{no_colours, with_any, with_colour}
+use Rattle.sysmem_sanitise.specs.declared.reading.asked.AskedPair.{AskedPair}
+use Rattle.sysmem_sanitise.specs.declared.fault.Code.TheVariants as code
+use Rattle.sysmem_sanitise.specs.declared.fault.Fault.{Fault}
+use Rattle.sysmem_sanitise.specs.declared.fault.Spot.TheVariants.{At}
+use Rattle.sysmem_sanitise.specs.Faults.{wrong}
+use Rattle.sysmem_sanitise.specs.Reading.Bounds.{bounds_of}
+use Rattle.sysmem_sanitise.specs.Reading.Fields.{◌>>=◌, passing, read_each, object_of, optional, required, stated, list_of, named}
+use Rattle.sysmem_sanitise.specs.Reading.Names.{format_named, modifier_named, colour_named, choice_named}
+use Rattle.sysmem_sanitise.specs.Reading.Pairs.{pair_fields, is_misfit}
+
+-- DO_NOT_CARE is the same as itself alone
+abbrev pub same_format : Option PixelFormat → Option PixelFormat → Bool
+same_format a b = option_eq (λ x y. format_code x == format_code y) a b
+
+abbrev pub same_modifier : Option Modifier → Option Modifier → Bool
+same_modifier a b = option_eq (λ x y. modifier_code x == modifier_code y) a b
+
+abbrev pub same_asked : AskedPair → AskedPair → Bool
+same_asked a b = same_format a.format b.format && same_modifier a.modifier b.modifier
+
+-- a tiled modifier with a named format that isn't of 4 bytes
+abbrev pub is_unfit : Option PixelFormat → Option Modifier → Bool
+is_unfit (Some format) (Some modifier) = is_misfit (record { format = format; modifier = modifier })
+is_unfit _ _ = false
+
+-- the modifier beside a format: if it is missing, LINEAR, or DO_NOT_CARE if the format is
+abbrev pub modifier_beside : Option PixelFormat → Data → Result (Option Modifier) Fault
+modifier_beside format d = optional field.PixelFormatModifier (option_map (λ _. Linear) format) (named (choice_named modifier_named) field.PixelFormatModifier) d
+
+abbrev pub asked_of : Data → Result AskedPair Fault
+asked_of d = do
+  format ← required field.PixelFormat (named (choice_named format_named) field.PixelFormat) d
+  modifier ← modifier_beside format d
+  Ok (record { format = format; modifier = modifier })
+
+abbrev pub asked_by : Entry → AskedPair
+asked_by entry = record { format = entry.format; modifier = entry.modifier }
+
+-- an entry asks for the same
+abbrev pub has_entry : List Entry → AskedPair → Bool
+has_entry entries new = list_any (λ entry. same_asked (asked_by entry) new) entries
+
+-- one of these pairs asks for the same
+abbrev pub has_asked : List AskedPair → AskedPair → Bool
+has_asked pairs new = list_any (λ pair. same_asked pair new) pairs
+
+-- the pairs of an entry, and one more that a field gives: none of them or of the entries before asks for the same
+abbrev pub with_asked : Field → List Entry → List AskedPair → AskedPair → Result (List AskedPair) Fault
+with_asked field entries pairs asked = do
+  fitting ← passing (wrong code.TiledMisfit field) (λ pair. not (is_unfit pair.format pair.modifier)) asked
+  roomy ← passing (wrong code.TooMany field) (λ _. nat_lt (length entries + length pairs) 64) fitting
+  new ← passing (wrong code.RepeatedPair field) (λ pair. not (has_entry entries pair || has_asked pairs pair)) roomy
+  Ok (pairs ++ new ∷ [])
+
+-- a list that isn't empty
+abbrev pub is_filled : Option Items → Bool
+is_filled (Some (item d ds)) = true
+is_filled _ = false
+
+abbrev pub has_further : Data → Bool
+has_further d = is_filled (option_and_then as_array (get (field_name field.PixelFormatAndModifiers) d))
+
+-- an entry without a format has further pairs, and no pair of its own, whatever its modifier is
+abbrev pub no_pair : Data → Result (List AskedPair) Fault
+no_pair d = do
+  _ ← passing (wrong code.WrongKind field.PixelFormat) has_further d
+  _ ← modifier_beside None d
+  Ok []
+
+-- the entry's own pair
+abbrev pub own_pair : List Entry → Data → Result (List AskedPair) Fault
+own_pair entries d =
+    if is_some (get (field_name field.PixelFormat) d) then asked_of d >>= with_asked field.PixelFormat entries []
+    else no_pair d
+
+-- the pairs of an entry, and the one that an item of its further pairs states
+abbrev pub with_further : List Entry → List AskedPair → Data → Result (List AskedPair) Fault
+with_further entries pairs d = do
+  _ ← object_of (At field.PixelFormatAndModifiers) pair_fields d
+  asked ← asked_of d
+  with_asked field.PixelFormatAndModifiers entries pairs asked
+
+abbrev pub further_of : List Entry → List AskedPair → Data → Result (List AskedPair) Fault
+further_of entries own d = do
+  items ← list_of field.PixelFormatAndModifiers d
+  read_each (with_further entries) own items
+
+-- an entry's own pair, then its further pairs
+abbrev pub asked_pairs : List Entry → Data → Result (List AskedPair) Fault
+asked_pairs entries d = do
+  own ← own_pair entries d
+  optional field.PixelFormatAndModifiers own (further_of entries own) d
+
+-- the colour spaces, and the one that an item names, or DO_NOT_CARE
+abbrev pub listed : ColourSet → Option ColourSpace → ColourSet
+listed set None = with_any set
+listed set (Some colour) = with_colour set colour
+
+abbrev pub with_listed : ColourSet → Data → Result ColourSet Fault
+with_listed set d = do
+  colour ← named (choice_named colour_named) field.ColorSpaces d
+  Ok (listed set colour)
+
+-- a list of colour spaces that isn't empty
+abbrev pub colour_set_of : Data → Result ColourSet Fault
+colour_set_of d = do
+  items ← list_of field.ColorSpaces d
+  filled ← passing (wrong code.NoColourSpaces field.ColorSpaces) (λ items. is_filled (Some items)) items
+  read_each with_listed no_colours filled
+
+-- the fields of an entry
+abbrev pub entry_fields : List Field
+entry_fields = field.PixelFormat ∷ field.PixelFormatModifier ∷ field.PixelFormatAndModifiers ∷ field.ColorSpaces
+    ∷ field.MinSize ∷ field.MaxSize ∷ field.SizeAlignment ∷ field.MinBytesPerRow ∷ field.MaxBytesPerRow ∷ field.BytesPerRowDivisor
+    ∷ field.StartOffsetDivisor ∷ field.DisplayRectAlignment ∷ field.RequiredMinSize ∷ field.RequiredMaxSize ∷ []
+
+abbrev pub entry_object : Data → Result Data Fault
+entry_object d = object_of (At field.ImageFormatConstraints) entry_fields d
+
+abbrev pub entry_with : ColourSet → ImageBounds → AskedPair → Entry
+entry_with colours bounds pair = record { format = pair.format; modifier = pair.modifier; colours = colours; bounds = bounds }
+
+-- the entries, and those that an item stands for: one for each of its pairs, which share its other fields
+abbrev pub with_entry : List Entry → Data → Result (List Entry) Fault
+with_entry entries d = do
+  _ ← entry_object d
+  pairs ← asked_pairs entries d
+  colours ← stated code.NoColourSpaces field.ColorSpaces d >>= colour_set_of
+  bounds ← bounds_of d
+  Ok (entries ++ map (entry_with colours bounds) pairs)
+
+abbrev pub entries_of : Data → Result (List Entry) Fault
+entries_of d = do
+  items ← list_of field.ImageFormatConstraints d
+  read_each with_entry [] items

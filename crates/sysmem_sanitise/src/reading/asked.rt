@@ -1,0 +1,196 @@
+//! Reads the pairs of format and modifier that an entry asks for.
+
+ghost use Rattle.std.specs.Prelude.{◌≡◌, [], None, option_and_then};
+ghost use Rattle.serde_json.specs.Find.{get, as_array};
+ghost use Rattle.serde_json.specs.View.{view, items_view};
+ghost use Rattle.sysmem_counts.specs.declared.field.Field.TheVariants.{PixelFormatAndModifiers};
+ghost use Rattle.sysmem_counts.specs.Field.{field_name};
+ghost use Rattle.sysmem_sanitise.specs.Reading.Entries.{asked_by, same_format, same_modifier, same_asked, is_unfit, modifier_beside, asked_of, has_entry, has_asked, with_asked, has_further, no_pair, own_pair, with_further, further_of, asked_pairs};
+ghost use Rattle.sysmem_sanitise.specs.Reading.Fields.{Answers, read_each, seen_by};
+
+use super::field::{expect_object, list_of, stated};
+use super::name::{format_choice_of, modifier_choice_of};
+use crate::fault::{Code, Fault, Spot};
+use serde_json::Value;
+use std::alloc::Global;
+use sysmem_counts::Field;
+use sysmem_formats::{Modifier, Pair, PixelFormat, is_tiled_misfit};
+use sysmem_image::Entry;
+
+/// A format and a modifier that an entry asks for, each `None` for `DO_NOT_CARE`.
+#[derive(Clone, Copy, Debug, PartialEq, Eq)]
+pub(super) struct AskedPair {
+    pub(super) format: Option<PixelFormat>,
+    pub(super) modifier: Option<Modifier>,
+}
+
+fn modifier_beside(format: Option<PixelFormat>, object: &Value) -> Result<Option<Modifier>, Fault>
+    ensures { result ≡ modifier_beside format (view object.now) }
+{
+    match object.get(Field::PixelFormatModifier.name()) {
+        Some(value) => modifier_choice_of(value, Field::PixelFormatModifier),
+        None => match format {
+            Some(_) => Ok(Some(Modifier::Linear)),
+            None => Ok(None),
+        },
+    }
+}
+
+fn asked_of(object: &Value) -> Result<AskedPair, Fault>
+    ensures { result ≡ asked_of (view object.now) }
+{
+    let value = stated(object, Code::WrongKind, Field::PixelFormat)?;
+    let format = format_choice_of(value, Field::PixelFormat)?;
+    let modifier = modifier_beside(format, object)?;
+    Ok(AskedPair { format, modifier })
+}
+
+fn is_unfit(asked: AskedPair) -> bool
+    ensures { result ≡ is_unfit asked.format asked.modifier }
+{
+    match (asked.format, asked.modifier) {
+        (Some(format), Some(modifier)) => is_tiled_misfit(Pair { format, modifier }),
+        _ => false,
+    }
+}
+
+fn is_same_format(a: Option<PixelFormat>, b: Option<PixelFormat>) -> bool
+    ensures { result ≡ same_format a b }
+{
+    a == b
+}
+
+fn is_same_modifier(a: Option<Modifier>, b: Option<Modifier>) -> bool
+    ensures { result ≡ same_modifier a b }
+{
+    a == b
+}
+
+fn is_same(a: AskedPair, b: AskedPair) -> bool
+    ensures { result ≡ same_asked a b }
+{
+    is_same_format(a.format, b.format) && is_same_modifier(a.modifier, b.modifier)
+}
+
+fn asked_by(entry: &Entry) -> AskedPair
+    ensures { result ≡ asked_by entry.now }
+{
+    AskedPair {
+        format: entry.format,
+        modifier: entry.modifier,
+    }
+}
+
+fn has_entry(entries: &[Entry], new: AskedPair) -> bool
+    ensures { result ≡ has_entry entries.now new }
+{
+    entries.iter().any(|entry| is_same(asked_by(entry), new))
+}
+
+fn has_asked(pairs: &[AskedPair], new: AskedPair) -> bool
+    ensures { result ≡ has_asked pairs.now new }
+{
+    pairs.iter().any(|pair| is_same(*pair, new))
+}
+
+fn add_asked(
+    field: Field,
+    entries: &[Entry],
+    pairs: &mut Vec<AskedPair>,
+    new: AskedPair,
+) -> Result<(), Fault>
+    ensures { Answers (with_asked field entries.now pairs.old.items new)
+        (seen_by (λ _. pairs.new.items) result) }
+{
+    if is_unfit(new) {
+        return Err(Fault::of(Code::TiledMisfit, field));
+    }
+    if 64 <= entries.len() || 64 - entries.len() <= pairs.len() {
+        return Err(Fault::of(Code::TooMany, field));
+    }
+    if has_entry(entries, new) || has_asked(pairs, new) {
+        return Err(Fault::of(Code::RepeatedPair, field));
+    }
+    pairs.push(new)?;
+    Ok(())
+}
+
+#[tactic(auto, using(crate::proofs::Members::items_rules))]
+fn has_further(object: &Value) -> bool
+    ensures { result ≡ has_further (view object.now) }
+{
+    match object.get(Field::PixelFormatAndModifiers.name()) {
+        None => false,
+        Some(value) => match value.as_array() {
+            None => false,
+            Some(list) => !list.is_empty(),
+        },
+    }
+}
+
+fn expect_no_pair(object: &Value) -> Result<(), Fault>
+    ensures { seen_by (λ _. []) result ≡ no_pair (view object.now) }
+{
+    if !has_further(object) {
+        return Err(Fault::of(Code::WrongKind, Field::PixelFormat));
+    }
+    modifier_beside(None, object)?;
+    Ok(())
+}
+
+fn own_pair(alloc: Global, entries: &[Entry], object: &Value) -> Result<Vec<AskedPair>, Fault>
+    ensures { Answers (own_pair entries.now (view object.now)) (seen_by (λ pairs. pairs.items) result) }
+{
+    let mut pairs = Vec::new(alloc);
+    if object.get(Field::PixelFormat.name()).is_some() {
+        let asked = asked_of(object)?;
+        add_asked(Field::PixelFormat, entries, &mut pairs, asked)?;
+    } else {
+        expect_no_pair(object)?;
+    }
+    Ok(pairs)
+}
+
+fn add_further(entries: &[Entry], pairs: &mut Vec<AskedPair>, value: &Value) -> Result<(), Fault>
+    ensures { Answers (with_further entries.now pairs.old.items (view value.now))
+        (seen_by (λ _. pairs.new.items) result) }
+{
+    let fields = [Field::PixelFormat, Field::PixelFormatModifier];
+    expect_object(value, Spot::At(Field::PixelFormatAndModifiers), &fields)?;
+    let asked = asked_of(value)?;
+    add_asked(Field::PixelFormatAndModifiers, entries, pairs, asked)
+}
+
+fn further_in(
+    entries: &[Entry],
+    mut pairs: Vec<AskedPair>,
+    list: &[Value],
+) -> Result<Vec<AskedPair>, Fault>
+    ensures { Answers (read_each (with_further entries.now) pairs.items (items_view list.now))
+        (seen_by (λ pairs. pairs.items) result) }
+{
+    for value in list {
+        add_further(entries, &mut pairs, value)?;
+    }
+    Ok(pairs)
+}
+
+/// The pairs that an entry asks for: its own, then its further ones. None of them, and none of the entries before,
+/// asks for what another does.
+pub(super) fn asked_pairs(
+    alloc: Global,
+    entries: &[Entry],
+    object: &Value,
+) -> Result<Vec<AskedPair>, Fault>
+    ensures { Answers (asked_pairs entries.now (view object.now)) (seen_by (λ pairs. pairs.items) result) }
+{
+    let own = own_pair(alloc, entries, object)?;
+    match object.get(Field::PixelFormatAndModifiers.name()) {
+        None => Ok(own),
+        Some(value) => further_in(
+            entries,
+            own,
+            list_of(value, Field::PixelFormatAndModifiers)?,
+        ),
+    }
+}

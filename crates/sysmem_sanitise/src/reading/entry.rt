@@ -1,0 +1,98 @@
+//! Reads the image entries of a participant.
+
+ghost use Rattle.std.specs.Prelude.{◌≡◌, ◌++◌, [], Ok, map};
+ghost use Rattle.serde_json.specs.View.{view, items_view};
+ghost use Rattle.sysmem_counts.specs.declared.field.Field.TheVariants.{ImageFormatConstraints};
+ghost use Rattle.sysmem_sanitise.specs.Reading.Entries.{entry_object, entry_with, with_entry, entries_of};
+ghost use Rattle.sysmem_sanitise.specs.Reading.Fields.{Answers, optional, read_each, seen_by};
+
+use super::asked::{AskedPair, asked_pairs};
+use super::bounds::bounds_of;
+use super::colour_set::colour_set_of;
+use super::field::{expect_object, list_of, stated};
+use crate::fault::{Code, Fault, Spot};
+use serde_json::Value;
+use std::alloc::Global;
+use sysmem_counts::Field;
+use sysmem_image::{ColourSet, Entry, ImageBounds};
+
+fn entry_with(colours: ColourSet, bounds: ImageBounds, pair: AskedPair) -> Entry
+    ensures { result ≡ entry_with colours bounds pair }
+{
+    Entry {
+        format: pair.format,
+        modifier: pair.modifier,
+        colours,
+        bounds,
+    }
+}
+
+fn add_entries(
+    entries: &mut Vec<Entry>,
+    colours: ColourSet,
+    bounds: ImageBounds,
+    pairs: &[AskedPair],
+) -> Result<(), Fault>
+    ensures { Answers (Ok (entries.old.items ++ map (entry_with colours bounds) pairs.now))
+        (seen_by (λ _. entries.new.items) result) }
+{
+    for pair in pairs {
+        entries.push(entry_with(colours, bounds, *pair))?;
+    }
+    Ok(())
+}
+
+fn expect_entry(object: &Value) -> Result<(), Fault>
+    ensures { seen_by (λ _. view object.now) result ≡ entry_object (view object.now) }
+{
+    let fields = [
+        Field::PixelFormat,
+        Field::PixelFormatModifier,
+        Field::PixelFormatAndModifiers,
+        Field::ColorSpaces,
+        Field::MinSize,
+        Field::MaxSize,
+        Field::SizeAlignment,
+        Field::MinBytesPerRow,
+        Field::MaxBytesPerRow,
+        Field::BytesPerRowDivisor,
+        Field::StartOffsetDivisor,
+        Field::DisplayRectAlignment,
+        Field::RequiredMinSize,
+        Field::RequiredMaxSize,
+    ];
+    expect_object(object, Spot::At(Field::ImageFormatConstraints), &fields)
+}
+
+fn add_entry(alloc: Global, entries: &mut Vec<Entry>, value: &Value) -> Result<(), Fault>
+    ensures { Answers (with_entry entries.old.items (view value.now))
+        (seen_by (λ _. entries.new.items) result) }
+{
+    expect_entry(value)?;
+    let pairs = asked_pairs(alloc, entries, value)?;
+    let colours = colour_set_of(stated(value, Code::NoColourSpaces, Field::ColorSpaces)?)?;
+    let bounds = bounds_of(value)?;
+    add_entries(entries, colours, bounds, &pairs)
+}
+
+fn entries_list(alloc: Global, list: &[Value]) -> Result<Vec<Entry>, Fault>
+    ensures { Answers (read_each with_entry [] (items_view list.now))
+        (seen_by (λ entries. entries.items) result) }
+{
+    let mut entries = Vec::new(alloc);
+    for value in list {
+        add_entry(alloc, &mut entries, value)?;
+    }
+    Ok(entries)
+}
+
+/// The entries of a participant's record, one for each pair that they give.
+pub(super) fn entries_in(alloc: Global, object: &Value) -> Result<Vec<Entry>, Fault>
+    ensures { Answers (optional ImageFormatConstraints [] entries_of (view object.now))
+        (seen_by (λ entries. entries.items) result) }
+{
+    match object.get(Field::ImageFormatConstraints.name()) {
+        None => Ok(Vec::new(alloc)),
+        Some(value) => entries_list(alloc, list_of(value, Field::ImageFormatConstraints)?),
+    }
+}
