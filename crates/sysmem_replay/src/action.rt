@@ -2,7 +2,7 @@
 
 ghost use Rattle.std.specs.Prelude.{◌≡◌};
 
-use sysmem_merge::Constraints;
+use sysmem_sanitise::Constraints;
 
 /// An action on a node. The constraints that it sets were read.
 #[derive(Debug, Drop)]

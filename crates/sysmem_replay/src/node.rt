@@ -3,7 +3,7 @@
 ghost use Rattle.std.specs.Prelude.{◌≡◌, ◌≢◌, is_some};
 
 use crate::action::Action;
-use sysmem_merge::Constraints;
+use sysmem_sanitise::Constraints;
 
 /// What a node is. Gone nodes keep the constraints that they had set.
 #[derive(Debug, Drop)]

@@ -3,7 +3,7 @@
 ghost use Rattle.std.specs.Prelude.{◌≡◌};
 ghost use Rattle.sysmem_replay.specs.Lines.{refusal_text};
 
-use sysmem_merge::Fault;
+use sysmem_sanitise::Fault;
 
 /// Why a call is refused.
 #[derive(Clone, Copy, Debug, PartialEq, Eq)]

@@ -20,7 +20,7 @@ use crate::verdict::Verdict;
 use serde_json::Value;
 use std::alloc::{AllocError, Global};
 use std::mem;
-use sysmem_merge::{Code, Fault, Platform, read_constraints};
+use sysmem_sanitise::{Code, Fault, Platform, read_constraints};
 
 const MOST_NODES: usize = 128;
 
@@ -322,7 +322,7 @@ fn answer_by(verdict: Option<Verdict>) -> Reply
 {
     match verdict {
         None => Reply::Refused(Refusal::Pending),
-        Some(Verdict::Chosen(_)) => Reply::Accepted,
+        Some(Verdict::Chosen(_, _)) => Reply::Accepted,
         Some(Verdict::Empty) => Reply::Refused(Refusal::ConstraintsIntersectionEmpty),
         Some(Verdict::NoMemory) => Reply::Refused(Refusal::NoMemory),
     }
