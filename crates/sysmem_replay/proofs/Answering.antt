@@ -1,6 +1,5 @@
 -- How a reply answers a call, from what the runner's functions say.
-use Rattle.std.proofs.Common.{◌≡◌, ℕ, ◌<◌, ◌≤◌, ◌++◌, ◌||◌, List, [], ◌∷◌, length, Bool, true, false, Option, Some, None, Result, Ok, Err, ◌⊎◌, inl, inr, refl, sym, ◌∙◌, ap, append_assoc}
-use Rattle.std.specs.Prelude.{slice_get, slice_set}
+use Rattle.std.proofs.Common.{◌≡◌, ℕ, ◌++◌, ◌||◌, List, length, Bool, true, false, Some, None, Result, Ok, Err, refl, ◌∙◌, ap, append_assoc}
 use Rattle.std.specs.Result.{result_err}
 use Rattle.serde_json.specs.Data.{Data}
 use Rattle.sysmem_sanitise.specs.declared.fault.Fault.{Fault}
@@ -11,16 +10,14 @@ use Rattle.sysmem_sanitise.specs.Participant.{Participant}
 use Rattle.sysmem_sanitise.specs.Reading.{participant_of}
 use Rattle.sysmem_replay.specs.declared.action.Action.{Action}
 use Rattle.sysmem_replay.specs.declared.action.Action.TheVariants.{SetConstraints}
-use Rattle.sysmem_replay.specs.declared.node.Node.{Node}
-use Rattle.sysmem_replay.specs.declared.node.Node.TheVariants.{Token}
 use Rattle.sysmem_replay.specs.declared.reply.Refusal.{Refusal}
 use Rattle.sysmem_replay.specs.declared.reply.Reply.{Reply}
 use Rattle.sysmem_replay.specs.declared.reply.Reply.TheVariants.{Accepted, Refused, Misread, Skipped}
 use Rattle.sysmem_replay.specs.declared.verdict.Verdict.{Verdict}
 use Rattle.sysmem_sanitise.specs.Platform.{PlatformFacts}
-use Rattle.sysmem_replay.specs.Call.{Deed, states, checks}
+use Rattle.sysmem_replay.specs.Call.{Deed, states}
 use Rattle.sysmem_replay.specs.Lines.{call_line, verdict_line}
-use Rattle.sysmem_replay.specs.Report.{Answers, Asks, Decides, Settles, SettlesIn, Takes, decides, takes, is_no_memory, to_set, skips, misreads, starves as starved_by, refuses, accepts, answers, unmade, with_name, node_named, checked, named}
+use Rattle.sysmem_replay.specs.Report.{Answers, Asks, Decides, SettlesIn, Takes, decides, takes, is_no_memory, to_set, skips, misreads, starves as starved_by, refuses, accepts, unmade, node_named, named}
 use Rattle.sysmem_replay.specs.Script.{Request}
 use Rattle.sysmem_replay.specs.State.{State, applied, is_due, participants_of, starves}
 

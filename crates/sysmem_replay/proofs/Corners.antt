@@ -11,7 +11,6 @@ use Rattle.sysmem_merge.specs.declared.settings.Settings.{Settings as Settled}
 use Rattle.sysmem_merge.specs.Best.{IsBest}
 use Rattle.sysmem_sanitise.specs.Participant.{Participant}
 use Rattle.sysmem_sanitise.specs.Platform.{PlatformFacts}
-use Rattle.sysmem_replay.specs.declared.verdict.Verdict.{Verdict}
 use Rattle.sysmem_replay.specs.declared.verdict.Verdict.TheVariants.{Chosen}
 
 up_to_both : (m n : ℕ) → m ≤ n → n ≤ m → m ≡ n

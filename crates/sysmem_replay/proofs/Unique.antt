@@ -1,11 +1,10 @@
 -- Calls have one report, where memory is not refused.
-use Rattle.std.proofs.Common.{◌≡◌, ℕ, ◌+◌, ◌++◌, ◌||◌, List, [], ◌∷◌, Bool, true, false, Option, Some, None, Result, Ok, Err, refl, sym, ◌∙◌, ap, subst}
+use Rattle.std.proofs.Common.{◌≡◌, ℕ, ◌+◌, ◌++◌, ◌||◌, List, Bool, true, false, Option, Some, None, Result, Ok, Err, refl, sym, ◌∙◌, ap, subst}
 use Rattle.std.specs.Prelude.{slice_get, option_and_then}
-use Rattle.serde_json.specs.Data.{Data}
 use Rattle.sysmem_image.specs.declared.size.Corner.{Corner}
 use Rattle.sysmem_image.specs.Corners.{IsCorner}
 use Rattle.sysmem_image.specs.Laws.{CornerIsLeast}
-use Rattle.sysmem_merge.specs.Best.{IsBest, IsUnmet}
+use Rattle.sysmem_merge.specs.Best.{IsBest}
 use Rattle.sysmem_merge.specs.Laws.{OneBest}
 use Rattle.sysmem_sanitise.specs.Participant.{Participant}
 use Rattle.sysmem_sanitise.specs.Platform.{PlatformFacts}
@@ -19,16 +18,15 @@ use Rattle.sysmem_replay.specs.declared.reply.Refusal.{Refusal}
 use Rattle.sysmem_replay.specs.declared.reply.Reply.{Reply}
 use Rattle.sysmem_replay.specs.declared.reply.Reply.TheVariants.{Accepted, Refused, Misread, Skipped}
 use Rattle.sysmem_replay.specs.declared.verdict.Verdict.{Verdict}
-use Rattle.sysmem_replay.specs.declared.verdict.Verdict.TheVariants.{Chosen, Empty, NoMemory}
+use Rattle.sysmem_replay.specs.declared.verdict.Verdict.TheVariants.{Chosen}
 use Rattle.sysmem_replay.specs.Call.{Deed, duplicates, binds, states, releases, checks}
 use Rattle.sysmem_replay.specs.Laws.{OneReport}
 use Rattle.sysmem_replay.proofs.Corners.{one_chosen}
-use Rattle.sysmem_replay.specs.Lines.{call_line, verdict_line, pending_lines}
+use Rattle.sysmem_replay.specs.Lines.{call_line, verdict_line}
 use Rattle.sysmem_replay.specs.Report.{Answers, skips, misreads, starves, refuses, accepts, answers, Asks, to_duplicate, to_bind, to_set_none, to_set, to_release, Decides, chooses, none_meet, has_no_memory, is_no_memory, Settles, waits, decides, Step, takes, Report, ended, continued, node_named, unmade, with_name, checked}
 use Rattle.sysmem_replay.specs.Script.{Request}
-use Rattle.sysmem_replay.specs.State.{State, first_state, applied, changed, has_room, is_barred, is_due, participants_of}
+use Rattle.sysmem_replay.specs.State.{State, first_state, applied, changed, has_room, is_barred, participants_of}
 
--- participants have one best settings on the platform
 -- the best settings of participants, with their smallest image, are one verdict
 abbrev pub OneChosenOn : PlatformFacts → Type 0
 OneChosenOn platform = (ps : List Participant) (a b : Settled) (k m : Corner) → IsBest true platform ps a → IsBest true platform ps b

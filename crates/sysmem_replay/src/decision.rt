@@ -17,7 +17,7 @@ use sysmem_merge::Aggregate;
 use sysmem_sanitise::Platform;
 
 /// Decides for the nodes that have constraints, at most 128: the best settings for them, or that none meet them.
-pub fn decide(alloc: Global, platform: &Platform, nodes: &[Node]) -> Verdict
+pub(crate) fn decide(alloc: Global, platform: &Platform, nodes: &[Node]) -> Verdict
     requires { length nodes.now ≤ 128 }
     ensures { Decides platform.now (filter_map constraints_at nodes.now) result }
 {

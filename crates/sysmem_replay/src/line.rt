@@ -19,7 +19,7 @@ use sysmem_merge::Settings;
 use sysmem_sanitise::{Fault, Platform};
 
 /// Puts the line of a call behind the text: `7 duplicate root a ok`.
-pub fn put_call(
+pub(crate) fn put_call(
     text: &mut String,
     number: usize,
     call: &Call<'_>,
@@ -33,7 +33,7 @@ pub fn put_call(
 }
 
 /// Puts a verdict's line behind the text: `domain / empty`.
-pub fn put_verdict(
+pub(crate) fn put_verdict(
     text: &mut String,
     platform: &Platform,
     verdict: Verdict,
@@ -48,7 +48,7 @@ pub fn put_verdict(
 }
 
 /// Puts the last line of a report without a verdict behind the text: `domain / pending`.
-pub fn put_pending(text: &mut String, verdict: Option<Verdict>) -> Result<(), AllocError>
+pub(crate) fn put_pending(text: &mut String, verdict: Option<Verdict>) -> Result<(), AllocError>
     ensures { OnOk result (string_bytes text.new ≡ string_bytes text.old ++ pending_lines verdict) }
 {
     match verdict {

@@ -9,7 +9,7 @@ use std::alloc::Global;
 use sysmem_sanitise::{Code, Platform};
 
 /// Reads the platform that a value stands for.
-pub fn read_platform(alloc: Global, value: &Value) -> Result<Platform, RunFault>
+pub(crate) fn read_platform(alloc: Global, value: &Value) -> Result<Platform, RunFault>
     ensures { Gives platform_held result (platform_said (view value.now)) }
 {
     match sysmem_sanitise::read_platform(alloc, value) {

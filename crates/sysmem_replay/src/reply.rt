@@ -24,7 +24,7 @@ pub enum Refusal {
 
 impl Refusal {
     /// The refusal as a report prints it: its code and its name.
-    pub fn text(self) -> &'static str
+    pub(crate) fn text(self) -> &'static str
         ensures { result.now ≡ refusal_text self }
     {
         match self {

@@ -20,7 +20,7 @@ impl Verdict {
     ghost use Rattle.sysmem_replay.specs.Report.{is_no_memory};
 
     /// Whether memory was refused.
-    pub fn is_no_memory(self) -> bool
+    pub(crate) fn is_no_memory(self) -> bool
         ensures { result ≡ is_no_memory self }
     {
         matches!(self, Verdict::NoMemory)
