@@ -16,9 +16,11 @@ proved:
 test:
 	rt ci
 
-# Tests of the proved program as a whole: each example's report, and each of its allocations refused in turn (needs a C compiler).
+# Tests of the proved program as a whole: the report of each example and each worked row, what it refuses, and each of its
+# allocations refused in turn (needs a C compiler and Python).
 program-test: proved
-	tests/examples
+	tests/reports
+	tests/refusals
 	tests/want_of_memory
 
 # Times the proved program beside the reading of the same bytes as a JSON value.

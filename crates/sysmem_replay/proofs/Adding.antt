@@ -3,7 +3,6 @@ use Rattle.std.proofs.Common.{◌≡◌, ℕ, ◌+◌, ◌<◌, ◌++◌, List, 
 use Rattle.std.specs.List.{filter_map}
 use Rattle.std.proofs.lemmas.List.{take_more}
 use Rattle.std.proofs.lemmas.List.Elements.{filter_map-append}
-use Rattle.sysmem_sanitise.specs.Participant.{Participant}
 use Rattle.sysmem_replay.specs.declared.node.Node.{Node}
 use Rattle.sysmem_replay.specs.State.{constraints_at}
 

@@ -3,9 +3,9 @@ use Rattle.std.proofs.Common.{◌≡◌, ℕ, ◌<◌, ◌≤◌, List, Bool, fa
 use Rattle.serde_json.specs.Data.{Data}
 use Rattle.sysmem_replay.specs.declared.fault.ScriptFault.{ScriptFault}
 use Rattle.sysmem_replay.specs.Laws.{IsFed, OneAnswer, OneReport}
-use Rattle.sysmem_replay.specs.Outcome.{Reported, IsReported, refused, reported, RunsTo}
+use Rattle.sysmem_replay.specs.Outcome.{Reported, IsReported, refused, reported}
 use Rattle.sysmem_replay.specs.Report.{Report}
-use Rattle.sysmem_replay.specs.Script.{Script, script_of}
+use Rattle.sysmem_replay.specs.Script.{Script}
 use Rattle.sysmem_replay.specs.State.{first_state}
 use Rattle.sysmem_replay.specs.Text.{IsJson, longest, too_long, not_json, spelled}
 

@@ -1,26 +1,23 @@
 -- How a reply answers a call, from what the runner's functions say.
-use Rattle.std.proofs.Common.{◌≡◌, ℕ, ◌<◌, ◌≤◌, ◌++◌, ◌||◌, List, [], ◌∷◌, length, Bool, true, false, Option, Some, None, Result, Ok, Err, ◌⊎◌, inl, inr, refl, sym, ◌∙◌, ap, append_assoc}
-use Rattle.std.specs.Prelude.{slice_get, slice_set}
+use Rattle.std.proofs.Common.{◌≡◌, ℕ, ◌++◌, ◌||◌, List, length, Bool, true, false, Some, None, Result, Ok, Err, refl, ◌∙◌, ap, append_assoc}
 use Rattle.std.specs.Result.{result_err}
 use Rattle.serde_json.specs.Data.{Data}
 use Rattle.sysmem_sanitise.specs.declared.fault.Fault.{Fault}
 use Rattle.sysmem_sanitise.specs.declared.fault.Code.{Code}
-use Rattle.sysmem_sanitise.specs.declared.fault.Code.TheVariants.{WantOfMemory, WrongKind}
+use Rattle.sysmem_sanitise.specs.declared.fault.Code.TheVariants.{WantOfMemory}
 use Rattle.sysmem_sanitise.specs.Faults.{want_of_memory}
 use Rattle.sysmem_sanitise.specs.Participant.{Participant}
 use Rattle.sysmem_sanitise.specs.Reading.{participant_of}
 use Rattle.sysmem_replay.specs.declared.action.Action.{Action}
 use Rattle.sysmem_replay.specs.declared.action.Action.TheVariants.{SetConstraints}
-use Rattle.sysmem_replay.specs.declared.node.Node.{Node}
-use Rattle.sysmem_replay.specs.declared.node.Node.TheVariants.{Token}
 use Rattle.sysmem_replay.specs.declared.reply.Refusal.{Refusal}
 use Rattle.sysmem_replay.specs.declared.reply.Reply.{Reply}
 use Rattle.sysmem_replay.specs.declared.reply.Reply.TheVariants.{Accepted, Refused, Misread, Skipped}
 use Rattle.sysmem_replay.specs.declared.verdict.Verdict.{Verdict}
 use Rattle.sysmem_sanitise.specs.Platform.{PlatformFacts}
-use Rattle.sysmem_replay.specs.Call.{Deed, states, checks}
+use Rattle.sysmem_replay.specs.Call.{Deed, states}
 use Rattle.sysmem_replay.specs.Lines.{call_line, verdict_line}
-use Rattle.sysmem_replay.specs.Report.{Answers, Asks, Decides, Settles, SettlesIn, Takes, decides, takes, is_no_memory, to_set, skips, misreads, starves as starved_by, refuses, accepts, answers, unmade, with_name, node_named, checked, named}
+use Rattle.sysmem_replay.specs.Report.{Answers, Asks, Decides, SettlesIn, Takes, decides, takes, is_no_memory, to_set, skips, misreads, starves as starved_by, refuses, accepts, unmade, node_named, named}
 use Rattle.sysmem_replay.specs.Script.{Request}
 use Rattle.sysmem_replay.specs.State.{State, applied, is_due, participants_of, starves}
 
@@ -52,21 +49,25 @@ or_false : (b : Bool) → (b || false) ≡ b
 or_false true = refl
 or_false false = refl
 
-by_code : (s t : State) (r : Request) (k : ℕ) (d : Data) (fault : Fault) (code : Code) → node_named s r ≡ Some k → r.deed ≡ states (Some d)
-    → ((fault ≡ want_of_memory → ⊥) → participant_of d ≡ Err fault) → fault.code ≡ code → t ≡ record s { starved = s.starved || starves fault.code }
+starves_for_want : (code : Code) → starves code ≡ true → code ≡ WantOfMemory
+starves_for_want WantOfMemory e = refl
+starves_for_want _ e = absurd (cc)
+
+by_code : (s t : State) (r : Request) (k : ℕ) (d : Data) (fault : Fault) (b : Bool) → node_named s r ≡ Some k → r.deed ≡ states (Some d)
+    → ((fault ≡ want_of_memory → ⊥) → participant_of d ≡ Err fault) → starves fault.code ≡ b → t ≡ record s { starved = s.starved || starves fault.code }
     → Answers s r (Misread fault) t
-by_code s t r k d fault WantOfMemory here deed said g e =
+by_code s t r k d fault true here deed said g e =
     let all : (s.starved || starves fault.code) ≡ true = rw g (or_true s.starved) in
-    rw (e, all) (starved_by k d fault here deed g)
-by_code s t r k d fault WrongKind here deed said g e =
+    rw (e, all) (starved_by k d fault here deed (starves_for_want fault.code g))
+by_code s t r k d fault false here deed said g e =
     let all : (s.starved || starves fault.code) ≡ s.starved = rw g (or_false s.starved) in
-    rw (e, all) (misreads k d fault here deed (said (λ (want : fault ≡ want_of_memory). absurd (cc (g, ap (λ (f : Fault). f.code) want)))))
+    rw (e, all) (misreads k d fault here deed (said (λ (want : fault ≡ want_of_memory). absurd (cc (g, ap (λ (f : Fault). starves f.code) want)))))
 
 -- a fault for want of memory starves, and every other one is what is wrong with the record
 pub misread_as : (s t : State) (r : Request) (k : ℕ) (d : Data) (fault : Fault) → node_named s r ≡ Some k → r.deed ≡ states (Some d)
     → ((fault ≡ want_of_memory → ⊥) → participant_of d ≡ Err fault) → t ≡ record s { starved = s.starved || starves fault.code }
     → Answers s r (Misread fault) t
-misread_as s t r k d fault here deed said e = by_code s t r k d fault fault.code here deed said refl e
+misread_as s t r k d fault here deed said e = by_code s t r k d fault (starves fault.code) here deed said refl e
 
 -- a decision of a domain that is due settles it
 pub settled_as : (platform : PlatformFacts) (s t : State) (before after : List ℕ) (verdict : Verdict) → is_due s ≡ true

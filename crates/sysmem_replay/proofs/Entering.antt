@@ -1,13 +1,12 @@
 -- An action that isn't refused leaves the nodes with the changed one and the one that it makes.
-use Rattle.std.proofs.Common.{◌≡◌, ℕ, ◌<◌, ◌≤◌, ◌+◌, ◌++◌, List, length, Bool, true, false, Option, Some, None, Result, Ok, Err, refl, sym, ◌∙◌, ap, arith, get_or}
-use Rattle.std.specs.Prelude.{slice_get, slice_set, slice_index_or, option_and_then}
+use Rattle.std.proofs.Common.{◌≡◌, ℕ, ◌++◌, Bool, true, false, Option, Some, None, Ok, refl, sym, ◌∙◌, ap}
+use Rattle.std.specs.Prelude.{slice_get, slice_set, slice_index_or}
 use Rattle.std.specs.Result.{result_err}
 use Rattle.std.proofs.lemmas.List.{set-set}
 use Rattle.std.proofs.lemmas.Option.{get_or_from_slice_get}
 use Rattle.sysmem_replay.specs.declared.action.Action.{Action}
 use Rattle.sysmem_replay.specs.declared.node.Node.{Node}
-use Rattle.sysmem_replay.specs.declared.reply.Refusal.{Refusal}
-use Rattle.sysmem_replay.specs.State.{State, applied, entered, is_barred, has_room, made_if, makes_token, changed}
+use Rattle.sysmem_replay.specs.State.{State, applied, is_barred, has_room, made_if, makes_token, changed}
 
 -- what is known of an action that isn't refused: nothing bars it, its node is there, and there is room
 record IsEntered (s : State) (k : ℕ) (action : Action) (there node : Node) : Type 0 where

@@ -3,6 +3,7 @@ pub mod AnswerLemmas
 pub mod Answering
 mod Asked
 pub mod CallsLemmas
+pub mod Corners
 pub mod Entering
 mod Entries
 mod Filled

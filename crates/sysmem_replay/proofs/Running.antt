@@ -1,5 +1,5 @@
 -- What a run says of its input, from what it says of the bytes that it read.
-use Rattle.std.proofs.Common.{◌≡◌, ℕ, ◌<◌, ◌≤◌, ◌++◌, List, [], length, Bool, Option, Some, None, Result, Ok, Err, refl, sym, ◌∙◌, ap, append-nil, length-append, arith}
+use Rattle.std.proofs.Common.{◌≡◌, ℕ, ◌≤◌, ◌++◌, List, [], length, Bool, Option, Some, None, Result, Ok, Err, refl, ◌∙◌, ap, append-nil, length-append, arith}
 use Rattle.std.specs.Prelude.{IfSome, IfOk, IfErr}
 use Rattle.std.specs.String.{string_bytes}
 use Rattle.std.specs.Io.KnownBytes.{Appends}
@@ -17,7 +17,7 @@ use Rattle.sysmem_replay.specs.Report.{Report}
 use Rattle.sysmem_replay.specs.State.{first_state}
 use Rattle.sysmem_replay.specs.Script.{Script, script_of}
 use Rattle.sysmem_replay.specs.Seen.{script_seen}
-use Rattle.sysmem_replay.specs.Text.{Outcome, too_long, not_json, spelled, IsJson, IsValue, longest}
+use Rattle.sysmem_replay.specs.Text.{Outcome, too_long, not_json, spelled, IsValue, longest}
 use Rattle.sysmem_replay.specs.Transfer.{ReadsScript, WritesFront}
 
 whole-read : (input rest bytes : List ℕ) → input ≡ bytes ++ rest → (length bytes ≤ longest → rest ≡ []) → length bytes ≤ longest → input ≡ bytes

@@ -1,5 +1,5 @@
 -- A report of the calls so far, and of one more.
-use Rattle.std.proofs.Common.{◌≡◌, ℕ, ◌+◌, ◌<◌, ◌≤◌, ◌++◌, List, [], ◌∷◌, Bool, drop, map, length, get_or, refl, sym, ◌∙◌, ap, append_assoc, arith}
+use Rattle.std.proofs.Common.{◌≡◌, ℕ, ◌+◌, ◌<◌, ◌≤◌, ◌++◌, List, [], ◌∷◌, Bool, drop, map, length, get_or, sym, ◌∙◌, ap, append_assoc}
 use Rattle.std.proofs.lemmas.List.{at_drop_more, at_drop_all, drop-map, length-map}
 use Rattle.sysmem_sanitise.specs.Platform.{PlatformFacts}
 use Rattle.sysmem_replay.specs.declared.script.call.Call.{Call}

@@ -1,8 +1,10 @@
 -- Calls have one report, where memory is not refused.
-use Rattle.std.proofs.Common.{◌≡◌, ℕ, ◌+◌, ◌++◌, ◌||◌, List, [], ◌∷◌, Bool, true, false, Option, Some, None, Result, Ok, Err, refl, sym, ◌∙◌, ap, subst}
+use Rattle.std.proofs.Common.{◌≡◌, ℕ, ◌+◌, ◌++◌, ◌||◌, List, Bool, true, false, Option, Some, None, Result, Ok, Err, refl, sym, ◌∙◌, ap, subst}
 use Rattle.std.specs.Prelude.{slice_get, option_and_then}
-use Rattle.serde_json.specs.Data.{Data}
-use Rattle.sysmem_merge.specs.Best.{IsBest, IsUnmet}
+use Rattle.sysmem_image.specs.declared.size.Corner.{Corner}
+use Rattle.sysmem_image.specs.Corners.{IsCorner}
+use Rattle.sysmem_image.specs.Laws.{CornerIsLeast}
+use Rattle.sysmem_merge.specs.Best.{IsBest}
 use Rattle.sysmem_merge.specs.Laws.{OneBest}
 use Rattle.sysmem_sanitise.specs.Participant.{Participant}
 use Rattle.sysmem_sanitise.specs.Platform.{PlatformFacts}
@@ -16,17 +18,19 @@ use Rattle.sysmem_replay.specs.declared.reply.Refusal.{Refusal}
 use Rattle.sysmem_replay.specs.declared.reply.Reply.{Reply}
 use Rattle.sysmem_replay.specs.declared.reply.Reply.TheVariants.{Accepted, Refused, Misread, Skipped}
 use Rattle.sysmem_replay.specs.declared.verdict.Verdict.{Verdict}
-use Rattle.sysmem_replay.specs.declared.verdict.Verdict.TheVariants.{Chosen, Empty, NoMemory}
+use Rattle.sysmem_replay.specs.declared.verdict.Verdict.TheVariants.{Chosen}
 use Rattle.sysmem_replay.specs.Call.{Deed, duplicates, binds, states, releases, checks}
 use Rattle.sysmem_replay.specs.Laws.{OneReport}
-use Rattle.sysmem_replay.specs.Lines.{call_line, verdict_line, pending_lines}
+use Rattle.sysmem_replay.proofs.Corners.{one_chosen}
+use Rattle.sysmem_replay.specs.Lines.{call_line, verdict_line}
 use Rattle.sysmem_replay.specs.Report.{Answers, skips, misreads, starves, refuses, accepts, answers, Asks, to_duplicate, to_bind, to_set_none, to_set, to_release, Decides, chooses, none_meet, has_no_memory, is_no_memory, Settles, waits, decides, Step, takes, Report, ended, continued, node_named, unmade, with_name, checked}
 use Rattle.sysmem_replay.specs.Script.{Request}
-use Rattle.sysmem_replay.specs.State.{State, first_state, applied, changed, has_room, is_barred, is_due, participants_of}
+use Rattle.sysmem_replay.specs.State.{State, first_state, applied, changed, has_room, is_barred, participants_of}
 
--- participants have one best settings on the platform
-abbrev pub OneBestOn : PlatformFacts → Type 0
-OneBestOn platform = (ps : List Participant) (a b : Settled) → IsBest true platform ps a → IsBest true platform ps b → a ≡ b
+-- the best settings of participants, with their smallest image, are one verdict
+abbrev pub OneChosenOn : PlatformFacts → Type 0
+OneChosenOn platform = (ps : List Participant) (a b : Settled) (k m : Corner) → IsBest true platform ps a → IsBest true platform ps b
+    → IsCorner a.offer a.bounds k → IsCorner b.offer b.bounds m → Chosen a k ≡ Chosen b m
 
 absurd_true : {A : Type 0} → true ≡ false → A
 absurd_true e = absurd (cc)
@@ -86,14 +90,14 @@ is_answer s r _ _ (accepts k action after here asks made) e = rw (here, asked_fo
 is_answer s r _ _ (answers k here deed) e = rw (here, deed) refl
 
 -- a decision has one verdict, where memory is not refused
-one_verdict : (platform : PlatformFacts) (ps : List Participant) (v w : Verdict) → OneBestOn platform
+one_verdict : (platform : PlatformFacts) (ps : List Participant) (v w : Verdict) → OneChosenOn platform
     → Decides platform ps v → Decides platform ps w → is_no_memory v ≡ false → is_no_memory w ≡ false → v ≡ w
-one_verdict platform ps _ _ best (chooses a x) (chooses b y) e f = ap Chosen (best ps a b x y)
-one_verdict platform ps _ _ best (chooses a x) (none_meet y) e f = absurd (y a x.meets)
-one_verdict platform ps _ _ best (none_meet x) (chooses b y) e f = absurd (x b y.meets)
+one_verdict platform ps _ _ best (chooses a k x u) (chooses b m y v) e f = best ps a b k m x y u v
+one_verdict platform ps _ _ best (chooses a k x u) (none_meet y) e f = absurd (y a x.meets)
+one_verdict platform ps _ _ best (none_meet x) (chooses b m y v) e f = absurd (x b y.meets)
 one_verdict platform ps _ _ best (none_meet x) (none_meet y) e f = refl
 one_verdict platform ps _ _ best has_no_memory second e f = absurd_true e
-one_verdict platform ps _ _ best (chooses a x) has_no_memory e f = absurd_true f
+one_verdict platform ps _ _ best (chooses a k x u) has_no_memory e f = absurd_true f
 one_verdict platform ps _ _ best (none_meet x) has_no_memory e f = absurd_true f
 
 -- the state after a decision
@@ -101,7 +105,7 @@ abbrev decided : State → Verdict → State
 decided s v = record s { verdict = Some v; starved = s.starved || is_no_memory v }
 
 -- what follows a reply is one, where memory is not refused
-one_settling : (platform : PlatformFacts) (s t u : State) (a b : List ℕ) → OneBestOn platform
+one_settling : (platform : PlatformFacts) (s t u : State) (a b : List ℕ) → OneChosenOn platform
     → Settles platform s t a → Settles platform s u b → t.starved ≡ false → u.starved ≡ false → (t ≡ u) × (a ≡ b)
 one_settling platform s _ _ _ _ best (waits idle) (waits _) e f = (refl, refl)
 one_settling platform s _ _ _ _ best (waits idle) (decides w ready y) e f = absurd_true (sym ready ∙ idle)
@@ -118,7 +122,7 @@ unstarved_before platform s _ _ (decides v ready x) e = or_left s.starved (is_no
 joined : (a b c d : List ℕ) → a ≡ b → c ≡ d → a ++ c ≡ b ++ d
 joined a b c d e f = cc
 
-one_step : (platform : PlatformFacts) (number : ℕ) (s t u : State) (r : Request) (a b : List ℕ) → OneBestOn platform
+one_step : (platform : PlatformFacts) (number : ℕ) (s t u : State) (r : Request) (a b : List ℕ) → OneChosenOn platform
     → Step platform number s r t a → Step platform number s r u b → t.starved ≡ false → u.starved ≡ false → (t ≡ u) × (a ≡ b)
 one_step platform number s t u r _ _ best (takes reply mid _ line answered settled) (takes reply' mid' _ line' answered' settled') e f =
     let first : (reply, mid) ≡ answer_for s r (node_named s r) = is_answer s r reply mid answered (unstarved_before platform mid t line settled e) in
@@ -168,7 +172,7 @@ report_starves platform _ _ _ _ _ (ended number s) e = e
 report_starves platform _ _ _ _ _ (continued number s t r rs text rest starved step report) e =
     report_starves platform (number + 1) t rs rest starved report (step_starves platform number s t r text step e)
 
-same_report : (platform : PlatformFacts) (number : ℕ) (s : State) (rs : List Request) (a b : List ℕ) (x y : Bool) → OneBestOn platform
+same_report : (platform : PlatformFacts) (number : ℕ) (s : State) (rs : List Request) (a b : List ℕ) (x y : Bool) → OneChosenOn platform
     → Report platform number s rs a x → Report platform number s rs b y → x ≡ false → y ≡ false → a ≡ b
 same_report platform _ _ _ _ _ _ _ best (ended number s) (ended _ _) e f = refl
 same_report platform _ _ _ _ _ _ _ best (continued number s t r rs text rest x step report) (continued _ _ u _ _ line others y step' report') e f =
@@ -178,6 +182,6 @@ same_report platform _ _ _ _ _ _ _ best (continued number s t r rs text rest x s
     let there : Report platform (number + 1) t rs others y = subst (λ (v : State). Report platform (number + 1) v rs others y) (sym same.0) report' in
     joined text line rest others same.1 (same_report platform (number + 1) t rs rest others x y best report there e f)
 
-pub one_report : OneBest → OneReport
-one_report best platform rs a b first second =
-    same_report platform 1 first_state rs a b false false (λ ps x y. best true platform ps x y) first second refl refl
+pub one_report : OneBest → CornerIsLeast → OneReport
+one_report best least platform rs a b first second =
+    same_report platform 1 first_state rs a b false false (λ ps s t k m x y u v. one_chosen least s t k m (best true platform ps s t x y) u v) first second refl refl

@@ -4,8 +4,12 @@ use Rattle.std.specs.Fmt.{decimal}
 use Rattle.std.specs.Option.{option_map_or}
 use Rattle.sysmem_memory.specs.Domain.{domain_name}
 use Rattle.sysmem_memory.specs.Heap.{HeapFacts}
-use Rattle.sysmem_merge.specs.declared.settings.Offer.{Offer}
-use Rattle.sysmem_merge.specs.declared.settings.Offer.TheVariants.{NoImage}
+use Rattle.sysmem_formats.specs.declared.colour_space.ColourSpace.{ColourSpace}
+use Rattle.sysmem_formats.specs.declared.offer.Offer.{Offer}
+use Rattle.sysmem_formats.specs.declared.offer.Offer.TheVariants.{NoImage, Image}
+use Rattle.sysmem_formats.specs.declared.offer.Pair.{Pair}
+use Rattle.sysmem_formats.specs.Names.{colour_name, format_name, modifier_name}
+use Rattle.sysmem_image.specs.declared.size.Corner.{Corner}
 use Rattle.sysmem_merge.specs.declared.settings.Settings.{Settings as Settled}
 use Rattle.sysmem_sanitise.specs.Platform.{PlatformFacts}
 use Rattle.sysmem_sanitise.specs.Faults.{fault_text}
@@ -54,18 +58,28 @@ abbrev pub heap_text : Option HeapFacts → List ℕ
 heap_text (Some h) = h.heap.heap_type ++ codes "#" ++ decimal h.heap.id
 heap_text None = []
 
-abbrev pub offer_text : Offer → List ℕ
-offer_text NoImage = codes "none"
+-- `NV12 LINEAR REC709 `
+abbrev pub format_text : Pair → ColourSpace → List ℕ
+format_text pair colour = format_name pair.format ++ codes " " ++ modifier_name pair.modifier ++ codes " " ++ colour_name colour ++ codes " "
 
--- `count 2 size 4096 place ram#0 cpu image none`
+-- `1920x1088 row 1920`: width and height in pixels, the row in bytes
+abbrev pub corner_text : Corner → List ℕ
+corner_text k = decimal k.width ++ codes "x" ++ decimal k.height ++ codes " row " ++ decimal k.bytes_per_row
+
+-- `NV12 LINEAR REC709 1920x1088 row 1920`, of the smallest image, or `none`
+abbrev pub image_text : Offer → Corner → List ℕ
+image_text NoImage k = codes "none"
+image_text (Image pair colour) k = format_text pair colour ++ corner_text k
+
+-- `count 2 size 4096 place ram#0 cpu image `
 abbrev pub settings_text : PlatformFacts → Settled → List ℕ
 settings_text platform s = (codes "count " ++ decimal s.count ++ codes " size " ++ decimal s.size_bytes ++ codes " place ")
     ++ heap_text (slice_get platform.heaps s.place.heap)
-    ++ (codes " " ++ domain_name s.place.coherency ++ codes " image " ++ offer_text s.offer)
+    ++ (codes " " ++ domain_name s.place.coherency ++ codes " image ")
 
 -- the line of the domain of the root token, which has no groups to select from
 abbrev pub verdict_line : PlatformFacts → Verdict → List ℕ
-verdict_line platform (Chosen s) = codes "domain / chosen - " ++ settings_text platform s ++ codes "\n"
+verdict_line platform (Chosen s k) = codes "domain / chosen - " ++ settings_text platform s ++ image_text s.offer k ++ codes "\n"
 verdict_line platform Empty = codes "domain / empty\n"
 verdict_line platform NoMemory = codes "domain / no_memory\n"
 

@@ -1,6 +1,8 @@
 -- What a report says: a step for each call, and a decision where the domain becomes ready.
 use Rattle.std.specs.Prelude.{◌≡◌, ℕ, ◌+◌, ◌++◌, ◌||◌, List, [], ◌∷◌, length, Bool, true, false, Option, Some, None, Result, Ok, Err, slice_get, unwrap_or}
 use Rattle.serde_json.specs.Data.{Data}
+use Rattle.sysmem_image.specs.declared.size.Corner.{Corner}
+use Rattle.sysmem_image.specs.Corners.{IsCorner}
 use Rattle.sysmem_merge.specs.Best.{IsBest, IsUnmet}
 use Rattle.sysmem_sanitise.specs.declared.fault.Code.TheVariants.{WantOfMemory}
 use Rattle.sysmem_sanitise.specs.declared.fault.Fault.{Fault}
@@ -47,7 +49,7 @@ with_name s deed after = record after { names = after.names ++ named deed (Some 
 -- check: on a node that is no open collection a wrong state, else by the verdict
 abbrev pub answer_by : Option Verdict → Reply
 answer_by None = Refused refusals.Pending
-answer_by (Some (Chosen s)) = Accepted
+answer_by (Some (Chosen s k)) = Accepted
 answer_by (Some Empty) = Refused refusals.ConstraintsIntersectionEmpty
 answer_by (Some NoMemory) = Refused refusals.NoMemory
 
@@ -81,7 +83,7 @@ is_no_memory _ = false
 
 -- the verdict of a ready domain
 pub data Decides (platform : PlatformFacts) (ps : List Participant) : Verdict → Type 0 where
-  chooses : (s : Settled) → IsBest true platform ps s → Decides platform ps (Chosen s)
+  chooses : (s : Settled) (k : Corner) → IsBest true platform ps s → IsCorner s.offer s.bounds k → Decides platform ps (Chosen s k)
   none_meet : IsUnmet true platform ps → Decides platform ps Empty
   has_no_memory : Decides platform ps NoMemory
 

@@ -2,7 +2,7 @@
 
 ghost use Rattle.std.specs.Prelude.{◌≡◌};
 
-use sysmem_merge::Constraints;
+use sysmem_sanitise::Constraints;
 
 /// An action on a node. The constraints that it sets were read.
 #[derive(Debug, Drop)]
@@ -21,7 +21,7 @@ impl Action {
     ghost use Rattle.sysmem_replay.specs.State.{makes_token};
 
     /// Whether the action makes a further token.
-    pub fn makes_token(&self) -> bool
+    pub(crate) fn makes_token(&self) -> bool
         ensures { result ≡ makes_token self.now }
     {
         matches!(self, Action::Duplicate)

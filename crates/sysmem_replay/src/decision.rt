@@ -11,10 +11,13 @@ ghost use Rattle.sysmem_replay.specs.State.{constraints_at};
 use crate::node::Node;
 use crate::verdict::Verdict;
 use std::alloc::{AllocError, Global};
-use sysmem_merge::{Aggregate, Platform};
+use sysmem_image::corner;
+use sysmem_image::laws::no_corner;
+use sysmem_merge::Aggregate;
+use sysmem_sanitise::Platform;
 
 /// Decides for the nodes that have constraints, at most 128: the best settings for them, or that none meet them.
-pub fn decide(alloc: Global, platform: &Platform, nodes: &[Node]) -> Verdict
+pub(crate) fn decide(alloc: Global, platform: &Platform, nodes: &[Node]) -> Verdict
     requires { length nodes.now ≤ 128 }
     ensures { Decides platform.now (filter_map constraints_at nodes.now) result }
 {
@@ -24,11 +27,16 @@ pub fn decide(alloc: Global, platform: &Platform, nodes: &[Node]) -> Verdict
     }
 }
 
+/// The verdict of what participants ask for together. The best settings always have a corner.
 fn verdict_of(aggregate: &Aggregate<'_>) -> Verdict
     ensures { (platform : PlatformFacts) (ps : List Participant) → StandsFor aggregate.now platform ps → Decides platform ps result }
 {
-    match aggregate.best_settings(true) {
-        Ok(settings) => Verdict::Chosen(settings),
+    no_corner();
+    let Ok(settings) = aggregate.best_settings(true) else {
+        return Verdict::Empty;
+    };
+    match corner(&settings.bounds, &settings.offer) {
+        Ok(corner) => Verdict::Chosen(settings, corner),
         Err(_) => Verdict::Empty,
     }
 }

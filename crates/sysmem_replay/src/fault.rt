@@ -3,7 +3,7 @@ ghost use Rattle.std.specs.Prelude.{◌≡◌};
 ghost use Rattle.sysmem_replay.specs.declared.fault.RunFault.TheVariants.{NoMemory};
 
 use std::alloc::{AllocError, AllocFailed};
-use sysmem_merge::Fault;
+use sysmem_sanitise::Fault;
 use thiserror::Error;
 
 /// Why a run ended before its report was written.

@@ -2,6 +2,7 @@
 
 ghost use Rattle.sysmem_replay.specs.Laws.{OneAnswer, OneReport};
 
+use sysmem_image::laws::corner_is_least;
 use sysmem_merge::laws::one_best;
 
 /// The calls of a script have one report on a platform, where memory is not refused.
@@ -9,6 +10,7 @@ pub fn one_report()
     ensures { OneReport }
 {
     one_best();
+    corner_is_least();
 }
 
 /// The bytes of a script give one answer, where memory is not refused: a fault, or a report.

@@ -4,7 +4,7 @@ ghost use Rattle.std.specs.Prelude.{◌≡◌, ℕ, ◌++◌, codes, option_map,
 ghost use Rattle.std.specs.Fmt.{decimal};
 ghost use Rattle.std.specs.String.{string_bytes};
 ghost use Rattle.sysmem_sanitise.specs.Faults.{fault_text};
-ghost use Rattle.sysmem_replay.specs.Lines.{call_line, deed_name, heap_text, new_name, offer_text, pending_lines, reply_text, settings_text, verdict_line};
+ghost use Rattle.sysmem_replay.specs.Lines.{call_line, deed_name, heap_text, image_text, new_name, pending_lines, reply_text, settings_text, verdict_line};
 ghost use Rattle.sysmem_replay.specs.Seen.{deed_seen, seen};
 
 use crate::reply::Reply;
@@ -12,11 +12,14 @@ use crate::script::{Act, Call};
 use crate::verdict::Verdict;
 use std::alloc::AllocError;
 use std::fmt::Write;
+use sysmem_formats::{ColourSpace, Offer, Pair};
+use sysmem_image::Corner;
 use sysmem_memory::HeapInfo;
-use sysmem_merge::{Fault, Offer, Platform, Settings};
+use sysmem_merge::Settings;
+use sysmem_sanitise::{Fault, Platform};
 
 /// Puts the line of a call behind the text: `7 duplicate root a ok`.
-pub fn put_call(
+pub(crate) fn put_call(
     text: &mut String,
     number: usize,
     call: &Call<'_>,
@@ -30,7 +33,7 @@ pub fn put_call(
 }
 
 /// Puts a verdict's line behind the text: `domain / empty`.
-pub fn put_verdict(
+pub(crate) fn put_verdict(
     text: &mut String,
     platform: &Platform,
     verdict: Verdict,
@@ -38,14 +41,14 @@ pub fn put_verdict(
     ensures { OnOk result (string_bytes text.new ≡ string_bytes text.old ++ verdict_line platform.now verdict) }
 {
     match verdict {
-        Verdict::Chosen(settings) => put_chosen(text, platform, settings),
+        Verdict::Chosen(settings, corner) => put_chosen(text, platform, settings, corner),
         Verdict::Empty => text.push_str("domain / empty\n"),
         Verdict::NoMemory => text.push_str("domain / no_memory\n"),
     }
 }
 
 /// Puts the last line of a report without a verdict behind the text: `domain / pending`.
-pub fn put_pending(text: &mut String, verdict: Option<Verdict>) -> Result<(), AllocError>
+pub(crate) fn put_pending(text: &mut String, verdict: Option<Verdict>) -> Result<(), AllocError>
     ensures { OnOk result (string_bytes text.new ≡ string_bytes text.old ++ pending_lines verdict) }
 {
     match verdict {
@@ -114,11 +117,17 @@ fn put_fault(text: &mut String, fault: Fault) -> Result<(), AllocError>
     writeln!(text, " {code} {at}")
 }
 
-fn put_chosen(text: &mut String, platform: &Platform, settings: Settings) -> Result<(), AllocError>
-    ensures { OnOk result (string_bytes text.new ≡ string_bytes text.old ++ verdict_line platform.now (Verdict.Chosen settings)) }
+fn put_chosen(
+    text: &mut String,
+    platform: &Platform,
+    settings: Settings,
+    corner: Corner,
+) -> Result<(), AllocError>
+    ensures { OnOk result (string_bytes text.new ≡ string_bytes text.old ++ verdict_line platform.now (Verdict.Chosen settings corner)) }
 {
     text.push_str("domain / chosen - ")?;
     put_settings(text, platform, settings)?;
+    put_image(text, settings.offer, corner)?;
     text.push_str("\n")?;
     Ok(())
 }
@@ -132,11 +141,7 @@ fn put_settings(
 {
     put_numbers(text, settings.count, settings.size_bytes)?;
     put_heap(text, heap_at(platform, settings.place.heap))?;
-    put_rest(
-        text,
-        settings.place.coherency.name(),
-        offer_name(settings.offer),
-    )?;
+    put_coherency(text, settings.place.coherency.name())?;
     Ok(())
 }
 
@@ -167,17 +172,52 @@ fn put_heap_name(text: &mut String, heap_type: &str, id: u64) -> Result<(), Allo
     write!(text, "{heap_type}#{id}")
 }
 
-fn put_rest(text: &mut String, coherency: &str, image: &str) -> Result<(), AllocError>
-    ensures { OnOk result (string_bytes text.new ≡ string_bytes text.old ++ (codes " " ++ coherency.now ++ codes " image " ++ image.now)) }
+fn put_coherency(text: &mut String, coherency: &str) -> Result<(), AllocError>
+    ensures { OnOk result (string_bytes text.new ≡ string_bytes text.old ++ (codes " " ++ coherency.now ++ codes " image ")) }
 {
-    write!(text, " {coherency} image {image}")
+    write!(text, " {coherency} image ")
 }
 
-/// The image as a report prints it.
-fn offer_name(offer: Offer) -> &'static str
-    ensures { result.now ≡ offer_text offer }
+fn put_image(text: &mut String, offer: Offer, corner: Corner) -> Result<(), AllocError>
+    ensures { OnOk result (string_bytes text.new ≡ string_bytes text.old ++ image_text offer corner) }
 {
     match offer {
-        Offer::NoImage => "none",
+        Offer::NoImage => text.push_str("none"),
+        Offer::Image(pair, colour) => put_shown(text, pair, colour, corner),
     }
+}
+
+fn put_shown(
+    text: &mut String,
+    pair: Pair,
+    colour: ColourSpace,
+    corner: Corner,
+) -> Result<(), AllocError>
+    ensures { OnOk result (string_bytes text.new ≡ string_bytes text.old ++ image_text (Offer.Image pair colour) corner) }
+{
+    put_format(
+        text,
+        pair.format.name(),
+        pair.modifier.name(),
+        colour.name(),
+    )?;
+    put_corner(text, corner.width, corner.height, corner.bytes_per_row)?;
+    Ok(())
+}
+
+fn put_format(
+    text: &mut String,
+    format: &str,
+    modifier: &str,
+    colour: &str,
+) -> Result<(), AllocError>
+    ensures { OnOk result (string_bytes text.new ≡ string_bytes text.old ++ (format.now ++ codes " " ++ modifier.now ++ codes " " ++ colour.now ++ codes " ")) }
+{
+    write!(text, "{format} {modifier} {colour} ")
+}
+
+fn put_corner(text: &mut String, width: u32, height: u32, row: u32) -> Result<(), AllocError>
+    ensures { OnOk result (string_bytes text.new ≡ string_bytes text.old ++ (decimal width ++ codes "x" ++ decimal height ++ codes " row " ++ decimal row)) }
+{
+    write!(text, "{width}x{height} row {row}")
 }

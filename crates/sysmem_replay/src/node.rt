@@ -3,7 +3,7 @@
 ghost use Rattle.std.specs.Prelude.{◌≡◌, ◌≢◌, is_some};
 
 use crate::action::Action;
-use sysmem_merge::Constraints;
+use sysmem_sanitise::Constraints;
 
 /// What a node is. Gone nodes keep the constraints that they had set.
 #[derive(Debug, Drop)]
@@ -23,7 +23,7 @@ impl Node {
     ghost use Rattle.sysmem_replay.specs.State.{changed, constraints_at, is_complete};
 
     /// Whether the node's state allows the action.
-    pub fn allows(&self, action: &Action) -> bool
+    pub(crate) fn allows(&self, action: &Action) -> bool
         ensures { result ≡ is_some (changed action.now self.now) }
     {
         match action {
@@ -34,7 +34,7 @@ impl Node {
     }
 
     /// The node after an action that its state allows.
-    pub fn after(self, action: Action) -> Node
+    pub(crate) fn after(self, action: Action) -> Node
         requires { changed action self ≢ None }
         ensures { changed action self ≡ Some result }
     {
@@ -57,7 +57,7 @@ impl Node {
     }
 
     /// The constraints that the node set, if any.
-    pub fn constraints(&self) -> Option<&Constraints>
+    pub(crate) fn constraints(&self) -> Option<&Constraints>
         ensures { option_map (λ asked. asked.now) result ≡ constraints_at self.now }
     {
         match self {
@@ -67,7 +67,7 @@ impl Node {
     }
 
     /// Whether nothing more waits on the node.
-    pub fn is_complete(&self) -> bool
+    pub(crate) fn is_complete(&self) -> bool
         ensures { result ≡ is_complete self.now }
     {
         matches!(self, Node::Stated(_) | Node::Gone(_))

@@ -6,17 +6,17 @@ ghost use Rattle.sysmem_replay.specs.Platform.{platform_held, platform_said};
 use crate::fault::{RunFault, ScriptFault};
 use serde_json::Value;
 use std::alloc::Global;
-use sysmem_merge::{Code, Platform};
+use sysmem_sanitise::{Code, Platform};
 
 /// Reads the platform that a value stands for.
-pub fn read_platform(alloc: Global, value: &Value) -> Result<Platform, RunFault>
+pub(crate) fn read_platform(alloc: Global, value: &Value) -> Result<Platform, RunFault>
     ensures { Gives platform_held result (platform_said (view value.now)) }
 {
-    match sysmem_merge::read_platform(alloc, value) {
+    match sysmem_sanitise::read_platform(alloc, value) {
         Ok(platform) => Ok(platform),
         Err(fault) => match fault.code {
             Code::WantOfMemory => Err(RunFault::NoMemory),
-            Code::WrongKind => Err(RunFault::Script(ScriptFault::Platform(fault))),
+            _ => Err(RunFault::Script(ScriptFault::Platform(fault))),
         },
     }
 }

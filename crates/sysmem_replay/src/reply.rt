@@ -3,7 +3,7 @@
 ghost use Rattle.std.specs.Prelude.{◌≡◌};
 ghost use Rattle.sysmem_replay.specs.Lines.{refusal_text};
 
-use sysmem_merge::Fault;
+use sysmem_sanitise::Fault;
 
 /// Why a call is refused.
 #[derive(Clone, Copy, Debug, PartialEq, Eq)]
@@ -24,7 +24,7 @@ pub enum Refusal {
 
 impl Refusal {
     /// The refusal as a report prints it: its code and its name.
-    pub fn text(self) -> &'static str
+    pub(crate) fn text(self) -> &'static str
         ensures { result.now ≡ refusal_text self }
     {
         match self {

@@ -10,7 +10,7 @@ use crate::line::put_pending;
 use crate::runner::Runner;
 use crate::script::Call;
 use std::alloc::{AllocError, Global};
-use sysmem_merge::Platform;
+use sysmem_sanitise::Platform;
 
 /// A report.
 #[derive(Debug, Drop)]

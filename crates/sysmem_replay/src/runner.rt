@@ -20,7 +20,7 @@ use crate::verdict::Verdict;
 use serde_json::Value;
 use std::alloc::{AllocError, Global};
 use std::mem;
-use sysmem_merge::{Code, Fault, Platform, read_constraints};
+use sysmem_sanitise::{Code, Fault, Platform, read_constraints};
 
 const MOST_NODES: usize = 128;
 
@@ -41,7 +41,7 @@ impl Runner {
     ghost use Rattle.sysmem_replay.specs.Runner.{state_of};
 
     /// The collection of the root token.
-    pub fn new(alloc: Global) -> Result<Runner, AllocError>
+    pub(crate) fn new(alloc: Global) -> Result<Runner, AllocError>
         ensures { IfOk result (λ runner. state_of runner ≡ first_state) }
     {
         let nodes = vec![in alloc; Node::Token]?;
@@ -55,21 +55,21 @@ impl Runner {
     }
 
     /// The verdict of the root's domain, once there is one.
-    pub fn verdict(&self) -> Option<Verdict>
+    pub(crate) fn verdict(&self) -> Option<Verdict>
         ensures { result ≡ (state_of self.now).verdict }
     {
         self.verdict
     }
 
     /// Whether memory was refused in a reply or a decision.
-    pub fn is_starved(&self) -> bool
+    pub(crate) fn is_starved(&self) -> bool
         ensures { result ≡ (state_of self.now).starved }
     {
         self.starved
     }
 
     /// Makes a call, decides where the collection is ready by it, and puts the lines of both behind the text.
-    pub fn take(
+    pub(crate) fn take(
         &mut self,
         alloc: Global,
         platform: &Platform,
@@ -322,7 +322,7 @@ fn answer_by(verdict: Option<Verdict>) -> Reply
 {
     match verdict {
         None => Reply::Refused(Refusal::Pending),
-        Some(Verdict::Chosen(_)) => Reply::Accepted,
+        Some(Verdict::Chosen(_, _)) => Reply::Accepted,
         Some(Verdict::Empty) => Reply::Refused(Refusal::ConstraintsIntersectionEmpty),
         Some(Verdict::NoMemory) => Reply::Refused(Refusal::NoMemory),
     }

@@ -20,7 +20,7 @@ pub use call::{Act, Call};
 pub use calls::read_calls;
 use serde_json::{Map, Value};
 use std::alloc::Global;
-use sysmem_merge::Platform;
+use sysmem_sanitise::Platform;
 pub use text::parse_script;
 
 const MOST_CALLS: usize = 4096;

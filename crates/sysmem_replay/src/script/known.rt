@@ -82,7 +82,7 @@ fn join<'a>(actors: &mut IndexSet<&'a str>, actor: &'a str) -> Result<bool, Allo
 
 impl<'a> Known<'a> {
     /// The root's name, and no actor.
-    pub fn new(alloc: Global) -> Result<Known<'a>, RunFault>
+    pub(super) fn new(alloc: Global) -> Result<Known<'a>, RunFault>
         ensures known { IfOk result (λ known. known_seen known ≡ nothing_known) }
         ensures memory { IfErr result (λ fault. fault ≡ RunFault.NoMemory) }
     {
@@ -93,7 +93,7 @@ impl<'a> Known<'a> {
     }
 
     /// Reads the call of this number, from 1. After a fault nothing is known any more.
-    pub fn read_call(&mut self, number: usize, call: &'a Value) -> Result<Call<'a>, RunFault>
+    pub(super) fn read_call(&mut self, number: usize, call: &'a Value) -> Result<Call<'a>, RunFault>
         ensures { Gives (λ call. (seen call, known_seen self.new)) result (request_of number (known_seen self.old) (view call.now)) }
     {
         let Some(shape) = shape_of(call) else {

@@ -1,4 +1,4 @@
-//! Command lines that are taken and refused.
+//! A command line that is taken, and some that aren't. `tests/refusals` has what the user is told of each.
 
 use super::{Job, read_words};
 use clap::error::ErrorKind;
@@ -15,89 +15,25 @@ fn owned(alloc: Global, words: &[&str]) -> Result<Vec<String>, AllocError> {
 
 #[test]
 fn reads_a_job(rt: HostRuntime) -> Result<(), Fail> {
-    let cases: [(&[&str], &str); 4] = [
-        (&["run", "row.json"], "row.json"),
-        (&["run", "a b/row.json"], "a b/row.json"),
-        (&["run", "--", "--help"], "--help"),
-        (&["run", "run"], "run"),
-    ];
-    for (words, file) in cases {
-        let words = owned(rt.alloc(), words)?;
-        let job = read_words(rt.alloc(), words.as_slice())?;
-        assert!(rt; job == Job::Run { file });
-    }
+    let words = owned(rt.alloc(), &["run", "row.json"])?;
+    let job = read_words(rt.alloc(), words.as_slice())?;
+    assert!(rt; job == Job::Run { file: "row.json" });
     Ok(())
 }
 
 #[test]
 fn refuses_what_is_no_job(rt: HostRuntime) -> Result<(), Fail> {
-    let cases: [(&[&str], ErrorKind); 9] = [
+    let cases: [(&[&str], ErrorKind); 3] = [
         (&[], ErrorKind::MissingSubcommand),
-        (&["replay"], ErrorKind::InvalidSubcommand),
-        (&["help"], ErrorKind::InvalidSubcommand),
-        (&["row.json"], ErrorKind::InvalidSubcommand),
         (&["run"], ErrorKind::MissingRequiredArgument),
-        (&["run", "a", "b"], ErrorKind::UnknownArgument),
-        (&["run", "--proof", "a"], ErrorKind::UnknownArgument),
-        (&["--version"], ErrorKind::UnknownArgument),
-        (&["run", "-x"], ErrorKind::UnknownArgument),
+        (&["--help"], ErrorKind::DisplayHelp),
     ];
     for (words, kind) in cases {
         let words = owned(rt.alloc(), words)?;
         let Err(refusal) = read_words(rt.alloc(), words.as_slice()) else {
             return Err(Fail::from("a job was read"));
         };
-        assert!(rt;
-            refusal.kind() == kind,
-            "{:?} and not {kind:?}",
-            refusal.kind()
-        );
-        assert!(rt; refusal.use_stderr());
-    }
-    Ok(())
-}
-
-#[test]
-fn answers_a_request_for_help(rt: HostRuntime) -> Result<(), Fail> {
-    let cases: [(&[&str], &str); 4] = [
-        (&["--help"], "Usage: sysmem_replay <COMMAND>"),
-        (&["-h"], "Usage: sysmem_replay <COMMAND>"),
-        (&["run", "--help"], "Usage: sysmem_replay run <FILE>"),
-        (
-            &["run", "row.json", "-h"],
-            "Usage: sysmem_replay run <FILE>",
-        ),
-    ];
-    for (words, usage) in cases {
-        let words = owned(rt.alloc(), words)?;
-        let Err(refusal) = read_words(rt.alloc(), words.as_slice()) else {
-            return Err(Fail::from("a job was read"));
-        };
-        assert!(rt; refusal.kind() == ErrorKind::DisplayHelp);
-        assert!(rt; !refusal.use_stderr());
-        let text = format!(in rt.alloc(); "{refusal}")?;
-        assert!(rt; text.as_str().contains(usage), "{text}");
-    }
-    Ok(())
-}
-
-#[test]
-fn says_what_is_missing(rt: HostRuntime) -> Result<(), Fail> {
-    let cases: [(&[&str], &str); 3] = [
-        (&[], "'sysmem_replay' requires a subcommand"),
-        (
-            &["run"],
-            "the following required arguments were not provided:\n  <FILE>",
-        ),
-        (&["replay"], "unrecognized subcommand 'replay'"),
-    ];
-    for (words, said) in cases {
-        let words = owned(rt.alloc(), words)?;
-        let Err(refusal) = read_words(rt.alloc(), words.as_slice()) else {
-            return Err(Fail::from("a job was read"));
-        };
-        let text = format!(in rt.alloc(); "{refusal}")?;
-        assert!(rt; text.as_str().contains(said), "{text}");
+        assert!(rt; refusal.kind() == kind);
     }
     Ok(())
 }

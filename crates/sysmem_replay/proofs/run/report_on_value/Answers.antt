@@ -1,4 +1,3 @@
-use Rattle.serde_json.specs.View.{view}
 use Rattle.sysmem_replay.proofs.Running.{value-fault, script-report}
 use Rattle.sysmem_replay.proofs.run.report_on_value.Goals as goal
 
