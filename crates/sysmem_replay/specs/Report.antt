@@ -1,5 +1,5 @@
 -- What a report says: a step for each call, and a decision where the domain becomes ready.
-use Rattle.std.specs.Prelude.{◌≡◌, ℕ, ◌+◌, ◌++◌, ◌||◌, List, [], ◌∷◌, length, Bool, true, false, Option, Some, None, Result, Ok, Err, slice_get, unwrap_or}
+use Rattle.std.specs.Prelude.{◌≡◌, ℕ, ◌+◌, ◌++◌, ◌||◌, List, [], ◌∷◌, length, Bool, true, false, Option, Some, None, Ok, Err, slice_get, unwrap_or}
 use Rattle.serde_json.specs.Data.{Data}
 use Rattle.sysmem_image.specs.declared.size.Corner.{Corner}
 use Rattle.sysmem_image.specs.Corners.{IsCorner}

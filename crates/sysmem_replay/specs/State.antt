@@ -1,5 +1,5 @@
 -- What the calls of a script make: nodes, what their names stand for, and the verdict.
-use Rattle.std.specs.Prelude.{◌≡◌, ℕ, ◌+◌, ◌++◌, ◌&&◌, List, [], ◌∷◌, length, Bool, true, false, Option, Some, None, is_none, Result, Ok, Err, nat_le, option_and_then, slice_get, slice_set, if◌then◌else◌}
+use Rattle.std.specs.Prelude.{ℕ, ◌+◌, ◌++◌, ◌&&◌, List, [], ◌∷◌, length, Bool, true, false, Option, Some, None, is_none, Result, Ok, Err, nat_le, option_and_then, slice_get, slice_set, if◌then◌else◌}
 use Rattle.std.specs.List.{filter_map, list_all}
 use Rattle.sysmem_sanitise.specs.declared.fault.Code.{Code}
 use Rattle.sysmem_sanitise.specs.declared.fault.Code.TheVariants.{WantOfMemory}
@@ -11,7 +11,7 @@ use Rattle.sysmem_replay.specs.declared.node.Node.TheVariants.{Token, Collection
 use Rattle.sysmem_replay.specs.declared.reply.Refusal.{Refusal}
 use Rattle.sysmem_replay.specs.declared.reply.Refusal.TheVariants.{WrongState, TooManyNodes, DomainFailed}
 use Rattle.sysmem_replay.specs.declared.verdict.Verdict.{Verdict}
-use Rattle.sysmem_replay.specs.declared.verdict.Verdict.TheVariants.{Chosen, Empty, NoMemory}
+use Rattle.sysmem_replay.specs.declared.verdict.Verdict.TheVariants.{Empty, NoMemory}
 
 -- the nodes in the order in which they were made; for each name in the order of the calls that make one, the node that it
 -- names, or None where that call was not made; the verdict, once there is one; and whether memory was refused so far

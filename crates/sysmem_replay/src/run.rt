@@ -45,6 +45,7 @@ pub fn run<R: Read, W: Write, P: Write>(
     ensures unchecked { result ≢ Ok Ended.CheckedNo }
     ensures refused { (fault : Refusal) → result ≡ Err (RunFault.Script fault) → IfSome (R.remaining reader.old) (λ input. RunsTo input (Err fault)) }
     ensures front { result ≡ Err RunFault.Write → IfSome (R.remaining reader.old) (λ input. WritesPart input (W.contents writer.old) (W.contents writer.new)) }
+    ensures uncertified { Appends (P.contents _proof.old) (P.contents _proof.new) [] }
     ensures unwritten { OnErr result ((result ≢ Err RunFault.Write) → Appends (W.contents writer.old) (W.contents writer.new) []) }
 {
     let bytes = read_up_to_limit(alloc, reader)?;
