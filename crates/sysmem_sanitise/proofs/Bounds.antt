@@ -1,5 +1,5 @@
 -- Bounds are those of their numbers.
-use Rattle.std.proofs.Common.{◌≡◌, ℕ, ◌≤◌, Result, Ok, Err, refl, ap, subst, sym, ◌∙◌, arith}
+use Rattle.std.proofs.Common.{◌≡◌, ℕ, ◌≤◌, Result, Ok, Err, ap, subst, sym, ◌∙◌, arith}
 use Rattle.std.specs.Prelude.{max}
 use Rattle.std.proofs.Math.Bridge.{le_prop}
 use Rattle.serde_json.specs.Data.{Data}

@@ -1,6 +1,6 @@
 -- What a name names.
 use Rattle.std.proofs.Common.{◌≡◌, ℕ, Bool, true, false, List, [], ◌∷◌, Option, Some, None, refl, sym, ap, ◌∙◌, ◌↔◌}
-use Rattle.std.specs.Prelude.{cond, bytes_eq}
+use Rattle.std.specs.Prelude.{cond}
 use Rattle.std.specs.Bool.{Decides}
 use Rattle.std.proofs.lemmas.Slice.Eq.{bytes_eq-Decides}
 use Rattle.sysmem_formats.specs.declared.colour_space.ColourSpace.{ColourSpace}

@@ -26,10 +26,7 @@ fn copied_info(info: &HeapInfo) -> Result<HeapInfo, AllocError>
 }
 
 /// A copy of heaps, types and all.
-pub(crate) fn copied_heaps(
-    alloc: Global,
-    heaps: &[HeapInfo],
-) -> Result<Vec<HeapInfo>, AllocError>
+pub(crate) fn copied_heaps(alloc: Global, heaps: &[HeapInfo]) -> Result<Vec<HeapInfo>, AllocError>
     ensures { IfOk result (λ copy. copy.items ≡ heaps.now) }
 {
     let mut copy = Vec::new(alloc);

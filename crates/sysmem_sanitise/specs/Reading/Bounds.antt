@@ -1,5 +1,5 @@
 -- The bounds that an entry puts on images.
-use Rattle.std.specs.Prelude.{ℕ, ◌≤◌, ◌-◌, ◌^◌, ◌&&◌, ◌||◌, max, List, [], ◌∷◌, Bool, Result, Ok, Err, codes, bytes_eq, nat_le, if◌then◌else◌}
+use Rattle.std.specs.Prelude.{ℕ, ◌≤◌, ◌-◌, ◌^◌, ◌&&◌, ◌||◌, max, List, Bool, Result, Ok, Err, codes, bytes_eq, nat_le, if◌then◌else◌}
 use Rattle.std.proofs.Common.{arith}
 use Rattle.std.specs.List.{list_all}
 use Rattle.serde_json.specs.Data.{Data, object}

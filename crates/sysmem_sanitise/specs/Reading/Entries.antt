@@ -1,8 +1,8 @@
 -- The image entries of a participant's record. One with further pairs stands for several.
-use Rattle.std.specs.Prelude.{ℕ, ◌+◌, ◌&&◌, ◌||◌, ◌==◌, ◌++◌, List, [], ◌∷◌, length, map, Bool, true, false, not, Option, Some, None, Result, Ok, nat_lt, option_map, option_and_then, is_some, if◌then◌else◌}
+use Rattle.std.specs.Prelude.{◌+◌, ◌&&◌, ◌||◌, ◌==◌, ◌++◌, List, [], ◌∷◌, length, map, Bool, false, not, Option, Some, None, Result, Ok, nat_lt, option_map, option_and_then, is_some, if◌then◌else◌}
 use Rattle.std.specs.List.{list_any}
 use Rattle.std.specs.Option.{option_eq}
-use Rattle.serde_json.specs.Data.{Data, Items, no_items, item}
+use Rattle.serde_json.specs.Data.{Data, Items}
 use Rattle.serde_json.specs.Find.{get, as_array}
 use Rattle.sysmem_counts.specs.declared.field.Field.{Field}
 use Rattle.sysmem_counts.specs.declared.field.Field.TheVariants as field
@@ -22,7 +22,7 @@ use Rattle.sysmem_sanitise.specs.declared.fault.Fault.{Fault}
 use Rattle.sysmem_sanitise.specs.declared.fault.Spot.TheVariants.{At}
 use Rattle.sysmem_sanitise.specs.Faults.{wrong}
 use Rattle.sysmem_sanitise.specs.Reading.Bounds.{bounds_of}
-use Rattle.sysmem_sanitise.specs.Reading.Fields.{◌>>=◌, passing, read_each, object_of, optional, required, stated, list_of, named}
+use Rattle.sysmem_sanitise.specs.Reading.Fields.{◌>>=◌, passing, read_each, object_of, optional, required, stated, list_of, has_items, named}
 use Rattle.sysmem_sanitise.specs.Reading.Names.{format_named, modifier_named, colour_named, choice_named}
 use Rattle.sysmem_sanitise.specs.Reading.Pairs.{pair_fields, is_misfit}
 
@@ -70,11 +70,11 @@ with_asked field entries pairs asked = do
   new ← passing (wrong code.RepeatedPair field) (λ pair. not (has_entry entries pair || has_asked pairs pair)) roomy
   Ok (pairs ++ new ∷ [])
 
--- a list that isn't empty
 abbrev pub is_filled : Option Items → Bool
-is_filled (Some (item d ds)) = true
-is_filled _ = false
+is_filled None = false
+is_filled (Some items) = has_items items
 
+-- there is a list of further pairs that isn't empty
 abbrev pub has_further : Data → Bool
 has_further d = is_filled (option_and_then as_array (get (field_name field.PixelFormatAndModifiers) d))
 
@@ -123,7 +123,7 @@ with_listed set d = do
 abbrev pub colour_set_of : Data → Result ColourSet Fault
 colour_set_of d = do
   items ← list_of field.ColorSpaces d
-  filled ← passing (wrong code.NoColourSpaces field.ColorSpaces) (λ items. is_filled (Some items)) items
+  filled ← passing (wrong code.NoColourSpaces field.ColorSpaces) has_items items
   read_each with_listed no_colours filled
 
 -- the fields of an entry

@@ -83,6 +83,10 @@ named find field d = do
 abbrev pub list_of : Field → Data → Result Items Fault
 list_of field d = ok_or (as_array d) (wrong WrongKind field)
 
+abbrev pub has_items : Items → Bool
+has_items no_items = false
+has_items (item d ds) = true
+
 -- a list read item by item, each with what was read before it
 abbrev pub read_each : {S : Type 0} → (S → Data → Result S Fault) → S → Items → Result S Fault
 read_each read before no_items = Ok before

