@@ -13,7 +13,6 @@ use Rattle.std.proofs.lemmas.Option.{slice_get-get_or, slice_get_past, slice_get
 use Rattle.sysmem_formats.specs.declared.colour_space.ColourSpace.{ColourSpace}
 use Rattle.sysmem_formats.specs.declared.modifier.Modifier.{Modifier}
 use Rattle.sysmem_formats.specs.declared.modifier.Modifier.TheVariants.{Linear, IntelXTiled, IntelYTiled}
-use Rattle.sysmem_formats.specs.declared.offer.Offer.{Offer}
 use Rattle.sysmem_formats.specs.declared.offer.Offer.TheVariants.{NoImage, Image}
 use Rattle.sysmem_formats.specs.declared.offer.Pair.{Pair}
 use Rattle.sysmem_formats.specs.declared.pixel_format.PixelFormat.{PixelFormat}

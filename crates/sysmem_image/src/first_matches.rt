@@ -15,6 +15,7 @@ use sysmem_formats::{Modifier, Offer, Pair, PixelFormat};
 /// The first entry of a participant for each pair of a format and a modifier.
 ///
 /// It is made in one pass over the entries, and then finds the entry for an offer in a few steps.
+#[derive(Drop)]
 pub struct FirstMatches<'a> {
     entries: &'a [Entry],
     first: [usize; 64],

@@ -1,4 +1,4 @@
-use Rattle.std.proofs.Common.{sym, ap, ◌∙◌}
+use Rattle.std.proofs.Common.{sym, ◌∙◌}
 use Rattle.sysmem_image.proofs.Slots.{none_for_no_image, item_copied}
 use Rattle.sysmem_image.proofs.first_matches.FirstMatches.entry_for.Goals as goal
 

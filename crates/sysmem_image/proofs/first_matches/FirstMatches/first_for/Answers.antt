@@ -1,4 +1,3 @@
-use Rattle.std.proofs.Common.{sym, ap, ◌∙◌}
 use Rattle.sysmem_image.proofs.Slots.{first_of_four}
 use Rattle.sysmem_image.proofs.first_matches.FirstMatches.first_for.Goals as goal
 

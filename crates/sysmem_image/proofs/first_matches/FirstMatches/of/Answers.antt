@@ -1,4 +1,4 @@
-use Rattle.std.proofs.Common.{arith, ◌∙◌, min, refl, slice_index}
+use Rattle.std.proofs.Common.{◌∙◌, min, refl, slice_index}
 use Rattle.std.proofs.lemmas.List.{length-set}
 use Rattle.std.proofs.lemmas.Option.{slice_get_read}
 use Rattle.sysmem_image.proofs.Slots.{first_of_none, first_more, first_of_all}
