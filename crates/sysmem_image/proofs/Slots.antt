@@ -23,7 +23,7 @@ use Rattle.sysmem_image.specs.Entries.{matches, first_match, agrees_format, agre
 use Rattle.sysmem_image.specs.Slots.{slot, has_slot, AreFirst}
 
 -- the first that passes one of two tests is the first of the firsts
-pub position_or : {X : Type 0} (p q : X → Bool) (xs : List X) → position_or_len (λ x. p x || q x) xs ≡ min (position_or_len p xs) (position_or_len q xs)
+position_or : {X : Type 0} (p q : X → Bool) (xs : List X) → position_or_len (λ x. p x || q x) xs ≡ min (position_or_len p xs) (position_or_len q xs)
 position_or p q [] = refl
 position_or p q (x ∷ xs) = at (p x) (q x) _ _ _ (position_or p q xs) where
   at : (a b : Bool) (o m n : ℕ) → o ≡ min m n → cond (not (a || b)) (1 + o) 0 ≡ min (cond (not a) (1 + m) 0) (cond (not b) (1 + n) 0)
@@ -33,7 +33,7 @@ position_or p q (x ∷ xs) = at (p x) (q x) _ _ _ (position_or p q xs) where
   at false false o m n h = omega (arith, h)
 
 -- tests that agree have the same first
-pub position_same : {X : Type 0} (p q : X → Bool) (xs : List X) → ((x : X) → p x ≡ q x) → position_or_len p xs ≡ position_or_len q xs
+position_same : {X : Type 0} (p q : X → Bool) (xs : List X) → ((x : X) → p x ≡ q x) → position_or_len p xs ≡ position_or_len q xs
 position_same p q [] same = refl
 position_same p q (x ∷ xs) same = ap (λ b. cond (not b) (1 + position_or_len p xs) 0) (same x) ∙ ap (λ n. cond (not (q x)) (1 + n) 0) (position_same p q xs same)
 
