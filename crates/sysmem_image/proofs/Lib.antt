@@ -7,3 +7,4 @@ pub mod Layouts
 pub mod Smaller
 pub mod Sound
 pub mod Exact
+pub mod Slots

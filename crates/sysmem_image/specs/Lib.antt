@@ -7,4 +7,5 @@ pub mod Corners
 pub mod Lines
 pub mod Colours
 pub mod Entries
+pub mod Slots
 pub mod Laws

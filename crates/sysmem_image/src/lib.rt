@@ -12,6 +12,7 @@
 mod bounds;
 mod colours;
 mod entry;
+mod first_matches;
 mod keeping;
 pub mod laws;
 mod matching;
@@ -25,6 +26,7 @@ mod table;
 pub use bounds::ImageBounds;
 pub use colours::ColourSet;
 pub use entry::Entry;
+pub use first_matches::FirstMatches;
 pub use keeping::{first_failing, suits};
 pub use matching::{entry_for, takes_colour};
 pub use merging::merge_into;

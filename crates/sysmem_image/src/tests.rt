@@ -176,6 +176,35 @@ fn first_entry(rt: HostRuntime) {
     assert!(rt; entry_for(&entries[..1], &offer(PixelFormat::NV12, Modifier::Linear)).is_none());
 }
 
+/// The table finds the first of two with the same names, and DO_NOT_CARE before a named one.
+#[test]
+fn first_matches(rt: HostRuntime) {
+    let mut any = at_least(PixelFormat::R8, 7, 7);
+    any.modifier = None;
+    let entries = [
+        entry(PixelFormat::NV12),
+        at_least(PixelFormat::NV12, 5, 5),
+        any,
+        entry(PixelFormat::R8),
+    ];
+    let matches = FirstMatches::of(&entries);
+    let found = |offer: &Offer| matches
+        .entry_for(offer)
+        .map(|entry| entry.bounds.required_max_size.width);
+    assert_eq!(rt; found(&offer(PixelFormat::NV12, Modifier::Linear)), Some(0));
+    assert_eq!(rt; found(&offer(PixelFormat::R8, Modifier::Linear)), Some(7));
+    assert_eq!(rt;
+        found(&offer(PixelFormat::R8, Modifier::IntelYTiled)),
+        Some(7)
+    );
+    assert_eq!(rt;
+        found(&offer(PixelFormat::NV12, Modifier::IntelYTiled)),
+        None
+    );
+    assert_eq!(rt; found(&Offer::NoImage), None);
+    assert!(rt; FirstMatches::of(&[]).is_empty());
+}
+
 #[test]
 fn colours(rt: HostRuntime) {
     let offer = offer(PixelFormat::R8, Modifier::Linear);

@@ -9,7 +9,7 @@ ghost use Rattle.sysmem_merge.specs.Offers.{names_format, names_modifier, names_
 
 use sysmem_counts::Field;
 use sysmem_formats::Offer;
-use sysmem_image::{Entry, ImageBounds, entry_for, merge_into, takes_colour};
+use sysmem_image::{Entry, FirstMatches, ImageBounds, merge_into, takes_colour};
 
 /// What participants ask of an offer's images together.
 #[derive(Clone, Copy, Debug, PartialEq, Eq)]
@@ -53,17 +53,17 @@ impl KeptOffer {
     }
 
     /// Keeps what one more participant asks of the offer by its entries.
-    pub(crate) fn add(&mut self, offer: &Offer, entries: &[Entry])
-        ensures { (ds : List OfferDemand) (d : OfferDemand) → d.entries ≡ entries.now → IsKept offer.now ds self.old
+    pub(crate) fn add(&mut self, offer: &Offer, matches: &FirstMatches)
+        ensures { (ds : List OfferDemand) (d : OfferDemand) → d.entries ≡ matches.now → IsKept offer.now ds self.old
             → IsKept offer.now (ds ++ d ∷ []) self.new }
     {
-        match entry_for(entries, offer) {
+        match matches.entry_for(offer) {
             Some(entry) => {
                 self.bounds.add(offer, entry);
                 self.name(offer, entry);
             }
             None => {
-                if !entries.is_empty() {
+                if !matches.is_empty() {
                     self.bounds.refuse(Field::PixelFormat);
                 }
             }

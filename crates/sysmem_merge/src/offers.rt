@@ -9,7 +9,7 @@ ghost use Rattle.sysmem_sanitise.specs.Platform.{offers_of};
 use crate::kept::KeptOffer;
 use std::alloc::{AllocError, Global};
 use sysmem_formats::offer_at;
-use sysmem_image::Entry;
+use sysmem_image::{Entry, FirstMatches};
 use sysmem_sanitise::Platform;
 
 /// What is kept of each offer of the platform before any participant, in the platform's order.
@@ -30,17 +30,18 @@ pub(crate) fn add_to_offers(kept: &mut [KeptOffer], platform: &Platform, entries
     ensures { (ds : List OfferDemand) (d : OfferDemand) → d.entries ≡ entries.now → AreKept (offers_of platform.now) ds kept.old
         → AreKept (offers_of platform.now) (ds ++ d ∷ []) kept.new }
 {
+    let matches = FirstMatches::of(entries);
     for (index, one) in kept.iter_mut().enumerate() {
-        add_to_offer(one, platform, index, entries);
+        add_to_offer(one, platform, index, &matches);
     }
 }
 
 /// Keeps what one more participant asks of the platform's offer at this index by its entries.
-fn add_to_offer(kept: &mut KeptOffer, platform: &Platform, index: usize, entries: &[Entry])
+fn add_to_offer(kept: &mut KeptOffer, platform: &Platform, index: usize, matches: &FirstMatches)
     ensures { (o : Offer) (ds : List OfferDemand) (d : OfferDemand) → slice_get (offers_of platform.now) index ≡ Some o
-        → d.entries ≡ entries.now → IsKept o ds kept.old → IsKept o (ds ++ d ∷ []) kept.new }
+        → d.entries ≡ matches.now → IsKept o ds kept.old → IsKept o (ds ++ d ∷ []) kept.new }
 {
     if let Some(offer) = offer_at(platform.pairs(), platform.colours(), index) {
-        kept.add(&offer, entries);
+        kept.add(&offer, matches);
     }
 }

@@ -1,4 +1,4 @@
-use Rattle.std.proofs.Common.{arith}
+use Rattle.std.proofs.Common.{arith, sym, ◌∙◌}
 use Rattle.std.proofs.lemmas.Option.{slice_get-get_or}
 use Rattle.sysmem_formats.specs.Offers.{offers}
 use Rattle.sysmem_merge.proofs.Many.{kept_before, kept_further, kept_all}
@@ -11,7 +11,7 @@ pub loop-index-preserved : goal.loop-index-preserved
 loop-index-preserved c ds d same are =
     kept_further c.loop-index.index (offers c.args.platform.now.pairs c.args.platform.now.colours) ds d c.loop-index.kept _ c.add_to_offer.new.kept
     (slice_get-get_or c.loop-index.kept c.loop-index.index c.index-kept-index.result (omega arith))
-    (λ o here. c.add_to_offer.ensures o ds d here same) (c.loop-index.invariant ds d same are)
+    (λ o here. c.add_to_offer.ensures o ds d here (same ∙ sym c.of-matches.ensures)) (c.loop-index.invariant ds d same are)
 
 pub returns : goal.returns
 returns c ds d same are = kept_all c.loop-index.index (offers c.args.platform.now.pairs c.args.platform.now.colours) ds d c.loop-index.kept (omega arith) (c.loop-index.invariant ds d same are)

@@ -1,0 +1,117 @@
+//! Which entry of a participant is the first with each pair of names.
+
+ghost use Rattle.std.specs.Prelude.{◌≡◌, ◌<◌, ◌==◌, length};
+ghost use Rattle.std.specs.List.{position_or_len, slice_get};
+ghost use Rattle.std.specs.Option.{option_copied};
+ghost use Rattle.sysmem_formats.specs.declared.colour_space.ColourSpace.{ColourSpace};
+ghost use Rattle.sysmem_formats.specs.declared.offer.Offer.TheVariants.{Image};
+ghost use Rattle.sysmem_image.specs.Entries.{first_match};
+ghost use Rattle.sysmem_image.specs.Slots.{format_row, modifier_column, slot, has_slot};
+
+use crate::entry::Entry;
+use std::marker::Model;
+use sysmem_formats::{Modifier, Offer, Pair, PixelFormat};
+
+/// The first entry of a participant for each pair of a format and a modifier.
+///
+/// It is made in one pass over the entries, and then finds the entry for an offer in a few steps.
+#[derive(Drop)]
+pub struct FirstMatches<'a> {
+    entries: &'a [Entry],
+    first: [usize; 64],
+}
+
+impl<'a> Model for FirstMatches<'a> {
+    ghost use Rattle.std.specs.Prelude.{List};
+    ghost use Rattle.sysmem_image.specs.declared.entry.Entry.{Entry};
+    ghost use Rattle.sysmem_image.specs.Slots.{AreFirst};
+
+    ghost Value = { List Entry };
+
+    ghost view = { λ t. t.entries.now };
+
+    ghost invariant = { λ t. AreFirst t.entries.now t.first };
+}
+
+impl<'a> FirstMatches<'a> {
+    /// The table of a participant's entries.
+    pub fn of(entries: &'a [Entry]) -> FirstMatches<'a>
+        ensures { result ≡ entries.now }
+    {
+        let mut first = [entries.len(); 64];
+        for (index, entry) in entries.iter().enumerate() {
+            let slot = slot(entry.format, entry.modifier);
+            first[slot] = first[slot].min(index);
+        }
+        FirstMatches { entries, first }
+    }
+
+    /// Whether the participant has no entries.
+    pub fn is_empty(&self) -> bool
+        ensures { result ≡ (length self.now == 0) }
+    {
+        self.entries.is_empty()
+    }
+
+    /// The participant's entry for an offer: the first whose format and modifier match, or `None`. No
+    /// entry is one for no image.
+    pub fn entry_for(&self, offer: &Offer) -> Option<&'a Entry>
+        ensures { option_copied result ≡ first_match offer.now self.now }
+    {
+        match offer {
+            Offer::NoImage => None,
+            Offer::Image(pair, _) => self.entries.get(self.first_for(*pair)),
+        }
+    }
+
+    /// The index of the first entry for images of a pair, or the number of entries where none is.
+    fn first_for(&self, pair: Pair) -> usize
+        ensures { (colour : ColourSpace) → slice_get self.now result ≡ first_match (Image pair colour) self.now }
+    {
+        let (format, modifier) = (Some(pair.format), Some(pair.modifier));
+        let named = self
+            .first_with(format, modifier)
+            .min(self.first_with(format, None));
+        let any = self
+            .first_with(None, modifier)
+            .min(self.first_with(None, None));
+        named.min(any)
+    }
+
+    /// The index of the first entry with these names themselves, or the number of entries where none has them.
+    fn first_with(&self, format: Option<PixelFormat>, modifier: Option<Modifier>) -> usize
+        ensures { result ≡ position_or_len (has_slot (slot format modifier)) self.now }
+    {
+        self.first[slot(format, modifier)]
+    }
+}
+
+/// The place in the table of a format and a modifier, `None` being `DO_NOT_CARE`.
+fn slot(format: Option<PixelFormat>, modifier: Option<Modifier>) -> usize
+    ensures is { result ≡ slot format modifier }
+    ensures below { result < 64 }
+{
+    row(format) * 4 + column(modifier)
+}
+
+/// The row of a format, below 16.
+fn row(format: Option<PixelFormat>) -> usize
+    ensures is { result ≡ format_row format }
+    ensures below { result < 16 }
+{
+    match format {
+        None => 15,
+        Some(format) => format as usize,
+    }
+}
+
+/// The column of a modifier, below 4.
+fn column(modifier: Option<Modifier>) -> usize
+    ensures is { result ≡ modifier_column modifier }
+    ensures below { result < 4 }
+{
+    match modifier {
+        None => 3,
+        Some(modifier) => modifier as usize,
+    }
+}
