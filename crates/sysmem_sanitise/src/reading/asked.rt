@@ -1,11 +1,9 @@
 //! Reads the pairs of format and modifier that an entry asks for.
 
-ghost use Rattle.std.specs.Prelude.{◌≡◌, [], None, option_and_then};
-ghost use Rattle.serde_json.specs.Find.{get, as_array};
+ghost use Rattle.std.specs.Prelude.{◌≡◌, [], None};
 ghost use Rattle.serde_json.specs.View.{view, items_view};
 ghost use Rattle.sysmem_counts.specs.declared.field.Field.TheVariants.{PixelFormatAndModifiers};
-ghost use Rattle.sysmem_counts.specs.Field.{field_name};
-ghost use Rattle.sysmem_sanitise.specs.Reading.Entries.{asked_by, same_format, same_modifier, same_asked, is_unfit, modifier_beside, asked_of, has_entry, has_asked, with_asked, has_further, no_pair, own_pair, with_further, further_of, asked_pairs};
+ghost use Rattle.sysmem_sanitise.specs.Reading.Entries.{asked_by, same_format, same_modifier, same_asked, is_unfit, modifier_beside, asked_of, has_entry, has_asked, with_asked, has_further, no_pair, own_pair, with_further, asked_pairs};
 ghost use Rattle.sysmem_sanitise.specs.Reading.Fields.{Answers, read_each, seen_by};
 
 use super::field::{expect_object, list_of, stated};

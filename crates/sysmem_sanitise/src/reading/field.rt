@@ -1,9 +1,8 @@
 //! Reads one field of a record.
 
-ghost use Rattle.std.specs.Prelude.{◌≡◌, ◌-◌, ◌^◌, ◌≤◌, ok_or, IfOk};
+ghost use Rattle.std.specs.Prelude.{◌≡◌, ◌-◌, ◌^◌, ◌≤◌, IfOk};
 ghost use Rattle.std.specs.List.{list_all};
 ghost use Rattle.serde_json.specs.View.{view, items_view, members_view};
-ghost use Rattle.sysmem_counts.specs.Field.{field_name};
 ghost use Rattle.sysmem_sanitise.specs.Reading.Fields.{keys_of, object_of, is_named, number_of, number_or, flag_or, stated, text_of, list_of, seen_by};
 
 use crate::fault::{Code, Fault, Spot};

@@ -1,6 +1,6 @@
 //! Reads a participant's memory constraints.
 
-ghost use Rattle.std.specs.Prelude.{◌≡◌, []};
+ghost use Rattle.std.specs.Prelude.{[]};
 ghost use Rattle.serde_json.specs.View.{view};
 ghost use Rattle.sysmem_memory.specs.Wishes.{no_wishes};
 ghost use Rattle.sysmem_counts.specs.declared.field.Field.TheVariants.{BufferMemoryConstraints, PermittedHeaps};

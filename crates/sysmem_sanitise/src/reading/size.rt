@@ -1,6 +1,6 @@
 //! Reads a width and a height.
 
-ghost use Rattle.std.specs.Prelude.{◌≡◌, ◌-◌, ◌^◌, ◌≤◌, IfOk, codes};
+ghost use Rattle.std.specs.Prelude.{◌≡◌, ◌≤◌, IfOk, codes};
 ghost use Rattle.std.specs.List.{list_all};
 ghost use Rattle.serde_json.specs.View.{view, members_view};
 ghost use Rattle.sysmem_sanitise.specs.Reading.Bounds.{is_side, sides_of, side, size_to, any_size, some_size, multiple_size, size_or};

@@ -375,17 +375,13 @@ fn platform_of_the_rows(rt: HostRuntime) -> Result<(), Fail> {
         format: PixelFormat::NV12,
         modifier: Modifier::Linear,
     };
-    for (pair, expected) in platform.pairs().iter().zip([tiled, plain]) {
-        assert_eq!(rt; *pair, expected);
-    }
-    assert_eq!(rt; (platform.pairs().len(), platform.colours().len()), (2, 2));
-    assert!(rt; platform.colours().contains(&ColourSpace::Rec709));
-    for (heap, (name, hidden)) in platform
-        .heaps()
-        .iter()
-        .zip([("ram", false), ("vault", true)])
-    {
-        assert_eq!(rt; (heap.heap.heap_type.as_str(), heap.heap.id), (name, 0));
+    assert!(rt; platform.pairs() == [tiled, plain].as_slice());
+    assert!(rt; platform.colours() == [ColourSpace::Srgb, ColourSpace::Rec709].as_slice());
+    let expected = [("ram", false), ("vault", true)];
+    assert_eq!(rt; platform.heaps().len(), expected.len());
+    for (heap, (name, hidden)) in platform.heaps().iter().zip(expected) {
+        assert_eq!(rt; heap.heap.heap_type.as_str(), name);
+        assert_eq!(rt; heap.heap.id, 0);
         assert_eq!(rt; (heap.contiguous, heap.secure), (hidden, hidden));
         assert_eq!(rt; heap.domains.inaccessible, hidden);
     }
