@@ -15,7 +15,8 @@ const ANY: &str = r#"{"usage":["cpu"]}"#;
 
 // The heap ram, which processors see cached or in main memory; NV12 and R8 images.
 fn platform(alloc: Global) -> Result<Platform, Fail> {
-    let text = r#"{"heaps":[{"heap_type":"ram","domains":["cpu","ram"]}],"pairs":[{"pixel_format":"NV12"},{"pixel_format":"R8"}],"color_spaces":["SRGB"]}"#;
+    let text =
+        r#"{"heaps":[{"heap_type":"ram","domains":["cpu","ram"]}],"pairs":[{"pixel_format":"NV12"},{"pixel_format":"R8"}],"color_spaces":["SRGB"]}"#;
     let value = Value::from_str(alloc, text)?;
     Ok(read_platform(alloc, &value)?)
 }
@@ -72,10 +73,18 @@ fn no_participant(rt: HostRuntime) -> Result<(), Fail> {
 
 #[test]
 fn counts_and_sizes(rt: HostRuntime) -> Result<(), Fail> {
-    let first = r#"{"usage":["cpu"],"min_buffer_count_for_camping":2,"min_buffer_count_for_shared_slack":1,"buffer_memory_constraints":{"min_size_bytes":4096}}"#;
-    let second = r#"{"usage":["cpu"],"min_buffer_count_for_camping":3,"min_buffer_count_for_dedicated_slack":1,"min_buffer_count_for_shared_slack":2}"#;
-    assert_eq!(rt; shared(rt.alloc(), first, second, true)?, Ok(cached(8, 4096)));
-    assert_eq!(rt; shared(rt.alloc(), first, second, false)?, Ok(cached(8, 4096)));
+    let first =
+        r#"{"usage":["cpu"],"min_buffer_count_for_camping":2,"min_buffer_count_for_shared_slack":1,"buffer_memory_constraints":{"min_size_bytes":4096}}"#;
+    let second =
+        r#"{"usage":["cpu"],"min_buffer_count_for_camping":3,"min_buffer_count_for_dedicated_slack":1,"min_buffer_count_for_shared_slack":2}"#;
+    assert_eq!(rt;
+        shared(rt.alloc(), first, second, true)?,
+        Ok(cached(8, 4096))
+    );
+    assert_eq!(rt;
+        shared(rt.alloc(), first, second, false)?,
+        Ok(cached(8, 4096))
+    );
     Ok(())
 }
 
@@ -84,19 +93,28 @@ fn reasons(rt: HostRuntime) -> Result<(), Fail> {
     let many = r#"{"usage":["cpu"],"min_buffer_count":129}"#;
     let large = r#"{"usage":["cpu"],"buffer_memory_constraints":{"min_size_bytes":4097}}"#;
     let small = r#"{"usage":["cpu"],"buffer_memory_constraints":{"max_size_bytes":4096}}"#;
-    let secure = r#"{"usage":["video"],"buffer_memory_constraints":{"secure_required":true,"max_size_bytes":4096}}"#;
+    let secure =
+        r#"{"usage":["video"],"buffer_memory_constraints":{"secure_required":true,"max_size_bytes":4096}}"#;
     let limit = Err(Reason::Count(Field::BufferCountLimit));
     assert_eq!(rt; shared(rt.alloc(), many, secure, true)?, limit);
-    assert_eq!(rt; shared(rt.alloc(), large, secure, true)?, Err(Reason::NoPlace));
-    assert_eq!(rt; shared(rt.alloc(), large, small, true)?, Err(Reason::NoOffer));
+    assert_eq!(rt;
+        shared(rt.alloc(), large, secure, true)?,
+        Err(Reason::NoPlace)
+    );
+    assert_eq!(rt;
+        shared(rt.alloc(), large, small, true)?,
+        Err(Reason::NoOffer)
+    );
     Ok(())
 }
 
 // One that takes R8 of 16 by 16 alone, and one that takes whatever is chosen: the first offer, NV12, is passed by.
 #[test]
 fn one_names_the_format(rt: HostRuntime) -> Result<(), Fail> {
-    let camera = r#"{"usage":["cpu"],"image_format_constraints":[{"pixel_format":"R8","color_spaces":["SRGB"],"min_size":{"width":16,"height":16}}]}"#;
-    let any = r#"{"usage":["cpu"],"image_format_constraints":[{"pixel_format":"DO_NOT_CARE","color_spaces":["DO_NOT_CARE"]}]}"#;
+    let camera =
+        r#"{"usage":["cpu"],"image_format_constraints":[{"pixel_format":"R8","color_spaces":["SRGB"],"min_size":{"width":16,"height":16}}]}"#;
+    let any =
+        r#"{"usage":["cpu"],"image_format_constraints":[{"pixel_format":"DO_NOT_CARE","color_spaces":["DO_NOT_CARE"]}]}"#;
     let Ok(settings) = shared(rt.alloc(), camera, any, true)? else {
         return Err(Fail::from("no settings"));
     };
