@@ -9,8 +9,9 @@ use std::marker::Model;
 use sysmem_formats::{ColourSpace, Pair};
 use sysmem_memory::HeapInfo;
 
-/// A platform: its heaps in order, at least one and at most 64, no two of one type and id; its pairs of a format
-/// and a modifier, and its colour spaces.
+/// A platform: its heaps, 1 to 64 and no two of one type and id; its pairs of a format and a modifier, no tiled
+/// modifier with a format that isn't of 4 bytes; and its colour spaces. Each list is in the platform's order, isn't
+/// empty and has no item twice.
 #[derive(Debug, Drop)]
 pub struct Platform {
     heaps: Vec<HeapInfo>,

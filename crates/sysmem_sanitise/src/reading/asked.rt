@@ -16,7 +16,7 @@ use sysmem_formats::{Modifier, Pair, PixelFormat, is_tiled_misfit};
 use sysmem_image::Entry;
 
 /// A format and a modifier that an entry asks for, each `None` for `DO_NOT_CARE`.
-#[derive(Clone, Copy, Debug, PartialEq, Eq)]
+#[derive(Clone, Copy)]
 pub(super) struct AskedPair {
     pub(super) format: Option<PixelFormat>,
     pub(super) modifier: Option<Modifier>,

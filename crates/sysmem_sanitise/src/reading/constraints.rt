@@ -59,6 +59,8 @@ fn participant_of(alloc: Global, object: &Value) -> Result<Constraints, Fault>
 
 /// Reads a participant's record: its usage, the five counts, its memory constraints and its image entries. One
 /// with further pairs stands for several entries. At most 64 permitted heaps and 64 entries are read.
+///
+/// Refuses with the record's first fault in the order of its fields, or with want of memory.
 pub fn read_constraints(alloc: Global, value: &Value) -> Result<Constraints, Fault>
     ensures taken { IfOk result (λ constraints. participant_of (view value.now) ≡ Ok constraints) }
     ensures refused { IfErr result

@@ -16,6 +16,8 @@ use sysmem_counts::Field;
 
 /// Reads a platform's record: its heaps, its pairs of a format and a modifier, and its colour spaces, each a list
 /// that isn't empty and has no item twice. At most 64 heaps are read.
+///
+/// Refuses with the record's first fault in the order of its fields, or with want of memory.
 pub fn read_platform(alloc: Global, value: &Value) -> Result<Platform, Fault>
     ensures taken { IfOk result (λ platform. platform_of (view value.now) ≡ Ok platform) }
     ensures refused { IfErr result
