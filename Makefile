@@ -21,6 +21,7 @@ test:
 program-test: proved
 	tests/reports
 	tests/refusals
+	tests/records
 	tests/want_of_memory
 
 # Times the proved program beside the reading of the same bytes as a JSON value.
