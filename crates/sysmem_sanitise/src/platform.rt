@@ -1,6 +1,7 @@
 //! What a platform has, as its record says it.
 
-ghost use Rattle.std.specs.Prelude.{◌≡◌, ◌≤◌, length, IfOk};
+ghost use Rattle.std.specs.Prelude.{◌≡◌, ◌≤◌, length, false, AllPairs, IfOk};
+ghost use Rattle.sysmem_memory.specs.Heap.{same_heap};
 ghost use Rattle.sysmem_sanitise.specs.Platform.{IsPlatform};
 
 use crate::copying::{copied, copied_heaps};
@@ -48,7 +49,9 @@ impl Platform {
     /// The heaps in the platform's order: 1 to 64, no two of one type and id.
     pub fn heaps(&self) -> &[HeapInfo]
         ensures heaps { result.now ≡ self.now.heaps }
+        ensures some { 1 ≤ length result.now }
         ensures few { length result.now ≤ 64 }
+        ensures distinct { AllPairs (λ a b. same_heap a.heap b.heap ≡ false) result.now }
     {
         &self.heaps
     }

@@ -360,13 +360,15 @@ fn flattened(rt: HostRuntime) -> Result<(), Fail> {
 }
 
 #[test]
-fn platform_of_the_rows(rt: HostRuntime) -> Result<(), Fail> {
+fn platform_and_its_copy(rt: HostRuntime) -> Result<(), Fail> {
     let text = r#"{"heaps":[{"heap_type":"ram","domains":["cpu","ram"]},
+        {"heap_type":"cma","contiguous":true,"domains":["cpu","ram"]},
         {"heap_type":"vault","contiguous":true,"secure":true,"domains":["inaccessible"]}],
         "pairs":[{"pixel_format":"B8G8R8A8","pixel_format_modifier":"INTEL_I915_X_TILED"},
         {"pixel_format":"NV12"}],"color_spaces":["SRGB","REC709"]}"#;
     let value = Value::from_str(rt.alloc(), text)?;
-    let platform = read_platform(rt.alloc(), &value)?;
+    let read = read_platform(rt.alloc(), &value)?;
+    let platform = read.copy()?;
     let tiled = Pair {
         format: PixelFormat::B8G8R8A8,
         modifier: Modifier::IntelXTiled,
@@ -377,13 +379,17 @@ fn platform_of_the_rows(rt: HostRuntime) -> Result<(), Fail> {
     };
     assert!(rt; platform.pairs() == [tiled, plain].as_slice());
     assert!(rt; platform.colours() == [ColourSpace::Srgb, ColourSpace::Rec709].as_slice());
-    let expected = [("ram", false), ("vault", true)];
+    let expected = [
+        ("ram", false, false),
+        ("cma", true, false),
+        ("vault", true, true),
+    ];
     assert_eq!(rt; platform.heaps().len(), expected.len());
-    for (heap, (name, hidden)) in platform.heaps().iter().zip(expected) {
+    for (heap, (name, contiguous, secure)) in platform.heaps().iter().zip(expected) {
         assert_eq!(rt; heap.heap.heap_type.as_str(), name);
         assert_eq!(rt; heap.heap.id, 0);
-        assert_eq!(rt; (heap.contiguous, heap.secure), (hidden, hidden));
-        assert_eq!(rt; heap.domains.inaccessible, hidden);
+        assert_eq!(rt; (heap.contiguous, heap.secure), (contiguous, secure));
+        assert_eq!(rt; heap.domains.inaccessible, secure);
     }
     Ok(())
 }
