@@ -2,3 +2,4 @@ mod Bounds
 mod Members
 mod Names
 mod Platforms
+mod Same

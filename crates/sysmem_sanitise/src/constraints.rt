@@ -1,7 +1,11 @@
 //! What a participant asks of the buffers, as its record says it.
 
+ghost use Rattle.std.proofs.Common.{rules};
+ghost use Rattle.std.specs.Cmp.Rules.{comparing};
 ghost use Rattle.std.specs.Prelude.{◌≡◌};
+ghost use Rattle.sysmem_sanitise.specs.Equal.{same_participant};
 
+use crate::equal::is_same_memory;
 use std::marker::Model;
 use sysmem_counts::{CountConstraints, Usage};
 use sysmem_image::Entry;
@@ -27,6 +31,19 @@ impl Model for Constraints {
       memory = c.memory;
       entries = c.entries.items;
     } };
+}
+
+impl PartialEq for Constraints {
+    ghost eq = { same_participant };
+
+    ghost laws = { Prim.search (comparing, rules) depth 9 };
+
+    fn eq(&self, other: &Constraints) -> bool {
+        self.counts == other.counts
+            && self.usage == other.usage
+            && is_same_memory(&self.memory, &other.memory)
+            && self.entries.as_slice() == other.entries.as_slice()
+    }
 }
 
 impl Constraints {

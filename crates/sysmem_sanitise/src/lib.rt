@@ -8,7 +8,9 @@
 
 mod constraints;
 mod copying;
+mod equal;
 mod fault;
+pub mod laws;
 mod platform;
 mod reading;
 

@@ -1,10 +1,14 @@
 //! What a platform has, as its record says it.
 
+ghost use Rattle.std.proofs.Common.{rules};
+ghost use Rattle.std.specs.Cmp.Rules.{comparing};
 ghost use Rattle.std.specs.Prelude.{◌≡◌, ◌≤◌, length, false, AllPairs, IfOk};
 ghost use Rattle.sysmem_memory.specs.Heap.{same_heap};
+ghost use Rattle.sysmem_sanitise.specs.Equal.{same_platform};
 ghost use Rattle.sysmem_sanitise.specs.Platform.{IsPlatform};
 
 use crate::copying::{copied, copied_heaps};
+use crate::equal::are_same_heaps;
 use std::alloc::AllocError;
 use std::marker::Model;
 use sysmem_formats::{ColourSpace, Pair};
@@ -32,6 +36,18 @@ impl Model for Platform {
     } };
 
     ghost invariant = { λ p. IsPlatform p.heaps.items p.pairs.items p.colours.items };
+}
+
+impl PartialEq for Platform {
+    ghost eq = { same_platform };
+
+    ghost laws = { Prim.search (comparing, rules) depth 9 };
+
+    fn eq(&self, other: &Platform) -> bool {
+        are_same_heaps(&self.heaps, &other.heaps)
+            && self.pairs.as_slice() == other.pairs.as_slice()
+            && self.colours.as_slice() == other.colours.as_slice()
+    }
 }
 
 impl Platform {
