@@ -1,4 +1,5 @@
 pub mod Equal
+pub mod EqualLaws
 pub mod Faults
 pub mod Laws
 pub mod Participant

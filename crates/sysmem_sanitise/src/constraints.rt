@@ -1,9 +1,8 @@
 //! What a participant asks of the buffers, as its record says it.
 
-ghost use Rattle.std.proofs.Common.{rules};
-ghost use Rattle.std.specs.Cmp.Rules.{comparing};
 ghost use Rattle.std.specs.Prelude.{◌≡◌};
 ghost use Rattle.sysmem_sanitise.specs.Equal.{same_participant};
+ghost use Rattle.sysmem_sanitise.specs.EqualLaws.{participant_laws};
 
 use crate::equal::is_same_memory;
 use std::marker::Model;
@@ -36,7 +35,7 @@ impl Model for Constraints {
 impl PartialEq for Constraints {
     ghost eq = { same_participant };
 
-    ghost laws = { Prim.search (comparing, rules) depth 9 };
+    ghost laws = { participant_laws };
 
     fn eq(&self, other: &Constraints) -> bool {
         self.counts == other.counts

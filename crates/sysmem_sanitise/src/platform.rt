@@ -1,10 +1,9 @@
 //! What a platform has, as its record says it.
 
-ghost use Rattle.std.proofs.Common.{rules};
-ghost use Rattle.std.specs.Cmp.Rules.{comparing};
 ghost use Rattle.std.specs.Prelude.{◌≡◌, ◌≤◌, length, false, AllPairs, IfOk};
 ghost use Rattle.sysmem_memory.specs.Heap.{same_heap};
 ghost use Rattle.sysmem_sanitise.specs.Equal.{same_platform};
+ghost use Rattle.sysmem_sanitise.specs.EqualLaws.{platform_laws};
 ghost use Rattle.sysmem_sanitise.specs.Platform.{IsPlatform};
 
 use crate::copying::{copied, copied_heaps};
@@ -41,7 +40,7 @@ impl Model for Platform {
 impl PartialEq for Platform {
     ghost eq = { same_platform };
 
-    ghost laws = { Prim.search (comparing, rules) depth 9 };
+    ghost laws = { platform_laws };
 
     fn eq(&self, other: &Platform) -> bool {
         are_same_heaps(&self.heaps, &other.heaps)
