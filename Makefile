@@ -2,7 +2,7 @@
 PROGRAM := crates/sysmem_replay
 FILE ?= examples/one_participant.json
 
-.PHONY: run proved test program-test bench
+.PHONY: run proved test program-test built-test bench
 
 # Runs a script: with the proved program where `make proved` has built it, else without proving.
 run:
@@ -16,9 +16,12 @@ proved:
 test:
 	rt ci
 
-# Tests of the proved program as a whole: the report of each example and each worked row, what it refuses, and each of its
-# allocations refused in turn (needs a C compiler and Python).
+# Tests of the proved program as a whole (they need a C compiler and Python): reports, refusals, records, and each allocation refused in turn.
 program-test: proved
+	@$(MAKE) --no-print-directory built-test
+
+# The same where `make test` or `make proved` has just built the program.
+built-test:
 	tests/reports
 	tests/refusals
 	tests/records
