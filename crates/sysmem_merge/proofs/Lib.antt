@@ -7,6 +7,7 @@ pub mod Keeping
 pub mod Lines
 pub mod Many
 pub mod OneBest
+pub mod OneLine
 pub mod Reasons
 pub mod Sizes
 pub mod Together

@@ -1,10 +1,17 @@
 -- What is true of settings, whoever works them out.
-use Rattle.std.specs.Prelude.{◌≡◌, List, Bool, false}
+use Rattle.std.specs.Prelude.{◌≡◌, ◌++◌, List, All, Bool, false, Contains, IsPermutation}
+use Rattle.sysmem_counts.specs.Counts.{IsCountLine}
 use Rattle.sysmem_counts.specs.Sublist.{IsSublist}
+use Rattle.sysmem_counts.specs.declared.field.Field.{Field}
+use Rattle.sysmem_memory.specs.Heap.{HeapFacts}
+use Rattle.sysmem_memory.specs.Place.{IsPlace}
+use Rattle.sysmem_memory.specs.PlaceTable.{IsPlaceLine}
 use Rattle.sysmem_merge.specs.declared.reason.Reason.{Reason}
 use Rattle.sysmem_merge.specs.declared.settings.Settings.{Settings as Settled}
 use Rattle.sysmem_merge.specs.Best.{IsBest, IsUnmet}
-use Rattle.sysmem_merge.specs.Reasons.{IsReason}
+use Rattle.sysmem_merge.specs.Demands.{counts_asked, place_demands, offer_demands}
+use Rattle.sysmem_merge.specs.Reasons.{IsOfferLine, IsReason}
+use Rattle.sysmem_merge.specs.Settings.{MeetsAs}
 use Rattle.sysmem_sanitise.specs.Participant.{Participant}
 use Rattle.sysmem_sanitise.specs.Platform.{PlatformFacts}
 
@@ -22,3 +29,19 @@ ReasonLeavesNone = (whole : Bool) (platform : PlatformFacts) (ps : List Particip
 abbrev pub ReasonOfSomeLeavesNone : Type 0
 ReasonOfSomeLeavesNone = (whole : Bool) (platform : PlatformFacts) (some all : List Participant) (reason : Reason)
     → IsSublist some all → IsReason false platform some reason → IsUnmet whole platform all
+
+-- a line that is true of some of the participants for an offer leaves no settings with that offer to all of them, whatever their order
+abbrev pub OfferLineLeavesNone : Type 0
+OfferLineLeavesNone = (whole : Bool) (platform : PlatformFacts) (some all : List Participant) (field : Field) (t : Settled)
+    → All (Contains all) some → IsOfferLine field t.offer (offer_demands some) → ¬ (MeetsAs whole platform all t)
+
+-- a place that a field refuses to one of some of the participants is the place of no settings for all of them, whatever their order
+abbrev pub PlaceLineLeavesNone : Type 0
+PlaceLineLeavesNone = (whole : Bool) (platform : PlatformFacts) (some all : List Participant) (field : Field) (heap : HeapFacts) (t : Settled)
+    → All (Contains all) some → IsPlace platform.heaps t.place heap → IsPlaceLine field heap t.place.coherency (place_demands some)
+    → ¬ (MeetsAs whole platform all t)
+
+-- a count line that is true of some of the participants leaves no settings to all of them, whatever their order
+abbrev pub CountLineLeavesNone : Type 0
+CountLineLeavesNone = (whole : Bool) (platform : PlatformFacts) (some others all : List Participant) (field : Field)
+    → IsPermutation (some ++ others) all → IsCountLine field (counts_asked some) → IsUnmet whole platform all

@@ -1,6 +1,7 @@
 //! What is true of settings, whoever works them out.
 
 ghost use Rattle.sysmem_merge.specs.Laws.{OneBest, ReasonLeavesNone, ReasonOfSomeLeavesNone};
+ghost use Rattle.sysmem_merge.specs.Laws.{OfferLineLeavesNone, PlaceLineLeavesNone, CountLineLeavesNone};
 
 /// Participants have at most one best settings.
 pub fn one_best()
@@ -12,4 +13,21 @@ pub fn one_best()
 pub fn reason_leaves_none()
     ensures these { ReasonLeavesNone }
     ensures more { ReasonOfSomeLeavesNone }
+{}
+
+/// A line that is true of some of the participants for an offer leaves no settings with that offer to all of them, whatever
+/// their order.
+pub fn offer_line_leaves_none()
+    ensures { OfferLineLeavesNone }
+{}
+
+/// A place that a field refuses to one of some of the participants is the place of no settings for all of them, whatever
+/// their order.
+pub fn place_line_leaves_none()
+    ensures { PlaceLineLeavesNone }
+{}
+
+/// A count line that is true of some of the participants leaves no settings to all of them, whatever their order.
+pub fn count_line_leaves_none()
+    ensures { CountLineLeavesNone }
 {}
