@@ -2,14 +2,11 @@
 use Rattle.std.proofs.Common.{arith, ℕ, length, take, drop, ◌≡◌, ◌+◌, List, [], ◌∷◌, ◌++◌, max, min, map, refl, sym, ap, ◌∙◌, subst, length-append}
 use Rattle.std.proofs.Math.Seq.{take-append_seam}
 use Rattle.sysmem_counts.specs.Bounds as counts
-use Rattle.sysmem_counts.specs.Tally.{Tally}
 use Rattle.sysmem_counts.specs.declared.constraints.CountConstraints.{CountConstraints}
-use Rattle.sysmem_memory.specs.declared.domain.CoherencyDomains.{CoherencyDomains}
 use Rattle.sysmem_memory.specs.Heap.{HeapFacts}
 use Rattle.sysmem_memory.specs.Place as places
 use Rattle.sysmem_memory.specs.PlaceTable.{PlaceDemand}
 use Rattle.sysmem_merge.specs.Kept.{Kept}
-use Rattle.sysmem_merge.specs.declared.kept.KeptOffer.{KeptOffer}
 use Rattle.sysmem_merge.specs.Aggregate.{AreKept, StandsFor}
 use Rattle.sysmem_merge.specs.Demands.{OfferDemand, counts_asked, place_demand, place_demands, offer_demand, offer_demands}
 use Rattle.sysmem_sanitise.specs.Participant.{Participant}
@@ -26,29 +23,21 @@ pub all_written : {X : Type 0} (many : ℕ) (old new : List X) → many ≡ leng
 all_written many old new is = ap (λ n. take n (new ++ drop (length new) old)) is ∙ take-append_seam new (drop (length new) old)
 
 -- each part stands for one more, so the whole does
-pub stands_push : (kept : Kept) (platform : PlatformFacts) (ps : List Participant) (p : Participant) (tally : Tally) (left : List CoherencyDomains) (offers : List KeptOffer)
-    → StandsFor kept platform ps
-    → ((asked : List CountConstraints) → counts.StandsFor kept.counts asked → counts.StandsFor tally (asked ++ p.counts ∷ []))
-    → ((demands : List PlaceDemand) → places.StandsFor kept.places kept.platform.heaps demands → places.StandsFor left kept.platform.heaps (demands ++ place_demand p ∷ []))
-    → ((ds : List OfferDemand) → AreKept (offers_of kept.platform) ds kept.offers → AreKept (offers_of kept.platform) (ds ++ offer_demand p ∷ []) offers)
-    → StandsFor (record {
-      platform = kept.platform;
-      counts = tally;
-      places = left;
-      offers = offers;
-      least_size = max kept.least_size p.memory.min_size_bytes;
-      greatest_size = min kept.greatest_size p.memory.max_size_bytes;
-      added = kept.added + 1;
-    }) platform (ps ++ p ∷ [])
-stands_push kept platform ps p tally left offers stands counted placed offered = record {
-  on = stands.on;
+pub stands_push : (kept new : Kept) (platform : PlatformFacts) (ps : List Participant) (p : Participant) → StandsFor kept platform ps → new.platform ≡ kept.platform
+    → ((asked : List CountConstraints) → counts.StandsFor kept.counts asked → counts.StandsFor new.counts (asked ++ p.counts ∷ []))
+    → ((demands : List PlaceDemand) → places.StandsFor kept.places kept.platform.heaps demands → places.StandsFor new.places kept.platform.heaps (demands ++ place_demand p ∷ []))
+    → ((ds : List OfferDemand) → AreKept (offers_of kept.platform) ds kept.offers → AreKept (offers_of kept.platform) (ds ++ offer_demand p ∷ []) new.offers)
+    → new.least_size ≡ max kept.least_size p.memory.min_size_bytes → new.greatest_size ≡ min kept.greatest_size p.memory.max_size_bytes → new.added ≡ kept.added + 1
+    → StandsFor new platform (ps ++ p ∷ [])
+stands_push kept new platform ps p stands same counted placed offered least greatest many = record {
+  on = same ∙ stands.on;
   counts = rw map_push (counted (counts_asked ps) stands.counts);
-  places = subst (λ (f : PlatformFacts). places.StandsFor left f.heaps (place_demands (ps ++ p ∷ []))) stands.on
+  places = subst (λ (f : PlatformFacts). places.StandsFor new.places f.heaps (place_demands (ps ++ p ∷ []))) stands.on
       (rw map_push (placed (place_demands ps) (subst (λ (f : PlatformFacts). places.StandsFor kept.places f.heaps (place_demands ps)) (sym stands.on) stands.places)));
-  offers = subst (λ (f : PlatformFacts). AreKept (offers_of f) (offer_demands (ps ++ p ∷ [])) offers) stands.on
+  offers = subst (λ (f : PlatformFacts). AreKept (offers_of f) (offer_demands (ps ++ p ∷ [])) new.offers) stands.on
       (rw map_push (offered (offer_demands ps) (subst (λ (f : PlatformFacts). AreKept (offers_of f) (offer_demands ps) kept.offers) (sym stands.on) stands.offers)));
-  sizes = rw map_push (sizes_push (offer_demands ps) (offer_demand p) kept.least_size kept.greatest_size stands.sizes);
-  many = omega (arith, stands.many, length-append ps (p ∷ []));
+  sizes = rw (map_push, least, greatest) (sizes_push (offer_demands ps) (offer_demand p) kept.least_size kept.greatest_size stands.sizes);
+  many = omega (arith, many, stands.many, length-append ps (p ∷ []));
 }
 
 -- the heaps that are read are those of the platform that it stands on

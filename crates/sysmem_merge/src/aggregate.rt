@@ -1,6 +1,6 @@
 //! What is kept of participants, and the best settings for them.
 
-ghost use Rattle.std.specs.Prelude.{◌≡◌, ◌+◌, ◌<◌, ◌≤◌, ◌++◌, List, [], ◌∷◌, IfOk, IfErr, OnOk, OnErr};
+ghost use Rattle.std.specs.Prelude.{◌≡◌, ◌+◌, ◌<◌, ◌≤◌, ◌++◌, List, [], ◌∷◌, IfOk, IfErr, OnOk};
 ghost use Rattle.sysmem_merge.specs.Aggregate.{StandsFor};
 ghost use Rattle.sysmem_merge.specs.Best.{IsBest, IsUnmet};
 ghost use Rattle.sysmem_sanitise.specs.Participant.{Participant};
@@ -79,7 +79,6 @@ impl<'p> Aggregate<'p> {
         requires { self.old.added < 1024 }
         ensures ok { (platform : PlatformFacts) (ps : List Participant) → StandsFor self.old platform ps
             → OnOk result (StandsFor self.new platform (ps ++ asked.now ∷ [])) }
-        ensures unchanged { OnErr result (self.new ≡ self.old) }
         ensures always { IfErr result (λ _. ⊥) }
         ensures grows { self.new.added ≤ self.old.added + 1 }
     {
