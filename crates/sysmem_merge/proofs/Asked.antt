@@ -46,12 +46,3 @@ asked_each o P [] all = All-nil (Asks o P)
 asked_each o P (d ∷ ds) all =
     All-cons (Asks o P) d ds (all_on_entry o P (first_match o d.entries) (bounds_asked o ds) all)
     (asked_each o P ds (all_rest o P (first_match o d.entries) (bounds_asked o ds) all))
-
--- what follows from a fact follows of an entry's bounds
-on_entry_weaker : (o : Offer) (P Q : ImageBounds → Type 0) → ((e : ImageBounds) → P e → Q e) → (entry : Option Entry) → OnEntry o P entry → OnEntry o Q entry
-on_entry_weaker o P Q step (Some entry) on = step (effective o entry) on
-on_entry_weaker o P Q step None on = tt
-
--- and of those that a participant asks
-pub asks_weaker : (o : Offer) (P Q : ImageBounds → Type 0) → ((e : ImageBounds) → P e → Q e) → (d : OfferDemand) → Asks o P d → Asks o Q d
-asks_weaker o P Q step d asks = on_entry_weaker o P Q step (first_match o d.entries) asks

@@ -20,7 +20,7 @@ use Rattle.sysmem_image.proofs.Steps.{steady_line}
 use Rattle.sysmem_merge.specs.declared.kept.KeptBounds.{KeptBounds}
 use Rattle.sysmem_merge.specs.declared.kept.KeptBounds.TheVariants.{Merged, Refused}
 use Rattle.sysmem_merge.specs.declared.kept.KeptOffer.{KeptOffer}
-use Rattle.sysmem_merge.specs.Aggregate.{IsLasting, IsListed, AreKeptBounds, IsKept, refused_for}
+use Rattle.sysmem_merge.specs.Aggregate.{IsLasting, IsListed, AreKeptBounds, IsKept}
 use Rattle.sysmem_merge.specs.Demands.{OfferDemand}
 use Rattle.sysmem_merge.specs.Offers.{has_format, has_colour, entry_takes_colour, with_entry, bounds_asked, names_format, names_modifier, names_colour}
 use Rattle.sysmem_merge.specs.Reasons.{IsOfferLine}
@@ -86,27 +86,32 @@ merged_more o ds d entry new found takes listed merged = (
   All-push (IsListed o) ds d listed (listed_entry o d entry found takes),
 )
 
+-- an offer that was refused for a field, if it wasn't before
+pub record IsRefusing (f : Field) (old new : KeptBounds) : Type 0 where
+  pub first : (b : ImageBounds) → old ≡ Merged b → new ≡ Refused f
+  pub still : (earlier : Field) → old ≡ Refused earlier → new ≡ Refused earlier
+
 -- a participant doesn't take the offer for the field's sake
-kept_refused : (f : Field) → IsLasting f → (o : Offer) (ds : List OfferDemand) (d : OfferDemand) (kept : KeptBounds) → IsOfferLine f o (ds ++ d ∷ [])
-    → AreKeptBounds o ds kept → AreKeptBounds o (ds ++ d ∷ []) (refused_for f kept)
-kept_refused f lasting o ds d (Merged b) line are = (lasting, line)
-kept_refused f lasting o ds d (Refused earlier) line are = (are.0, lasting_more earlier are.0 o ds d are.1)
+kept_refused : (f : Field) → IsLasting f → (o : Offer) (ds : List OfferDemand) (d : OfferDemand) (old new : KeptBounds) → IsRefusing f old new
+    → IsOfferLine f o (ds ++ d ∷ []) → AreKeptBounds o ds old → AreKeptBounds o (ds ++ d ∷ []) new
+kept_refused f lasting o ds d (Merged b) new refusing line are = rw (refusing.first b refl) (lasting, line)
+kept_refused f lasting o ds d (Refused earlier) new refusing line are = rw (refusing.still earlier refl) (are.0, lasting_more earlier are.0 o ds d are.1)
 
 -- where the offer was refused it stays so
 pub still_refused : (f : Field) (o : Offer) (ds : List OfferDemand) (d : OfferDemand) → AreKeptBounds o ds (Refused f) → AreKeptBounds o (ds ++ d ∷ []) (Refused f)
 still_refused f o ds d are = (are.0, lasting_more f are.0 o ds d are.1)
 
 -- the participant's entry lacks the colour space
-pub kept_colourless : (o : Offer) (ds : List OfferDemand) (d : OfferDemand) (entry : Entry) (kept : KeptBounds) → Some entry ≡ first_match o d.entries → takes_colour o entry ≡ false
-    → AreKeptBounds o ds kept → AreKeptBounds o (ds ++ d ∷ []) (refused_for ColorSpaces kept)
-kept_colourless o ds d entry kept found lacks are =
-    kept_refused ColorSpaces tt o ds d kept (Any-push (λ e. has_colour o e ≡ false) ds d (ap (entry_takes_colour o) (sym found) ∙ lacks)) are
+pub kept_colourless : (o : Offer) (ds : List OfferDemand) (d : OfferDemand) (entry : Entry) (old new : KeptBounds) → Some entry ≡ first_match o d.entries → takes_colour o entry ≡ false
+    → IsRefusing ColorSpaces old new → AreKeptBounds o ds old → AreKeptBounds o (ds ++ d ∷ []) new
+kept_colourless o ds d entry old new found lacks refusing are =
+    kept_refused ColorSpaces tt o ds d old new refusing (Any-push (λ e. has_colour o e ≡ false) ds d (ap (entry_takes_colour o) (sym found) ∙ lacks)) are
 
 -- the participant has entries, and none for the offer
-pub kept_formatless : (o : Offer) (ds : List OfferDemand) (d : OfferDemand) (kept : KeptBounds) → None ≡ first_match o d.entries → (length d.entries == 0) ≡ false
-    → AreKeptBounds o ds kept → AreKeptBounds o (ds ++ d ∷ []) (refused_for PixelFormat kept)
-kept_formatless o ds d kept found some are =
-    kept_refused PixelFormat tt o ds d kept (Any-push (λ e. has_format o e ≡ false) ds d (ap (λ x. length d.entries == 0 || is_some x) (sym found) ∙ (or-false (length d.entries == 0) ∙ some))) are
+pub kept_formatless : (o : Offer) (ds : List OfferDemand) (d : OfferDemand) (old new : KeptBounds) → None ≡ first_match o d.entries → (length d.entries == 0) ≡ false
+    → IsRefusing PixelFormat old new → AreKeptBounds o ds old → AreKeptBounds o (ds ++ d ∷ []) new
+kept_formatless o ds d old new found some refusing are =
+    kept_refused PixelFormat tt o ds d old new refusing (Any-push (λ e. has_format o e ≡ false) ds d (ap (λ x. length d.entries == 0 || is_some x) (sym found) ∙ (or-false (length d.entries == 0) ∙ some))) are
 
 -- the participant has no entries: nothing changes
 pub kept_without : (o : Offer) (ds : List OfferDemand) (d : OfferDemand) (kept : KeptBounds) → None ≡ first_match o d.entries → (length d.entries == 0) ≡ true

@@ -1,5 +1,5 @@
 -- A reason that is true of participants leaves no settings to them, nor to more.
-use Rattle.std.proofs.Common.{arith, ℕ, ◌<◌, inl, inr, Bool, false, List, [], ◌∷◌, map, All, refl}
+use Rattle.std.proofs.Common.{arith, ℕ, ◌<◌, inl, inr, Bool, false, List, [], ◌∷◌, map, refl}
 use Rattle.std.proofs.lemmas.List.Elements.{All-map, All-weaker}
 use Rattle.sysmem_counts.proofs.Counts.{line_sound, line_of_some}
 use Rattle.sysmem_counts.proofs.Lists.{All-some}
@@ -12,7 +12,6 @@ use Rattle.sysmem_memory.specs.Place.{IsFirstPlace, HasNoPlace}
 use Rattle.sysmem_memory.specs.PlaceTable.{AllowsPlace}
 use Rattle.sysmem_merge.specs.declared.reason.Reason.{Reason}
 use Rattle.sysmem_merge.specs.declared.reason.Reason.TheVariants.{Count, NoPlace, NoOffer}
-use Rattle.sysmem_merge.specs.declared.settings.Settings.{Settings as Settled}
 use Rattle.sysmem_merge.specs.Laws.{ReasonLeavesNone, ReasonOfSomeLeavesNone}
 use Rattle.sysmem_merge.specs.Demands.{OfferDemand, counts_asked, place_demand, place_demands, offer_demand, offer_demands}
 use Rattle.sysmem_sanitise.specs.Participant.{Participant}
@@ -32,10 +31,6 @@ pub map_some : {X Y : Type 0} (f : X → Y) (some all : List X) → IsSublist so
 map_some f _ _ ended = ended
 map_some f _ _ (taken x some all among) = taken (f x) (map f some) (map f all) (map_some f some all among)
 map_some f _ _ (left_out x some all among) = left_out (f x) (map f some) (map f all) (map_some f some all among)
-
--- settings that meet participants are covered by each of some of them
-covers_some : (whole : Bool) (platform : PlatformFacts) (some all : List Participant) (t : Settled) (meets : MeetsLoosely platform all t) → IsSublist some all → All (Covers meets.heap t) some
-covers_some whole platform some all t meets among = All-some (Covers meets.heap t) some all among meets.covers
 
 -- an offer that is refused to some, whoever else joins, is refused by a line
 refused_line : (o : Offer) (ds : List OfferDemand) → IsOfferRefused false o ds → (field : Field) × IsOfferLine field o ds

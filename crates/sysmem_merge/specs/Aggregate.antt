@@ -38,11 +38,6 @@ abbrev pub AreKeptBounds : Offer → List OfferDemand → KeptBounds → Type 0
 AreKeptBounds o ds (Merged b) = MergedOf o (bounds_asked o ds) b × All (IsListed o) ds
 AreKeptBounds o ds (Refused field) = IsLasting field × IsOfferLine field o ds
 
--- what is kept where the offer fails for a field, unless it failed before
-abbrev pub refused_for : Field → KeptBounds → KeptBounds
-refused_for field (Merged b) = Refused field
-refused_for field (Refused earlier) = Refused earlier
-
 -- what is kept of an offer stands for these participants
 pub record IsKept (o : Offer) (ds : List OfferDemand) (kept : KeptOffer) : Type 0 where
   pub bounds : AreKeptBounds o ds kept.bounds

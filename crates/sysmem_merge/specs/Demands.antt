@@ -13,17 +13,20 @@ counts_asked ps = map (λ p. p.counts) ps
 abbrev pub place_demand : Participant → PlaceDemand
 place_demand p = record { memory = p.memory; usage = p.usage }
 
+-- what the participants ask of a place
 abbrev pub place_demands : List Participant → List PlaceDemand
 place_demands ps = map place_demand ps
 
--- what a participant asks of an offer: its entries, and the sizes in bytes that it takes
+-- what is asked of an offer: entries, and the sizes in bytes that are taken
 pub record OfferDemand : Type 0 where
   pub entries : List Entry
   pub min_size_bytes : ℕ
   pub max_size_bytes : ℕ
 
+-- what a participant asks of an offer
 abbrev pub offer_demand : Participant → OfferDemand
 offer_demand p = record { entries = p.entries; min_size_bytes = p.memory.min_size_bytes; max_size_bytes = p.memory.max_size_bytes }
 
+-- what the participants ask of an offer
 abbrev pub offer_demands : List Participant → List OfferDemand
 offer_demands ps = map offer_demand ps

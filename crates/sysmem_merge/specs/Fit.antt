@@ -28,7 +28,7 @@ pub record CoversFit (t : Fit) (d : OfferDemand) : Type 0 where
   pub min_size : d.min_size_bytes ≤ t.size_bytes
   pub max_size : t.size_bytes ≤ d.max_size_bytes
 
--- they suit all of these participants, but for the names of the image
+-- an offer, bounds and a size that suit all of these participants, but for the names of the image
 pub record MeetsFit (ds : List OfferDemand) (t : Fit) : Type 0 where
   pub sound : IsSoundFit t
   pub covers : All (CoversFit t) ds

@@ -14,19 +14,21 @@ use Rattle.sysmem_merge.specs.Demands.{OfferDemand}
 abbrev pub has_format : Offer → OfferDemand → Bool
 has_format o d = length d.entries == 0 || is_some (first_match o d.entries)
 
--- the colour spaces of an entry for the offer contain the offer's
+-- an entry for the offer, where there is one, takes the offer's colour space
 abbrev pub entry_takes_colour : Offer → Option Entry → Bool
 entry_takes_colour o (Some entry) = takes_colour o entry
 entry_takes_colour o None = true
 
+-- a participant's entry for the offer takes the offer's colour space
 abbrev pub has_colour : Offer → OfferDemand → Bool
 has_colour o d = entry_takes_colour o (first_match o d.entries)
 
--- the bounds that a participant's entry puts on the offer have the property; a participant without an entry puts none
+-- the bounds that an entry, where there is one, puts on the offer have the property
 abbrev pub OnEntry : Offer → (ImageBounds → Type 0) → Option Entry → Type 0
 OnEntry o P (Some entry) = P (effective o entry)
 OnEntry o P None = Unit {0}
 
+-- the bounds that a participant's entry puts on the offer have the property; a participant without an entry puts none
 abbrev pub Asks : Offer → (ImageBounds → Type 0) → OfferDemand → Type 0
 Asks o P d = OnEntry o P (first_match o d.entries)
 

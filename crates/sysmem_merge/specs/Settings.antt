@@ -42,7 +42,7 @@ pub record Covers (heap : HeapFacts) (s : Settled) (p : Participant) : Type 0 wh
   pub max_size : s.size_bytes ≤ p.memory.max_size_bytes
   pub place : AllowsPlace p.memory p.usage heap s.place.coherency
 
--- the same where the heap is the platform's
+-- settings that one participant accepts in their heap of the platform
 pub record CoversOn (platform : PlatformFacts) (s : Settled) (p : Participant) : Type 0 where
   pub heap : HeapFacts
   pub has : slice_get platform.heaps s.place.heap ≡ Some heap

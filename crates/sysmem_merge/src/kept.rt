@@ -1,9 +1,12 @@
 //! What is kept of an offer for the participants that were added.
 
 ghost use Rattle.std.specs.Prelude.{◌≡◌, ◌||◌, [], ◌++◌, ◌∷◌, List, Some};
+ghost use Rattle.sysmem_counts.specs.declared.field.Field.{Field};
 ghost use Rattle.sysmem_formats.specs.declared.offer.Offer.{Offer};
+ghost use Rattle.sysmem_image.specs.declared.bounds.ImageBounds.{ImageBounds};
 ghost use Rattle.sysmem_image.specs.Entries.{first_match};
-ghost use Rattle.sysmem_merge.specs.Aggregate.{AreKeptBounds, IsKept, refused_for};
+ghost use Rattle.sysmem_merge.specs.Aggregate.{AreKeptBounds, IsKept};
+ghost use Rattle.sysmem_merge.specs.declared.kept.KeptBounds.TheVariants.{Merged, Refused};
 ghost use Rattle.sysmem_merge.specs.Demands.{OfferDemand};
 ghost use Rattle.sysmem_merge.specs.Offers.{names_format, names_modifier, names_colour, is_named};
 
@@ -101,7 +104,8 @@ impl KeptBounds {
 
     /// Refuses the offer for a field, if it isn't refused already.
     fn refuse(&mut self, field: Field)
-        ensures { self.new ≡ refused_for field self.old }
+        ensures first { (bounds : ImageBounds) → self.old ≡ Merged bounds → self.new ≡ Refused field }
+        ensures still { (earlier : Field) → self.old ≡ Refused earlier → self.new ≡ Refused earlier }
     {
         if let KeptBounds::Merged(_) = self {
             *self = KeptBounds::Refused(field);

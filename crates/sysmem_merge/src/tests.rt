@@ -1,6 +1,5 @@
 // What no clause shows: settings and reasons as they were worked out by hand, on a platform of one heap and two formats.
 
-use crate::laws::{one_best, reason_leaves_none};
 use crate::{Aggregate, Reason, Settings, meets_one};
 use serde_json::Value;
 use std::alloc::Global;
@@ -82,7 +81,7 @@ fn counts_and_sizes(rt: HostRuntime) -> Result<(), Fail> {
         Ok(cached(8, 4096))
     );
     assert_eq!(rt;
-        shared(rt.alloc(), first, second, false)?,
+        shared(rt.alloc(), second, first, false)?,
         Ok(cached(8, 4096))
     );
     Ok(())
@@ -103,6 +102,10 @@ fn reasons(rt: HostRuntime) -> Result<(), Fail> {
     );
     assert_eq!(rt;
         shared(rt.alloc(), large, small, true)?,
+        Err(Reason::NoOffer)
+    );
+    assert_eq!(rt;
+        shared(rt.alloc(), small, large, true)?,
         Err(Reason::NoOffer)
     );
     Ok(())
@@ -148,7 +151,5 @@ fn accepts_alone(rt: HostRuntime) -> Result<(), Fail> {
     assert!(rt; meets_one(&platform, &image, &camera));
     image.place.coherency = CoherencyDomain::Ram;
     assert!(rt; !meets_one(&platform, &image, &camera));
-    one_best();
-    reason_leaves_none();
     Ok(())
 }

@@ -6,7 +6,8 @@ use Rattle.sysmem_merge.proofs.kept.KeptBounds.add.Goals as goal
 pub returns-then-not-takes_colour : goal.returns-then-not-takes_colour
 returns-then-not-takes_colour c ds d found are =
     let lacks = sym c.takes_colour.ensures ∙ c.if-not-takes_colour.true in
-    rw c.refuse.ensures (kept_colourless c.args.offer.now ds d c.args.entry.now c.args.self.now found lacks are)
+    kept_colourless c.args.offer.now ds d c.args.entry.now c.args.self.now c.refuse.new.self found lacks
+    (record { first = c.refuse.ensures.first; still = c.refuse.ensures.still }) are
 
 pub returns-in-Err : goal.returns-in-Err
 returns-in-Err c ds d found are =

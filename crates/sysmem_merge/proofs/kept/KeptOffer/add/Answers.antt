@@ -14,7 +14,9 @@ pub returns-then-not-is_empty : goal.returns-then-not-is_empty
 returns-then-not-is_empty c ds d same kept =
     let found = c.in-None.ensures ∙ ap (first_match c.args.offer.now) (sym same) in
     kept_unnamed c.args.offer.now ds d c.args.self.now c.refuse.new.self found kept
-    (rw c.refuse.ensures (kept_formatless c.args.offer.now ds d c.args.self.now.bounds found (ap (λ (es : List Entry). length es == 0) same ∙ (sym c.is_empty.ensures ∙ c.if-not-is_empty.true)) kept.bounds))
+    (kept_formatless c.args.offer.now ds d c.args.self.now.bounds c.refuse.new.self found
+    (ap (λ (es : List Entry). length es == 0) same ∙ (sym c.is_empty.ensures ∙ c.if-not-is_empty.true))
+    (record { first = c.refuse.ensures.first; still = c.refuse.ensures.still }) kept.bounds)
 
 pub returns-else-not-is_empty : goal.returns-else-not-is_empty
 returns-else-not-is_empty c ds d same kept =
