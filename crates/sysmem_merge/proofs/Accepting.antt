@@ -1,6 +1,7 @@
 -- Whether one participant accepts an offer and bounds on its images, and settings with them.
 use Rattle.std.proofs.Common.{◌≡◌, ◌↔◌, ◌||◌, ◌==◌, ◌≤◌, Bool, true, false, length, Option, Some, None, IfSome, IfNone, not, IsTrue, slice_get, refl, sym, ap, ◌∙◌, subst}
 use Rattle.std.specs.Prelude.{is_some}
+use Rattle.std.specs.Option.{option_map, option_map_or}
 use Rattle.std.proofs.Math.Bool.{or-true}
 use Rattle.std.proofs.lemmas.Option.{same_Some}
 use Rattle.sysmem_counts.specs.declared.field.Field.{Field}
@@ -14,7 +15,7 @@ use Rattle.sysmem_memory.specs.Heap.{HeapFacts}
 use Rattle.sysmem_memory.specs.PlaceTable.{AllowsPlace}
 use Rattle.sysmem_merge.specs.declared.settings.Settings.{Settings as Settled}
 use Rattle.sysmem_merge.specs.Demands.{OfferDemand, offer_demand}
-use Rattle.sysmem_merge.specs.Offers.{OnEntry, entry_takes_colour, AcceptsOffer}
+use Rattle.sysmem_merge.specs.Offers.{AcceptsOffer}
 use Rattle.sysmem_merge.specs.Settings.{CoversOn}
 use Rattle.sysmem_sanitise.specs.Participant.{Participant}
 use Rattle.sysmem_sanitise.specs.Platform.{PlatformFacts}
@@ -46,10 +47,10 @@ pub accepts_entry : (o : Offer) (b : ImageBounds) (d : OfferDemand) (entry : Ent
 accepts_entry o b d entry r none found takes is kept failing = let exact = none_failing b (effective o entry) r none is kept failing in (
   λ yes. record {
     format = ap (λ x. length d.entries == 0 || is_some x) (sym found) ∙ or-true (length d.entries == 0);
-    colour = ap (entry_takes_colour o) (sym found) ∙ takes;
-    bounds = subst (OnEntry o (IsTighter b)) found (exact.0 yes);
+    colour = ap (λ x. option_map_or (takes_colour o) x true) (sym found) ∙ takes;
+    bounds = subst (λ x. IfSome (option_map (effective o) x) (IsTighter b)) found (exact.0 yes);
   },
-  λ accepts. exact.1 (subst (OnEntry o (IsTighter b)) (sym found) accepts.bounds),
+  λ accepts. exact.1 (subst (λ x. IfSome (option_map (effective o) x) (IsTighter b)) (sym found) accepts.bounds),
 )
 
 -- what a participant accepts makes it accept settings

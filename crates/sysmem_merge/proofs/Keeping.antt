@@ -1,7 +1,8 @@
 -- What is kept of an offer after one more participant.
 use Rattle.std.proofs.Common.{arith, ◌≡◌, ◌||◌, ◌==◌, Bool, true, false, List, [], ◌∷◌, ◌++◌, All, Any, length, refl, sym, ap, ◌∙◌, subst, length-append}
 use Rattle.std.specs.Prelude.{Option, Some, None, is_some}
-use Rattle.std.specs.List.{list_any}
+use Rattle.std.specs.List.{cons_option, list_any}
+use Rattle.std.specs.Option.{option_map, option_map_or}
 use Rattle.std.proofs.Math.Bool.{or-false}
 use Rattle.std.proofs.lemmas.List.{append-nil, get_or_append_left}
 use Rattle.std.proofs.lemmas.List.Elements.{All-push}
@@ -22,7 +23,7 @@ use Rattle.sysmem_merge.specs.declared.kept.KeptBounds.TheVariants.{Merged, Refu
 use Rattle.sysmem_merge.specs.declared.kept.KeptOffer.{KeptOffer}
 use Rattle.sysmem_merge.specs.Aggregate.{IsLasting, IsListed, AreKeptBounds, IsKept}
 use Rattle.sysmem_merge.specs.Demands.{OfferDemand}
-use Rattle.sysmem_merge.specs.Offers.{has_format, has_colour, entry_takes_colour, with_entry, bounds_asked, names_format, names_modifier, names_colour}
+use Rattle.sysmem_merge.specs.Offers.{has_format, has_colour, entry_bounds, bounds_asked, names_format, names_modifier, names_colour}
 use Rattle.sysmem_merge.specs.Reasons.{IsOfferLine}
 use Rattle.sysmem_merge.proofs.Asked.{bounds_asked_push}
 
@@ -31,13 +32,13 @@ Any-longer : {X : Type 0} (P : X → Type 0) (xs : List X) (y : X) → Any P xs 
 Any-longer P xs y (k, x, below, is, p) = (k, x, omega (arith, below, length-append xs (y ∷ [])), get_or_append_left xs (y ∷ []) x k below ∙ is, p)
 
 -- a line about a common multiple stays true with the bounds of one more entry
-steady_with : (f : Field) → IsSteady f → (o : Offer) (es : List ImageBounds) (x : Option Entry) → IsBoundsLine f o es → IsBoundsLine f o (es ++ with_entry o x [])
-steady_with f steady o es (Some entry) line = steady_line f steady o es (effective o entry) line
+steady_with : (f : Field) → IsSteady f → (o : Offer) (es : List ImageBounds) (x : Option ImageBounds) → IsBoundsLine f o es → IsBoundsLine f o (es ++ cons_option x [])
+steady_with f steady o es (Some e) line = steady_line f steady o es e line
 steady_with f steady o es None line = subst (IsBoundsLine f o) (sym (append-nil es)) line
 
 -- and with one more participant
 steady_asked : (f : Field) → IsSteady f → (o : Offer) (ds : List OfferDemand) (d : OfferDemand) → IsBoundsLine f o (bounds_asked o ds) → IsBoundsLine f o (bounds_asked o (ds ++ d ∷ []))
-steady_asked f steady o ds d line = subst (IsBoundsLine f o) (sym (bounds_asked_push o ds d)) (steady_with f steady o (bounds_asked o ds) (first_match o d.entries) line)
+steady_asked f steady o ds d line = subst (IsBoundsLine f o) (sym (bounds_asked_push o ds d)) (steady_with f steady o (bounds_asked o ds) (entry_bounds o d) line)
 
 -- a lasting line stays true of one more participant
 lasting_more : (f : Field) → IsLasting f → (o : Offer) (ds : List OfferDemand) (d : OfferDemand) → IsOfferLine f o ds → IsOfferLine f o (ds ++ d ∷ [])
@@ -60,7 +61,7 @@ steady_lasts _ steady o ds line = absurd steady
 -- the bounds with those of one more participant's entry
 pub asked_entry : (o : Offer) (ds : List OfferDemand) (d : OfferDemand) (entry : Entry) → Some entry ≡ first_match o d.entries
     → bounds_asked o (ds ++ d ∷ []) ≡ bounds_asked o ds ++ effective o entry ∷ []
-asked_entry o ds d entry found = bounds_asked_push o ds d ∙ ap (λ x. bounds_asked o ds ++ with_entry o x []) (sym found)
+asked_entry o ds d entry found = bounds_asked_push o ds d ∙ ap (λ x. bounds_asked o ds ++ cons_option (option_map (effective o) x) []) (sym found)
 
 -- the multiple of one more entry's bounds is above the limit
 pub refused_line : (f : Field) → IsSteady f → (o : Offer) (ds : List OfferDemand) (d : OfferDemand) (entry : Entry) → Some entry ≡ first_match o d.entries
@@ -72,7 +73,7 @@ refused_line f steady o ds d entry found first =
 listed_entry : (o : Offer) (d : OfferDemand) (entry : Entry) → Some entry ≡ first_match o d.entries → takes_colour o entry ≡ true → IsListed o d
 listed_entry o d entry found takes = record {
   format = ap (λ x. length d.entries == 0 || is_some x) (sym found) ∙ or_true (length d.entries == 0);
-  colour = ap (entry_takes_colour o) (sym found) ∙ takes;
+  colour = ap (λ x. option_map_or (takes_colour o) x true) (sym found) ∙ takes;
 } where
   or_true : (b : Bool) → (b || true) ≡ true
   or_true true = refl
@@ -105,7 +106,7 @@ still_refused f o ds d are = (are.0, lasting_more f are.0 o ds d are.1)
 pub kept_colourless : (o : Offer) (ds : List OfferDemand) (d : OfferDemand) (entry : Entry) (old new : KeptBounds) → Some entry ≡ first_match o d.entries → takes_colour o entry ≡ false
     → IsRefusing ColorSpaces old new → AreKeptBounds o ds old → AreKeptBounds o (ds ++ d ∷ []) new
 kept_colourless o ds d entry old new found lacks refusing are =
-    kept_refused ColorSpaces tt o ds d old new refusing (Any-push (λ e. has_colour o e ≡ false) ds d (ap (entry_takes_colour o) (sym found) ∙ lacks)) are
+    kept_refused ColorSpaces tt o ds d old new refusing (Any-push (λ e. has_colour o e ≡ false) ds d (ap (λ x. option_map_or (takes_colour o) x true) (sym found) ∙ lacks)) are
 
 -- the participant has entries, and none for the offer
 pub kept_formatless : (o : Offer) (ds : List OfferDemand) (d : OfferDemand) (old new : KeptBounds) → None ≡ first_match o d.entries → (length d.entries == 0) ≡ false
@@ -118,10 +119,10 @@ pub kept_without : (o : Offer) (ds : List OfferDemand) (d : OfferDemand) (kept :
     → AreKeptBounds o ds kept → AreKeptBounds o (ds ++ d ∷ []) kept
 kept_without o ds d (Refused f) found none are = still_refused f o ds d are
 kept_without o ds d (Merged b) found none are = (
-  subst (λ es. MergedOf o es b) (sym (bounds_asked_push o ds d ∙ (ap (λ x. bounds_asked o ds ++ with_entry o x []) (sym found) ∙ append-nil (bounds_asked o ds)))) are.0,
+  subst (λ es. MergedOf o es b) (sym (bounds_asked_push o ds d ∙ (ap (λ x. bounds_asked o ds ++ cons_option (option_map (effective o) x) []) (sym found) ∙ append-nil (bounds_asked o ds)))) are.0,
   All-push (IsListed o) ds d are.1 (record {
     format = ap (λ b. b || is_some (first_match o d.entries)) none;
-    colour = ap (entry_takes_colour o) (sym found);
+    colour = ap (λ x. option_map_or (takes_colour o) x true) (sym found);
   }),
 )
 
