@@ -56,7 +56,7 @@ fn platform(alloc: Global) -> Result<Vec<HeapInfo>, Fail> {
 
 // The constraints of a participant that wants secure memory and no access by a processor.
 fn secure(alloc: Global) -> MemoryConstraints {
-    let mut memory = MemoryConstraints::new(alloc);
+    let mut memory = MemoryConstraints::permitting(Vec::new(alloc));
     memory.secure_required = true;
     memory.cpu_domain_supported = false;
     memory.inaccessible_domain_supported = true;
@@ -75,7 +75,7 @@ fn first_places(
     let mut bounds = MemoryBounds::new(heaps);
     bounds.add(heaps, memory, usage);
     let alone = bounds.first_place(heaps);
-    bounds.add(heaps, &MemoryConstraints::new(alloc), Usage::CPU);
+    bounds.add(heaps, &MemoryConstraints::permitting(Vec::new(alloc)), Usage::CPU);
     (alone, bounds.first_place(heaps))
 }
 
@@ -133,7 +133,7 @@ fn a_processor_alone(rt: HostRuntime) -> Result<(), Fail> {
     assert_eq!(rt; heaps.len(), 3);
     let no_ram = Some(Field::RamDomainSupported);
     assert_eq!(rt;
-        refusals(&heaps, &MemoryConstraints::new(rt.alloc()), Usage::CPU),
+        refusals(&heaps, &MemoryConstraints::permitting(Vec::new(rt.alloc())), Usage::CPU),
         [
             None,
             no_ram,
@@ -149,7 +149,7 @@ fn a_processor_alone(rt: HostRuntime) -> Result<(), Fail> {
 fn contiguous_heap(rt: HostRuntime) -> Result<(), Fail> {
     let heaps = platform(rt.alloc())?;
     assert_eq!(rt; heaps.len(), 3);
-    let mut memory = MemoryConstraints::new(rt.alloc());
+    let mut memory = MemoryConstraints::permitting(Vec::new(rt.alloc()));
     memory.physically_contiguous_required = true;
     let cma = Place {
         heap: 1,
@@ -186,7 +186,7 @@ fn permitted_heaps(rt: HostRuntime) -> Result<(), Fail> {
 
 #[test]
 fn a_processor_and_a_secure_heap(rt: HostRuntime) -> Result<(), Fail> {
-    let mut memory = MemoryConstraints::new(rt.alloc());
+    let mut memory = MemoryConstraints::permitting(Vec::new(rt.alloc()));
     memory.inaccessible_domain_supported = true;
     let mut vault = HeapInfo {
         heap: named(rt.alloc(), "vault", 0)?,
