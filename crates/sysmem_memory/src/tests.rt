@@ -2,9 +2,6 @@
 
 ghost use Rattle.std.specs.Prelude.{◌≡◌, ◌≤◌, length};
 
-use crate::laws::{
-    a_true_line_leaves_no_place, equal_heaps_are_one, one_first_place, places_are_ordered,
-};
 use crate::{
     CoherencyDomain, CoherencyDomains, Heap, HeapInfo, MemoryBounds, MemoryConstraints, Place,
     refuses,
@@ -230,12 +227,4 @@ fn names_and_sets(rt: HostRuntime) -> Result<(), Fail> {
     assert!(rt; named(rt.alloc(), "ram", 1)? != named(rt.alloc(), "ram", 0)?);
     assert!(rt; named(rt.alloc(), "ram", 1)? != named(rt.alloc(), "cma", 1)?);
     Ok(())
-}
-
-#[test]
-fn laws() {
-    equal_heaps_are_one();
-    places_are_ordered();
-    a_true_line_leaves_no_place();
-    one_first_place();
 }

@@ -1,21 +1,21 @@
 -- What a participant's record states is what a participant may ask.
-use Rattle.std.proofs.Common.{◌≡◌, ◌≢◌, ℕ, ◌^◌, ◌-◌, ◌<◌, ◌≤◌, ◌+◌, ◌==◌, Bool, true, false, not, ◌||◌, ◌&&◌, List, [], ◌∷◌, ◌++◌, length, get_or, Option, Some, None, Result, Ok, Err, refl, sym, ap, ◌∙◌, subst, arith, rules, tests, length-append, append_assoc, append-nil}
-use Rattle.std.specs.Prelude.{All, AllPairs, map, max, nat_lt, is_some, cond}
+use Rattle.std.proofs.Common.{◌≡◌, ◌≢◌, ℕ, ◌^◌, ◌-◌, ◌<◌, ◌≤◌, ◌+◌, ◌==◌, Bool, true, false, not, ◌||◌, ◌&&◌, List, [], ◌∷◌, ◌++◌, length, get_or, Option, Some, None, Ok, refl, sym, ap, ◌∙◌, subst, arith, rules, tests, length-append, append_assoc, append-nil}
+use Rattle.std.specs.Prelude.{All, AllPairs, map, max, nat_lt, cond}
 use Rattle.std.specs.List.{list_any}
-use Rattle.std.specs.Int.RustNames.{bit_and, bit_or}
-use Rattle.std.proofs.lemmas.List.{get_or-map, length-map, map-append, map-id}
+use Rattle.std.specs.Int.RustNames.{bit_and}
+use Rattle.std.proofs.lemmas.List.{get_or-map, length-map, map-append}
 use Rattle.std.proofs.lemmas.List.Elements.{All-push, All-append, All-map}
 use Rattle.std.proofs.lemmas.List.Folds.{list_any-append}
 use Rattle.std.proofs.lemmas.List.Quantifiers.{all_pairs_push}
 use Rattle.std.proofs.lemmas.Nat.{or_lt}
 use Rattle.std.proofs.lemmas.Option.{same_Some}
-use Rattle.bitflags.specs.Sets.{Row, find_row, find_name}
+use Rattle.bitflags.specs.Sets.{find_row}
 use Rattle.serde_json.specs.Data.{Data, Items, no_items, item}
 use Rattle.sysmem_counts.specs.declared.field.Field.{Field}
 use Rattle.sysmem_counts.specs.declared.field.Field.TheVariants as field
 use Rattle.sysmem_sanitise.specs.declared.fault.Code.TheVariants as code
 use Rattle.sysmem_counts.specs.declared.usage.Usage.{Usage}
-use Rattle.sysmem_counts.specs.Families.{families, family_named}
+use Rattle.sysmem_counts.specs.Families.{family_named}
 use Rattle.sysmem_counts.specs.Usage.{usage_bits}
 use Rattle.sysmem_formats.specs.declared.colour_space.ColourSpace.{ColourSpace}
 use Rattle.sysmem_formats.specs.declared.colour_space.ColourSpace.TheVariants.{Srgb, Rec601Ntsc, Rec601NtscFullRange, Rec601Pal, Rec601PalFullRange, Rec709, Rec2020, Rec2100}
@@ -27,20 +27,19 @@ use Rattle.sysmem_image.specs.declared.bounds.ImageBounds.{ImageBounds}
 use Rattle.sysmem_image.specs.declared.colours.ColourSet.{ColourSet}
 use Rattle.sysmem_image.specs.declared.entry.Entry.{Entry}
 use Rattle.sysmem_image.specs.declared.size.Size.{Size}
-use Rattle.sysmem_image.specs.Colours.{no_colours, with_any, with_colour}
+use Rattle.sysmem_image.specs.Colours.{no_colours, with_colour}
 use Rattle.sysmem_memory.specs.Heap.{HeapName, same_heap}
 use Rattle.sysmem_memory.specs.Wishes.{MemoryWishes, no_wishes}
 use Rattle.sysmem_sanitise.specs.declared.reading.asked.AskedPair.{AskedPair}
-use Rattle.sysmem_sanitise.specs.declared.fault.Fault.{Fault}
+use Rattle.sysmem_sanitise.specs.declared.fault.Spot.TheVariants.{At}
 use Rattle.sysmem_sanitise.specs.Participant.{IsUsage, IsHeapName, IsUpTo, IsEntry, AreApart, most_step}
-use Rattle.sysmem_sanitise.specs.Reading.Bounds.{is_multiple, multiple, multiple_size, any_size, some_size, some_sides, size_to, size_or, bound_or, any_number, some_number, StatedBounds, stated_bounds, bounds_by, bounds_of, most}
-use Rattle.sysmem_sanitise.specs.Reading.Constraints.{no_usage, with_family, is_usage, usage_of, memory_of}
+use Rattle.sysmem_sanitise.specs.Reading.Bounds.{is_multiple, multiple, multiple_size, any_size, some_size, some_sides, size_to, size_or, bound_or, any_number, some_number, stated_bounds, bounds_by, bounds_of, most}
+use Rattle.sysmem_sanitise.specs.Reading.Constraints.{no_usage, with_family, is_usage, usage_of, memory_fields, memory_of}
 use Rattle.sysmem_sanitise.specs.Reading.Entries.{same_format, same_modifier, same_asked, is_unfit, asked_of, asked_by, has_further, modifier_beside, has_entry, has_asked, with_asked, no_pair, own_pair, with_further, further_of, asked_pairs, listed, with_listed, colour_set_of, entry_object, entry_with, with_entry, entries_of}
 use Rattle.sysmem_sanitise.specs.Reading.Fields.{◌>>=◌, passing, list_of, named, number_of, number_or, flag_or, optional, stated, required, text_of, object_of, has_items, read_each}
 use Rattle.sysmem_sanitise.specs.Reading.Heaps.{heap_type_of, heap_name_of, is_heap_type, permitted_heap, permits, with_permitted, permitted_of}
-use Rattle.sysmem_sanitise.specs.Reading.Pairs.{is_misfit}
 use Rattle.sysmem_sanitise.proofs.Platforms.{fitting}
-use Rattle.sysmem_sanitise.proofs.Steps.{bind-ok, ok-same, passing-ok, not-true, or-false, and-true, none_passes, each-keeps, optional-keeps, below}
+use Rattle.sysmem_sanitise.proofs.Steps.{bind-ok, bind-then, ok-same, passing-ok, not-true, and-true, none_passes, each-keeps, optional-keeps, below}
 
 -- a family's bit is one of five
 family-few : (name : List ℕ) (bits : ℕ) → family_named name ≡ Some bits → bits < 2 ^ 5
@@ -114,16 +113,16 @@ permitted_of-are d ts gives =
 
 memory_of-permits : (d : Data) (m : MemoryWishes) → memory_of d ≡ Ok m → ArePermitted m.permitted_heaps
 memory_of-permits d m gives =
-    let (object, is, a1) = bind-ok (object_of _ _ d) _ m gives in
-    let (min, is1, a2) = bind-ok (number_or field.MinSizeBytes 0 (2 ^ 64 - 1) d) _ m a1 in
-    let (max, is2, a3) = bind-ok (number_or field.MaxSizeBytes (2 ^ 64 - 1) (2 ^ 64 - 1) d) _ m a2 in
-    let (contiguous, is3, a4) = bind-ok (flag_or field.PhysicallyContiguousRequired false d) _ m a3 in
-    let (secure, is4, a5) = bind-ok (flag_or field.SecureRequired false d) _ m a4 in
-    let (cpu, is5, a6) = bind-ok (flag_or field.CpuDomainSupported true d) _ m a5 in
-    let (ram, is6, a7) = bind-ok (flag_or field.RamDomainSupported false d) _ m a6 in
-    let (inaccessible, is7, a8) = bind-ok (flag_or field.InaccessibleDomainSupported false d) _ m a7 in
-    let (heaps, is8, made) = bind-ok (optional field.PermittedHeaps [] permitted_of d) _ m a8 in
-    subst (λ (m : MemoryWishes). ArePermitted m.permitted_heaps) (ok-same _ m made) (optional-keeps ArePermitted field.PermittedHeaps [] permitted_of d heaps no_heaps-are (λ v. permitted_of-are v heaps) is8)
+    bind-then (object_of (At field.BufferMemoryConstraints) memory_fields d) _ m gives (λ object is a1.
+    bind-then (number_or field.MinSizeBytes 0 (2 ^ 64 - 1) d) _ m a1 (λ min is a2.
+    bind-then (number_or field.MaxSizeBytes (2 ^ 64 - 1) (2 ^ 64 - 1) d) _ m a2 (λ max is a3.
+    bind-then (flag_or field.PhysicallyContiguousRequired false d) _ m a3 (λ contiguous is a4.
+    bind-then (flag_or field.SecureRequired false d) _ m a4 (λ secure is a5.
+    bind-then (flag_or field.CpuDomainSupported true d) _ m a5 (λ cpu is a6.
+    bind-then (flag_or field.RamDomainSupported false d) _ m a6 (λ ram is a7.
+    bind-then (flag_or field.InaccessibleDomainSupported false d) _ m a7 (λ inaccessible is a8.
+    bind-then (optional field.PermittedHeaps [] permitted_of d) _ m a8 (λ heaps is made.
+    subst (λ (m : MemoryWishes). ArePermitted m.permitted_heaps) (ok-same _ m made) (optional-keeps ArePermitted field.PermittedHeaps [] permitted_of d heaps no_heaps-are (λ v. permitted_of-are v heaps) is))))))))))
 
 pub memory-permits : (d : Data) (m : MemoryWishes) → optional field.BufferMemoryConstraints no_wishes memory_of d ≡ Ok m → ArePermitted m.permitted_heaps
 memory-permits d m gives = optional-keeps (λ (m : MemoryWishes). ArePermitted m.permitted_heaps) field.BufferMemoryConstraints no_wishes memory_of d m no_heaps-are (λ v. memory_of-permits v m) gives
@@ -175,26 +174,26 @@ required_sides d size gives =
 
 bounds_of-are : (d : Data) (b : ImageBounds) → bounds_of d ≡ Ok b → AreAsked b
 bounds_of-are d b gives =
-    let (s, is, made) = bind-ok (stated_bounds d) _ b gives in
-    let (min_size, is1, a1) = bind-ok (size_or some_size field.MinSize 1 d) _ s is in
-    let (max_size, is2, a2) = bind-ok (size_or any_size field.MaxSize most d) _ s a1 in
-    let (size_alignment, is3, a3) = bind-ok (size_or multiple_size field.SizeAlignment 1 d) _ s a2 in
-    let (min_row, is4, a4) = bind-ok (bound_or some_number field.MinBytesPerRow 1 d) _ s a3 in
-    let (max_row, is5, a5) = bind-ok (bound_or any_number field.MaxBytesPerRow most d) _ s a4 in
-    let (row_step, is6, a6) = bind-ok (bound_or multiple field.BytesPerRowDivisor 1 d) _ s a5 in
-    let (start_step, is7, a7) = bind-ok (bound_or multiple field.StartOffsetDivisor 1 d) _ s a6 in
-    let (display_step, is8, a8) = bind-ok (size_or multiple_size field.DisplayRectAlignment 1 d) _ s a7 in
-    let (required_min, is9, a9) = bind-ok (size_or some_size field.RequiredMinSize most d) _ s a8 in
-    let (required_max, is10, stated-is) = bind-ok (size_or any_size field.RequiredMaxSize 0 d) _ s a9 in
+    bind-then (stated_bounds d) _ b gives (λ s stated-is made.
+    bind-then (size_or some_size field.MinSize 1 d) _ s stated-is (λ min_size is1 a1.
+    bind-then (size_or any_size field.MaxSize most d) _ s a1 (λ max_size is2 a2.
+    bind-then (size_or multiple_size field.SizeAlignment 1 d) _ s a2 (λ size_alignment is3 a3.
+    bind-then (bound_or some_number field.MinBytesPerRow 1 d) _ s a3 (λ min_row is4 a4.
+    bind-then (bound_or any_number field.MaxBytesPerRow most d) _ s a4 (λ max_row is5 a5.
+    bind-then (bound_or multiple field.BytesPerRowDivisor 1 d) _ s a5 (λ row_step is6 a6.
+    bind-then (bound_or multiple field.StartOffsetDivisor 1 d) _ s a6 (λ start_step is7 a7.
+    bind-then (size_or multiple_size field.DisplayRectAlignment 1 d) _ s a7 (λ display_step is8 a8.
+    bind-then (size_or some_size field.RequiredMinSize most d) _ s a8 (λ required_min is9 a9.
+    bind-then (size_or any_size field.RequiredMaxSize 0 d) _ s a9 (λ required_max is10 all.
     let required = required_sides d required_min is9 in
-    subst AreAsked (ok-same _ b made) (subst (λ s. AreAsked (bounds_by s)) (ok-same _ s stated-is) (record {
+    subst AreAsked (ok-same _ b made) (subst (λ s. AreAsked (bounds_by s)) (ok-same _ s all) (record {
       size_alignment = size_step field.SizeAlignment d size_alignment is3;
       bytes_per_row_divisor = step field.BytesPerRowDivisor d row_step is6;
       start_offset_divisor = step field.StartOffsetDivisor d start_step is7;
       display_rect_alignment = size_step field.DisplayRectAlignment d display_step is8;
       required_min_width = required.0;
       required_min_height = required.1;
-    }))
+    })))))))))))))
 
 with_colour-some : (set : ColourSet) (colour : ColourSpace) → with_colour set colour ≢ no_colours
 with_colour-some set Srgb e = let t : true ≡ false = ap (λ (s : ColourSet). s.srgb) e in absurd (cc)
@@ -280,7 +279,7 @@ with_asked-keeps at entries pairs after asked kept gives =
     let counted : length before ≡ length entries = length-map entries asked_by in
     let absent : (has_entry entries new || has_asked pairs new) ≡ false = not-true _ passed.holds in
     let none : list_any (λ pair. same_asked pair new) (before ++ pairs) ≡ false =
-        list_any-append (λ pair. same_asked pair new) before pairs ∙ ap (λ b. b || has_asked pairs new) (sym (asked_by-entries (λ pair. same_asked pair new) entries)) ∙ absent in
+    list_any-append (λ pair. same_asked pair new) before pairs ∙ ap (λ b. b || has_asked pairs new) (sym (asked_by-entries (λ pair. same_asked pair new) entries)) ∙ absent in
     let fits-new : Fits new = subst Fits (roomed.same ∙ passed.same) (fits fit.format fit.modifier (not-true _ first.holds)) in
     let is : pairs ++ new ∷ [] ≡ after = ok-same _ _ made in
     let whole : (before ++ pairs) ++ new ∷ [] ≡ before ++ (pairs ++ new ∷ []) = append_assoc before pairs (new ∷ []) in
@@ -306,11 +305,11 @@ asked_pairs-are entries d pairs kept gives =
     let (own, is, after) = bind-ok (own_pair entries d) _ pairs gives in
     let owned = own_pair-by _ entries d own kept is in
     optional-keeps (ArePairs (map asked_by entries)) field.PixelFormatAndModifiers own (further_of entries own) d pairs owned (λ v further.
-        let (items, listed, each) = bind-ok (list_of _ v) _ pairs further in
-        each-keeps (with_further entries) (ArePairs (map asked_by entries)) (λ before after w so is.
-            let (object, o, a1) = bind-ok (object_of _ _ w) _ after is in
-            let (asked, a, added) = bind-ok (asked_of w) _ after a1 in
-            with_asked-keeps field.PixelFormatAndModifiers entries before after asked so added) items own pairs owned each) after
+    let (items, listed, each) = bind-ok (list_of _ v) _ pairs further in
+    each-keeps (with_further entries) (ArePairs (map asked_by entries)) (λ before after w so is.
+    let (object, o, a1) = bind-ok (object_of _ _ w) _ after is in
+    let (asked, a, added) = bind-ok (asked_of w) _ after a1 in
+    with_asked-keeps field.PixelFormatAndModifiers entries before after asked so added) items own pairs owned each) after
 
 -- the entries of a record
 pub record AreEntries (entries : List Entry) : Type 0 where
@@ -353,7 +352,7 @@ with_entry-keeps es ts d kept gives =
     let some = colour_set_of-some v colours listed in
     let asked = bounds_of-are d bounds b in
     let whole : map asked_by (es ++ map (entry_with colours bounds) pairs) ≡ map asked_by es ++ pairs =
-        map-append asked_by es (map (entry_with colours bounds) pairs) ∙ ap (λ ps. map asked_by es ++ ps) (pairs-of colours bounds pairs) in
+    map-append asked_by es (map (entry_with colours bounds) pairs) ∙ ap (λ ps. map asked_by es ++ ps) (pairs-of colours bounds pairs) in
     let entry : (k : ℕ) (d : AskedPair) → k < length pairs → IsEntry (entry_with colours bounds (get_or pairs k d)) = λ k d within. record {
       fitting = are.fitting k d within;
       some_colours = some;

@@ -1,5 +1,5 @@
 -- What a platform's record states is what a platform may have.
-use Rattle.std.proofs.Common.{◌≡◌, ◌≢◌, ◌≤◌, ◌==◌, true, false, not, List, [], ◌∷◌, ◌++◌, length, Ok, refl, subst, arith, rules, tests, length-append}
+use Rattle.std.proofs.Common.{◌≡◌, ◌≢◌, ◌≤◌, ◌==◌, true, false, not, List, [], ◌∷◌, ◌++◌, length, Ok, refl, subst, arith, rules, tests, length-append, Decides}
 use Rattle.std.specs.Prelude.{All, AllPairs, nat_lt}
 use Rattle.std.proofs.lemmas.List.Elements.{All-push}
 use Rattle.std.proofs.lemmas.List.Quantifiers.{all_pairs_push}
@@ -68,8 +68,12 @@ same_colour-itself Rec2100 = refl
 distinct_colour : (a b : ColourSpace) → same_colour a b ≡ false → a ≢ b
 distinct_colour a b h e = let t : same_colour a b ≡ true = subst (λ (x : ColourSpace). same_colour a x ≡ true) e (same_colour-itself a) in absurd (cc)
 
+-- the test tells what is a tiled misfit
+is_misfit-decides : (p : Pair) → Decides (is_misfit p) (IsTiledMisfit p)
+is_misfit-decides p = search (rules, tests)
+
 pub fitting : (p : Pair) → is_misfit p ≡ false → IsTiledMisfit p → ⊥
-fitting p h misfit = search (rules, tests)
+fitting p h misfit = let holds = (is_misfit-decides p).1 misfit in absurd (cc)
 
 -- the pairs so far
 record Pairs (ps : List Pair) : Type 0 where

@@ -12,6 +12,9 @@ pub bind-ok : {A B : Type 0} (first : Result A Fault) (next : A → Result B Fau
 bind-ok (Ok a) next b gives = (a, refl, gives)
 bind-ok (Err fault) next b gives = absurd (cc)
 
+pub bind-then : {A B Goal : Type 0} (first : Result A Fault) (next : A → Result B Fault) (b : B) → (first >>= next) ≡ Ok b → ((a : A) → first ≡ Ok a → next a ≡ Ok b → Goal) → Goal
+bind-then first next b gives then = let (a, is, after) = bind-ok first next b gives in then a is after
+
 -- what was given is one thing
 pub ok-same : {A : Type 0} (a b : A) → (let r : Result A Fault = Ok a in r ≡ Ok b) → a ≡ b
 ok-same a b e = cc
