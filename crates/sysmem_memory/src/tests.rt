@@ -72,7 +72,11 @@ fn first_places(
     let mut bounds = MemoryBounds::new(heaps);
     bounds.add(heaps, memory, usage);
     let alone = bounds.first_place(heaps);
-    bounds.add(heaps, &MemoryConstraints::permitting(Vec::new(alloc)), Usage::CPU);
+    bounds.add(
+        heaps,
+        &MemoryConstraints::permitting(Vec::new(alloc)),
+        Usage::CPU,
+    );
     (alone, bounds.first_place(heaps))
 }
 
@@ -130,7 +134,11 @@ fn a_processor_alone(rt: HostRuntime) -> Result<(), Fail> {
     assert_eq!(rt; heaps.len(), 3);
     let no_ram = Some(Field::RamDomainSupported);
     assert_eq!(rt;
-        refusals(&heaps, &MemoryConstraints::permitting(Vec::new(rt.alloc())), Usage::CPU),
+        refusals(
+            &heaps,
+            &MemoryConstraints::permitting(Vec::new(rt.alloc())),
+            Usage::CPU
+        ),
         [
             None,
             no_ram,

@@ -1,5 +1,6 @@
 mod Bounds
 mod Examples
+mod Heaps
 mod Members
 mod Names
 mod Participants

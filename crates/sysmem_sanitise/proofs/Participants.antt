@@ -32,12 +32,13 @@ use Rattle.sysmem_memory.specs.Heap.{HeapName, same_heap}
 use Rattle.sysmem_memory.specs.Wishes.{MemoryWishes, no_wishes}
 use Rattle.sysmem_sanitise.specs.declared.reading.asked.AskedPair.{AskedPair}
 use Rattle.sysmem_sanitise.specs.declared.fault.Spot.TheVariants.{At}
-use Rattle.sysmem_sanitise.specs.Participant.{IsUsage, IsHeapName, IsUpTo, IsEntry, AreApart, most_step}
+use Rattle.sysmem_sanitise.specs.Participant.{IsUsage, IsUpTo, IsEntry, AreApart, most_step}
 use Rattle.sysmem_sanitise.specs.Reading.Bounds.{is_multiple, multiple, multiple_size, any_size, some_size, some_sides, size_to, size_or, bound_or, any_number, some_number, stated_bounds, bounds_by, bounds_of, most}
 use Rattle.sysmem_sanitise.specs.Reading.Constraints.{no_usage, with_family, is_usage, usage_of, memory_fields, memory_of}
 use Rattle.sysmem_sanitise.specs.Reading.Entries.{same_format, same_modifier, same_asked, is_unfit, asked_of, asked_by, has_further, modifier_beside, has_entry, has_asked, with_asked, no_pair, own_pair, with_further, further_of, asked_pairs, listed, with_listed, colour_set_of, entry_object, entry_with, with_entry, entries_of}
-use Rattle.sysmem_sanitise.specs.Reading.Fields.{◌>>=◌, passing, list_of, named, number_of, number_or, flag_or, optional, stated, required, text_of, object_of, has_items, read_each}
-use Rattle.sysmem_sanitise.specs.Reading.Heaps.{heap_type_of, heap_name_of, is_heap_type, permitted_heap, permits, with_permitted, permitted_of}
+use Rattle.sysmem_sanitise.specs.Reading.Fields.{◌>>=◌, passing, list_of, named, number_of, number_or, flag_or, optional, stated, text_of, object_of, has_items, read_each}
+use Rattle.sysmem_sanitise.specs.Reading.Heaps.{IsHeapName, permitted_heap, permits, with_permitted, permitted_of}
+use Rattle.sysmem_sanitise.proofs.Heaps.{heap_name_of-is}
 use Rattle.sysmem_sanitise.proofs.Platforms.{fitting}
 use Rattle.sysmem_sanitise.proofs.Steps.{bind-ok, bind-then, ok-same, passing-ok, not-true, and-true, none_passes, each-keeps, optional-keeps, below}
 
@@ -66,18 +67,6 @@ usage_of-is d u gives =
       some = is.0;
       none_alone = is.1;
     }
-
-heap_type_of-is : (d : Data) (text : List ℕ) → heap_type_of d ≡ Ok text → is_heap_type text ≡ true
-heap_type_of-is d text gives =
-    let (read, is, tested) = bind-ok (text_of _ d) _ text gives in
-    (passing-ok _ is_heap_type read text tested).holds
-
-heap_name_of-is : (d : Data) (heap : HeapName) → heap_name_of d ≡ Ok heap → IsHeapName heap
-heap_name_of-is d heap gives =
-    let (text, read, after) = bind-ok (required field.HeapType heap_type_of d) _ heap gives in
-    let (id, is, made) = bind-ok (number_or field.Id 0 (2 ^ 64 - 1) d) _ heap after in
-    let (v, there, typed) = bind-ok (stated code.WrongKind field.HeapType d) heap_type_of text read in
-    subst IsHeapName (ok-same _ heap made) (heap_type_of-is v text typed)
 
 -- the permitted heaps of a record
 pub record ArePermitted (heaps : List HeapName) : Type 0 where

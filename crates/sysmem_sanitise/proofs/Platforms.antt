@@ -1,5 +1,5 @@
 -- What a platform's record states is what a platform may have.
-use Rattle.std.proofs.Common.{◌≡◌, ◌≢◌, ◌≤◌, ◌==◌, true, false, not, List, [], ◌∷◌, ◌++◌, length, Ok, refl, subst, arith, rules, tests, length-append, Decides}
+use Rattle.std.proofs.Common.{◌≡◌, ◌≢◌, ◌≤◌, ◌==◌, true, false, not, List, [], ◌∷◌, ◌++◌, length, Ok, refl, subst, arith, rules, tests, length-append, Decides, ◌∙◌}
 use Rattle.std.specs.Prelude.{All, AllPairs, nat_lt}
 use Rattle.std.proofs.lemmas.List.Elements.{All-push}
 use Rattle.std.proofs.lemmas.List.Quantifiers.{all_pairs_push}
@@ -14,24 +14,31 @@ use Rattle.sysmem_sanitise.specs.Reading.Heaps.{heap_of, has_heap, with_heap, he
 use Rattle.sysmem_sanitise.specs.Reading.Names.{colour_named}
 use Rattle.sysmem_sanitise.specs.Reading.Pairs.{same_pair, has_pair, same_colour, has_colour, is_misfit}
 use Rattle.sysmem_sanitise.specs.Reading.Platform.{pair_of, with_pair, pairs_of, with_colour, colours_of}
+use Rattle.sysmem_sanitise.specs.Platform.{IsHeap}
+use Rattle.sysmem_sanitise.proofs.Heaps.{heap_of-is}
 use Rattle.sysmem_sanitise.proofs.Steps.{bind-ok, ok-same, passing-ok, not-true, none_passes, each-keeps, some, below}
 
 -- the heaps so far
 record Heaps (hs : List HeapFacts) : Type 0 where
   few : length hs ≤ 64
   distinct : AllPairs (λ a b. same_heap a.heap b.heap ≡ false) hs
+  each : All IsHeap hs
 
 with_heap-keeps : (hs ts : List HeapFacts) (d : Data) → Heaps hs → with_heap hs d ≡ Ok ts → Heaps ts
 with_heap-keeps hs ts d kept gives =
     let (heap, read, after) = bind-ok (heap_of d) _ ts gives in
     let (roomy, room, after2) = bind-ok (passing _ (λ _. nat_lt (length hs) 64) heap) _ ts after in
     let (new, passes, made) = bind-ok (passing _ (λ heap. not (has_heap hs heap)) roomy) _ ts after2 in
-    let few = below (length hs) (passing-ok _ (λ _. nat_lt (length hs) 64) heap roomy room).holds in
-    let absent : has_heap hs new ≡ false = not-true _ (passing-ok _ (λ heap. not (has_heap hs heap)) roomy new passes).holds in
+    let roomed = passing-ok _ (λ _. nat_lt (length hs) 64) heap roomy room in
+    let passed = passing-ok _ (λ heap. not (has_heap hs heap)) roomy new passes in
+    let few = below (length hs) roomed.holds in
+    let absent : has_heap hs new ≡ false = not-true _ passed.holds in
+    let heap-is : IsHeap new = subst IsHeap (roomed.same ∙ passed.same) (heap_of-is d heap read) in
     let is : hs ++ new ∷ [] ≡ ts = ok-same _ _ made in
     subst Heaps is (record {
       few = simp length-append (omega arith);
       distinct = all_pairs_push (λ a b. same_heap a.heap b.heap ≡ false) hs new kept.distinct (λ k e within. none_passes (λ h. same_heap h.heap new.heap) hs k e absent within);
+      each = All-push IsHeap hs new kept.each heap-is;
     })
 
 -- what a record's heaps are
@@ -39,14 +46,15 @@ pub record AreHeaps (hs : List HeapFacts) : Type 0 where
   pub some : 1 ≤ length hs
   pub few : length hs ≤ 64
   pub distinct : AllPairs (λ a b. same_heap a.heap b.heap ≡ false) hs
+  pub each : All IsHeap hs
 
 pub heaps_of-are : (d : Data) (ts : List HeapFacts) → heaps_of d ≡ Ok ts → AreHeaps ts
 heaps_of-are d ts gives =
     let (items, listed, after) = bind-ok (list_of _ d) _ ts gives in
     let (hs, each, tested) = bind-ok (read_each with_heap [] items) _ ts after in
     let passed = passing-ok _ (λ heaps. not (length heaps == 0)) hs ts tested in
-    let kept = subst Heaps passed.same (each-keeps with_heap Heaps with_heap-keeps items [] hs (record { few = omega arith; distinct = λ i j e below within. absurd (omega arith) }) each) in
-    record { some = some ts passed.holds; few = kept.few; distinct = kept.distinct }
+    let kept = subst Heaps passed.same (each-keeps with_heap Heaps with_heap-keeps items [] hs (record { few = omega arith; distinct = λ i j e before within. absurd (omega arith); each = λ k e within. absurd (omega arith) }) each) in
+    record { some = some ts passed.holds; few = kept.few; distinct = kept.distinct; each = kept.each }
 
 -- a pair is the same as itself
 same_pair-itself : (a : Pair) → same_pair a a ≡ true
@@ -106,7 +114,7 @@ pairs_of-are d ts gives =
     let (items, listed, after) = bind-ok (list_of _ d) _ ts gives in
     let (ps, each, tested) = bind-ok (read_each with_pair [] items) _ ts after in
     let passed = passing-ok _ (λ pairs. not (length pairs == 0)) ps ts tested in
-    let kept = subst Pairs passed.same (each-keeps with_pair Pairs with_pair-keeps items [] ps (record { distinct = λ i j e below within. absurd (omega arith); fitting = λ k e within. absurd (omega arith) }) each) in
+    let kept = subst Pairs passed.same (each-keeps with_pair Pairs with_pair-keeps items [] ps (record { distinct = λ i j e before within. absurd (omega arith); fitting = λ k e within. absurd (omega arith) }) each) in
     record { some = some ts passed.holds; distinct = kept.distinct; fitting = kept.fitting }
 
 with_colour-keeps : (cs ts : List ColourSpace) (d : Data) → AllPairs (λ a b. a ≢ b) cs → with_colour cs d ≡ Ok ts → AllPairs (λ a b. a ≢ b) ts
@@ -127,5 +135,5 @@ colours_of-are d ts gives =
     let (items, listed, after) = bind-ok (list_of _ d) _ ts gives in
     let (cs, each, tested) = bind-ok (read_each with_colour [] items) _ ts after in
     let passed = passing-ok _ (λ colours. not (length colours == 0)) cs ts tested in
-    let kept = subst (AllPairs (λ a b. a ≢ b)) passed.same (each-keeps with_colour (AllPairs (λ a b. a ≢ b)) with_colour-keeps items [] cs (λ i j e below within. absurd (omega arith)) each) in
+    let kept = subst (AllPairs (λ a b. a ≢ b)) passed.same (each-keeps with_colour (AllPairs (λ a b. a ≢ b)) with_colour-keeps items [] cs (λ i j e before within. absurd (omega arith)) each) in
     record { some = some ts passed.holds; distinct = kept }

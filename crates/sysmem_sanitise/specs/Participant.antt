@@ -1,5 +1,5 @@
 -- What a participant asks of the buffers.
-use Rattle.std.specs.Prelude.{◌≡◌, ◌≢◌, ℕ, ◌^◌, ◌<◌, ◌≤◌, List, length, true, false, Some, All, AllPairs}
+use Rattle.std.specs.Prelude.{◌≡◌, ◌≢◌, ℕ, ◌^◌, ◌<◌, ◌≤◌, List, length, false, Some, All, AllPairs}
 use Rattle.std.specs.Int.RustNames.{bit_and}
 use Rattle.sysmem_counts.specs.declared.constraints.CountConstraints.{CountConstraints}
 use Rattle.sysmem_counts.specs.declared.usage.Usage.{Usage}
@@ -9,9 +9,9 @@ use Rattle.sysmem_formats.specs.Layout.{IsTiledMisfit}
 use Rattle.sysmem_image.specs.declared.entry.Entry.{Entry}
 use Rattle.sysmem_image.specs.declared.size.Size.{Size}
 use Rattle.sysmem_image.specs.Colours.{no_colours}
-use Rattle.sysmem_memory.specs.Heap.{HeapName, same_heap}
+use Rattle.sysmem_memory.specs.Heap.{same_heap}
 use Rattle.sysmem_memory.specs.Wishes.{MemoryWishes}
-use Rattle.sysmem_sanitise.specs.Reading.Heaps.{is_heap_type}
+use Rattle.sysmem_sanitise.specs.Reading.Heaps.{IsHeapName}
 
 -- the constraints of one node; without entries it takes every offer
 pub record Participant : Type 0 where
@@ -25,10 +25,6 @@ pub record IsUsage (usage : Usage) : Type 0 where
   pub families : usage_bits usage < 2 ^ 5
   pub some : usage_bits usage ≢ 0
   pub none_alone : bit_and (usage_bits usage) 1 ≡ 1 → usage_bits usage ≡ 1
-
--- a heap's name, whose type is 1 to 128 ASCII letters, digits, `.`, `_` or `-`
-abbrev pub IsHeapName : HeapName → Type 0
-IsHeapName heap = is_heap_type heap.heap_type ≡ true
 
 -- the most that an alignment or a divisor may be
 abbrev pub most_step : ℕ

@@ -4,7 +4,8 @@ ghost use Rattle.std.specs.Prelude.{◌≡◌, ◌≤◌, length, false, All, Al
 ghost use Rattle.sysmem_memory.specs.Heap.{same_heap};
 ghost use Rattle.sysmem_sanitise.specs.Equal.{same_participant};
 ghost use Rattle.sysmem_sanitise.specs.EqualLaws.{participant_laws};
-ghost use Rattle.sysmem_sanitise.specs.Participant.{IsParticipant, IsUsage, IsHeapName, IsEntry, AreApart};
+ghost use Rattle.sysmem_sanitise.specs.Participant.{IsParticipant, IsUsage, IsEntry, AreApart};
+ghost use Rattle.sysmem_sanitise.specs.Reading.Heaps.{IsHeapName};
 
 use crate::equal::is_same_memory;
 use std::marker::Model;
