@@ -13,9 +13,9 @@ pub record MemoryWishes : Type 0 where
   pub inaccessible_domain_supported : Bool
   pub permitted_heaps : List HeapName
 
--- the memory constraints of a participant that names none
-abbrev pub no_wishes : MemoryWishes
-no_wishes = record {
+-- memory constraints that permit these heaps and ask for nothing else
+abbrev pub permitting : List HeapName → MemoryWishes
+permitting heaps = record {
   min_size_bytes = 0;
   max_size_bytes = 2 ^ 64 - 1;
   physically_contiguous_required = false;
@@ -23,5 +23,9 @@ no_wishes = record {
   cpu_domain_supported = true;
   ram_domain_supported = false;
   inaccessible_domain_supported = false;
-  permitted_heaps = [];
+  permitted_heaps = heaps;
 }
+
+-- the memory constraints of a participant that names none
+abbrev pub no_wishes : MemoryWishes
+no_wishes = permitting []

@@ -1,10 +1,9 @@
 //! A participant's memory constraints.
 
 ghost use Rattle.std.specs.Prelude.{◌≡◌};
-ghost use Rattle.sysmem_memory.specs.Wishes.{no_wishes};
+ghost use Rattle.sysmem_memory.specs.Wishes.{permitting};
 
 use crate::heap::Heap;
-use std::alloc::Global;
 use std::marker::Model;
 
 /// What a participant asks of a buffer's memory. Sizes are in bytes.
@@ -39,10 +38,10 @@ impl Model for MemoryConstraints {
 }
 
 impl MemoryConstraints {
-    /// The constraints of a participant that names none: any size, any heap, CPU access through the caches.
-    /// It takes no memory.
-    pub fn new(alloc: Global) -> MemoryConstraints
-        ensures { result ≡ no_wishes }
+    /// Constraints that permit these heaps, with no heaps every heap, and ask for nothing else: any size, and CPU
+    /// access through the caches. A participant that names no constraints has these, with no heaps.
+    pub fn permitting(permitted_heaps: Vec<Heap>) -> MemoryConstraints
+        ensures { result ≡ permitting permitted_heaps.items }
     {
         MemoryConstraints {
             min_size_bytes: 0,
@@ -52,7 +51,7 @@ impl MemoryConstraints {
             cpu_domain_supported: true,
             ram_domain_supported: false,
             inaccessible_domain_supported: false,
-            permitted_heaps: Vec::new(alloc),
+            permitted_heaps,
         }
     }
 }

@@ -2,9 +2,6 @@
 
 ghost use Rattle.std.specs.Prelude.{◌≡◌, ◌≤◌, length};
 
-use crate::laws::{
-    a_true_line_leaves_no_place, equal_heaps_are_one, one_first_place, places_are_ordered,
-};
 use crate::{
     CoherencyDomain, CoherencyDomains, Heap, HeapInfo, MemoryBounds, MemoryConstraints, Place,
     refuses,
@@ -56,7 +53,7 @@ fn platform(alloc: Global) -> Result<Vec<HeapInfo>, Fail> {
 
 // The constraints of a participant that wants secure memory and no access by a processor.
 fn secure(alloc: Global) -> MemoryConstraints {
-    let mut memory = MemoryConstraints::new(alloc);
+    let mut memory = MemoryConstraints::permitting(Vec::new(alloc));
     memory.secure_required = true;
     memory.cpu_domain_supported = false;
     memory.inaccessible_domain_supported = true;
@@ -75,7 +72,11 @@ fn first_places(
     let mut bounds = MemoryBounds::new(heaps);
     bounds.add(heaps, memory, usage);
     let alone = bounds.first_place(heaps);
-    bounds.add(heaps, &MemoryConstraints::new(alloc), Usage::CPU);
+    bounds.add(
+        heaps,
+        &MemoryConstraints::permitting(Vec::new(alloc)),
+        Usage::CPU,
+    );
     (alone, bounds.first_place(heaps))
 }
 
@@ -133,7 +134,11 @@ fn a_processor_alone(rt: HostRuntime) -> Result<(), Fail> {
     assert_eq!(rt; heaps.len(), 3);
     let no_ram = Some(Field::RamDomainSupported);
     assert_eq!(rt;
-        refusals(&heaps, &MemoryConstraints::new(rt.alloc()), Usage::CPU),
+        refusals(
+            &heaps,
+            &MemoryConstraints::permitting(Vec::new(rt.alloc())),
+            Usage::CPU
+        ),
         [
             None,
             no_ram,
@@ -149,7 +154,7 @@ fn a_processor_alone(rt: HostRuntime) -> Result<(), Fail> {
 fn contiguous_heap(rt: HostRuntime) -> Result<(), Fail> {
     let heaps = platform(rt.alloc())?;
     assert_eq!(rt; heaps.len(), 3);
-    let mut memory = MemoryConstraints::new(rt.alloc());
+    let mut memory = MemoryConstraints::permitting(Vec::new(rt.alloc()));
     memory.physically_contiguous_required = true;
     let cma = Place {
         heap: 1,
@@ -186,7 +191,7 @@ fn permitted_heaps(rt: HostRuntime) -> Result<(), Fail> {
 
 #[test]
 fn a_processor_and_a_secure_heap(rt: HostRuntime) -> Result<(), Fail> {
-    let mut memory = MemoryConstraints::new(rt.alloc());
+    let mut memory = MemoryConstraints::permitting(Vec::new(rt.alloc()));
     memory.inaccessible_domain_supported = true;
     let mut vault = HeapInfo {
         heap: named(rt.alloc(), "vault", 0)?,
@@ -230,12 +235,4 @@ fn names_and_sets(rt: HostRuntime) -> Result<(), Fail> {
     assert!(rt; named(rt.alloc(), "ram", 1)? != named(rt.alloc(), "ram", 0)?);
     assert!(rt; named(rt.alloc(), "ram", 1)? != named(rt.alloc(), "cma", 1)?);
     Ok(())
-}
-
-#[test]
-fn laws() {
-    equal_heaps_are_one();
-    places_are_ordered();
-    a_true_line_leaves_no_place();
-    one_first_place();
 }

@@ -1,5 +1,9 @@
 mod Bounds
+mod Examples
+mod Heaps
 mod Members
 mod Names
+mod Participants
 mod Platforms
 mod Same
+mod Steps

@@ -1,91 +1,44 @@
 -- What a platform's record states is what a platform may have.
-use Rattle.std.proofs.Common.{◌≡◌, ◌≢◌, ℕ, zero, suc, ◌<◌, ◌≤◌, ◌==◌, Bool, true, false, not, ◌||◌, ◌&&◌, List, [], ◌∷◌, ◌++◌, length, get_or, Result, Ok, Err, refl, subst, arith, rules, tests, length-append}
+use Rattle.std.proofs.Common.{◌≡◌, ◌≢◌, ◌≤◌, ◌==◌, true, false, not, List, [], ◌∷◌, ◌++◌, length, Ok, refl, subst, arith, rules, tests, length-append, Decides, ◌∙◌}
 use Rattle.std.specs.Prelude.{All, AllPairs, nat_lt}
-use Rattle.std.specs.List.{list_any}
 use Rattle.std.proofs.lemmas.List.Elements.{All-push}
 use Rattle.std.proofs.lemmas.List.Quantifiers.{all_pairs_push}
-use Rattle.serde_json.specs.Data.{Data, Items, no_items, item}
+use Rattle.serde_json.specs.Data.{Data}
 use Rattle.sysmem_formats.specs.declared.colour_space.ColourSpace.{ColourSpace}
 use Rattle.sysmem_formats.specs.declared.colour_space.ColourSpace.TheVariants.{Srgb, Rec601Ntsc, Rec601NtscFullRange, Rec601Pal, Rec601PalFullRange, Rec709, Rec2020, Rec2100}
 use Rattle.sysmem_formats.specs.declared.offer.Pair.{Pair}
 use Rattle.sysmem_formats.specs.Layout.{IsTiledMisfit}
 use Rattle.sysmem_memory.specs.Heap.{HeapFacts, same_heap}
-use Rattle.sysmem_sanitise.specs.declared.fault.Fault.{Fault}
-use Rattle.sysmem_sanitise.specs.Reading.Fields.{◌>>=◌, passing, list_of, named, read_each}
+use Rattle.sysmem_sanitise.specs.Reading.Fields.{passing, list_of, named, read_each}
 use Rattle.sysmem_sanitise.specs.Reading.Heaps.{heap_of, has_heap, with_heap, heaps_of}
 use Rattle.sysmem_sanitise.specs.Reading.Names.{colour_named}
 use Rattle.sysmem_sanitise.specs.Reading.Pairs.{same_pair, has_pair, same_colour, has_colour, is_misfit}
 use Rattle.sysmem_sanitise.specs.Reading.Platform.{pair_of, with_pair, pairs_of, with_colour, colours_of}
-
--- where two steps give an answer, each does
-bind-ok : {A B : Type 0} (first : Result A Fault) (next : A → Result B Fault) (b : B) → (first >>= next) ≡ Ok b → (a : A) × (first ≡ Ok a) × (next a ≡ Ok b)
-bind-ok (Ok a) next b gives = (a, refl, gives)
-bind-ok (Err fault) next b gives = absurd (cc)
-
--- what was given is one thing
-ok-same : {A : Type 0} (a b : A) → (let r : Result A Fault = Ok a in r ≡ Ok b) → a ≡ b
-ok-same a b e = cc
-
-passing-by : {A : Type 0} (fault : Fault) (test : A → Bool) (a b : A) (t : Bool) → test a ≡ t → passing fault test a ≡ Ok b → (test a ≡ true) × (a ≡ b)
-passing-by fault test a b true holds gives = (holds, ok-same a b (rw holds at gives))
-passing-by fault test a b false holds gives = absurd (let h = rw holds at gives in cc)
-
--- what passes is what was tested
-pub record Passed {A : Type 0} (test : A → Bool) (a b : A) : Type 0 where
-  pub holds : test b ≡ true
-  pub same : a ≡ b
-
-passing-ok : {A : Type 0} (fault : Fault) (test : A → Bool) (a b : A) → passing fault test a ≡ Ok b → Passed test a b
-passing-ok fault test a b gives =
-    let (holds, same) = passing-by fault test a b _ refl gives in
-    record { holds = subst (λ x. test x ≡ true) same holds; same = same }
-
-not-true : (b : Bool) → not b ≡ true → b ≡ false
-not-true true h = absurd (cc)
-not-true false h = refl
-
-or-false : (a b : Bool) → (a || b) ≡ false → (a ≡ false) × (b ≡ false)
-or-false true b h = absurd (cc)
-or-false false b h = (refl, h)
-
--- an element of a list of which none passes
-none_passes : {X : Type 0} (p : X → Bool) (xs : List X) (k : ℕ) (d : X) → list_any p xs ≡ false → k < length xs → p (get_or xs k d) ≡ false
-none_passes p [] k d none within = absurd (omega arith)
-none_passes p (x ∷ xs) zero d none within = (or-false (p x) (list_any p xs) none).0
-none_passes p (x ∷ xs) (suc k) d none within = none_passes p xs k d (or-false (p x) (list_any p xs) none).1 (omega arith)
-
--- what each item keeps, all items keep
-each-keeps : {X : Type 0} (read : List X → Data → Result (List X) Fault) (Kept : List X → Type 0)
-    → ((xs ys : List X) (d : Data) → Kept xs → read xs d ≡ Ok ys → Kept ys)
-    → (ds : Items) (xs ys : List X) → Kept xs → read_each read xs ds ≡ Ok ys → Kept ys
-each-keeps read Kept keeps no_items xs ys kept gives = subst Kept (ok-same xs ys gives) kept
-each-keeps read Kept keeps (item d ds) xs ys kept gives =
-    let (next, first, rest) = bind-ok (read xs d) _ ys gives in
-    each-keeps read Kept keeps ds next ys (keeps xs next d kept first) rest
-
-some : {X : Type 0} (xs : List X) → not (length xs == 0) ≡ true → 1 ≤ length xs
-some [] h = absurd (cc)
-some (x ∷ xs) h = omega arith
+use Rattle.sysmem_sanitise.specs.Platform.{IsHeap}
+use Rattle.sysmem_sanitise.proofs.Heaps.{heap_of-is}
+use Rattle.sysmem_sanitise.proofs.Steps.{bind-ok, ok-same, passing-ok, not-true, none_passes, each-keeps, some, below}
 
 -- the heaps so far
 record Heaps (hs : List HeapFacts) : Type 0 where
   few : length hs ≤ 64
   distinct : AllPairs (λ a b. same_heap a.heap b.heap ≡ false) hs
-
-below : (n : ℕ) → nat_lt n 64 ≡ true → n < 64
-below n h = search (rules, tests)
+  each : All IsHeap hs
 
 with_heap-keeps : (hs ts : List HeapFacts) (d : Data) → Heaps hs → with_heap hs d ≡ Ok ts → Heaps ts
 with_heap-keeps hs ts d kept gives =
     let (heap, read, after) = bind-ok (heap_of d) _ ts gives in
     let (roomy, room, after2) = bind-ok (passing _ (λ _. nat_lt (length hs) 64) heap) _ ts after in
     let (new, passes, made) = bind-ok (passing _ (λ heap. not (has_heap hs heap)) roomy) _ ts after2 in
-    let few = below (length hs) (passing-ok _ (λ _. nat_lt (length hs) 64) heap roomy room).holds in
-    let absent : has_heap hs new ≡ false = not-true _ (passing-ok _ (λ heap. not (has_heap hs heap)) roomy new passes).holds in
+    let roomed = passing-ok _ (λ _. nat_lt (length hs) 64) heap roomy room in
+    let passed = passing-ok _ (λ heap. not (has_heap hs heap)) roomy new passes in
+    let few = below (length hs) roomed.holds in
+    let absent : has_heap hs new ≡ false = not-true _ passed.holds in
+    let heap-is : IsHeap new = subst IsHeap (roomed.same ∙ passed.same) (heap_of-is d heap read) in
     let is : hs ++ new ∷ [] ≡ ts = ok-same _ _ made in
     subst Heaps is (record {
       few = simp length-append (omega arith);
       distinct = all_pairs_push (λ a b. same_heap a.heap b.heap ≡ false) hs new kept.distinct (λ k e within. none_passes (λ h. same_heap h.heap new.heap) hs k e absent within);
+      each = All-push IsHeap hs new kept.each heap-is;
     })
 
 -- what a record's heaps are
@@ -93,18 +46,15 @@ pub record AreHeaps (hs : List HeapFacts) : Type 0 where
   pub some : 1 ≤ length hs
   pub few : length hs ≤ 64
   pub distinct : AllPairs (λ a b. same_heap a.heap b.heap ≡ false) hs
+  pub each : All IsHeap hs
 
 pub heaps_of-are : (d : Data) (ts : List HeapFacts) → heaps_of d ≡ Ok ts → AreHeaps ts
 heaps_of-are d ts gives =
     let (items, listed, after) = bind-ok (list_of _ d) _ ts gives in
     let (hs, each, tested) = bind-ok (read_each with_heap [] items) _ ts after in
     let passed = passing-ok _ (λ heaps. not (length heaps == 0)) hs ts tested in
-    let kept = subst Heaps passed.same (each-keeps with_heap Heaps with_heap-keeps items [] hs (record { few = omega arith; distinct = λ i j e below within. absurd (omega arith) }) each) in
-    record { some = some ts passed.holds; few = kept.few; distinct = kept.distinct }
-
-and-true : (a b : Bool) → (a && b) ≡ true → (a ≡ true) × (b ≡ true)
-and-true true b h = (refl, h)
-and-true false b h = absurd (cc)
+    let kept = subst Heaps passed.same (each-keeps with_heap Heaps with_heap-keeps items [] hs (record { few = omega arith; distinct = λ i j e before within. absurd (omega arith); each = λ k e within. absurd (omega arith) }) each) in
+    record { some = some ts passed.holds; few = kept.few; distinct = kept.distinct; each = kept.each }
 
 -- a pair is the same as itself
 same_pair-itself : (a : Pair) → same_pair a a ≡ true
@@ -126,8 +76,12 @@ same_colour-itself Rec2100 = refl
 distinct_colour : (a b : ColourSpace) → same_colour a b ≡ false → a ≢ b
 distinct_colour a b h e = let t : same_colour a b ≡ true = subst (λ (x : ColourSpace). same_colour a x ≡ true) e (same_colour-itself a) in absurd (cc)
 
-fitting : (p : Pair) → is_misfit p ≡ false → IsTiledMisfit p → ⊥
-fitting p h misfit = search (rules, tests)
+-- the test tells what is a tiled misfit
+is_misfit-decides : (p : Pair) → Decides (is_misfit p) (IsTiledMisfit p)
+is_misfit-decides p = search (rules, tests)
+
+pub fitting : (p : Pair) → is_misfit p ≡ false → IsTiledMisfit p → ⊥
+fitting p h misfit = let holds = (is_misfit-decides p).1 misfit in absurd (cc)
 
 -- the pairs so far
 record Pairs (ps : List Pair) : Type 0 where
@@ -160,7 +114,7 @@ pairs_of-are d ts gives =
     let (items, listed, after) = bind-ok (list_of _ d) _ ts gives in
     let (ps, each, tested) = bind-ok (read_each with_pair [] items) _ ts after in
     let passed = passing-ok _ (λ pairs. not (length pairs == 0)) ps ts tested in
-    let kept = subst Pairs passed.same (each-keeps with_pair Pairs with_pair-keeps items [] ps (record { distinct = λ i j e below within. absurd (omega arith); fitting = λ k e within. absurd (omega arith) }) each) in
+    let kept = subst Pairs passed.same (each-keeps with_pair Pairs with_pair-keeps items [] ps (record { distinct = λ i j e before within. absurd (omega arith); fitting = λ k e within. absurd (omega arith) }) each) in
     record { some = some ts passed.holds; distinct = kept.distinct; fitting = kept.fitting }
 
 with_colour-keeps : (cs ts : List ColourSpace) (d : Data) → AllPairs (λ a b. a ≢ b) cs → with_colour cs d ≡ Ok ts → AllPairs (λ a b. a ≢ b) ts
@@ -181,5 +135,5 @@ colours_of-are d ts gives =
     let (items, listed, after) = bind-ok (list_of _ d) _ ts gives in
     let (cs, each, tested) = bind-ok (read_each with_colour [] items) _ ts after in
     let passed = passing-ok _ (λ colours. not (length colours == 0)) cs ts tested in
-    let kept = subst (AllPairs (λ a b. a ≢ b)) passed.same (each-keeps with_colour (AllPairs (λ a b. a ≢ b)) with_colour-keeps items [] cs (λ i j e below within. absurd (omega arith)) each) in
+    let kept = subst (AllPairs (λ a b. a ≢ b)) passed.same (each-keeps with_colour (AllPairs (λ a b. a ≢ b)) with_colour-keeps items [] cs (λ i j e before within. absurd (omega arith)) each) in
     record { some = some ts passed.holds; distinct = kept }

@@ -1,8 +1,11 @@
 //! What a participant asks of the buffers, as its record says it.
 
-ghost use Rattle.std.specs.Prelude.{◌≡◌};
+ghost use Rattle.std.specs.Prelude.{◌≡◌, ◌≤◌, length, false, All, AllPairs};
+ghost use Rattle.sysmem_memory.specs.Heap.{same_heap};
 ghost use Rattle.sysmem_sanitise.specs.Equal.{same_participant};
 ghost use Rattle.sysmem_sanitise.specs.EqualLaws.{participant_laws};
+ghost use Rattle.sysmem_sanitise.specs.Participant.{IsParticipant, IsUsage, IsEntry, AreApart};
+ghost use Rattle.sysmem_sanitise.specs.Reading.Heaps.{IsHeapName};
 
 use crate::equal::is_same_memory;
 use std::marker::Model;
@@ -10,7 +13,9 @@ use sysmem_counts::{CountConstraints, Usage};
 use sysmem_image::Entry;
 use sysmem_memory::MemoryConstraints;
 
-/// The constraints of one participant.
+/// The constraints of one participant. Its usage is `none` alone or some other families. It permits at most 64 heaps
+/// and has at most 64 entries, none of them twice. In an entry alignments and divisors are 1 to 65,536, what is least
+/// is 1 or more, there is some colour space, and no tiled modifier goes with a format that isn't of 4 bytes.
 #[derive(Debug, Drop)]
 pub struct Constraints {
     usage: Usage,
@@ -20,7 +25,7 @@ pub struct Constraints {
 }
 
 impl Model for Constraints {
-    ghost use Rattle.sysmem_sanitise.specs.Participant.{Participant};
+    ghost use Rattle.sysmem_sanitise.specs.Participant.{Participant, IsParticipant};
 
     ghost Value = { Participant };
 
@@ -30,6 +35,8 @@ impl Model for Constraints {
       memory = c.memory;
       entries = c.entries.items;
     } };
+
+    ghost invariant = { λ c. IsParticipant c.usage c.memory c.entries.items };
 }
 
 impl PartialEq for Constraints {
@@ -52,6 +59,7 @@ impl Constraints {
         memory: MemoryConstraints,
         entries: Vec<Entry>,
     ) -> Constraints
+        requires { IsParticipant usage memory entries.items }
         ensures { result ≡ record { usage = usage; counts = counts; memory = memory; entries = entries.items } }
     {
         Constraints {
@@ -62,9 +70,10 @@ impl Constraints {
         }
     }
 
-    /// What the participant does with the buffers.
+    /// What the participant does with the buffers: nothing, which is `none` alone, or some other families.
     pub fn usage(&self) -> Usage
-        ensures { result ≡ self.now.usage }
+        ensures usage { result ≡ self.now.usage }
+        ensures families { IsUsage result }
     {
         self.usage
     }
@@ -76,17 +85,23 @@ impl Constraints {
         &self.counts
     }
 
-    /// The sizes and the places that it takes.
+    /// The sizes and the places that it takes, its permitted heaps among them: at most 64, no two of one type and id.
     pub fn memory(&self) -> &MemoryConstraints
-        ensures { result.now ≡ self.now.memory }
+        ensures memory { result.now ≡ self.now.memory }
+        ensures few { length result.now.permitted_heaps ≤ 64 }
+        ensures distinct { AllPairs (λ a b. same_heap a b ≡ false) result.now.permitted_heaps }
+        ensures named { All IsHeapName result.now.permitted_heaps }
     {
         &self.memory
     }
 
-    /// The image formats that it takes, in its order, each with its bounds on such images. A participant without
-    /// entries takes every offer.
+    /// The image formats that it takes, in its order, each with its bounds on such images: at most 64, no two of one
+    /// format and modifier. A participant without entries takes every offer.
     pub fn entries(&self) -> &[Entry]
-        ensures { result.now ≡ self.now.entries }
+        ensures entries { result.now ≡ self.now.entries }
+        ensures few { length result.now ≤ 64 }
+        ensures distinct { AllPairs AreApart result.now }
+        ensures each { All IsEntry result.now }
     {
         &self.entries
     }

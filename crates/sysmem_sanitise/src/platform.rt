@@ -1,10 +1,10 @@
 //! What a platform has, as its record says it.
 
-ghost use Rattle.std.specs.Prelude.{◌≡◌, ◌≤◌, length, false, AllPairs, IfOk};
+ghost use Rattle.std.specs.Prelude.{◌≡◌, ◌≤◌, length, false, All, AllPairs, IfOk};
 ghost use Rattle.sysmem_memory.specs.Heap.{same_heap};
 ghost use Rattle.sysmem_sanitise.specs.Equal.{same_platform};
 ghost use Rattle.sysmem_sanitise.specs.EqualLaws.{platform_laws};
-ghost use Rattle.sysmem_sanitise.specs.Platform.{IsPlatform};
+ghost use Rattle.sysmem_sanitise.specs.Platform.{IsPlatform, IsHeap};
 
 use crate::copying::{copied, copied_heaps};
 use crate::equal::are_same_heaps;
@@ -61,12 +61,13 @@ impl Platform {
         }
     }
 
-    /// The heaps in the platform's order: 1 to 64, no two of one type and id.
+    /// The heaps in the platform's order: 1 to 64, no two of one type and id, each with some coherency domain.
     pub fn heaps(&self) -> &[HeapInfo]
         ensures heaps { result.now ≡ self.now.heaps }
         ensures some { 1 ≤ length result.now }
         ensures few { length result.now ≤ 64 }
         ensures distinct { AllPairs (λ a b. same_heap a.heap b.heap ≡ false) result.now }
+        ensures each { All IsHeap result.now }
     {
         &self.heaps
     }

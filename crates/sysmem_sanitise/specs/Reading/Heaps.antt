@@ -1,5 +1,5 @@
 -- What a heap's name says, and what a platform's heap says.
-use Rattle.std.specs.Prelude.{ℕ, ◌-◌, ◌^◌, ◌&&◌, ◌||◌, ◌++◌, ◌==◌, List, [], ◌∷◌, length, Bool, true, false, not, Result, Ok, nat_eq, nat_le, nat_lt}
+use Rattle.std.specs.Prelude.{◌≡◌, ℕ, ◌-◌, ◌^◌, ◌&&◌, ◌||◌, ◌++◌, ◌==◌, List, [], ◌∷◌, length, Bool, true, false, not, Result, Ok, nat_eq, nat_le, nat_lt}
 use Rattle.std.specs.List.{list_all, list_any}
 use Rattle.serde_json.specs.Data.{Data}
 use Rattle.sysmem_counts.specs.declared.field.Field.{Field}
@@ -23,6 +23,10 @@ is_heap_byte b = (nat_le 97 b && nat_le b 122) || (nat_le 65 b && nat_le b 90) |
 -- 1 to 128 of them
 abbrev pub is_heap_type : List ℕ → Bool
 is_heap_type text = nat_le 1 (length text) && nat_le (length text) 128 && list_all is_heap_byte text
+
+-- a heap's name, whose type is 1 to 128 ASCII letters, digits, `.`, `_` or `-`
+abbrev pub IsHeapName : HeapName → Type 0
+IsHeapName heap = is_heap_type heap.heap_type ≡ true
 
 abbrev pub heap_type_of : Data → Result (List ℕ) Fault
 heap_type_of d = do

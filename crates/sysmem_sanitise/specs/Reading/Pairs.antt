@@ -28,6 +28,6 @@ same_colour a b = bytes_eq (colour_name a) (colour_name b)
 abbrev pub has_colour : List ColourSpace → ColourSpace → Bool
 has_colour colours new = list_any (λ colour. same_colour colour new) colours
 
--- a tiled modifier with a format that isn't of 4 bytes
+-- a tiled modifier with a format that isn't of 4 bytes: the test of IsTiledMisfit
 abbrev pub is_misfit : Pair → Bool
 is_misfit pair = not (modifier_code pair.modifier == modifier_code Linear) && not (pixel_bytes pair.format == 4)

@@ -61,7 +61,7 @@ pub(super) fn memory_in(alloc: Global, object: &Value) -> Result<MemoryConstrain
     ensures { Answers (optional BufferMemoryConstraints no_wishes memory_of (view object.now)) result }
 {
     match object.get(Field::BufferMemoryConstraints.name()) {
-        None => Ok(MemoryConstraints::new(alloc)),
+        None => Ok(MemoryConstraints::permitting(Vec::new(alloc))),
         Some(value) => memory_of(alloc, value),
     }
 }

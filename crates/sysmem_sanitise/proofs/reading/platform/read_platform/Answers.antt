@@ -10,6 +10,7 @@ new-requires c =
       some_heaps = hs.some;
       few_heaps = hs.few;
       distinct_heaps = hs.distinct;
+      each_heap = hs.each;
       some_pairs = ps.some;
       distinct_pairs = ps.distinct;
       fitting_pairs = ps.fitting;
