@@ -1,0 +1,9 @@
+pub mod Actions
+pub mod Deed
+pub mod Ids
+pub mod Laws
+pub mod Node
+pub mod Path
+pub mod Refusal
+pub mod Shape
+pub mod Tree
