@@ -1,6 +1,5 @@
 // What no clause shows: the texts themselves, and counts that were worked out by hand.
 
-use crate::laws::{count_line_leaves_none, count_suits_some, one_least_count};
 use crate::{BUFFER_COUNT_LIMIT, CountBounds, CountConstraints, Field, Usage};
 use bitflags::Flags;
 
@@ -130,11 +129,4 @@ fn usages(rt: HostRuntime) {
     assert!(rt; all.uses_cpu());
     assert_eq!(rt; all.bits(), 31);
     assert_eq!(rt; Usage::from_name("gpu"), None);
-}
-
-#[test]
-fn laws(_rt: HostRuntime) {
-    count_suits_some();
-    count_line_leaves_none();
-    one_least_count();
 }

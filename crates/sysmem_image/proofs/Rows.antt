@@ -11,10 +11,6 @@ use Rattle.sysmem_image.specs.Multiples.{IsLcm}
 use Rattle.sysmem_image.specs.Bounds.{IsInRange, IsOwn}
 use Rattle.sysmem_image.specs.Merged.{Greatest, Least, Multiple, IsMergeOf, MergedOf, IsMerged}
 
--- what holds of each of a list and of one more
-pub both_push : {X : Type 0} (P : X → Type 0) (es : List X) (e : X) → All P es × P e → All P (es ++ e ∷ [])
-both_push P es e both = All-push P es e both.0 both.1
-
 -- what holds of each of a longer list
 pub both_pop : {X : Type 0} (P : X → Type 0) (es : List X) (e : X) → All P (es ++ e ∷ []) → All P es × P e
 both_pop P es e all = All-pop P (es ++ e ∷ []) es (Some e) refl all

@@ -11,7 +11,8 @@ use Rattle.sysmem_replay.specs.declared.fault.ScriptFault.{ScriptFault}
 use Rattle.sysmem_replay.specs.declared.fault.ScriptFault.TheVariants.{TooManyCalls}
 use Rattle.sysmem_replay.specs.declared.script.call.Call.{Call}
 use Rattle.sysmem_replay.specs.Faults.{Gives}
-use Rattle.sysmem_replay.specs.Platform.{Platform, platform_said}
+use Rattle.sysmem_replay.specs.Platform.{platform_said}
+use Rattle.sysmem_sanitise.specs.Platform.{PlatformFacts}
 use Rattle.sysmem_replay.specs.Script.{Request, Known, ◌>>=◌, few_calls, items_len, parts_of, request_of, requests_from, requests_of, script_of}
 use Rattle.sysmem_replay.specs.Seen.{seen}
 
@@ -19,10 +20,6 @@ use Rattle.sysmem_replay.specs.Seen.{seen}
 abbrev pub with_front : List Request → Result (List Request) ScriptFault → Result (List Request) ScriptFault
 with_front front (Ok rest) = Ok (front ++ rest)
 with_front front (Err fault) = Err fault
-
-pub with_front-nil : (read : Result (List Request) ScriptFault) → with_front [] read ≡ read
-with_front-nil (Ok rest) = refl
-with_front-nil (Err fault) = refl
 
 module _ (n : ℕ) (known : Known) (front : List Request) (d : Data) (ds : Items) where
   -- one call more
@@ -87,7 +84,7 @@ pub items_len-items_view : (vs : List Value) → items_len (items_view vs) ≡ l
 items_len-items_view [] = refl
 items_len-items_view (v ∷ vs) = ap (λ n. n + 1) (items_len-items_view vs) ∙ add-one (length vs)
 
-module _ (script platform : Data) (calls : List Value) (held : Platform)
+module _ (script platform : Data) (calls : List Value) (held : PlatformFacts)
     (parts : parts_of script ≡ Some (platform, items_view calls)) (reads : platform_said platform ≡ Ok held) where
   -- the script of these parts
   script-parts : script_of script ≡ (ok_or (few_calls (items_view calls)) TooManyCalls >>= λ few. requests_of few >>= λ requests. Ok (record { platform = held; requests = requests }))

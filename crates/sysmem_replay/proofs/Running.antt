@@ -36,15 +36,6 @@ runs-input None new bytes said read runs = tt
 runs-input (Some input) None bytes said read runs = absurd read.taken
 runs-input (Some input) (Some rest) bytes said read runs = runs-read input rest bytes said read.taken read.all runs
 
-pub writes-input : (old new before after : Option (List ℕ)) (bytes text : List ℕ) (starved : Bool) → ReadsScript old new bytes
-    → RunsTo bytes (Ok (record { text = text; starved = starved })) → Appends before after text → IfSome old (λ input. Writes input starved before after)
-writes-input None new before after bytes text starved read runs written = tt
-writes-input (Some input) new before after bytes text starved read runs written = record {
-  text = text;
-  report = runs-input (Some input) new bytes (Ok (record { text = text; starved = starved })) read runs;
-  written = written;
-}
-
 pub part-input : (old new before after : Option (List ℕ)) (bytes : List ℕ) (report : Reported) → ReadsScript old new bytes
     → RunsTo bytes (Ok report) → WritesFront before after report.text → IfSome old (λ input. WritesPart input before after)
 part-input None new before after bytes report read runs front = tt

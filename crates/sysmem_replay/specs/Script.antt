@@ -7,7 +7,8 @@ use Rattle.sysmem_replay.specs.declared.fault.ScriptFault.{ScriptFault}
 use Rattle.sysmem_replay.specs.declared.fault.ScriptFault.TheVariants.{Misshapen, CallMisshapen, BadName, TooManyCalls, TooManyActors}
 use Rattle.sysmem_replay.specs.Call.{Deed, duplicates, Shape, keys_of, shape_of}
 use Rattle.sysmem_replay.specs.Names.{is_name, is_among, with_name, root}
-use Rattle.sysmem_replay.specs.Platform as merge
+use Rattle.sysmem_replay.specs.Platform.{platform_said}
+use Rattle.sysmem_sanitise.specs.Platform.{PlatformFacts}
 
 -- A call: what it does, on which name, and the place of that name among the names that were made before.
 pub record Request : Type 0 where
@@ -16,7 +17,7 @@ pub record Request : Type 0 where
   pub place : ℕ
 
 pub record Script : Type 0 where
-  pub platform : merge.Platform
+  pub platform : PlatformFacts
   pub requests : List Request
 
 -- The names that the calls so far made, in order, and the actors that made the calls.
@@ -92,7 +93,7 @@ few_calls calls = if nat_le (items_len calls) 4096 then Some calls else None
 abbrev pub script_of : Data → Result Script ScriptFault
 script_of value = do
   parts ← ok_or (parts_of value) Misshapen
-  platform ← merge.platform_said parts.0
+  platform ← platform_said parts.0
   calls ← ok_or (few_calls parts.1) TooManyCalls
   requests ← requests_of calls
   Ok (record { platform = platform; requests = requests })

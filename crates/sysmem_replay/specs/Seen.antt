@@ -7,7 +7,6 @@ use Rattle.sysmem_replay.specs.declared.script.call.Call.{Call}
 use Rattle.sysmem_replay.specs.declared.script.shape.Shape.{Shape as Read}
 use Rattle.sysmem_replay.specs.declared.script.Script.{Script as Held}
 use Rattle.sysmem_replay.specs.Call.{Deed, duplicates, binds, states, releases, checks, Shape}
-use Rattle.sysmem_replay.specs.Platform.{platform_held}
 use Rattle.sysmem_replay.specs.Script.{Request, Script}
 
 abbrev pub deed_seen : Act → Deed
@@ -24,4 +23,4 @@ abbrev pub seen : Call → Request
 seen c = record { deed = deed_seen c.act; on = c.on.now; place = c.place }
 
 abbrev pub script_seen : Held → Script
-script_seen s = record { platform = platform_held s.platform; requests = map seen s.calls.items }
+script_seen s = record { platform = s.platform; requests = map seen s.calls.items }

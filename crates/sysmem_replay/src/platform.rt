@@ -1,7 +1,7 @@
 //! The platform that a script names.
 ghost use Rattle.serde_json.specs.View.{view};
 ghost use Rattle.sysmem_replay.specs.Faults.{Gives};
-ghost use Rattle.sysmem_replay.specs.Platform.{platform_held, platform_said};
+ghost use Rattle.sysmem_replay.specs.Platform.{platform_said};
 
 use crate::fault::{RunFault, ScriptFault};
 use serde_json::Value;
@@ -10,7 +10,7 @@ use sysmem_sanitise::{Code, Platform};
 
 /// Reads the platform that a value stands for.
 pub(crate) fn read_platform(alloc: Global, value: &Value) -> Result<Platform, RunFault>
-    ensures { Gives platform_held result (platform_said (view value.now)) }
+    ensures { Gives (λ platform. platform) result (platform_said (view value.now)) }
 {
     match sysmem_sanitise::read_platform(alloc, value) {
         Ok(platform) => Ok(platform),

@@ -29,21 +29,9 @@ each_step read before vs i v within is =
     at_drop_more (λ ws. read_each read before (items_view ws)) vs i v within
     ∙ ap (λ w. read before (view w) >>= λ after. read_each read after (items_view (drop (i + 1) vs))) (sym is)
 
--- the item in turn is read
-pub each_more : {S : Type 0} (read : S → Data → Result S Fault) (before after : S) (vs : List Value) (i : ℕ) (v : Value)
-    → i < length vs → v ≡ get_or vs i v → read before (view v) ≡ Ok after
-    → read_each read after (items_view (drop (i + 1) vs)) ≡ read_each read before (items_view (drop i vs))
-each_more read before after vs i v within is gives =
-    sym (each_step read before vs i v within is ∙ ap (λ r. r >>= λ s. read_each read s (items_view (drop (i + 1) vs))) gives)
-
 -- the item in turn has a fault
 pub each_fault : {S : Type 0} (read : S → Data → Result S Fault) (before : S) (fault : Fault) (vs : List Value) (i : ℕ) (v : Value)
     → i < length vs → v ≡ get_or vs i v → read before (view v) ≡ Err fault
     → read_each read before (items_view (drop i vs)) ≡ Err fault
 each_fault read before fault vs i v within is gives =
     each_step read before vs i v within is ∙ ap (λ r. r >>= λ s. read_each read s (items_view (drop (i + 1) vs))) gives
-
--- no item is left
-pub each_all : {S : Type 0} (read : S → Data → Result S Fault) (before : S) (vs : List Value) (i : ℕ)
-    → length vs ≤ i → read_each read before (items_view (drop i vs)) ≡ Ok before
-each_all read before vs i past = at_drop_all (λ ws. read_each read before (items_view ws)) vs i past
