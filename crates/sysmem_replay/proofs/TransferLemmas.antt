@@ -1,11 +1,11 @@
 -- What a transfer has done after one more read or write.
 use Rattle.std.proofs.Common.{◌≡◌, ℕ, ◌+◌, ◌-◌, ◌≤◌, List, ◌++◌, length, take, drop, Option, sym, ap, ◌∙◌, subst, append_assoc, length-append, length-drop, arith}
 use Rattle.std.proofs.lemmas.List.{length-take-le, take-append-drop}
-use Rattle.std.proofs.Math.Seq.{take-length, take-append-add, take-append_seam}
+use Rattle.std.proofs.Math.Seq.{take-length, take-append_seam}
 use Rattle.std.specs.Io.KnownBytes.{Appends, Consumes, Keeps}
 use Rattle.sysmem_replay.specs.Text.{longest}
 use Rattle.sysmem_replay.specs.Transfer.{ReadsFew, WritesFront}
-use Rattle.sysmem_replay.proofs.KnownBytes.{Appends-then, Appends-kept, Consumes-then}
+use Rattle.sysmem_replay.proofs.KnownBytes.{Appends-kept, Consumes-then}
 
 -- one more chunk was taken
 pub ReadsFew-then : (u v w : Option (List ℕ)) (bytes chunk : List ℕ) (count : ℕ) → Consumes u v bytes → Consumes v w (take count chunk)
@@ -16,21 +16,12 @@ ReadsFew-then u v w bytes chunk count before then fits few = record {
   few = omega (arith, length-append bytes (take count chunk), length-take-le count chunk fits);
 }
 
-module _ (u v w : Option (List ℕ)) (front rest bytes : List ℕ) (parts : front ++ rest ≡ bytes) (before : Appends u v front) where
-  -- the next write wrote nothing
-  pub WritesFront-kept : Keeps v w → WritesFront u w bytes
-  WritesFront-kept kept = record {
-    count = length front;
-    written = subst (Appends u w) (sym (take-append_seam front rest) ∙ ap (take (length front)) parts) (Appends-kept u v w front before kept);
-  }
-
-  -- the next write took this many bytes
-  pub WritesFront-then : (count : ℕ) → Appends v w (take count rest) → WritesFront u w bytes
-  WritesFront-then count then = record {
-    count = length front + count;
-    written = subst (Appends u w) (sym (take-append-add front rest count) ∙ ap (take (length front + count)) parts)
-        (Appends-then u v w front (take count rest) before then);
-  }
+-- a prefix is written, and the next write wrote nothing
+pub WritesFront-kept : (u v w : Option (List ℕ)) (front rest bytes : List ℕ) → front ++ rest ≡ bytes → Appends u v front → Keeps v w → WritesFront u w bytes
+WritesFront-kept u v w front rest bytes parts before kept = record {
+  count = length front;
+  written = subst (Appends u w) (sym (take-append_seam front rest) ∙ ap (take (length front)) parts) (Appends-kept u v w front before kept);
+}
 
 -- what is written and what is left are the bytes, after the next write took this many
 pub parts-then : (front rest bytes : List ℕ) (count : ℕ) → front ++ rest ≡ bytes

@@ -3,6 +3,7 @@
 #![tactic(auto)]
 
 mod action;
+mod counted;
 mod decision;
 mod ending;
 mod fault;
@@ -15,15 +16,20 @@ mod report;
 pub mod run;
 mod runner;
 pub mod script;
+mod sink;
+mod source;
 mod transfer;
 mod verdict;
 mod words;
 
 use clap::Error;
+pub use counted::Counted;
 pub use ending::{Ending, ending_of, refusal_ending};
 pub use fault::{RunFault, ScriptFault};
 pub use report::{Report, report_of};
 pub use run::Ended;
+pub use sink::Sink;
+pub use source::Source;
 use std::fs::File;
 use std::process::ExitCode;
 use std::{env, io};
@@ -78,14 +84,14 @@ fn tell(rt: &HostRuntime, refusal: &Error) -> Ending {
 }
 
 fn run_file(rt: &HostRuntime, file: &str) -> Result<Ended, RunFault> {
-    let Ok(mut script) = File::open(rt, file) else {
+    let Ok(script) = File::open(rt, file) else {
         return Err(RunFault::Read);
     };
     run::run(
         rt.alloc(),
-        &mut script,
-        &mut io::writer(rt),
-        &mut io::sink(),
+        &mut Counted::new(script),
+        &mut Counted::new(io::writer(rt)),
+        &mut Counted::new(io::sink()),
     )
 }
 

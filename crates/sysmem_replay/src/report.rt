@@ -21,7 +21,8 @@ pub struct Report {
     pub starved: bool,
 }
 
-/// The report of the calls on a platform, made in their order on one collection.
+/// The report of the calls on a platform, made in their order on one collection. Memory that is refused outside of a
+/// reply or a decision is the `Err`.
 pub fn report_of(
     alloc: Global,
     platform: &Platform,

@@ -1,6 +1,6 @@
 //! A script's run, from its bytes to its report.
 
-ghost use Rattle.std.specs.Prelude.{◌≡◌, ◌≢◌, [], true, false, Ok, Err, IfOk, IfErr, IfSome, OnErr};
+ghost use Rattle.std.specs.Prelude.{◌≡◌, ◌≢◌, ◌↔◌, [], true, false, Ok, Err, IfOk, IfErr, IfSome, OnErr};
 ghost use Rattle.std.specs.Io.KnownBytes.{Appends};
 ghost use Rattle.std.specs.String.{string_bytes};
 ghost use Rattle.serde_json.specs.View.{view};
@@ -14,10 +14,11 @@ ghost use Rattle.sysmem_replay.specs.State.{first_state};
 use crate::fault::RunFault;
 use crate::report::{Report, report_of};
 use crate::script::{Script, parse_script, read_script};
+use crate::sink::Sink;
+use crate::source::Source;
 use crate::transfer::{read_up_to_limit, write_fully};
 use serde_json::Value;
 use std::alloc::Global;
-use std::io::{Read, Write};
 
 /// How a run ends that wrote its whole report.
 #[derive(Clone, Copy, Debug, PartialEq, Eq)]
@@ -32,9 +33,9 @@ pub enum Ended {
 
 /// Reads a script, makes its calls, and writes their report. Nothing is written to `proof`.
 ///
-/// Any error of the reader is the fault `Read`, and any of the writer the fault `Write`; what was written then is a
-/// prefix of the report. A script that is refused writes nothing.
-pub fn run<R: Read, W: Write, P: Write>(
+/// Any failure of the reader is the fault `Read`, and any of the writer the fault `Write`; what was written then is a
+/// prefix of the report. No other fault is called so. A script that is refused writes nothing.
+pub fn run<R: Source, W: Sink, P: Sink>(
     alloc: Global,
     reader: &mut R,
     writer: &mut W,
@@ -46,7 +47,10 @@ pub fn run<R: Read, W: Write, P: Write>(
     ensures refused { (fault : Refusal) → result ≡ Err (RunFault.Script fault) → IfSome (R.remaining reader.old) (λ input. RunsTo input (Err fault)) }
     ensures front { result ≡ Err RunFault.Write → IfSome (R.remaining reader.old) (λ input. WritesPart input (W.contents writer.old) (W.contents writer.new)) }
     ensures uncertified { Appends (P.contents _proof.old) (P.contents _proof.new) [] }
+    ensures untried { P.failures _proof.new ≡ P.failures _proof.old }
     ensures unwritten { OnErr result ((result ≢ Err RunFault.Write) → Appends (W.contents writer.old) (W.contents writer.new) []) }
+    ensures read_fault { (result ≡ Err RunFault.Read) ↔ (R.failures reader.new ≢ R.failures reader.old) }
+    ensures write_fault { (result ≡ Err RunFault.Write) ↔ (W.failures writer.new ≢ W.failures writer.old) }
 {
     let bytes = read_up_to_limit(alloc, reader)?;
     let report = report_on(alloc, &bytes)?;

@@ -1,11 +1,12 @@
-//! Bytes from a reader and to a writer, each to the end or to the first fault.
-ghost use Rattle.std.specs.Prelude.{◌≡◌, ◌≤◌, ◌⊎◌, IfOk, IfErr, OnOk, OnErr};
+//! Bytes from a source and to a sink, each to the end or to the first failure.
+ghost use Rattle.std.specs.Prelude.{◌≡◌, ◌≢◌, ◌↔◌, ◌≤◌, ◌⊎◌, Err, IfOk, IfErr, OnOk, OnErr};
 ghost use Rattle.std.specs.Io.KnownBytes.{Appends};
 ghost use Rattle.sysmem_replay.specs.Transfer.{ReadsScript, ReadsFew, WritesFront};
 
 use crate::fault::RunFault;
+use crate::sink::Sink;
+use crate::source::Source;
 use std::alloc::Global;
-use std::io::{Read, Write};
 
 /// The length of the longest script, in bytes.
 pub const LONGEST: usize = 4_194_304;
@@ -14,11 +15,12 @@ const CHUNK: usize = 4096;
 
 /// Reads to the end, or one byte further than the longest script.
 ///
-/// Any error of the reader is the fault `Read`, an interruption too.
-pub fn read_up_to_limit<R: Read>(alloc: Global, reader: &mut R) -> Result<Vec<u8>, RunFault>
+/// Any failure of the reader is the fault `Read`, an interruption too, and nothing else is.
+pub fn read_up_to_limit<R: Source>(alloc: Global, reader: &mut R) -> Result<Vec<u8>, RunFault>
     ensures script { IfOk result (λ bytes. ReadsScript (R.remaining reader.old) (R.remaining reader.new) bytes.items) }
     ensures few { ReadsFew (R.remaining reader.old) (R.remaining reader.new) }
     ensures fault { IfErr result (λ fault. (fault ≡ RunFault.Read) ⊎ (fault ≡ RunFault.NoMemory)) }
+    ensures cause { (result ≡ Err RunFault.Read) ↔ (R.failures reader.new ≢ R.failures reader.old) }
 {
     let mut chunk = [0; CHUNK];
     let mut bytes = Vec::new(alloc);
@@ -37,20 +39,18 @@ pub fn read_up_to_limit<R: Read>(alloc: Global, reader: &mut R) -> Result<Vec<u8
 
 /// Writes all the bytes, or a prefix of them.
 ///
-/// Any error of the writer is the fault `Write`, and so is a write that takes no byte.
-pub fn write_fully<W: Write>(writer: &mut W, bytes: &[u8]) -> Result<(), RunFault>
+/// Any failure of the writer is the fault `Write`, a write that takes no byte too, and nothing else is.
+pub fn write_fully<W: Sink>(writer: &mut W, bytes: &[u8]) -> Result<(), RunFault>
     ensures written { OnOk result (Appends (W.contents writer.old) (W.contents writer.new) bytes.now) }
     ensures front { OnErr result (WritesFront (W.contents writer.old) (W.contents writer.new) bytes.now) }
     ensures fault { IfErr result (λ fault. fault ≡ RunFault.Write) }
+    ensures cause { (result ≡ Err RunFault.Write) ↔ (W.failures writer.new ≢ W.failures writer.old) }
 {
     let mut rest = bytes;
     while !rest.is_empty() {
         let Ok(count) = writer.write(rest) else {
             return Err(RunFault::Write);
         };
-        if count == 0 {
-            return Err(RunFault::Write);
-        }
         rest = &rest[count..];
     }
     Ok(())

@@ -1,7 +1,8 @@
 //! Runs whose script is cut, and whose reader or writer fails. What whole scripts print is in `tests/`.
 use super::*;
+use crate::counted::Counted;
 use crate::fault::ScriptFault;
-use std::io;
+use std::io::{self, Read, Write};
 
 const SCRIPT: &str =
     r#"{"platform":{"heaps":[{"heap_type":"ram","domains":["cpu"]}],"pairs":[{"pixel_format":"R8"}],"color_spaces":["SRGB"]},"calls":[{"call":"bind","on":"root"},{"call":"set_constraints","on":"root"}]}"#;
@@ -29,23 +30,25 @@ impl Write for Untouched {
 
 #[test]
 fn leaves_the_certificate_alone(rt: HostRuntime) {
-    let mut written = Vec::new(rt.alloc());
-    let mut proof = Untouched { calls: 0 };
-    let ended = run(rt.alloc(), &mut SCRIPT.as_bytes(), &mut written, &mut proof);
+    let mut reader = Counted::new(SCRIPT.as_bytes());
+    let mut writer = Counted::new(Vec::new(rt.alloc()));
+    let mut proof = Counted::new(Untouched { calls: 0 });
+    let ended = run(rt.alloc(), &mut reader, &mut writer, &mut proof);
     assert_eq!(rt; ended, Ok(Ended::Done));
-    assert_eq!(rt; written.as_slice(), REPORT.as_bytes());
-    assert_eq!(rt; proof.calls, 0);
+    assert_eq!(rt; writer.inner.as_slice(), REPORT.as_bytes());
+    assert_eq!(rt; proof.inner.calls, 0);
 }
 
 // A script that is cut at any length is no JSON, and nothing is printed.
 #[test]
 fn cut_script(rt: HostRuntime) {
     for length in 0..SCRIPT.len() {
-        let mut reader = &SCRIPT.as_bytes()[..length];
-        let mut written = Vec::new(rt.alloc());
-        let ended = run(rt.alloc(), &mut reader, &mut written, &mut io::sink());
+        let mut reader = Counted::new(&SCRIPT.as_bytes()[..length]);
+        let mut writer = Counted::new(Vec::new(rt.alloc()));
+        let mut proof = Counted::new(io::sink());
+        let ended = run(rt.alloc(), &mut reader, &mut writer, &mut proof);
         assert_eq!(rt; ended, Err(RunFault::Script(ScriptFault::NotJson)));
-        assert_eq!(rt; written.len(), 0);
+        assert_eq!(rt; writer.inner.len(), 0);
     }
 }
 
@@ -73,17 +76,20 @@ impl Read for FailingReader<'_> {
 fn failing_reader(rt: HostRuntime) {
     let needed = SCRIPT.len().div_ceil(100) + 1;
     for calls_left in 0..=needed {
-        let mut reader = FailingReader {
+        let mut reader = Counted::new(FailingReader {
             bytes: SCRIPT.as_bytes(),
             calls_left,
-        };
-        let mut written = Vec::new(rt.alloc());
-        let ended = run(rt.alloc(), &mut reader, &mut written, &mut io::sink());
+        });
+        let mut writer = Counted::new(Vec::new(rt.alloc()));
+        let mut proof = Counted::new(io::sink());
+        let ended = run(rt.alloc(), &mut reader, &mut writer, &mut proof);
         if calls_left == needed {
             assert_eq!(rt; ended, Ok(Ended::Done));
+            assert_eq!(rt; reader.failures, 0);
         } else {
             assert_eq!(rt; ended, Err(RunFault::Read));
-            assert_eq!(rt; written.len(), 0);
+            assert_eq!(rt; reader.failures, 1);
+            assert_eq!(rt; writer.inner.len(), 0);
         }
     }
 }
@@ -118,18 +124,24 @@ impl Write for FailingWriter {
 #[test]
 fn failing_writer(rt: HostRuntime) {
     for calls_left in 0..=REPORT.len() {
-        let mut writer = FailingWriter {
+        let mut writer = Counted::new(FailingWriter {
             taken: Vec::new(rt.alloc()),
             calls_left,
             gives_error: calls_left % 2 == 0,
-        };
-        let mut reader = SCRIPT.as_bytes();
-        let ended = run(rt.alloc(), &mut reader, &mut writer, &mut io::sink());
+        });
+        let mut reader = Counted::new(SCRIPT.as_bytes());
+        let mut proof = Counted::new(io::sink());
+        let ended = run(rt.alloc(), &mut reader, &mut writer, &mut proof);
         if calls_left == REPORT.len() {
             assert_eq!(rt; ended, Ok(Ended::Done));
+            assert_eq!(rt; writer.failures, 0);
         } else {
             assert_eq!(rt; ended, Err(RunFault::Write));
+            assert_eq!(rt; writer.failures, 1);
         }
-        assert_eq!(rt; writer.taken.as_slice(), &REPORT.as_bytes()[..calls_left]);
+        assert_eq!(rt;
+            writer.inner.taken.as_slice(),
+            &REPORT.as_bytes()[..calls_left]
+        );
     }
 }

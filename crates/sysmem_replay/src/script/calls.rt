@@ -11,7 +11,7 @@ use crate::fault::RunFault;
 use serde_json::Value;
 use std::alloc::Global;
 
-/// Reads the calls of a script in order, up to the first fault.
+/// Reads the calls of a script in order, up to the first fault, which names its call. The first call is 1.
 pub fn read_calls<'a>(alloc: Global, values: &'a [Value]) -> Result<Vec<Call<'a>>, RunFault>
     ensures { Gives (λ calls. map seen calls.items) result (requests_of (items_view values.now)) }
 {

@@ -10,7 +10,7 @@ use crate::transfer::LONGEST;
 use serde_json::Value;
 use std::alloc::Global;
 
-/// Reads the one JSON value that the bytes of a script spell.
+/// Reads the one JSON value that the bytes of a script spell. The script's faults are `TooLong` and `NotJson`.
 pub fn parse_script(alloc: Global, bytes: &[u8]) -> Result<Value, RunFault>
     ensures { Answers view result (Outcome IsValue bytes.now) }
 {

@@ -1,16 +1,17 @@
 //! How much is taken from a reader. The tests of `run` have readers and writers that fail.
 use super::*;
-use std::io;
+use crate::counted::Counted;
+use std::io::{self, Read};
 use std::test::Fail;
 
 // Gives so many bytes, few at a time.
 #[derive(Drop)]
-struct Source {
+struct Spring {
     left: usize,
     step: usize,
 }
 
-impl Read for Source {
+impl Read for Spring {
     fn read(&mut self, buf: &mut [u8]) -> io::Result<usize> {
         let count = self.left.min(self.step).min(buf.len());
         self.left -= count;
@@ -25,10 +26,10 @@ fn reads_to_the_end_or_one_byte_further(rt: HostRuntime) -> Result<(), Fail> {
         (4_194_304, 9_000, 4_194_304, 0),
         (5_000_000, 9_000, 4_194_305, 805_695),
     ] {
-        let mut reader = Source { left: given, step };
+        let mut reader = Counted::new(Spring { left: given, step });
         let bytes = read_up_to_limit(rt.alloc(), &mut reader)?;
         assert_eq!(rt; bytes.len(), length);
-        assert_eq!(rt; reader.left, left);
+        assert_eq!(rt; reader.inner.left, left);
     }
     Ok(())
 }

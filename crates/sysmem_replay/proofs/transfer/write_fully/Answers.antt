@@ -1,17 +1,12 @@
-use Rattle.std.proofs.Common.{◌++◌, take}
+use Rattle.std.proofs.Common.{◌∙◌, ◌++◌, take}
 use Rattle.sysmem_replay.proofs.KnownBytes.{Appends-then}
-use Rattle.sysmem_replay.proofs.TransferLemmas.{WritesFront-kept, WritesFront-then, parts-then}
+use Rattle.sysmem_replay.proofs.TransferLemmas.{WritesFront-kept, parts-then}
 use Rattle.sysmem_replay.proofs.transfer.write_fully.Goals as goal
 
 pub returns-in_default-clause-front : goal.returns-in_default-clause-front
 returns-in_default-clause-front g c =
     let kept = c.loop-rest.invariant in
     WritesFront-kept _ _ _ kept.front _ _ kept.parts kept.written c.in_default.ensures.bytes
-
-pub returns-then-count-eq0-clause-front : goal.returns-then-count-eq0-clause-front
-returns-then-count-eq0-clause-front g c =
-    let kept = c.loop-rest.invariant in
-    WritesFront-then _ _ _ kept.front _ _ kept.parts kept.written c.in-Ok.count c.in-Ok.ensures.bytes
 
 pub loop-rest-preserved : goal.loop-rest-preserved
 loop-rest-preserved g c =
@@ -21,4 +16,5 @@ loop-rest-preserved g c =
       front = kept.front ++ take c.in-Ok.count rest;
       parts = parts-then kept.front rest _ c.in-Ok.count kept.parts;
       written = Appends-then _ _ _ kept.front _ kept.written c.in-Ok.ensures.bytes;
+      unfailed = c.in-Ok.ensures.worked ∙ kept.unfailed;
     }

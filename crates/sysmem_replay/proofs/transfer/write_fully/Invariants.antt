@@ -1,4 +1,4 @@
--- What was written and what is left are the bytes.
+-- What was written and what is left are the bytes, and the writer has not failed.
 use Rattle.std.proofs.Common.{◌≡◌, ◌++◌, List, ℕ, length}
 use Rattle.std.specs.Io.KnownBytes.{Appends}
 use Rattle.sysmem_replay.proofs.transfer.write_fully.Given as goal
@@ -7,7 +7,8 @@ abbrev pub invariant-loop-rest : goal.invariant-loop-rest
 invariant-loop-rest g l = record {
   front : List ℕ;
   parts : front ++ l.rest ≡ l.bytes;
-  written : Appends (g.W.Write.contents l.fn.writer) (g.W.Write.contents l.writer) front;
+  written : Appends (g.W.Sink.contents l.fn.writer) (g.W.Sink.contents l.writer) front;
+  unfailed : g.W.Sink.failures l.writer ≡ g.W.Sink.failures l.fn.writer;
 }
 
 abbrev pub decreases-loop-rest : goal.decreases-loop-rest
