@@ -1,8 +1,7 @@
 -- What a run says of its input, from what it says of the bytes that it read.
-use Rattle.std.proofs.Common.{◌≡◌, ℕ, ◌≤◌, ◌++◌, List, [], length, Bool, Option, Some, None, Result, Ok, Err, refl, ◌∙◌, ap, append-nil, length-append, arith}
+use Rattle.std.proofs.Common.{◌≡◌, ℕ, ◌≤◌, ◌++◌, List, [], length, Option, Some, None, Result, Ok, Err, refl, ◌∙◌, ap, append-nil, length-append, arith}
 use Rattle.std.specs.Prelude.{IfSome, IfOk, IfErr}
 use Rattle.std.specs.String.{string_bytes}
-use Rattle.std.specs.Io.KnownBytes.{Appends}
 use Rattle.serde_json.specs.Data.{Data}
 use Rattle.serde_json.specs.View.{view}
 use Rattle.serde_json.specs.declared.value.Value.{Value}
@@ -12,7 +11,7 @@ use Rattle.sysmem_replay.specs.declared.fault.ScriptFault.{ScriptFault}
 use Rattle.sysmem_replay.specs.declared.report.Report.{Report as Held}
 use Rattle.sysmem_replay.specs.declared.script.Script.{Script as HeldScript}
 use Rattle.sysmem_replay.specs.Faults.{Answers, Gives}
-use Rattle.sysmem_replay.specs.Outcome.{Reported, IsReported, refused, reported, RunsTo, Writes, WritesPart, report_seen}
+use Rattle.sysmem_replay.specs.Outcome.{Reported, IsReported, refused, reported, RunsTo, WritesPart, report_seen}
 use Rattle.sysmem_replay.specs.Report.{Report}
 use Rattle.sysmem_replay.specs.State.{first_state}
 use Rattle.sysmem_replay.specs.Script.{Script, script_of}

@@ -1,8 +1,8 @@
 -- The keys of an object and the items of a list, as the program walks them.
-use Rattle.std.proofs.Common.{◌≡◌, ℕ, ◌+◌, ◌<◌, ◌≤◌, Bool, not, ◌==◌, ◌&&◌, List, [], ◌∷◌, length, get_or, drop, String, string_bytes, Result, Ok, Err, ap, sym, ◌∙◌, refl, Global, rules, tests}
+use Rattle.std.proofs.Common.{◌≡◌, ℕ, ◌+◌, ◌<◌, Bool, not, ◌==◌, ◌&&◌, List, [], ◌∷◌, length, get_or, drop, String, string_bytes, Result, Err, ap, sym, ◌∙◌, refl, Global, rules, tests}
 use Rattle.std.specs.List.{list_all}
 use Rattle.std.specs.Map as map
-use Rattle.std.proofs.lemmas.List.{at_drop_more, at_drop_all}
+use Rattle.std.proofs.lemmas.List.{at_drop_more}
 use Rattle.serde_json.specs.Data.{Data}
 use Rattle.serde_json.specs.declared.value.Value.{Value}
 use Rattle.serde_json.specs.View.{view, items_view, members_view}
