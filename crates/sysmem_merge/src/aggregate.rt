@@ -74,7 +74,7 @@ impl<'p> Aggregate<'p> {
         self.platform
     }
 
-    /// Adds one more participant, where fewer than 1,024 were added. It takes no memory so far, so it isn't refused.
+    /// Adds one more participant, where fewer than 1,024 were added. It takes no memory, so it isn't refused.
     pub fn add(&mut self, asked: &Constraints) -> Result<(), AllocError>
         requires { self.old.added < 1024 }
         ensures ok { (platform : PlatformFacts) (ps : List Participant) → StandsFor self.old platform ps
