@@ -1,16 +1,18 @@
 -- A tree stays one after each action.
 use Rattle.std.proofs.Common.{◌≡◌, ℕ, ◌+◌, ◌<◌, ◌≤◌, true, false, List, [], ◌∷◌, ◌++◌, length, Option, Some, None, slice_get, slice_set, refl, sym, ◌∙◌, ap, subst, arith, rules, inl, inr, length-append, append-nil, tests, get_or}
-use Rattle.std.specs.Prelude.{IfSome, IsSomeAnd, nat_le}
+use Rattle.std.specs.Prelude.{IfSome, IsSome, IsSomeAnd, nat_le}
 use Rattle.std.proofs.lemmas.Bool.{cases_eq}
 use Rattle.std.proofs.lemmas.List.{length-set}
 use Rattle.std.proofs.lemmas.Option.{slice_get_within, slice_get_read, same_Some}
 use Rattle.sysmem_tree.specs.declared.node.Birth.{Birth}
 use Rattle.sysmem_tree.specs.Actions.{acted, makes_token}
-use Rattle.sysmem_tree.specs.Deed.{Deed, duplicates, binds, states, releases, closes}
+use Rattle.sysmem_tree.specs.Deed.{Deed, duplicates, binds, sets, releases, closes}
 use Rattle.sysmem_tree.specs.Node.{NodeFacts, new_token}
-use Rattle.sysmem_tree.specs.Shape.{IsTree}
+use Rattle.sysmem_tree.specs.Nodes.{IsTree}
 use Rattle.sysmem_tree.specs.Tree.{nodes_after, has_room}
-use Rattle.sysmem_tree.proofs.Standing.{after_set, set_here, set_elsewhere, in_front, after_push, there, put}
+use Rattle.sysmem_tree.specs.Path.{child_of}
+use Rattle.sysmem_tree.proofs.Ways.{Distinct, child_found, child_born}
+use Rattle.sysmem_tree.proofs.Standing.{at_end, some_from, is_some_from, after_set, set_here, set_elsewhere, in_front, after_push, there, put}
 
 -- a node that was written over another of the same birth
 module _ (nodes : List NodeFacts) (i : ℕ) (n m : NodeFacts) (here : slice_get nodes i ≡ Some n) (birth : m.birth ≡ n.birth) (more : n.children ≤ m.children) where
@@ -32,12 +34,37 @@ module _ (nodes : List NodeFacts) (i : ℕ) (n m : NodeFacts) (here : slice_get 
     | inr other ↦ (a, set_elsewhere nodes i k m a other read, omega arith)
   ]
 
+  -- and its birth
+  still_born : (k : ℕ) (a : NodeFacts) → slice_get nodes k ≡ Some a → (now : NodeFacts) × (slice_get (slice_set nodes i m) k ≡ Some now) × (now.birth ≡ a.birth)
+  still_born k a read = elim (cases_eq k i) [
+    | inl same ↦ (
+      m,
+      subst (λ j. slice_get (slice_set nodes i m) j ≡ Some m) (sym same) (set_here nodes i n m here),
+      let is : a ≡ n = same_Some a n (sym read ∙ (ap (slice_get nodes) same ∙ here)) in birth ∙ ap (λ (x : NodeFacts). x.birth) (sym is),
+    )
+    | inr other ↦ (a, set_elsewhere nodes i k m a other read, refl)
+  ]
+
+  distinct_still : IsTree nodes → Distinct (slice_set nodes i m)
+  distinct_still tree j k a b at_j at_k e =
+      let (a', was_a, same_a) = born j a at_j in
+      let (b', was_b, same_b) = born k b at_k in
+      tree.distinct j k a' b' was_a was_b (same_a ∙ (e ∙ sym same_b))
+
+  -- each child that was counted is there
+  child_still : IsTree nodes → (k ordinal : ℕ) (a : NodeFacts) → slice_get nodes k ≡ Some a → ordinal < a.children
+      → (c : ℕ) × (z : NodeFacts) × (slice_get (slice_set nodes i m) c ≡ Some z) × (z.birth ≡ Some (record { parent = k; ordinal = ordinal }))
+  child_still tree k ordinal a read below =
+      let (c, found) = some_from (child_of nodes k ordinal) (tree.dense k ordinal a read below) in
+      let (y, at, is) = child_born nodes k ordinal c found in
+      let (z, now, same) = still_born c y at in
+      (c, z, now, same ∙ is)
+
   root_stays : IsTree nodes → IsSomeAnd (slice_get (slice_set nodes i m) 0) (λ x. x.birth ≡ None)
   root_stays tree =
       let (r, at, none) = there (λ x. x.birth ≡ None) (slice_get nodes 0) tree.root in
-      let (now, is, _) = grows 0 r at in
-      let (before, was, same) = born 0 now is in
-      put (λ x. x.birth ≡ None) (slice_get (slice_set nodes i m) 0) now is (sym same ∙ (ap (λ x. x.birth) (same_Some before r (sym was ∙ at)) ∙ none))
+      let (now, is, same) = still_born 0 r at in
+      put (λ x. x.birth ≡ None) (slice_get (slice_set nodes i m) 0) now is (same ∙ none)
 
   counted_still : IsTree nodes → (k : ℕ) (a : NodeFacts) (b : Birth) → slice_get (slice_set nodes i m) k ≡ Some a → a.birth ≡ Some b
       → IsSomeAnd (slice_get (slice_set nodes i m) b.parent) (λ p. b.ordinal < p.children)
@@ -47,22 +74,69 @@ module _ (nodes : List NodeFacts) (i : ℕ) (n m : NodeFacts) (here : slice_get 
       let (now, here', up) = grows b.parent p at in
       put (λ p. b.ordinal < p.children) (slice_get (slice_set nodes i m) b.parent) now here' (omega (arith, below, up))
 
-  -- the tree with the node written over
-  pub changed : IsTree nodes → m.children < length nodes → IsTree (slice_set nodes i m)
-  changed tree fits = record {
+  -- where it has as many children, each node had as many
+  counted_before : m.children ≡ n.children → (k : ℕ) (a : NodeFacts) → slice_get (slice_set nodes i m) k ≡ Some a
+      → (before : NodeFacts) × (slice_get nodes k ≡ Some before) × (before.children ≡ a.children)
+  counted_before same k a read = elim (after_set nodes i k m a read) [
+    | inl at ↦ (n, subst (λ j. slice_get nodes j ≡ Some n) (sym at.0) here, sym same ∙ ap (λ (x : NodeFacts). x.children) at.1)
+    | inr other ↦ (a, other.1, refl)
+  ]
+
+  -- the tree with the node written over, where it has as many children
+  pub changed : IsTree nodes → m.children ≡ n.children → IsTree (slice_set nodes i m)
+  changed tree as_many = record {
     few = omega (arith, tree.few, length-set nodes i m);
     root = root_stays tree;
     older = λ k a b read is. let (before, was, same) = born k a read in tree.older k before b was (same ∙ is);
     counted = counted_still tree;
-    distinct = λ j k a b at_j at_k e.
-        let (a', was_a, same_a) = born j a at_j in
-        let (b', was_b, same_b) = born k b at_k in
-        tree.distinct j k a' b' was_a was_b (same_a ∙ (e ∙ sym same_b));
-    small = λ k a read. elim (after_set nodes i k m a read) [
-      | inl at ↦ let few : m.children < length nodes = fits in omega (arith, length-set nodes i m, subst (λ x. x.children < length nodes) at.1 few)
-      | inr other ↦ omega (arith, length-set nodes i m, tree.small k a other.1)
-    ];
+    distinct = distinct_still tree;
+    dense = λ k ordinal a read below.
+        let (before, was, count) = counted_before as_many k a read in
+        let (c, z, at, is) = child_still tree k ordinal before was (omega (arith, count, below)) in
+        is_some_from (child_of (slice_set nodes i m) k ordinal) c (child_found (slice_set nodes i m) c z (record { parent = k; ordinal = ordinal }) (distinct_still tree) at is);
+    small = λ k a read. let (before, was, count) = counted_before as_many k a read in omega (arith, length-set nodes i m, count, tree.small k before was);
   }
+
+  -- the birth of the next child is nobody's yet
+  fresh : IsTree nodes → (k : ℕ) (a : NodeFacts) → slice_get (slice_set nodes i m) k ≡ Some a → a.birth ≡ Some (record { parent = i; ordinal = n.children }) → ⊥
+  fresh tree k a read is =
+      let (before, was, same) = born k a read in
+      let (p, at, below) = there (λ p. n.children < p.children) (slice_get nodes i) (tree.counted k before (record { parent = i; ordinal = n.children }) was (same ∙ is)) in
+      omega (arith, subst (λ x. n.children < x.children) (same_Some p n (sym at ∙ here)) below)
+
+  -- no two nodes are of one birth, the next child beside them
+  apart : IsTree nodes → Distinct (slice_set nodes i m ++ new_token (Some (record { parent = i; ordinal = n.children })) ∷ [])
+  apart tree j k a c at_j at_k e =
+      let xs : List NodeFacts = slice_set nodes i m in
+      let t : NodeFacts = new_token (Some (record { parent = i; ordinal = n.children })) in
+      elim (after_push xs j t a at_j) [
+        | inl old_j ↦ elim (after_push xs k t c at_k) [
+          | inl old_k ↦ distinct_still tree j k a c old_j old_k e
+          | inr end_k ↦ absurd (fresh tree j a old_j (e ∙ sym (ap (λ x. x.birth) end_k.1)))
+        ]
+        | inr end_j ↦ elim (after_push xs k t c at_k) [
+          | inl old_k ↦ absurd (fresh tree k c old_k (sym e ∙ sym (ap (λ x. x.birth) end_j.1)))
+          | inr end_k ↦ end_j.0 ∙ sym end_k.0
+        ]
+      ]
+
+  -- each child that was counted is there beside the next one
+  front : IsTree nodes → (k ordinal : ℕ) (a : NodeFacts) → slice_get nodes k ≡ Some a → ordinal < a.children
+      → IsSome (child_of (slice_set nodes i m ++ new_token (Some (record { parent = i; ordinal = n.children })) ∷ []) k ordinal)
+  front tree k ordinal a read below =
+      let xs : List NodeFacts = slice_set nodes i m in
+      let t : NodeFacts = new_token (Some (record { parent = i; ordinal = n.children })) in
+      let (c, z, at, is) = child_still tree k ordinal a read below in
+      is_some_from (child_of (xs ++ t ∷ []) k ordinal) c (child_found (xs ++ t ∷ []) c z (record { parent = k; ordinal = ordinal }) (apart tree) (in_front xs (t ∷ []) c z at) is)
+
+  -- and so is the next one
+  last : IsTree nodes → (k ordinal : ℕ) → k ≡ i → ordinal ≡ n.children
+      → IsSome (child_of (slice_set nodes i m ++ new_token (Some (record { parent = i; ordinal = n.children })) ∷ []) k ordinal)
+  last tree k ordinal at is =
+      let xs : List NodeFacts = slice_set nodes i m in
+      let b : Birth = record { parent = i; ordinal = n.children } in
+      let t : NodeFacts = new_token (Some b) in
+      rw (at, is) (is_some_from (child_of (xs ++ t ∷ []) i n.children) (length xs) (child_found (xs ++ t ∷ []) (length xs) t b (apart tree) (at_end xs t) refl))
 
   -- the tree where the node counts one more child, which is pushed
   pub pushed : IsTree nodes → m.children ≡ n.children + 1 → length nodes < 128
@@ -93,18 +167,18 @@ module _ (nodes : List NodeFacts) (i : ℕ) (n m : NodeFacts) (here : slice_get 
               subst (λ x. IsSomeAnd (slice_get (xs ++ t ∷ []) x.parent) (λ p. x.ordinal < p.children)) mine
               (put (λ p. n.children < p.children) (slice_get (xs ++ t ∷ []) i) m (in_front xs (t ∷ []) i m set) (omega (arith, one)))
         ];
-        distinct = λ j k a c at_j at_k e. elim (after_push xs j t a at_j) [
-          | inl old_j ↦ elim (after_push xs k t c at_k) [
-            | inl old_k ↦
-                let (a', was_a, same_a) = born j a old_j in
-                let (c', was_c, same_c) = born k c old_k in
-                tree.distinct j k a' c' was_a was_c (same_a ∙ (e ∙ sym same_c))
-            | inr end_k ↦ absurd (fresh tree j a old_j (e ∙ sym (ap (λ x. x.birth) end_k.1)))
+        distinct = apart tree;
+        dense = λ k ordinal a read below. elim (after_push xs k t a read) [
+          | inl old ↦ elim (after_set nodes i k m a old) [
+            | inl at ↦ elim (cases_eq ordinal n.children) [
+              | inl is ↦ last tree k ordinal at.0 is
+              | inr earlier ↦
+                  let count : m.children ≡ a.children = ap (λ (x : NodeFacts). x.children) at.1 in
+                  front tree k ordinal n (subst (λ j. slice_get nodes j ≡ Some n) (sym at.0) here) (omega (arith, below, count, one, earlier))
+            ]
+            | inr other ↦ front tree k ordinal a other.1 below
           ]
-          | inr end_j ↦ elim (after_push xs k t c at_k) [
-            | inl old_k ↦ absurd (fresh tree k c old_k (sym e ∙ sym (ap (λ x. x.birth) end_j.1)))
-            | inr end_k ↦ end_j.0 ∙ sym end_k.0
-          ]
+          | inr end ↦ absurd (omega (arith, subst (λ x. ordinal < x.children) (sym end.1) below))
         ];
         small = λ k a read. elim (after_push xs k t a read) [
           | inl old ↦ elim (after_set nodes i k m a old) [
@@ -114,20 +188,14 @@ module _ (nodes : List NodeFacts) (i : ℕ) (n m : NodeFacts) (here : slice_get 
           ]
           | inr end ↦ omega (arith, long, subst (λ x. x.children < length nodes + 1) end.1 (omega arith))
         ];
-      } where
-        -- the birth of the next child is nobody's yet
-        fresh : IsTree nodes → (k : ℕ) (a : NodeFacts) → slice_get (slice_set nodes i m) k ≡ Some a → a.birth ≡ Some (record { parent = i; ordinal = n.children }) → ⊥
-        fresh tree k a read is =
-            let (before, was, same) = born k a read in
-            let (p, at, below) = there (λ p. n.children < p.children) (slice_get nodes i) (tree.counted k before (record { parent = i; ordinal = n.children }) was (same ∙ is)) in
-            omega (arith, subst (λ x. n.children < x.children) (same_Some p n (sym at ∙ here)) below)
+      }
 
 -- the nodes after an action that makes none
 pub unmade : (nodes : List NodeFacts) (i : ℕ) (n m : NodeFacts) (deed : Deed) → makes_token deed ≡ false → m ≡ acted deed n
     → slice_set nodes i m ≡ nodes_after nodes i n deed
 unmade nodes i n m duplicates none is = absurd (cc)
 unmade nodes i n m binds none is = rw (is, append-nil) refl
-unmade nodes i n m (states asked) none is = rw (is, append-nil) refl
+unmade nodes i n m (sets asked) none is = rw (is, append-nil) refl
 unmade nodes i n m releases none is = rw (is, append-nil) refl
 unmade nodes i n m closes none is = rw (is, append-nil) refl
 
@@ -136,7 +204,7 @@ pub made : (nodes : List NodeFacts) (i : ℕ) (n m : NodeFacts) (deed : Deed) (b
     → b ≡ record { parent = i; ordinal = n.children } → slice_set nodes i m ++ new_token (Some b) ∷ [] ≡ nodes_after nodes i n deed
 made nodes i n m duplicates b one is at = rw (is, at) refl
 made nodes i n m binds b one is at = absurd (cc)
-made nodes i n m (states asked) b one is at = absurd (cc)
+made nodes i n m (sets asked) b one is at = absurd (cc)
 made nodes i n m releases b one is at = absurd (cc)
 made nodes i n m closes b one is at = absurd (cc)
 
@@ -144,10 +212,10 @@ made nodes i n m closes b one is at = absurd (cc)
 tree_unmade : (nodes : List NodeFacts) (i : ℕ) (n : NodeFacts) (deed : Deed) → IsTree nodes → slice_get nodes i ≡ Some n → makes_token deed ≡ false
     → IsTree (slice_set nodes i (acted deed n) ++ [])
 tree_unmade nodes i n duplicates tree here none = absurd (cc)
-tree_unmade nodes i n binds tree here none = rw append-nil (changed nodes i n _ here refl (omega arith) tree (tree.small i n here))
-tree_unmade nodes i n (states asked) tree here none = rw append-nil (changed nodes i n _ here refl (omega arith) tree (tree.small i n here))
-tree_unmade nodes i n releases tree here none = rw append-nil (changed nodes i n _ here refl (omega arith) tree (tree.small i n here))
-tree_unmade nodes i n closes tree here none = rw append-nil (changed nodes i n _ here refl (omega arith) tree (tree.small i n here))
+tree_unmade nodes i n binds tree here none = rw append-nil (changed nodes i n _ here refl (omega arith) tree refl)
+tree_unmade nodes i n (sets asked) tree here none = rw append-nil (changed nodes i n _ here refl (omega arith) tree refl)
+tree_unmade nodes i n releases tree here none = rw append-nil (changed nodes i n _ here refl (omega arith) tree refl)
+tree_unmade nodes i n closes tree here none = rw append-nil (changed nodes i n _ here refl (omega arith) tree refl)
 
 room_left : (n : ℕ) → nat_le (n + 1) 128 ≡ true → n < 128
 room_left n h = search (rules, tests)
@@ -157,7 +225,7 @@ pub tree_after_action : (nodes : List NodeFacts) (i : ℕ) (n : NodeFacts) (deed
     → IsTree (nodes_after nodes i n deed)
 tree_after_action nodes i n duplicates tree here room = pushed nodes i n _ here refl (omega arith) tree refl (room_left (length nodes) room)
 tree_after_action nodes i n binds tree here room = tree_unmade nodes i n binds tree here refl
-tree_after_action nodes i n (states asked) tree here room = tree_unmade nodes i n (states asked) tree here refl
+tree_after_action nodes i n (sets asked) tree here room = tree_unmade nodes i n (sets asked) tree here refl
 tree_after_action nodes i n releases tree here room = tree_unmade nodes i n releases tree here refl
 tree_after_action nodes i n closes tree here room = tree_unmade nodes i n closes tree here refl
 

@@ -1,3 +1,5 @@
+pub mod Accepted
 pub mod Growing
-pub mod Ways
+pub mod PathSteps
 pub mod Standing
+pub mod Ways

@@ -1,6 +1,6 @@
 -- What stands where in a list after a write or a push.
 use Rattle.std.proofs.Common.{◌≡◌, ◌≢◌, ℕ, zero, suc, List, [], ◌∷◌, ◌++◌, length, Option, Some, None, slice_get, slice_set, refl, sym, ap, subst, arith, inl, inr, ◌⊎◌}
-use Rattle.std.specs.Prelude.{IsSomeAnd}
+use Rattle.std.specs.Prelude.{IsSome, IsSomeAnd}
 use Rattle.std.proofs.lemmas.Bool.{cases_eq}
 use Rattle.std.proofs.lemmas.List.{length-set}
 use Rattle.std.proofs.lemmas.Option.{slice_get_within, same_Some}
@@ -50,3 +50,15 @@ there P (Some x) h = (x, refl, h)
 
 pub put : {X : Type 0} (P : X → Type 0) (o : Option X) (x : X) → o ≡ Some x → P x → IsSomeAnd o P
 put P o x e h = subst (λ r. IsSomeAnd r P) (sym e) h
+
+-- what was pushed stands at the end
+pub at_end : {X : Type 0} (xs : List X) (y : X) → slice_get (xs ++ y ∷ []) (length xs) ≡ Some y
+at_end [] y = refl
+at_end (x ∷ xs) y = at_end xs y
+
+pub some_from : {X : Type 0} (o : Option X) → IsSome o → (x : X) × (o ≡ Some x)
+some_from None h = absurd (cc)
+some_from (Some x) h = (x, refl)
+
+pub is_some_from : {X : Type 0} (o : Option X) (x : X) → o ≡ Some x → IsSome o
+is_some_from o x e = subst IsSome (sym e) refl

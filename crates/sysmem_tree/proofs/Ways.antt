@@ -9,7 +9,7 @@ use Rattle.std.proofs.lemmas.Option.{slice_get-get_or, get_or_from_slice_get, sl
 use Rattle.sysmem_tree.specs.declared.node.Birth.{Birth}
 use Rattle.sysmem_tree.specs.Node.{NodeFacts}
 use Rattle.sysmem_tree.specs.Path.{is_born, is_child, child_of, led_to, node_at}
-use Rattle.sysmem_tree.specs.Shape.{IsTree}
+use Rattle.sysmem_tree.specs.Nodes.{IsTree}
 use Rattle.sysmem_tree.proofs.Standing.{there}
 
 -- one step on, the rest leads to the same node
@@ -53,10 +53,14 @@ position_is p xs k x here passes first =
     let less : nat_lt k (length xs) ≡ true = search (rules, tests, within) in
     rw (at, less) refl
 
+-- no two nodes are of one birth
+abbrev pub Distinct : List NodeFacts → Type 0
+Distinct nodes = (j k : ℕ) (m n : NodeFacts) → slice_get nodes j ≡ Some m → slice_get nodes k ≡ Some n → m.birth ≡ n.birth → j ≡ k
+
 -- a child is found by its birth
-pub child_found : (nodes : List NodeFacts) (k : ℕ) (n : NodeFacts) (b : Birth) → IsTree nodes → slice_get nodes k ≡ Some n → n.birth ≡ Some b
+pub child_found : (nodes : List NodeFacts) (k : ℕ) (n : NodeFacts) (b : Birth) → Distinct nodes → slice_get nodes k ≡ Some n → n.birth ≡ Some b
     → child_of nodes b.parent b.ordinal ≡ Some k
-child_found nodes k n b tree here is =
+child_found nodes k n b distinct here is =
     position_is (is_child b.parent b.ordinal) nodes k n here (so_born b n.birth is) (λ j below. not_before j below _ refl) where
       not_before : (j : ℕ) → j < k → (t : Bool) → is_child b.parent b.ordinal (get_or nodes j n) ≡ t → is_child b.parent b.ordinal (get_or nodes j n) ≡ false
       not_before j below false e = e
@@ -64,13 +68,13 @@ child_found nodes k n b tree here is =
           let within = slice_get_within nodes k n here in
           let at : slice_get nodes j ≡ Some (get_or nodes j n) = slice_get-get_or nodes j n (omega (arith, below, within)) in
           let birth = born_so b.parent b.ordinal ((get_or nodes j n).birth) e in
-          let same : j ≡ k = tree.distinct j k (get_or nodes j n) n at here (birth ∙ sym is) in
+          let same : j ≡ k = distinct j k (get_or nodes j n) n at here (birth ∙ sym is) in
           absurd (omega (arith, same, below))
 
 -- from a node's parent its ordinal leads to it, and on
 pub led_up : (nodes : List NodeFacts) (k : ℕ) (n : NodeFacts) (b : Birth) (rest : List ℕ) (o : Option ℕ) → IsTree nodes → slice_get nodes k ≡ Some n → n.birth ≡ Some b
     → led_to nodes k rest ≡ o → led_to nodes b.parent (b.ordinal ∷ rest) ≡ o
-led_up nodes k n b rest o tree here is leads = ap (λ c. option_and_then (λ child. led_to nodes child rest) c) (child_found nodes k n b tree here is) ∙ leads
+led_up nodes k n b rest o tree here is leads = ap (λ c. option_and_then (λ child. led_to nodes child rest) c) (child_found nodes k n b tree.distinct here is) ∙ leads
 
 -- a node that is nobody's child is the root
 pub root_alone : (nodes : List NodeFacts) (k : ℕ) (n : NodeFacts) → IsTree nodes → slice_get nodes k ≡ Some n → n.birth ≡ None → k ≡ 0
@@ -94,7 +98,7 @@ up nodes (o ∷ path) way i k so leads =
     (λ c is on. subst (Up nodes k) (turned o path way) (up nodes path (o ∷ way) c k (i, is, so) on))
 
 -- a child's birth is the one by which it was found
-child_born : (nodes : List NodeFacts) (i o k : ℕ) → child_of nodes i o ≡ Some k → (n : NodeFacts) × (slice_get nodes k ≡ Some n) × (n.birth ≡ Some (record { parent = i; ordinal = o }))
+pub child_born : (nodes : List NodeFacts) (i o k : ℕ) → child_of nodes i o ≡ Some k → (n : NodeFacts) × (slice_get nodes k ≡ Some n) × (n.birth ≡ Some (record { parent = i; ordinal = o }))
 child_born [] i o k found = absurd (cc)
 child_born (d ∷ nodes) i o k found =
     let (within, passes, _) = position-Some (is_child i o) (d ∷ nodes) k d found in

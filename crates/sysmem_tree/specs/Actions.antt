@@ -1,7 +1,8 @@
--- The table of actions, a line each: which nodes allow it, what it makes of its node, and what it makes beside it.
+-- The table of actions: which nodes allow each, what it makes of its node, whether it makes a token beside it, and whether it leaves its
+-- node gone.
 use Rattle.std.specs.Prelude.{◌+◌, Bool, true, false, ◌&&◌, not}
 use Rattle.sysmem_tree.specs.declared.node.Kind.TheVariants.{Collection}
-use Rattle.sysmem_tree.specs.Deed.{Deed, duplicates, binds, states, releases, closes}
+use Rattle.sysmem_tree.specs.Deed.{Deed, duplicates, binds, sets, releases, closes}
 use Rattle.sysmem_tree.specs.Node.{NodeFacts, is_collection}
 
 abbrev pub is_open_token : NodeFacts → Bool
@@ -14,7 +15,7 @@ is_open_collection n = n.is_open && is_collection n.kind
 abbrev pub allows : Deed → NodeFacts → Bool
 allows duplicates n = is_open_token n
 allows binds n = is_open_token n
-allows (states asked) n = is_open_collection n && not n.is_set
+allows (sets asked) n = is_open_collection n && not n.is_set
 allows releases n = n.is_open
 allows closes n = n.is_open
 
@@ -22,7 +23,7 @@ allows closes n = n.is_open
 abbrev pub acted : Deed → NodeFacts → NodeFacts
 acted duplicates n = record n { children = n.children + 1 }
 acted binds n = record n { kind = Collection }
-acted (states asked) n = record n { is_set = true; constraints = asked }
+acted (sets asked) n = record n { is_set = true; constraints = asked }
 acted releases n = record n { is_open = false }
 acted closes n = record n { is_open = false }
 

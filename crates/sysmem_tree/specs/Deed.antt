@@ -9,7 +9,7 @@ use Rattle.sysmem_tree.specs.declared.action.Action.TheVariants.{Duplicate, Bind
 pub data Deed : Type 0 where
   duplicates : Deed
   binds : Deed
-  states : Option Participant → Deed
+  sets : Option Participant → Deed
   releases : Deed
   closes : Deed
 
@@ -17,6 +17,6 @@ pub data Deed : Type 0 where
 abbrev pub deed_of : Action → Deed
 deed_of Duplicate = duplicates
 deed_of Bind = binds
-deed_of (SetConstraints shared) = states (option_map (λ one. arc_value one) shared)
+deed_of (SetConstraints shared) = sets (option_map (λ one. arc_value one) shared)
 deed_of Release = releases
 deed_of Close = closes

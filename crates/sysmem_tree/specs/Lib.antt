@@ -3,7 +3,7 @@ pub mod Deed
 pub mod Ids
 pub mod Laws
 pub mod Node
+pub mod Nodes
 pub mod Path
 pub mod Refusal
-pub mod Shape
 pub mod Tree

@@ -1,5 +1,5 @@
 -- Paths: the ordinals of children, from the root to a node.
-use Rattle.std.specs.Prelude.{ℕ, Bool, false, ◌&&◌, ◌==◌, List, [], ◌∷◌, Option, Some, None, option_and_then, position}
+use Rattle.std.specs.Prelude.{ℕ, Bool, false, ◌&&◌, ◌==◌, List, [], ◌∷◌, Option, Some, None, option_and_then, position, slice_get}
 use Rattle.sysmem_tree.specs.declared.node.Birth.{Birth}
 use Rattle.sysmem_tree.specs.Node.{NodeFacts}
 
@@ -20,6 +20,10 @@ abbrev pub led_to : List NodeFacts → ℕ → List ℕ → Option ℕ
 led_to nodes i [] = Some i
 led_to nodes i (ordinal ∷ path) = option_and_then (λ child. led_to nodes child path) (child_of nodes i ordinal)
 
--- the node at a path
+-- the node at a path, by its number
 abbrev pub node_at : List NodeFacts → List ℕ → Option ℕ
 node_at nodes path = led_to nodes 0 path
+
+-- the tree as a map from paths to nodes
+abbrev pub at_path : List NodeFacts → List ℕ → Option NodeFacts
+at_path nodes path = option_and_then (slice_get nodes) (node_at nodes path)

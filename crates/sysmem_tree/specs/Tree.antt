@@ -18,24 +18,24 @@ pub record TreeFacts : Type 0 where
 abbrev pub first_tree : TreeFacts
 first_tree = record { nodes = new_token None ∷ []; fate = fates.Undecided }
 
--- a domain that refuses its nodes' actions
+-- its nodes' actions are refused, but for release and close: it failed, or was decided and no settings were chosen
+abbrev pub refuses_actions : Fate → Bool
+refuses_actions fates.Failed = true
+refuses_actions fates.NoneChosen = true
+refuses_actions _ = false
+
+-- the domain failed: a node was closed before it was ready
 abbrev pub has_failed : Fate → Bool
 has_failed fates.Failed = true
-has_failed fates.NoneChosen = true
 has_failed _ = false
-
--- a domain in which a node was closed too early
-abbrev pub is_closed : Fate → Bool
-is_closed fates.Failed = true
-is_closed _ = false
 
 -- the domain is ready: nothing more waits on any of its nodes, and it hasn't failed
 abbrev pub is_ready : TreeFacts → Bool
-is_ready t = list_all is_complete t.nodes && not (is_closed t.fate)
+is_ready t = list_all is_complete t.nodes && not (has_failed t.fate)
 
--- a failed domain refuses every action that doesn't end a node
+-- such a domain refuses every action that doesn't end a node
 abbrev pub is_barred : Fate → Deed → Bool
-is_barred fate deed = has_failed fate && not (ends_node deed)
+is_barred fate deed = refuses_actions fate && not (ends_node deed)
 
 -- the token that an action on node i makes
 abbrev pub made_by : Deed → ℕ → NodeFacts → List NodeFacts
@@ -45,7 +45,7 @@ made_by deed i n = if makes_token deed then new_token (Some (record { parent = i
 abbrev pub has_room : List NodeFacts → Deed → Bool
 has_room nodes deed = not (makes_token deed) || nat_le (length nodes + 1) 128
 
--- a close of a domain that isn't ready yet fails it
+-- what becomes of the domain by an action: a close fails it where it isn't ready yet; nothing else changes it
 abbrev pub fate_after : TreeFacts → Deed → Fate
 fate_after t closes = if is_ready t then t.fate else fates.Failed
 fate_after t _ = t.fate

@@ -11,15 +11,15 @@ use sysmem_sanitise::Constraints;
 /// What is done to a node.
 #[derive(Debug, Drop)]
 pub enum Action {
-    /// An open token makes a further token, its last child.
+    /// An open token makes a further open token, its last child.
     Duplicate,
     /// An open token becomes an open collection.
     Bind,
-    /// An open collection sets its constraints, once, or sets that it has none.
+    /// An open collection that isn't set yet is set, with these constraints or, by `None`, without any.
     SetConstraints(Option<Arc<Constraints>>),
     /// An open token or collection is gone.
     Release,
-    /// The same; where the domain isn't ready yet, it fails.
+    /// An open token or collection is gone; where its domain isn't ready yet, the domain fails.
     Close,
 }
 
@@ -39,9 +39,11 @@ impl Action {
     }
 }
 
-/// An action on a node.
+/// An action on a node. A node that the tree doesn't have is answered with `WrongState`.
 #[derive(Debug, Drop)]
 pub struct Event {
+    /// The node that is acted on.
     pub node: NodeId,
+    /// What is done to it.
     pub action: Action,
 }

@@ -9,24 +9,24 @@ pub enum Fate {
     Failed,
     /// It was decided, and settings were chosen.
     Chosen,
-    /// It was decided, and none were chosen.
+    /// It was decided, and no settings were chosen, whatever the reason.
     NoneChosen,
 }
 
 impl Fate {
     ghost use Rattle.std.specs.Prelude.{◌≡◌};
-    ghost use Rattle.sysmem_tree.specs.Tree.{has_failed, is_closed};
+    ghost use Rattle.sysmem_tree.specs.Tree.{refuses_actions, has_failed};
 
-    /// Whether the domain refuses its nodes' actions: it failed, or none were chosen.
-    pub(crate) fn has_failed(self) -> bool
-        ensures { result ≡ has_failed self }
+    /// Whether the domain refuses its nodes' actions, but for release and close: it failed, or no settings were chosen.
+    pub(crate) fn refuses_actions(self) -> bool
+        ensures { result ≡ refuses_actions self }
     {
         matches!(self, Fate::Failed | Fate::NoneChosen)
     }
 
-    /// Whether a node was closed too early.
-    pub(crate) fn is_closed(self) -> bool
-        ensures { result ≡ is_closed self }
+    /// Whether the domain failed: a node was closed before it was ready.
+    pub(crate) fn has_failed(self) -> bool
+        ensures { result ≡ has_failed self }
     {
         matches!(self, Fate::Failed)
     }

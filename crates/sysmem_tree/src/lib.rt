@@ -22,7 +22,6 @@ mod tree;
 pub use action::{Action, Event};
 pub use fate::Fate;
 pub use id::{DomainId, NodeId};
-pub use node::Kind;
 pub use path::Path;
 pub use refusal::Refusal;
 pub use tree::{MOST_NODES, Tree};

@@ -24,7 +24,7 @@ pub enum Kind {
 #[derive(Clone, Copy, Debug, PartialEq, Eq)]
 pub(crate) struct Birth {
     pub(crate) parent: usize,
-    pub(crate) ordinal: u8,
+    pub(crate) ordinal: u32,
 }
 
 /// A node. One that is gone stays in the tree, with its children and the constraints that it set.
@@ -35,7 +35,7 @@ pub(crate) struct Node {
     pub(crate) is_open: bool,
     pub(crate) is_set: bool,
     pub(crate) constraints: Option<Arc<Constraints>>,
-    pub(crate) children: u8,
+    pub(crate) children: u32,
 }
 
 impl Model for Node {
@@ -56,7 +56,7 @@ impl Model for Node {
 }
 
 impl Node {
-    /// An open token without children.
+    /// An open token without children, that is this child of this node; the root is `None`'s.
     pub(crate) fn token(birth: Option<Birth>) -> Node
         ensures { result ≡ new_token birth }
     {
@@ -85,7 +85,7 @@ impl Node {
     }
 
     /// Whether it is this child of this node.
-    pub(crate) fn is_child(&self, parent: usize, ordinal: u8) -> bool
+    pub(crate) fn is_child(&self, parent: usize, ordinal: u32) -> bool
         ensures { result ≡ is_child parent ordinal self.now }
     {
         match self.birth {

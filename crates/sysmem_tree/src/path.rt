@@ -8,7 +8,7 @@ use std::marker::Model;
 /// The root's path is empty.
 #[derive(Debug, Drop)]
 pub struct Path {
-    ordinals: Vec<u8>,
+    ordinals: Vec<u32>,
 }
 
 impl Model for Path {
@@ -20,15 +20,15 @@ impl Model for Path {
 }
 
 impl Path {
-    /// The path of these ordinals, from the root on.
-    pub fn new(ordinals: Vec<u8>) -> Path
+    /// The path of these ordinals, from the root on. Any list is a path; whether a node is there is the tree's matter.
+    pub fn new(ordinals: Vec<u32>) -> Path
         ensures { result ≡ ordinals.items }
     {
         Path { ordinals }
     }
 
     /// Which child is taken at each step from the root.
-    pub fn ordinals(&self) -> &[u8]
+    pub fn ordinals(&self) -> &[u32]
         ensures { result.now ≡ self.now }
     {
         &self.ordinals

@@ -1,14 +1,14 @@
 //! Paths in a list of nodes.
 
-ghost use Rattle.std.specs.Prelude.{◌≡◌, ◌<◌, Some, length, IfOk, IfSome};
+ghost use Rattle.std.specs.Prelude.{◌≡◌, ◌<◌, ℕ, List, Some, length, IfOk, IfSome};
 ghost use Rattle.sysmem_tree.specs.Path.{child_of, node_at};
-ghost use Rattle.sysmem_tree.specs.Shape.{IsTree};
+ghost use Rattle.sysmem_tree.specs.Nodes.{IsTree};
 
 use crate::node::Node;
 use std::alloc::{AllocError, Global};
 
 /// This child of this parent.
-fn child_of(nodes: &[Node], parent: usize, ordinal: u8) -> Option<usize>
+fn child_of(nodes: &[Node], parent: usize, ordinal: u32) -> Option<usize>
     ensures child { result ≡ child_of nodes.now parent ordinal }
     ensures there { IfSome result (λ number. number < length nodes.now) }
 {
@@ -16,7 +16,7 @@ fn child_of(nodes: &[Node], parent: usize, ordinal: u8) -> Option<usize>
 }
 
 /// The node at a path from the first node.
-pub(crate) fn node_at(nodes: &[Node], path: &[u8]) -> Option<usize>
+pub(crate) fn node_at(nodes: &[Node], path: &[u32]) -> Option<usize>
     requires { 0 < length nodes.now }
     ensures node { result ≡ node_at nodes.now path.now }
     ensures there { IfSome result (λ number. number < length nodes.now) }
@@ -29,10 +29,11 @@ pub(crate) fn node_at(nodes: &[Node], path: &[u8]) -> Option<usize>
 }
 
 /// The path to a node from the first one.
-pub(crate) fn path_to(alloc: Global, nodes: &[Node], node: usize) -> Result<Vec<u8>, AllocError>
+pub(crate) fn path_to(alloc: Global, nodes: &[Node], node: usize) -> Result<Vec<u32>, AllocError>
     requires tree { IsTree nodes.now }
     requires there { node < length nodes.now }
-    ensures { IfOk result (λ path. node_at nodes.now path.items ≡ Some node) }
+    ensures leads { IfOk result (λ path. node_at nodes.now path.items ≡ Some node) }
+    ensures only { IfOk result (λ path. (other : List ℕ) → node_at nodes.now other ≡ Some node → other ≡ path.items) }
 {
     let mut path = Vec::new(alloc);
     let mut number = node;

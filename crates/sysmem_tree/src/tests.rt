@@ -45,7 +45,7 @@ fn act(
 }
 
 // The node at a path that is there.
-fn at(alloc: Global, tree: &Tree, path: &[u8]) -> Result<NodeId, Fail>
+fn at(alloc: Global, tree: &Tree, path: &[u32]) -> Result<NodeId, Fail>
     ensures { IfOk result (λ node. HasNode tree.now node) }
 {
     let mut ordinals = Vec::new(alloc);
@@ -61,7 +61,7 @@ fn play(
     alloc: Global,
     rt: &impl Abort,
     tree: &mut Tree,
-    steps: &[(&[u8], Deed, Option<Refusal>)],
+    steps: &[(&[u32], Deed, Option<Refusal>)],
 ) -> Result<(), Fail> {
     for (path, deed, wanted) in steps {
         let node = at(alloc, tree, path)?;
@@ -193,6 +193,7 @@ fn after_a_decision(rt: HostRuntime) -> Result<(), Fail> {
             &mut tree,
             &[(&[], Deed::SetNone, Some(wanted)), (&[], Deed::Close, None)],
         )?;
+        assert_eq!(rt; tree.fate(domain), fate);
     }
     Ok(())
 }
@@ -280,4 +281,40 @@ fn refusals_as_reports_print_them(rt: HostRuntime) {
     assert_eq!(rt; Refusal::DomainFailed.name(), "E6 DomainFailed");
     assert_eq!(rt; Refusal::WrongState.name(), "E2 WrongState");
     assert_eq!(rt; Refusal::TooManyNodes.name(), "E3 TooManyNodes");
+}
+
+#[test]
+fn a_node_of_a_larger_tree_is_not_there(rt: HostRuntime) -> Result<(), Fail> {
+    let mut larger = Tree::new(rt.alloc())?;
+    let root = larger.root();
+    let Ok(there) = act(rt.alloc(), &mut larger, root, Deed::Duplicate)? else {
+        return Err(Fail::new("the token is refused"));
+    };
+    let mut tree = Tree::new(rt.alloc())?;
+    for _ in 0..2 {
+        for deed in [Deed::Duplicate, Deed::SetCpu, Deed::Release, Deed::Close] {
+            let reply = act(rt.alloc(), &mut tree, there, deed)?;
+            assert_eq!(rt; reply.err(), Some(Refusal::WrongState));
+        }
+        let _closed = act(rt.alloc(), &mut tree, root, Deed::Close)?;
+    }
+    Ok(())
+}
+
+#[test]
+fn a_failed_domain_refuses_before_a_full_tree(rt: HostRuntime) -> Result<(), Fail> {
+    let mut tree = Tree::new(rt.alloc())?;
+    let root = tree.root();
+    for _ in 0..127 {
+        assert!(rt; act(rt.alloc(), &mut tree, root, Deed::Duplicate)?.is_ok());
+    }
+    play(
+        rt.alloc(),
+        &rt,
+        &mut tree,
+        &[
+            (&[0], Deed::Close, None),
+            (&[], Deed::Duplicate, Some(Refusal::DomainFailed)),
+        ],
+    )
 }

@@ -1,14 +1,14 @@
 //! The tree of a collection.
 
-ghost use Rattle.std.specs.Prelude.{◌≡◌, ◌<◌, ◌≤◌, [], true, Some, None, Ok, Err, length, is_some, option_map, slice_get, IfOk, IfErr, IfSome, OnErr};
+ghost use Rattle.std.specs.Prelude.{◌≡◌, ℕ, List, ◌<◌, ◌≤◌, [], true, Some, None, Ok, Err, length, is_some, option_map, slice_get, IfOk, IfErr, IfSome, OnErr};
 ghost use Rattle.std.specs.Result.{result_err};
 ghost use Rattle.sysmem_tree.specs.Deed.{deed_of};
-ghost use Rattle.sysmem_tree.specs.Ids.{HasDomain, HasNode, number_of};
+ghost use Rattle.sysmem_tree.specs.Ids.{HasDomain, HasNode};
 ghost use Rattle.sysmem_tree.specs.Path.{node_at};
 ghost use Rattle.std.specs.List.{list_all};
 ghost use Rattle.std.specs.Vec.{vec_capacity};
 ghost use Rattle.sysmem_tree.specs.Node.{is_complete};
-ghost use Rattle.sysmem_tree.specs.Shape.{IsTree};
+ghost use Rattle.sysmem_tree.specs.Nodes.{IsTree};
 ghost use Rattle.sysmem_tree.specs.Tree.{applied, fate_after, fate_by, first_tree, has_room, is_ready, node_after, nodes_after};
 
 use crate::action::{Action, Event};
@@ -36,7 +36,7 @@ pub struct Tree {
 impl Model for Tree {
     ghost use Rattle.std.specs.Prelude.{◌≤◌};
     ghost use Rattle.std.specs.Vec.{vec_capacity};
-    ghost use Rattle.sysmem_tree.specs.Shape.{IsTree};
+    ghost use Rattle.sysmem_tree.specs.Nodes.{IsTree};
     ghost use Rattle.sysmem_tree.specs.Tree.{TreeFacts};
 
     ghost Value = { TreeFacts };
@@ -47,7 +47,8 @@ impl Model for Tree {
 }
 
 impl Tree {
-    /// The tree of an open root token. It takes all the memory that the tree will need.
+    /// The tree of an open root token, undecided. It reserves room for 128 nodes, so that no action takes memory. Where memory is
+    /// refused it answers `AllocError`.
     pub fn new(alloc: Global) -> Result<Tree, AllocError>
         ensures { IfOk result (λ tree. tree ≡ first_tree) }
     {
@@ -61,26 +62,27 @@ impl Tree {
 
     /// The root.
     pub fn root(&self) -> NodeId
-        ensures number { number_of result ≡ 0 }
+        ensures number { result ≡ 0 }
         ensures there { HasNode self.now result }
     {
         let _ = &self.nodes;
         NodeId(0)
     }
 
-    /// How many nodes were made, 1 to 128.
+    /// How many nodes were made, those that are gone included: 1 to 128.
     pub fn nodes(&self) -> u32
         ensures number { result ≡ length self.now.nodes }
         ensures some { 1 ≤ result }
         ensures few { result ≤ 128 }
+        ensures tree { IsTree self.now.nodes }
     {
         self.nodes.len() as u32
     }
 
     /// The node at a path; `None` where the tree has none there.
     pub fn node_at(&self, path: &Path) -> Option<NodeId>
-        ensures node { option_map number_of result ≡ node_at self.now.nodes path.now }
-        ensures there { IfSome result (λ node. HasNode self.now node) }
+        ensures node { result ≡ node_at self.now.nodes path.now }
+        ensures there { IfSome result (HasNode self.now) }
     {
         let number = node_at(&self.nodes, path.ordinals())?;
         Some(NodeId(number))
@@ -89,15 +91,15 @@ impl Tree {
     /// Whether a node of the tree is open, that is, not gone.
     pub fn is_open(&self, node: NodeId) -> bool
         requires { HasNode self.now node }
-        ensures { IfSome (slice_get self.now.nodes (number_of node)) (λ n. result ≡ n.is_open) }
+        ensures { IfSome (slice_get self.now.nodes node) (λ n. result ≡ n.is_open) }
     {
         self.nodes[node.0].is_open
     }
 
-    /// The constraints that a node of the tree set, if any. A node that is gone keeps them.
+    /// The constraints that a node of the tree set; `None` where it set none or isn't set. A node that is gone keeps them.
     pub fn constraints_of(&self, node: NodeId) -> Option<&Constraints>
         requires { HasNode self.now node }
-        ensures { IfSome (slice_get self.now.nodes (number_of node))
+        ensures { IfSome (slice_get self.now.nodes node)
             (λ n. option_map (λ asked. asked.now) result ≡ n.constraints) }
     {
         match &self.nodes[node.0].constraints {
@@ -111,11 +113,11 @@ impl Tree {
         requires { HasNode self.now node }
         ensures { HasDomain self.now result }
     {
-        DomainId(self.root())
+        DomainId(0)
     }
 
-    /// Whether a domain of the tree is ready for a decision, or was when it was decided: nothing more waits on any of its nodes,
-    /// and it hasn't failed.
+    /// Whether nothing more waits on any node of a domain of the tree, and it hasn't failed. A decision, whatever was chosen, doesn't
+    /// change that.
     pub fn ready(&self, domain: DomainId) -> bool
         requires { HasDomain self.now domain }
         ensures { result ≡ is_ready self.now }
@@ -123,16 +125,18 @@ impl Tree {
         self.is_ready()
     }
 
-    /// The path of a node of the tree.
+    /// The path of a node of the tree, in memory of the tree's allocator; `AllocError` where that is refused.
     pub fn path_of(&self, node: NodeId) -> Result<Path, AllocError>
         requires { HasNode self.now node }
-        ensures { IfOk result (λ path. node_at self.now.nodes path ≡ Some (number_of node)) }
+        ensures leads { IfOk result (λ path. node_at self.now.nodes path ≡ Some node) }
+        ensures only { IfOk result (λ path. (other : List ℕ) → node_at self.now.nodes other ≡ Some node → other ≡ path) }
     {
         let ordinals = path_to(*self.nodes.allocator(), &self.nodes, node.0)?;
         Ok(Path::new(ordinals))
     }
 
-    /// A copy that is equal to this tree, in memory of its own; it shares the constraints.
+    /// A copy that is equal to this tree, in memory of the same allocator, with room for 128 nodes; it shares the constraints.
+    /// `AllocError` where memory is refused.
     pub fn copy(&self) -> Result<Tree, AllocError>
         ensures { IfOk result (λ copy. copy ≡ self.now) }
     {
@@ -151,8 +155,8 @@ impl Tree {
         self.fate
     }
 
-    /// Enters the decision of a domain that is ready and was not decided yet: the choices of the selection that was chosen, or that none
-    /// was. There are no groups to choose from, so there are no choices.
+    /// Enters the decision of a domain of the tree that is ready and undecided: `Some` with the choices of the selection that was
+    /// chosen, `None` where none was. There are no groups to choose from, so the choices are empty.
     pub fn decided(&mut self, domain: DomainId, choices: Option<&[u8]>)
         requires domain { HasDomain self.old domain }
         requires ready { is_ready self.old ≡ true }
@@ -166,13 +170,14 @@ impl Tree {
         };
     }
 
-    /// Makes an action on a node. It answers the node that was made, or else the node itself; or the first refusal in their order.
+    /// Makes an action on a node, and answers the node that was made, or else the node itself; or the first refusal, in the order of
+    /// `Refusal`, and then nothing has changed. It takes no memory.
     pub fn apply(&mut self, event: Event) -> Result<NodeId, Refusal>
-        ensures accepted { IfOk result (λ node. applied self.old (number_of event.node) (deed_of event.action)
-            ≡ Ok (record { tree = self.new; node = number_of node })) }
-        ensures refused { IfErr result (λ refusal. applied self.old (number_of event.node) (deed_of event.action) ≡ Err refusal) }
+        ensures accepted { IfOk result (λ node. applied self.old event.node (deed_of event.action)
+            ≡ Ok (record { tree = self.new; node = node })) }
+        ensures refused { IfErr result (λ refusal. applied self.old event.node (deed_of event.action) ≡ Err refusal) }
         ensures unchanged { OnErr result (self.new ≡ self.old) }
-        ensures there { IfOk result (λ node. HasNode self.new node) }
+        ensures there { IfOk result (HasNode self.new) }
         ensures grows { length self.old.nodes ≤ length self.new.nodes }
     {
         let number = event.node.0;
@@ -185,7 +190,7 @@ impl Tree {
     fn is_ready(&self) -> bool
         ensures { result ≡ is_ready self.now }
     {
-        are_complete(&self.nodes) && !self.fate.is_closed()
+        are_complete(&self.nodes) && !self.fate.has_failed()
     }
 
     /// The first refusal of an action on what is this node, if there is one.
@@ -195,7 +200,7 @@ impl Tree {
         let Some(node) = self.nodes.get(number) else {
             return Some(Refusal::WrongState);
         };
-        if self.fate.has_failed() && !action.ends_node() {
+        if self.fate.refuses_actions() && !action.ends_node() {
             return Some(Refusal::DomainFailed);
         }
         if !node.allows(action) {
@@ -210,7 +215,7 @@ impl Tree {
     /// Makes an action that is not refused.
     fn enter(&mut self, number: usize, action: Action) -> NodeId
         requires { result_err (applied self.old number (deed_of action)) ≡ None }
-        ensures { applied self.old number (deed_of action) ≡ Ok (record { tree = self.new; node = number_of result }) }
+        ensures { applied self.old number (deed_of action) ≡ Ok (record { tree = self.new; node = result }) }
     {
         let fate = self.fate_after(&action);
         let made = act(&mut self.nodes, number, action);

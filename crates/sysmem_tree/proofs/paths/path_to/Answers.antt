@@ -3,7 +3,7 @@ use Rattle.std.specs.Prelude.{reverse}
 use Rattle.std.proofs.lemmas.List.{reverse-append}
 use Rattle.std.proofs.lemmas.Option.{slice_get_read}
 use Rattle.sysmem_tree.specs.Path.{led_to}
-use Rattle.sysmem_tree.proofs.Ways.{led_up, root_alone}
+use Rattle.sysmem_tree.proofs.Ways.{led_up, one_path, root_alone}
 use Rattle.sysmem_tree.proofs.paths.path_to.Goals as goal
 
 pub loop-birth-smaller : goal.loop-birth-smaller
@@ -22,8 +22,11 @@ loop-birth-preserved c =
           ∙ led_up c.args.nodes.now c.loop-birth.number c.index-nodes-number.result c.in-Some.birth (reverse c.loop-birth.path.items) (Some c.args.node) c.requires.tree here is c.loop-birth.invariant.1,
     )
 
-pub returns : goal.returns
-returns c =
+pub returns-clause-leads : goal.returns-clause-leads
+returns-clause-leads c =
     let here = slice_get_read c.args.nodes.now (length c.args.nodes.now) c.loop-birth.number c.index-nodes-number.result refl c.loop-birth.invariant.0 c.index-nodes-number.is in
     let root = root_alone c.args.nodes.now c.loop-birth.number c.index-nodes-number.result c.requires.tree here (sym c.birth.ensures ∙ c.in_default.is) in
     ap (led_to c.args.nodes.now 0) c.reverse.ensures.items ∙ (ap (λ (k : ℕ). led_to c.args.nodes.now k (reverse c.loop-birth.path.items)) (sym root) ∙ c.loop-birth.invariant.1)
+
+pub returns-clause-only : goal.returns-clause-only
+returns-clause-only c other is = one_path c.args.nodes.now other c.reverse.new.self.items c.args.node c.requires.tree is (returns-clause-leads c)
