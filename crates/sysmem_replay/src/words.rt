@@ -51,7 +51,9 @@ fn replay_command<'a>(alloc: Global) -> Result<Command<'a>, AllocError>
 {
     let command = Command::new(alloc, "sysmem_replay")
         .bin_name("sysmem_replay")?
-        .about("Negotiates shared buffers for the calls of a script, by a profile of Fuchsia's sysmem")
+        .about(
+            "Negotiates shared buffers for the calls of a script, by a profile of Fuchsia's sysmem",
+        )
         .no_binary_name(true)
         .disable_help_subcommand(true)
         .subcommand_required(true);
