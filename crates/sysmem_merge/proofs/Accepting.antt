@@ -13,7 +13,7 @@ use Rattle.sysmem_image.specs.Bounds.{IsTighter, IsFirstFailing}
 use Rattle.sysmem_image.specs.Entries.{effective, first_match, takes_colour}
 use Rattle.sysmem_memory.specs.Heap.{HeapFacts}
 use Rattle.sysmem_memory.specs.PlaceTable.{AllowsPlace}
-use Rattle.sysmem_merge.specs.declared.settings.Settings.{Settings as Settled}
+use Rattle.sysmem_merge.specs.declared.settings.Settings.{Settings}
 use Rattle.sysmem_merge.specs.Demands.{OfferDemand, offer_demand}
 use Rattle.sysmem_merge.specs.Offers.{AcceptsOffer}
 use Rattle.sysmem_merge.specs.Settings.{CoversOn}
@@ -54,7 +54,7 @@ accepts_entry o b d entry r none found takes is kept failing = let exact = none_
 )
 
 -- what a participant accepts makes it accept settings
-pub covers_when : (platform : PlatformFacts) (s : Settled) (p : Participant) (heap : HeapFacts) → slice_get platform.heaps s.place.heap ≡ Some heap
+pub covers_when : (platform : PlatformFacts) (s : Settings) (p : Participant) (heap : HeapFacts) → slice_get platform.heaps s.place.heap ≡ Some heap
     → AllowsPlace p.memory p.usage heap s.place.coherency → (p.memory.min_size_bytes ≤ s.size_bytes) × (s.size_bytes ≤ p.memory.max_size_bytes)
     → AcceptsOffer s.offer s.bounds (offer_demand p) → CoversOn platform s p
 covers_when platform s p heap here place size offer = record {
@@ -64,13 +64,13 @@ covers_when platform s p heap here place size offer = record {
 }
 
 -- and the other way round
-pub covers_place : (platform : PlatformFacts) (s : Settled) (p : Participant) (heap : HeapFacts) → slice_get platform.heaps s.place.heap ≡ Some heap
+pub covers_place : (platform : PlatformFacts) (s : Settings) (p : Participant) (heap : HeapFacts) → slice_get platform.heaps s.place.heap ≡ Some heap
     → CoversOn platform s p → AllowsPlace p.memory p.usage heap s.place.coherency
 covers_place platform s p heap here on =
     subst (λ h. AllowsPlace p.memory p.usage h s.place.coherency) (same_Some on.heap heap (sym on.has ∙ here)) on.covers.place
 
-pub covers_size : (platform : PlatformFacts) (s : Settled) (p : Participant) → CoversOn platform s p → (p.memory.min_size_bytes ≤ s.size_bytes) × (s.size_bytes ≤ p.memory.max_size_bytes)
+pub covers_size : (platform : PlatformFacts) (s : Settings) (p : Participant) → CoversOn platform s p → (p.memory.min_size_bytes ≤ s.size_bytes) × (s.size_bytes ≤ p.memory.max_size_bytes)
 covers_size platform s p on = (on.covers.min_size, on.covers.max_size)
 
-pub covers_offer : (platform : PlatformFacts) (s : Settled) (p : Participant) → CoversOn platform s p → AcceptsOffer s.offer s.bounds (offer_demand p)
+pub covers_offer : (platform : PlatformFacts) (s : Settings) (p : Participant) → CoversOn platform s p → AcceptsOffer s.offer s.bounds (offer_demand p)
 covers_offer platform s p on = record { format = on.covers.format; colour = on.covers.colour; bounds = on.covers.bounds }

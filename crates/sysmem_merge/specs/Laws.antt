@@ -7,7 +7,7 @@ use Rattle.sysmem_memory.specs.Heap.{HeapFacts}
 use Rattle.sysmem_memory.specs.Place.{IsPlace}
 use Rattle.sysmem_memory.specs.PlaceTable.{IsPlaceLine}
 use Rattle.sysmem_merge.specs.declared.reason.Reason.{Reason}
-use Rattle.sysmem_merge.specs.declared.settings.Settings.{Settings as Settled}
+use Rattle.sysmem_merge.specs.declared.settings.Settings.{Settings}
 use Rattle.sysmem_merge.specs.Best.{IsBest, IsUnmet}
 use Rattle.sysmem_merge.specs.Demands.{counts_asked, place_demands, offer_demands}
 use Rattle.sysmem_merge.specs.Aggregate.{StandsFor}
@@ -19,7 +19,7 @@ use Rattle.sysmem_sanitise.specs.Platform.{PlatformFacts}
 
 -- participants have at most one best settings
 abbrev pub OneBest : Type 0
-OneBest = (whole : Bool) (platform : PlatformFacts) (ps : List Participant) (a b : Settled)
+OneBest = (whole : Bool) (platform : PlatformFacts) (ps : List Participant) (a b : Settings)
     → IsBest whole platform ps a → IsBest whole platform ps b → a ≡ b
 
 -- a reason that is true of participants leaves them no settings
@@ -34,12 +34,12 @@ ReasonOfSomeLeavesNone = (whole : Bool) (platform : PlatformFacts) (some all : L
 
 -- a line that is true of some of the participants for an offer leaves no settings with that offer to all of them
 abbrev pub OfferLineLeavesNone : Type 0
-OfferLineLeavesNone = (whole : Bool) (platform : PlatformFacts) (some all : List Participant) (field : Field) (t : Settled)
+OfferLineLeavesNone = (whole : Bool) (platform : PlatformFacts) (some all : List Participant) (field : Field) (t : Settings)
     → AreSomeOf some all → IsOfferLine field t.offer (offer_demands some) → ¬ (MeetsAs whole platform all t)
 
 -- a place that a field refuses to one of some of the participants is the place of no settings for all of them
 abbrev pub PlaceLineLeavesNone : Type 0
-PlaceLineLeavesNone = (whole : Bool) (platform : PlatformFacts) (some all : List Participant) (field : Field) (heap : HeapFacts) (t : Settled)
+PlaceLineLeavesNone = (whole : Bool) (platform : PlatformFacts) (some all : List Participant) (field : Field) (heap : HeapFacts) (t : Settings)
     → AreSomeOf some all → IsPlace platform.heaps t.place heap → IsPlaceLine field heap t.place.coherency (place_demands some)
     → ¬ (MeetsAs whole platform all t)
 
@@ -50,7 +50,7 @@ CountLineLeavesNone = (whole : Bool) (platform : PlatformFacts) (some all : List
 
 -- settings that meet participants meet some of them, but for the names
 abbrev pub SomeAreMet : Type 0
-SomeAreMet = (platform : PlatformFacts) (some all : List Participant) (t : Settled)
+SomeAreMet = (platform : PlatformFacts) (some all : List Participant) (t : Settings)
     → AreSomeOf some all → MeetsLoosely platform all t → MeetsLoosely platform some t
 
 -- where no settings meet some of the participants, whatever is named, none meet all of them
@@ -60,7 +60,7 @@ UnmetBySome = (whole : Bool) (platform : PlatformFacts) (some all : List Partici
 
 -- what none of the participants names leaves no settings with that offer to them
 abbrev pub UnnamedLineLeavesNone : Type 0
-UnnamedLineLeavesNone = (platform : PlatformFacts) (ps : List Participant) (field : Field) (t : Settled)
+UnnamedLineLeavesNone = (platform : PlatformFacts) (ps : List Participant) (field : Field) (t : Settings)
     → IsUnnamedLine field t.offer (offer_demands ps) → ¬ (Meets platform ps t)
 
 -- what stands for participants stands for them in any order
