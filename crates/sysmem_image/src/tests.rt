@@ -10,12 +10,14 @@ fn offer(format: PixelFormat, modifier: Modifier) -> Offer {
 
 /// An entry of a format that asks for nothing else.
 fn entry(format: PixelFormat) -> Entry {
+    let mut asked = ImageBounds::of(&Offer::NoImage);
+    asked.bytes_per_row_divisor = 1;
     Entry {
         format: Some(format),
         modifier: Some(Modifier::Linear),
         colours: ColourSet::new(),
         bounds: EntryBounds {
-            asked: ImageBounds::of(&Offer::NoImage),
+            asked,
             at_pixel_boundary: false,
         },
     }
