@@ -1,15 +1,20 @@
 -- What is true of settings, whoever works them out.
-use Rattle.std.specs.Prelude.{◌≡◌, ◌++◌, List, All, Bool, false, Contains, IsPermutation}
+use Rattle.std.specs.Prelude.{◌≡◌, ◌≤◌, ◌++◌, List, All, Bool, false, Contains, IsPermutation}
 use Rattle.sysmem_counts.specs.Counts.{IsCountLine}
 use Rattle.sysmem_counts.specs.Sublist.{IsSublist}
 use Rattle.sysmem_counts.specs.declared.field.Field.{Field}
+use Rattle.sysmem_counts.specs.declared.field.Field.TheVariants.{MaxSizeBytes}
+use Rattle.sysmem_image.specs.Lines.{KeepsCorner}
 use Rattle.sysmem_memory.specs.Heap.{HeapFacts}
 use Rattle.sysmem_memory.specs.Place.{IsPlace}
 use Rattle.sysmem_memory.specs.PlaceTable.{IsPlaceLine}
 use Rattle.sysmem_merge.specs.declared.reason.Reason.{Reason}
 use Rattle.sysmem_merge.specs.declared.settings.Settings.{Settings as Settled}
 use Rattle.sysmem_merge.specs.Best.{IsBest, IsUnmet}
-use Rattle.sysmem_merge.specs.Demands.{counts_asked, place_demands, offer_demands}
+use Rattle.sysmem_merge.specs.declared.fit.Fit.{Fit}
+use Rattle.sysmem_merge.specs.Fit.{IsSoundFit}
+use Rattle.sysmem_merge.specs.Offers.{bounds_asked}
+use Rattle.sysmem_merge.specs.Demands.{OfferDemand, counts_asked, place_demands, offer_demands}
 use Rattle.sysmem_merge.specs.Reasons.{IsOfferLine, IsReason}
 use Rattle.sysmem_merge.specs.Settings.{MeetsAs}
 use Rattle.sysmem_sanitise.specs.Participant.{Participant}
@@ -45,3 +50,8 @@ PlaceLineLeavesNone = (whole : Bool) (platform : PlatformFacts) (some all : List
 abbrev pub CountLineLeavesNone : Type 0
 CountLineLeavesNone = (whole : Bool) (platform : PlatformFacts) (some others all : List Participant) (field : Field)
     → IsPermutation (some ++ others) all → IsCountLine field (counts_asked some) → IsUnmet whole platform all
+
+-- the size's line that is true of participants leaves them no size, with bounds that keep to theirs in the fields that it reads
+abbrev pub SizeLineHolds : Type 0
+SizeLineHolds = (t : Fit) (ds : List OfferDemand) → IsOfferLine MaxSizeBytes t.offer ds → IsSoundFit t
+    → All (KeepsCorner t.bounds) (bounds_asked t.offer ds) → All (λ d. d.min_size_bytes ≤ t.size_bytes) ds → All (λ d. t.size_bytes ≤ d.max_size_bytes) ds → ⊥

@@ -1,7 +1,7 @@
 //! What is true of settings, whoever works them out.
 
 ghost use Rattle.sysmem_merge.specs.Laws.{OneBest, ReasonLeavesNone, ReasonOfSomeLeavesNone};
-ghost use Rattle.sysmem_merge.specs.Laws.{OfferLineLeavesNone, PlaceLineLeavesNone, CountLineLeavesNone};
+ghost use Rattle.sysmem_merge.specs.Laws.{OfferLineLeavesNone, PlaceLineLeavesNone, CountLineLeavesNone, SizeLineHolds};
 
 /// Participants have at most one best settings.
 pub fn one_best()
@@ -30,4 +30,10 @@ pub fn place_line_leaves_none()
 /// A count line that is true of some of the participants leaves no settings to all of them, whatever their order.
 pub fn count_line_leaves_none()
     ensures { CountLineLeavesNone }
+{}
+
+/// A true line of `max_size_bytes` leaves the participants no size, with bounds that keep to theirs in the fields that it
+/// reads.
+pub fn size_line_holds()
+    ensures { SizeLineHolds }
 {}
