@@ -1,5 +1,6 @@
 -- Which numbers of buffers suit participants.
 use Rattle.std.proofs.Common.{arith, ℕ, ◌≡◌, ◌≤◌, ◌<◌, ◌+◌, ◌^◌, max, min, List, [], ◌∷◌, ◌++◌, All, refl, ap}
+use Rattle.list_lemmas.proofs.CallerLemmas.{Any-not_All}
 use Rattle.std.proofs.lemmas.List.Elements.{All-push}
 use Rattle.std.proofs.lemmas.List.Sums.{sum_by_push}
 use Rattle.sysmem_counts.specs.Bounds.{StandsFor}
@@ -9,7 +10,7 @@ use Rattle.sysmem_counts.specs.Tally.{Tally}
 use Rattle.sysmem_counts.specs.declared.constraints.CountConstraints.{CountConstraints}
 use Rattle.sysmem_counts.specs.declared.field.Field.{Field}
 use Rattle.sysmem_counts.specs.declared.field.Field.TheVariants.{MaxBufferCount, BufferCountLimit}
-use Rattle.sysmem_counts.proofs.Lists.{greatest-push, least-push, greatest_within, within_greatest, above_least, one_below_any, Any-not_All, sum_some, greatest_some, All-some}
+use Rattle.sysmem_counts.proofs.Lists.{greatest-push, least-push, greatest_within, within_greatest, above_least, one_below_any, sum_some, greatest_some, All-some}
 
 -- no number below what is needed suits
 pub needed_le : (ps : List CountConstraints) (count : ℕ) → IsCounted ps count → needed ps ≤ count

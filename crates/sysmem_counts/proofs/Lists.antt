@@ -1,9 +1,9 @@
 -- The greatest, the least, and some of a list.
-use Rattle.std.proofs.Common.{arith, ℕ, zero, suc, ◌≡◌, ◌≤◌, ◌<◌, ◌^◌, max, min, List, [], ◌∷◌, ◌++◌, refl, All, Any, sum_by, ◌⊎◌, inl, inr, subst}
+use Rattle.std.proofs.Common.{arith, ℕ, zero, suc, ◌≡◌, ◌≤◌, ◌<◌, ◌^◌, max, min, List, [], ◌∷◌, ◌++◌, refl, All, Any, sum_by, ◌⊎◌, inl, inr}
 use Rattle.std.proofs.lemmas.List.Elements.{All-nil, All-cons, All-head, All-tail}
 use Rattle.std.proofs.lemmas.List.Recursion.{max_push}
 use Rattle.std.proofs.lemmas.List.Sums.{sum_by-cons}
-use Rattle.std.proofs.lemmas.Grind.{common_steps}
+use Rattle.list_lemmas.proofs.CallerLemmas.{Any-here, Any-later}
 use Rattle.sysmem_counts.specs.Bounds.{least}
 use Rattle.sysmem_counts.specs.Counts.{greatest}
 use Rattle.sysmem_counts.specs.Sublist.{IsSublist, ended, taken, left_out}
@@ -32,14 +32,6 @@ pub above_least : {X : Type 0} (f : X → ℕ) (m : ℕ) (xs : List X) → m ≤
 above_least f m [] bound = All-nil (λ x. m ≤ f x)
 above_least f m (x ∷ xs) bound = All-cons (λ x. m ≤ f x) x xs (omega (arith, bound)) (above_least f m xs (omega (arith, bound)))
 
--- the first element
-Any-here : {X : Type 0} (P : X → Type 0) (x : X) (xs : List X) → P x → Any P (x ∷ xs)
-Any-here P x xs p = (0, x, grind (arith, common_steps), refl, p)
-
--- one of the others
-Any-later : {X : Type 0} (P : X → Type 0) (x : X) (xs : List X) → Any P xs → Any P (x ∷ xs)
-Any-later P x xs (k, y, below, is, p) = (suc k, y, grind (arith, common_steps, below), is, p)
-
 split : (a b : ℕ) → (a ≤ b) ⊎ (b < a)
 split zero b = inl (omega arith)
 split (suc a) zero = inr (omega arith)
@@ -52,10 +44,6 @@ one_below f m (x ∷ xs) small below = elim (split m (f x)) [
   | inl high ↦ Any-later (λ x. f x < m) x xs (one_below f m xs small (omega (arith, below, high)))
   | inr low ↦ Any-here (λ x. f x < m) x xs low
 ]
-
--- no element has what each one lacks
-pub Any-not_All : {X : Type 0} (P Q : X → Type 0) (xs : List X) → ((x : X) → P x → Q x → ⊥) → Any P xs → All Q xs → ⊥
-Any-not_All P Q xs clash (k, x, below, is, p) all = clash x p (subst Q is (all k x below))
 
 -- and any number above the least is above one of them, where there are some and each is of 32 bits
 pub one_below_any : {X : Type 0} (f : X → ℕ) (m : ℕ) (x : X) (xs : List X) → All (λ y. f y < 2 ^ 32) (x ∷ xs) → least f (x ∷ xs) < m → Any (λ y. f y < m) (x ∷ xs)

@@ -1,4 +1,4 @@
 pub mod FirstRefusing
 pub mod LawProofs
 pub mod Left
-pub mod Lists
+pub mod CallerLemmas

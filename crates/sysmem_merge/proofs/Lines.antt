@@ -1,7 +1,7 @@
 -- A true line of some participants leaves no fit that meets all of them.
 use Rattle.std.proofs.Common.{◌≡◌, ◌≤◌, false, List, All, sym, subst}
 use Rattle.std.proofs.lemmas.List.Elements.{All-weaker}
-use Rattle.sysmem_counts.proofs.Lists.{Any-not_All}
+use Rattle.list_lemmas.proofs.CallerLemmas.{Any-not_All}
 use Rattle.sysmem_counts.specs.declared.field.Field.{Field}
 use Rattle.sysmem_counts.specs.declared.field.Field.TheVariants.{PixelFormat, ColorSpaces, MaxSizeBytes, SizeAlignment, BytesPerRowDivisor, StartOffsetDivisor, DisplayRectAlignment, RequiredMinSize, MaxSize, MaxBytesPerRow}
 use Rattle.sysmem_formats.specs.declared.offer.Offer.{Offer}

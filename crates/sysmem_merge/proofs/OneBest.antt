@@ -17,7 +17,7 @@ use Rattle.sysmem_image.specs.declared.bounds.ImageBounds.{ImageBounds}
 use Rattle.sysmem_image.specs.declared.size.Size.{Size}
 use Rattle.sysmem_image.specs.Bounds.{IsTighter}
 use Rattle.sysmem_image.specs.Size.{IsSizeUpTo, DividesSize}
-use Rattle.sysmem_memory.proofs.LawProofs.{places_are_in_one_order}
+use Rattle.sysmem_memory.proofs.CallerLemmas.{places_are_in_one_order}
 use Rattle.sysmem_merge.specs.contracts.settings.Settings.{the_type as settings_type}
 use Rattle.sysmem_merge.specs.Best.{IsEarlierOffer, IsNoBetter}
 use Rattle.sysmem_merge.specs.Laws.{OneBest}

@@ -4,8 +4,7 @@ use Rattle.std.proofs.lemmas.List.Elements.{All-contains, All-map, All-weaker}
 use Rattle.std.proofs.lemmas.List.Sorted.{All-permutation, IsPermutation-map, IsPermutation-sym, sum_by-IsPermutation}
 use Rattle.std.proofs.lemmas.Option.{same_Some}
 use Rattle.std.specs.List.Sorted.{IsPermutation}
-use Rattle.sysmem_counts.proofs.Counts.{line_of_some}
-use Rattle.sysmem_counts.proofs.Lists.{greatest_within, within_greatest}
+use Rattle.sysmem_counts.proofs.CallerLemmas.{line_of_some, greatest_within, within_greatest}
 use Rattle.sysmem_counts.specs.Counts.{IsCounted, greatest, own_buffers}
 use Rattle.sysmem_counts.specs.Sublist.{IsSublist, ended, taken, left_out}
 use Rattle.sysmem_counts.specs.declared.constraints.CountConstraints.{CountConstraints}

@@ -1,8 +1,7 @@
 -- A reason that is true of participants leaves no settings to them, nor to more.
 use Rattle.std.proofs.Common.{arith, ℕ, ◌<◌, inl, inr, Bool, false, List, [], ◌∷◌, map, refl}
 use Rattle.std.proofs.lemmas.List.Elements.{All-map, All-weaker}
-use Rattle.sysmem_counts.proofs.Counts.{line_sound, line_of_some}
-use Rattle.sysmem_counts.proofs.Lists.{All-some}
+use Rattle.sysmem_counts.proofs.CallerLemmas.{All-some, line_sound, line_of_some}
 use Rattle.sysmem_counts.specs.Counts.{IsLeastCount, IsCountLine}
 use Rattle.sysmem_counts.specs.Sublist.{IsSublist, ended, taken, left_out}
 use Rattle.sysmem_counts.specs.declared.field.Field.{Field}

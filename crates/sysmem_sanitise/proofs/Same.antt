@@ -32,7 +32,7 @@ use Rattle.sysmem_memory.specs.contracts.domain.CoherencyDomainsPartialEq.TheImp
 use Rattle.sysmem_memory.specs.declared.domain.CoherencyDomains.{CoherencyDomains}
 use Rattle.sysmem_memory.specs.Heap.{HeapFacts}
 use Rattle.sysmem_memory.specs.Wishes.{MemoryWishes}
-use Rattle.sysmem_memory.proofs.LawProofs.{same_heap_is_equal}
+use Rattle.sysmem_memory.proofs.CallerLemmas.{same_heap_is_equal}
 use Rattle.sysmem_sanitise.specs.Equal.{same_wishes, same_participant, same_heap_facts, same_platform}
 use Rattle.sysmem_sanitise.specs.Laws.{SameParticipantIsEqual, SamePlatformIsEqual}
 use Rattle.sysmem_sanitise.specs.Participant.{Participant}
