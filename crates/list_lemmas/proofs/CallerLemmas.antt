@@ -1,5 +1,5 @@
 -- Lists by index, what all or any of their elements have, what a test finds, and some of a list.
-use Rattle.std.proofs.Common.{◌≡◌, ◌≢◌, ℕ, zero, suc, ◌+◌, ◌*◌, ◌<◌, ◌≤◌, Bool, true, false, ◌&&◌, cond, List, [], ◌∷◌, ◌++◌, length, map, sum_by, All, Any, Contains, Option, Some, None, IfSome, is_some, slice_get, slice_set, refl, sym, ◌∙◌, ap, subst, arith, inl, inr}
+use Rattle.std.proofs.Common.{◌≡◌, ◌↔◌, IsTrue, nat_lt, rules, ◌≢◌, ℕ, zero, suc, ◌+◌, ◌*◌, ◌<◌, ◌≤◌, Bool, true, false, ◌&&◌, cond, List, [], ◌∷◌, ◌++◌, length, map, sum_by, All, Any, Contains, Option, Some, None, IfSome, is_some, slice_get, slice_set, refl, sym, ◌∙◌, ap, subst, arith, inl, inr}
 use Rattle.list_lemmas.specs.Some.{AreSomeOf}
 use Rattle.std.specs.List.{find, flat_map, list_all}
 use Rattle.std.specs.List.Sorted.{IsPermutation}
@@ -15,6 +15,10 @@ use Rattle.std.proofs.lemmas.Option.{slice_get_cases, slice_get_within, slice_ge
 pub and_parts : (a b : Bool) → (a && b) ≡ true → (a ≡ true) × (b ≡ true)
 and_parts true b e = (refl, e)
 and_parts false b e = cc
+
+-- where a number is below another exactly where something holds, the test of it decides that
+pub decides_below : (a b : ℕ) (P : Type 0) → (a < b) ↔ P → IsTrue (nat_lt a b) ↔ P
+decides_below a b P same = (λ t. same.0 (search (rules, t)), λ p. (let below : a < b = same.1 p in search (rules, below)))
 
 -- a list has an element at each index within it
 pub slice_get_some : {X : Type 0} (xs : List X) (i : ℕ) → i < length xs → (x : X) × (slice_get xs i ≡ Some x)

@@ -67,8 +67,7 @@ line_clash ColorSpaces t ds line sound covers =
 line_clash MaxSizeBytes t ds line sound covers = size_line_clash t ds line sound covers
 line_clash field t ds line sound covers = bounds_line_clash field t ds line sound covers
 
--- a true offer line of some of the participants leaves no fit that meets all of them
-pub line_unmet : (field : Field) (o : Offer) (qs ds : List OfferDemand) → IsOfferLine field o qs
-    → ((P : OfferDemand → Type 0) → All P ds → All P qs) → (t : Fit) → t.offer ≡ o → MeetsFit ds t → ⊥
-line_unmet field o qs ds line among t same meets =
-    line_clash field t qs (subst (λ x. IsOfferLine field x qs) (sym same) line) meets.sound (among (CoversFit t) meets.covers)
+-- a true offer line leaves no fit that meets the participants
+pub line_unmet : (field : Field) (o : Offer) (ds : List OfferDemand) → IsOfferLine field o ds → (t : Fit) → t.offer ≡ o → MeetsFit ds t → ⊥
+line_unmet field o ds line t same meets =
+    line_clash field t ds (subst (λ x. IsOfferLine field x ds) (sym same) line) meets.sound meets.covers

@@ -1,6 +1,7 @@
 -- The first fit, the first place and the least count are best together.
-use Rattle.std.proofs.Common.{ℕ, ◌≡◌, Bool, true, false, List, [], ◌∷◌, map, All, refl, subst}
-use Rattle.std.proofs.lemmas.List.Elements.{All-nil, All-cons, All-head, All-tail, All-map, All-weaker}
+use Rattle.std.proofs.Common.{ℕ, ◌≡◌, Bool, true, false, List, All, refl, subst}
+use Rattle.std.proofs.lemmas.List.Elements.{All-map, All-weaker}
+use Rattle.list_lemmas.proofs.CallerLemmas.{All-unmap}
 use Rattle.sysmem_counts.specs.Counts.{IsLeastCount, HasNoCount}
 use Rattle.sysmem_memory.proofs.CallerLemmas.{none_refuses}
 use Rattle.sysmem_memory.specs.declared.domain.CoherencyDomain.{CoherencyDomain}
@@ -18,12 +19,6 @@ use Rattle.sysmem_merge.specs.Settings.{Covers, IsNamed, MeetsLoosely, MeetsAs}
 use Rattle.sysmem_sanitise.specs.Participant.{Participant}
 use Rattle.sysmem_sanitise.specs.Platform.{PlatformFacts, offers_of}
 use Rattle.sysmem_merge.proofs.FirstFits.{refused_unmet}
-
--- what each image of a list has, each element's image has
-pub All-unmap : {X Y : Type 0} (P : Y → Type 0) (f : X → Y) (xs : List X) → All P (map f xs) → All (λ x. P (f x)) xs
-All-unmap P f [] all = All-nil (λ x. P (f x))
-All-unmap P f (x ∷ xs) all =
-    All-cons (λ x. P (f x)) x xs (All-head P (f x) (map f xs) all) (All-unmap P f xs (All-tail P (f x) (map f xs) all))
 
 -- settings that meet participants meet them but for the names
 pub loosely : (whole : Bool) (platform : PlatformFacts) (ps : List Participant) (t : Settings) → MeetsAs whole platform ps t → MeetsLoosely platform ps t
