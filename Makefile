@@ -25,6 +25,7 @@ built-test:
 	tests/reports
 	tests/refusals
 	tests/records
+	tests/run_command
 	tests/want_of_memory
 
 # Times the proved program beside the reading of the same bytes as a JSON value.

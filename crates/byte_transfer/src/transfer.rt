@@ -10,7 +10,7 @@ use std::alloc::Global;
 
 const CHUNK: usize = 4096;
 
-/// Reads to the end, or one byte further than the limit, in bytes: so bytes that are too many are told from as many as may be.
+/// Reads to the end, or to one byte more than `limit` bytes, so that a caller can tell too many.
 ///
 /// Any failure of the reader is the fault `Failed`, an interruption too, and nothing else is.
 pub fn read_up_to_limit<R: Source>(

@@ -6,8 +6,8 @@ ghost use Rattle.script_reading.specs.Script.{calls_of};
 ghost use Rattle.script_reading.specs.Seen.{call_seen};
 
 use crate::call::Call;
-use crate::known::Known;
 use crate::fault::ParseFault;
+use crate::known::Known;
 use serde_json::Value;
 use std::alloc::Global;
 

@@ -8,9 +8,9 @@ ghost use Rattle.script_reading.specs.Script.{actors_after, names_after, names_f
 ghost use Rattle.script_reading.specs.Seen.{act_seen, call_seen, form_seen};
 
 use crate::call::{Act, Call};
-use crate::names::{ROOT, is_name};
-use crate::form::{Form, form_of};
 use crate::fault::{ParseFault, ScriptFault};
+use crate::form::{Form, form_of};
+use crate::names::{ROOT, is_name};
 use indexmap::IndexSet;
 use serde_json::Value;
 use std::alloc::{AllocFailed, Global};
@@ -93,7 +93,11 @@ impl<'a> Known<'a> {
     }
 
     /// Reads the call of this number, from 1. After a fault nothing is known any more.
-    pub(crate) fn read_call(&mut self, number: usize, call: &'a Value) -> Result<Call<'a>, ParseFault>
+    pub(crate) fn read_call(
+        &mut self,
+        number: usize,
+        call: &'a Value,
+    ) -> Result<Call<'a>, ParseFault>
         ensures { Gives (λ call. (call_seen call, known_seen self.new)) result
             (call_of number (known_seen self.old) (view call.now)) }
     {

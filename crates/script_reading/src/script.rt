@@ -7,10 +7,10 @@ ghost use Rattle.script_reading.specs.Faults.{Gives};
 ghost use Rattle.script_reading.specs.Script.{is_part, parts_of, script_of};
 ghost use Rattle.script_reading.specs.Seen.{script_seen};
 
-use crate::fault::{ParseFault, ScriptFault};
-use crate::platform::read_platform;
 use crate::call::Call;
 use crate::calls::read_calls;
+use crate::fault::{ParseFault, ScriptFault};
+use crate::platform::read_platform;
 use serde_json::{Map, Value};
 use std::alloc::Global;
 use sysmem_sanitise::Platform;

@@ -17,9 +17,15 @@ fn reads_a_script(rt: HostRuntime) -> Result<(), Fail> {
 #[test]
 fn refuses_what_is_no_script(rt: HostRuntime) -> Result<(), Fail> {
     let parsed = parse_script(rt.alloc(), b"[");
-    assert_eq!(rt; parsed.err(), Some(ParseFault::Refused(ScriptFault::NotJson)));
+    assert_eq!(rt;
+        parsed.err(),
+        Some(ParseFault::Refused(ScriptFault::NotJson))
+    );
     let value = parse_script(rt.alloc(), b"[]")?;
     let read = read_script(rt.alloc(), &value);
-    assert_eq!(rt; read.err(), Some(ParseFault::Refused(ScriptFault::Misshapen)));
+    assert_eq!(rt;
+        read.err(),
+        Some(ParseFault::Refused(ScriptFault::Misshapen))
+    );
     Ok(())
 }
