@@ -6,7 +6,7 @@ FILE ?= examples/one_participant.json
 
 # Runs a script: with the proved program where `make proved` has built it, else without proving.
 run:
-	@./run $(abspath $(FILE))
+	@./run "$(FILE)"
 
 # Proves the program and all that it stands on, and builds it.
 proved:

@@ -4,7 +4,7 @@ use Rattle.std.specs.Prelude.{option_and_then}
 use Rattle.std.proofs.lemmas.Bool.{cases_eq, cases_lt}
 use Rattle.std.proofs.lemmas.List.{length-set}
 use Rattle.std.proofs.lemmas.Option.{slice_get_within, same_Some, none-some, option_and_then_some}
-use Rattle.sysmem_memory.proofs.Lists.{slice_get_some}
+use Rattle.list_lemmas.proofs.CallerLemmas.{slice_get_some}
 use Rattle.sysmem_tree.specs.declared.node.Birth.{Birth}
 use Rattle.sysmem_tree.specs.Actions.{acted, makes_token}
 use Rattle.sysmem_tree.specs.Deed.{Deed, duplicates, binds, sets, releases, closes}

@@ -4,7 +4,7 @@ use Rattle.std.specs.Prelude.{IsSome, IsSomeAnd}
 use Rattle.std.proofs.lemmas.Bool.{cases_eq}
 use Rattle.std.proofs.lemmas.List.{length-set}
 use Rattle.std.proofs.lemmas.Option.{slice_get_within, same_Some}
-use Rattle.sysmem_memory.proofs.Lists.{slice_get-set_same, slice_get-set_other}
+use Rattle.list_lemmas.proofs.CallerLemmas.{slice_get-set_same, slice_get-set_other}
 
 -- what stands at a place after a write: what was written, or, elsewhere, what stood there before
 pub after_set : {X : Type 0} (xs : List X) (i k : ℕ) (y z : X) → slice_get (slice_set xs i y) k ≡ Some z → ((k ≡ i) × (y ≡ z)) ⊎ ((k ≢ i) × (slice_get xs k ≡ Some z))
