@@ -351,10 +351,13 @@ fn flattened(rt: HostRuntime) -> Result<(), Fail> {
         assert_eq!(rt; entry.modifier, format.map(|_| Modifier::Linear));
         assert!(rt; entry.colours.accepts(ColourSpace::Rec709) && !entry.colours.lists_any());
         assert_eq!(rt;
-            (entry.bounds.min_size.width, entry.bounds.min_size.height),
+            (
+                entry.bounds.asked.min_size.width,
+                entry.bounds.asked.min_size.height
+            ),
             (1, 2)
         );
-        assert_eq!(rt; entry.bounds.max_bytes_per_row, 4294967295);
+        assert_eq!(rt; entry.bounds.asked.max_bytes_per_row, 4294967295);
     }
     Ok(())
 }
