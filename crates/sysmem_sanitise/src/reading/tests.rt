@@ -1,7 +1,7 @@
 //! Records with their first faults, and what the others state.
 
 use super::{read_constraints, read_platform};
-use crate::fault::{Code, Fault, Spot};
+use crate::fault::{Code, Fault, FaultPlace};
 use serde_json::Value;
 use std::alloc::Global;
 use std::test::Fail;
@@ -401,7 +401,7 @@ fn platform_and_its_copy(rt: HostRuntime) -> Result<(), Fail> {
 fn fault_texts(rt: HostRuntime) -> Result<(), Fail> {
     let text = Fault {
         code: Code::WantOfMemory,
-        at: Spot::At(Field::Heaps),
+        at: FaultPlace::At(Field::Heaps),
     }
     .to_string(rt.alloc())?;
     assert_eq!(rt; text.as_str(), "S13 heaps");
