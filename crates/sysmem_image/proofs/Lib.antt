@@ -8,3 +8,4 @@ pub mod Smaller
 pub mod Sound
 pub mod Exact
 pub mod Slots
+pub mod CallerLemmas

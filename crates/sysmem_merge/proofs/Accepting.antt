@@ -5,8 +5,8 @@ use Rattle.std.specs.Option.{option_map, option_map_or}
 use Rattle.std.proofs.Math.Bool.{or-true}
 use Rattle.std.proofs.lemmas.Option.{same_Some}
 use Rattle.sysmem_counts.specs.declared.field.Field.{Field}
-use Rattle.sysmem_counts.specs.declared.field.Field.TheVariants.{MinSize, MaxSize, SizeAlignment, MinBytesPerRow, MaxBytesPerRow, BytesPerRowDivisor, StartOffsetDivisor, DisplayRectAlignment, RequiredMinSize, RequiredMaxSize}
 use Rattle.sysmem_formats.specs.declared.offer.Offer.{Offer}
+use Rattle.sysmem_image.proofs.CallerLemmas.{not_tighter}
 use Rattle.sysmem_image.specs.declared.bounds.ImageBounds.{ImageBounds}
 use Rattle.sysmem_image.specs.declared.entry.Entry.{Entry}
 use Rattle.sysmem_image.specs.Bounds.{IsTighter, IsFirstFailing}
@@ -19,20 +19,6 @@ use Rattle.sysmem_merge.specs.Offers.{AcceptsOffer}
 use Rattle.sysmem_merge.specs.Settings.{CoversOn}
 use Rattle.sysmem_sanitise.specs.Participant.{Participant}
 use Rattle.sysmem_sanitise.specs.Platform.{PlatformFacts}
-
--- bounds that fail in a field don't keep to the others
-not_tighter : (f : Field) (a b : ImageBounds) → IsFirstFailing f a b → ¬ (IsTighter a b)
-not_tighter MinSize a b failing t = failing.fails t.min_size
-not_tighter MaxSize a b failing t = failing.fails t.max_size
-not_tighter SizeAlignment a b failing t = failing.fails t.size_alignment
-not_tighter MinBytesPerRow a b failing t = failing.fails t.min_bytes_per_row
-not_tighter MaxBytesPerRow a b failing t = failing.fails t.max_bytes_per_row
-not_tighter BytesPerRowDivisor a b failing t = failing.fails t.bytes_per_row_divisor
-not_tighter StartOffsetDivisor a b failing t = failing.fails t.start_offset_divisor
-not_tighter DisplayRectAlignment a b failing t = failing.fails t.display_rect_alignment
-not_tighter RequiredMinSize a b failing t = failing.fails t.required_min_size
-not_tighter RequiredMaxSize a b failing t = failing.fails t.required_max_size
-not_tighter _ a b failing t = failing.fails tt
 
 -- no field fails where bounds keep to others
 none_failing : (a b : ImageBounds) (r : Option Field) (none : Bool) → is_some r ≡ not none → IfNone r (IsTighter a b) → IfSome r (λ f. IsFirstFailing f a b) → IsTrue none ↔ IsTighter a b

@@ -1,5 +1,5 @@
 -- What a participant's record states is what a participant may ask.
-use Rattle.std.proofs.Common.{◌≡◌, ◌≢◌, ℕ, ◌^◌, ◌-◌, ◌<◌, ◌≤◌, ◌+◌, ◌==◌, Bool, true, false, not, ◌||◌, ◌&&◌, List, [], ◌∷◌, ◌++◌, length, get_or, Option, Some, None, Ok, refl, sym, ap, ◌∙◌, subst, arith, rules, tests, length-append, append_assoc, append-nil}
+use Rattle.std.proofs.Common.{nat_le, ◌≡◌, ◌≢◌, ℕ, ◌^◌, ◌-◌, ◌<◌, ◌≤◌, ◌+◌, ◌==◌, Bool, true, false, not, ◌||◌, ◌&&◌, List, [], ◌∷◌, ◌++◌, length, get_or, Option, Some, None, Ok, refl, sym, ap, ◌∙◌, subst, arith, rules, tests, length-append, append_assoc, append-nil}
 use Rattle.std.specs.Prelude.{All, AllPairs, map, max, nat_lt, cond}
 use Rattle.std.specs.List.{list_any}
 use Rattle.std.specs.Int.RustNames.{bit_and}
@@ -23,7 +23,7 @@ use Rattle.sysmem_formats.specs.declared.modifier.Modifier.{Modifier}
 use Rattle.sysmem_formats.specs.declared.offer.Pair.{Pair}
 use Rattle.sysmem_formats.specs.declared.pixel_format.PixelFormat.{PixelFormat}
 use Rattle.sysmem_formats.specs.Layout.{IsTiledMisfit, pixel_bytes}
-use Rattle.sysmem_image.specs.declared.bounds.ImageBounds.{ImageBounds}
+use Rattle.sysmem_image.specs.declared.entry.EntryBounds.{EntryBounds}
 use Rattle.sysmem_image.specs.declared.colours.ColourSet.{ColourSet}
 use Rattle.sysmem_image.specs.declared.entry.Entry.{Entry}
 use Rattle.sysmem_image.specs.declared.size.Size.{Size}
@@ -33,7 +33,7 @@ use Rattle.sysmem_memory.specs.Wishes.{MemoryWishes, no_wishes}
 use Rattle.sysmem_sanitise.specs.declared.reading.asked.AskedPair.{AskedPair}
 use Rattle.sysmem_sanitise.specs.declared.fault.Spot.TheVariants.{At}
 use Rattle.sysmem_sanitise.specs.Participant.{IsUsage, IsUpTo, IsEntry, AreApart, most_step}
-use Rattle.sysmem_sanitise.specs.Reading.Bounds.{is_multiple, multiple, multiple_size, any_size, some_size, some_sides, size_to, size_or, bound_or, any_number, some_number, stated_bounds, bounds_by, bounds_of, most}
+use Rattle.sysmem_sanitise.specs.Reading.Bounds.{is_multiple, multiple, multiple_size, any_size, some_size, some_sides, size_to, size_or, bound_or, any_number, some_number, large_number, stated_bounds, bounds_by, bounds_of, most}
 use Rattle.sysmem_sanitise.specs.Reading.Constraints.{no_usage, with_family, is_usage, usage_of, memory_fields, memory_of}
 use Rattle.sysmem_sanitise.specs.Reading.Entries.{same_format, same_modifier, same_asked, is_unfit, asked_of, asked_by, has_further, modifier_beside, has_entry, has_asked, with_asked, no_pair, own_pair, with_further, further_of, asked_pairs, listed, with_listed, colour_set_of, entry_object, entry_with, with_entry, entries_of}
 use Rattle.sysmem_sanitise.specs.Reading.Fields.{◌>>=◌, passing, list_of, named, number_of, number_or, flag_or, optional, stated, text_of, object_of, has_items, read_each}
@@ -137,13 +137,13 @@ some_size-some at d size gives =
     subst (λ size. (1 ≤ size.width) × (1 ≤ size.height)) (ok-same _ size made) (omega arith, omega arith)
 
 -- what bounds keep to beside their own invariant
-record AreAsked (b : ImageBounds) : Type 0 where
-  size_alignment : IsUpTo most_step b.size_alignment
-  bytes_per_row_divisor : b.bytes_per_row_divisor ≤ most_step
-  start_offset_divisor : b.start_offset_divisor ≤ most_step
-  display_rect_alignment : IsUpTo most_step b.display_rect_alignment
-  required_min_width : 1 ≤ b.required_min_size.width
-  required_min_height : 1 ≤ b.required_min_size.height
+record AreAsked (b : EntryBounds) : Type 0 where
+  size_alignment : IsUpTo most_step b.asked.size_alignment
+  start_offset_divisor : b.asked.start_offset_divisor ≤ most_step
+  display_rect_alignment : IsUpTo most_step b.asked.display_rect_alignment
+  required_min_width : 1 ≤ b.asked.required_min_size.width
+  required_min_height : 1 ≤ b.asked.required_min_size.height
+  max_width_times_height : 1 ≤ b.asked.max_width_times_height
 
 step-some : (n : ℕ) → n ≤ most_step → max n 1 ≤ most_step
 step-some n h = omega arith
@@ -161,7 +161,17 @@ required_sides : (d : Data) (size : Size) → size_or some_size field.RequiredMi
 required_sides d size gives =
     optional-keeps (λ (size : Size). (1 ≤ size.width) × (1 ≤ size.height)) field.RequiredMinSize (record { width = most; height = most }) (some_size field.RequiredMinSize) d size (omega arith, omega arith) (λ v. some_size-some field.RequiredMinSize v size) gives
 
-bounds_of-are : (d : Data) (b : ImageBounds) → bounds_of d ≡ Ok b → AreAsked b
+large_number-some : (at : Field) (d : Data) (n : ℕ) → large_number at d ≡ Ok n → 1 ≤ n
+large_number-some at d n gives =
+    let (read, is, tested) = bind-ok (number_of at (2 ^ 64 - 1) d) _ n gives in
+    some-is n (passing-ok _ (λ n. nat_le 1 n) read n tested).holds where
+      some-is : (n : ℕ) → nat_le 1 n ≡ true → 1 ≤ n
+      some-is n h = search (rules, tests)
+
+area_some : (d : Data) (n : ℕ) → bound_or large_number field.MaxWidthTimesHeight (2 ^ 64 - 1) d ≡ Ok n → 1 ≤ n
+area_some d n gives = optional-keeps (λ n. 1 ≤ n) field.MaxWidthTimesHeight (2 ^ 64 - 1) (large_number field.MaxWidthTimesHeight) d n (omega arith) (λ v. large_number-some field.MaxWidthTimesHeight v n) gives
+
+bounds_of-are : (d : Data) (b : EntryBounds) → bounds_of d ≡ Ok b → AreAsked b
 bounds_of-are d b gives =
     bind-then (stated_bounds d) _ b gives (λ s stated-is made.
     bind-then (size_or some_size field.MinSize 1 d) _ s stated-is (λ min_size is1 a1.
@@ -173,16 +183,18 @@ bounds_of-are d b gives =
     bind-then (bound_or multiple field.StartOffsetDivisor 1 d) _ s a6 (λ start_step is7 a7.
     bind-then (size_or multiple_size field.DisplayRectAlignment 1 d) _ s a7 (λ display_step is8 a8.
     bind-then (size_or some_size field.RequiredMinSize most d) _ s a8 (λ required_min is9 a9.
-    bind-then (size_or any_size field.RequiredMaxSize 0 d) _ s a9 (λ required_max is10 all.
+    bind-then (size_or any_size field.RequiredMaxSize 0 d) _ s a9 (λ required_max is10 a10.
+    bind-then (bound_or large_number field.MaxWidthTimesHeight (2 ^ 64 - 1) d) _ s a10 (λ area is11 a11.
+    bind-then (flag_or field.RequireBytesPerRowAtPixelBoundary false d) _ s a11 (λ pixel is12 all.
     let required = required_sides d required_min is9 in
     subst AreAsked (ok-same _ b made) (subst (λ s. AreAsked (bounds_by s)) (ok-same _ s all) (record {
       size_alignment = size_step field.SizeAlignment d size_alignment is3;
-      bytes_per_row_divisor = step field.BytesPerRowDivisor d row_step is6;
       start_offset_divisor = step field.StartOffsetDivisor d start_step is7;
       display_rect_alignment = size_step field.DisplayRectAlignment d display_step is8;
       required_min_width = required.0;
       required_min_height = required.1;
-    })))))))))))))
+      max_width_times_height = area_some d area is11;
+    })))))))))))))))
 
 with_colour-some : (set : ColourSet) (colour : ColourSpace) → with_colour set colour ≢ no_colours
 with_colour-some set Srgb e = let t : true ≡ false = ap (λ (s : ColourSet). s.srgb) e in absurd (cc)
@@ -313,7 +325,7 @@ apart-entries entries h i j e before within =
     (subst (λ (p : AskedPair). ArePairsApart (get_or (map asked_by entries) i (asked_by e)) p) (get_or-map asked_by entries j e (asked_by e) within)
     (h i j (asked_by e) before (rw (length-map entries asked_by) within)))
 
-pairs-of : (colours : ColourSet) (bounds : ImageBounds) (pairs : List AskedPair) → map asked_by (map (entry_with colours bounds) pairs) ≡ pairs
+pairs-of : (colours : ColourSet) (bounds : EntryBounds) (pairs : List AskedPair) → map asked_by (map (entry_with colours bounds) pairs) ≡ pairs
 pairs-of colours bounds [] = refl
 pairs-of colours bounds (p ∷ ps) = ap (λ ps. p ∷ ps) (pairs-of colours bounds ps)
 
@@ -346,11 +358,11 @@ with_entry-keeps es ts d kept gives =
       fitting = are.fitting k d within;
       some_colours = some;
       size_alignment = asked.size_alignment;
-      bytes_per_row_divisor = asked.bytes_per_row_divisor;
       start_offset_divisor = asked.start_offset_divisor;
       display_rect_alignment = asked.display_rect_alignment;
       required_min_width = asked.required_min_width;
       required_min_height = asked.required_min_height;
+      max_width_times_height = asked.max_width_times_height;
     } in
     subst Entries (ok-same _ ts made) (record {
       few = rw whole are.few;

@@ -12,10 +12,11 @@ use Rattle.sysmem_formats.specs.declared.modifier.Modifier.{Modifier}
 use Rattle.sysmem_formats.specs.declared.modifier.Modifier.TheVariants.{Linear}
 use Rattle.sysmem_formats.specs.declared.pixel_format.PixelFormat.{PixelFormat}
 use Rattle.sysmem_formats.specs.Codes.{format_code, modifier_code}
-use Rattle.sysmem_image.specs.declared.bounds.ImageBounds.{ImageBounds}
 use Rattle.sysmem_image.specs.declared.colours.ColourSet.{ColourSet}
 use Rattle.sysmem_image.specs.declared.entry.Entry.{Entry}
+use Rattle.sysmem_image.specs.declared.entry.EntryBounds.{EntryBounds}
 use Rattle.sysmem_image.specs.Colours.{no_colours, with_any, with_colour}
+use Rattle.sysmem_image.specs.Fields.{all_bounds, field_of}
 use Rattle.sysmem_sanitise.specs.declared.reading.asked.AskedPair.{AskedPair}
 use Rattle.sysmem_sanitise.specs.declared.fault.Code.TheVariants as code
 use Rattle.sysmem_sanitise.specs.declared.fault.Fault.{Fault}
@@ -129,13 +130,12 @@ colour_set_of d = do
 -- the fields of an entry
 abbrev pub entry_fields : List Field
 entry_fields = field.PixelFormat ∷ field.PixelFormatModifier ∷ field.PixelFormatAndModifiers ∷ field.ColorSpaces
-    ∷ field.MinSize ∷ field.MaxSize ∷ field.SizeAlignment ∷ field.MinBytesPerRow ∷ field.MaxBytesPerRow ∷ field.BytesPerRowDivisor
-    ∷ field.StartOffsetDivisor ∷ field.DisplayRectAlignment ∷ field.RequiredMinSize ∷ field.RequiredMaxSize ∷ []
+    ∷ (map field_of all_bounds ++ field.RequireBytesPerRowAtPixelBoundary ∷ [])
 
 abbrev pub entry_object : Data → Result Data Fault
 entry_object d = object_of (At field.ImageFormatConstraints) entry_fields d
 
-abbrev pub entry_with : ColourSet → ImageBounds → AskedPair → Entry
+abbrev pub entry_with : ColourSet → EntryBounds → AskedPair → Entry
 entry_with colours bounds pair = record { format = pair.format; modifier = pair.modifier; colours = colours; bounds = bounds }
 
 -- the entries, and those that an item stands for: one for each of its pairs, which share its other fields

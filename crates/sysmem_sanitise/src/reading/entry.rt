@@ -14,9 +14,9 @@ use crate::fault::{Code, Fault, Spot};
 use serde_json::Value;
 use std::alloc::Global;
 use sysmem_counts::Field;
-use sysmem_image::{ColourSet, Entry, ImageBounds};
+use sysmem_image::{ColourSet, Entry, EntryBounds, bounds_table};
 
-fn entry_with(colours: ColourSet, bounds: ImageBounds, pair: AskedPair) -> Entry
+fn entry_with(colours: ColourSet, bounds: EntryBounds, pair: AskedPair) -> Entry
     ensures { result ≡ entry_with colours bounds pair }
 {
     Entry {
@@ -30,7 +30,7 @@ fn entry_with(colours: ColourSet, bounds: ImageBounds, pair: AskedPair) -> Entry
 fn add_entries(
     entries: &mut Vec<Entry>,
     colours: ColourSet,
-    bounds: ImageBounds,
+    bounds: EntryBounds,
     pairs: &[AskedPair],
 ) -> Result<(), Fault>
     ensures { Answers (Ok (entries.old.items ++ map (entry_with colours bounds) pairs.now))
@@ -42,25 +42,23 @@ fn add_entries(
     Ok(())
 }
 
+macro_rules! entry_fields {
+    (() $($name:ident: $shape:ident $rule:ident $field:ident $absent:ident $range:ident,)*) => {
+        [
+            Field::PixelFormat,
+            Field::PixelFormatModifier,
+            Field::PixelFormatAndModifiers,
+            Field::ColorSpaces,
+            $(Field::$field,)*
+            Field::RequireBytesPerRowAtPixelBoundary,
+        ]
+    };
+}
+
 fn expect_entry(object: &Value) -> Result<(), Fault>
     ensures { seen_by (λ _. view object.now) result ≡ entry_object (view object.now) }
 {
-    let fields = [
-        Field::PixelFormat,
-        Field::PixelFormatModifier,
-        Field::PixelFormatAndModifiers,
-        Field::ColorSpaces,
-        Field::MinSize,
-        Field::MaxSize,
-        Field::SizeAlignment,
-        Field::MinBytesPerRow,
-        Field::MaxBytesPerRow,
-        Field::BytesPerRowDivisor,
-        Field::StartOffsetDivisor,
-        Field::DisplayRectAlignment,
-        Field::RequiredMinSize,
-        Field::RequiredMaxSize,
-    ];
+    let fields = bounds_table!(entry_fields!());
     expect_object(object, Spot::At(Field::ImageFormatConstraints), &fields)
 }
 
