@@ -12,6 +12,7 @@ use Rattle.sysmem_image.specs.Lines.{IsBoundsLine, KeepsCorner, KeepsLine, corne
 use Rattle.sysmem_merge.specs.declared.fit.Fit.{Fit}
 use Rattle.sysmem_merge.specs.Demands.{OfferDemand}
 use Rattle.sysmem_merge.specs.Fit.{IsSoundFit, CoversFit, MeetsFit}
+use Rattle.sysmem_merge.specs.Laws.{SizeLineHolds}
 use Rattle.sysmem_merge.specs.Offers.{has_format, has_colour, Asks, bounds_asked}
 use Rattle.sysmem_merge.specs.Reasons.{IsOfferLine}
 use Rattle.sysmem_merge.proofs.Asked.{asked_all}
@@ -27,12 +28,17 @@ bounds_line_clash field t ds line sound covers =
     line_holds field t.offer (bounds_asked t.offer ds) line t.bounds sound.image sound.bounds
     (All-weaker (IsTighter t.bounds) (KeepsLine field t.bounds) (λ e. keeps_each (reads field) t.bounds e) (bounds_asked t.offer ds) (tighter_asked t ds covers))
 
--- nor does the size's line
+-- the size's line leaves no sound fit whose size suits the participants and whose bounds keep to theirs in the fields that the corner reads
+pub size_line_holds : SizeLineHolds
+size_line_holds t ds line sound keeps mins maxs =
+    let fits : FitsImage t.offer (bounds_asked t.offer ds) sound.image = fits_image t.offer (bounds_asked t.offer ds) t.bounds sound.image sound.bounds keeps in
+    line.2 sound.image.width sound.image.height sound.image.row t.size_bytes fits.width fits.height fits.row sound.bytes sound.some sound.fits mins maxs
+
+-- so it leaves none that covers the participants
 size_line_clash : (t : Fit) (ds : List OfferDemand) → IsOfferLine MaxSizeBytes t.offer ds → IsSoundFit t → All (CoversFit t) ds → ⊥
 size_line_clash t ds line sound covers =
-    let fits : FitsImage t.offer (bounds_asked t.offer ds) sound.image = fits_image t.offer (bounds_asked t.offer ds) t.bounds sound.image sound.bounds
-    (All-weaker (IsTighter t.bounds) (KeepsCorner t.bounds) (λ e. keeps_each corner_reads t.bounds e) (bounds_asked t.offer ds) (tighter_asked t ds covers)) in
-    line.2 sound.image.width sound.image.height sound.image.row t.size_bytes fits.width fits.height fits.row sound.bytes sound.some sound.fits
+    size_line_holds t ds line sound
+    (All-weaker (IsTighter t.bounds) (KeepsCorner t.bounds) (λ e. keeps_each corner_reads t.bounds e) (bounds_asked t.offer ds) (tighter_asked t ds covers))
     (All-weaker (CoversFit t) (λ d. d.min_size_bytes ≤ t.size_bytes) (λ d c. c.min_size) ds covers)
     (All-weaker (CoversFit t) (λ d. t.size_bytes ≤ d.max_size_bytes) (λ d c. c.max_size) ds covers)
 

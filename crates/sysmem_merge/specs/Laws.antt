@@ -1,15 +1,20 @@
 -- What is true of settings, whoever works them out.
-use Rattle.std.specs.Prelude.{◌≡◌, List, Bool, false, IsPermutation}
+use Rattle.std.specs.Prelude.{◌≡◌, ◌≤◌, List, All, Bool, false, IsPermutation}
 use Rattle.list_lemmas.specs.Some.{AreSomeOf}
 use Rattle.sysmem_counts.specs.Counts.{IsCountLine}
 use Rattle.sysmem_counts.specs.declared.field.Field.{Field}
+use Rattle.sysmem_counts.specs.declared.field.Field.TheVariants.{MaxSizeBytes}
+use Rattle.sysmem_image.specs.Lines.{KeepsCorner}
 use Rattle.sysmem_memory.specs.Heap.{HeapFacts}
 use Rattle.sysmem_memory.specs.Place.{IsPlace}
 use Rattle.sysmem_memory.specs.PlaceTable.{IsPlaceLine}
 use Rattle.sysmem_merge.specs.declared.reason.Reason.{Reason}
 use Rattle.sysmem_merge.specs.declared.settings.Settings.{Settings}
 use Rattle.sysmem_merge.specs.Best.{IsBest, IsUnmet}
-use Rattle.sysmem_merge.specs.Demands.{counts_asked, place_demands, offer_demands}
+use Rattle.sysmem_merge.specs.declared.fit.Fit.{Fit}
+use Rattle.sysmem_merge.specs.Fit.{IsSoundFit}
+use Rattle.sysmem_merge.specs.Demands.{OfferDemand, counts_asked, place_demands, offer_demands}
+use Rattle.sysmem_merge.specs.Offers.{bounds_asked}
 use Rattle.sysmem_merge.specs.Aggregate.{StandsFor}
 use Rattle.sysmem_merge.specs.Kept.{Kept}
 use Rattle.sysmem_merge.specs.Reasons.{IsOfferLine, IsUnnamedLine, IsReason}
@@ -67,3 +72,8 @@ UnnamedLineLeavesNone = (platform : PlatformFacts) (ps : List Participant) (fiel
 abbrev pub StandsInAnyOrder : Type 0
 StandsInAnyOrder = (kept : Kept) (platform : PlatformFacts) (ps qs : List Participant)
     → IsPermutation ps qs → StandsFor kept platform ps → StandsFor kept platform qs
+
+-- the size's line that is true of participants leaves them no size, with bounds that keep to theirs in the fields that it reads
+abbrev pub SizeLineHolds : Type 0
+SizeLineHolds = (t : Fit) (ds : List OfferDemand) → IsOfferLine MaxSizeBytes t.offer ds → IsSoundFit t
+    → All (KeepsCorner t.bounds) (bounds_asked t.offer ds) → All (λ d. d.min_size_bytes ≤ t.size_bytes) ds → All (λ d. t.size_bytes ≤ d.max_size_bytes) ds → ⊥

@@ -77,9 +77,9 @@ pub record ArePermitted (heaps : List HeapName) : Type 0 where
 no_heaps-are : ArePermitted []
 no_heaps-are = record { few = omega arith; distinct = λ i j e before within. absurd (omega arith); each = λ k e within. absurd (omega arith) }
 
-with_permitted-keeps : (hs ts : List HeapName) (d : Data) → ArePermitted hs → with_permitted hs d ≡ Ok ts → ArePermitted ts
+with_permitted-keeps : (hs ts : List HeapName) (d : Data) → ArePermitted hs → with_permitted None hs d ≡ Ok ts → ArePermitted ts
 with_permitted-keeps hs ts d kept gives =
-    let (heap, read, after) = bind-ok (permitted_heap d) _ ts gives in
+    let (heap, read, after) = bind-ok (permitted_heap None d) _ ts gives in
     let (roomy, room, after2) = bind-ok (passing _ (λ _. nat_lt (length hs) 64) heap) _ ts after in
     let (new, passes, made) = bind-ok (passing _ (λ heap. not (permits hs heap)) roomy) _ ts after2 in
     let (object, is, name) = bind-ok (object_of _ _ d) _ heap read in
@@ -95,12 +95,12 @@ with_permitted-keeps hs ts d kept gives =
       each = All-push IsHeapName hs new kept.each heap-is;
     })
 
-permitted_of-are : (d : Data) (ts : List HeapName) → permitted_of d ≡ Ok ts → ArePermitted ts
+permitted_of-are : (d : Data) (ts : List HeapName) → permitted_of None d ≡ Ok ts → ArePermitted ts
 permitted_of-are d ts gives =
     let (items, listed, each) = bind-ok (list_of _ d) _ ts gives in
-    each-keeps with_permitted ArePermitted with_permitted-keeps items [] ts no_heaps-are each
+    each-keeps (with_permitted None) ArePermitted with_permitted-keeps items [] ts no_heaps-are each
 
-memory_of-permits : (d : Data) (m : MemoryWishes) → memory_of d ≡ Ok m → ArePermitted m.permitted_heaps
+memory_of-permits : (d : Data) (m : MemoryWishes) → memory_of None d ≡ Ok m → ArePermitted m.permitted_heaps
 memory_of-permits d m gives =
     bind-then (object_of (At field.BufferMemoryConstraints) memory_fields d) _ m gives (λ object is a1.
     bind-then (number_or field.MinSizeBytes 0 (2 ^ 64 - 1) d) _ m a1 (λ min is a2.
@@ -110,11 +110,11 @@ memory_of-permits d m gives =
     bind-then (flag_or field.CpuDomainSupported true d) _ m a5 (λ cpu is a6.
     bind-then (flag_or field.RamDomainSupported false d) _ m a6 (λ ram is a7.
     bind-then (flag_or field.InaccessibleDomainSupported false d) _ m a7 (λ inaccessible is a8.
-    bind-then (optional field.PermittedHeaps [] permitted_of d) _ m a8 (λ heaps is made.
-    subst (λ (m : MemoryWishes). ArePermitted m.permitted_heaps) (ok-same _ m made) (optional-keeps ArePermitted field.PermittedHeaps [] permitted_of d heaps no_heaps-are (λ v. permitted_of-are v heaps) is))))))))))
+    bind-then (optional field.PermittedHeaps [] (permitted_of None) d) _ m a8 (λ heaps is made.
+    subst (λ (m : MemoryWishes). ArePermitted m.permitted_heaps) (ok-same _ m made) (optional-keeps ArePermitted field.PermittedHeaps [] (permitted_of None) d heaps no_heaps-are (λ v. permitted_of-are v heaps) is))))))))))
 
-pub memory-permits : (d : Data) (m : MemoryWishes) → optional field.BufferMemoryConstraints no_wishes memory_of d ≡ Ok m → ArePermitted m.permitted_heaps
-memory-permits d m gives = optional-keeps (λ (m : MemoryWishes). ArePermitted m.permitted_heaps) field.BufferMemoryConstraints no_wishes memory_of d m no_heaps-are (λ v. memory_of-permits v m) gives
+pub memory-permits : (d : Data) (m : MemoryWishes) → optional field.BufferMemoryConstraints no_wishes (memory_of None) d ≡ Ok m → ArePermitted m.permitted_heaps
+memory-permits d m gives = optional-keeps (λ (m : MemoryWishes). ArePermitted m.permitted_heaps) field.BufferMemoryConstraints no_wishes (memory_of None) d m no_heaps-are (λ v. memory_of-permits v m) gives
 
 -- 1 to the most that a step may be
 multiple-is : (n : ℕ) → is_multiple n ≡ true → n ≤ most_step
@@ -267,7 +267,7 @@ asked_by-entries p [] = refl
 asked_by-entries p (e ∷ es) = ap (λ b. p (asked_by e) || b) (asked_by-entries p es)
 
 with_asked-keeps : (at : Field) (entries : List Entry) (pairs after : List AskedPair) (asked : AskedPair)
-    → ArePairs (map asked_by entries) pairs → with_asked at entries pairs asked ≡ Ok after → ArePairs (map asked_by entries) after
+    → ArePairs (map asked_by entries) pairs → with_asked None at entries pairs asked ≡ Ok after → ArePairs (map asked_by entries) after
 with_asked-keeps at entries pairs after asked kept gives =
     let before = map asked_by entries in
     let (fit, fitted, a1) = bind-ok (passing _ (λ (pair : AskedPair). not (is_unfit pair.format pair.modifier)) asked) _ after gives in
@@ -291,7 +291,7 @@ with_asked-keeps at entries pairs after asked kept gives =
     })
 
 own_pair-by : (t : Bool) (entries : List Entry) (d : Data) (pairs : List AskedPair) → ArePairs (map asked_by entries) []
-    → cond t (asked_of d >>= with_asked field.PixelFormat entries []) (no_pair d) ≡ Ok pairs → ArePairs (map asked_by entries) pairs
+    → cond t (asked_of d >>= with_asked None field.PixelFormat entries []) (no_pair d) ≡ Ok pairs → ArePairs (map asked_by entries) pairs
 own_pair-by true entries d pairs kept gives =
     let (asked, is, added) = bind-ok (asked_of d) _ pairs gives in
     with_asked-keeps field.PixelFormat entries [] pairs asked kept added
@@ -301,13 +301,13 @@ own_pair-by false entries d pairs kept gives =
     subst (ArePairs (map asked_by entries)) (ok-same _ pairs made) kept
 
 asked_pairs-are : (entries : List Entry) (d : Data) (pairs : List AskedPair) → ArePairs (map asked_by entries) []
-    → asked_pairs entries d ≡ Ok pairs → ArePairs (map asked_by entries) pairs
+    → asked_pairs None entries d ≡ Ok pairs → ArePairs (map asked_by entries) pairs
 asked_pairs-are entries d pairs kept gives =
-    let (own, is, after) = bind-ok (own_pair entries d) _ pairs gives in
+    let (own, is, after) = bind-ok (own_pair None entries d) _ pairs gives in
     let owned = own_pair-by _ entries d own kept is in
-    optional-keeps (ArePairs (map asked_by entries)) field.PixelFormatAndModifiers own (further_of entries own) d pairs owned (λ v further.
+    optional-keeps (ArePairs (map asked_by entries)) field.PixelFormatAndModifiers own (further_of None entries own) d pairs owned (λ v further.
     let (items, listed, each) = bind-ok (list_of _ v) _ pairs further in
-    each-keeps (with_further entries) (ArePairs (map asked_by entries)) (λ before after w so is.
+    each-keeps (with_further None entries) (ArePairs (map asked_by entries)) (λ before after w so is.
     let (object, o, a1) = bind-ok (object_of _ _ w) _ after is in
     let (asked, a, added) = bind-ok (asked_of w) _ after a1 in
     with_asked-keeps field.PixelFormatAndModifiers entries before after asked so added) items own pairs owned each) after
@@ -342,10 +342,10 @@ no_pairs before few distinct = record {
   fitting = λ k e within. absurd (omega arith);
 }
 
-with_entry-keeps : (es ts : List Entry) (d : Data) → Entries es → with_entry es d ≡ Ok ts → Entries ts
+with_entry-keeps : (es ts : List Entry) (d : Data) → Entries es → with_entry None es d ≡ Ok ts → Entries ts
 with_entry-keeps es ts d kept gives =
     let (object, o, a1) = bind-ok (entry_object d) _ ts gives in
-    let (pairs, p, a2) = bind-ok (asked_pairs es d) _ ts a1 in
+    let (pairs, p, a2) = bind-ok (asked_pairs None es d) _ ts a1 in
     let (colours, c, a3) = bind-ok (stated code.NoColourSpaces field.ColorSpaces d >>= colour_set_of) _ ts a2 in
     let (bounds, b, made) = bind-ok (bounds_of d) _ ts a3 in
     let (v, there, listed) = bind-ok (stated code.NoColourSpaces field.ColorSpaces d) colour_set_of colours c in
@@ -373,11 +373,11 @@ with_entry-keeps es ts d kept gives =
 no_entries-are : AreEntries []
 no_entries-are = record { few = omega arith; distinct = λ i j e before within. absurd (omega arith); each = λ k e within. absurd (omega arith) }
 
-entries_of-are : (d : Data) (ts : List Entry) → entries_of d ≡ Ok ts → AreEntries ts
+entries_of-are : (d : Data) (ts : List Entry) → entries_of None d ≡ Ok ts → AreEntries ts
 entries_of-are d ts gives =
     let (items, listed, each) = bind-ok (list_of _ d) _ ts gives in
-    let kept = each-keeps with_entry Entries with_entry-keeps items [] ts (record { few = omega arith; distinct = λ i j e before within. absurd (omega arith); each = λ k e within. absurd (omega arith) }) each in
+    let kept = each-keeps (with_entry None) Entries with_entry-keeps items [] ts (record { few = omega arith; distinct = λ i j e before within. absurd (omega arith); each = λ k e within. absurd (omega arith) }) each in
     record { few = rw (sym (length-map ts asked_by)) kept.few; distinct = apart-entries ts kept.distinct; each = kept.each }
 
-pub entries-are : (d : Data) (ts : List Entry) → optional field.ImageFormatConstraints [] entries_of d ≡ Ok ts → AreEntries ts
-entries-are d ts gives = optional-keeps AreEntries field.ImageFormatConstraints [] entries_of d ts no_entries-are (λ v. entries_of-are v ts) gives
+pub entries-are : (d : Data) (ts : List Entry) → optional field.ImageFormatConstraints [] (entries_of None) d ≡ Ok ts → AreEntries ts
+entries-are d ts gives = optional-keeps AreEntries field.ImageFormatConstraints [] (entries_of None) d ts no_entries-are (λ v. entries_of-are v ts) gives

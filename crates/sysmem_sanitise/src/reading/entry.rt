@@ -1,15 +1,15 @@
 //! Reads the image entries of a participant.
 
-ghost use Rattle.std.specs.Prelude.{◌≡◌, ◌++◌, [], Ok, map};
+ghost use Rattle.std.specs.Prelude.{◌≡◌, ◌++◌, [], map};
 ghost use Rattle.serde_json.specs.View.{view, items_view};
 ghost use Rattle.sysmem_counts.specs.declared.field.Field.TheVariants.{ImageFormatConstraints};
 ghost use Rattle.sysmem_sanitise.specs.Reading.Entries.{entry_object, entry_with, with_entry, entries_of};
-ghost use Rattle.sysmem_sanitise.specs.Reading.Fields.{Answers, optional, read_each, seen_by};
+ghost use Rattle.sysmem_sanitise.specs.Reading.Fields.{Reads, kept, optional, read_each, seen_by};
 
 use super::asked::{AskedPair, asked_pairs};
 use super::bounds::bounds_of;
 use super::colour_set::colour_set_of;
-use super::field::{expect_object, list_of, stated};
+use super::field::{add, expect_object, list_of, stated};
 use crate::fault::{Code, Fault, Spot};
 use serde_json::Value;
 use std::alloc::Global;
@@ -33,11 +33,15 @@ fn add_entries(
     bounds: EntryBounds,
     pairs: &[AskedPair],
 ) -> Result<(), Fault>
-    ensures { Answers (Ok (entries.old.items ++ map (entry_with colours bounds) pairs.now))
+    ensures { Reads (λ lack. kept lack ImageFormatConstraints (entries.old.items ++ map (entry_with colours bounds) pairs.now))
         (seen_by (λ _. entries.new.items) result) }
 {
     for pair in pairs {
-        entries.push(entry_with(colours, bounds, *pair))?;
+        add(
+            entries,
+            entry_with(colours, bounds, *pair),
+            Field::ImageFormatConstraints,
+        )?;
     }
     Ok(())
 }
@@ -63,7 +67,7 @@ fn expect_entry(object: &Value) -> Result<(), Fault>
 }
 
 fn add_entry(alloc: Global, entries: &mut Vec<Entry>, value: &Value) -> Result<(), Fault>
-    ensures { Answers (with_entry entries.old.items (view value.now))
+    ensures { Reads (λ lack. with_entry lack entries.old.items (view value.now))
         (seen_by (λ _. entries.new.items) result) }
 {
     expect_entry(value)?;
@@ -74,7 +78,7 @@ fn add_entry(alloc: Global, entries: &mut Vec<Entry>, value: &Value) -> Result<(
 }
 
 fn entries_list(alloc: Global, list: &[Value]) -> Result<Vec<Entry>, Fault>
-    ensures { Answers (read_each with_entry [] (items_view list.now))
+    ensures { Reads (λ lack. read_each (with_entry lack) [] (items_view list.now))
         (seen_by (λ entries. entries.items) result) }
 {
     let mut entries = Vec::new(alloc);
@@ -86,7 +90,7 @@ fn entries_list(alloc: Global, list: &[Value]) -> Result<Vec<Entry>, Fault>
 
 /// The entries of a participant's record, one for each pair that they give.
 pub(super) fn entries_in(alloc: Global, object: &Value) -> Result<Vec<Entry>, Fault>
-    ensures { Answers (optional ImageFormatConstraints [] entries_of (view object.now))
+    ensures { Reads (λ lack. optional ImageFormatConstraints [] (entries_of lack) (view object.now))
         (seen_by (λ entries. entries.items) result) }
 {
     match object.get(Field::ImageFormatConstraints.name()) {
