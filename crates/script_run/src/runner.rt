@@ -122,8 +122,9 @@ impl Runner {
     /// Keeps the verdict of a decision.
     fn keep_verdict(&mut self, verdict: Verdict)
         ensures { state_of self.new ≡ record (state_of self.old) {
-            verdict = Some verdict;
-            starved = (state_of self.old).starved || is_no_memory verdict } }
+          verdict = Some verdict;
+          starved = (state_of self.old).starved || is_no_memory verdict;
+        } }
     {
         self.verdict = Some(verdict);
         self.starved = self.starved || verdict.is_no_memory();
@@ -196,7 +197,8 @@ impl Runner {
     fn misread(&mut self, fault: Fault) -> Reply
         ensures reply { result ≡ Reply.Misread fault }
         ensures starved { state_of self.new ≡ record (state_of self.old) {
-            starved = (state_of self.old).starved || starves fault.code } }
+          starved = (state_of self.old).starved || starves fault.code;
+        } }
     {
         self.starved = self.starved || starves(fault.code);
         Reply::Misread(fault)
@@ -274,7 +276,8 @@ impl Runner {
     fn grow(&mut self, makes: bool) -> Result<(), AllocError>
         requires { nat_le (length (state_of self.old).nodes + length (made_if makes)) 128 ≡ true }
         ensures { OnOk result (state_of self.new ≡ record (state_of self.old) {
-            nodes = (state_of self.old).nodes ++ made_if makes }) }
+          nodes = (state_of self.old).nodes ++ made_if makes;
+        }) }
     {
         if makes {
             self.nodes.push(Node::Token)?;
@@ -284,7 +287,8 @@ impl Runner {
 
     /// The reply to a check of a node.
     fn checked(&self, node: usize) -> Reply
-        ensures { result ≡ checked (slice_get (state_of self.now).nodes node) (state_of self.now).verdict }
+        ensures { result
+            ≡ checked (slice_get (state_of self.now).nodes node) (state_of self.now).verdict }
     {
         match self.nodes.get(node) {
             Some(Node::Collection | Node::Stated(_)) => answer_by(self.verdict),
@@ -302,7 +306,8 @@ impl Runner {
     /// Keeps what the name that a call gives stands for, if it gives one.
     fn keep_name(&mut self, act: &Act<'_>, node: Option<usize>) -> Result<(), AllocError>
         ensures { OnOk result (state_of self.new ≡ record (state_of self.old) {
-            names = (state_of self.old).names ++ named (act_seen act.now) node }) }
+          names = (state_of self.old).names ++ named (act_seen act.now) node;
+        }) }
     {
         match act {
             Act::Duplicate(_) => {

@@ -1,4 +1,3 @@
-use Rattle.std.proofs.Common.{◌∙◌, ap, Err}
 use Rattle.std.proofs.lemmas.Result.{err_from_is_err_and}
 use Rattle.script_run.specs.Outcome.{report_seen}
 use Rattle.script_run.proofs.RunLemmas.{ran-part, ran-refused}
