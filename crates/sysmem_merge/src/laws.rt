@@ -1,7 +1,7 @@
 //! What is true of settings, whoever works them out.
 
 ghost use Rattle.sysmem_merge.specs.Laws.{OneBest, ReasonLeavesNone, ReasonOfSomeLeavesNone};
-ghost use Rattle.sysmem_merge.specs.Laws.{OfferLineLeavesNone, PlaceLineLeavesNone, CountLineLeavesNone};
+ghost use Rattle.sysmem_merge.specs.Laws.{OfferLineLeavesNone, PlaceLineLeavesNone, CountLineLeavesNone, SizeLineHolds};
 ghost use Rattle.sysmem_merge.specs.Laws.{StandsInAnyOrder, SomeAreMet, UnmetBySome, UnnamedLineLeavesNone};
 
 /// Participants have at most one best settings.
@@ -49,4 +49,10 @@ pub fn unnamed_line_leaves_none()
 /// Where no settings meet some of the participants, none meet all of them.
 pub fn unmet_by_some()
     ensures { UnmetBySome }
+{}
+
+/// A true line of `max_size_bytes` leaves the participants no size, with bounds that keep to theirs in the fields that it
+/// reads.
+pub fn size_line_holds()
+    ensures { SizeLineHolds }
 {}
