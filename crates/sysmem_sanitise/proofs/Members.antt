@@ -1,5 +1,5 @@
 -- The keys of an object and the items of a list, as the program walks them.
-use Rattle.std.proofs.Common.{◌≡◌, ℕ, ◌+◌, ◌<◌, Bool, not, ◌==◌, ◌&&◌, List, [], ◌∷◌, length, get_or, drop, String, string_bytes, Result, Err, ap, sym, ◌∙◌, refl, Global, rules, tests}
+use Rattle.std.proofs.Common.{◌≡◌, ℕ, ◌+◌, ◌<◌, Bool, not, ◌==◌, ◌&&◌, List, [], ◌∷◌, length, get_or, drop, String, string_bytes, Result, ap, sym, ◌∙◌, refl, Global, rules, tests}
 use Rattle.std.specs.List.{list_all}
 use Rattle.std.specs.Map as map
 use Rattle.std.proofs.lemmas.List.{at_drop_more}
@@ -28,10 +28,3 @@ pub each_step : {S : Type 0} (read : S → Data → Result S Fault) (before : S)
 each_step read before vs i v within is =
     at_drop_more (λ ws. read_each read before (items_view ws)) vs i v within
     ∙ ap (λ w. read before (view w) >>= λ after. read_each read after (items_view (drop (i + 1) vs))) (sym is)
-
--- the item in turn has a fault
-pub each_fault : {S : Type 0} (read : S → Data → Result S Fault) (before : S) (fault : Fault) (vs : List Value) (i : ℕ) (v : Value)
-    → i < length vs → v ≡ get_or vs i v → read before (view v) ≡ Err fault
-    → read_each read before (items_view (drop i vs)) ≡ Err fault
-each_fault read before fault vs i v within is gives =
-    each_step read before vs i v within is ∙ ap (λ r. r >>= λ s. read_each read s (items_view (drop (i + 1) vs))) gives
