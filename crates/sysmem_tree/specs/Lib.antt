@@ -1,9 +1,11 @@
-pub mod Actions
-pub mod Deed
-pub mod Ids
-pub mod Laws
+pub mod ActionKind
 pub mod Node
-pub mod Nodes
+pub mod Table
 pub mod Path
-pub mod Refusal
+pub mod Nodes
+pub mod Forest
+pub mod Selection
+pub mod Shape
+pub mod Domain
 pub mod Tree
+pub mod Refusal
