@@ -9,3 +9,6 @@ pub mod Shape
 pub mod Domain
 pub mod Tree
 pub mod Refusal
+pub mod Step
+pub mod History
+pub mod Laws

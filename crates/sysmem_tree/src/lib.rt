@@ -11,6 +11,7 @@
 mod action;
 mod domain;
 mod id;
+pub mod laws;
 mod node;
 mod path;
 mod refusal;

@@ -1,0 +1,6 @@
+-- See Histories.antt.
+use Rattle.sysmem_tree.proofs.Histories.{maps_of_logs as lemma}
+use Rattle.sysmem_tree.proofs.laws.maps_of_logs.Goals as goal
+
+pub returns : goal.returns
+returns c = lemma

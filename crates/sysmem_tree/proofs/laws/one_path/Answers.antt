@@ -1,0 +1,6 @@
+-- See Steps.antt.
+use Rattle.sysmem_tree.proofs.Steps.{only_path as lemma}
+use Rattle.sysmem_tree.proofs.laws.one_path.Goals as goal
+
+pub returns : goal.returns
+returns c = lemma
