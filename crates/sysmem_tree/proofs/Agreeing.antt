@@ -1,5 +1,5 @@
 -- Histories with the same calls agree on the initial domain.
-use Rattle.std.proofs.Common.{◌≡◌, ◌≢◌, ◌⊎◌, ℕ, zero, suc, ◌+◌, ◌<◌, ◌==◌, ◌&&◌, ◌||◌, not, Bool, true, false, List, [], ◌∷◌, ◌++◌, length, Option, Some, None, slice_get, refl, sym, ◌∙◌, ap, arith, rules, tests, inl, inr}
+use Rattle.std.proofs.Common.{◌≡◌, ◌≢◌, ◌⊎◌, ℕ, zero, suc, ◌+◌, ◌<◌, ◌==◌, ◌&&◌, ◌||◌, not, Bool, true, false, List, [], ◌∷◌, ◌++◌, length, Option, Some, None, slice_get, refl, sym, ◌∙◌, ap, subst, arith, rules, tests, inl, inr}
 use Rattle.std.specs.Prelude.{option_map, option_and_then, unwrap_or, map, if◌then◌else◌}
 use Rattle.std.specs.List.{list_all, list_any}
 use Rattle.std.proofs.lemmas.Bool.{cases_eq}
@@ -12,7 +12,7 @@ use Rattle.sysmem_tree.specs.declared.node.Birth.{Birth}
 use Rattle.sysmem_tree.specs.ActionKind.{Deed, kind_of}
 use Rattle.sysmem_tree.specs.Domain.{TreeFacts, was_closed_early, host_of, is_selected, is_lost, up_from, fails, has_failed, is_complete, is_ready, is_host_selected, is_host_lost}
 use Rattle.sysmem_tree.specs.Forest.{Empty}
-use Rattle.sysmem_tree.specs.History.{Entry, Acted, Decided, Replays, log_at, SameCalls, is_call_close, is_decided, NoEarlyClose}
+use Rattle.sysmem_tree.specs.History.{Entry, Acted, Decided, AreAccepted, entered, replay_from, replay, log_at, SameCalls, is_close, NoEarlyClose}
 use Rattle.sysmem_tree.specs.Laws.{SameInitial, SameReady}
 use Rattle.sysmem_tree.specs.Node.{awaits, is_awaited, NodeFacts}
 use Rattle.sysmem_tree.specs.Nodes.{IsTree}
@@ -20,11 +20,11 @@ use Rattle.sysmem_tree.specs.Path.{child_of, led_to, node_at, Shown, shown_of, a
 use Rattle.sysmem_tree.specs.Shape.{tree_of}
 use Rattle.sysmem_tree.specs.Step.{IsInitial, top, on}
 use Rattle.sysmem_tree.specs.Table.{allows, state_after}
-use Rattle.sysmem_tree.specs.Tree.{tree_after, new_domain, nodes_after, closed_early, domains_after, decided_domain, decided}
+use Rattle.sysmem_tree.specs.Tree.{first_tree, applied, tree_after, new_domain, nodes_after, closed_early, domains_after, decided_domain, decided}
 use Rattle.sysmem_tree.proofs.Accepted.{accepted}
-use Rattle.sysmem_tree.proofs.Alike.{decided_alike}
-use Rattle.sysmem_tree.proofs.Growing.{and_parts, stands}
-use Rattle.sysmem_tree.proofs.Histories.{made}
+use Rattle.sysmem_tree.proofs.Alike.{decided_alike, decided_tree}
+use Rattle.sysmem_tree.proofs.Growing.{and_parts, stands, still_tree}
+use Rattle.sysmem_tree.proofs.Histories.{acted_tree, ok_from, made, first_nodes_tree}
 use Rattle.sysmem_tree.proofs.Kids.{parent_of}
 use Rattle.sysmem_tree.proofs.Logs.{same_kid, same_path}
 use Rattle.sysmem_tree.proofs.Ready.{unawaited, is_late_there, made_elsewhere, late_kind, still_done}
@@ -126,13 +126,15 @@ module _ (xs ys : List NodeFacts) (tree : IsTree xs) (tree' : IsTree ys) (agree 
       let is : shown_of j y ≡ shown_of k x = same_Some (shown_of j y) (shown_of k x) (sym (at_node xs q j y leads' here) ∙ (same ∙ at_node ys q k x leads read)) in
       ap (λ (z : Shown). is_awaited z.state) (sym is) ∙ unawaited xs 0 j y done here kin)
 
-pub initial_shape : (es fs : List Entry) (t u : TreeFacts) → Replays es t → Replays fs u
-    → ((q : List ℕ) → IsInitial (at_path t.nodes) q → log_at es t.nodes q ≡ log_at fs u.nodes q) → SameInitial t u
-initial_shape es fs t u r r' same =
-    let m = made es t r in
-    let m' = made fs u r' in
-    let back = same_path (log_at es t.nodes) (log_at fs u.nodes) (at_path t.nodes) (at_path u.nodes) m.kept.map m'.kept.map same in
-    let forth = same_path (log_at fs u.nodes) (log_at es t.nodes) (at_path u.nodes) (at_path t.nodes) m'.kept.map m.kept.map (λ q i. sym (same q (back q i).0)) in
+pub initial_shape : (es fs : List Entry) → AreAccepted first_tree es → AreAccepted first_tree fs
+    → ((q : List ℕ) → IsInitial (at_path (replay es).nodes) q → log_at es q ≡ log_at fs q) → SameInitial (replay es) (replay fs)
+initial_shape es fs r r' same =
+    let t : TreeFacts = replay es in
+    let u : TreeFacts = replay fs in
+    let m = made es r in
+    let m' = made fs r' in
+    let back = same_path (log_at es) (log_at fs) (at_path t.nodes) (at_path u.nodes) m.kept.map m'.kept.map same in
+    let forth = same_path (log_at fs) (log_at es) (at_path u.nodes) (at_path t.nodes) m'.kept.map m.kept.map (λ q i. sym (same q (back q i).0)) in
     let (n, here, root) = there (λ (x : NodeFacts). (x.birth ≡ None) × (x.domain ≡ 0)) (slice_get t.nodes 0) m.tree.root in
     let (n', here', root') = there (λ (x : NodeFacts). (x.birth ≡ None) × (x.domain ≡ 0)) (slice_get u.nodes 0) m'.tree.root in
     let depth : ℕ = length t.nodes + length u.nodes in
@@ -142,7 +144,7 @@ initial_shape es fs t u r r' same =
           ∙ (ap (λ (z : Shown). tree_of z.state.kind (member [] z) (grown member (at_path t.nodes) (suc depth) [] z.state.children) Empty) shows
           ∙ (ap (λ x. tree_of n'.state.kind (member [] (shown_of 0 n')) x Empty)
           (same_grown member (at_path t.nodes) (at_path u.nodes) (IsInitial (at_path t.nodes))
-          (same_kid (log_at es t.nodes) (log_at fs u.nodes) (at_path t.nodes) (at_path u.nodes) m.kept.map m'.kept.map same) (suc depth) [] n'.state.children top)
+          (same_kid (log_at es) (log_at fs) (at_path t.nodes) (at_path u.nodes) m.kept.map m'.kept.map same) (suc depth) [] n'.state.children top)
           ∙ sym (forest_by_map member u.nodes m'.tree 0 [] n' depth here' root'.1 refl (omega arith))));
       complete = same_test (is_complete t.nodes 0) (is_complete u.nodes 0) (complete_too t.nodes u.nodes m.tree m'.tree back) (complete_too u.nodes t.nodes m'.tree m.tree forth);
     }
@@ -212,7 +214,7 @@ close_by false t n r is own c =
     ∙ (closed_other t.domains r n.domain (λ same. let bad : true ≡ false = sym own ∙ (ap (is_ready t) (sym same) ∙ is) in cc) ∙ c)
 
 -- no call marks a domain that is ready
-pub closed_acted : (t : TreeFacts) (n : NodeFacts) (r : ℕ) (call : ActionKind) → closed_at t.domains r ≡ false → (is_call_close call ≡ true → is_ready t r ≡ true) → closed_at (domains_after t n call) r ≡ false
+pub closed_acted : (t : TreeFacts) (n : NodeFacts) (r : ℕ) (call : ActionKind) → closed_at t.domains r ≡ false → (is_close call ≡ true → is_ready t r ≡ true) → closed_at (domains_after t n call) r ≡ false
 closed_acted t n r AttachToken c h = closed_push t.domains r (length t.nodes) ∙ c
 closed_acted t n r Close c h = close_by (is_ready t n.domain) t n r refl (h refl) c
 closed_acted t n r Duplicate c h = c
@@ -227,48 +229,42 @@ pub decided_marks : (t : TreeFacts) (r e : ℕ) (members : Option (List ℕ)) �
 decided_marks t r e None = closed_decided t.domains e r _
 decided_marks t r e (Some ms) = closed_decided t.domains e r _
 
-eq_zero : (r : ℕ) → (r == 0) ≡ true → r ≡ 0
-eq_zero r h = search (rules, tests)
+-- without an early close the initial domain isn't closed early: until it is complete no close comes
+never_closed : (t : TreeFacts) (es : List Entry) → IsTree t.nodes → AreAccepted t es → closed_at t.domains 0 ≡ false → (is_complete t.nodes 0 ≡ true) ⊎ NoEarlyClose es
+    → closed_at (replay_from t es).domains 0 ≡ false
+never_closed t [] tree a unclosed calm = unclosed
+never_closed t (Acted i deed ∷ es) tree a unclosed calm =
+    let (after, is) = ok_from (applied t i deed) a.0 in
+    let (n, ok) = accepted t i deed after is in
+    let led : tree_after t i n deed ≡ entered t (Acted i deed) = ok.tree ∙ sym (acted_tree t i deed after is) in
+    let (z, at, _) = there (λ (x : NodeFacts). (x.birth ≡ None) × (x.domain ≡ 0)) (slice_get t.nodes 0) tree.root in
+    never_closed (entered t (Acted i deed)) es (subst (λ (x : TreeFacts). IsTree x.nodes) led (still_tree t.nodes i n deed ok.there tree ok.allowed ok.room)) a.1
+    (subst (λ (x : TreeFacts). closed_at x.domains 0 ≡ false) led (closed_acted t n 0 (kind_of deed) unclosed (λ closes. ready_alone t tree unclosed ∙ early closes calm)))
+    (elim calm [
+      | inl done ↦ inl (subst (λ (x : TreeFacts). is_complete x.nodes 0 ≡ true) led (complete_stays t.nodes i 0 n deed ok.there ok.allowed done (slice_get_within t.nodes 0 z at)))
+      | inr quiet ↦ inr quiet.1
+    ]) where
+      early : is_close (kind_of deed) ≡ true → ((is_complete t.nodes 0 ≡ true) ⊎ NoEarlyClose (Acted i deed ∷ es)) → is_complete t.nodes 0 ≡ true
+      early closes (inl done) = done
+      early closes (inr quiet) = absurd (let bad : true ≡ false = sym closes ∙ quiet.0 in cc)
+never_closed t (Decided r choices ∷ es) tree a unclosed calm =
+    let alike = decided_alike t r choices in
+    never_closed (decided t r choices) es (decided_tree t r choices tree) a.1 (decided_marks t r 0 choices ∙ unclosed)
+    (elim calm [
+      | inl done ↦ inl (alike.complete 0 ∙ done)
+      | inr quiet ↦ elim (cases_eq r 0) [
+        | inl first ↦ inl (alike.complete 0 ∙ (ap (is_complete t.nodes) (sym first) ∙ (and_parts (is_complete t.nodes r) _ a.0.ready).0))
+        | inr other ↦ inr (quiet other)
+      ]
+    ])
 
-one_of_two : (a b : Bool) → (a || b) ≡ true → (a ≡ true) ⊎ (b ≡ true)
-one_of_two true b h = inl refl
-one_of_two false b h = inr h
+first_open : (es : List Entry) → AreAccepted first_tree es → NoEarlyClose es → closed_at (replay es).domains 0 ≡ false
+first_open es a calm = never_closed first_tree es first_nodes_tree a refl (inr calm)
 
--- without an early close the initial domain isn't closed early, and it is complete from its decision on
-pub record IsOpen (es : List Entry) (t : TreeFacts) : Type 0 where
-  pub unclosed : closed_at t.domains 0 ≡ false
-  pub complete : is_decided 0 es ≡ true → is_complete t.nodes 0 ≡ true
-
-pub never_closed : (es : List Entry) (t : TreeFacts) → Replays es t → NoEarlyClose es → IsOpen es t
-never_closed [] t r calm = record { unclosed = ap (λ (x : TreeFacts). closed_at x.domains 0) (sym r); complete = λ h. absurd (cc) }
-never_closed (Acted i deed ∷ es) t (old, before, a) calm =
-    let was = never_closed es old before calm.1 in
-    let tree = (made es old before).tree in
-    let (n, ok) = accepted old i deed a.after a.accepted in
-    let led : tree_after old i n deed ≡ t = ok.tree ∙ a.led in
-    let (z, at, _) = there (λ (x : NodeFacts). (x.birth ≡ None) × (x.domain ≡ 0)) (slice_get old.nodes 0) tree.root in
+pub confluence : (es fs : List Entry) → AreAccepted first_tree es → AreAccepted first_tree fs → SameCalls es fs → NoEarlyClose es → NoEarlyClose fs → SameReady (replay es) (replay fs)
+confluence es fs a b same calm calm' =
+    let initial = initial_shape es fs a b (λ q _. same q) in
     record {
-      unclosed = ap (λ (x : TreeFacts). closed_at x.domains 0) (sym led)
-          ∙ closed_acted old n 0 (kind_of deed) was.unclosed (λ closes. ready_alone old tree was.unclosed ∙ was.complete (calm.0 closes));
-      complete = λ h. ap (λ (x : TreeFacts). is_complete x.nodes 0) (sym led)
-          ∙ complete_stays old.nodes i 0 n deed ok.there ok.allowed (was.complete h) (slice_get_within old.nodes 0 z at);
-    }
-never_closed (Decided r members ∷ es) t (old, before, d) calm =
-    let was = never_closed es old before calm.1 in
-    let alike = decided_alike old r members in
-    record {
-      unclosed = ap (λ (x : TreeFacts). closed_at x.domains 0) (sym d.led) ∙ (decided_marks old r 0 members ∙ was.unclosed);
-      complete = λ h. ap (λ (x : TreeFacts). is_complete x.nodes 0) (sym d.led) ∙ (alike.complete 0 ∙ elim (one_of_two (r == 0) (is_decided 0 es) h) [
-        | inl here ↦ ap (is_complete old.nodes) (sym (eq_zero r here)) ∙ (and_parts (is_complete old.nodes r) _ d.ready).0
-        | inr earlier ↦ was.complete earlier
-      ]);
-    }
-
-pub confluence : (es fs : List Entry) (t u : TreeFacts) → Replays es t → Replays fs u → SameCalls es t.nodes fs u.nodes → NoEarlyClose es → NoEarlyClose fs → SameReady t u
-confluence es fs t u r r' same calm calm' =
-    let initial = initial_shape es fs t u r r' (λ q _. same q) in
-    record {
-      ready = ready_alone t (made es t r).tree (never_closed es t r calm).unclosed
-          ∙ (initial.complete ∙ sym (ready_alone u (made fs u r').tree (never_closed fs u r' calm').unclosed));
+      ready = ready_alone (replay es) (made es a).tree (first_open es a calm) ∙ (initial.complete ∙ sym (ready_alone (replay fs) (made fs b).tree (first_open fs b calm')));
       shape = initial.shape;
     }

@@ -16,3 +16,4 @@ pub mod Roots
 pub mod Proper
 pub mod Listed
 pub mod Readiness
+pub mod Entries

@@ -13,7 +13,6 @@ use Rattle.sysmem_tree.specs.declared.node.Birth.{Birth}
 use Rattle.sysmem_tree.specs.ActionKind.{Deed, kind_of}
 use Rattle.sysmem_tree.specs.Domain.{TreeFacts, HasDomain, is_chosen, is_none_chosen, is_undecided, was_closed_early, decision_of, host_of, is_selected, is_lost, up_from, fails, has_failed, is_complete, is_ready, IsDecidedReady, DecidedAreReady, is_host_selected, is_host_lost}
 use Rattle.sysmem_tree.specs.Forest.{relabel}
-use Rattle.sysmem_tree.specs.History.{Entry, Acted, Decided, Follows, Replays}
 use Rattle.sysmem_tree.specs.Laws.{by_both, IsSameDomain}
 use Rattle.sysmem_tree.specs.Node.{NodeFacts}
 use Rattle.sysmem_tree.specs.Nodes.{IsTree}
@@ -26,7 +25,6 @@ use Rattle.sysmem_tree.proofs.Accepted.{accepted}
 use Rattle.sysmem_tree.proofs.Agreeing.{closed_acted, complete_stays, decided_marks}
 use Rattle.sysmem_tree.proofs.Alike.{decided_alike, alike_tree, alike_node}
 use Rattle.sysmem_tree.proofs.Growing.{and_parts, own_place, other_place, still_tree}
-use Rattle.sysmem_tree.proofs.Histories.{made}
 use Rattle.sysmem_tree.proofs.Kids.{parent_of, root_birth}
 use Rattle.sysmem_tree.proofs.Ready.{both_kept, forest_left}
 use Rattle.sysmem_tree.proofs.Labelled.{one_forest}
@@ -292,54 +290,37 @@ module _ (t : TreeFacts) (d : ℕ) (choices : Option (List ℕ)) (open' : is_und
       let (y, now, _, domain, _) = decided_stays r z at in
       put (λ (z : NodeFacts). z.domain ≡ r) (slice_get (decided t d choices).nodes r) y now (sym domain ∙ home)
 
-pub ready_stays : (old new : TreeFacts) (e : Entry) (r : ℕ) → IsTree old.nodes → DecidedAreReady old → Follows old e new → HasDomain old.nodes r → is_ready old r ≡ true → is_ready new r ≡ true
-ready_stays old new (Acted i deed) r tree fine f has ready =
-    let (n, ok) = accepted old i deed f.after f.accepted in
-    let (z, at, _) = there (λ (z : NodeFacts). z.domain ≡ r) (slice_get old.nodes r) has in
-    subst (λ (u : TreeFacts). is_ready u r ≡ true) (ok.tree ∙ f.led) (stays_ready old (tree_after old i n deed) fine (call_keeps old i n deed ok.there ok.allowed tree) r z at ready)
-ready_stays old new (Decided d choices) r tree fine f has ready =
-    let (z, at, _) = there (λ (z : NodeFacts). z.domain ≡ r) (slice_get old.nodes r) has in
-    subst (λ (u : TreeFacts). is_ready u r ≡ true) f.led (stays_ready old (decided old d choices) fine (decided_keeps old d choices f.undecided tree) r z at ready)
+pub acted_ready : (t : TreeFacts) (i r : ℕ) (deed : Deed) (after : Applied) → IsTree t.nodes → DecidedAreReady t → applied t i deed ≡ Ok after → HasDomain t.nodes r → is_ready t r ≡ true → is_ready after.tree r ≡ true
+acted_ready t i r deed after tree fine is has ready =
+    let (n, ok) = accepted t i deed after is in
+    let (z, at, _) = there (λ (z : NodeFacts). z.domain ≡ r) (slice_get t.nodes r) has in
+    subst (λ (u : TreeFacts). is_ready u r ≡ true) ok.tree (stays_ready t (tree_after t i n deed) fine (call_keeps t i n deed ok.there ok.allowed tree) r z at ready)
 
-has_stays : (old new : TreeFacts) (e : Entry) (r : ℕ) → IsTree old.nodes → Follows old e new → HasDomain old.nodes r → HasDomain new.nodes r
-has_stays old new (Acted i deed) r tree f has =
-    let (n, ok) = accepted old i deed f.after f.accepted in
-    subst (λ (u : TreeFacts). HasDomain u.nodes r) (ok.tree ∙ f.led) (call_has old i n deed ok.there ok.allowed tree r has)
-has_stays old new (Decided d choices) r tree f has = subst (λ (u : TreeFacts). HasDomain u.nodes r) f.led (decided_has old d choices f.undecided tree r has)
+pub decided_ready : (t : TreeFacts) (d r : ℕ) (choices : Option (List ℕ)) → IsTree t.nodes → DecidedAreReady t → is_undecided (decision_of t.domains d) ≡ true → HasDomain t.nodes r → is_ready t r ≡ true
+    → is_ready (decided t d choices) r ≡ true
+decided_ready t d r choices tree fine open' has ready =
+    let (z, at, _) = there (λ (z : NodeFacts). z.domain ≡ r) (slice_get t.nodes r) has in
+    stays_ready t (decided t d choices) fine (decided_keeps t d choices open' tree) r z at ready
 
--- what is decided afterwards was decided, or is the domain that is decided now, which was ready
-was_ready : (old new : TreeFacts) (e : Entry) (r : ℕ) → DecidedAreReady old → Follows old e new → is_undecided (decision_of new.domains r) ≡ false → IsDecidedReady old r
-was_ready old new (Acted i deed) r fine f e =
-    let (n, ok) = accepted old i deed f.after f.accepted in
-    fine r (ap is_undecided (sym (ap (λ (u : TreeFacts). decision_of u.domains r) (sym (ok.tree ∙ f.led)) ∙ decision_acted old n r (kind_of deed))) ∙ e)
-was_ready old new (Decided d choices) r fine f e = elim (cases_eq r d) [
-  | inl same ↦ subst (IsDecidedReady old) (sym same) (record { there = f.there; ready = f.ready })
-  | inr other ↦ fine r (ap is_undecided (sym (ap (λ (u : TreeFacts). decision_of u.domains r) (sym f.led) ∙ decision_by old d r choices other)) ∙ e)
-]
-
--- what is decided stays ready
-decided_then : (old new : TreeFacts) (e : Entry) → IsTree old.nodes → DecidedAreReady old → Follows old e new → DecidedAreReady new
-decided_then old new e tree fine f r d =
-    let was = was_ready old new e r fine f d in
-    record { there = has_stays old new e r tree f was.there; ready = ready_stays old new e r tree fine f was.there was.ready }
-
--- by an accepted action
+-- what is decided stays ready by an accepted action
 pub acted_decided : (t : TreeFacts) (i : ℕ) (deed : Deed) (after : Applied) → IsTree t.nodes → DecidedAreReady t → applied t i deed ≡ Ok after → DecidedAreReady after.tree
-acted_decided t i deed after tree fine is = decided_then t after.tree (Acted i deed) tree fine (record { after = after; accepted = is; led = refl })
+acted_decided t i deed after tree fine is r e =
+    let (n, ok) = accepted t i deed after is in
+    let was = fine r (ap is_undecided (sym (decision_acted t n r (kind_of deed)) ∙ ap (λ (u : TreeFacts). decision_of u.domains r) ok.tree) ∙ e) in
+    record {
+      there = subst (λ (u : TreeFacts). HasDomain u.nodes r) ok.tree (call_has t i n deed ok.there ok.allowed tree r was.there);
+      ready = acted_ready t i r deed after tree fine is was.there was.ready;
+    }
 
 -- by a decision of a domain that is ready
 pub decided_decided : (t : TreeFacts) (d : ℕ) (choices : Option (List ℕ)) → IsTree t.nodes → DecidedAreReady t → HasDomain t.nodes d → is_ready t d ≡ true
     → is_undecided (decision_of t.domains d) ≡ true → DecidedAreReady (decided t d choices)
 decided_decided t d choices tree fine has ready open' r e = elim (cases_eq r d) [
-  | inl same ↦ subst (IsDecidedReady (decided t d choices)) (sym same) (record { there = decided_has t d choices open' tree d has; ready = still d has ready })
+  | inl same ↦ subst (IsDecidedReady (decided t d choices)) (sym same) (record { there = decided_has t d choices open' tree d has; ready = decided_ready t d d choices tree fine open' has ready })
   | inr other ↦
       (let was = fine r (ap is_undecided (sym (decision_by t d r choices other)) ∙ e) in
-      record { there = decided_has t d choices open' tree r was.there; ready = still r was.there was.ready })
-] where
-  still : (k : ℕ) → HasDomain t.nodes k → is_ready t k ≡ true → is_ready (decided t d choices) k ≡ true
-  still k there' own =
-      let (z, at, _) = there (λ (z : NodeFacts). z.domain ≡ k) (slice_get t.nodes k) there' in
-      stays_ready t (decided t d choices) fine (decided_keeps t d choices open' tree) k z at own
+      record { there = decided_has t d choices open' tree r was.there; ready = decided_ready t d r choices tree fine open' was.there was.ready })
+]
 
 -- nothing is decided in the first tree
 pub first_decided : DecidedAreReady first_tree
@@ -347,10 +328,6 @@ first_decided r e = absurd (by (0 == r) refl e) where
   by : (b : Bool) → (0 == r) ≡ b → is_undecided (if 0 == r then Undecided else Undecided) ≡ false → ⊥
   by true t e = let x : true ≡ false = rw t at e in cc
   by false t e = let x : true ≡ false = rw t at e in cc
-
-pub decided_stay_ready : (es : List Entry) (t : TreeFacts) → Replays es t → DecidedAreReady t
-decided_stay_ready [] t r = subst DecidedAreReady r first_decided
-decided_stay_ready (e ∷ es) t (old, before, f) = decided_then old t e (made es old before).tree (decided_stay_ready es old before) f
 
 -- and keeps its forest
 module _ (xs ys : List NodeFacts) (r : ℕ) (paths : path_of ys r ≡ path_of xs r) (stays : (path : List ℕ) → rooted by_both ys r path (slice_get ys r) ≡ rooted by_both xs r path (slice_get xs r)) where
@@ -370,7 +347,7 @@ module _ (xs ys : List NodeFacts) (r : ℕ) (paths : path_of ys r ≡ path_of xs
 itself : (nodes : List NodeFacts) (r : ℕ) → IsSameDomain nodes nodes r
 itself nodes r = record { forest = refl; shape = refl; members = λ cs. refl }
 
-decided_forest : (t : TreeFacts) (d r : ℕ) (choices : Option (List ℕ)) → IsTree t.nodes → HasDomain t.nodes r → IsSameDomain t.nodes (decided t d choices).nodes r
+pub decided_forest : (t : TreeFacts) (d r : ℕ) (choices : Option (List ℕ)) → IsTree t.nodes → HasDomain t.nodes r → IsSameDomain t.nodes (decided t d choices).nodes r
 decided_forest t d r None tree has = itself t.nodes r
 decided_forest t d r (Some cs) tree has =
     let (z, at, _) = there (λ (z : NodeFacts). z.domain ≡ r) (slice_get t.nodes r) has in
@@ -392,8 +369,7 @@ acted_forest t i r n deed here allowed room tree has ready =
     same_domain t.nodes (nodes_after t.nodes i n deed) r (path_is (nodes_after t.nodes i n deed) still_one (path_of t.nodes r) r leads)
     (λ path. both_kept t.nodes i r n deed here allowed complete within path z at home)
 
-pub forest_stays : (old new : TreeFacts) (e : Entry) (r : ℕ) → IsTree old.nodes → Follows old e new → HasDomain old.nodes r → is_ready old r ≡ true → IsSameDomain old.nodes new.nodes r
-forest_stays old new (Acted i deed) r tree f has ready =
-    let (n, ok) = accepted old i deed f.after f.accepted in
-    subst (λ (u : TreeFacts). IsSameDomain old.nodes u.nodes r) (ok.tree ∙ f.led) (acted_forest old i r n deed ok.there ok.allowed ok.room tree has ready)
-forest_stays old new (Decided d choices) r tree f has ready = subst (λ (u : TreeFacts). IsSameDomain old.nodes u.nodes r) f.led (decided_forest old d r choices tree has)
+pub acted_same : (t : TreeFacts) (i r : ℕ) (deed : Deed) (after : Applied) → IsTree t.nodes → applied t i deed ≡ Ok after → HasDomain t.nodes r → is_ready t r ≡ true → IsSameDomain t.nodes after.tree.nodes r
+acted_same t i r deed after tree is has ready =
+    let (n, ok) = accepted t i deed after is in
+    subst (λ (u : TreeFacts). IsSameDomain t.nodes u.nodes r) ok.tree (acted_forest t i r n deed ok.there ok.allowed ok.room tree has ready)

@@ -10,14 +10,12 @@ use Rattle.sysmem_tree.specs.declared.domain.Domain.{Domain}
 use Rattle.sysmem_tree.specs.declared.state.NodeState.{NodeState}
 use Rattle.sysmem_tree.specs.ActionKind.{Deed, kind_of}
 use Rattle.sysmem_tree.specs.Domain.{TreeFacts, is_ready, roots_from, AreDomains}
-use Rattle.sysmem_tree.specs.History.{Entry, Acted, Decided, Replays}
 use Rattle.sysmem_tree.specs.Node.{NodeFacts}
 use Rattle.sysmem_tree.specs.Nodes.{IsTree}
 use Rattle.sysmem_tree.specs.Shape.{members_of}
 use Rattle.sysmem_tree.specs.Table.{makes, makes_root}
 use Rattle.sysmem_tree.specs.Tree.{new_domain, node_after, new_node, nodes_made, closed_early, domains_after, decided_domain, left_out_but, Applied, applied, decided}
 use Rattle.sysmem_tree.proofs.Accepted.{accepted}
-use Rattle.sysmem_tree.proofs.Histories.{made as made_by}
 use Rattle.sysmem_tree.proofs.Steps.{new_is_root}
 
 abbrev root_of : Domain → ℕ
@@ -117,9 +115,3 @@ acted_domains t i deed after tree domains is =
 pub decided_domains : (t : TreeFacts) (r : ℕ) (choices : Option (List ℕ)) → AreDomains t → AreDomains (decided t r choices)
 decided_domains t r None domains = decided_roots r _ t.domains ∙ domains
 decided_domains t r (Some cs) domains = decided_roots r _ t.domains ∙ (domains ∙ sym (roots_left (members_of t.nodes r cs) r 0 t.nodes 0))
-
-pub domains_of : (es : List Entry) (t : TreeFacts) → Replays es t → AreDomains t
-domains_of [] t r = subst AreDomains r refl
-domains_of (Acted i deed ∷ es) t (old, before, a) =
-    subst AreDomains a.led (acted_domains old i deed a.after (made_by es old before).tree (domains_of es old before) a.accepted)
-domains_of (Decided r choices ∷ es) t (old, before, d) = subst AreDomains d.led (decided_domains old r choices (domains_of es old before))

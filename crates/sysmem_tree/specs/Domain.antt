@@ -5,6 +5,7 @@ use Rattle.sysmem_tree.specs.declared.domain.Decision.{Decision}
 use Rattle.sysmem_tree.specs.declared.domain.Decision.TheVariants.{Undecided, Chosen, NoneChosen}
 use Rattle.sysmem_tree.specs.declared.domain.Domain.{Domain}
 use Rattle.sysmem_tree.specs.Node.{NodeFacts, is_awaited}
+use Rattle.sysmem_tree.specs.Nodes.{IsTree, AreProper}
 use Rattle.sysmem_tree.specs.Path.{birth_of}
 
 -- the nodes in order of creation, the root first, and the domains in order of their roots
@@ -104,3 +105,10 @@ pub record IsDecidedReady (t : TreeFacts) (r : ℕ) : Type 0 where
 
 abbrev pub DecidedAreReady : TreeFacts → Type 0
 DecidedAreReady t = (r : ℕ) → is_undecided (decision_of t.domains r) ≡ false → IsDecidedReady t r
+
+-- what is true of each tree: its nodes are one, and proper; its domains stand in order of their roots; and what is decided is ready
+pub record IsSound (t : TreeFacts) : Type 0 where
+  pub tree : IsTree t.nodes
+  pub proper : AreProper t.nodes
+  pub domains : AreDomains t
+  pub decided : DecidedAreReady t

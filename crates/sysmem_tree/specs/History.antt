@@ -1,7 +1,8 @@
--- Histories of accepted actions and decisions, and the logs of nodes.
-use Rattle.std.specs.Prelude.{◌≡◌, ℕ, ◌++◌, ◌==◌, ◌||◌, Bool, true, false, List, [], ◌∷◌, Option, Ok, option_map, unwrap_or, IfSome, if◌then◌else◌}
+-- Histories of actions and decisions, the trees that they lead to, and the logs of nodes.
+use Rattle.std.specs.Prelude.{◌≡◌, ◌≢◌, ℕ, ◌==◌, Bool, true, false, List, [], ◌∷◌, Option, Some, None, Result, Ok, Err, IsOk, IfSome, option_map, unwrap_or, filter_map, if◌then◌else◌}
 use Rattle.sysmem_tree.specs.declared.action.ActionKind.{ActionKind}
 use Rattle.sysmem_tree.specs.declared.action.ActionKind.TheVariants.{Close}
+use Rattle.sysmem_tree.specs.declared.refusal.Refusal.{Refusal}
 use Rattle.sysmem_tree.specs.ActionKind.{Deed, kind_of}
 use Rattle.sysmem_tree.specs.Domain.{TreeFacts, HasDomain, is_ready, is_undecided, decision_of}
 use Rattle.sysmem_tree.specs.Forest.{Forest}
@@ -16,62 +17,69 @@ pub data Entry : Type 0 where
   Acted : ℕ → Deed → Entry
   Decided : ℕ → Option (List ℕ) → Entry
 
--- an accepted action leads from one tree to the next
-pub record IsActed (old : TreeFacts) (i : ℕ) (deed : Deed) (new : TreeFacts) : Type 0 where
-  pub after : Applied
-  pub accepted : applied old i deed ≡ Ok after
-  pub led : after.tree ≡ new
+-- a domain may be decided where it is ready and undecided: for one of its selections, or for none
+pub record IsDecidable (t : TreeFacts) (r : ℕ) (choices : Option (List ℕ)) : Type 0 where
+  pub there : HasDomain t.nodes r
+  pub ready : is_ready t r ≡ true
+  pub undecided : is_undecided (decision_of t.domains r) ≡ true
+  pub selects : IfSome choices (λ cs. (e : Forest ℕ) × IsSelection (forest_of by_number t.nodes r []) cs e)
 
--- and so does a decision, for a selection or for none, of a domain that is ready and undecided
-pub record IsDecided (old : TreeFacts) (r : ℕ) (choices : Option (List ℕ)) (new : TreeFacts) : Type 0 where
-  pub there : HasDomain old.nodes r
-  pub ready : is_ready old r ≡ true
-  pub selects : IfSome choices (λ cs. (e : Forest ℕ) × IsSelection (forest_of by_number old.nodes r []) cs e)
-  pub undecided : is_undecided (decision_of old.domains r) ≡ true
-  pub led : decided old r choices ≡ new
+-- a tree accepts an entry
+abbrev pub Accepts : TreeFacts → Entry → Type 0
+Accepts t (Acted i deed) = IsOk (applied t i deed)
+Accepts t (Decided r choices) = IsDecidable t r choices
 
-abbrev pub Follows : TreeFacts → Entry → TreeFacts → Type 0
-Follows old (Acted i deed) new = IsActed old i deed new
-Follows old (Decided r choices) new = IsDecided old r choices new
+-- a tree after an answer; a refusal leaves it
+abbrev pub left_by : TreeFacts → Result Applied Refusal → TreeFacts
+left_by t (Ok after) = after.tree
+left_by t (Err refusal) = t
 
--- the tree is what the entries, the newest first, make of a root token
-abbrev pub Replays : List Entry → TreeFacts → Type 0
-Replays [] t = first_tree ≡ t
-Replays (e ∷ es) t = (old : TreeFacts) × Replays es old × Follows old e t
+-- a tree after an entry
+abbrev pub entered : TreeFacts → Entry → TreeFacts
+entered t (Acted i deed) = left_by t (applied t i deed)
+entered t (Decided r choices) = decided t r choices
+
+-- a tree after entries, the oldest first
+abbrev pub replay_from : TreeFacts → List Entry → TreeFacts
+replay_from t [] = t
+replay_from t (e ∷ es) = replay_from (entered t e) es
+
+-- the tree that a history makes of a root token
+abbrev pub replay : List Entry → TreeFacts
+replay es = replay_from first_tree es
+
+-- each entry is accepted by the tree before it
+abbrev pub AreAccepted : TreeFacts → List Entry → Type 0
+AreAccepted t [] = Unit {0}
+AreAccepted t (e ∷ es) = Accepts t e × AreAccepted (entered t e) es
 
 -- what an entry asks of node i
-abbrev pub asked : ℕ → Entry → List Deed
-asked i (Acted k deed) = if k == i then deed ∷ [] else []
-asked i (Decided r choices) = []
+abbrev pub asked : ℕ → Entry → Option Deed
+asked i (Acted k deed) = if k == i then Some deed else None
+asked i (Decided r choices) = None
 
 -- the actions on node i, the oldest first
 abbrev pub log : List Entry → ℕ → List Deed
-log [] i = []
-log (e ∷ es) i = log es i ++ asked i e
+log es i = filter_map (asked i) es
 
--- the actions at a path
-abbrev pub log_at : List Entry → List NodeFacts → List ℕ → List Deed
-log_at es nodes path = unwrap_or (option_map (log es) (node_at nodes path)) []
+-- the actions on the node at a path
+abbrev pub log_in : List NodeFacts → List Entry → List ℕ → List Deed
+log_in nodes es path = unwrap_or (option_map (log es) (node_at nodes path)) []
+
+-- the actions that a history has at a path
+abbrev pub log_at : List Entry → List ℕ → List Deed
+log_at es path = log_in (replay es).nodes es path
 
 -- histories with the same actions at each path, constraints included
-abbrev pub SameCalls : List Entry → List NodeFacts → List Entry → List NodeFacts → Type 0
-SameCalls es nodes fs others = (q : List ℕ) → log_at es nodes q ≡ log_at fs others q
+abbrev pub SameCalls : List Entry → List Entry → Type 0
+SameCalls es fs = (path : List ℕ) → log_at es path ≡ log_at fs path
 
-abbrev pub is_call_close : ActionKind → Bool
-is_call_close Close = true
-is_call_close _ = false
+abbrev pub is_close : ActionKind → Bool
+is_close Close = true
+is_close _ = false
 
-abbrev pub is_close : Entry → Bool
-is_close (Acted i deed) = is_call_close (kind_of deed)
-is_close (Decided r choices) = false
-
--- whether a domain's decision is among the entries
-abbrev pub is_decided : ℕ → List Entry → Bool
-is_decided r [] = false
-is_decided r (Acted i deed ∷ es) = is_decided r es
-is_decided r (Decided d choices ∷ es) = (d == r) || is_decided r es
-
--- no node was closed before the initial domain's decision
+-- no node is closed before the initial domain's decision
 abbrev pub NoEarlyClose : List Entry → Type 0
 NoEarlyClose [] = Unit {0}
-NoEarlyClose (e ∷ es) = (is_close e ≡ true → is_decided 0 es ≡ true) × NoEarlyClose es
+NoEarlyClose (Acted i deed ∷ es) = (is_close (kind_of deed) ≡ false) × NoEarlyClose es
+NoEarlyClose (Decided r choices ∷ es) = r ≢ 0 → NoEarlyClose es

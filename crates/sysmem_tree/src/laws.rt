@@ -1,25 +1,16 @@
 //! What is true of trees, whoever makes them.
 
-ghost use Rattle.sysmem_tree.specs.Laws.{OnePath, StaysTree, StaysProper, CallIsStep, SameMapSameShape, SettledGrows, Counts, OneIsEarlier, EarlierIsAnOrder, PrefixOfPrefix, SelectionsAreCounted, Relabels, OneForest, MapsOfLogs, InitialShape, Confluence, ReadyStays, DecidedStayReady, ForestStays, DomainsOfHistories};
+ghost use Rattle.sysmem_tree.specs.Laws.{OnePath, ActionIsStep, SameMapSameShape, OneForest, SoundStays, ReadyStays, ForestStays, SettledGrows, Counts, SelectionsAreListed, OneIsEarlier, EarlierIsAnOrder, PrefixOfPrefix, Relabels, MapsOfLogs, InitialShape, Confluence};
 
 /// Each node has one path.
 pub fn one_path()
     ensures { OnePath }
 {}
 
-/// An accepted action leaves a tree.
-pub fn stays_tree()
-    ensures { StaysTree }
-{}
-
-/// An accepted action leaves each node proper.
-pub fn stays_proper()
-    ensures { StaysProper }
-{}
-
-/// An accepted action is a step of the map from paths.
-pub fn call_is_step()
-    ensures { CallIsStep }
+/// Seen as a map from paths to nodes: an accepted action changes its own node, puts the node that it makes behind the children so
+/// far, and leaves what is at each other path.
+pub fn action_is_step()
+    ensures { ActionIsStep }
 {}
 
 /// Trees with one map have one shape in each domain, whatever order their nodes were made in.
@@ -27,14 +18,39 @@ pub fn same_shape()
     ensures { SameMapSameShape }
 {}
 
-/// Choices only add to what is settled.
+/// A domain's forest of node numbers and its shape are one forest under two kinds of labels.
+pub fn one_forest()
+    ensures { OneForest }
+{}
+
+/// What is true of each tree stays true, by accepted actions and by decisions.
+pub fn sound_stays()
+    ensures { SoundStays }
+{}
+
+/// Once ready a domain stays so, by actions and by decisions.
+pub fn ready_stays()
+    ensures { ReadyStays }
+{}
+
+/// From ready on neither an action nor a decision changes a domain's forest, and so its shape and the members of its selections.
+pub fn forest_stays()
+    ensures { ForestStays }
+{}
+
+/// Choices only add to the nodes that are settled.
 pub fn settled_grows()
     ensures { SettledGrows }
 {}
 
-/// How many selections there are.
+/// There is one selection where there is no group, else as many as the choices for the first group have together.
 pub fn counts()
     ensures { Counts }
+{}
+
+/// All selections stand in a list, each once, in their order, as long as their count.
+pub fn selections_are_listed()
+    ensures { SelectionsAreListed }
 {}
 
 /// Of two selections one is earlier, or they are equal.
@@ -42,7 +58,7 @@ pub fn one_is_earlier()
     ensures { OneIsEarlier }
 {}
 
-/// Earlier is an order.
+/// No selection is earlier than itself, and what is earlier than an earlier one is earlier.
 pub fn earlier_is_an_order()
     ensures { EarlierIsAnOrder }
 {}
@@ -52,52 +68,23 @@ pub fn prefix_of_prefix()
     ensures { PrefixOfPrefix }
 {}
 
-/// All selections stand in a list.
-pub fn selections_are_counted()
-    ensures { SelectionsAreCounted }
-{}
-
-/// Other labels change no choice.
+/// Other labels change neither the choices nor what they settle.
 pub fn relabels()
     ensures { Relabels }
 {}
 
-/// One forest.
-pub fn one_forest()
-    ensures { OneForest }
-{}
-
-/// The map that goes with the logs.
+/// A history makes a tree whose map is what the actions at each path make.
 pub fn maps_of_logs()
     ensures { MapsOfLogs }
 {}
 
-/// Initial.
+/// The initial domain's shape, and whether its nodes are complete, depend on nothing but the actions at its own paths.
 pub fn initial_shape()
     ensures { InitialShape }
 {}
 
-/// Confluence.
+/// Histories with the same actions at each path, in which no node is closed before the initial domain's decision, leave it ready both
+/// or neither, and of one shape.
 pub fn confluence()
     ensures { Confluence }
-{}
-
-/// Ready stays.
-pub fn ready_stays()
-    ensures { ReadyStays }
-{}
-
-/// Decided are ready.
-pub fn decided_stay_ready()
-    ensures { DecidedStayReady }
-{}
-
-/// The forest stays.
-pub fn forest_stays()
-    ensures { ForestStays }
-{}
-
-/// Domains.
-pub fn domains_of_histories()
-    ensures { DomainsOfHistories }
 {}

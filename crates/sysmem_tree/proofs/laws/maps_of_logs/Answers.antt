@@ -1,5 +1,5 @@
--- See Histories.antt.
-use Rattle.sysmem_tree.proofs.Histories.{maps_of_logs as lemma}
+-- See Entries.antt.
+use Rattle.sysmem_tree.proofs.Entries.{maps_of_logs as lemma}
 use Rattle.sysmem_tree.proofs.laws.maps_of_logs.Goals as goal
 
 pub returns : goal.returns

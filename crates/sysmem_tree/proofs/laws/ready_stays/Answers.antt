@@ -1,5 +1,5 @@
--- See Readiness.antt.
-use Rattle.sysmem_tree.proofs.Readiness.{ready_stays as lemma}
+-- See Entries.antt.
+use Rattle.sysmem_tree.proofs.Entries.{ready_stays as lemma}
 use Rattle.sysmem_tree.proofs.laws.ready_stays.Goals as goal
 
 pub returns : goal.returns
