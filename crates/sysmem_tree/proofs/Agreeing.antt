@@ -12,7 +12,7 @@ use Rattle.sysmem_tree.specs.declared.node.Birth.{Birth}
 use Rattle.sysmem_tree.specs.ActionKind.{Deed, kind_of}
 use Rattle.sysmem_tree.specs.Domain.{TreeFacts, was_closed_early, host_of, is_selected, is_lost, up_from, fails, has_failed, is_complete, is_ready, is_host_selected, is_host_lost}
 use Rattle.sysmem_tree.specs.Forest.{Empty}
-use Rattle.sysmem_tree.specs.History.{Entry, Acted, Decided, AreAccepted, entered, replay_from, replay, log_at, SameCalls, is_close, NoEarlyClose}
+use Rattle.sysmem_tree.specs.History.{Entry, Acted, Decided, AreAccepted, after_entry, replay_from, replay, log_at, SameCalls, is_close, NoEarlyClose}
 use Rattle.sysmem_tree.specs.Laws.{SameInitial, SameReady}
 use Rattle.sysmem_tree.specs.Node.{awaits, is_awaited, NodeFacts}
 use Rattle.sysmem_tree.specs.Nodes.{IsTree}
@@ -236,9 +236,9 @@ never_closed t [] tree a unclosed calm = unclosed
 never_closed t (Acted i deed ∷ es) tree a unclosed calm =
     let (after, is) = ok_from (applied t i deed) a.0 in
     let (n, ok) = accepted t i deed after is in
-    let led : tree_after t i n deed ≡ entered t (Acted i deed) = ok.tree ∙ sym (acted_tree t i deed after is) in
+    let led : tree_after t i n deed ≡ after_entry t (Acted i deed) = ok.tree ∙ sym (acted_tree t i deed after is) in
     let (z, at, _) = there (λ (x : NodeFacts). (x.birth ≡ None) × (x.domain ≡ 0)) (slice_get t.nodes 0) tree.root in
-    never_closed (entered t (Acted i deed)) es (subst (λ (x : TreeFacts). IsTree x.nodes) led (still_tree t.nodes i n deed ok.there tree ok.allowed ok.room)) a.1
+    never_closed (after_entry t (Acted i deed)) es (subst (λ (x : TreeFacts). IsTree x.nodes) led (still_tree t.nodes i n deed ok.there tree ok.allowed ok.room)) a.1
     (subst (λ (x : TreeFacts). closed_at x.domains 0 ≡ false) led (closed_acted t n 0 (kind_of deed) unclosed (λ closes. ready_alone t tree unclosed ∙ early closes calm)))
     (elim calm [
       | inl done ↦ inl (subst (λ (x : TreeFacts). is_complete x.nodes 0 ≡ true) led (complete_stays t.nodes i 0 n deed ok.there ok.allowed done (slice_get_within t.nodes 0 z at)))

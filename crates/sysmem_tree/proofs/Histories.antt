@@ -7,11 +7,11 @@ use Rattle.std.proofs.lemmas.Option.{slice_get_within, same_Some, none-some}
 use Rattle.sysmem_tree.specs.declared.node.Birth.{Birth}
 use Rattle.sysmem_tree.specs.ActionKind.{Deed, kind_of}
 use Rattle.sysmem_tree.specs.Domain.{TreeFacts}
-use Rattle.sysmem_tree.specs.History.{Entry, Acted, Decided, Accepts, entered, left_by, AreAccepted, replay_from, replay, asked, log, log_in}
+use Rattle.sysmem_tree.specs.History.{Entry, Acted, Decided, Accepts, after_entry, after_answer, AreAccepted, replay_from, replay, asked_of, log, log_in}
 use Rattle.sysmem_tree.specs.Node.{NodeFacts}
 use Rattle.sysmem_tree.specs.Nodes.{ordinals, count_from, IsPlaced, IsTree}
 use Rattle.sysmem_tree.specs.Path.{node_at, Shown, at_path}
-use Rattle.sysmem_tree.specs.Step.{born, settle, shown_first}
+use Rattle.sysmem_tree.specs.Step.{made_by, shown_after_all, shown_first}
 use Rattle.sysmem_tree.specs.Table.{allows, wants_child, makes}
 use Rattle.sysmem_tree.specs.Tree.{first_tree, Applied, applied, nodes_after, decided, has_room}
 use Rattle.sysmem_tree.proofs.Accepted.{accepted}
@@ -45,11 +45,11 @@ first_nodes_tree = record {
   placed zero n parent b read is up = absurd (none-some b (ap (λ (x : NodeFacts). x.birth) (same_Some _ n read) ∙ is))
   placed (suc k) n parent b read is up = absurd (cc)
 
-first_kid : (p : List ℕ) (k : ℕ) → at_path first_tree.nodes (p ++ k ∷ []) ≡ option_map (λ z. settle z (log_in first_tree.nodes [] (p ++ k ∷ []))) (slice_get (filter_map born (log_in first_tree.nodes [] p)) k)
+first_kid : (p : List ℕ) (k : ℕ) → at_path first_tree.nodes (p ++ k ∷ []) ≡ option_map (λ z. shown_after_all z (log_in first_tree.nodes [] (p ++ k ∷ []))) (slice_get (filter_map made_by (log_in first_tree.nodes [] p)) k)
 first_kid [] k = refl
 first_kid (a ∷ p) k = refl
 
-first_counted : (q : List ℕ) (z : Shown) → at_path first_tree.nodes q ≡ Some z → z.state.children ≡ length (filter_map born (log_in first_tree.nodes [] q))
+first_counted : (q : List ℕ) (z : Shown) → at_path first_tree.nodes q ≡ Some z → z.state.children ≡ length (filter_map made_by (log_in first_tree.nodes [] q))
 first_counted [] z e = sym (ap (λ (x : Shown). x.state.children) (same_Some _ z e))
 first_counted (a ∷ q) z e = absurd (cc)
 
@@ -76,17 +76,17 @@ abbrev one_asked : Option Deed → List Deed
 one_asked None = []
 one_asked (Some deed) = deed ∷ []
 
-asked_alone : (k : ℕ) (e : Entry) (o : Option Deed) → asked k e ≡ o → log (e ∷ []) k ≡ one_asked o
+asked_alone : (k : ℕ) (e : Entry) (o : Option Deed) → asked_of k e ≡ o → log (e ∷ []) k ≡ one_asked o
 asked_alone k e None is = rw is refl
 asked_alone k e (Some deed) is = rw is refl
 
-log_push : (es : List Entry) (e : Entry) (k : ℕ) (o : Option Deed) → asked k e ≡ o → log (es ++ e ∷ []) k ≡ log es k ++ one_asked o
-log_push es e k o is = filter_map-append (asked k) es (e ∷ []) ∙ ap (λ l. log es k ++ l) (asked_alone k e o is)
+log_push : (es : List Entry) (e : Entry) (k : ℕ) (o : Option Deed) → asked_of k e ≡ o → log (es ++ e ∷ []) k ≡ log es k ++ one_asked o
+log_push es e k o is = filter_map-append (asked_of k) es (e ∷ []) ∙ ap (λ l. log es k ++ l) (asked_alone k e o is)
 
-asked_here : (i : ℕ) (deed : Deed) → asked i (Acted i deed) ≡ Some deed
+asked_here : (i : ℕ) (deed : Deed) → asked_of i (Acted i deed) ≡ Some deed
 asked_here i deed = let t : (i == i) ≡ true = search (rules, tests) in rw t refl
 
-asked_elsewhere : (i k : ℕ) (deed : Deed) → i ≢ k → asked k (Acted i deed) ≡ None
+asked_elsewhere : (i k : ℕ) (deed : Deed) → i ≢ k → asked_of k (Acted i deed) ≡ None
 asked_elsewhere i k deed other = let t : (i == k) ≡ false = search (rules, tests, other) in rw t refl
 
 log_elsewhere : (es : List Entry) (i k : ℕ) (deed : Deed) → i ≢ k → log (es ++ Acted i deed ∷ []) k ≡ log es k
@@ -154,12 +154,12 @@ module _ (es : List Entry) (xs ys : List NodeFacts) (r : ℕ) (members : Option 
   same_kept : IsKept (log_in ys (es ++ Decided r members ∷ [])) (at_path ys)
   same_kept = record {
     map = record {
-      root = alike_map xs ys alike made.tree [] ∙ (made.kept.map.root ∙ ap (λ l. Some (settle shown_first l)) (sym (same_log [])));
+      root = alike_map xs ys alike made.tree [] ∙ (made.kept.map.root ∙ ap (λ l. Some (shown_after_all shown_first l)) (sym (same_log [])));
       kid = λ p k. alike_map xs ys alike made.tree (p ++ k ∷ []) ∙ (made.kept.map.kid p k
-          ∙ (ap (λ l. option_map (λ z. settle z l) (slice_get (filter_map born (log_in xs es p)) k)) (sym (same_log (p ++ k ∷ [])))
-          ∙ ap (λ l. option_map (λ z. settle z (log_in ys (es ++ Decided r members ∷ []) (p ++ k ∷ []))) (slice_get (filter_map born l) k)) (sym (same_log p))));
+          ∙ (ap (λ l. option_map (λ z. shown_after_all z l) (slice_get (filter_map made_by (log_in xs es p)) k)) (sym (same_log (p ++ k ∷ [])))
+          ∙ ap (λ l. option_map (λ z. shown_after_all z (log_in ys (es ++ Decided r members ∷ []) (p ++ k ∷ []))) (slice_get (filter_map made_by l) k)) (sym (same_log p))));
     };
-    counted = λ q z e. made.kept.counted q z (sym (alike_map xs ys alike made.tree q) ∙ e) ∙ ap (λ l. length (filter_map born l)) (sym (same_log q));
+    counted = λ q z e. made.kept.counted q z (sym (alike_map xs ys alike made.tree q) ∙ e) ∙ ap (λ l. length (filter_map made_by l)) (sym (same_log q));
     nowhere = λ q e. same_log q ∙ made.kept.nowhere q (sym (alike_map xs ys alike made.tree q) ∙ e);
   }
 
@@ -171,14 +171,14 @@ module _ (es : List Entry) (xs ys : List NodeFacts) (r : ℕ) (members : Option 
   }
 
 -- what an entry makes of a tree that accepts it
-pub acted_tree : (t : TreeFacts) (i : ℕ) (deed : Deed) (after : Applied) → applied t i deed ≡ Ok after → entered t (Acted i deed) ≡ after.tree
-acted_tree t i deed after is = ap (left_by t) is
+pub acted_tree : (t : TreeFacts) (i : ℕ) (deed : Deed) (after : Applied) → applied t i deed ≡ Ok after → after_entry t (Acted i deed) ≡ after.tree
+acted_tree t i deed after is = ap (after_answer t) is
 
 pub ok_from : {X E : Type 0} (o : Result X E) → IsOk o → (x : X) × (o ≡ Ok x)
 ok_from (Ok x) h = (x, refl)
 ok_from (Err e) h = absurd (cc)
 
-made_next : (es : List Entry) (t : TreeFacts) (e : Entry) → Made es t.nodes → Accepts t e → Made (es ++ e ∷ []) (entered t e).nodes
+made_next : (es : List Entry) (t : TreeFacts) (e : Entry) → Made es t.nodes → Accepts t e → Made (es ++ e ∷ []) (after_entry t e).nodes
 made_next es t (Acted i deed) m a =
     let (after, is) = ok_from (applied t i deed) a in
     let (n, ok) = accepted t i deed after is in
@@ -188,7 +188,7 @@ made_next es t (Decided r choices) m a = decided_made es t.nodes (decided t r ch
 made_from : (done es : List Entry) (t : TreeFacts) → Made done t.nodes → AreAccepted t es → Made (done ++ es) (replay_from t es).nodes
 made_from done [] t m a = subst (λ xs. Made xs t.nodes) (sym (append-nil done)) m
 made_from done (e ∷ es) t m a =
-    subst (λ xs. Made xs (replay_from (entered t e) es).nodes) (append_assoc done (e ∷ []) es) (made_from (done ++ e ∷ []) es (entered t e) (made_next done t e m a.0) a.1)
+    subst (λ xs. Made xs (replay_from (after_entry t e) es).nodes) (append_assoc done (e ∷ []) es) (made_from (done ++ e ∷ []) es (after_entry t e) (made_next done t e m a.0) a.1)
 
 -- the whole
 pub made : (es : List Entry) → AreAccepted first_tree es → Made es (replay es).nodes

@@ -17,3 +17,5 @@ pub mod Proper
 pub mod Listed
 pub mod Readiness
 pub mod Entries
+pub mod Apart
+pub mod Rows

@@ -30,10 +30,10 @@ module _ {A : Type 0} (f : List ℕ → Shown → A) (at : Map) where
   grown zero path many = Empty
   grown (suc depth) path many = row (grown depth) path 0 many
 
-if_true : {X : Type 0} (x : Bool) (p q : X) → x ≡ true → (if x then p else q) ≡ p
+pub if_true : {X : Type 0} (x : Bool) (p q : X) → x ≡ true → (if x then p else q) ≡ p
 if_true x p q e = rw e refl
 
-if_false : {X : Type 0} (x : Bool) (p q : X) → x ≡ false → (if x then p else q) ≡ q
+pub if_false : {X : Type 0} (x : Bool) (p q : X) → x ≡ false → (if x then p else q) ≡ q
 if_false x p q e = rw e refl
 
 -- maps that agree on kids from a path on build the same
@@ -71,7 +71,7 @@ module _ {A : Type 0} (f : List ℕ → Shown → A) (at at' : Map) (Within : Li
   same_grown zero path many within = refl
   same_grown (suc depth) path many within = same_row (grown f at depth) (grown f at' depth) (λ q m w. same_grown depth q m w) path within 0 many
 
-kid_none : (r p : ℕ) (n : NodeFacts) → ordinal_under p n.birth ≡ None → kid_of r p n ≡ None
+pub kid_none : (r p : ℕ) (n : NodeFacts) → ordinal_under p n.birth ≡ None → kid_of r p n ≡ None
 kid_none r p n e = by (n.domain == r) refl where
   by : (x : Bool) → (n.domain == r) ≡ x → kid_of r p n ≡ None
   by true t = rw t e

@@ -1,12 +1,13 @@
 -- Selections: what choices settle, how many there are, and their order.
-use Rattle.std.proofs.Common.{◌≡◌, ◌⊎◌, ℕ, zero, suc, ◌+◌, ◌*◌, List, [], ◌∷◌, ◌++◌, Option, Some, None, slice_get, refl, sym, ◌∙◌, ap, subst, arith, inl, inr}
+use Rattle.std.proofs.Common.{◌≡◌, ◌⊎◌, ℕ, zero, suc, ◌+◌, ◌*◌, List, [], ◌∷◌, ◌++◌, length, Option, Some, None, slice_get, refl, sym, ◌∙◌, ap, subst, arith, inl, inr}
 use Rattle.std.specs.Prelude.{IsSome, map, option_map, option_and_then}
+use Rattle.std.specs.Option.{option_or}
 use Rattle.std.proofs.lemmas.Bool.{cases_eq, cases_lt}
-use Rattle.std.proofs.lemmas.List.{map-append}
+use Rattle.std.proofs.lemmas.List.{length-map, map-append}
 use Rattle.std.proofs.lemmas.Option.{same_Some, none-some, option_and_then_some}
 use Rattle.std.proofs.Math.Nat.{add-mul, mul-add}
 use Rattle.sysmem_counts.specs.Sublist.{IsSublist, ended, taken, left_out}
-use Rattle.sysmem_tree.specs.Forest.{Forest, Empty, Plain, Group, each, kids_else_rest, choices, settled, relabel, count, count_each, total}
+use Rattle.sysmem_tree.specs.Forest.{Forest, Empty, Plain, Group, each, kids_else_rest, choices, settled, relabel, count, count_each, total, first_group}
 use Rattle.sysmem_tree.specs.Laws.{IsCounted}
 use Rattle.sysmem_tree.specs.Selection.{after, IsPrefix, IsSelection, IsEarlier}
 use Rattle.sysmem_tree.specs.Shape.{Member}
@@ -105,6 +106,20 @@ module _ {A : Type 0} where
   counts Empty = refl
   counts (Plain n kids rest) = counts_in n kids rest (choices kids) (choices rest) (counts kids) (counts rest)
   counts (Group n kids rest) = ap (λ x. x * count rest) (counts_each kids) ∙ sym (counts_times (each kids) (λ kid. Plain n kid rest) (count rest) (λ e. refl))
+
+  -- the first group
+  first_in : (here behind : Forest A → Forest A) (ks rs : Option (List (Forest A))) (g h : Option (A × ℕ)) → option_map length ks ≡ option_map (λ (p : A × ℕ). p.1) g
+      → option_map length rs ≡ option_map (λ (p : A × ℕ). p.1) h → option_map length (kids_else_rest here behind ks rs) ≡ option_map (λ (p : A × ℕ). p.1) (option_or g h)
+  first_in here behind (Some ks) rs (Some g) h a b = ap (λ k. Some k) (length-map ks here) ∙ a
+  first_in here behind (Some ks) rs None h a b = absurd (cc)
+  first_in here behind None rs (Some g) h a b = absurd (cc)
+  first_in here behind None (Some rs) None h a b = ap (λ k. Some k) (length-map rs behind) ∙ b
+  first_in here behind None None None h a b = b
+
+  pub first_many : (d : Forest A) → option_map length (choices d) ≡ option_map (λ (p : A × ℕ). p.1) (first_group d)
+  first_many Empty = refl
+  first_many (Plain n kids rest) = first_in (λ k. Plain n k rest) (λ r. Plain n kids r) (choices kids) (choices rest) (first_group kids) (first_group rest) (first_many kids) (first_many rest)
+  first_many (Group n kids rest) = ap (λ k. Some k) (length-map (each kids) (λ kid. Plain n kid rest))
 
   -- two selections
   none_left : (d e f : Forest A) (b : ℕ) (bs : List ℕ) → IsSelection d [] e → IsSelection d (b ∷ bs) f → ⊥

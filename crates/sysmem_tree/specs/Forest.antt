@@ -1,5 +1,6 @@
 -- A forest whose nodes have labels, and what a choice for its first group makes of it.
-use Rattle.std.specs.Prelude.{ℕ, ◌+◌, ◌*◌, ◌++◌, List, [], ◌∷◌, Option, Some, None, map}
+use Rattle.std.specs.Prelude.{ℕ, ◌+◌, ◌*◌, ◌++◌, List, [], ◌∷◌, Option, Some, None, map, length}
+use Rattle.std.specs.Option.{option_or}
 
 -- a group's children are alternatives, a plain node's children are all there
 pub data Forest (A : Type 0) : Type 0 where
@@ -54,3 +55,9 @@ abbrev mutual
 abbrev pub total : {A : Type 0} → List (Forest A) → ℕ
 total [] = 0
 total (e ∷ es) = count e + total es
+
+-- the first group in pre-order, and how many children it has; none without a group
+abbrev pub first_group : {A : Type 0} → Forest A → Option (A × ℕ)
+first_group Empty = None
+first_group (Plain n kids rest) = option_or (first_group kids) (first_group rest)
+first_group (Group n kids rest) = Some (n, length (each kids))

@@ -30,19 +30,19 @@ Accepts t (Acted i deed) = IsOk (applied t i deed)
 Accepts t (Decided r choices) = IsDecidable t r choices
 
 -- a tree after an answer; a refusal leaves it
-abbrev pub left_by : TreeFacts → Result Applied Refusal → TreeFacts
-left_by t (Ok after) = after.tree
-left_by t (Err refusal) = t
+abbrev pub after_answer : TreeFacts → Result Applied Refusal → TreeFacts
+after_answer t (Ok after) = after.tree
+after_answer t (Err refusal) = t
 
 -- a tree after an entry
-abbrev pub entered : TreeFacts → Entry → TreeFacts
-entered t (Acted i deed) = left_by t (applied t i deed)
-entered t (Decided r choices) = decided t r choices
+abbrev pub after_entry : TreeFacts → Entry → TreeFacts
+after_entry t (Acted i deed) = after_answer t (applied t i deed)
+after_entry t (Decided r choices) = decided t r choices
 
 -- a tree after entries, the oldest first
 abbrev pub replay_from : TreeFacts → List Entry → TreeFacts
 replay_from t [] = t
-replay_from t (e ∷ es) = replay_from (entered t e) es
+replay_from t (e ∷ es) = replay_from (after_entry t e) es
 
 -- the tree that a history makes of a root token
 abbrev pub replay : List Entry → TreeFacts
@@ -51,16 +51,16 @@ replay es = replay_from first_tree es
 -- each entry is accepted by the tree before it
 abbrev pub AreAccepted : TreeFacts → List Entry → Type 0
 AreAccepted t [] = Unit {0}
-AreAccepted t (e ∷ es) = Accepts t e × AreAccepted (entered t e) es
+AreAccepted t (e ∷ es) = Accepts t e × AreAccepted (after_entry t e) es
 
 -- what an entry asks of node i
-abbrev pub asked : ℕ → Entry → Option Deed
-asked i (Acted k deed) = if k == i then Some deed else None
-asked i (Decided r choices) = None
+abbrev pub asked_of : ℕ → Entry → Option Deed
+asked_of i (Acted k deed) = if k == i then Some deed else None
+asked_of i (Decided r choices) = None
 
 -- the actions on node i, the oldest first
 abbrev pub log : List Entry → ℕ → List Deed
-log es i = filter_map (asked i) es
+log es i = filter_map (asked_of i) es
 
 -- the actions on the node at a path
 abbrev pub log_in : List NodeFacts → List Entry → List ℕ → List Deed

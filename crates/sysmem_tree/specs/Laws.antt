@@ -1,10 +1,10 @@
 -- What is true of trees, whoever makes them.
-use Rattle.std.specs.Prelude.{◌≡◌, ◌<◌, ◌≤◌, ◌⊎◌, ◌++◌, ℕ, true, List, [], length, Some, None, Ok, map, option_map, slice_get}
+use Rattle.std.specs.Prelude.{◌≡◌, ◌≢◌, ◌<◌, ◌≤◌, ◌⊎◌, ◌++◌, ℕ, suc, max, true, List, [], ◌∷◌, length, AllPairs, Some, None, Ok, map, option_map, slice_get}
 use Rattle.sysmem_counts.specs.Sublist.{IsSublist}
 use Rattle.sysmem_tree.specs.ActionKind.{Deed}
 use Rattle.sysmem_tree.specs.Domain.{TreeFacts, HasDomain, is_complete, is_ready, DecidedAreReady, IsSound}
-use Rattle.sysmem_tree.specs.Forest.{Forest, choices, settled, relabel, count, total}
-use Rattle.sysmem_tree.specs.History.{Entry, Accepts, entered, AreAccepted, replay, log_at, SameCalls, NoEarlyClose}
+use Rattle.sysmem_tree.specs.Forest.{Forest, Empty, Plain, Group, choices, settled, relabel, count, total, first_group}
+use Rattle.sysmem_tree.specs.History.{Entry, Accepts, after_entry, AreAccepted, replay, log_at, SameCalls, NoEarlyClose}
 use Rattle.sysmem_tree.specs.Node.{NodeFacts}
 use Rattle.sysmem_tree.specs.Nodes.{IsTree}
 use Rattle.sysmem_tree.specs.Path.{node_at, path_of, at_path}
@@ -46,11 +46,11 @@ OneForest = (nodes : List NodeFacts) (r : ℕ) → AreOneForest nodes r
 
 -- what is true of each tree stays true, by accepted actions and by decisions
 abbrev pub SoundStays : Type 0
-SoundStays = (t : TreeFacts) (e : Entry) → IsSound t → Accepts t e → IsSound (entered t e)
+SoundStays = (t : TreeFacts) (e : Entry) → IsSound t → Accepts t e → IsSound (after_entry t e)
 
 -- once ready a domain stays so, by actions and by decisions
 abbrev pub ReadyStays : Type 0
-ReadyStays = (t : TreeFacts) (e : Entry) (r : ℕ) → IsSound t → Accepts t e → HasDomain t.nodes r → is_ready t r ≡ true → is_ready (entered t e) r ≡ true
+ReadyStays = (t : TreeFacts) (e : Entry) (r : ℕ) → IsSound t → Accepts t e → HasDomain t.nodes r → is_ready t r ≡ true → is_ready (after_entry t e) r ≡ true
 
 -- a domain has the forest that it had, by numbers and by paths, kinds and constraints, and so each selection has the members that it had
 pub record IsSameDomain (old new : List NodeFacts) (r : ℕ) : Type 0 where
@@ -60,7 +60,7 @@ pub record IsSameDomain (old new : List NodeFacts) (r : ℕ) : Type 0 where
 
 -- from ready on neither an action nor a decision changes a domain's forest
 abbrev pub ForestStays : Type 0
-ForestStays = (t : TreeFacts) (e : Entry) (r : ℕ) → IsTree t.nodes → Accepts t e → HasDomain t.nodes r → is_ready t r ≡ true → IsSameDomain t.nodes (entered t e).nodes r
+ForestStays = (t : TreeFacts) (e : Entry) (r : ℕ) → IsTree t.nodes → Accepts t e → HasDomain t.nodes r → is_ready t r ≡ true → IsSameDomain t.nodes (after_entry t e).nodes r
 
 -- choices only add to what is settled
 abbrev pub SettledGrows : Type 0
@@ -85,6 +85,10 @@ pub record IsListed (d : Forest ℕ) : Type 0 where
 abbrev pub SelectionsAreListed : Type 0
 SelectionsAreListed = (d : Forest ℕ) → IsListed d
 
+-- there are as many choices as the first group has children
+abbrev pub FirstGroup : Type 0
+FirstGroup = (d : Forest ℕ) → option_map length (choices d) ≡ option_map (λ (g : ℕ × ℕ). g.1) (first_group d)
+
 -- of two selections of a forest one is earlier, or they are equal
 abbrev pub OneIsEarlier : Type 0
 OneIsEarlier = (d e f : Forest ℕ) (as' bs : List ℕ) → IsSelection d as' e → IsSelection d bs f → IsEarlier as' bs ⊎ ((as' ≡ bs) ⊎ IsEarlier bs as')
@@ -100,6 +104,34 @@ PrefixOfPrefix = (d : Forest ℕ) (as' bs : List ℕ) → IsPrefix d (as' ++ bs)
 -- other labels change neither the choices nor what they settle
 abbrev pub Relabels : Type 0
 Relabels = (f : ℕ → Member) (d : Forest ℕ) (cs : List ℕ) → (settled (relabel f d) ≡ map f (settled d)) × (after (relabel f d) cs ≡ option_map (relabel f) (after d cs))
+
+-- all labels of a forest, in pre-order
+abbrev pub labels : {A : Type 0} → Forest A → List A
+labels Empty = []
+labels (Plain n kids rest) = n ∷ (labels kids ++ labels rest)
+labels (Group n kids rest) = n ∷ (labels kids ++ labels rest)
+
+-- how many groups stand within each other
+abbrev pub nesting : {A : Type 0} → Forest A → ℕ
+nesting Empty = 0
+nesting (Plain n kids rest) = max (nesting kids) (nesting rest)
+nesting (Group n kids rest) = max (suc (nesting kids)) (nesting rest)
+
+-- no two of them have one path
+abbrev pub PathsDiffer : List Member → Type 0
+PathsDiffer ms = AllPairs (λ a b. a.path ≢ b.path) ms
+
+-- the nodes of a shape have paths of their own, in whole, and those that are settled after choices
+pub record HaveOwnPaths (d : Forest Member) : Type 0 where
+  pub whole : PathsDiffer (labels d)
+  pub settled_too : (cs : List ℕ) (e : Forest Member) → after d cs ≡ Some e → PathsDiffer (settled e)
+
+abbrev pub PathsInShapesDiffer : Type 0
+PathsInShapesDiffer = (nodes : List NodeFacts) (r : ℕ) → IsTree nodes → HasDomain nodes r → HaveOwnPaths (shape_of nodes r)
+
+-- in a shape at most 128 groups stand within each other
+abbrev pub FewGroupsNest : Type 0
+FewGroupsNest = (nodes : List NodeFacts) (r : ℕ) → IsTree nodes → HasDomain nodes r → nesting (shape_of nodes r) ≤ 128
 
 -- a history makes a sound tree, and the map that goes with the actions at each path
 pub record IsMade (es : List Entry) : Type 0 where

@@ -1,4 +1,4 @@
--- A call as a change of the map from paths to nodes.
+-- An action as a change of the map from paths to nodes, and the map that lists of actions make.
 use Rattle.std.specs.Prelude.{◌≡◌, ◌≢◌, ◌++◌, ℕ, true, false, List, [], ◌∷◌, Option, Some, None, IsSome, option_map, filter_map, slice_get}
 use Rattle.sysmem_tree.specs.declared.state.NodeKind.TheVariants.{Token}
 use Rattle.sysmem_tree.specs.declared.state.NodeState.{NodeState}
@@ -14,11 +14,12 @@ Map = List ℕ → Option Shown
 abbrev pub shown_after : Deed → Shown → Shown
 shown_after deed s = record s { state = state_after (kind_of deed) s.state; constraints = constraints_after deed s.constraints }
 
--- what a call makes, as it is first shown
+-- the node that an action makes in this state, as it is first shown
 abbrev pub shown_new : Deed → NodeState → Shown
 shown_new deed s = record { state = s; constraints = None; is_domain_root = makes_root (kind_of deed) }
 
--- the state of the node at its path allows an action; it changes what is at its path, puts what it makes behind the children so far, and leaves what is at each other path
+-- the node at its path allows an action, which changes what is there, puts what it makes behind the children so far, and leaves what is at
+-- each other path
 pub record IsStep (old new : Map) (path : List ℕ) (deed : Deed) : Type 0 where
   pub was : Shown
   pub there : old path ≡ Some was
@@ -34,18 +35,18 @@ abbrev pub shown_first : Shown
 shown_first = record { state = fresh Token; constraints = None; is_domain_root = true }
 
 -- the node that an action makes, if any, as it is first shown
-abbrev pub born : Deed → Option Shown
-born deed = option_map (shown_new deed) (makes (kind_of deed))
+abbrev pub made_by : Deed → Option Shown
+made_by deed = option_map (shown_new deed) (makes (kind_of deed))
 
 -- what a list of actions on it makes of a node
-abbrev pub settle : Shown → List Deed → Shown
-settle z [] = z
-settle z (deed ∷ deeds) = settle (shown_after deed z) deeds
+abbrev pub shown_after_all : Shown → List Deed → Shown
+shown_after_all z [] = z
+shown_after_all z (deed ∷ deeds) = shown_after_all (shown_after deed z) deeds
 
 -- the map that goes with the actions at each path: each node is what its own actions made of the node that its parent's action made
 pub record IsMapOf (log : List ℕ → List Deed) (at : Map) : Type 0 where
-  pub root : at [] ≡ Some (settle shown_first (log []))
-  pub kid : (p : List ℕ) (k : ℕ) → at (p ++ k ∷ []) ≡ option_map (λ z. settle z (log (p ++ k ∷ []))) (slice_get (filter_map born (log p)) k)
+  pub root : at [] ≡ Some (shown_after_all shown_first (log []))
+  pub kid : (p : List ℕ) (k : ℕ) → at (p ++ k ∷ []) ≡ option_map (λ z. shown_after_all z (log (p ++ k ∷ []))) (slice_get (filter_map made_by (log p)) k)
 
 -- the paths of the initial domain: no node on the way roots another
 pub data IsInitial (at : Map) : List ℕ → Type 0 where

@@ -1,6 +1,6 @@
 //! What is true of trees, whoever makes them.
 
-ghost use Rattle.sysmem_tree.specs.Laws.{OnePath, ActionIsStep, SameMapSameShape, OneForest, SoundStays, ReadyStays, ForestStays, SettledGrows, Counts, SelectionsAreListed, OneIsEarlier, EarlierIsAnOrder, PrefixOfPrefix, Relabels, MapsOfLogs, InitialShape, Confluence};
+ghost use Rattle.sysmem_tree.specs.Laws.{OnePath, ActionIsStep, SameMapSameShape, OneForest, SoundStays, ReadyStays, ForestStays, PathsInShapesDiffer, FewGroupsNest, SettledGrows, Counts, FirstGroup, SelectionsAreListed, OneIsEarlier, EarlierIsAnOrder, PrefixOfPrefix, Relabels, MapsOfLogs, InitialShape, Confluence};
 
 /// Each node has one path.
 pub fn one_path()
@@ -38,6 +38,16 @@ pub fn forest_stays()
     ensures { ForestStays }
 {}
 
+/// The nodes of a shape have paths of their own, and so do those that choices settle.
+pub fn paths_in_shapes_differ()
+    ensures { PathsInShapesDiffer }
+{}
+
+/// In a shape at most 128 groups stand within each other.
+pub fn few_groups_nest()
+    ensures { FewGroupsNest }
+{}
+
 /// Choices only add to the nodes that are settled.
 pub fn settled_grows()
     ensures { SettledGrows }
@@ -46,6 +56,11 @@ pub fn settled_grows()
 /// There is one selection where there is no group, else as many as the choices for the first group have together.
 pub fn counts()
     ensures { Counts }
+{}
+
+/// There are as many choices as the first group has children.
+pub fn first_group()
+    ensures { FirstGroup }
 {}
 
 /// All selections stand in a list, each once, in their order, as long as their count.
