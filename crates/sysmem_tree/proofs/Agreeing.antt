@@ -1,4 +1,4 @@
--- Histories with the same calls agree on the initial domain.
+-- Histories with the same actions at each path agree on the initial domain.
 use Rattle.std.proofs.Common.{◌≡◌, ◌≢◌, ◌⊎◌, ℕ, zero, suc, ◌+◌, ◌<◌, ◌==◌, ◌&&◌, ◌||◌, not, Bool, true, false, List, [], ◌∷◌, ◌++◌, length, Option, Some, None, slice_get, refl, sym, ◌∙◌, ap, subst, arith, rules, tests, inl, inr}
 use Rattle.std.specs.Prelude.{option_map, option_and_then, unwrap_or, map, if◌then◌else◌}
 use Rattle.std.specs.List.{list_all, list_any}
@@ -213,7 +213,7 @@ close_by false t n r is own c =
     ap (λ b. closed_at (if b then t.domains else map (closed_early n.domain) t.domains) r) is
     ∙ (closed_other t.domains r n.domain (λ same. let bad : true ≡ false = sym own ∙ (ap (is_ready t) (sym same) ∙ is) in cc) ∙ c)
 
--- no call marks a domain that is ready
+-- no action marks a domain that is ready
 pub closed_acted : (t : TreeFacts) (n : NodeFacts) (r : ℕ) (call : ActionKind) → closed_at t.domains r ≡ false → (is_close call ≡ true → is_ready t r ≡ true) → closed_at (domains_after t n call) r ≡ false
 closed_acted t n r AttachToken c h = closed_push t.domains r (length t.nodes) ∙ c
 closed_acted t n r Close c h = close_by (is_ready t n.domain) t n r refl (h refl) c

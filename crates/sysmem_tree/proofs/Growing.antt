@@ -1,4 +1,4 @@
--- A call leaves a tree.
+-- An action leaves a tree.
 use Rattle.std.proofs.Common.{◌≡◌, ◌≢◌, ◌⊎◌, ℕ, zero, suc, ◌+◌, ◌<◌, ◌≤◌, ◌&&◌, Bool, true, false, not, ◌||◌, List, [], ◌∷◌, ◌++◌, length, Option, Some, None, slice_get, slice_set, refl, sym, ◌∙◌, ap, subst, arith, rules, tests, inl, inr, length-append, append-nil, nat_le}
 use Rattle.std.specs.Prelude.{is_some, IsSomeAnd, Ok}
 use Rattle.std.proofs.lemmas.Bool.{cases_eq}
@@ -252,7 +252,7 @@ module _ (nodes : List NodeFacts) (i : ℕ) (n : NodeFacts) (deed : Deed) (here 
             | inr other ↦ (r, other_place 0 r other at, root)
           ]
 
--- an accepted call leaves a tree
+-- an accepted action leaves a tree
 pub stays_tree : (t : TreeFacts) (i : ℕ) (deed : Deed) (after : Applied) → IsTree t.nodes → applied t i deed ≡ Ok after → IsTree after.tree.nodes
 stays_tree t i deed after tree is =
     let (n, a) = accepted t i deed after is in

@@ -1,4 +1,4 @@
--- A call leaves each node proper.
+-- Nodes stay proper.
 use Rattle.std.proofs.Common.{◌≡◌, ℕ, List, zero, suc, ◌<◌, ◌==◌, true, false, Option, Some, slice_get, refl, sym, ◌∙◌, ap, subst, arith, rules, tests, inl, inr}
 use Rattle.std.specs.Prelude.{Ok}
 use Rattle.std.proofs.lemmas.Option.{same_Some}

@@ -161,7 +161,7 @@ module _ (t u : TreeFacts) (tree : IsTree t.nodes)
         let kept : HostKept t u (Some h) (Some h') = (home_root t.nodes tree (suc b.parent) b.parent h (omega arith) up, same, selected) in
         subst (λ o. HostKept t u o (host_of u.nodes r)) (sym (host_some t.nodes r z h b here e up)) (subst (λ o. HostKept t u (Some h) o) (sym (host_some u.nodes r y h' b now (birth ∙ e) up')) kept)
 
--- decisions of domains stay by calls
+-- decisions of domains stay by actions
 decision_push : (ds : List Domain) (e m : ℕ) → decision_of (ds ++ new_domain m ∷ []) e ≡ decision_of ds e
 decision_push [] e m = by (m == e) refl where
   by : (b : Bool) → (m == e) ≡ b → (if m == e then Undecided else Undecided) ≡ Undecided
@@ -198,7 +198,7 @@ decision_other (c ∷ ds) e d x other = by (cases_eq c.root d) (decision_other d
       let o : (c.root == e) ≡ false = search (rules, tests, (λ (is : c.root ≡ e). other (sym is ∙ same))) in rw (s, o) ih
   by (inr away) ih = let s : (c.root == d) ≡ false = search (rules, tests, away) in rw s (ap (λ y. if c.root == e then c.decision else y) ih)
 
--- a call keeps domains ready
+-- an action keeps domains ready
 module _ (t : TreeFacts) (i : ℕ) (n : NodeFacts) (deed : Deed) (here : slice_get t.nodes i ≡ Some n) (allowed : allows (kind_of deed) n.state ≡ true) (tree : IsTree t.nodes) where
   call_stays : (k : ℕ) (x : NodeFacts) → slice_get t.nodes k ≡ Some x → (y : NodeFacts) × (slice_get (nodes_after t.nodes i n deed) k ≡ Some y) × (y.birth ≡ x.birth) × (x.domain ≡ y.domain)
       × (is_selected t.domains x ≡ true → is_selected (domains_after t n (kind_of deed)) y ≡ true)

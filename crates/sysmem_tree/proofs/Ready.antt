@@ -1,4 +1,4 @@
--- What calls leave of a domain that is ready.
+-- What actions leave of a domain that is ready.
 use Rattle.std.proofs.Common.{◌≡◌, ◌≢◌, ℕ, zero, suc, ◌+◌, ◌<◌, ◌==◌, ◌&&◌, ◌||◌, not, Bool, true, false, List, [], ◌∷◌, ◌++◌, length, Option, Some, None, slice_get, slice_set, refl, sym, ◌∙◌, ap, subst, arith, rules, tests, inl, inr, append-nil}
 use Rattle.std.specs.Prelude.{Ok, if◌then◌else◌}
 use Rattle.std.specs.List.{list_all, list_any}
@@ -22,7 +22,7 @@ use Rattle.sysmem_tree.specs.Tree.{node_after, new_node, nodes_made, nodes_after
 use Rattle.sysmem_tree.proofs.Growing.{and_parts, own_place, other_place}
 use Rattle.sysmem_tree.proofs.SameForest.{kid_elsewhere}
 
--- the calls that a node allows for which no decision waits
+-- the actions that a node allows for which no decision waits
 abbrev pub is_late : ActionKind → Bool
 is_late AttachToken = true
 is_late Release = true
@@ -232,7 +232,7 @@ module _ {A : Type 0} (label : Labels A) (d : ℕ) where
         ∙ (ap (λ l. tree_of root.state.kind l (kids_from label d 0 (left_out_but members r 0 nodes) d path) Empty) (looks d path root (left_out_one members r (0 + d) root).is_left_out)
         ∙ (ap (λ y. tree_of root.state.kind (label d path root) y Empty) (kids_left nodes 0 0 d path) ∙ sym (ap (λ o. rooted label nodes d path o) at)))
 
--- the same, of a complete domain and a call that is allowed
+-- the same, of a complete domain and an action that is allowed
 module _ (nodes : List NodeFacts) (i r : ℕ) (n : NodeFacts) (deed : Deed) (here : slice_get nodes i ≡ Some n) (allowed : allows (kind_of deed) n.state ≡ true)
     (complete : is_complete nodes r ≡ true) (within : r < length nodes) where
   pub is_late_there : n.domain ≡ r → is_late (kind_of deed) ≡ true

@@ -54,7 +54,7 @@ decided_roots : (r : ℕ) (x : Decision) (ds : List Domain) → map root_of (map
 decided_roots r x [] = refl
 decided_roots r x (d ∷ ds) = ap (λ k. k ∷ map root_of (map (decided_domain r x) ds)) (root_kept r x d _ refl) ∙ ap (λ ys. d.root ∷ ys) (decided_roots r x ds)
 
--- the root that a call makes
+-- the root that an action makes
 abbrev added : Bool → ℕ → List ℕ
 added true k = k ∷ []
 added false k = []

@@ -18,7 +18,7 @@ abbrev answer : Result Applied Refusal → Option Refusal
 answer (Ok a) = None
 answer (Err e) = Some e
 
--- a closed token: its domain fails, its calls are refused, a release isn't
+-- a closed token: its domain fails, its actions are refused, a release isn't
 abbrev closed_token : TreeFacts
 closed_token = go first_tree ((0, duplicates) ∷ (0, duplicates) ∷ (1, closes) ∷ [])
 

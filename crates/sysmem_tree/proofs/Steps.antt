@@ -1,4 +1,4 @@
--- A call, seen as a change of the map from paths to nodes.
+-- An action, seen as a change of the map from paths to nodes.
 use Rattle.std.proofs.Common.{◌≡◌, ◌≢◌, ℕ, zero, suc, ◌<◌, ◌≤◌, ◌==◌, Bool, true, false, List, [], ◌∷◌, ◌++◌, length, Option, Some, None, slice_get, refl, sym, ◌∙◌, ap, subst, arith, rules, tests, inl, inr}
 use Rattle.std.specs.Prelude.{option_map, option_and_then, unwrap_or, IsSome, Ok, if◌then◌else◌}
 use Rattle.std.proofs.lemmas.Bool.{cases_eq}
@@ -124,7 +124,7 @@ module _ (nodes : List NodeFacts) (i : ℕ) (n : NodeFacts) (deed : Deed) (here 
     | inr other ↦ (a, other_place nodes i n deed here k a other read, refl)
   ]
 
-  -- what a call makes roots a domain where it attaches
+  -- what an action makes roots a domain where it attaches
   module _ (tree : IsTree nodes) where
     roots : (a : Bool) → makes_root (kind_of deed) ≡ a → ((if makes_root (kind_of deed) then length nodes else n.domain) == length nodes) ≡ makes_root (kind_of deed)
     roots true e = let t : (length nodes == length nodes) ≡ true = search (rules, tests) in rw (e, t) refl
@@ -191,7 +191,7 @@ module _ (nodes : List NodeFacts) (i : ℕ) (n : NodeFacts) (deed : Deed) (here 
       others = λ q away other. others q away other _ refl;
     }
 
--- an accepted call is a step of the map
+-- an accepted action is a step of the map
 pub call_is_step : (t : TreeFacts) (i : ℕ) (path : List ℕ) (deed : Deed) (after : Applied) → IsTree t.nodes → node_at t.nodes path ≡ Some i
     → applied t i deed ≡ Ok after → IsStep (at_path t.nodes) (at_path after.tree.nodes) path deed
 call_is_step t i path deed after tree leads is =

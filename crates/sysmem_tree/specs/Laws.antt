@@ -157,6 +157,6 @@ pub record SameReady (t u : TreeFacts) : Type 0 where
   pub ready : is_ready t 0 ≡ is_ready u 0
   pub shape : shape_of t.nodes 0 ≡ shape_of u.nodes 0
 
--- histories with the same calls and no early close leave the initial domain ready both or neither, and of one shape
+-- histories with the same actions at each path and no early close leave the initial domain ready both or neither, and of one shape
 abbrev pub Confluence : Type 0
 Confluence = (es fs : List Entry) → AreAccepted first_tree es → AreAccepted first_tree fs → SameCalls es fs → NoEarlyClose es → NoEarlyClose fs → SameReady (replay es) (replay fs)
