@@ -6,7 +6,7 @@ FILE ?= examples/one_participant.json
 
 # Runs a script: with the proved program where `make proved` has built it, else without proving.
 run:
-	@./run $(abspath $(FILE))
+	@./run "$(FILE)"
 
 # Proves the program and all that it stands on, and builds it.
 proved:
@@ -25,6 +25,7 @@ built-test:
 	tests/reports
 	tests/refusals
 	tests/records
+	tests/run_command
 	tests/want_of_memory
 
 # Times the proved program beside the reading of the same bytes as a JSON value.

@@ -1,15 +1,19 @@
 -- Which numbers of buffers suit participants.
-use Rattle.std.proofs.Common.{arith, ℕ, ◌≡◌, ◌≤◌, ◌<◌, ◌+◌, ◌^◌, max, min, List, [], ◌∷◌, ◌++◌, All, refl, ap}
+use Rattle.std.specs.List.Sorted.{IsPermutation}
+use Rattle.std.proofs.lemmas.List.Sorted.{sum_by-IsPermutation}
+use Rattle.std.proofs.Common.{sym, ◌↔◌, Any, inl, inr, arith, ℕ, ◌≡◌, ◌≤◌, ◌<◌, ◌+◌, ◌^◌, max, min, List, [], ◌∷◌, ◌++◌, All, refl, ap}
+use Rattle.list_lemmas.proofs.CallerLemmas.{All-some, Any-not_All, sum_some}
+use Rattle.std.proofs.lemmas.Bool.{cases_lt}
 use Rattle.std.proofs.lemmas.List.Elements.{All-push}
 use Rattle.std.proofs.lemmas.List.Sums.{sum_by_push}
-use Rattle.sysmem_counts.specs.Bounds.{StandsFor}
+use Rattle.sysmem_counts.specs.Bounds.{StandsFor, tally}
 use Rattle.sysmem_counts.specs.Counts.{own_buffers, needed, IsCounted, IsLeastCount, HasNoCount, IsCountLine}
 use Rattle.sysmem_counts.specs.Laws.{CountSuitsSome, CountLineLeavesNone, OneLeastCount}
 use Rattle.sysmem_counts.specs.Tally.{Tally}
 use Rattle.sysmem_counts.specs.declared.constraints.CountConstraints.{CountConstraints}
 use Rattle.sysmem_counts.specs.declared.field.Field.{Field}
 use Rattle.sysmem_counts.specs.declared.field.Field.TheVariants.{MaxBufferCount, BufferCountLimit}
-use Rattle.sysmem_counts.proofs.Lists.{greatest-push, least-push, greatest_within, within_greatest, above_least, one_below_any, Any-not_All, sum_some, greatest_some, All-some}
+use Rattle.sysmem_counts.proofs.Lists.{greatest-push, least-push, greatest_within, within_greatest, above_least, one_below, one_below_any, greatest_in_order, least_in_order, greatest_some}
 
 -- no number below what is needed suits
 pub needed_le : (ps : List CountConstraints) (count : ℕ) → IsCounted ps count → needed ps ≤ count
@@ -50,6 +54,15 @@ counted_some some all count among c = record {
 pub line_of_some : CountLineLeavesNone
 line_of_some field some all among line count c = line_sound field some line count (counted_some some all count among c)
 
+-- what is kept of participants is kept of them in another order
+pub tally_in_order : (ps qs : List CountConstraints) → IsPermutation ps qs → tally ps ≡ tally qs
+tally_in_order ps qs order = rw (
+  sym (sum_by-IsPermutation own_buffers ps qs order),
+  greatest_in_order (λ p. p.min_buffer_count_for_shared_slack) ps qs order,
+  greatest_in_order (λ p. p.min_buffer_count) ps qs order,
+  least_in_order (λ p. p.max_buffer_count) ps qs order,
+) refl
+
 -- each of two least counts is at most the other
 pub one_least : OneLeastCount
 one_least ps a b p q = omega (arith, p.least b q.counted, q.least a p.counted)
@@ -58,16 +71,51 @@ one_least ps a b p q = omega (arith, p.least b q.counted, q.least a p.counted)
 pub needed-tally : (kept : Tally) (ps : List CountConstraints) → StandsFor kept ps → max 1 (max (kept.own + kept.shared) kept.minimum) ≡ needed ps
 needed-tally kept ps stands = ap (λ t. max 1 (max (t.own + t.shared) t.minimum)) stands.tallied
 
--- they need more than the least maximum, so more than one of their maximums
-pub above_maximum : (kept : Tally) (ps : List CountConstraints) → StandsFor kept ps → kept.maximum < needed ps → IsCountLine MaxBufferCount ps
-above_maximum kept [] stands above = absurd (omega (arith, above, ap (λ t. t.maximum) stands.tallied))
-above_maximum kept (p ∷ ps) stands above =
-    one_below_any (λ p. p.max_buffer_count) (needed (p ∷ ps)) p ps stands.fits (omega (arith, above, ap (λ t. t.maximum) stands.tallied))
+-- no maximum is below what the least maximum reaches
+pub within_maximums : (kept : Tally) (ps : List CountConstraints) (n : ℕ) → StandsFor kept ps → n ≤ kept.maximum → All (λ p. n ≤ p.max_buffer_count) ps
+within_maximums kept ps n stands within =
+    above_least (λ p. p.max_buffer_count) n ps (omega (arith, within, ap (λ t. t.maximum) stands.tallied))
 
--- they need no more than the least maximum, so no more than any of theirs
-pub within_maximums : (kept : Tally) (ps : List CountConstraints) → StandsFor kept ps → needed ps ≤ kept.maximum → All (λ p. needed ps ≤ p.max_buffer_count) ps
-within_maximums kept ps stands within =
-    above_least (λ p. p.max_buffer_count) (needed ps) ps (omega (arith, within, ap (λ t. t.maximum) stands.tallied))
+-- above one of the maximums is above the least of them
+one_above : (kept : Tally) (ps : List CountConstraints) (n : ℕ) → StandsFor kept ps → Any (λ p. p.max_buffer_count < n) ps → kept.maximum < n
+one_above kept ps n stands one = elim (cases_lt kept.maximum n) as (λ _. kept.maximum < n) [
+  | inl above ↦ above
+  | inr not ↦ absurd (Any-not_All (λ p. p.max_buffer_count < n) (λ p. n ≤ p.max_buffer_count) ps (λ p low high. omega (arith, low, high)) one
+      (within_maximums kept ps n stands (omega arith)))
+]
+
+-- a number of 32 bits is above the least maximum exactly where it is above one of them
+pub above_maximum : (kept : Tally) (ps : List CountConstraints) (n : ℕ) → StandsFor kept ps → n < 2 ^ 32 → (kept.maximum < n) ↔ Any (λ p. p.max_buffer_count < n) ps
+above_maximum kept ps n stands small = (
+  λ above. one_below (λ p. p.max_buffer_count) n ps small (omega (arith, above, ap (λ t. t.maximum) stands.tallied)),
+  one_above kept ps n stands,
+)
+
+-- they need more than the least maximum exactly where they need more than one of their maximums
+pub needs_above : (kept : Tally) (ps : List CountConstraints) → StandsFor kept ps → (kept.maximum < needed ps) ↔ IsCountLine MaxBufferCount ps
+needs_above kept [] stands = (λ above. absurd (omega (arith, above, ap (λ t. t.maximum) stands.tallied)), one_above kept [] 1 stands)
+needs_above kept (p ∷ ps) stands = (
+  λ above. one_below_any (λ p. p.max_buffer_count) (needed (p ∷ ps)) p ps stands.fits (omega (arith, above, ap (λ t. t.maximum) stands.tallied)),
+  one_above kept (p ∷ ps) (needed (p ∷ ps)) stands,
+)
+
+-- a number suits participants exactly where it is from what they need to the least maximum and the limit
+pub suits_between : (kept : Tally) (ps : List CountConstraints) (count : ℕ) → StandsFor kept ps → needed ps ≤ count → count ≤ kept.maximum → count ≤ 128 → IsCounted ps count
+suits_between kept ps count stands enough within limit = record {
+  some = omega (arith, enough);
+  together = omega (arith, enough);
+  minimum = within_greatest (λ p. p.min_buffer_count) count ps (omega (arith, enough));
+  maximum = within_maximums kept ps count stands within;
+  limit = limit;
+}
+
+-- what suits participants isn't above the least maximum
+pub suits_within : (kept : Tally) (ps : List CountConstraints) (count : ℕ) → StandsFor kept ps → IsCounted ps count → count ≤ kept.maximum
+suits_within kept ps count stands c = elim (cases_lt kept.maximum count) as (λ _. count ≤ kept.maximum) [
+  | inl above ↦ absurd (Any-not_All (λ p. p.max_buffer_count < count) (λ p. count ≤ p.max_buffer_count) ps (λ p low high. omega (arith, low, high))
+      ((above_maximum kept ps count stands (omega (arith, c.limit))).0 above) c.maximum)
+  | inr not ↦ omega arith
+]
 
 -- what is kept after one more participant
 abbrev pub tally_with : Tally → CountConstraints → Tally

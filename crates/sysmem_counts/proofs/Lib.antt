@@ -1,2 +1,3 @@
+pub mod CallerLemmas
 pub mod Lists
 pub mod Counts

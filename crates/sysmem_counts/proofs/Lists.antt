@@ -1,12 +1,13 @@
 -- The greatest, the least, and some of a list.
-use Rattle.std.proofs.Common.{arith, ℕ, zero, suc, ◌≡◌, ◌≤◌, ◌<◌, ◌^◌, max, min, List, [], ◌∷◌, ◌++◌, refl, All, Any, sum_by, ◌⊎◌, inl, inr, subst}
+use Rattle.std.proofs.Common.{arith, ℕ, zero, suc, ◌≡◌, ◌≤◌, ◌<◌, ◌^◌, max, min, List, [], ◌∷◌, ◌++◌, refl, All, Any, ◌⊎◌, inl, inr}
 use Rattle.std.proofs.lemmas.List.Elements.{All-nil, All-cons, All-head, All-tail}
 use Rattle.std.proofs.lemmas.List.Recursion.{max_push}
-use Rattle.std.proofs.lemmas.List.Sums.{sum_by-cons}
-use Rattle.std.proofs.lemmas.Grind.{common_steps}
+use Rattle.std.proofs.lemmas.List.Sorted.{All-permutation, IsPermutation-sym}
+use Rattle.std.specs.List.Sorted.{IsPermutation}
+use Rattle.list_lemmas.proofs.CallerLemmas.{All-some, Any-here, Any-later, some_in_order}
+use Rattle.list_lemmas.specs.Some.{AreSomeOf}
 use Rattle.sysmem_counts.specs.Bounds.{least}
 use Rattle.sysmem_counts.specs.Counts.{greatest}
-use Rattle.sysmem_counts.specs.Sublist.{IsSublist, ended, taken, left_out}
 
 -- one more number: the greatest is the greater of the greatest so far and it
 pub greatest-push : {X : Type 0} (f : X → ℕ) (xs : List X) (x : X) → greatest f (xs ++ x ∷ []) ≡ max (greatest f xs) (f x)
@@ -32,14 +33,6 @@ pub above_least : {X : Type 0} (f : X → ℕ) (m : ℕ) (xs : List X) → m ≤
 above_least f m [] bound = All-nil (λ x. m ≤ f x)
 above_least f m (x ∷ xs) bound = All-cons (λ x. m ≤ f x) x xs (omega (arith, bound)) (above_least f m xs (omega (arith, bound)))
 
--- the first element
-Any-here : {X : Type 0} (P : X → Type 0) (x : X) (xs : List X) → P x → Any P (x ∷ xs)
-Any-here P x xs p = (0, x, grind (arith, common_steps), refl, p)
-
--- one of the others
-Any-later : {X : Type 0} (P : X → Type 0) (x : X) (xs : List X) → Any P xs → Any P (x ∷ xs)
-Any-later P x xs (k, y, below, is, p) = (suc k, y, grind (arith, common_steps, below), is, p)
-
 split : (a b : ℕ) → (a ≤ b) ⊎ (b < a)
 split zero b = inl (omega arith)
 split (suc a) zero = inr (omega arith)
@@ -53,10 +46,6 @@ one_below f m (x ∷ xs) small below = elim (split m (f x)) [
   | inr low ↦ Any-here (λ x. f x < m) x xs low
 ]
 
--- no element has what each one lacks
-pub Any-not_All : {X : Type 0} (P Q : X → Type 0) (xs : List X) → ((x : X) → P x → Q x → ⊥) → Any P xs → All Q xs → ⊥
-Any-not_All P Q xs clash (k, x, below, is, p) all = clash x p (subst Q is (all k x below))
-
 -- and any number above the least is above one of them, where there are some and each is of 32 bits
 pub one_below_any : {X : Type 0} (f : X → ℕ) (m : ℕ) (x : X) (xs : List X) → All (λ y. f y < 2 ^ 32) (x ∷ xs) → least f (x ∷ xs) < m → Any (λ y. f y < m) (x ∷ xs)
 one_below_any f m x xs fits below = elim (split (2 ^ 32) m) [
@@ -64,20 +53,28 @@ one_below_any f m x xs fits below = elim (split (2 ^ 32) m) [
   | inr small ↦ one_below f m (x ∷ xs) small below
 ]
 
--- some of the numbers add up to no more than all
-pub sum_some : {X : Type 0} (f : X → ℕ) (some all : List X) → IsSublist some all → sum_by f some ≤ sum_by f all
-sum_some f _ _ ended = omega arith
-sum_some f _ _ (taken x some all among) = omega (arith, sum_by-cons f x some, sum_by-cons f x all, sum_some f some all among)
-sum_some f _ _ (left_out x some all among) = omega (arith, sum_by-cons f x all, sum_some f some all among)
+-- some of the numbers have no greater one than all
+pub greatest_some : {X : Type 0} (f : X → ℕ) (some all : List X) → AreSomeOf some all → greatest f some ≤ greatest f all
+greatest_some f some all among = greatest_within f (greatest f all) some
+    (All-some (λ x. f x ≤ greatest f all) some all among (within_greatest f (greatest f all) all (omega arith)))
 
--- and have no greater number than all
-pub greatest_some : {X : Type 0} (f : X → ℕ) (some all : List X) → IsSublist some all → greatest f some ≤ greatest f all
-greatest_some f _ _ ended = omega arith
-greatest_some f _ _ (taken x some all among) = omega (arith, greatest_some f some all among)
-greatest_some f _ _ (left_out x some all among) = omega (arith, greatest_some f some all among)
+-- nor is theirs any greater than that of the same numbers in another order
+pub greatest_in_order : {X : Type 0} (f : X → ℕ) (xs ys : List X) → IsPermutation xs ys → greatest f xs ≡ greatest f ys
+greatest_in_order f xs ys order =
+    omega (arith, greatest_some f xs ys (some_in_order xs ys order), greatest_some f ys xs (some_in_order ys xs (IsPermutation-sym xs ys order)))
 
--- what each has, each of some has
-pub All-some : {X : Type 0} (P : X → Type 0) (some all : List X) → IsSublist some all → All P all → All P some
-All-some P _ _ ended holds = All-nil P
-All-some P _ _ (taken x some all among) holds = All-cons P x some (All-head P x all holds) (All-some P some all among (All-tail P x all holds))
-All-some P _ _ (left_out x some all among) holds = All-some P some all among (All-tail P x all holds)
+-- the least of numbers of 32 bits is the same in another order
+pub least_in_order : {X : Type 0} (f : X → ℕ) (xs ys : List X) → IsPermutation xs ys → least f xs ≡ least f ys
+least_in_order {X} f xs ys order =
+    omega (arith, least_at_most xs ys order, least_at_most ys xs (IsPermutation-sym xs ys order)) where
+      small : (zs : List X) → least f zs ≤ 4294967295
+      small [] = omega arith
+      small (z ∷ zs) = omega (arith, small zs)
+
+      above : (m : ℕ) (zs : List X) → m ≤ 4294967295 → All (λ z. m ≤ f z) zs → m ≤ least f zs
+      above m [] fits all = fits
+      above m (z ∷ zs) fits all = omega (arith, All-head (λ z. m ≤ f z) z zs all, above m zs fits (All-tail (λ z. m ≤ f z) z zs all))
+
+      least_at_most : (us vs : List X) → IsPermutation us vs → least f us ≤ least f vs
+      least_at_most us vs order = above (least f us) vs (small us)
+          (All-permutation (λ z. least f us ≤ f z) us vs order (above_least f (least f us) us (omega arith)))

@@ -2,7 +2,7 @@
 use Rattle.std.specs.Prelude.{ℕ, ◌+◌, ◌≤◌, ◌<◌, max, List, [], ◌∷◌, All, Any, sum_by}
 use Rattle.sysmem_counts.specs.declared.constraints.CountConstraints.{CountConstraints}
 use Rattle.sysmem_counts.specs.declared.field.Field.{Field}
-use Rattle.sysmem_counts.specs.declared.field.Field.TheVariants.{MaxBufferCount, BufferCountLimit}
+use Rattle.sysmem_counts.specs.declared.field.Field.TheVariants.{MinBufferCount, MaxBufferCount, BufferCountLimit}
 
 -- the greatest of these numbers, 0 of none
 abbrev pub greatest : {X : Type 0} → (X → ℕ) → List X → ℕ
@@ -48,3 +48,9 @@ IsCountLine _ ps = ⊥
 abbrev pub IsCountFault : List CountConstraints → Field → Type 0
 IsCountFault ps BufferCountLimit = All (λ p. needed ps ≤ p.max_buffer_count) ps × (128 < needed ps)
 IsCountFault ps field = IsCountLine field ps
+
+-- a line is true of participants where the count is fixed: they need more than it, or a maximum of theirs is below it
+abbrev pub IsFixedCountLine : ℕ → Field → List CountConstraints → Type 0
+IsFixedCountLine count MinBufferCount ps = count < needed ps
+IsFixedCountLine count MaxBufferCount ps = Any (λ p. p.max_buffer_count < count) ps
+IsFixedCountLine count _ ps = ⊥

@@ -1,5 +1,5 @@
 -- The families of usages, by their names and bits.
-use Rattle.std.specs.Prelude.{ℕ, List, [], ◌∷◌, Option, Some, None, codes}
+use Rattle.std.specs.Prelude.{ℕ, List, [], ◌∷◌, Option, codes}
 use Rattle.bitflags.specs.Sets.{find_name}
 
 -- each family's name and its bit

@@ -1,7 +1,7 @@
 -- The names of fields and limits.
 use Rattle.std.specs.Prelude.{ℕ, List, codes}
 use Rattle.sysmem_counts.specs.declared.field.Field.{Field}
-use Rattle.sysmem_counts.specs.declared.field.Field.TheVariants.{Usage, MinBufferCountForCamping, MinBufferCountForDedicatedSlack, MinBufferCountForSharedSlack, MinBufferCount, MaxBufferCount, BufferMemoryConstraints, ImageFormatConstraints, MinSizeBytes, MaxSizeBytes, PhysicallyContiguousRequired, SecureRequired, CpuDomainSupported, RamDomainSupported, InaccessibleDomainSupported, PermittedHeaps, PixelFormat, PixelFormatModifier, PixelFormatAndModifiers, ColorSpaces, MinSize, MaxSize, SizeAlignment, MinBytesPerRow, MaxBytesPerRow, BytesPerRowDivisor, StartOffsetDivisor, DisplayRectAlignment, RequiredMinSize, RequiredMaxSize, BufferCountLimit, UnnamedPixelFormat, UnnamedPixelFormatModifier, UnnamedColorSpace, Heaps, Pairs, HeapType, Id, Contiguous, Secure, Domains}
+use Rattle.sysmem_counts.specs.declared.field.Field.TheVariants.{Usage, MinBufferCountForCamping, MinBufferCountForDedicatedSlack, MinBufferCountForSharedSlack, MinBufferCount, MaxBufferCount, BufferMemoryConstraints, ImageFormatConstraints, MinSizeBytes, MaxSizeBytes, PhysicallyContiguousRequired, SecureRequired, CpuDomainSupported, RamDomainSupported, InaccessibleDomainSupported, PermittedHeaps, PixelFormat, PixelFormatModifier, PixelFormatAndModifiers, ColorSpaces, MinSize, MaxSize, SizeAlignment, MinBytesPerRow, MaxBytesPerRow, BytesPerRowDivisor, StartOffsetDivisor, DisplayRectAlignment, RequiredMinSize, RequiredMaxSize, MaxWidthTimesHeight, RequireBytesPerRowAtPixelBoundary, BufferCountLimit, UnnamedPixelFormat, UnnamedPixelFormatModifier, UnnamedColorSpace, Heaps, Pairs, HeapType, Id, Contiguous, Secure, Domains}
 
 -- a field's name in a script
 abbrev pub field_name : Field → List ℕ
@@ -35,6 +35,8 @@ field_name StartOffsetDivisor = codes "start_offset_divisor"
 field_name DisplayRectAlignment = codes "display_rect_alignment"
 field_name RequiredMinSize = codes "required_min_size"
 field_name RequiredMaxSize = codes "required_max_size"
+field_name MaxWidthTimesHeight = codes "max_width_times_height"
+field_name RequireBytesPerRowAtPixelBoundary = codes "require_bytes_per_row_at_pixel_boundary"
 field_name BufferCountLimit = codes "buffer_count_limit"
 field_name UnnamedPixelFormat = codes "unnamed_pixel_format"
 field_name UnnamedPixelFormatModifier = codes "unnamed_pixel_format_modifier"

@@ -1,17 +1,17 @@
 -- What is true of counts, whoever works them out.
 use Rattle.std.specs.Prelude.{ℕ, ◌≡◌, List}
+use Rattle.list_lemmas.specs.Some.{AreSomeOf}
 use Rattle.sysmem_counts.specs.Counts.{IsCounted, IsLeastCount, IsCountLine, HasNoCount}
-use Rattle.sysmem_counts.specs.Sublist.{IsSublist}
 use Rattle.sysmem_counts.specs.declared.constraints.CountConstraints.{CountConstraints}
 use Rattle.sysmem_counts.specs.declared.field.Field.{Field}
 
--- what suits participants suits some of them
+-- what suits participants suits some of them, whatever their order
 abbrev pub CountSuitsSome : Type 0
-CountSuitsSome = (some all : List CountConstraints) (count : ℕ) → IsSublist some all → IsCounted all count → IsCounted some count
+CountSuitsSome = (some all : List CountConstraints) (count : ℕ) → AreSomeOf some all → IsCounted all count → IsCounted some count
 
--- a count line that is true of some of the participants leaves no count for all of them
+-- a count line that is true of some of the participants leaves no count for all of them, whatever their order
 abbrev pub CountLineLeavesNone : Type 0
-CountLineLeavesNone = (field : Field) (some all : List CountConstraints) → IsSublist some all → IsCountLine field some → HasNoCount all
+CountLineLeavesNone = (field : Field) (some all : List CountConstraints) → AreSomeOf some all → IsCountLine field some → HasNoCount all
 
 -- participants have at most one least count
 abbrev pub OneLeastCount : Type 0

@@ -3,6 +3,5 @@ pub mod Counts
 pub mod Families
 pub mod Field
 pub mod Laws
-pub mod Sublist
 pub mod Tally
 pub mod Usage

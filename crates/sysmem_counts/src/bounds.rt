@@ -1,8 +1,9 @@
 // What participants together need of the number of buffers.
 
-ghost use Rattle.std.specs.Prelude.{◌≡◌, ◌+◌, ◌<◌, ◌^◌, ◌++◌, [], ◌∷◌, List, IfErr, MatchResult};
+ghost use Rattle.std.specs.Prelude.{◌≡◌, ◌↔◌, ◌+◌, ◌<◌, ◌^◌, ◌++◌, [], ◌∷◌, List, IfErr, IsTrue, MatchResult};
 ghost use Rattle.sysmem_counts.specs.Bounds.{StandsFor};
-ghost use Rattle.sysmem_counts.specs.Counts.{HasNoCount, IsCountFault, IsCountLine, IsLeastCount};
+ghost use Rattle.sysmem_counts.specs.Counts.{HasNoCount, IsCountFault, IsCountLine, IsCounted, IsFixedCountLine};
+ghost use Rattle.sysmem_counts.specs.Counts.{IsLeastCount, needed};
 ghost use Rattle.sysmem_counts.specs.Tally.{sum_of};
 ghost use Rattle.sysmem_counts.specs.declared.constraints.CountConstraints.{CountConstraints as Asked};
 
@@ -70,8 +71,7 @@ impl CountBounds {
         ensures line { (ps : List Asked) → StandsFor self.now ps → IfErr result (λ field. IsCountLine field ps) }
         ensures none { (ps : List Asked) → StandsFor self.now ps → IfErr result (λ _. HasNoCount ps) }
     {
-        let together = self.own + u64::from(self.shared);
-        let needed = together.max(u64::from(self.minimum)).max(1);
+        let needed = self.needed();
         if needed > u64::from(self.maximum) {
             return Err(Field::MaxBufferCount);
         }
@@ -79,5 +79,45 @@ impl CountBounds {
             return Err(Field::BufferCountLimit);
         }
         Ok(needed as u32)
+    }
+
+    /// Whether a count line is true of the participants: `MaxBufferCount` where they need more than one
+    /// of their maximums, `BufferCountLimit` where they need more than 128; no other field is one.
+    pub fn is_line(&self, field: Field) -> bool
+        ensures { (ps : List Asked) → StandsFor self.now ps → IsTrue result ↔ IsCountLine field ps }
+    {
+        match field {
+            Field::MaxBufferCount => u64::from(self.maximum) < self.needed(),
+            Field::BufferCountLimit => u64::from(BUFFER_COUNT_LIMIT) < self.needed(),
+            _ => false,
+        }
+    }
+
+    /// Whether a line is true of the participants where the count is fixed: `MinBufferCount` where they need
+    /// more, `MaxBufferCount` where one of their maximums is below it; no other field is one.
+    pub fn is_fixed_line(&self, count: u32, field: Field) -> bool
+        ensures { (ps : List Asked) → StandsFor self.now ps → IsTrue result ↔ IsFixedCountLine count field ps }
+    {
+        match field {
+            Field::MinBufferCount => u64::from(count) < self.needed(),
+            Field::MaxBufferCount => self.maximum < count,
+            _ => false,
+        }
+    }
+
+    /// Whether a number of buffers suits all participants; none above 128 does.
+    pub fn suits(&self, count: u32) -> bool
+        ensures { (ps : List Asked) → StandsFor self.now ps → IsTrue result ↔ IsCounted ps count }
+    {
+        let most = self.maximum.min(BUFFER_COUNT_LIMIT);
+        self.needed() <= u64::from(count) && count <= most
+    }
+
+    /// How many buffers the participants need, whatever their maximums and the limit are.
+    fn needed(&self) -> u64
+        ensures { (ps : List Asked) → StandsFor self.now ps → result ≡ needed ps }
+    {
+        let together = self.own + u64::from(self.shared);
+        together.max(u64::from(self.minimum)).max(1)
     }
 }

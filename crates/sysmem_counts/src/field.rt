@@ -65,6 +65,10 @@ pub enum Field {
     RequiredMinSize,
     /// The size up to which images must be allowed.
     RequiredMaxSize,
+    /// The greatest product of width and height.
+    MaxWidthTimesHeight,
+    /// Whether rows must end at a whole pixel.
+    RequireBytesPerRowAtPixelBoundary,
     /// The limit of 128 buffers.
     BufferCountLimit,
     /// A pixel format that no participant names.
@@ -128,6 +132,8 @@ impl Field {
             Field::DisplayRectAlignment => "display_rect_alignment",
             Field::RequiredMinSize => "required_min_size",
             Field::RequiredMaxSize => "required_max_size",
+            Field::MaxWidthTimesHeight => "max_width_times_height",
+            Field::RequireBytesPerRowAtPixelBoundary => "require_bytes_per_row_at_pixel_boundary",
             Field::BufferCountLimit => "buffer_count_limit",
             Field::UnnamedPixelFormat => "unnamed_pixel_format",
             Field::UnnamedPixelFormatModifier => "unnamed_pixel_format_modifier",
@@ -177,6 +183,10 @@ impl Field {
             "display_rect_alignment" => Some(Field::DisplayRectAlignment),
             "required_min_size" => Some(Field::RequiredMinSize),
             "required_max_size" => Some(Field::RequiredMaxSize),
+            "max_width_times_height" => Some(Field::MaxWidthTimesHeight),
+            "require_bytes_per_row_at_pixel_boundary" => Some(
+                Field::RequireBytesPerRowAtPixelBoundary,
+            ),
             "buffer_count_limit" => Some(Field::BufferCountLimit),
             "unnamed_pixel_format" => Some(Field::UnnamedPixelFormat),
             "unnamed_pixel_format_modifier" => Some(Field::UnnamedPixelFormatModifier),

@@ -94,6 +94,11 @@ fn field_names(rt: HostRuntime) {
         ),
         (Field::ImageFormatConstraints, "image_format_constraints"),
         (Field::RequiredMaxSize, "required_max_size"),
+        (Field::MaxWidthTimesHeight, "max_width_times_height"),
+        (
+            Field::RequireBytesPerRowAtPixelBoundary,
+            "require_bytes_per_row_at_pixel_boundary",
+        ),
         (Field::BufferCountLimit, "buffer_count_limit"),
         (
             Field::UnnamedPixelFormatModifier,

@@ -1,6 +1,6 @@
 -- The place of an offer in a list of lists.
-use Rattle.std.proofs.Common.{◌≡◌, ℕ, zero, suc, ◌+◌, ◌*◌, ◌/◌, ◌%◌, ◌<◌, ◌≤◌, List, [], ◌∷◌, ◌++◌, length, map, slice_get, slice_index_or, refl, sym, ap, arith, Some, None, ◌∙◌}
-use Rattle.std.specs.List.{flat_map}
+use Rattle.std.proofs.Common.{◌≡◌, ℕ, ◌+◌, ◌*◌, ◌/◌, ◌%◌, ◌<◌, ◌≤◌, List, [], ◌∷◌, length, map, slice_get, slice_index_or, refl, sym, ap, arith, Some, None, ◌∙◌}
+use Rattle.list_lemmas.proofs.CallerLemmas.{slice_get-flat_map}
 use Rattle.std.specs.Option.{option_and_then, option_map}
 use Rattle.std.proofs.lemmas.Option.{slice_get-map, slice_get_past, slice_get-get_or}
 use Rattle.std.proofs.lemmas.Nat.{div-add-mod'}
@@ -10,31 +10,6 @@ use Rattle.sysmem_formats.specs.declared.colour_space.ColourSpace.{ColourSpace}
 use Rattle.sysmem_formats.specs.declared.offer.Pair.{Pair}
 use Rattle.sysmem_formats.specs.declared.offer.Offer.TheVariants.{Image}
 use Rattle.sysmem_formats.specs.Offers.{images}
-
--- a place within the first of two lists
-pub slice_get-append_left : {A : Type 0} (xs ys : List A) (i : ℕ) → i < length xs → slice_get (xs ++ ys) i ≡ slice_get xs i
-slice_get-append_left [] ys i h = absurd (omega (arith, h))
-slice_get-append_left (x ∷ xs) ys zero h = refl
-slice_get-append_left (x ∷ xs) ys (suc i) h = slice_get-append_left xs ys i (omega (arith, h))
-
--- a place behind the first of two lists
-pub slice_get-append_add : {A : Type 0} (xs ys : List A) (n i : ℕ) → length xs ≡ n → slice_get (xs ++ ys) (n + i) ≡ slice_get ys i
-slice_get-append_add [] ys n i e =
-    let f : n + i ≡ i = omega (arith, e) in ap (slice_get ys) f
-slice_get-append_add (x ∷ xs) ys n i e =
-    let f : n + i ≡ suc (length xs + i) = omega (arith, e) in
-    ap (slice_get (x ∷ xs ++ ys)) f ∙ slice_get-append_add xs ys (length xs) i refl
-
--- in lists of n each, the place q * n + r is the place r of the list q
-pub slice_get-flat_map : {A B : Type 0} (f : A → List B) (xs : List A) (n q r : ℕ) → ((x : A) → length (f x) ≡ n) → r < n → slice_get (flat_map f xs) (q * n + r) ≡ option_and_then (λ x. slice_get (f x) r) (slice_get xs q)
-slice_get-flat_map f [] n q r each h = refl
-slice_get-flat_map f (x ∷ xs) n zero r each h =
-    let e : zero * n + r ≡ r = omega arith in
-    let inside : r < length (f x) = omega (arith, each x) in
-    ap (slice_get (f x ++ flat_map f xs)) e ∙ slice_get-append_left (f x) (flat_map f xs) r inside
-slice_get-flat_map f (x ∷ xs) n (suc q) r each h =
-    let e : suc q * n + r ≡ n + (q * n + r) = omega arith in
-    ap (slice_get (f x ++ flat_map f xs)) e ∙ slice_get-append_add (f x) (flat_map f xs) n (q * n + r) (each x) ∙ slice_get-flat_map f xs n q r each h
 
 -- the offers with an image, by the place of the pair and that of the colour space
 pub slice_get-images : (ps : List Pair) (cs : List ColourSpace) (i : ℕ) → 0 < length cs → slice_get (images ps cs) i ≡ option_and_then (λ p. option_map (λ c. Image p c) (slice_get cs (i % length cs))) (slice_get ps (i / length cs))

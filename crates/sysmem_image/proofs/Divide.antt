@@ -38,6 +38,10 @@ lcm_from_gcd a b g some p q joins =
       least = λ k r s. dvd_of_mul-dvd-mul_right (a / g * b) some (subst (λ z. z ∣ k * g) (sym whole) (joins k r s));
     }
 
+-- a number is the least common multiple of itself and what divides it
+pub lcm_of_multiple : (a b : ℕ) → b ∣ a → IsLcm a b a
+lcm_of_multiple a b p = record { left = dvd_refl a; right = p; least = λ k r s. r }
+
 -- the loop begins with the numbers themselves
 pub first_step : (a b : ℕ) → 1 ≤ a → IsStep a b a b
 first_step a b some = record {

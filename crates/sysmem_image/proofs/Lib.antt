@@ -8,3 +8,5 @@ pub mod Smaller
 pub mod Sound
 pub mod Exact
 pub mod Slots
+pub mod Pixels
+pub mod CallerLemmas

@@ -1,19 +1,21 @@
 -- What corners and lines read of merged bounds is what they read of the list.
-use Rattle.std.proofs.Common.{◌↔◌, ℕ, ◌<◌, ◌≤◌, ◌⊎◌, List, arith, inl, inr}
+use Rattle.std.proofs.Common.{◌≡◌, ◌↔◌, ℕ, ◌*◌, ◌<◌, ◌≤◌, ◌⊎◌, List, arith, inl, inr, refl, subst}
 use Rattle.std.specs.Prelude.{Result, Ok, Err, IfErr}
 use Rattle.std.specs.Int.{◌∣◌}
 use Rattle.std.proofs.lemmas.Bool.{cases_lt}
 use Rattle.std.proofs.lemmas.Nat.Gcd.{dvd_trans}
 use Rattle.sysmem_counts.specs.declared.field.Field.{Field}
-use Rattle.sysmem_counts.specs.declared.field.Field.TheVariants.{SizeAlignment, BytesPerRowDivisor, StartOffsetDivisor, DisplayRectAlignment, RequiredMinSize, MaxSize, MaxBytesPerRow}
+use Rattle.sysmem_counts.specs.declared.field.Field.TheVariants.{RequiredMinSize, MaxSize, MaxWidthTimesHeight, MaxBytesPerRow}
 use Rattle.sysmem_formats.specs.declared.offer.Offer.{Offer}
 use Rattle.sysmem_formats.specs.Layout.{width_alignment_of, height_alignment_of, row_divisor_of}
 use Rattle.sysmem_image.specs.declared.bounds.ImageBounds.{ImageBounds}
 use Rattle.sysmem_image.specs.declared.size.Corner.{Corner}
 use Rattle.sysmem_image.specs.Size.{IsSizeUpTo}
-use Rattle.sysmem_image.specs.Merged.{MergedOf}
-use Rattle.sysmem_image.specs.Corners.{IsWidth, IsHeight, IsRow, HasNoCorner, HasSides, EarlierHold}
-use Rattle.sysmem_image.specs.Lines.{FitsWidth, FitsHeight, FitsRow, AlignmentsMeet, DivisorsMeet, MinAboveRequired, WidthAbove, HeightAbove, IsBoundsLine, IsFirstLine}
+use Rattle.sysmem_image.specs.Merged.{IsMergeOf, MergedOf}
+use Rattle.sysmem_image.specs.Corners.{IsWidth, IsHeight, IsRow, HasNoCorner, HasSides, HasArea, EarlierHold}
+use Rattle.sysmem_image.specs.Lines.{FitsWidth, FitsHeight, FitsRow, AlignmentsMeet, DivisorsMeet, MinAboveRequired, WidthAbove, HeightAbove, IsBoundsLine, IsFirstLine, MeetsIn, NoLines, multiple_lines}
+use Rattle.sysmem_image.specs.Fields as bound
+use Rattle.sysmem_image.specs.Fields.{Bound, Side, Width, Height, Multiple, Keeps, rule_of, most, value, own_value}
 use Rattle.sysmem_image.specs.Laws.{ReadsAs}
 use Rattle.sysmem_image.proofs.Steps.{common_merged}
 
@@ -22,18 +24,18 @@ pub width_reads : (o : Offer) (es : List ImageBounds) (b : ImageBounds) → Merg
 width_reads o es b old n = (
   λ is.
       let some : 1 ≤ n = omega (arith, b.min_width_some, is.from) in
-      let own : width_alignment_of o ∣ n = dvd_trans (width_alignment_of o) old.width_step.suits is.step in
+      let own : width_alignment_of o ∣ n = dvd_trans (width_alignment_of o) (old.each bound.SizeAlignment Width).suits is.step in
       record {
         some = some;
         own = own;
-        step = (old.width_step.exactly n own).0 is.step;
-        least = (old.min_width.exactly n some).0 is.from;
-        required = (old.required_max_width.exactly n (omega arith)).0 is.required;
+        step = ((old.each bound.SizeAlignment Width).exactly n own).0 is.step;
+        least = ((old.each bound.MinSize Width).exactly n some).0 is.from;
+        required = ((old.each bound.RequiredMaxSize Width).exactly n (omega arith)).0 is.required;
       },
   λ fits. record {
-    step = (old.width_step.exactly n fits.own).1 fits.step;
-    from = (old.min_width.exactly n fits.some).1 fits.least;
-    required = (old.required_max_width.exactly n (omega arith)).1 fits.required;
+    step = ((old.each bound.SizeAlignment Width).exactly n fits.own).1 fits.step;
+    from = ((old.each bound.MinSize Width).exactly n fits.some).1 fits.least;
+    required = ((old.each bound.RequiredMaxSize Width).exactly n (omega arith)).1 fits.required;
   },
 )
 
@@ -42,18 +44,18 @@ pub height_reads : (o : Offer) (es : List ImageBounds) (b : ImageBounds) → Mer
 height_reads o es b old n = (
   λ is.
       let some : 1 ≤ n = omega (arith, b.min_height_some, is.from) in
-      let own : height_alignment_of o ∣ n = dvd_trans (height_alignment_of o) old.height_step.suits is.step in
+      let own : height_alignment_of o ∣ n = dvd_trans (height_alignment_of o) (old.each bound.SizeAlignment Height).suits is.step in
       record {
         some = some;
         own = own;
-        step = (old.height_step.exactly n own).0 is.step;
-        least = (old.min_height.exactly n some).0 is.from;
-        required = (old.required_max_height.exactly n (omega arith)).0 is.required;
+        step = ((old.each bound.SizeAlignment Height).exactly n own).0 is.step;
+        least = ((old.each bound.MinSize Height).exactly n some).0 is.from;
+        required = ((old.each bound.RequiredMaxSize Height).exactly n (omega arith)).0 is.required;
       },
   λ fits. record {
-    step = (old.height_step.exactly n fits.own).1 fits.step;
-    from = (old.min_height.exactly n fits.some).1 fits.least;
-    required = (old.required_max_height.exactly n (omega arith)).1 fits.required;
+    step = ((old.each bound.SizeAlignment Height).exactly n fits.own).1 fits.step;
+    from = ((old.each bound.MinSize Height).exactly n fits.some).1 fits.least;
+    required = ((old.each bound.RequiredMaxSize Height).exactly n (omega arith)).1 fits.required;
   },
 )
 
@@ -62,31 +64,43 @@ pub row_reads : (o : Offer) (es : List ImageBounds) (b : ImageBounds) → Merged
 row_reads o es b old w r = (
   λ is.
       let some : 1 ≤ r = omega (arith, b.min_row_some, is.from) in
-      let own : row_divisor_of o ∣ r = dvd_trans (row_divisor_of o) old.row_step.suits is.step in
+      let own : row_divisor_of o ∣ r = dvd_trans (row_divisor_of o) (old.each bound.BytesPerRowDivisor Width).suits is.step in
       record {
         some = some;
         own = own;
-        step = (old.row_step.exactly r own).0 is.step;
-        least = (old.min_row.exactly r some).0 is.from;
+        step = ((old.each bound.BytesPerRowDivisor Width).exactly r own).0 is.step;
+        least = ((old.each bound.MinBytesPerRow Width).exactly r some).0 is.from;
         row_bytes = is.row_bytes;
       },
   λ fits. record {
-    step = (old.row_step.exactly r fits.own).1 fits.step;
-    from = (old.min_row.exactly r fits.some).1 fits.least;
+    step = ((old.each bound.BytesPerRowDivisor Width).exactly r fits.own).1 fits.step;
+    from = ((old.each bound.MinBytesPerRow Width).exactly r fits.some).1 fits.least;
     row_bytes = fits.row_bytes;
   },
 )
 
+-- a merged alignment or divisor is a common multiple
+merged_meets : (f : Bound) → rule_of f ≡ Multiple → (o : Offer) (es : List ImageBounds) (b : ImageBounds) → ((d : Side) → 1 ≤ value f d b) → most f ≡ 4294967295 → MergedOf o es b → MeetsIn f o es
+merged_meets f rule o es b some limit old d =
+    common_merged (own_value o f d) (value f d) es (value f d b) (some d) (omega (arith, limit, old.in_range f d))
+    (subst (λ r. IsMergeOf (Keeps r) (own_value o f d) (value f d) es (value f d b)) rule (old.each f d))
+
+-- the alignments of bounds are 1 or more
+alignments_some : (b : ImageBounds) (d : Side) → 1 ≤ value bound.SizeAlignment d b
+alignments_some b Width = b.width_step_some
+alignments_some b Height = b.height_step_some
+
+display_some : (b : ImageBounds) (d : Side) → 1 ≤ value bound.DisplayRectAlignment d b
+display_some b Width = b.display_width_some
+display_some b Height = b.display_height_some
+
 -- merged alignments are common multiples
 pub alignments_meet : (o : Offer) (es : List ImageBounds) (b : ImageBounds) → MergedOf o es b → AlignmentsMeet o es
-alignments_meet o es b old = (
-  common_merged (width_alignment_of o) (λ e. e.size_alignment.width) es b.size_alignment.width b.width_step_some old.in_range.size_alignment.width old.width_step,
-  common_merged (height_alignment_of o) (λ e. e.size_alignment.height) es b.size_alignment.height b.height_step_some old.in_range.size_alignment.height old.height_step,
-)
+alignments_meet o es b old = merged_meets bound.SizeAlignment refl o es b (alignments_some b) refl old
 
 -- a merged row divisor is a common multiple
 pub divisors_meet : (o : Offer) (es : List ImageBounds) (b : ImageBounds) → MergedOf o es b → DivisorsMeet o es
-divisors_meet o es b old = common_merged (row_divisor_of o) (λ e. e.bytes_per_row_divisor) es b.bytes_per_row_divisor b.row_step_some old.in_range.bytes_per_row_divisor old.row_step
+divisors_meet o es b old = merged_meets bound.BytesPerRowDivisor refl o es b (λ d. b.row_step_some) refl old
 
 -- what a corner reads of merged bounds is what it reads of the list
 pub merged_reads : (o : Offer) (es : List ImageBounds) (b : ImageBounds) → MergedOf o es b → ReadsAs o es b
@@ -99,54 +113,60 @@ merged_reads o es b old = record {
 }
 
 -- where bounds were merged, no line about a common multiple is true
-no_size_line : (o : Offer) (es : List ImageBounds) (b : ImageBounds) → MergedOf o es b → ¬ IsBoundsLine SizeAlignment o es
-no_size_line o es b old = λ line. let meet = alignments_meet o es b old in elim line as (λ _. ⊥) [ inl unmet ↦ unmet meet.0 | inr unmet ↦ unmet meet.1 ]
-
-no_row_line : (o : Offer) (es : List ImageBounds) (b : ImageBounds) → MergedOf o es b → ¬ IsBoundsLine BytesPerRowDivisor o es
-no_row_line o es b old = λ line. line (divisors_meet o es b old)
-
-no_start_line : (o : Offer) (es : List ImageBounds) (b : ImageBounds) → MergedOf o es b → ¬ IsBoundsLine StartOffsetDivisor o es
-no_start_line o es b old = λ line. line (common_merged 1 (λ e. e.start_offset_divisor) es b.start_offset_divisor b.start_step_some old.in_range.start_offset_divisor old.start_step)
-
-no_display_line : (o : Offer) (es : List ImageBounds) (b : ImageBounds) → MergedOf o es b → ¬ IsBoundsLine DisplayRectAlignment o es
-no_display_line o es b old = λ line. elim line as (λ _. ⊥) [
-  | inl unmet ↦ unmet (common_merged 1 (λ e. e.display_rect_alignment.width) es b.display_rect_alignment.width b.display_width_some old.in_range.display_rect_alignment.width old.display_width_step)
-  | inr unmet ↦ unmet (common_merged 1 (λ e. e.display_rect_alignment.height) es b.display_rect_alignment.height b.display_height_some old.in_range.display_rect_alignment.height old.display_height_step)
-]
+no_multiple_lines : (o : Offer) (es : List ImageBounds) (b : ImageBounds) → MergedOf o es b → NoLines multiple_lines o es
+no_multiple_lines o es b old = (
+  λ line. line (alignments_meet o es b old),
+  (
+    λ line. line (divisors_meet o es b old),
+    (
+      λ line. line (merged_meets bound.StartOffsetDivisor refl o es b (λ d. b.start_step_some) refl old),
+      (λ line. line (merged_meets bound.DisplayRectAlignment refl o es b (display_some b) refl old), tt),
+    ),
+  ),
+)
 
 -- where min_size is at most required_min_size, their line isn't true
 no_required_line : (o : Offer) (es : List ImageBounds) (b : ImageBounds) → MergedOf o es b → IsSizeUpTo b.min_size b.required_min_size → ¬ IsBoundsLine RequiredMinSize o es
 no_required_line o es b old fits = λ line. elim line as (λ _. ⊥) [
-  | inl unmet ↦ unmet b.min_size.width b.min_width_some old.in_range.min_size.width
-      ((old.min_width.exactly b.min_size.width old.min_width.suits).0 (omega arith))
-      ((old.required_min_width.exactly b.min_size.width old.in_range.min_size.width).0 fits.width)
-  | inr unmet ↦ unmet b.min_size.height b.min_height_some old.in_range.min_size.height
-      ((old.min_height.exactly b.min_size.height old.min_height.suits).0 (omega arith))
-      ((old.required_min_height.exactly b.min_size.height old.in_range.min_size.height).0 fits.height)
+  | inl unmet ↦ unmet b.min_size.width b.min_width_some (old.in_range bound.MinSize Width)
+      (((old.each bound.MinSize Width).exactly b.min_size.width (old.each bound.MinSize Width).suits).0 (omega arith))
+      (((old.each bound.RequiredMinSize Width).exactly b.min_size.width (old.in_range bound.MinSize Width)).0 fits.width)
+  | inr unmet ↦ unmet b.min_size.height b.min_height_some (old.in_range bound.MinSize Height)
+      (((old.each bound.MinSize Height).exactly b.min_size.height (old.each bound.MinSize Height).suits).0 (omega arith))
+      (((old.each bound.RequiredMinSize Height).exactly b.min_size.height (old.in_range bound.MinSize Height)).0 fits.height)
 ]
 
 -- where some sides are up to max_size, its line isn't true
 no_max_line : (o : Offer) (es : List ImageBounds) (b : ImageBounds) → MergedOf o es b → HasSides b → ¬ IsBoundsLine MaxSize o es
 no_max_line o es b old has = λ line.
-    let narrow : has.width ≤ 4294967295 = omega (arith, has.max_width, old.in_range.max_size.width) in
-    let low : has.height ≤ 4294967295 = omega (arith, has.max_height, old.in_range.max_size.height) in
+    let narrow : has.width ≤ 4294967295 = omega (arith, has.max_width, (old.in_range bound.MaxSize Width)) in
+    let low : has.height ≤ 4294967295 = omega (arith, has.max_height, (old.in_range bound.MaxSize Height)) in
     elim line.1 as (λ _. ⊥) [
-      | inl unmet ↦ unmet has.width narrow ((width_reads o es b old has.width).0 has.is_width) ((old.max_width.exactly has.width narrow).0 has.max_width)
-      | inr unmet ↦ unmet has.height low ((height_reads o es b old has.height).0 has.is_height) ((old.max_height.exactly has.height low).0 has.max_height)
+      | inl unmet ↦ unmet has.width narrow ((width_reads o es b old has.width).0 has.is_width) (((old.each bound.MaxSize Width).exactly has.width narrow).0 has.max_width)
+      | inr unmet ↦ unmet has.height low ((height_reads o es b old has.height).0 has.is_height) (((old.each bound.MaxSize Height).exactly has.height low).0 has.max_height)
     ]
+
+-- where some sides have a product up to max_width_times_height, its line isn't true
+no_area_line : (o : Offer) (es : List ImageBounds) (b : ImageBounds) → MergedOf o es b → HasArea b → ¬ IsBoundsLine MaxWidthTimesHeight o es
+no_area_line o es b old has = λ line.
+    let w = has.sides.width in
+    let h = has.sides.height in
+    let small : w * h ≤ 18446744073709551615 = omega (arith, has.area, old.in_range bound.MaxWidthTimesHeight Width) in
+    line.1 w h small ((width_reads o es b old w).0 has.sides.is_width) ((height_reads o es b old h).0 has.sides.is_height)
+    (((old.each bound.MaxWidthTimesHeight Width).exactly (w * h) small).0 has.area)
 
 -- where the merged min_size is above the merged required_min_size, so it is in the list
 width_above : (o : Offer) (es : List ImageBounds) (b : ImageBounds) → MergedOf o es b → b.required_min_size.width < b.min_size.width → MinAboveRequired (λ e. e.min_size.width) (λ e. e.required_min_size.width) es
 width_above o es b old above = λ n some small mins requireds.
-    let left : b.min_size.width ≤ n = (old.min_width.exactly n some).1 mins in
-    let right : n ≤ b.required_min_size.width = (old.required_min_width.exactly n small).1 requireds in
+    let left : b.min_size.width ≤ n = ((old.each bound.MinSize Width).exactly n some).1 mins in
+    let right : n ≤ b.required_min_size.width = ((old.each bound.RequiredMinSize Width).exactly n small).1 requireds in
     let no : ⊥ = omega arith in
     no
 
 height_above : (o : Offer) (es : List ImageBounds) (b : ImageBounds) → MergedOf o es b → b.required_min_size.height < b.min_size.height → MinAboveRequired (λ e. e.min_size.height) (λ e. e.required_min_size.height) es
 height_above o es b old above = λ n some small mins requireds.
-    let left : b.min_size.height ≤ n = (old.min_height.exactly n some).1 mins in
-    let right : n ≤ b.required_min_size.height = (old.required_min_height.exactly n small).1 requireds in
+    let left : b.min_size.height ≤ n = ((old.each bound.MinSize Height).exactly n some).1 mins in
+    let right : n ≤ b.required_min_size.height = ((old.each bound.RequiredMinSize Height).exactly n small).1 requireds in
     let no : ⊥ = omega arith in
     no
 
@@ -165,22 +185,30 @@ corner_line MaxSize o es b none old = (
   elim none as (λ _. WidthAbove o es ⊎ HeightAbove o es) [
     | inl unmet ↦ inl (λ w small fits maxima.
         let below : b.max_size.width < w = unmet w ((width_reads o es b old w).1 fits) in
-        let up_to : w ≤ b.max_size.width = (old.max_width.exactly w small).1 maxima in
+        let up_to : w ≤ b.max_size.width = ((old.each bound.MaxSize Width).exactly w small).1 maxima in
         let never : ⊥ = omega arith in
         never)
     | inr unmet ↦ inr (λ h small fits maxima.
         let below : b.max_size.height < h = unmet h ((height_reads o es b old h).1 fits) in
-        let up_to : h ≤ b.max_size.height = (old.max_height.exactly h small).1 maxima in
+        let up_to : h ≤ b.max_size.height = ((old.each bound.MaxSize Height).exactly h small).1 maxima in
         let never : ⊥ = omega arith in
         never)
   ],
+)
+corner_line MaxWidthTimesHeight o es b none old = (
+  alignments_meet o es b old,
+  λ w h small wide high maxima.
+      let below : b.max_width_times_height < w * h = none w h ((width_reads o es b old w).1 wide) ((height_reads o es b old h).1 high) in
+      let up_to : w * h ≤ b.max_width_times_height = ((old.each bound.MaxWidthTimesHeight Width).exactly (w * h) small).1 maxima in
+      let never : ⊥ = omega arith in
+      never,
 )
 corner_line MaxBytesPerRow o es b none old = (
   alignments_meet o es b old,
   divisors_meet o es b old,
   λ w r small wide fits maxima.
       let below : b.max_bytes_per_row < r = none w r ((width_reads o es b old w).1 wide) ((row_reads o es b old w r).1 fits) in
-      let up_to : r ≤ b.max_bytes_per_row = (old.max_row.exactly r small).1 maxima in
+      let up_to : r ≤ b.max_bytes_per_row = ((old.each bound.MaxBytesPerRow Width).exactly r small).1 maxima in
       let never : ⊥ = omega arith in
       never,
 )
@@ -190,15 +218,19 @@ corner_line _ o es b none old = absurd none
 pub first_line : (f : Field) (o : Offer) (es : List ImageBounds) (b : ImageBounds) → HasNoCorner f o b → EarlierHold f b → MergedOf o es b → IsFirstLine f o es
 first_line RequiredMinSize o es b none earlier old = record {
   line = corner_line RequiredMinSize o es b none old;
-  before = (no_size_line o es b old, (no_row_line o es b old, (no_start_line o es b old, (no_display_line o es b old, tt))));
+  before = no_multiple_lines o es b old;
 }
 first_line MaxSize o es b none earlier old = record {
   line = corner_line MaxSize o es b none old;
-  before = (no_size_line o es b old, (no_row_line o es b old, (no_start_line o es b old, (no_display_line o es b old, (no_required_line o es b old earlier, tt)))));
+  before = (no_required_line o es b old earlier, no_multiple_lines o es b old);
+}
+first_line MaxWidthTimesHeight o es b none earlier old = record {
+  line = corner_line MaxWidthTimesHeight o es b none old;
+  before = (no_max_line o es b old earlier.1, (no_required_line o es b old earlier.0, no_multiple_lines o es b old));
 }
 first_line MaxBytesPerRow o es b none earlier old = record {
   line = corner_line MaxBytesPerRow o es b none old;
-  before = (no_size_line o es b old, (no_row_line o es b old, (no_start_line o es b old, (no_display_line o es b old, (no_required_line o es b old earlier.0, (no_max_line o es b old earlier.1, tt))))));
+  before = (no_area_line o es b old earlier.1, (no_max_line o es b old earlier.1.sides, (no_required_line o es b old earlier.0, no_multiple_lines o es b old)));
 }
 first_line _ o es b none earlier old = absurd none
 

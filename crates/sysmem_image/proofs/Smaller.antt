@@ -1,10 +1,10 @@
 -- The corner is least.
-use Rattle.std.proofs.Common.{◌≡◌, ℕ, ◌≤◌, arith, sym, subst}
+use Rattle.std.proofs.Common.{◌≡◌, ℕ, ◌*◌, ◌≤◌, arith, sym, subst}
 use Rattle.sysmem_formats.specs.declared.offer.Offer.{Offer}
 use Rattle.sysmem_formats.specs.Layout.{row_bytes_of, image_bytes_of}
 use Rattle.sysmem_image.specs.declared.size.Corner.{Corner}
 use Rattle.sysmem_image.specs.declared.bounds.ImageBounds.{ImageBounds}
-use Rattle.sysmem_image.specs.Corners.{IsWidth, IsHeight, IsRow, IsCorner, IsLeastAbove}
+use Rattle.sysmem_image.specs.Corners.{IsWidth, IsHeight, IsRow, IsCorner, IsLeastAbove, HasSides, HasArea}
 use Rattle.sysmem_image.proofs.Layouts.{row_bytes_mono, image_bytes_mono}
 
 -- the least sides and row make the corner
@@ -12,8 +12,8 @@ pub corner_from : (o : Offer) (b : ImageBounds) (k : Corner)
     → IsLeastAbove b.size_alignment.width b.min_size.width b.required_max_size.width k.width → k.width ≤ b.max_size.width
     → IsLeastAbove b.size_alignment.height b.min_size.height b.required_max_size.height k.height → k.height ≤ b.max_size.height
     → IsLeastAbove b.bytes_per_row_divisor b.min_bytes_per_row (row_bytes_of o k.width) k.bytes_per_row → k.bytes_per_row ≤ b.max_bytes_per_row
-    → k.bytes ≡ image_bytes_of o k.bytes_per_row k.height → IsCorner o b k
-corner_from o b k wide narrow high low long short bytes =
+    → k.width * k.height ≤ b.max_width_times_height → k.bytes ≡ image_bytes_of o k.bytes_per_row k.height → IsCorner o b k
+corner_from o b k wide narrow high low long short area bytes =
     let least_width : (w : ℕ) → IsWidth b w → k.width ≤ w = λ w is. wide.least w is.step is.from is.required in
     let least_height : (h : ℕ) → IsHeight b h → k.height ≤ h = λ h is. high.least h is.step is.from is.required in
     let least_row : (w r : ℕ) → IsWidth b w → IsRow o b w r → k.bytes_per_row ≤ r = λ w r is_width is_row.
@@ -31,6 +31,7 @@ corner_from o b k wide narrow high low long short bytes =
         max_row = short;
         row_step = long.multiple;
         row_bytes = long.above;
+        area = area;
       };
       large = record { width = wide.above; height = high.above };
       bytes = bytes;
@@ -39,3 +40,20 @@ corner_from o b k wide narrow high low long short bytes =
       least_row = least_row;
       least_bytes = λ w h r is_width is_height is_row. subst (λ n. n ≤ image_bytes_of o r h) (sym bytes) (image_bytes_mono o k.bytes_per_row r k.height h (least_row w r is_width is_row) (least_height h is_height));
     }
+
+-- the least sides are sides that the bounds allow
+pub area_from : (b : ImageBounds) (w h : ℕ)
+    → IsLeastAbove b.size_alignment.width b.min_size.width b.required_max_size.width w
+    → IsLeastAbove b.size_alignment.height b.min_size.height b.required_max_size.height h
+    → (w ≤ b.max_size.width) × (h ≤ b.max_size.height) → w * h ≤ b.max_width_times_height → HasArea b
+area_from b w h wide high within area = record {
+  sides = record {
+    width = w;
+    is_width = record { step = wide.multiple; from = wide.from; required = wide.above };
+    max_width = within.0;
+    height = h;
+    is_height = record { step = high.multiple; from = high.from; required = high.above };
+    max_height = within.1;
+  };
+  area = area;
+}

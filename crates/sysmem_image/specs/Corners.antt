@@ -1,8 +1,8 @@
 -- The smallest image that bounds admit, and why there is none.
-use Rattle.std.specs.Prelude.{◌≡◌, ℕ, ◌≤◌, ◌<◌, ◌⊎◌}
+use Rattle.std.specs.Prelude.{◌≡◌, ℕ, ◌*◌, ◌≤◌, ◌<◌, ◌⊎◌}
 use Rattle.std.specs.Int.{◌∣◌}
 use Rattle.sysmem_counts.specs.declared.field.Field.{Field}
-use Rattle.sysmem_counts.specs.declared.field.Field.TheVariants.{RequiredMinSize, MaxSize, MaxBytesPerRow}
+use Rattle.sysmem_counts.specs.declared.field.Field.TheVariants.{RequiredMinSize, MaxSize, MaxWidthTimesHeight, MaxBytesPerRow}
 use Rattle.sysmem_formats.specs.declared.offer.Offer.{Offer}
 use Rattle.sysmem_formats.specs.Layout.{row_bytes_of, image_bytes_of}
 use Rattle.sysmem_image.specs.declared.bounds.ImageBounds.{ImageBounds}
@@ -55,6 +55,7 @@ HasNoHeight b = (h : ℕ) → IsHeight b h → b.max_size.height < h
 abbrev pub HasNoCorner : Field → Offer → ImageBounds → Type 0
 HasNoCorner RequiredMinSize o b = ¬ IsSizeUpTo b.min_size b.required_min_size
 HasNoCorner MaxSize o b = HasNoWidth b ⊎ HasNoHeight b
+HasNoCorner MaxWidthTimesHeight o b = (w h : ℕ) → IsWidth b w → IsHeight b h → b.max_width_times_height < w * h
 HasNoCorner MaxBytesPerRow o b = (w r : ℕ) → IsWidth b w → IsRow o b w r → b.max_bytes_per_row < r
 HasNoCorner _ o b = ⊥
 
@@ -67,10 +68,16 @@ pub record HasSides (b : ImageBounds) : Type 0 where
   pub is_height : IsHeight b height
   pub max_height : height ≤ b.max_size.height
 
+-- the same, and their product is up to max_width_times_height
+pub record HasArea (b : ImageBounds) : Type 0 where
+  pub sides : HasSides b
+  pub area : sides.width * sides.height ≤ b.max_width_times_height
+
 -- the lines before that of the field, of those that the corner tests, don't fail
 abbrev pub EarlierHold : Field → ImageBounds → Type 0
 EarlierHold MaxSize b = IsSizeUpTo b.min_size b.required_min_size
-EarlierHold MaxBytesPerRow b = IsSizeUpTo b.min_size b.required_min_size × HasSides b
+EarlierHold MaxWidthTimesHeight b = IsSizeUpTo b.min_size b.required_min_size × HasSides b
+EarlierHold MaxBytesPerRow b = IsSizeUpTo b.min_size b.required_min_size × HasArea b
 EarlierHold _ b = Unit {0}
 
 -- m is the least multiple of the step that isn't below either number

@@ -1,5 +1,5 @@
 -- The images that bounds admit.
-use Rattle.std.specs.Prelude.{ℕ, ◌≤◌}
+use Rattle.std.specs.Prelude.{ℕ, ◌*◌, ◌≤◌}
 use Rattle.std.specs.Int.{◌∣◌}
 use Rattle.sysmem_formats.specs.declared.offer.Offer.{Offer}
 use Rattle.sysmem_formats.specs.Layout.{row_bytes_of}
@@ -25,6 +25,7 @@ pub record Admits (o : Offer) (b : ImageBounds) (i : Image) : Type 0 where
   pub max_row : i.row ≤ b.max_bytes_per_row
   pub row_step : b.bytes_per_row_divisor ∣ i.row
   pub row_bytes : row_bytes_of o i.width ≤ i.row
+  pub area : i.width * i.height ≤ b.max_width_times_height
 
 -- the image is at least required_max_size
 pub record IsLargeEnough (b : ImageBounds) (i : Image) : Type 0 where

@@ -1,8 +1,9 @@
 -- What is true of bounds, whoever works them out.
-use Rattle.std.specs.Prelude.{ℕ, ◌≤◌, ◌↔◌, List, [], ◌∷◌, ◌++◌, All}
+use Rattle.std.specs.Prelude.{ℕ, ◌≤◌, ◌↔◌, ◌≡◌, true, List, [], ◌∷◌, ◌++◌, All}
+use Rattle.std.specs.Int.{◌∣◌}
 use Rattle.sysmem_counts.specs.declared.field.Field.{Field}
 use Rattle.sysmem_formats.specs.declared.offer.Offer.{Offer}
-use Rattle.sysmem_formats.specs.Layout.{image_bytes_of}
+use Rattle.sysmem_formats.specs.Layout.{image_bytes_of, bytes_per_pixel_of}
 use Rattle.sysmem_image.specs.declared.bounds.ImageBounds.{ImageBounds}
 use Rattle.sysmem_image.specs.declared.size.Corner.{Corner}
 use Rattle.sysmem_image.specs.declared.entry.Entry.{Entry}
@@ -17,6 +18,16 @@ use Rattle.sysmem_image.specs.Entries.{effective, effective_all}
 -- merged bounds admit an image exactly where the offer's own bounds and each merged entry admit it
 abbrev pub MergeIsIntersection : Type 0
 MergeIsIntersection = (o : Offer) (own b : ImageBounds) (es : List Entry) → IsOwn o own → MergedOf o (effective_all o es) b → (i : Image) → Admits o b i ↔ (Admits o own i × All (λ e. Admits o (effective o e) i) es)
+
+-- what keeps to the bounds that an entry puts on an offer keeps to its own, with whole pixels in a row where it asks for them
+abbrev pub EffectiveKeeps : Type 0
+EffectiveKeeps = (o : Offer) (e : Entry) (s : ImageBounds) → IsTighter s (effective o e)
+    ↔ (IsTighter s e.bounds.asked × (e.bounds.at_pixel_boundary ≡ true → bytes_per_pixel_of o ∣ s.bytes_per_row_divisor))
+
+-- they admit the images of its own bounds, with whole pixels in a row where it asks for them
+abbrev pub EffectiveAdmits : Type 0
+EffectiveAdmits = (o : Offer) (e : Entry) (i : Image) → Admits o (effective o e) i
+    ↔ (Admits o e.bounds.asked i × (e.bounds.at_pixel_boundary ≡ true → bytes_per_pixel_of o ∣ i.row))
 
 -- bounds that suit the offer keep to merged bounds exactly where they keep to each of the list
 abbrev pub MergedIsExact : Type 0

@@ -1,5 +1,6 @@
 pub mod Size
 pub mod Multiples
+pub mod Fields
 pub mod Bounds
 pub mod Images
 pub mod Merged

@@ -1,12 +1,13 @@
 -- The lines of the conflict table that speak of bounds, read from a list of them in exact arithmetic.
-use Rattle.std.specs.Prelude.{ℕ, ◌≤◌, ◌⊎◌, List, [], ◌∷◌, All}
+use Rattle.std.specs.Prelude.{ℕ, ◌*◌, ◌≤◌, ◌⊎◌, List, [], ◌∷◌, All}
 use Rattle.std.specs.Int.{◌∣◌}
 use Rattle.sysmem_counts.specs.declared.field.Field.{Field}
-use Rattle.sysmem_counts.specs.declared.field.Field.TheVariants.{SizeAlignment, BytesPerRowDivisor, StartOffsetDivisor, DisplayRectAlignment, RequiredMinSize, MaxSize, MaxBytesPerRow}
+use Rattle.sysmem_counts.specs.declared.field.Field.TheVariants.{SizeAlignment, BytesPerRowDivisor, StartOffsetDivisor, DisplayRectAlignment, RequiredMinSize, MaxSize, MaxWidthTimesHeight, MaxBytesPerRow}
 use Rattle.sysmem_formats.specs.declared.offer.Offer.{Offer}
 use Rattle.sysmem_formats.specs.Layout.{width_alignment_of, height_alignment_of, row_divisor_of, row_bytes_of}
 use Rattle.sysmem_image.specs.declared.bounds.ImageBounds.{ImageBounds}
-use Rattle.sysmem_image.specs.Size.{IsSizeUpTo, DividesSize}
+use Rattle.sysmem_image.specs.Fields as bound
+use Rattle.sysmem_image.specs.Fields.{Bound, Side, value, own_value, KeepsEach}
 
 -- n is a common multiple, up to the limit, of the own number and those of a list
 pub record IsCommon (first : ℕ) (f : ImageBounds → ℕ) (es : List ImageBounds) (n : ℕ) : Type 0 where
@@ -19,9 +20,9 @@ pub record IsCommon (first : ℕ) (f : ImageBounds → ℕ) (es : List ImageBoun
 abbrev pub HasCommon : ℕ → (ImageBounds → ℕ) → List ImageBounds → Type 0
 HasCommon first f es = (n : ℕ) × IsCommon first f es n
 
--- there is none: the least common multiple is above the limit
-abbrev pub NoCommon : ℕ → (ImageBounds → ℕ) → List ImageBounds → Type 0
-NoCommon first f es = ¬ HasCommon first f es
+-- the numbers of a field have common multiples up to the limit, in both dimensions
+abbrev pub MeetsIn : Bound → Offer → List ImageBounds → Type 0
+MeetsIn f o es = (side : Side) → HasCommon (own_value o f side) (value f side) es
 
 -- a width of the offer's and the list's alignments, not below what the list asks for; it may be of any
 -- number of bits
@@ -50,11 +51,11 @@ pub record FitsRow (o : Offer) (es : List ImageBounds) (w r : ℕ) : Type 0 wher
 
 -- the alignments have common multiples up to the limit, as each line that reads them needs
 abbrev pub AlignmentsMeet : Offer → List ImageBounds → Type 0
-AlignmentsMeet o es = HasCommon (width_alignment_of o) (λ e. e.size_alignment.width) es × HasCommon (height_alignment_of o) (λ e. e.size_alignment.height) es
+AlignmentsMeet o es = MeetsIn bound.SizeAlignment o es
 
 -- the row divisors have a common multiple up to the limit, as each line that reads them needs
 abbrev pub DivisorsMeet : Offer → List ImageBounds → Type 0
-DivisorsMeet o es = HasCommon (row_divisor_of o) (λ e. e.bytes_per_row_divisor) es
+DivisorsMeet o es = MeetsIn bound.BytesPerRowDivisor o es
 
 -- the greatest min_size of a list is above its least required_min_size in the dimension
 abbrev pub MinAboveRequired : (ImageBounds → ℕ) → (ImageBounds → ℕ) → List ImageBounds → Type 0
@@ -68,29 +69,39 @@ WidthAbove o es = (w : ℕ) → w ≤ 4294967295 → FitsWidth o es w → All (�
 abbrev pub HeightAbove : Offer → List ImageBounds → Type 0
 HeightAbove o es = (h : ℕ) → h ≤ 4294967295 → FitsHeight o es h → All (λ e. h ≤ e.max_size.height) es → ⊥
 
+-- the corner's width times height is above the least max_width_times_height
+abbrev pub AreaAbove : Offer → List ImageBounds → Type 0
+AreaAbove o es = (w h : ℕ) → w * h ≤ 18446744073709551615 → FitsWidth o es w → FitsHeight o es h → All (λ e. w * h ≤ e.max_width_times_height) es → ⊥
+
 -- the corner's row is above the least max_bytes_per_row, where the corner may be wider than 32 bits
 abbrev pub RowAbove : Offer → List ImageBounds → Type 0
 RowAbove o es = (w r : ℕ) → r ≤ 4294967295 → FitsWidth o es w → FitsRow o es w r → All (λ e. r ≤ e.max_bytes_per_row) es → ⊥
 
 -- the line of the conflict table that the field heads is true of the bounds of a list, in exact arithmetic
 abbrev pub IsBoundsLine : Field → Offer → List ImageBounds → Type 0
-IsBoundsLine SizeAlignment o es = NoCommon (width_alignment_of o) (λ e. e.size_alignment.width) es ⊎ NoCommon (height_alignment_of o) (λ e. e.size_alignment.height) es
-IsBoundsLine BytesPerRowDivisor o es = NoCommon (row_divisor_of o) (λ e. e.bytes_per_row_divisor) es
-IsBoundsLine StartOffsetDivisor o es = NoCommon 1 (λ e. e.start_offset_divisor) es
-IsBoundsLine DisplayRectAlignment o es = NoCommon 1 (λ e. e.display_rect_alignment.width) es ⊎ NoCommon 1 (λ e. e.display_rect_alignment.height) es
+IsBoundsLine SizeAlignment o es = ¬ MeetsIn bound.SizeAlignment o es
+IsBoundsLine BytesPerRowDivisor o es = ¬ MeetsIn bound.BytesPerRowDivisor o es
+IsBoundsLine StartOffsetDivisor o es = ¬ MeetsIn bound.StartOffsetDivisor o es
+IsBoundsLine DisplayRectAlignment o es = ¬ MeetsIn bound.DisplayRectAlignment o es
 IsBoundsLine RequiredMinSize o es = MinAboveRequired (λ e. e.min_size.width) (λ e. e.required_min_size.width) es ⊎ MinAboveRequired (λ e. e.min_size.height) (λ e. e.required_min_size.height) es
 IsBoundsLine MaxSize o es = AlignmentsMeet o es × (WidthAbove o es ⊎ HeightAbove o es)
+IsBoundsLine MaxWidthTimesHeight o es = AlignmentsMeet o es × AreaAbove o es
 IsBoundsLine MaxBytesPerRow o es = AlignmentsMeet o es × DivisorsMeet o es × RowAbove o es
 IsBoundsLine _ o es = ⊥
+
+-- the lines about common multiples, in the table's order
+abbrev pub multiple_lines : List Field
+multiple_lines = SizeAlignment ∷ BytesPerRowDivisor ∷ StartOffsetDivisor ∷ DisplayRectAlignment ∷ []
 
 -- the lines of bounds that stand before that of the field in the conflict table
 abbrev pub lines_before : Field → List Field
 lines_before BytesPerRowDivisor = SizeAlignment ∷ []
 lines_before StartOffsetDivisor = SizeAlignment ∷ BytesPerRowDivisor ∷ []
 lines_before DisplayRectAlignment = SizeAlignment ∷ BytesPerRowDivisor ∷ StartOffsetDivisor ∷ []
-lines_before RequiredMinSize = SizeAlignment ∷ BytesPerRowDivisor ∷ StartOffsetDivisor ∷ DisplayRectAlignment ∷ []
-lines_before MaxSize = SizeAlignment ∷ BytesPerRowDivisor ∷ StartOffsetDivisor ∷ DisplayRectAlignment ∷ RequiredMinSize ∷ []
-lines_before MaxBytesPerRow = SizeAlignment ∷ BytesPerRowDivisor ∷ StartOffsetDivisor ∷ DisplayRectAlignment ∷ RequiredMinSize ∷ MaxSize ∷ []
+lines_before RequiredMinSize = multiple_lines
+lines_before MaxSize = RequiredMinSize ∷ multiple_lines
+lines_before MaxWidthTimesHeight = MaxSize ∷ RequiredMinSize ∷ multiple_lines
+lines_before MaxBytesPerRow = MaxWidthTimesHeight ∷ MaxSize ∷ RequiredMinSize ∷ multiple_lines
 lines_before _ = []
 
 -- none of these lines is true
@@ -111,21 +122,26 @@ IsSteady StartOffsetDivisor = Unit {0}
 IsSteady DisplayRectAlignment = Unit {0}
 IsSteady _ = ⊥
 
+-- the fields that the corner reads
+abbrev pub corner_reads : List Bound
+corner_reads = bound.MinSize ∷ bound.SizeAlignment ∷ bound.MinBytesPerRow ∷ bound.BytesPerRowDivisor ∷ bound.RequiredMaxSize ∷ []
+
+-- the fields that a line reads; that an entry's rows end at a pixel is read as its row divisor
+abbrev pub reads : Field → List Bound
+reads SizeAlignment = bound.SizeAlignment ∷ []
+reads BytesPerRowDivisor = bound.BytesPerRowDivisor ∷ []
+reads StartOffsetDivisor = bound.StartOffsetDivisor ∷ []
+reads DisplayRectAlignment = bound.DisplayRectAlignment ∷ []
+reads RequiredMinSize = bound.MinSize ∷ bound.RequiredMinSize ∷ []
+reads MaxSize = bound.MinSize ∷ bound.MaxSize ∷ bound.SizeAlignment ∷ bound.RequiredMaxSize ∷ []
+reads MaxWidthTimesHeight = bound.MinSize ∷ bound.SizeAlignment ∷ bound.RequiredMaxSize ∷ bound.MaxWidthTimesHeight ∷ []
+reads MaxBytesPerRow = bound.MaxBytesPerRow ∷ corner_reads
+reads _ = []
+
 -- the bounds a keep to b in the fields that the corner reads
-pub record KeepsCorner (a b : ImageBounds) : Type 0 where
-  pub min_size : IsSizeUpTo b.min_size a.min_size
-  pub size_alignment : DividesSize b.size_alignment a.size_alignment
-  pub min_bytes_per_row : b.min_bytes_per_row ≤ a.min_bytes_per_row
-  pub bytes_per_row_divisor : b.bytes_per_row_divisor ∣ a.bytes_per_row_divisor
-  pub required_max_size : IsSizeUpTo b.required_max_size a.required_max_size
+abbrev pub KeepsCorner : ImageBounds → ImageBounds → Type 0
+KeepsCorner a b = KeepsEach corner_reads a b
 
 -- the bounds a keep to b in the fields that the line reads
 abbrev pub KeepsLine : Field → ImageBounds → ImageBounds → Type 0
-KeepsLine SizeAlignment a b = DividesSize b.size_alignment a.size_alignment
-KeepsLine BytesPerRowDivisor a b = b.bytes_per_row_divisor ∣ a.bytes_per_row_divisor
-KeepsLine StartOffsetDivisor a b = b.start_offset_divisor ∣ a.start_offset_divisor
-KeepsLine DisplayRectAlignment a b = DividesSize b.display_rect_alignment a.display_rect_alignment
-KeepsLine RequiredMinSize a b = IsSizeUpTo b.min_size a.min_size × IsSizeUpTo a.required_min_size b.required_min_size
-KeepsLine MaxSize a b = IsSizeUpTo b.min_size a.min_size × IsSizeUpTo a.max_size b.max_size × DividesSize b.size_alignment a.size_alignment × IsSizeUpTo b.required_max_size a.required_max_size
-KeepsLine MaxBytesPerRow a b = KeepsCorner a b × (a.max_bytes_per_row ≤ b.max_bytes_per_row)
-KeepsLine _ a b = Unit {0}
+KeepsLine f a b = KeepsEach (reads f) a b

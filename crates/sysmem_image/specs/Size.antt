@@ -18,11 +18,6 @@ pub record IsSizeInRange (a : Size) : Type 0 where
   pub width : a.width ≤ 4294967295
   pub height : a.height ≤ 4294967295
 
--- both dimensions have this value
-pub record IsSquare (a : Size) (n : ℕ) : Type 0 where
-  pub width : a.width ≡ n
-  pub height : a.height ≡ n
-
 -- m has the greater width and the greater height
 pub record IsSizeGreatest (a b m : Size) : Type 0 where
   pub width : m.width ≡ max a.width b.width

@@ -21,6 +21,7 @@ pub struct ImageBounds {
     pub display_rect_alignment: Size,
     pub required_min_size: Size,
     pub required_max_size: Size,
+    pub max_width_times_height: u64,
     pub ghost min_width_some: { 1 ≤ min_size.width },
     pub ghost min_height_some: { 1 ≤ min_size.height },
     pub ghost width_step_some: { 1 ≤ size_alignment.width },

@@ -1,5 +1,7 @@
 //! The entries of a participant.
 
+ghost use Rattle.std.specs.Prelude.{◌≤◌};
+
 use crate::bounds::ImageBounds;
 use crate::colours::ColourSet;
 use sysmem_formats::{Modifier, PixelFormat};
@@ -12,5 +14,14 @@ pub struct Entry {
     pub format: Option<PixelFormat>,
     pub modifier: Option<Modifier>,
     pub colours: ColourSet,
-    pub bounds: ImageBounds,
+    pub bounds: EntryBounds,
+}
+
+/// What an entry asks of images: its own bounds, and whether a row must end at a whole pixel, so that its
+/// bytes are a multiple of a pixel's too. Its row divisor is at most 65,536.
+#[derive(Clone, Copy, Debug, PartialEq, Eq)]
+pub struct EntryBounds {
+    pub asked: ImageBounds,
+    pub at_pixel_boundary: bool,
+    pub ghost small_divisor: { asked.bytes_per_row_divisor ≤ 65536 },
 }

@@ -2,21 +2,20 @@
 
 ghost use Rattle.std.specs.Prelude.{◌≤◌, ◌↔◌, IsTrue, IfSome, OnSome, IfNone};
 ghost use Rattle.std.specs.Int.{◌∣◌};
-ghost use Rattle.sysmem_formats.specs.declared.offer.Offer.{Offer};
 ghost use Rattle.sysmem_image.specs.Size.{IsSizeUpTo, DividesSize};
 ghost use Rattle.sysmem_image.specs.Bounds.{IsTighter, IsFirstFailing, Suits};
 ghost use Rattle.sysmem_image.specs.Entries.{effective};
 
 use crate::bounds::ImageBounds;
 use crate::bounds_table;
+use crate::effective::effective;
 use crate::entry::Entry;
-use crate::merging::effective;
 use crate::size::Size;
 use sysmem_counts::Field;
 use sysmem_formats::{Offer, own_alignment, own_row_divisor};
 
 macro_rules! failing {
-    (($a:expr, $b:expr) $($name:ident: $shape:ident $rule:ident $field:ident $role:ident $absent:ident $range:ident $more:tt,)*) => {{
+    (($a:expr, $b:expr) $($name:ident: $shape:ident $rule:ident $field:ident $absent:ident $range:ident,)*) => {{
         $(
             let $name = keeps_field!($shape $rule $a.$name, $b.$name);
             if !$name {
@@ -31,18 +30,19 @@ macro_rules! keeps_field {
     (number greatest $a:expr, $b:expr) => { is_up_to($b, $a) };
     (number least $a:expr, $b:expr) => { is_up_to($a, $b) };
     (number multiple $a:expr, $b:expr) => { divides($b, $a) };
+    (large least $a:expr, $b:expr) => { is_large_up_to($a, $b) };
     (size greatest $a:expr, $b:expr) => { is_size_up_to($b, $a) };
     (size least $a:expr, $b:expr) => { is_size_up_to($a, $b) };
     (size multiple $a:expr, $b:expr) => { divides_size($b, $a) };
 }
 
-/// The first field, in the table's order, in which bounds don't keep to what an entry asks for, or
-/// `None` where they keep to all of it.
-pub fn first_failing(bounds: &ImageBounds, entry: &Entry) -> Option<Field>
-    ensures kept { (o : Offer) → IfNone result (IsTighter bounds.now (effective o entry.now)) }
-    ensures failing { (o : Offer) → IfSome result (λ field. IsFirstFailing field bounds.now (effective o entry.now)) }
+/// The first field, in the table's order, in which bounds of an offer don't keep to what an entry for it
+/// asks for, or `None` where they keep to all of it.
+pub fn first_failing(bounds: &ImageBounds, entry: &Entry, offer: &Offer) -> Option<Field>
+    ensures kept { IfNone result (IsTighter bounds.now (effective offer.now entry.now)) }
+    ensures failing { IfSome result (λ field. IsFirstFailing field bounds.now (effective offer.now entry.now)) }
 {
-    let asked = effective(entry);
+    let asked = effective(entry, offer);
     failing_field(bounds, &asked)
 }
 
@@ -65,6 +65,12 @@ fn failing_field(a: &ImageBounds, b: &ImageBounds) -> Option<Field>
 }
 
 fn is_up_to(a: u32, b: u32) -> bool
+    ensures { IsTrue result ↔ (a ≤ b) }
+{
+    a <= b
+}
+
+fn is_large_up_to(a: u64, b: u64) -> bool
     ensures { IsTrue result ↔ (a ≤ b) }
 {
     a <= b

@@ -3,6 +3,8 @@
 
 ghost use Rattle.sysmem_image.specs.Laws.{
   MergeIsIntersection,
+  EffectiveKeeps,
+  EffectiveAdmits,
   MergedIsExact,
   MergedSuits,
   TighterIsReflexive,
@@ -19,6 +21,12 @@ ghost use Rattle.sysmem_image.specs.Laws.{
 /// Merged bounds admit an image exactly where the offer's own bounds and each merged entry admit it.
 pub fn merge_is_intersection()
     ensures { MergeIsIntersection }
+{}
+
+/// The bounds that an entry puts on an offer are its own, with whole pixels in a row where it asks for them.
+pub fn effective_bounds()
+    ensures keeps { EffectiveKeeps }
+    ensures admits { EffectiveAdmits }
 {}
 
 /// Bounds that suit an offer keep to merged bounds exactly where they keep to each merged entry.

@@ -3,7 +3,7 @@
 //! ```
 //! let mut bounds = ImageBounds::of(&offer);
 //! for entry in entries {
-//!     merge_into(&mut bounds, entry)?;
+//!     merge_into(&mut bounds, entry, &offer)?;
 //! }
 //! let corner = corner(&bounds, &offer)?;
 //! ```
@@ -11,6 +11,7 @@
 
 mod bounds;
 mod colours;
+mod effective;
 mod entry;
 mod first_matches;
 mod keeping;
@@ -25,7 +26,7 @@ mod table;
 
 pub use bounds::ImageBounds;
 pub use colours::ColourSet;
-pub use entry::Entry;
+pub use entry::{Entry, EntryBounds};
 pub use first_matches::FirstMatches;
 pub use keeping::{first_failing, suits};
 pub use matching::{entry_for, takes_colour};

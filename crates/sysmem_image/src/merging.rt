@@ -1,7 +1,6 @@
 //! Merging what entries ask for.
 
 ghost use Rattle.std.specs.Prelude.{◌≡◌, ◌↔◌, ◌≤◌, max, min, List, [], ◌∷◌, ◌++◌, OnOk, OnErr, IfOk, IfErr};
-ghost use Rattle.sysmem_formats.specs.declared.offer.Offer.{Offer};
 ghost use Rattle.sysmem_image.specs.declared.bounds.ImageBounds.{ImageBounds};
 ghost use Rattle.sysmem_image.specs.Size.{IsSizeGreatest, IsSizeLeast, IsSizeInRange};
 ghost use Rattle.sysmem_image.specs.Multiples.{IsLcm, IsSizeLcm, IsAboveLimit, IsSizeAboveLimit};
@@ -12,13 +11,15 @@ ghost use Rattle.sysmem_image.specs.Entries.{effective};
 
 use crate::bounds::ImageBounds;
 use crate::bounds_table;
+use crate::effective::effective;
 use crate::entry::Entry;
 use crate::multiples::lcm_capped;
 use crate::size::Size;
 use sysmem_counts::Field;
+use sysmem_formats::Offer;
 
 macro_rules! merged {
-    (($a:expr, $b:expr) $($name:ident: $shape:ident $rule:ident $field:ident $role:ident $absent:ident $range:ident $more:tt,)*) => {{
+    (($a:expr, $b:expr) $($name:ident: $shape:ident $rule:ident $field:ident $absent:ident $range:ident,)*) => {{
         $(let $name = merged_field!($shape $rule $field $a.$name, $b.$name);)*
         ImageBounds { $($name,)* }
     }};
@@ -28,36 +29,30 @@ macro_rules! merged_field {
     (number greatest $field:ident $a:expr, $b:expr) => { greatest($a, $b) };
     (number least $field:ident $a:expr, $b:expr) => { least($a, $b) };
     (number multiple $field:ident $a:expr, $b:expr) => { multiple($a, $b, Field::$field)? };
+    (large least $field:ident $a:expr, $b:expr) => { least_large($a, $b) };
     (size greatest $field:ident $a:expr, $b:expr) => { greatest_size($a, $b) };
     (size least $field:ident $a:expr, $b:expr) => { least_size($a, $b) };
     (size multiple $field:ident $a:expr, $b:expr) => { multiple_size($a, $b, Field::$field)? };
 }
 
-/// Merges what an entry asks for into bounds, so that they admit what both admit.
+/// Merges what an entry asks for into bounds of an offer, so that they admit what both admit.
 ///
 /// Refuses with the first field whose common multiple is above 32 bits; the bounds are unchanged then.
-pub fn merge_into(bounds: &mut ImageBounds, entry: &Entry) -> Result<(), Field>
-    ensures ok { (o : Offer) → OnOk result ((s : ImageBounds) →
-        IsTighter s bounds.new ↔ (IsTighter s bounds.old × IsTighter s (effective o entry.now))) }
-    ensures merged { (o : Offer) (es : List ImageBounds) → MergedOf o es bounds.old →
-        OnOk result (MergedOf o (es ++ effective o entry.now ∷ []) bounds.new) }
+pub fn merge_into(bounds: &mut ImageBounds, entry: &Entry, offer: &Offer) -> Result<(), Field>
+    ensures ok { OnOk result ((s : ImageBounds) →
+        IsTighter s bounds.new ↔ (IsTighter s bounds.old × IsTighter s (effective offer.now entry.now))) }
+    ensures merged { (es : List ImageBounds) → MergedOf offer.now es bounds.old →
+        OnOk result (MergedOf offer.now (es ++ effective offer.now entry.now ∷ []) bounds.new) }
     ensures unchanged { OnErr result (bounds.new ≡ bounds.old) }
-    ensures line { (o : Offer) (es : List ImageBounds) → MergedOf o es bounds.old →
-        IfErr result (λ field. IsFirstLine field o (es ++ effective o entry.now ∷ [])) }
+    ensures line { (es : List ImageBounds) → MergedOf offer.now es bounds.old →
+        IfErr result (λ field. IsFirstLine field offer.now (es ++ effective offer.now entry.now ∷ [])) }
     ensures steady { IfErr result IsSteady }
-    ensures none { (o : Offer) (es : List ImageBounds) → MergedOf o es bounds.old →
-        OnErr result (NoneMerge o (es ++ effective o entry.now ∷ [])) }
+    ensures none { (es : List ImageBounds) → MergedOf offer.now es bounds.old →
+        OnErr result (NoneMerge offer.now (es ++ effective offer.now entry.now ∷ [])) }
 {
-    let more = effective(entry);
+    let more = effective(entry, offer);
     *bounds = merged(bounds, &more)?;
     Ok(())
-}
-
-/// The bounds that an entry puts on an offer.
-pub(crate) fn effective(entry: &Entry) -> ImageBounds
-    ensures { (o : Offer) → result ≡ effective o entry.now }
-{
-    entry.bounds
 }
 
 /// The bounds that are merged of two, or the first field whose common multiple is above the limit.
@@ -73,6 +68,12 @@ fn greatest(a: u32, b: u32) -> u32
     ensures { result ≡ max a b }
 {
     a.max(b)
+}
+
+fn least_large(a: u64, b: u64) -> u64
+    ensures { result ≡ min a b }
+{
+    a.min(b)
 }
 
 fn least(a: u32, b: u32) -> u32

@@ -12,6 +12,9 @@ pub fn lcm_capped(a: u32, b: u32) -> Option<u32>
     ensures positive { IfSome result (λ m. 1 ≤ m) }
     ensures none { IfNone result (IsAboveLimit a b) }
 {
+    if a == b || b == 1 {
+        return Some(a);
+    }
     let shared = gcd(a, b);
     let least = u64::from(a / shared) * u64::from(b);
     if least <= u64::from(u32::MAX) {

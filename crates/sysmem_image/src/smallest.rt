@@ -1,35 +1,19 @@
 //! The smallest image that bounds admit.
 
-ghost use Rattle.std.specs.Prelude.{◌≡◌, ℕ, ◌≤◌, ◌<◌, ◌^◌, ◌↔◌, IsTrue, List, IfOk, IfErr, OnErr};
+ghost use Rattle.std.specs.Prelude.{◌≡◌, ℕ, ◌*◌, ◌≤◌, ◌<◌, ◌^◌, ◌↔◌, ◌⊎◌, IsTrue, List, IfOk, IfErr, OnErr};
 ghost use Rattle.std.specs.Int.{◌∣◌};
 ghost use Rattle.sysmem_image.specs.declared.bounds.ImageBounds.{ImageBounds};
 ghost use Rattle.sysmem_counts.specs.declared.field.Field.{Field};
 ghost use Rattle.sysmem_image.specs.Size.{IsSizeUpTo};
 ghost use Rattle.sysmem_image.specs.Merged.{MergedOf};
-ghost use Rattle.sysmem_image.specs.Corners.{IsCorner, HasNoCorner, EarlierHold, IsLeastAbove};
+ghost use Rattle.sysmem_image.specs.Corners.{IsCorner, HasNoCorner, HasNoWidth, HasNoHeight, EarlierHold, IsLeastAbove};
 ghost use Rattle.sysmem_image.specs.Lines.{IsFirstLine};
 
 use crate::bounds::ImageBounds;
-use crate::bounds_table;
 use crate::keeping::is_size_up_to;
 use crate::size::Corner;
 use sysmem_counts::Field;
 use sysmem_formats::{Offer, image_bytes, row_bytes};
-
-/// The field of a role in the table, of some bounds.
-macro_rules! part {
-    ((low $b:expr) $name:ident: $shape:ident $rule:ident $field:ident low $($rest:tt)*) => { $b.$name };
-    ((high $b:expr) $name:ident: $shape:ident $rule:ident $field:ident high $($rest:tt)*) => { $b.$name };
-    ((step $b:expr) $name:ident: $shape:ident $rule:ident $field:ident step $($rest:tt)*) => { $b.$name };
-    ((row_low $b:expr) $name:ident: $shape:ident $rule:ident $field:ident row_low $($rest:tt)*) => { $b.$name };
-    ((row_high $b:expr) $name:ident: $shape:ident $rule:ident $field:ident row_high $($rest:tt)*) => { $b.$name };
-    ((row_step $b:expr) $name:ident: $shape:ident $rule:ident $field:ident row_step $($rest:tt)*) => { $b.$name };
-    ((required_low $b:expr) $name:ident: $shape:ident $rule:ident $field:ident required_low $($rest:tt)*) => { $b.$name };
-    ((required_high $b:expr) $name:ident: $shape:ident $rule:ident $field:ident required_high $($rest:tt)*) => { $b.$name };
-    ($wanted:tt $name:ident: $shape:ident $rule:ident $field:ident $role:ident $absent:ident $range:ident $more:tt, $($rest:tt)*) => {
-        part! { $wanted $($rest)* }
-    };
-}
 
 /// The smallest image that the bounds admit and that is at least `required_max_size`.
 ///
@@ -39,6 +23,7 @@ pub fn corner(bounds: &ImageBounds, offer: &Offer) -> Result<Corner, Field>
     ensures corner { IfOk result (λ k. IsCorner offer.now bounds.now k) }
     ensures required { IfOk result (λ _. IsSizeUpTo bounds.now.min_size bounds.now.required_min_size) }
     ensures none { IfErr result (λ field. HasNoCorner field offer.now bounds.now) }
+    ensures earlier { IfErr result (λ field. EarlierHold field bounds.now) }
     ensures line { (es : List ImageBounds) → MergedOf offer.now es bounds.now →
         IfErr result (λ field. IsFirstLine field offer.now es) }
 {
@@ -52,21 +37,20 @@ fn corner_of(bounds: &ImageBounds, offer: &Offer) -> Result<Corner, Field>
     ensures none { IfErr result (λ field. HasNoCorner field offer.now bounds.now) }
     ensures earlier { IfErr result (λ field. EarlierHold field bounds.now) }
 {
-    let low = bounds_table!(part!(low bounds));
-    let step = bounds_table!(part!(step bounds));
-    let high = bounds_table!(part!(high bounds));
-    let large = bounds_table!(part!(required_high bounds));
-    let required = is_size_up_to(low, bounds_table!(part!(required_low bounds)));
+    let required = is_size_up_to(bounds.min_size, bounds.required_min_size);
     if !required {
         return Err(Field::RequiredMinSize);
     }
-    let width = least_side(step.width, low.width, large.width, high.width)?;
-    let height = least_side(step.height, low.height, large.height, high.height)?;
+    let (width, height) = least_sides(bounds)?;
+    let small = is_area_up_to(width, height, bounds.max_width_times_height);
+    if !small {
+        return Err(Field::MaxWidthTimesHeight);
+    }
     let bytes_per_row = least_within(
-        bounds_table!(part!(row_step bounds)),
-        bounds_table!(part!(row_low bounds)),
+        bounds.bytes_per_row_divisor,
+        bounds.min_bytes_per_row,
         row_bytes(offer, width),
-        bounds_table!(part!(row_high bounds)),
+        bounds.max_bytes_per_row,
         Field::MaxBytesPerRow,
     )?;
     let bytes = image_bytes(offer, bytes_per_row, height);
@@ -76,6 +60,28 @@ fn corner_of(bounds: &ImageBounds, offer: &Offer) -> Result<Corner, Field>
         bytes_per_row,
         bytes,
     })
+}
+
+/// The least sides that the bounds allow, or `max_size` where one is above it.
+fn least_sides(bounds: &ImageBounds) -> Result<(u32, u32), Field>
+    ensures width { IfOk result (λ sides. IsLeastAbove bounds.now.size_alignment.width bounds.now.min_size.width bounds.now.required_max_size.width sides.0) }
+    ensures height { IfOk result (λ sides. IsLeastAbove bounds.now.size_alignment.height bounds.now.min_size.height bounds.now.required_max_size.height sides.1) }
+    ensures within { IfOk result (λ sides. (sides.0 ≤ bounds.now.max_size.width) × (sides.1 ≤ bounds.now.max_size.height)) }
+    ensures named { IfErr result (λ f. f ≡ Field.MaxSize) }
+    ensures none { OnErr result (HasNoWidth bounds.now ⊎ HasNoHeight bounds.now) }
+{
+    let (low, step) = (bounds.min_size, bounds.size_alignment);
+    let (large, high) = (bounds.required_max_size, bounds.max_size);
+    let width = least_side(step.width, low.width, large.width, high.width)?;
+    let height = least_side(step.height, low.height, large.height, high.height)?;
+    Ok((width, height))
+}
+
+/// Whether the product of two sides is at most a number.
+fn is_area_up_to(width: u32, height: u32, most: u64) -> bool
+    ensures { IsTrue result ↔ (width * height ≤ most) }
+{
+    u64::from(width) * u64::from(height) <= most
 }
 
 /// The least multiple of a side's step that isn't below its two lower bounds.

@@ -10,18 +10,23 @@ fn offer(format: PixelFormat, modifier: Modifier) -> Offer {
 
 /// An entry of a format that asks for nothing else.
 fn entry(format: PixelFormat) -> Entry {
+    let mut asked = ImageBounds::of(&Offer::NoImage);
+    asked.bytes_per_row_divisor = 1;
     Entry {
         format: Some(format),
         modifier: Some(Modifier::Linear),
         colours: ColourSet::new(),
-        bounds: ImageBounds::of(&Offer::NoImage),
+        bounds: EntryBounds {
+            asked,
+            at_pixel_boundary: false,
+        },
     }
 }
 
 /// An entry of a format whose images are at least of a size.
 fn at_least(format: PixelFormat, width: u32, height: u32) -> Entry {
     let mut asked = entry(format);
-    asked.bounds.required_max_size = Size { width, height };
+    asked.bounds.asked.required_max_size = Size { width, height };
     asked
 }
 
@@ -29,7 +34,7 @@ fn at_least(format: PixelFormat, width: u32, height: u32) -> Entry {
 fn smallest(offer: &Offer, entries: &[Entry]) -> Result<Corner, Field> {
     let mut bounds = ImageBounds::of(offer);
     for entry in entries {
-        merge_into(&mut bounds, entry)?;
+        merge_into(&mut bounds, entry, offer)?;
     }
     corner(&bounds, offer)
 }
@@ -46,7 +51,7 @@ fn image(width: u32, height: u32, bytes_per_row: u32, bytes: u128) -> Result<Cor
 #[test]
 fn bgra_1080p(rt: HostRuntime) {
     let mut asked = at_least(PixelFormat::B8G8R8A8, 1920, 1080);
-    asked.bounds.bytes_per_row_divisor = 64;
+    asked.bounds.asked.bytes_per_row_divisor = 64;
     let offer = offer(PixelFormat::B8G8R8A8, Modifier::Linear);
     assert_eq!(rt;
         smallest(&offer, &[asked]),
@@ -58,7 +63,7 @@ fn bgra_1080p(rt: HostRuntime) {
 fn nv12(rt: HostRuntime) {
     let offer = offer(PixelFormat::NV12, Modifier::Linear);
     let mut asked = at_least(PixelFormat::NV12, 1920, 1080);
-    asked.bounds.size_alignment = Size {
+    asked.bounds.asked.size_alignment = Size {
         width: 16,
         height: 16,
     };
@@ -77,13 +82,13 @@ fn nv12(rt: HostRuntime) {
 #[test]
 fn divisors(rt: HostRuntime) {
     let mut first = at_least(PixelFormat::R8, 100, 10);
-    first.bounds.required_min_size = Size {
+    first.bounds.asked.required_min_size = Size {
         width: 15,
         height: 5,
     };
-    first.bounds.bytes_per_row_divisor = 48;
+    first.bounds.asked.bytes_per_row_divisor = 48;
     let mut second = entry(PixelFormat::R8);
-    second.bounds.bytes_per_row_divisor = 64;
+    second.bounds.asked.bytes_per_row_divisor = 64;
     let offer = offer(PixelFormat::R8, Modifier::Linear);
     assert_eq!(rt;
         smallest(&offer, &[first, second]),
@@ -102,12 +107,12 @@ fn widest_and_tallest(rt: HostRuntime) {
         image(1920, 1080, 1920, 2073600)
     );
     let mut small = entry(PixelFormat::R8);
-    small.bounds.required_min_size = Size {
+    small.bounds.asked.required_min_size = Size {
         width: 15,
         height: 15,
     };
     let mut large = entry(PixelFormat::R8);
-    large.bounds.min_size = Size {
+    large.bounds.asked.min_size = Size {
         width: 16,
         height: 16,
     };
@@ -129,7 +134,7 @@ fn row_too_long(rt: HostRuntime) {
     let offer = offer(PixelFormat::R8G8B8A8, Modifier::Linear);
     let mut asked = at_least(PixelFormat::R8G8B8A8, 4294967295, 1);
     assert_eq!(rt; smallest(&offer, &[asked]), Err(Field::MaxBytesPerRow));
-    asked.bounds.max_size = Size {
+    asked.bounds.asked.max_size = Size {
         width: 4294967294,
         height: 1,
     };
@@ -140,11 +145,11 @@ fn row_too_long(rt: HostRuntime) {
 fn large_divisors(rt: HostRuntime) {
     let offer = offer(PixelFormat::R8, Modifier::Linear);
     let mut first = entry(PixelFormat::R8);
-    first.bounds.bytes_per_row_divisor = 65521;
+    first.bounds.asked.bytes_per_row_divisor = 65521;
     let mut second = entry(PixelFormat::R8);
-    second.bounds.bytes_per_row_divisor = 65519;
+    second.bounds.asked.bytes_per_row_divisor = 65519;
     let mut third = entry(PixelFormat::R8);
-    third.bounds.bytes_per_row_divisor = 2;
+    third.bounds.asked.bytes_per_row_divisor = 2;
     let both = image(1, 1, 4292870399, 4292870399);
     assert_eq!(rt; smallest(&offer, &[first, second]), both);
     assert_eq!(rt;
@@ -164,6 +169,7 @@ fn first_entry(rt: HostRuntime) {
     let entries = [entry(PixelFormat::R8), any, entry(PixelFormat::NV12)];
     let found = |offer: &Offer| entry_for(&entries, offer).map(|entry| entry
         .bounds
+        .asked
         .required_max_size
         .width);
     assert_eq!(rt; found(&offer(PixelFormat::R8, Modifier::Linear)), Some(0));
@@ -190,7 +196,7 @@ fn first_matches(rt: HostRuntime) {
     let matches = FirstMatches::of(&entries);
     let found = |offer: &Offer| matches
         .entry_for(offer)
-        .map(|entry| entry.bounds.required_max_size.width);
+        .map(|entry| entry.bounds.asked.required_max_size.width);
     assert_eq!(rt; found(&offer(PixelFormat::NV12, Modifier::Linear)), Some(0));
     assert_eq!(rt; found(&offer(PixelFormat::R8, Modifier::Linear)), Some(7));
     assert_eq!(rt;
@@ -225,22 +231,92 @@ fn colours(rt: HostRuntime) {
 #[test]
 fn failing_fields(rt: HostRuntime) {
     let mut first = at_least(PixelFormat::R8, 100, 10);
-    first.bounds.bytes_per_row_divisor = 48;
+    first.bounds.asked.bytes_per_row_divisor = 48;
     let mut second = entry(PixelFormat::R8);
-    second.bounds.bytes_per_row_divisor = 64;
-    second.bounds.max_bytes_per_row = 9600;
-    let mut merged = ImageBounds::of(&offer(PixelFormat::R8, Modifier::Linear));
-    assert_eq!(rt; merge_into(&mut merged, &first), Ok(()));
-    assert_eq!(rt; merge_into(&mut merged, &second), Ok(()));
-    assert_eq!(rt; first_failing(&merged, &first), None);
-    assert_eq!(rt; first_failing(&merged, &second), None);
+    second.bounds.asked.bytes_per_row_divisor = 64;
+    second.bounds.asked.max_bytes_per_row = 9600;
+    let offer = offer(PixelFormat::R8, Modifier::Linear);
+    let mut merged = ImageBounds::of(&offer);
+    assert_eq!(rt; merge_into(&mut merged, &first, &offer), Ok(()));
+    assert_eq!(rt; merge_into(&mut merged, &second, &offer), Ok(()));
+    assert_eq!(rt; first_failing(&merged, &first, &offer), None);
+    assert_eq!(rt; first_failing(&merged, &second, &offer), None);
     assert_eq!(rt;
-        first_failing(&first.bounds, &second),
+        first_failing(&first.bounds.asked, &second, &offer),
         Some(Field::MaxBytesPerRow)
     );
     assert_eq!(rt;
-        first_failing(&second.bounds, &first),
+        first_failing(&second.bounds.asked, &first, &offer),
         Some(Field::BytesPerRowDivisor)
+    );
+}
+
+#[test]
+fn pixels_limit(rt: HostRuntime) {
+    let offer = offer(PixelFormat::R8, Modifier::Linear);
+    let mut asked = at_least(PixelFormat::R8, 100, 10);
+    asked.bounds.asked.max_width_times_height = 1000;
+    assert_eq!(rt; smallest(&offer, &[asked]), image(100, 10, 100, 1000));
+    asked.bounds.asked.max_width_times_height = 999;
+    assert_eq!(rt; smallest(&offer, &[asked]), Err(Field::MaxWidthTimesHeight));
+    assert_eq!(rt;
+        smallest(&offer, &[asked, at_least(PixelFormat::R8, 1, 11)]),
+        Err(Field::MaxWidthTimesHeight)
+    );
+    asked.bounds.asked.max_bytes_per_row = 99;
+    assert_eq!(rt; smallest(&offer, &[asked]), Err(Field::MaxWidthTimesHeight));
+    asked.bounds.asked.max_size = Size {
+        width: 99,
+        height: 10,
+    };
+    assert_eq!(rt; smallest(&offer, &[asked]), Err(Field::MaxSize));
+}
+
+/// A row that ends at a pixel is a multiple of its bytes, and of the divisor too.
+#[test]
+fn pixel_boundary(rt: HostRuntime) {
+    let linear = offer(PixelFormat::B8G8R8A8, Modifier::Linear);
+    let mut asked = at_least(PixelFormat::B8G8R8A8, 5, 1);
+    asked.bounds.asked.bytes_per_row_divisor = 3;
+    assert_eq!(rt; smallest(&linear, &[asked]), image(5, 1, 21, 21));
+    let own = asked.bounds.asked;
+    asked.bounds.at_pixel_boundary = true;
+    assert_eq!(rt; smallest(&linear, &[asked]), image(5, 1, 24, 24));
+    assert_eq!(rt;
+        first_failing(&own, &asked, &linear),
+        Some(Field::BytesPerRowDivisor)
+    );
+    assert_eq!(rt; first_failing(&own, &asked, &Offer::NoImage), None);
+    asked.bounds.asked.bytes_per_row_divisor = 6;
+    assert_eq!(rt; smallest(&linear, &[asked]), image(5, 1, 24, 24));
+    let three = offer(PixelFormat::R8G8B8, Modifier::Linear);
+    asked.bounds.asked.bytes_per_row_divisor = 32;
+    assert_eq!(rt; smallest(&three, &[asked]), image(5, 1, 96, 96));
+}
+
+/// The field named is the first of the conflict table, whichever multiple is above the limit too.
+#[test]
+fn first_multiple(rt: HostRuntime) {
+    let three = offer(PixelFormat::R8G8B8, Modifier::Linear);
+    let mut bounds = ImageBounds::of(&three);
+    bounds.size_alignment = Size {
+        width: 4294967295,
+        height: 1,
+    };
+    bounds.bytes_per_row_divisor = 4294967291;
+    let mut asked = at_least(PixelFormat::R8G8B8, 1, 1);
+    asked.bounds.at_pixel_boundary = true;
+    assert_eq!(rt;
+        merge_into(&mut bounds, &asked, &three),
+        Err(Field::BytesPerRowDivisor)
+    );
+    asked.bounds.asked.size_alignment = Size {
+        width: 2,
+        height: 1,
+    };
+    assert_eq!(rt;
+        merge_into(&mut bounds, &asked, &three),
+        Err(Field::SizeAlignment)
     );
 }
 

@@ -1,5 +1,6 @@
 -- The first field that refuses: what is known of it, and of the others.
-use Rattle.std.proofs.Common.{◌≡◌, Bool, true, false, cond, List, [], ◌∷◌, ◌++◌, Option, Some, None, IfSome, IfNone, is_some, refl, sym, subst}
+use Rattle.std.proofs.Common.{◌≡◌, Bool, true, false, cond, List, [], ◌∷◌, Option, Some, None, IfSome, IfNone, refl, sym, subst}
+use Rattle.list_lemmas.proofs.CallerLemmas.{find_passes}
 use Rattle.std.specs.List.{find}
 use Rattle.sysmem_counts.specs.declared.usage.Usage as usage
 use Rattle.sysmem_counts.specs.declared.field.Field.{Field}
@@ -8,27 +9,6 @@ use Rattle.sysmem_memory.specs.declared.domain.CoherencyDomain.{CoherencyDomain}
 use Rattle.sysmem_memory.specs.Heap.{HeapFacts}
 use Rattle.sysmem_memory.specs.Wishes.{MemoryWishes}
 use Rattle.sysmem_memory.specs.PlaceTable.{refuses_by, place_fields, first_refusing}
-
--- what a test finds in a list it finds in a longer one
-pub find_front : {X : Type 0} (p : X → Bool) (xs ys : List X) (r : Option X) → r ≡ find p xs → true ≡ is_some r → r ≡ find p (xs ++ ys)
-find_front p [] ys None e some = cc
-find_front p [] ys (Some x) e some = cc
-find_front p (x ∷ xs) ys r e some =
-    elim (p x) as (λ b. r ≡ cond b (Some x) (find p xs) → r ≡ cond b (Some x) (find p (xs ++ ys))) [ true ↦ λ e. e | false ↦ λ e. find_front p xs ys r e some ] e
-
--- where a test finds nothing in a list, it finds in a longer one what it finds in the rest
-pub find_rest : {X : Type 0} (p : X → Bool) (xs ys : List X) (r : Option X) → r ≡ find p xs → false ≡ is_some r → find p ys ≡ find p (xs ++ ys)
-find_rest p [] ys r e none = refl
-find_rest p (x ∷ xs) ys r e none =
-    elim (p x) as (λ b. r ≡ cond b (Some x) (find p xs) → find p ys ≡ cond b (Some x) (find p (xs ++ ys))) [ true ↦ λ e. cc | false ↦ λ e. find_rest p xs ys r e none ] e
-
--- what a test finds passes it
-pub find_passes : {X : Type 0} (p : X → Bool) (xs : List X) → IfSome (find p xs) (λ x. p x ≡ true)
-find_passes p [] = tt
-find_passes p (x ∷ xs) = at (p x) refl (find_passes p xs) where
-  at : (b : Bool) → p x ≡ b → IfSome (find p xs) (λ y. p y ≡ true) → IfSome (cond b (Some x) (find p xs)) (λ y. p y ≡ true)
-  at true e rest = e
-  at false e rest = rest
 
 -- each element fails the test
 abbrev AllFail : {X : Type 0} → (X → Bool) → List X → Type 0

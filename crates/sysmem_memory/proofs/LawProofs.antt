@@ -12,7 +12,7 @@ use Rattle.sysmem_memory.specs.Heap.{HeapName, HeapFacts, same_heap}
 use Rattle.sysmem_memory.specs.PlaceTable.{AllowsPlace, PlaceDemand}
 use Rattle.sysmem_memory.specs.Place.{IsEarlier, IsRefused, IsFirstPlace}
 use Rattle.sysmem_memory.specs.Laws.{SameHeapIsEqual, NoPlaceBeforeItself, EarlierIsTransitive, PlacesAreInOneOrder, TrueLineLeavesNoPlace, OneFirstPlace, RefusedByAllIsNoPlace}
-use Rattle.sysmem_memory.proofs.Lists.{and_parts}
+use Rattle.list_lemmas.proofs.CallerLemmas.{and_parts}
 use Rattle.sysmem_memory.proofs.FirstRefusing.{none_refuses}
 
 -- names with equal types and ids are equal

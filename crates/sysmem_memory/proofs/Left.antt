@@ -16,8 +16,7 @@ use Rattle.sysmem_memory.specs.Heap.{HeapFacts}
 use Rattle.sysmem_memory.specs.Wishes.{MemoryWishes}
 use Rattle.sysmem_memory.specs.PlaceTable.{refuses_by, heap_fields, domain_fields, place_fields, first_refusing, AllowsPlace, PlaceDemand}
 use Rattle.sysmem_memory.specs.Place.{IsPlace, IsRefused, IsFirstPlace, HasNoPlace, is_left, StandsFor}
-use Rattle.sysmem_memory.proofs.FirstRefusing.{find_front, find_rest, find_passes}
-use Rattle.sysmem_memory.proofs.Lists.{slice_get_some, slice_get-set_same, slice_get-set_other, any_fails, and_parts}
+use Rattle.list_lemmas.proofs.CallerLemmas.{find_front, find_rest, find_passes, slice_get_some, slice_get-set_same, slice_get-set_other, any_fails, and_parts}
 
 -- somebody for whom some field is the first that refuses is refused by a field
 refused_by_one : (p : PlaceDemand) (h : HeapFacts) (d : CoherencyDomain) → is_none (first_refusing p.memory p.usage h d) ≡ false → (f : Field) × (refuses_by f p.memory p.usage h d ≡ true)

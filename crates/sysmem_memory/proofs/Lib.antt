@@ -1,4 +1,5 @@
 pub mod FirstRefusing
 pub mod LawProofs
 pub mod Left
-pub mod Lists
+pub mod ListedPlaces
+pub mod CallerLemmas

@@ -1,9 +1,11 @@
 -- The laws of heaps' names, of places' order and of refusals.
 use Rattle.std.specs.Prelude.{◌≡◌, ◌↔◌, true, List, All, Contains}
+use Rattle.std.specs.List.{AllPairs}
 use Rattle.sysmem_counts.specs.declared.field.Field.{Field}
 use Rattle.sysmem_memory.specs.declared.domain.CoherencyDomain.{CoherencyDomain}
 use Rattle.sysmem_memory.specs.declared.place.Place.{Place}
 use Rattle.sysmem_memory.specs.Heap.{HeapName, HeapFacts, same_heap}
+use Rattle.sysmem_memory.specs.Listed.{places_of}
 use Rattle.sysmem_memory.specs.PlaceTable.{AllowsPlace, IsPlaceLine, PlaceDemand}
 use Rattle.sysmem_memory.specs.Place.{IsPlace, IsEarlier, IsFirstPlace, HasNoPlace}
 
@@ -37,3 +39,11 @@ OneFirstPlace =
 abbrev pub RefusedByAllIsNoPlace : Type 0
 RefusedByAllIsNoPlace =
     (heaps : List HeapFacts) (ps : List PlaceDemand) → HasNoPlace heaps ps → (p : Place) (h : HeapFacts) → IsPlace heaps p h → ¬ All (λ d. AllowsPlace d.memory d.usage h p.coherency) ps
+
+-- the list of a platform's places has each of them with its heap, and nothing else
+abbrev pub ListedIsPlace : Type 0
+ListedIsPlace = (heaps : List HeapFacts) (p : Place) (h : HeapFacts) → IsPlace heaps p h ↔ Contains (places_of heaps) (record { place = p; heap = h })
+
+-- each place of the list comes before all later ones
+abbrev pub ListedInOrder : Type 0
+ListedInOrder = (heaps : List HeapFacts) → AllPairs (λ a b. IsEarlier a.place b.place) (places_of heaps)

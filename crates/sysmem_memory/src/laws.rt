@@ -1,6 +1,7 @@
 //! Laws over the definitions alone. None of them makes a call of the crate.
 
 ghost use Rattle.sysmem_memory.specs.Laws.{SameHeapIsEqual, NoPlaceBeforeItself, EarlierIsTransitive, PlacesAreInOneOrder, TrueLineLeavesNoPlace, OneFirstPlace, RefusedByAllIsNoPlace};
+ghost use Rattle.sysmem_memory.specs.Laws.{ListedIsPlace, ListedInOrder};
 
 /// Two heaps compare equal exactly where their types and their ids are.
 pub fn equal_heaps_are_one()
@@ -23,4 +24,10 @@ pub fn a_true_line_leaves_no_place()
 pub fn one_first_place()
     ensures one { OneFirstPlace }
     ensures none { RefusedByAllIsNoPlace }
+{}
+
+/// The list of a platform's places has each of them and no other, in their order.
+pub fn places_are_listed()
+    ensures places { ListedIsPlace }
+    ensures order { ListedInOrder }
 {}

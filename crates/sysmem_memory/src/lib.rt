@@ -22,4 +22,4 @@ pub use constraints::MemoryConstraints;
 pub use domain::{CoherencyDomain, CoherencyDomains};
 pub use heap::{Heap, HeapInfo};
 pub use place::Place;
-pub use refusal::refuses;
+pub use refusal::{refuses, refuses_in};

@@ -1,11 +1,12 @@
 //! Which field of a participant refuses a place.
 
-ghost use Rattle.std.specs.Prelude.{◌≡◌, true, false, IfSome, IfNone};
+ghost use Rattle.std.specs.Prelude.{◌≡◌, ◌&&◌, ◌||◌, true, false, IfSome, IfNone};
 ghost use Rattle.std.specs.List.{find};
 ghost use Rattle.sysmem_counts.specs.declared.field.Field.{Field as Named};
+ghost use Rattle.sysmem_counts.specs.Usage.{uses_cpu};
 ghost use Rattle.sysmem_memory.specs.declared.domain.CoherencyDomain.{CoherencyDomain as Domain};
 ghost use Rattle.sysmem_counts.specs.declared.usage.Usage.{Usage as Used};
-ghost use Rattle.sysmem_memory.specs.PlaceTable.{refuses_by, first_refusing, heap_fields, domain_fields, permits};
+ghost use Rattle.sysmem_memory.specs.PlaceTable.{refuses_by, first_refusing, heap_fields, domain_fields, permits, is_inaccessible};
 
 use crate::constraints::MemoryConstraints;
 use crate::domain::CoherencyDomain;
@@ -30,6 +31,37 @@ pub fn refuses(
         return by_heap;
     }
     domain_refuses(memory, usage, heap, domain)
+}
+
+/// Whether this field refuses a participant of these constraints and this usage the coherency domain of the heap,
+/// be it the first that does or a later one.
+pub fn refuses_in(
+    field: Field,
+    memory: &MemoryConstraints,
+    usage: Usage,
+    heap: &HeapInfo,
+    domain: CoherencyDomain,
+) -> bool
+    ensures { result ≡ refuses_by field memory.now usage heap.now domain }
+{
+    match field {
+        Field::PermittedHeaps => !permits(memory.permitted_heaps.as_slice(), &heap.heap),
+        Field::PhysicallyContiguousRequired => {
+            memory.physically_contiguous_required && !heap.contiguous
+        }
+        Field::SecureRequired => memory.secure_required && !heap.secure,
+        Field::CpuDomainSupported => {
+            domain == CoherencyDomain::Cpu && !memory.cpu_domain_supported
+        }
+        Field::RamDomainSupported => {
+            domain == CoherencyDomain::Ram && !memory.ram_domain_supported
+        }
+        Field::InaccessibleDomainSupported => {
+            domain == CoherencyDomain::Inaccessible && !memory.inaccessible_domain_supported
+        }
+        Field::Usage => is_hidden(usage, heap, domain),
+        _ => false,
+    }
 }
 
 /// The first field that refuses the heap, whatever its coherency domain.
@@ -69,10 +101,17 @@ pub(crate) fn domain_refuses(
     if !supported {
         return Some(field);
     }
-    if usage.uses_cpu() && (domain == CoherencyDomain::Inaccessible || heap.secure) {
+    if is_hidden(usage, heap, domain) {
         return Some(Field::Usage);
     }
     None
+}
+
+/// Whether a usage of the CPU is refused the coherency domain of the heap, to whose memory it has no access.
+fn is_hidden(usage: Usage, heap: &HeapInfo, domain: CoherencyDomain) -> bool
+    ensures { result ≡ (uses_cpu usage && (is_inaccessible domain || heap.now.secure)) }
+{
+    usage.uses_cpu() && (domain == CoherencyDomain::Inaccessible || heap.secure)
 }
 
 /// Whether the heap is among those permitted; an empty list permits every heap.

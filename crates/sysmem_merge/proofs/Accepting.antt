@@ -5,34 +5,20 @@ use Rattle.std.specs.Option.{option_map, option_map_or}
 use Rattle.std.proofs.Math.Bool.{or-true}
 use Rattle.std.proofs.lemmas.Option.{same_Some}
 use Rattle.sysmem_counts.specs.declared.field.Field.{Field}
-use Rattle.sysmem_counts.specs.declared.field.Field.TheVariants.{MinSize, MaxSize, SizeAlignment, MinBytesPerRow, MaxBytesPerRow, BytesPerRowDivisor, StartOffsetDivisor, DisplayRectAlignment, RequiredMinSize, RequiredMaxSize}
 use Rattle.sysmem_formats.specs.declared.offer.Offer.{Offer}
+use Rattle.sysmem_image.proofs.CallerLemmas.{not_tighter}
 use Rattle.sysmem_image.specs.declared.bounds.ImageBounds.{ImageBounds}
 use Rattle.sysmem_image.specs.declared.entry.Entry.{Entry}
 use Rattle.sysmem_image.specs.Bounds.{IsTighter, IsFirstFailing}
 use Rattle.sysmem_image.specs.Entries.{effective, first_match, takes_colour}
 use Rattle.sysmem_memory.specs.Heap.{HeapFacts}
 use Rattle.sysmem_memory.specs.PlaceTable.{AllowsPlace}
-use Rattle.sysmem_merge.specs.declared.settings.Settings.{Settings as Settled}
+use Rattle.sysmem_merge.specs.declared.settings.Settings.{Settings}
 use Rattle.sysmem_merge.specs.Demands.{OfferDemand, offer_demand}
 use Rattle.sysmem_merge.specs.Offers.{AcceptsOffer}
 use Rattle.sysmem_merge.specs.Settings.{CoversOn}
 use Rattle.sysmem_sanitise.specs.Participant.{Participant}
 use Rattle.sysmem_sanitise.specs.Platform.{PlatformFacts}
-
--- bounds that fail in a field don't keep to the others
-not_tighter : (f : Field) (a b : ImageBounds) → IsFirstFailing f a b → ¬ (IsTighter a b)
-not_tighter MinSize a b failing t = failing.fails t.min_size
-not_tighter MaxSize a b failing t = failing.fails t.max_size
-not_tighter SizeAlignment a b failing t = failing.fails t.size_alignment
-not_tighter MinBytesPerRow a b failing t = failing.fails t.min_bytes_per_row
-not_tighter MaxBytesPerRow a b failing t = failing.fails t.max_bytes_per_row
-not_tighter BytesPerRowDivisor a b failing t = failing.fails t.bytes_per_row_divisor
-not_tighter StartOffsetDivisor a b failing t = failing.fails t.start_offset_divisor
-not_tighter DisplayRectAlignment a b failing t = failing.fails t.display_rect_alignment
-not_tighter RequiredMinSize a b failing t = failing.fails t.required_min_size
-not_tighter RequiredMaxSize a b failing t = failing.fails t.required_max_size
-not_tighter _ a b failing t = failing.fails tt
 
 -- no field fails where bounds keep to others
 none_failing : (a b : ImageBounds) (r : Option Field) (none : Bool) → is_some r ≡ not none → IfNone r (IsTighter a b) → IfSome r (λ f. IsFirstFailing f a b) → IsTrue none ↔ IsTighter a b
@@ -54,7 +40,7 @@ accepts_entry o b d entry r none found takes is kept failing = let exact = none_
 )
 
 -- what a participant accepts makes it accept settings
-pub covers_when : (platform : PlatformFacts) (s : Settled) (p : Participant) (heap : HeapFacts) → slice_get platform.heaps s.place.heap ≡ Some heap
+pub covers_when : (platform : PlatformFacts) (s : Settings) (p : Participant) (heap : HeapFacts) → slice_get platform.heaps s.place.heap ≡ Some heap
     → AllowsPlace p.memory p.usage heap s.place.coherency → (p.memory.min_size_bytes ≤ s.size_bytes) × (s.size_bytes ≤ p.memory.max_size_bytes)
     → AcceptsOffer s.offer s.bounds (offer_demand p) → CoversOn platform s p
 covers_when platform s p heap here place size offer = record {
@@ -64,13 +50,13 @@ covers_when platform s p heap here place size offer = record {
 }
 
 -- and the other way round
-pub covers_place : (platform : PlatformFacts) (s : Settled) (p : Participant) (heap : HeapFacts) → slice_get platform.heaps s.place.heap ≡ Some heap
+pub covers_place : (platform : PlatformFacts) (s : Settings) (p : Participant) (heap : HeapFacts) → slice_get platform.heaps s.place.heap ≡ Some heap
     → CoversOn platform s p → AllowsPlace p.memory p.usage heap s.place.coherency
 covers_place platform s p heap here on =
     subst (λ h. AllowsPlace p.memory p.usage h s.place.coherency) (same_Some on.heap heap (sym on.has ∙ here)) on.covers.place
 
-pub covers_size : (platform : PlatformFacts) (s : Settled) (p : Participant) → CoversOn platform s p → (p.memory.min_size_bytes ≤ s.size_bytes) × (s.size_bytes ≤ p.memory.max_size_bytes)
+pub covers_size : (platform : PlatformFacts) (s : Settings) (p : Participant) → CoversOn platform s p → (p.memory.min_size_bytes ≤ s.size_bytes) × (s.size_bytes ≤ p.memory.max_size_bytes)
 covers_size platform s p on = (on.covers.min_size, on.covers.max_size)
 
-pub covers_offer : (platform : PlatformFacts) (s : Settled) (p : Participant) → CoversOn platform s p → AcceptsOffer s.offer s.bounds (offer_demand p)
+pub covers_offer : (platform : PlatformFacts) (s : Settings) (p : Participant) → CoversOn platform s p → AcceptsOffer s.offer s.bounds (offer_demand p)
 covers_offer platform s p on = record { format = on.covers.format; colour = on.covers.colour; bounds = on.covers.bounds }

@@ -62,7 +62,7 @@ unnamed_is _ o ds line named = absurd line
 pub refused_unmet : (whole : Bool) (o : Offer) (ds : List OfferDemand) → IsOfferRefused whole o ds → (t : Fit) → t.offer ≡ o → MeetsFit ds t
     → (whole ≡ true → is_named o ds ≡ true) → ⊥
 refused_unmet whole o ds refused t same meets named = elim refused as (λ _. ⊥) [
-  | inl line ↦ line_unmet line.0 o ds ds line.1 (λ P all. all) t same meets
+  | inl line ↦ line_unmet line.0 o ds line.1 t same meets
   | inr unnamed ↦ unnamed_is unnamed.1.0 o ds unnamed.1.1 (named unnamed.0)
 ]
 

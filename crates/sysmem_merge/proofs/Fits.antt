@@ -1,24 +1,20 @@
 -- The least size and bounds of an offer, and the line where there are none.
 use Rattle.std.proofs.Common.{arith, ℕ, ◌≡◌, ◌≤◌, ◌<◌, ◌^◌, max, List, [], ◌∷◌, None, All, refl, subst}
-use Rattle.std.proofs.lemmas.List.Elements.{All-nil, All-weaker}
-use Rattle.std.specs.Int.{◌∣◌}
-use Rattle.std.proofs.lemmas.Nat.Gcd.{dvd_refl, dvd_antisymm}
+use Rattle.std.proofs.lemmas.List.Elements.{All-weaker}
 use Rattle.sysmem_counts.specs.declared.field.Field.{Field}
 use Rattle.sysmem_counts.specs.declared.field.Field.TheVariants.{PixelFormat, ColorSpaces, MaxSizeBytes}
 use Rattle.sysmem_formats.specs.declared.offer.Offer.{Offer}
 use Rattle.sysmem_formats.specs.declared.offer.Offer.TheVariants.{NoImage, Image as image}
-use Rattle.sysmem_image.proofs.Exact.{merged_exact, looser_admits}
-use Rattle.sysmem_image.proofs.Meets.{tighter_refl}
-use Rattle.sysmem_image.proofs.Readings.{merged_reads}
+use Rattle.sysmem_image.proofs.CallerLemmas.{merged_exact, merged_own, merged_suits, looser_admits, tighter_refl, merged_reads}
 use Rattle.sysmem_image.specs.declared.bounds.ImageBounds.{ImageBounds}
 use Rattle.sysmem_image.specs.declared.entry.Entry.{Entry}
 use Rattle.sysmem_image.specs.declared.size.Corner.{Corner}
-use Rattle.sysmem_image.specs.Bounds.{IsOwn, IsTighter, Suits}
+use Rattle.sysmem_image.specs.Bounds.{IsTighter}
 use Rattle.sysmem_image.specs.Corners.{IsCorner, image_of}
 use Rattle.sysmem_image.specs.Entries.{first_match}
 use Rattle.sysmem_image.specs.Laws.{ReadsAs}
 use Rattle.sysmem_image.specs.Lines.{IsBoundsLine}
-use Rattle.sysmem_image.specs.Merged.{Greatest, Least, Multiple, IsMergeOf, MergedOf}
+use Rattle.sysmem_image.specs.Merged.{MergedOf}
 use Rattle.sysmem_image.specs.Size.{IsSizeUpTo}
 use Rattle.sysmem_merge.specs.declared.fit.Fit.{Fit}
 use Rattle.sysmem_merge.specs.Aggregate.{AreSizes, IsListed}
@@ -29,32 +25,6 @@ use Rattle.sysmem_merge.specs.Reasons.{IsOfferLine}
 use Rattle.sysmem_merge.specs.Settings.{OwnWithoutImage}
 use Rattle.sysmem_merge.proofs.Asked.{asked_each}
 use Rattle.sysmem_merge.proofs.Lines.{tighter_asked}
-
--- no number was merged, so it is the own one
-none_greatest : (own : ℕ) (f : ImageBounds → ℕ) (m : ℕ) → IsMergeOf Greatest own f [] m → m ≡ own
-none_greatest own f m merge = omega (arith, merge.suits, (merge.exactly own (omega arith)).1 (All-nil (λ e. f e ≤ own)))
-
-none_least : (own : ℕ) (f : ImageBounds → ℕ) (m : ℕ) → IsMergeOf Least own f [] m → m ≡ own
-none_least own f m merge = omega (arith, merge.suits, (merge.exactly own (omega arith)).1 (All-nil (λ e. own ≤ f e)))
-
-none_multiple : (own : ℕ) (f : ImageBounds → ℕ) (m : ℕ) → IsMergeOf Multiple own f [] m → m ≡ own
-none_multiple own f m merge = dvd_antisymm ((merge.exactly own (dvd_refl own)).1 (All-nil (λ e. f e ∣ own))) merge.suits
-
--- what stands for no bounds at all is the offer's own
-own_of_none : (o : Offer) (b : ImageBounds) → MergedOf o [] b → IsOwn o b
-own_of_none o b merged = record {
-  min_size = record { width = none_greatest 1 _ _ merged.min_width; height = none_greatest 1 _ _ merged.min_height };
-  max_size = record { width = none_least 4294967295 _ _ merged.max_width; height = none_least 4294967295 _ _ merged.max_height };
-  width_alignment = none_multiple _ _ _ merged.width_step;
-  height_alignment = none_multiple _ _ _ merged.height_step;
-  min_bytes_per_row = none_greatest 1 _ _ merged.min_row;
-  max_bytes_per_row = none_least 4294967295 _ _ merged.max_row;
-  bytes_per_row_divisor = none_multiple _ _ _ merged.row_step;
-  start_offset_divisor = none_multiple 1 _ _ merged.start_step;
-  display_rect_alignment = record { width = none_multiple 1 _ _ merged.display_width_step; height = none_multiple 1 _ _ merged.display_height_step };
-  required_min_size = record { width = none_least 4294967295 _ _ merged.required_min_width; height = none_least 4294967295 _ _ merged.required_min_height };
-  required_max_size = record { width = none_greatest 0 _ _ merged.required_max_width; height = none_greatest 0 _ _ merged.required_max_height };
-}
 
 -- no entry is one for no image
 no_match : (es : List Entry) → first_match NoImage es ≡ None
@@ -68,12 +38,8 @@ none_asked (d ∷ ds) = rw (no_match d.entries) (none_asked ds)
 
 -- without an image what stands for all that is asked is the offer's own
 own_without_image : (o : Offer) (ds : List OfferDemand) (b : ImageBounds) → MergedOf o (bounds_asked o ds) b → OwnWithoutImage o b
-own_without_image NoImage ds b merged = own_of_none NoImage b (subst (λ es. MergedOf NoImage es b) (none_asked ds) merged)
+own_without_image NoImage ds b merged = merged_own NoImage b (subst (λ es. MergedOf NoImage es b) (none_asked ds) merged)
 own_without_image (image pair colour) ds b merged = tt
-
--- merged bounds suit the offer
-merged_suits : (o : Offer) (es : List ImageBounds) (b : ImageBounds) → MergedOf o es b → Suits o b
-merged_suits o es b merged = record { width = merged.width_step.suits; height = merged.height_step.suits; row = merged.row_step.suits }
 
 -- the merged bounds, and a size that holds their corner and that the participants take, meet them
 merged_meets : (o : Offer) (ds : List OfferDemand) (b : ImageBounds) (k : Corner) (least greatest size : ℕ)

@@ -17,7 +17,7 @@ use Rattle.sysmem_image.specs.declared.entry.Entry.{Entry}
 use Rattle.sysmem_image.specs.Entries.{effective, first_match, takes_colour}
 use Rattle.sysmem_image.specs.Lines.{IsBoundsLine, IsFirstLine, IsSteady}
 use Rattle.sysmem_image.specs.Merged.{MergedOf}
-use Rattle.sysmem_image.proofs.Steps.{steady_line}
+use Rattle.sysmem_image.proofs.CallerLemmas.{steady_line}
 use Rattle.sysmem_merge.specs.declared.kept.KeptBounds.{KeptBounds}
 use Rattle.sysmem_merge.specs.declared.kept.KeptBounds.TheVariants.{Merged, Refused}
 use Rattle.sysmem_merge.specs.declared.kept.KeptOffer.{KeptOffer}

@@ -1,5 +1,6 @@
 pub mod Accepting
 pub mod Adding
+pub mod AnyOrder
 pub mod Asked
 pub mod FirstFits
 pub mod Fits
@@ -10,4 +11,5 @@ pub mod OneBest
 pub mod OneLine
 pub mod Reasons
 pub mod Sizes
+pub mod SomeMet
 pub mod Together

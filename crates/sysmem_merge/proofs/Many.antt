@@ -2,12 +2,11 @@
 use Rattle.std.proofs.Common.{arith, ℕ, ◌+◌, ◌≡◌, ◌<◌, ◌≤◌, List, [], ◌∷◌, ◌++◌, inl, inr, Option, Some, None, length, slice_get, slice_set, sym, ap, ◌∙◌, subst, below_more, length-append}
 use Rattle.std.proofs.lemmas.List.{length-set}
 use Rattle.std.proofs.lemmas.Option.{slice_get_within, slice_get_cases, same_Some}
-use Rattle.sysmem_formats.proofs.Places.{slice_get-append_left, slice_get-append_add}
+use Rattle.list_lemmas.proofs.CallerLemmas.{slice_get-append_left, slice_get-append_add, slice_get-set_same, slice_get-set_other}
 use Rattle.sysmem_formats.specs.declared.colour_space.ColourSpace.{ColourSpace}
 use Rattle.sysmem_formats.specs.declared.offer.Offer.{Offer}
 use Rattle.sysmem_formats.specs.declared.offer.Pair.{Pair}
 use Rattle.sysmem_formats.specs.Offers.{offers}
-use Rattle.sysmem_memory.proofs.Lists.{slice_get-set_same, slice_get-set_other}
 use Rattle.sysmem_merge.specs.declared.kept.KeptOffer.{KeptOffer}
 use Rattle.sysmem_merge.specs.Aggregate.{IsKept, AreKept}
 use Rattle.sysmem_merge.specs.Demands.{OfferDemand}

@@ -4,7 +4,6 @@ use denote.Enum.Declared.{Declared}
 use Rattle.std.proofs.Common.{arith, ℕ, zero, suc, ◌≡◌, ◌≢◌, ◌≤◌, ◌⊎◌, inl, inr, Bool, true, false, List, [], ◌∷◌, Some, Contains, slice_get, refl, sym, ap, ◌∙◌}
 use Rattle.std.proofs.Math.Nat.{le_antisymm}
 use Rattle.std.proofs.lemmas.Bool.{cases_lt}
-use Rattle.std.proofs.lemmas.Nat.Gcd.{dvd_antisymm}
 use Rattle.std.proofs.lemmas.Option.{same_Some}
 use Rattle.sysmem_formats.specs.contracts.colour_space.ColourSpace.{the_type as colour_type}
 use Rattle.sysmem_formats.specs.contracts.modifier.Modifier.{the_type as modifier_type}
@@ -16,8 +15,9 @@ use Rattle.sysmem_image.specs.contracts.bounds.ImageBounds.{the_type as bounds_t
 use Rattle.sysmem_image.specs.declared.bounds.ImageBounds.{ImageBounds}
 use Rattle.sysmem_image.specs.declared.size.Size.{Size}
 use Rattle.sysmem_image.specs.Bounds.{IsTighter}
-use Rattle.sysmem_image.specs.Size.{IsSizeUpTo, DividesSize}
-use Rattle.sysmem_memory.proofs.LawProofs.{places_are_in_one_order}
+use Rattle.sysmem_image.specs.Fields.{MinSize, MaxSize, SizeAlignment, MinBytesPerRow, MaxBytesPerRow, BytesPerRowDivisor, StartOffsetDivisor, DisplayRectAlignment, RequiredMinSize, RequiredMaxSize, MaxWidthTimesHeight, Width, Height}
+use Rattle.sysmem_image.proofs.CallerLemmas.{tighter_both}
+use Rattle.sysmem_memory.proofs.CallerLemmas.{places_are_in_one_order}
 use Rattle.sysmem_merge.specs.contracts.settings.Settings.{the_type as settings_type}
 use Rattle.sysmem_merge.specs.Best.{IsEarlierOffer, IsNoBetter}
 use Rattle.sysmem_merge.specs.Laws.{OneBest}
@@ -93,29 +93,26 @@ same_offer os a b has_a has_b not_before not_behind =
       ]
     ]
 
--- sizes each up to the other are one
-sizes_both : (a b : Size) → IsSizeUpTo a b → IsSizeUpTo b a → a ≡ b
-sizes_both a b up down =
-    ap (λ w. record { width = w; height = a.height }) (le_antisymm up.width down.width) ∙ ap (λ h. record { width = b.width; height = h }) (le_antisymm up.height down.height)
-
--- and so are sizes that divide each other
-steps_both : (a b : Size) → DividesSize a b → DividesSize b a → a ≡ b
-steps_both a b up down =
-    ap (λ w. record { width = w; height = a.height }) (dvd_antisymm up.width down.width) ∙ ap (λ h. record { width = b.width; height = h }) (dvd_antisymm up.height down.height)
+-- sizes of the same sides are one
+same_sizes : (a b : Size) → a.width ≡ b.width → a.height ≡ b.height → a ≡ b
+same_sizes a b wide high =
+    ap (λ w. record { width = w; height = a.height }) wide ∙ ap (λ h. record { width = b.width; height = h }) high
 
 -- bounds that keep to each other are one
-tighter_both : (a b : ImageBounds) → IsTighter a b → IsTighter b a → a ≡ b
-tighter_both a b up down =
-    let min_size = sizes_both a.min_size b.min_size down.min_size up.min_size in
-    let max_size = sizes_both a.max_size b.max_size up.max_size down.max_size in
-    let size_alignment = steps_both a.size_alignment b.size_alignment down.size_alignment up.size_alignment in
-    let min_row : a.min_bytes_per_row ≡ b.min_bytes_per_row = le_antisymm down.min_bytes_per_row up.min_bytes_per_row in
-    let max_row : a.max_bytes_per_row ≡ b.max_bytes_per_row = le_antisymm up.max_bytes_per_row down.max_bytes_per_row in
-    let row_step : a.bytes_per_row_divisor ≡ b.bytes_per_row_divisor = dvd_antisymm down.bytes_per_row_divisor up.bytes_per_row_divisor in
-    let start_step : a.start_offset_divisor ≡ b.start_offset_divisor = dvd_antisymm down.start_offset_divisor up.start_offset_divisor in
-    let display = steps_both a.display_rect_alignment b.display_rect_alignment down.display_rect_alignment up.display_rect_alignment in
-    let required_min = sizes_both a.required_min_size b.required_min_size up.required_min_size down.required_min_size in
-    let required_max = sizes_both a.required_max_size b.required_max_size down.required_max_size up.required_max_size in
+same_bounds : (a b : ImageBounds) → IsTighter a b → IsTighter b a → a ≡ b
+same_bounds a b up down =
+    let same = tighter_both a b up down in
+    let min_size = same_sizes a.min_size b.min_size (same MinSize Width) (same MinSize Height) in
+    let max_size = same_sizes a.max_size b.max_size (same MaxSize Width) (same MaxSize Height) in
+    let size_alignment = same_sizes a.size_alignment b.size_alignment (same SizeAlignment Width) (same SizeAlignment Height) in
+    let min_bytes_per_row : a.min_bytes_per_row ≡ b.min_bytes_per_row = same MinBytesPerRow Width in
+    let max_bytes_per_row : a.max_bytes_per_row ≡ b.max_bytes_per_row = same MaxBytesPerRow Width in
+    let bytes_per_row_divisor : a.bytes_per_row_divisor ≡ b.bytes_per_row_divisor = same BytesPerRowDivisor Width in
+    let start_offset_divisor : a.start_offset_divisor ≡ b.start_offset_divisor = same StartOffsetDivisor Width in
+    let display_rect_alignment = same_sizes a.display_rect_alignment b.display_rect_alignment (same DisplayRectAlignment Width) (same DisplayRectAlignment Height) in
+    let required_min_size = same_sizes a.required_min_size b.required_min_size (same RequiredMinSize Width) (same RequiredMinSize Height) in
+    let required_max_size = same_sizes a.required_max_size b.required_max_size (same RequiredMaxSize Width) (same RequiredMaxSize Height) in
+    let max_width_times_height : a.max_width_times_height ≡ b.max_width_times_height = same MaxWidthTimesHeight Width in
     bounds_type.to_one a b (cc)
 
 -- two best settings are one, part by part
@@ -129,5 +126,5 @@ one_best whole platform ps a b of_a of_b =
     let place = places_are_in_one_order a.place b.place (up.place offer) (down.place (sym offer)) in
     let count : a.count ≡ b.count = le_antisymm down.count up.count in
     let size : a.size_bytes ≡ b.size_bytes = le_antisymm (down.size (sym offer) (sym place)) (up.size offer place) in
-    let bounds = tighter_both a.bounds b.bounds (up.bounds offer place) (down.bounds (sym offer) (sym place)) in
+    let bounds = same_bounds a.bounds b.bounds (up.bounds offer place) (down.bounds (sym offer) (sym place)) in
     settings_type.to_one a b (cc)

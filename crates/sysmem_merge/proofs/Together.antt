@@ -1,15 +1,16 @@
 -- The first fit, the first place and the least count are best together.
-use Rattle.std.proofs.Common.{ℕ, ◌≡◌, Bool, true, false, List, [], ◌∷◌, map, All, refl, subst}
-use Rattle.std.proofs.lemmas.List.Elements.{All-nil, All-cons, All-head, All-tail, All-map, All-weaker}
+use Rattle.std.proofs.Common.{ℕ, ◌≡◌, Bool, true, false, List, All, refl, subst}
+use Rattle.std.proofs.lemmas.List.Elements.{All-map, All-weaker}
+use Rattle.list_lemmas.proofs.CallerLemmas.{All-unmap}
 use Rattle.sysmem_counts.specs.Counts.{IsLeastCount, HasNoCount}
-use Rattle.sysmem_memory.proofs.FirstRefusing.{none_refuses}
+use Rattle.sysmem_memory.proofs.CallerLemmas.{none_refuses}
 use Rattle.sysmem_memory.specs.declared.domain.CoherencyDomain.{CoherencyDomain}
 use Rattle.sysmem_memory.specs.declared.place.Place.{Place}
 use Rattle.sysmem_memory.specs.Heap.{HeapFacts}
 use Rattle.sysmem_memory.specs.Place.{IsPlace, IsRefused, IsFirstPlace, HasNoPlace}
 use Rattle.sysmem_memory.specs.PlaceTable.{AllowsPlace, PlaceDemand}
 use Rattle.sysmem_merge.specs.declared.fit.Fit.{Fit}
-use Rattle.sysmem_merge.specs.declared.settings.Settings.{Settings as Settled}
+use Rattle.sysmem_merge.specs.declared.settings.Settings.{Settings}
 use Rattle.sysmem_merge.specs.Best.{IsBest, IsUnmet}
 use Rattle.sysmem_merge.specs.Demands.{OfferDemand, counts_asked, place_demand, place_demands, offer_demand, offer_demands}
 use Rattle.sysmem_merge.specs.Fit.{CoversFit, MeetsFit, IsFirstFit}
@@ -19,36 +20,30 @@ use Rattle.sysmem_sanitise.specs.Participant.{Participant}
 use Rattle.sysmem_sanitise.specs.Platform.{PlatformFacts, offers_of}
 use Rattle.sysmem_merge.proofs.FirstFits.{refused_unmet}
 
--- what each image of a list has, each element's image has
-pub All-unmap : {X Y : Type 0} (P : Y → Type 0) (f : X → Y) (xs : List X) → All P (map f xs) → All (λ x. P (f x)) xs
-All-unmap P f [] all = All-nil (λ x. P (f x))
-All-unmap P f (x ∷ xs) all =
-    All-cons (λ x. P (f x)) x xs (All-head P (f x) (map f xs) all) (All-unmap P f xs (All-tail P (f x) (map f xs) all))
-
 -- settings that meet participants meet them but for the names
-pub loosely : (whole : Bool) (platform : PlatformFacts) (ps : List Participant) (t : Settled) → MeetsAs whole platform ps t → MeetsLoosely platform ps t
+pub loosely : (whole : Bool) (platform : PlatformFacts) (ps : List Participant) (t : Settings) → MeetsAs whole platform ps t → MeetsLoosely platform ps t
 loosely true platform ps t meets = meets.loosely
 loosely false platform ps t meets = meets
 
 -- and with the names where they are asked for
-pub named : (whole : Bool) (platform : PlatformFacts) (ps : List Participant) (t : Settled) → MeetsAs whole platform ps t → whole ≡ true → IsNamed t.offer ps
+pub named : (whole : Bool) (platform : PlatformFacts) (ps : List Participant) (t : Settings) → MeetsAs whole platform ps t → whole ≡ true → IsNamed t.offer ps
 named true platform ps t meets _ = meets.named
 named false platform ps t meets is = cc
 
-pub meets_as : (whole : Bool) (platform : PlatformFacts) (ps : List Participant) (t : Settled) → MeetsLoosely platform ps t → (whole ≡ true → IsNamed t.offer ps) → MeetsAs whole platform ps t
+pub meets_as : (whole : Bool) (platform : PlatformFacts) (ps : List Participant) (t : Settings) → MeetsLoosely platform ps t → (whole ≡ true → IsNamed t.offer ps) → MeetsAs whole platform ps t
 meets_as true platform ps t meets names = record { loosely = meets; named = names refl }
 meets_as false platform ps t meets names = meets
 
 -- what settings say of images
-abbrev pub fit_of : Settled → Fit
+abbrev pub fit_of : Settings → Fit
 fit_of t = record { offer = t.offer; bounds = t.bounds; size_bytes = t.size_bytes }
 
 -- a participant that covers settings covers what they say of images
-pub covers_fit : (h : HeapFacts) (t : Settled) (p : Participant) → Covers h t p → CoversFit (fit_of t) (offer_demand p)
+pub covers_fit : (h : HeapFacts) (t : Settings) (p : Participant) → Covers h t p → CoversFit (fit_of t) (offer_demand p)
 covers_fit h t p c = record { format = c.format; colour = c.colour; bounds = c.bounds; min_size = c.min_size; max_size = c.max_size }
 
 -- settings that meet participants meet them in what they say of images
-pub fit_met : (platform : PlatformFacts) (ps : List Participant) (t : Settled) → MeetsLoosely platform ps t → MeetsFit (offer_demands ps) (fit_of t)
+pub fit_met : (platform : PlatformFacts) (ps : List Participant) (t : Settings) → MeetsLoosely platform ps t → MeetsFit (offer_demands ps) (fit_of t)
 fit_met platform ps t m = record {
   sound = record { some = m.sound.some; fits = m.sound.fits; own = m.sound.own; image = m.sound.image; bounds = m.sound.bounds; bytes = m.sound.bytes };
   covers = All-map (CoversFit (fit_of t)) offer_demand ps
@@ -62,7 +57,7 @@ refused_clash h d ps (f, (k, p, below, is, refuses)) all =
     cc (refuses, none_refuses p.memory p.usage h d allows f)
 
 -- nobody refuses the place of settings that meet participants
-pub place_met : (whole : Bool) (platform : PlatformFacts) (ps : List Participant) (t : Settled) → MeetsAs whole platform ps t
+pub place_met : (whole : Bool) (platform : PlatformFacts) (ps : List Participant) (t : Settings) → MeetsAs whole platform ps t
     → (h : HeapFacts) × IsPlace platform.heaps t.place h × (¬ (IsRefused h t.place.coherency (place_demands ps)))
 place_met whole platform ps t meets = let m : MeetsLoosely platform ps t = loosely whole platform ps t meets in (
   m.heap,
@@ -78,7 +73,7 @@ pub best_together : (whole : Bool) (platform : PlatformFacts) (ps : List Partici
     → IsLeastCount (counts_asked ps) count
     → IsBest whole platform ps (record { offer = fit.offer; place = place; count = count; size_bytes = fit.size_bytes; bounds = fit.bounds })
 best_together whole platform ps fit place count found first least =
-    let s : Settled = record { offer = fit.offer; place = place; count = count; size_bytes = fit.size_bytes; bounds = fit.bounds } in
+    let s : Settings = record { offer = fit.offer; place = place; count = count; size_bytes = fit.size_bytes; bounds = fit.bounds } in
     let sound = found.best.meets.sound in
     let allowed = All-unmap (λ (q : PlaceDemand). AllowsPlace q.memory q.usage first.info place.coherency) place_demand ps first.allowed in
     let covered = All-unmap (λ (d : OfferDemand). CoversFit fit d) offer_demand ps found.best.meets.covers in

@@ -3,7 +3,7 @@ use Rattle.std.specs.Prelude.{◌≡◌, ℕ, ◌<◌, ◌≤◌, List, Bool, So
 use Rattle.sysmem_formats.specs.declared.offer.Offer.{Offer}
 use Rattle.sysmem_image.specs.Bounds.{IsTighter}
 use Rattle.sysmem_memory.specs.Place.{IsEarlier}
-use Rattle.sysmem_merge.specs.declared.settings.Settings.{Settings as Settled}
+use Rattle.sysmem_merge.specs.declared.settings.Settings.{Settings}
 use Rattle.sysmem_merge.specs.Settings.{MeetsAs}
 use Rattle.sysmem_sanitise.specs.Participant.{Participant}
 use Rattle.sysmem_sanitise.specs.Platform.{PlatformFacts, offers_of}
@@ -16,7 +16,7 @@ pub record IsEarlierOffer (offers : List Offer) (a b : Offer) : Type 0 where
 
 -- t is no better than s: no earlier offer, with the same offer no earlier place, no smaller count, and with the same offer in the
 -- same place no smaller size and no bounds that ask for less
-pub record IsNoBetter (platform : PlatformFacts) (t s : Settled) : Type 0 where
+pub record IsNoBetter (platform : PlatformFacts) (t s : Settings) : Type 0 where
   pub offer : ¬ (IsEarlierOffer (offers_of platform) t.offer s.offer)
   pub place : t.offer ≡ s.offer → ¬ (IsEarlier t.place s.place)
   pub count : s.count ≤ t.count
@@ -24,10 +24,10 @@ pub record IsNoBetter (platform : PlatformFacts) (t s : Settled) : Type 0 where
   pub bounds : t.offer ≡ s.offer → t.place ≡ s.place → IsTighter t.bounds s.bounds
 
 -- settings that meet these participants, and than which no others that do are better
-pub record IsBest (whole : Bool) (platform : PlatformFacts) (ps : List Participant) (s : Settled) : Type 0 where
+pub record IsBest (whole : Bool) (platform : PlatformFacts) (ps : List Participant) (s : Settings) : Type 0 where
   pub meets : MeetsAs whole platform ps s
-  pub best : (t : Settled) → MeetsAs whole platform ps t → IsNoBetter platform t s
+  pub best : (t : Settings) → MeetsAs whole platform ps t → IsNoBetter platform t s
 
 -- no settings meet these participants
 abbrev pub IsUnmet : Bool → PlatformFacts → List Participant → Type 0
-IsUnmet whole platform ps = (t : Settled) → ¬ (MeetsAs whole platform ps t)
+IsUnmet whole platform ps = (t : Settings) → ¬ (MeetsAs whole platform ps t)

@@ -10,7 +10,7 @@ use Rattle.sysmem_image.specs.Images.{Image, IsSoundBounds}
 use Rattle.sysmem_memory.specs.Heap.{HeapFacts}
 use Rattle.sysmem_memory.specs.Place.{IsPlace}
 use Rattle.sysmem_memory.specs.PlaceTable.{AllowsPlace}
-use Rattle.sysmem_merge.specs.declared.settings.Settings.{Settings as Settled}
+use Rattle.sysmem_merge.specs.declared.settings.Settings.{Settings}
 use Rattle.sysmem_merge.specs.Demands.{counts_asked, offer_demand, offer_demands}
 use Rattle.sysmem_merge.specs.Offers.{has_format, has_colour, Asks, is_named}
 use Rattle.sysmem_sanitise.specs.Participant.{Participant}
@@ -23,7 +23,7 @@ OwnWithoutImage (image pair colour) b = Unit {0}
 
 -- settings that the platform can provide: its offer, one of its places, in this heap, and a size that holds an image
 -- which the bounds admit and which is as large as they ask for
-pub record IsSound (platform : PlatformFacts) (heap : HeapFacts) (s : Settled) : Type 0 where
+pub record IsSound (platform : PlatformFacts) (heap : HeapFacts) (s : Settings) : Type 0 where
   pub offer : Contains (offers_of platform) s.offer
   pub place : IsPlace platform.heaps s.place heap
   pub some : 1 ≤ s.size_bytes
@@ -34,7 +34,7 @@ pub record IsSound (platform : PlatformFacts) (heap : HeapFacts) (s : Settled) :
   pub bytes : image_bytes_of s.offer image.row image.height ≤ s.size_bytes
 
 -- settings that one participant accepts, field by field; without image entries it accepts every offer and bounds none
-pub record Covers (heap : HeapFacts) (s : Settled) (p : Participant) : Type 0 where
+pub record Covers (heap : HeapFacts) (s : Settings) (p : Participant) : Type 0 where
   pub format : has_format s.offer (offer_demand p) ≡ true
   pub colour : has_colour s.offer (offer_demand p) ≡ true
   pub bounds : Asks s.offer (IsTighter s.bounds) (offer_demand p)
@@ -43,7 +43,7 @@ pub record Covers (heap : HeapFacts) (s : Settled) (p : Participant) : Type 0 wh
   pub place : AllowsPlace p.memory p.usage heap s.place.coherency
 
 -- settings that one participant accepts in their heap of the platform
-pub record CoversOn (platform : PlatformFacts) (s : Settled) (p : Participant) : Type 0 where
+pub record CoversOn (platform : PlatformFacts) (s : Settings) (p : Participant) : Type 0 where
   pub heap : HeapFacts
   pub has : slice_get platform.heaps s.place.heap ≡ Some heap
   pub covers : Covers heap s p
@@ -53,18 +53,18 @@ abbrev pub IsNamed : Offer → List Participant → Type 0
 IsNamed o ps = is_named o (offer_demands ps) ≡ true
 
 -- settings that meet all of these participants, but for the names of the image
-pub record MeetsLoosely (platform : PlatformFacts) (ps : List Participant) (s : Settled) : Type 0 where
+pub record MeetsLoosely (platform : PlatformFacts) (ps : List Participant) (s : Settings) : Type 0 where
   pub heap : HeapFacts
   pub sound : IsSound platform heap s
   pub covers : All (Covers heap s) ps
   pub counted : IsCounted (counts_asked ps) s.count
 
 -- settings that meet all of these participants
-pub record Meets (platform : PlatformFacts) (ps : List Participant) (s : Settled) : Type 0 where
+pub record Meets (platform : PlatformFacts) (ps : List Participant) (s : Settings) : Type 0 where
   pub loosely : MeetsLoosely platform ps s
   pub named : IsNamed s.offer ps
 
 -- whole: the participants are all that a decision has, so that each part of the image's name has to be named by some of them
-abbrev pub MeetsAs : Bool → PlatformFacts → List Participant → Settled → Type 0
+abbrev pub MeetsAs : Bool → PlatformFacts → List Participant → Settings → Type 0
 MeetsAs true = Meets
 MeetsAs false = MeetsLoosely

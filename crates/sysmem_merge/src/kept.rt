@@ -96,7 +96,7 @@ impl KeptBounds {
             return self.refuse(Field::ColorSpaces);
         }
         if let KeptBounds::Merged(bounds) = self {
-            if let Err(field) = merge_into(bounds, entry) {
+            if let Err(field) = merge_into(bounds, entry, offer) {
                 *self = KeptBounds::Refused(field);
             }
         }

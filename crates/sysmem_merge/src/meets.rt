@@ -47,7 +47,8 @@ fn accepts_offer(settings: &Settings, entries: &[Entry]) -> bool
 {
     match entry_for(entries, &settings.offer) {
         Some(entry) => {
-            takes_colour(entry, &settings.offer) && first_failing(&settings.bounds, entry).is_none()
+            takes_colour(entry, &settings.offer)
+                && first_failing(&settings.bounds, entry, &settings.offer).is_none()
         }
         None => entries.is_empty(),
     }

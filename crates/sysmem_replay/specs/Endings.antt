@@ -2,10 +2,10 @@
 use Rattle.std.specs.Prelude.{ℕ, Option, Some, None, Result, Ok, Err}
 use Rattle.clap.specs.declared.error.kind.ErrorKind.{ErrorKind}
 use Rattle.clap.specs.declared.error.kind.ErrorKind.TheVariants.{DisplayHelp, DisplayVersion, OutOfMemory}
-use Rattle.sysmem_replay.specs.declared.fault.RunFault.{RunFault}
-use Rattle.sysmem_replay.specs.declared.fault.RunFault.TheVariants.{Read, Write, NoMemory, Script}
-use Rattle.sysmem_replay.specs.declared.run.Ended.{Ended}
-use Rattle.sysmem_replay.specs.declared.run.Ended.TheVariants.{Done, MemoryRefused, CheckedNo}
+use Rattle.script_run.specs.declared.fault.RunFault.{RunFault}
+use Rattle.script_run.specs.declared.fault.RunFault.TheVariants.{Read, Write, NoMemory, Script}
+use Rattle.script_run.specs.declared.running.Ended.{Ended}
+use Rattle.script_run.specs.declared.running.Ended.TheVariants.{Done, MemoryRefused, CheckedNo}
 
 -- the exit status of a run
 abbrev pub run_code : Result Ended RunFault → ℕ

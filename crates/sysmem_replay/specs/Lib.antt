@@ -1,17 +1,2 @@
-pub mod Call
 pub mod CommandLine
 pub mod Endings
-pub mod Faults
-pub mod Known
-pub mod Laws
-pub mod Lines
-pub mod Names
-pub mod Outcome
-pub mod Platform
-pub mod Report
-pub mod Runner
-pub mod Script
-pub mod Seen
-pub mod State
-pub mod Text
-pub mod Transfer

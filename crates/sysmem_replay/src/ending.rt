@@ -2,9 +2,8 @@
 ghost use Rattle.std.specs.Prelude.{◌≡◌, Err, Some};
 ghost use Rattle.sysmem_replay.specs.Endings.{fault_said, refusal_code, refusal_said, run_code};
 
-use crate::fault::RunFault;
-use crate::run::Ended;
 use clap::error::ErrorKind;
+use script_run::{Ended, RunFault};
 
 /// An exit status, and the fault whose text goes to standard error.
 #[derive(Clone, Copy, Debug, PartialEq, Eq)]

@@ -2,38 +2,16 @@
 //! report.
 #![tactic(auto)]
 
-mod action;
-mod counted;
-mod decision;
 mod ending;
-mod fault;
-pub mod laws;
-mod line;
-mod node;
-mod platform;
-mod reply;
-mod report;
-pub mod run;
-mod runner;
-pub mod script;
-mod sink;
-mod source;
-mod transfer;
-mod verdict;
 mod words;
 
+use byte_transfer::Counted;
 use clap::Error;
-pub use counted::Counted;
 pub use ending::{Ending, ending_of, refusal_ending};
-pub use fault::{RunFault, ScriptFault};
-pub use report::{Report, report_of};
-pub use run::Ended;
-pub use sink::Sink;
-pub use source::Source;
+pub use script_run::{Ended, RunFault, run};
 use std::fs::File;
 use std::process::ExitCode;
 use std::{env, io};
-pub use transfer::{LONGEST, read_up_to_limit, write_fully};
 pub use words::{Job, read_words};
 
 fn main(rt: HostRuntime) -> ExitCode {
@@ -87,7 +65,7 @@ fn run_file(rt: &HostRuntime, file: &str) -> Result<Ended, RunFault> {
     let Ok(script) = File::open(rt, file) else {
         return Err(RunFault::Read);
     };
-    run::run(
+    run(
         rt.alloc(),
         &mut Counted::new(script),
         &mut Counted::new(io::writer(rt)),

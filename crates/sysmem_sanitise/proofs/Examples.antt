@@ -154,7 +154,8 @@ abbrev entry : Data
 entry = object ((codes "pixel_format", text (codes "NV12")) :: (codes "pixel_format_modifier", text (codes "LINEAR")) :: (codes "pixel_format_and_modifiers", one (object ((codes "pixel_format", text (codes "DO_NOT_CARE")) :: no_members)))
     :: (codes "color_spaces", two (text (codes "SRGB")) (text (codes "DO_NOT_CARE"))) :: (codes "min_size", size 0 9) :: (codes "max_size", size 10 11) :: (codes "size_alignment", size 12 13)
     :: (codes "min_bytes_per_row", count 0) :: (codes "max_bytes_per_row", count 14) :: (codes "bytes_per_row_divisor", count 15) :: (codes "start_offset_divisor", count 65536)
-    :: (codes "display_rect_alignment", size 16 17) :: (codes "required_min_size", size 18 0) :: (codes "required_max_size", size 19 20) :: no_members)
+    :: (codes "display_rect_alignment", size 16 17) :: (codes "required_min_size", size 18 0) :: (codes "required_max_size", size 19 20)
+    :: (codes "max_width_times_height", count 21) :: (codes "require_bytes_per_row_at_pixel_boundary", boolean true) :: no_members)
 
 abbrev whole : Data
 whole = object ((codes "usage", two (text (codes "cpu")) (text (codes "video"))) :: (codes "min_buffer_count_for_camping", count 1) :: (codes "min_buffer_count_for_dedicated_slack", count 2) :: (codes "min_buffer_count_for_shared_slack", count 3)
@@ -178,7 +179,7 @@ abbrev square : ℕ → ℕ → Size
 square width height = record { width = width; height = height }
 
 abbrev bounds : StatedBounds
-bounds = record { min_size = square 1 9; max_size = square 10 11; size_alignment = square 12 13; min_bytes_per_row = 1; max_bytes_per_row = 14; bytes_per_row_divisor = 15; start_offset_divisor = 65536; display_rect_alignment = square 16 17; required_min_size = square 18 1; required_max_size = square 19 20 }
+bounds = record { min_size = square 1 9; max_size = square 10 11; size_alignment = square 12 13; min_bytes_per_row = 1; max_bytes_per_row = 14; bytes_per_row_divisor = 15; start_offset_divisor = 65536; display_rect_alignment = square 16 17; required_min_size = square 18 1; required_max_size = square 19 20; max_width_times_height = 21; at_pixel_boundary = true }
 
 abbrev colours : ColourSet
 colours = record no_colours { any = true; srgb = true }

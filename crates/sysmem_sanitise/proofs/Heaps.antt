@@ -1,5 +1,5 @@
 -- What a record's heaps are named, and what they have.
-use Rattle.std.proofs.Common.{◌≡◌, ◌^◌, ◌-◌, true, List, ℕ, Ok, subst}
+use Rattle.std.proofs.Common.{◌≡◌, ◌^◌, ◌-◌, true, List, ℕ, None, Ok, subst}
 use Rattle.serde_json.specs.Data.{Data}
 use Rattle.sysmem_counts.specs.declared.field.Field.TheVariants as field
 use Rattle.sysmem_memory.specs.declared.domain.CoherencyDomains.{CoherencyDomains}
@@ -7,20 +7,21 @@ use Rattle.sysmem_memory.specs.Heap.{HeapName, HeapFacts}
 use Rattle.sysmem_sanitise.specs.declared.fault.Code.TheVariants as code
 use Rattle.sysmem_sanitise.specs.declared.fault.Spot.TheVariants.{At}
 use Rattle.sysmem_sanitise.specs.Platform.{IsHeap}
-use Rattle.sysmem_sanitise.specs.Reading.Fields.{read_each, object_of, stated, required, number_or, flag_or, text_of, list_of}
+use Rattle.sysmem_sanitise.specs.Reading.Fields.{passing, read_each, object_of, stated, required, number_or, flag_or, text_of, list_of}
 use Rattle.sysmem_sanitise.specs.Reading.Heaps.{IsHeapName, is_heap_type, heap_type_of, heap_name_of, no_domains, with_named, has_domains, domains_of, heap_fields, heap_of}
 use Rattle.sysmem_sanitise.proofs.Steps.{bind-ok, bind-then, ok-same, passing-ok}
 
-heap_type_of-is : (d : Data) (text : List ℕ) → heap_type_of d ≡ Ok text → is_heap_type text ≡ true
+heap_type_of-is : (d : Data) (text : List ℕ) → heap_type_of None d ≡ Ok text → is_heap_type text ≡ true
 heap_type_of-is d text gives =
-    let (read, is, tested) = bind-ok (text_of _ d) _ text gives in
-    (passing-ok _ is_heap_type read text tested).holds
+    let (read, is, after) = bind-ok (text_of _ d) _ text gives in
+    let (typed, tested, made) = bind-ok (passing _ is_heap_type read) _ text after in
+    subst (λ text. is_heap_type text ≡ true) (ok-same typed text made) (passing-ok _ is_heap_type read typed tested).holds
 
-pub heap_name_of-is : (d : Data) (heap : HeapName) → heap_name_of d ≡ Ok heap → IsHeapName heap
+pub heap_name_of-is : (d : Data) (heap : HeapName) → heap_name_of None d ≡ Ok heap → IsHeapName heap
 heap_name_of-is d heap gives =
-    let (text, read, after) = bind-ok (required field.HeapType heap_type_of d) _ heap gives in
+    let (text, read, after) = bind-ok (required field.HeapType (heap_type_of None) d) _ heap gives in
     let (id, is, made) = bind-ok (number_or field.Id 0 (2 ^ 64 - 1) d) _ heap after in
-    let (v, there, typed) = bind-ok (stated code.WrongKind field.HeapType d) heap_type_of text read in
+    let (v, there, typed) = bind-ok (stated code.WrongKind field.HeapType d) (heap_type_of None) text read in
     subst IsHeapName (ok-same _ heap made) (heap_type_of-is v text typed)
 
 domains_of-some : (d : Data) (domains : CoherencyDomains) → domains_of d ≡ Ok domains → has_domains domains ≡ true
@@ -29,10 +30,10 @@ domains_of-some d domains gives =
     let (read, each, tested) = bind-ok (read_each with_named no_domains items) _ domains after in
     (passing-ok _ has_domains read domains tested).holds
 
-pub heap_of-is : (d : Data) (heap : HeapFacts) → heap_of d ≡ Ok heap → IsHeap heap
+pub heap_of-is : (d : Data) (heap : HeapFacts) → heap_of None d ≡ Ok heap → IsHeap heap
 heap_of-is d heap gives =
     bind-then (object_of (At field.Heaps) heap_fields d) _ heap gives (λ object is a1.
-    bind-then (heap_name_of d) _ heap a1 (λ name named a2.
+    bind-then (heap_name_of None d) _ heap a1 (λ name named a2.
     bind-then (flag_or field.Contiguous _ d) _ heap a2 (λ contiguous is a3.
     bind-then (flag_or field.Secure _ d) _ heap a3 (λ secure is a4.
     bind-then (required field.Domains domains_of d) _ heap a4 (λ domains has made.

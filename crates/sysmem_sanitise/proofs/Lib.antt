@@ -5,5 +5,6 @@ mod Members
 mod Names
 mod Participants
 mod Platforms
+mod Refusals
 mod Same
 mod Steps

@@ -1,5 +1,5 @@
 -- What a participant's record states is what a participant may ask.
-use Rattle.std.proofs.Common.{◌≡◌, ◌≢◌, ℕ, ◌^◌, ◌-◌, ◌<◌, ◌≤◌, ◌+◌, ◌==◌, Bool, true, false, not, ◌||◌, ◌&&◌, List, [], ◌∷◌, ◌++◌, length, get_or, Option, Some, None, Ok, refl, sym, ap, ◌∙◌, subst, arith, rules, tests, length-append, append_assoc, append-nil}
+use Rattle.std.proofs.Common.{nat_le, ◌≡◌, ◌≢◌, ℕ, ◌^◌, ◌-◌, ◌<◌, ◌≤◌, ◌+◌, ◌==◌, Bool, true, false, not, ◌||◌, ◌&&◌, List, [], ◌∷◌, ◌++◌, length, get_or, Option, Some, None, Ok, refl, sym, ap, ◌∙◌, subst, arith, rules, tests, length-append, append_assoc, append-nil}
 use Rattle.std.specs.Prelude.{All, AllPairs, map, max, nat_lt, cond}
 use Rattle.std.specs.List.{list_any}
 use Rattle.std.specs.Int.RustNames.{bit_and}
@@ -23,7 +23,7 @@ use Rattle.sysmem_formats.specs.declared.modifier.Modifier.{Modifier}
 use Rattle.sysmem_formats.specs.declared.offer.Pair.{Pair}
 use Rattle.sysmem_formats.specs.declared.pixel_format.PixelFormat.{PixelFormat}
 use Rattle.sysmem_formats.specs.Layout.{IsTiledMisfit, pixel_bytes}
-use Rattle.sysmem_image.specs.declared.bounds.ImageBounds.{ImageBounds}
+use Rattle.sysmem_image.specs.declared.entry.EntryBounds.{EntryBounds}
 use Rattle.sysmem_image.specs.declared.colours.ColourSet.{ColourSet}
 use Rattle.sysmem_image.specs.declared.entry.Entry.{Entry}
 use Rattle.sysmem_image.specs.declared.size.Size.{Size}
@@ -33,7 +33,7 @@ use Rattle.sysmem_memory.specs.Wishes.{MemoryWishes, no_wishes}
 use Rattle.sysmem_sanitise.specs.declared.reading.asked.AskedPair.{AskedPair}
 use Rattle.sysmem_sanitise.specs.declared.fault.Spot.TheVariants.{At}
 use Rattle.sysmem_sanitise.specs.Participant.{IsUsage, IsUpTo, IsEntry, AreApart, most_step}
-use Rattle.sysmem_sanitise.specs.Reading.Bounds.{is_multiple, multiple, multiple_size, any_size, some_size, some_sides, size_to, size_or, bound_or, any_number, some_number, stated_bounds, bounds_by, bounds_of, most}
+use Rattle.sysmem_sanitise.specs.Reading.Bounds.{is_multiple, multiple, multiple_size, any_size, some_size, some_sides, size_to, size_or, bound_or, any_number, some_number, large_number, stated_bounds, bounds_by, bounds_of, most}
 use Rattle.sysmem_sanitise.specs.Reading.Constraints.{no_usage, with_family, is_usage, usage_of, memory_fields, memory_of}
 use Rattle.sysmem_sanitise.specs.Reading.Entries.{same_format, same_modifier, same_asked, is_unfit, asked_of, asked_by, has_further, modifier_beside, has_entry, has_asked, with_asked, no_pair, own_pair, with_further, further_of, asked_pairs, listed, with_listed, colour_set_of, entry_object, entry_with, with_entry, entries_of}
 use Rattle.sysmem_sanitise.specs.Reading.Fields.{◌>>=◌, passing, list_of, named, number_of, number_or, flag_or, optional, stated, text_of, object_of, has_items, read_each}
@@ -77,9 +77,9 @@ pub record ArePermitted (heaps : List HeapName) : Type 0 where
 no_heaps-are : ArePermitted []
 no_heaps-are = record { few = omega arith; distinct = λ i j e before within. absurd (omega arith); each = λ k e within. absurd (omega arith) }
 
-with_permitted-keeps : (hs ts : List HeapName) (d : Data) → ArePermitted hs → with_permitted hs d ≡ Ok ts → ArePermitted ts
+with_permitted-keeps : (hs ts : List HeapName) (d : Data) → ArePermitted hs → with_permitted None hs d ≡ Ok ts → ArePermitted ts
 with_permitted-keeps hs ts d kept gives =
-    let (heap, read, after) = bind-ok (permitted_heap d) _ ts gives in
+    let (heap, read, after) = bind-ok (permitted_heap None d) _ ts gives in
     let (roomy, room, after2) = bind-ok (passing _ (λ _. nat_lt (length hs) 64) heap) _ ts after in
     let (new, passes, made) = bind-ok (passing _ (λ heap. not (permits hs heap)) roomy) _ ts after2 in
     let (object, is, name) = bind-ok (object_of _ _ d) _ heap read in
@@ -95,12 +95,12 @@ with_permitted-keeps hs ts d kept gives =
       each = All-push IsHeapName hs new kept.each heap-is;
     })
 
-permitted_of-are : (d : Data) (ts : List HeapName) → permitted_of d ≡ Ok ts → ArePermitted ts
+permitted_of-are : (d : Data) (ts : List HeapName) → permitted_of None d ≡ Ok ts → ArePermitted ts
 permitted_of-are d ts gives =
     let (items, listed, each) = bind-ok (list_of _ d) _ ts gives in
-    each-keeps with_permitted ArePermitted with_permitted-keeps items [] ts no_heaps-are each
+    each-keeps (with_permitted None) ArePermitted with_permitted-keeps items [] ts no_heaps-are each
 
-memory_of-permits : (d : Data) (m : MemoryWishes) → memory_of d ≡ Ok m → ArePermitted m.permitted_heaps
+memory_of-permits : (d : Data) (m : MemoryWishes) → memory_of None d ≡ Ok m → ArePermitted m.permitted_heaps
 memory_of-permits d m gives =
     bind-then (object_of (At field.BufferMemoryConstraints) memory_fields d) _ m gives (λ object is a1.
     bind-then (number_or field.MinSizeBytes 0 (2 ^ 64 - 1) d) _ m a1 (λ min is a2.
@@ -110,11 +110,11 @@ memory_of-permits d m gives =
     bind-then (flag_or field.CpuDomainSupported true d) _ m a5 (λ cpu is a6.
     bind-then (flag_or field.RamDomainSupported false d) _ m a6 (λ ram is a7.
     bind-then (flag_or field.InaccessibleDomainSupported false d) _ m a7 (λ inaccessible is a8.
-    bind-then (optional field.PermittedHeaps [] permitted_of d) _ m a8 (λ heaps is made.
-    subst (λ (m : MemoryWishes). ArePermitted m.permitted_heaps) (ok-same _ m made) (optional-keeps ArePermitted field.PermittedHeaps [] permitted_of d heaps no_heaps-are (λ v. permitted_of-are v heaps) is))))))))))
+    bind-then (optional field.PermittedHeaps [] (permitted_of None) d) _ m a8 (λ heaps is made.
+    subst (λ (m : MemoryWishes). ArePermitted m.permitted_heaps) (ok-same _ m made) (optional-keeps ArePermitted field.PermittedHeaps [] (permitted_of None) d heaps no_heaps-are (λ v. permitted_of-are v heaps) is))))))))))
 
-pub memory-permits : (d : Data) (m : MemoryWishes) → optional field.BufferMemoryConstraints no_wishes memory_of d ≡ Ok m → ArePermitted m.permitted_heaps
-memory-permits d m gives = optional-keeps (λ (m : MemoryWishes). ArePermitted m.permitted_heaps) field.BufferMemoryConstraints no_wishes memory_of d m no_heaps-are (λ v. memory_of-permits v m) gives
+pub memory-permits : (d : Data) (m : MemoryWishes) → optional field.BufferMemoryConstraints no_wishes (memory_of None) d ≡ Ok m → ArePermitted m.permitted_heaps
+memory-permits d m gives = optional-keeps (λ (m : MemoryWishes). ArePermitted m.permitted_heaps) field.BufferMemoryConstraints no_wishes (memory_of None) d m no_heaps-are (λ v. memory_of-permits v m) gives
 
 -- 1 to the most that a step may be
 multiple-is : (n : ℕ) → is_multiple n ≡ true → n ≤ most_step
@@ -137,13 +137,13 @@ some_size-some at d size gives =
     subst (λ size. (1 ≤ size.width) × (1 ≤ size.height)) (ok-same _ size made) (omega arith, omega arith)
 
 -- what bounds keep to beside their own invariant
-record AreAsked (b : ImageBounds) : Type 0 where
-  size_alignment : IsUpTo most_step b.size_alignment
-  bytes_per_row_divisor : b.bytes_per_row_divisor ≤ most_step
-  start_offset_divisor : b.start_offset_divisor ≤ most_step
-  display_rect_alignment : IsUpTo most_step b.display_rect_alignment
-  required_min_width : 1 ≤ b.required_min_size.width
-  required_min_height : 1 ≤ b.required_min_size.height
+record AreAsked (b : EntryBounds) : Type 0 where
+  size_alignment : IsUpTo most_step b.asked.size_alignment
+  start_offset_divisor : b.asked.start_offset_divisor ≤ most_step
+  display_rect_alignment : IsUpTo most_step b.asked.display_rect_alignment
+  required_min_width : 1 ≤ b.asked.required_min_size.width
+  required_min_height : 1 ≤ b.asked.required_min_size.height
+  max_width_times_height : 1 ≤ b.asked.max_width_times_height
 
 step-some : (n : ℕ) → n ≤ most_step → max n 1 ≤ most_step
 step-some n h = omega arith
@@ -161,7 +161,17 @@ required_sides : (d : Data) (size : Size) → size_or some_size field.RequiredMi
 required_sides d size gives =
     optional-keeps (λ (size : Size). (1 ≤ size.width) × (1 ≤ size.height)) field.RequiredMinSize (record { width = most; height = most }) (some_size field.RequiredMinSize) d size (omega arith, omega arith) (λ v. some_size-some field.RequiredMinSize v size) gives
 
-bounds_of-are : (d : Data) (b : ImageBounds) → bounds_of d ≡ Ok b → AreAsked b
+large_number-some : (at : Field) (d : Data) (n : ℕ) → large_number at d ≡ Ok n → 1 ≤ n
+large_number-some at d n gives =
+    let (read, is, tested) = bind-ok (number_of at (2 ^ 64 - 1) d) _ n gives in
+    some-is n (passing-ok _ (λ n. nat_le 1 n) read n tested).holds where
+      some-is : (n : ℕ) → nat_le 1 n ≡ true → 1 ≤ n
+      some-is n h = search (rules, tests)
+
+area_some : (d : Data) (n : ℕ) → bound_or large_number field.MaxWidthTimesHeight (2 ^ 64 - 1) d ≡ Ok n → 1 ≤ n
+area_some d n gives = optional-keeps (λ n. 1 ≤ n) field.MaxWidthTimesHeight (2 ^ 64 - 1) (large_number field.MaxWidthTimesHeight) d n (omega arith) (λ v. large_number-some field.MaxWidthTimesHeight v n) gives
+
+bounds_of-are : (d : Data) (b : EntryBounds) → bounds_of d ≡ Ok b → AreAsked b
 bounds_of-are d b gives =
     bind-then (stated_bounds d) _ b gives (λ s stated-is made.
     bind-then (size_or some_size field.MinSize 1 d) _ s stated-is (λ min_size is1 a1.
@@ -173,16 +183,18 @@ bounds_of-are d b gives =
     bind-then (bound_or multiple field.StartOffsetDivisor 1 d) _ s a6 (λ start_step is7 a7.
     bind-then (size_or multiple_size field.DisplayRectAlignment 1 d) _ s a7 (λ display_step is8 a8.
     bind-then (size_or some_size field.RequiredMinSize most d) _ s a8 (λ required_min is9 a9.
-    bind-then (size_or any_size field.RequiredMaxSize 0 d) _ s a9 (λ required_max is10 all.
+    bind-then (size_or any_size field.RequiredMaxSize 0 d) _ s a9 (λ required_max is10 a10.
+    bind-then (bound_or large_number field.MaxWidthTimesHeight (2 ^ 64 - 1) d) _ s a10 (λ area is11 a11.
+    bind-then (flag_or field.RequireBytesPerRowAtPixelBoundary false d) _ s a11 (λ pixel is12 all.
     let required = required_sides d required_min is9 in
     subst AreAsked (ok-same _ b made) (subst (λ s. AreAsked (bounds_by s)) (ok-same _ s all) (record {
       size_alignment = size_step field.SizeAlignment d size_alignment is3;
-      bytes_per_row_divisor = step field.BytesPerRowDivisor d row_step is6;
       start_offset_divisor = step field.StartOffsetDivisor d start_step is7;
       display_rect_alignment = size_step field.DisplayRectAlignment d display_step is8;
       required_min_width = required.0;
       required_min_height = required.1;
-    })))))))))))))
+      max_width_times_height = area_some d area is11;
+    })))))))))))))))
 
 with_colour-some : (set : ColourSet) (colour : ColourSpace) → with_colour set colour ≢ no_colours
 with_colour-some set Srgb e = let t : true ≡ false = ap (λ (s : ColourSet). s.srgb) e in absurd (cc)
@@ -255,7 +267,7 @@ asked_by-entries p [] = refl
 asked_by-entries p (e ∷ es) = ap (λ b. p (asked_by e) || b) (asked_by-entries p es)
 
 with_asked-keeps : (at : Field) (entries : List Entry) (pairs after : List AskedPair) (asked : AskedPair)
-    → ArePairs (map asked_by entries) pairs → with_asked at entries pairs asked ≡ Ok after → ArePairs (map asked_by entries) after
+    → ArePairs (map asked_by entries) pairs → with_asked None at entries pairs asked ≡ Ok after → ArePairs (map asked_by entries) after
 with_asked-keeps at entries pairs after asked kept gives =
     let before = map asked_by entries in
     let (fit, fitted, a1) = bind-ok (passing _ (λ (pair : AskedPair). not (is_unfit pair.format pair.modifier)) asked) _ after gives in
@@ -279,7 +291,7 @@ with_asked-keeps at entries pairs after asked kept gives =
     })
 
 own_pair-by : (t : Bool) (entries : List Entry) (d : Data) (pairs : List AskedPair) → ArePairs (map asked_by entries) []
-    → cond t (asked_of d >>= with_asked field.PixelFormat entries []) (no_pair d) ≡ Ok pairs → ArePairs (map asked_by entries) pairs
+    → cond t (asked_of d >>= with_asked None field.PixelFormat entries []) (no_pair d) ≡ Ok pairs → ArePairs (map asked_by entries) pairs
 own_pair-by true entries d pairs kept gives =
     let (asked, is, added) = bind-ok (asked_of d) _ pairs gives in
     with_asked-keeps field.PixelFormat entries [] pairs asked kept added
@@ -289,13 +301,13 @@ own_pair-by false entries d pairs kept gives =
     subst (ArePairs (map asked_by entries)) (ok-same _ pairs made) kept
 
 asked_pairs-are : (entries : List Entry) (d : Data) (pairs : List AskedPair) → ArePairs (map asked_by entries) []
-    → asked_pairs entries d ≡ Ok pairs → ArePairs (map asked_by entries) pairs
+    → asked_pairs None entries d ≡ Ok pairs → ArePairs (map asked_by entries) pairs
 asked_pairs-are entries d pairs kept gives =
-    let (own, is, after) = bind-ok (own_pair entries d) _ pairs gives in
+    let (own, is, after) = bind-ok (own_pair None entries d) _ pairs gives in
     let owned = own_pair-by _ entries d own kept is in
-    optional-keeps (ArePairs (map asked_by entries)) field.PixelFormatAndModifiers own (further_of entries own) d pairs owned (λ v further.
+    optional-keeps (ArePairs (map asked_by entries)) field.PixelFormatAndModifiers own (further_of None entries own) d pairs owned (λ v further.
     let (items, listed, each) = bind-ok (list_of _ v) _ pairs further in
-    each-keeps (with_further entries) (ArePairs (map asked_by entries)) (λ before after w so is.
+    each-keeps (with_further None entries) (ArePairs (map asked_by entries)) (λ before after w so is.
     let (object, o, a1) = bind-ok (object_of _ _ w) _ after is in
     let (asked, a, added) = bind-ok (asked_of w) _ after a1 in
     with_asked-keeps field.PixelFormatAndModifiers entries before after asked so added) items own pairs owned each) after
@@ -313,7 +325,7 @@ apart-entries entries h i j e before within =
     (subst (λ (p : AskedPair). ArePairsApart (get_or (map asked_by entries) i (asked_by e)) p) (get_or-map asked_by entries j e (asked_by e) within)
     (h i j (asked_by e) before (rw (length-map entries asked_by) within)))
 
-pairs-of : (colours : ColourSet) (bounds : ImageBounds) (pairs : List AskedPair) → map asked_by (map (entry_with colours bounds) pairs) ≡ pairs
+pairs-of : (colours : ColourSet) (bounds : EntryBounds) (pairs : List AskedPair) → map asked_by (map (entry_with colours bounds) pairs) ≡ pairs
 pairs-of colours bounds [] = refl
 pairs-of colours bounds (p ∷ ps) = ap (λ ps. p ∷ ps) (pairs-of colours bounds ps)
 
@@ -330,10 +342,10 @@ no_pairs before few distinct = record {
   fitting = λ k e within. absurd (omega arith);
 }
 
-with_entry-keeps : (es ts : List Entry) (d : Data) → Entries es → with_entry es d ≡ Ok ts → Entries ts
+with_entry-keeps : (es ts : List Entry) (d : Data) → Entries es → with_entry None es d ≡ Ok ts → Entries ts
 with_entry-keeps es ts d kept gives =
     let (object, o, a1) = bind-ok (entry_object d) _ ts gives in
-    let (pairs, p, a2) = bind-ok (asked_pairs es d) _ ts a1 in
+    let (pairs, p, a2) = bind-ok (asked_pairs None es d) _ ts a1 in
     let (colours, c, a3) = bind-ok (stated code.NoColourSpaces field.ColorSpaces d >>= colour_set_of) _ ts a2 in
     let (bounds, b, made) = bind-ok (bounds_of d) _ ts a3 in
     let (v, there, listed) = bind-ok (stated code.NoColourSpaces field.ColorSpaces d) colour_set_of colours c in
@@ -346,11 +358,11 @@ with_entry-keeps es ts d kept gives =
       fitting = are.fitting k d within;
       some_colours = some;
       size_alignment = asked.size_alignment;
-      bytes_per_row_divisor = asked.bytes_per_row_divisor;
       start_offset_divisor = asked.start_offset_divisor;
       display_rect_alignment = asked.display_rect_alignment;
       required_min_width = asked.required_min_width;
       required_min_height = asked.required_min_height;
+      max_width_times_height = asked.max_width_times_height;
     } in
     subst Entries (ok-same _ ts made) (record {
       few = rw whole are.few;
@@ -361,11 +373,11 @@ with_entry-keeps es ts d kept gives =
 no_entries-are : AreEntries []
 no_entries-are = record { few = omega arith; distinct = λ i j e before within. absurd (omega arith); each = λ k e within. absurd (omega arith) }
 
-entries_of-are : (d : Data) (ts : List Entry) → entries_of d ≡ Ok ts → AreEntries ts
+entries_of-are : (d : Data) (ts : List Entry) → entries_of None d ≡ Ok ts → AreEntries ts
 entries_of-are d ts gives =
     let (items, listed, each) = bind-ok (list_of _ d) _ ts gives in
-    let kept = each-keeps with_entry Entries with_entry-keeps items [] ts (record { few = omega arith; distinct = λ i j e before within. absurd (omega arith); each = λ k e within. absurd (omega arith) }) each in
+    let kept = each-keeps (with_entry None) Entries with_entry-keeps items [] ts (record { few = omega arith; distinct = λ i j e before within. absurd (omega arith); each = λ k e within. absurd (omega arith) }) each in
     record { few = rw (sym (length-map ts asked_by)) kept.few; distinct = apart-entries ts kept.distinct; each = kept.each }
 
-pub entries-are : (d : Data) (ts : List Entry) → optional field.ImageFormatConstraints [] entries_of d ≡ Ok ts → AreEntries ts
-entries-are d ts gives = optional-keeps AreEntries field.ImageFormatConstraints [] entries_of d ts no_entries-are (λ v. entries_of-are v ts) gives
+pub entries-are : (d : Data) (ts : List Entry) → optional field.ImageFormatConstraints [] (entries_of None) d ≡ Ok ts → AreEntries ts
+entries-are d ts gives = optional-keeps AreEntries field.ImageFormatConstraints [] (entries_of None) d ts no_entries-are (λ v. entries_of-are v ts) gives

@@ -1,5 +1,5 @@
 -- What a platform's record states is what a platform may have.
-use Rattle.std.proofs.Common.{◌≡◌, ◌≢◌, ◌≤◌, ◌==◌, true, false, not, List, [], ◌∷◌, ◌++◌, length, Ok, refl, subst, arith, rules, tests, length-append, Decides, ◌∙◌}
+use Rattle.std.proofs.Common.{◌≡◌, ◌≢◌, ◌≤◌, ◌==◌, true, false, not, List, [], ◌∷◌, ◌++◌, length, None, Ok, refl, subst, arith, rules, tests, length-append, Decides, ◌∙◌}
 use Rattle.std.specs.Prelude.{All, AllPairs, nat_lt}
 use Rattle.std.proofs.lemmas.List.Elements.{All-push}
 use Rattle.std.proofs.lemmas.List.Quantifiers.{all_pairs_push}
@@ -24,9 +24,9 @@ record Heaps (hs : List HeapFacts) : Type 0 where
   distinct : AllPairs (λ a b. same_heap a.heap b.heap ≡ false) hs
   each : All IsHeap hs
 
-with_heap-keeps : (hs ts : List HeapFacts) (d : Data) → Heaps hs → with_heap hs d ≡ Ok ts → Heaps ts
+with_heap-keeps : (hs ts : List HeapFacts) (d : Data) → Heaps hs → with_heap None hs d ≡ Ok ts → Heaps ts
 with_heap-keeps hs ts d kept gives =
-    let (heap, read, after) = bind-ok (heap_of d) _ ts gives in
+    let (heap, read, after) = bind-ok (heap_of None d) _ ts gives in
     let (roomy, room, after2) = bind-ok (passing _ (λ _. nat_lt (length hs) 64) heap) _ ts after in
     let (new, passes, made) = bind-ok (passing _ (λ heap. not (has_heap hs heap)) roomy) _ ts after2 in
     let roomed = passing-ok _ (λ _. nat_lt (length hs) 64) heap roomy room in
@@ -48,12 +48,12 @@ pub record AreHeaps (hs : List HeapFacts) : Type 0 where
   pub distinct : AllPairs (λ a b. same_heap a.heap b.heap ≡ false) hs
   pub each : All IsHeap hs
 
-pub heaps_of-are : (d : Data) (ts : List HeapFacts) → heaps_of d ≡ Ok ts → AreHeaps ts
+pub heaps_of-are : (d : Data) (ts : List HeapFacts) → heaps_of None d ≡ Ok ts → AreHeaps ts
 heaps_of-are d ts gives =
     let (items, listed, after) = bind-ok (list_of _ d) _ ts gives in
-    let (hs, each, tested) = bind-ok (read_each with_heap [] items) _ ts after in
+    let (hs, each, tested) = bind-ok (read_each (with_heap None) [] items) _ ts after in
     let passed = passing-ok _ (λ heaps. not (length heaps == 0)) hs ts tested in
-    let kept = subst Heaps passed.same (each-keeps with_heap Heaps with_heap-keeps items [] hs (record { few = omega arith; distinct = λ i j e before within. absurd (omega arith); each = λ k e within. absurd (omega arith) }) each) in
+    let kept = subst Heaps passed.same (each-keeps (with_heap None) Heaps with_heap-keeps items [] hs (record { few = omega arith; distinct = λ i j e before within. absurd (omega arith); each = λ k e within. absurd (omega arith) }) each) in
     record { some = some ts passed.holds; few = kept.few; distinct = kept.distinct; each = kept.each }
 
 -- a pair is the same as itself
@@ -88,7 +88,7 @@ record Pairs (ps : List Pair) : Type 0 where
   distinct : AllPairs (λ a b. a ≢ b) ps
   fitting : All (λ p. IsTiledMisfit p → ⊥) ps
 
-with_pair-keeps : (ps ts : List Pair) (d : Data) → Pairs ps → with_pair ps d ≡ Ok ts → Pairs ts
+with_pair-keeps : (ps ts : List Pair) (d : Data) → Pairs ps → with_pair None ps d ≡ Ok ts → Pairs ts
 with_pair-keeps ps ts d kept gives =
     let (pair, read, after) = bind-ok (pair_of d) _ ts gives in
     let (fits, tested, after2) = bind-ok (passing _ (λ pair. not (is_misfit pair)) pair) _ ts after in
@@ -109,15 +109,15 @@ pub record ArePairs (ps : List Pair) : Type 0 where
   pub distinct : AllPairs (λ a b. a ≢ b) ps
   pub fitting : All (λ p. IsTiledMisfit p → ⊥) ps
 
-pub pairs_of-are : (d : Data) (ts : List Pair) → pairs_of d ≡ Ok ts → ArePairs ts
+pub pairs_of-are : (d : Data) (ts : List Pair) → pairs_of None d ≡ Ok ts → ArePairs ts
 pairs_of-are d ts gives =
     let (items, listed, after) = bind-ok (list_of _ d) _ ts gives in
-    let (ps, each, tested) = bind-ok (read_each with_pair [] items) _ ts after in
+    let (ps, each, tested) = bind-ok (read_each (with_pair None) [] items) _ ts after in
     let passed = passing-ok _ (λ pairs. not (length pairs == 0)) ps ts tested in
-    let kept = subst Pairs passed.same (each-keeps with_pair Pairs with_pair-keeps items [] ps (record { distinct = λ i j e before within. absurd (omega arith); fitting = λ k e within. absurd (omega arith) }) each) in
+    let kept = subst Pairs passed.same (each-keeps (with_pair None) Pairs with_pair-keeps items [] ps (record { distinct = λ i j e before within. absurd (omega arith); fitting = λ k e within. absurd (omega arith) }) each) in
     record { some = some ts passed.holds; distinct = kept.distinct; fitting = kept.fitting }
 
-with_colour-keeps : (cs ts : List ColourSpace) (d : Data) → AllPairs (λ a b. a ≢ b) cs → with_colour cs d ≡ Ok ts → AllPairs (λ a b. a ≢ b) ts
+with_colour-keeps : (cs ts : List ColourSpace) (d : Data) → AllPairs (λ a b. a ≢ b) cs → with_colour None cs d ≡ Ok ts → AllPairs (λ a b. a ≢ b) ts
 with_colour-keeps cs ts d kept gives =
     let (colour, read, after) = bind-ok (named colour_named _ d) _ ts gives in
     let (new, passes, made) = bind-ok (passing _ (λ colour. not (has_colour cs colour)) colour) _ ts after in
@@ -130,10 +130,10 @@ pub record AreColours (cs : List ColourSpace) : Type 0 where
   pub some : 1 ≤ length cs
   pub distinct : AllPairs (λ a b. a ≢ b) cs
 
-pub colours_of-are : (d : Data) (ts : List ColourSpace) → colours_of d ≡ Ok ts → AreColours ts
+pub colours_of-are : (d : Data) (ts : List ColourSpace) → colours_of None d ≡ Ok ts → AreColours ts
 colours_of-are d ts gives =
     let (items, listed, after) = bind-ok (list_of _ d) _ ts gives in
-    let (cs, each, tested) = bind-ok (read_each with_colour [] items) _ ts after in
+    let (cs, each, tested) = bind-ok (read_each (with_colour None) [] items) _ ts after in
     let passed = passing-ok _ (λ colours. not (length colours == 0)) cs ts tested in
-    let kept = subst (AllPairs (λ a b. a ≢ b)) passed.same (each-keeps with_colour (AllPairs (λ a b. a ≢ b)) with_colour-keeps items [] cs (λ i j e before within. absurd (omega arith)) each) in
+    let kept = subst (AllPairs (λ a b. a ≢ b)) passed.same (each-keeps (with_colour None) (AllPairs (λ a b. a ≢ b)) with_colour-keeps items [] cs (λ i j e before within. absurd (omega arith)) each) in
     record { some = some ts passed.holds; distinct = kept }

@@ -23,16 +23,19 @@ use Rattle.sysmem_image.specs.contracts.colours.ColourSet.{the_type as colours_t
 use Rattle.sysmem_image.specs.contracts.colours.ColourSetPartialEq.TheImpl as colours
 use Rattle.sysmem_image.specs.contracts.entry.Entry.{the_type as entry_type}
 use Rattle.sysmem_image.specs.contracts.entry.EntryPartialEq.TheImpl as entry
+use Rattle.sysmem_image.specs.contracts.entry.EntryBounds.{the_type as entry_bounds_type}
+use Rattle.sysmem_image.specs.contracts.entry.EntryBoundsPartialEq.TheImpl as entry_bounds
 use Rattle.sysmem_image.specs.contracts.size.SizePartialEq.TheImpl as size
 use Rattle.sysmem_image.specs.declared.bounds.ImageBounds.{ImageBounds}
 use Rattle.sysmem_image.specs.declared.colours.ColourSet.{ColourSet}
 use Rattle.sysmem_image.specs.declared.entry.Entry.{Entry}
+use Rattle.sysmem_image.specs.declared.entry.EntryBounds.{EntryBounds}
 use Rattle.sysmem_image.specs.declared.size.Size.{Size}
 use Rattle.sysmem_memory.specs.contracts.domain.CoherencyDomainsPartialEq.TheImpl as domains
 use Rattle.sysmem_memory.specs.declared.domain.CoherencyDomains.{CoherencyDomains}
 use Rattle.sysmem_memory.specs.Heap.{HeapFacts}
 use Rattle.sysmem_memory.specs.Wishes.{MemoryWishes}
-use Rattle.sysmem_memory.proofs.LawProofs.{same_heap_is_equal}
+use Rattle.sysmem_memory.proofs.CallerLemmas.{same_heap_is_equal}
 use Rattle.sysmem_sanitise.specs.Equal.{same_wishes, same_participant, same_heap_facts, same_platform}
 use Rattle.sysmem_sanitise.specs.Laws.{SameParticipantIsEqual, SamePlatformIsEqual}
 use Rattle.sysmem_sanitise.specs.Participant.{Participant}
@@ -73,8 +76,8 @@ same_colours a b =
 
 pub same_bounds : (a b : ImageBounds) → Decides (bounds.ghosts.eq a b) (a ≡ b)
 same_bounds a b =
-    let parts = Decides-and _ _ (same_size a.min_size b.min_size) (Decides-and _ _ (same_size a.max_size b.max_size) (Decides-and _ _ (same_size a.size_alignment b.size_alignment) (Decides-and _ _ (Decides-eqb a.min_bytes_per_row b.min_bytes_per_row) (Decides-and _ _ (Decides-eqb a.max_bytes_per_row b.max_bytes_per_row) (Decides-and _ _ (Decides-eqb a.bytes_per_row_divisor b.bytes_per_row_divisor) (Decides-and _ _ (Decides-eqb a.start_offset_divisor b.start_offset_divisor) (Decides-and _ _ (same_size a.display_rect_alignment b.display_rect_alignment) (Decides-and _ _ (same_size a.required_min_size b.required_min_size) (same_size a.required_max_size b.required_max_size))))))))) in
-    told (bounds.ghosts.eq a b) parts (λ p. bounds_type.to_one a b (cc)) (λ e. (ap (λ (x : ImageBounds). x.min_size) e, (ap (λ (x : ImageBounds). x.max_size) e, (ap (λ (x : ImageBounds). x.size_alignment) e, (ap (λ (x : ImageBounds). x.min_bytes_per_row) e, (ap (λ (x : ImageBounds). x.max_bytes_per_row) e, (ap (λ (x : ImageBounds). x.bytes_per_row_divisor) e, (ap (λ (x : ImageBounds). x.start_offset_divisor) e, (ap (λ (x : ImageBounds). x.display_rect_alignment) e, (ap (λ (x : ImageBounds). x.required_min_size) e, ap (λ (x : ImageBounds). x.required_max_size) e))))))))))
+    let parts = Decides-and _ _ (same_size a.min_size b.min_size) (Decides-and _ _ (same_size a.max_size b.max_size) (Decides-and _ _ (same_size a.size_alignment b.size_alignment) (Decides-and _ _ (Decides-eqb a.min_bytes_per_row b.min_bytes_per_row) (Decides-and _ _ (Decides-eqb a.max_bytes_per_row b.max_bytes_per_row) (Decides-and _ _ (Decides-eqb a.bytes_per_row_divisor b.bytes_per_row_divisor) (Decides-and _ _ (Decides-eqb a.start_offset_divisor b.start_offset_divisor) (Decides-and _ _ (same_size a.display_rect_alignment b.display_rect_alignment) (Decides-and _ _ (same_size a.required_min_size b.required_min_size) (Decides-and _ _ (same_size a.required_max_size b.required_max_size) (Decides-eqb a.max_width_times_height b.max_width_times_height)))))))))) in
+    told (bounds.ghosts.eq a b) parts (λ p. bounds_type.to_one a b (cc)) (λ e. (ap (λ (x : ImageBounds). x.min_size) e, (ap (λ (x : ImageBounds). x.max_size) e, (ap (λ (x : ImageBounds). x.size_alignment) e, (ap (λ (x : ImageBounds). x.min_bytes_per_row) e, (ap (λ (x : ImageBounds). x.max_bytes_per_row) e, (ap (λ (x : ImageBounds). x.bytes_per_row_divisor) e, (ap (λ (x : ImageBounds). x.start_offset_divisor) e, (ap (λ (x : ImageBounds). x.display_rect_alignment) e, (ap (λ (x : ImageBounds). x.required_min_size) e, (ap (λ (x : ImageBounds). x.required_max_size) e, ap (λ (x : ImageBounds). x.max_width_times_height) e)))))))))))
 
 pub same_format : (a b : PixelFormat) → Decides (format.ghosts.eq a b) (a ≡ b)
 same_format a b = search rules
@@ -89,9 +92,14 @@ same_options E decides None (Some y) = (λ e. cc, λ e. cc)
 same_options E decides (Some x) None = (λ e. cc, λ e. cc)
 same_options E decides (Some x) (Some y) = (λ e. ap (λ z. Some z) ((decides x y).0 e), λ e. (decides x y).1 (same_Some x y e))
 
+same_entry_bounds : (a b : EntryBounds) → Decides (entry_bounds.ghosts.eq a b) (a ≡ b)
+same_entry_bounds a b =
+    let parts = Decides-and _ _ (same_bounds a.asked b.asked) (same_flags a.at_pixel_boundary b.at_pixel_boundary) in
+    told (entry_bounds.ghosts.eq a b) parts (λ p. entry_bounds_type.to_one a b (cc)) (λ e. (ap (λ (x : EntryBounds). x.asked) e, ap (λ (x : EntryBounds). x.at_pixel_boundary) e))
+
 pub same_entry : (a b : Entry) → Decides (entry.ghosts.eq a b) (a ≡ b)
 same_entry a b =
-    let parts = Decides-and _ _ (same_options format.ghosts.eq same_format a.format b.format) (Decides-and _ _ (same_options modifier.ghosts.eq same_modifier a.modifier b.modifier) (Decides-and _ _ (same_colours a.colours b.colours) (same_bounds a.bounds b.bounds))) in
+    let parts = Decides-and _ _ (same_options format.ghosts.eq same_format a.format b.format) (Decides-and _ _ (same_options modifier.ghosts.eq same_modifier a.modifier b.modifier) (Decides-and _ _ (same_colours a.colours b.colours) (same_entry_bounds a.bounds b.bounds))) in
     told (entry.ghosts.eq a b) parts (λ p. entry_type.to_one a b (cc)) (λ e. (ap (λ (x : Entry). x.format) e, (ap (λ (x : Entry). x.modifier) e, (ap (λ (x : Entry). x.colours) e, ap (λ (x : Entry). x.bounds) e))))
 
 pub same_memory : (a b : MemoryWishes) → Decides (same_wishes a b) (a ≡ b)

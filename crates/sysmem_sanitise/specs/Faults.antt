@@ -1,5 +1,5 @@
 -- A reader's faults as a report prints them.
-use Rattle.std.specs.Prelude.{ℕ, ◌++◌, List, codes}
+use Rattle.std.specs.Prelude.{ℕ, ◌++◌, List, Option, Some, None, codes}
 use Rattle.sysmem_counts.specs.declared.field.Field.{Field}
 use Rattle.sysmem_counts.specs.Field.{field_name}
 use Rattle.sysmem_sanitise.specs.declared.fault.Code.{Code}
@@ -35,6 +35,10 @@ fault_text fault = code_name fault.code ++ codes " " ++ spot_name fault.at
 abbrev pub wrong : Code → Field → Fault
 wrong code field = record { code = code; at = At field }
 
--- memory was refused while a record was read
-abbrev pub want_of_memory : Fault
-want_of_memory = record { code = WantOfMemory; at = Whole }
+abbrev pub lack_at : Code → Spot → Option Field
+lack_at WantOfMemory (At field) = Some field
+lack_at _ _ = None
+
+-- the field for which a fault says that memory was refused: that of an S13
+abbrev pub lack_of : Fault → Option Field
+lack_of fault = lack_at fault.code fault.at

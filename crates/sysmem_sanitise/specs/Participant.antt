@@ -35,16 +35,17 @@ abbrev pub IsUpTo : ℕ → Size → Type 0
 IsUpTo n size = (size.width ≤ n) × (size.height ≤ n)
 
 -- what an entry may ask: no tiled modifier with a format that isn't of 4 bytes, some colour spaces, alignments and
--- divisors up to 65,536, a required_min_size from 1. What else is 1 or more its bounds say themselves.
+-- divisors up to 65,536, a required_min_size and a max_width_times_height from 1. What else is 1 or more its bounds say
+-- themselves, and how great a row divisor is.
 pub record IsEntry (entry : Entry) : Type 0 where
   pub fitting : (pair : Pair) → entry.format ≡ Some pair.format → entry.modifier ≡ Some pair.modifier → IsTiledMisfit pair → ⊥
   pub some_colours : entry.colours ≢ no_colours
-  pub size_alignment : IsUpTo most_step entry.bounds.size_alignment
-  pub bytes_per_row_divisor : entry.bounds.bytes_per_row_divisor ≤ most_step
-  pub start_offset_divisor : entry.bounds.start_offset_divisor ≤ most_step
-  pub display_rect_alignment : IsUpTo most_step entry.bounds.display_rect_alignment
-  pub required_min_width : 1 ≤ entry.bounds.required_min_size.width
-  pub required_min_height : 1 ≤ entry.bounds.required_min_size.height
+  pub size_alignment : IsUpTo most_step entry.bounds.asked.size_alignment
+  pub start_offset_divisor : entry.bounds.asked.start_offset_divisor ≤ most_step
+  pub display_rect_alignment : IsUpTo most_step entry.bounds.asked.display_rect_alignment
+  pub required_min_width : 1 ≤ entry.bounds.asked.required_min_size.width
+  pub required_min_height : 1 ≤ entry.bounds.asked.required_min_size.height
+  pub max_width_times_height : 1 ≤ entry.bounds.asked.max_width_times_height
 
 -- the two are of different formats or modifiers, DO_NOT_CARE being one of them
 abbrev pub AreApart : Entry → Entry → Type 0

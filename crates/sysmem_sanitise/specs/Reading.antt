@@ -7,5 +7,5 @@ pub mod Heaps
 pub mod Names
 pub mod Pairs
 pub mod Platform
-pub use Constraints.{participant_of}
-pub use Platform.{platform_of}
+pub use Constraints.{participant_of, participant_with}
+pub use Platform.{platform_of, platform_with}

@@ -1,9 +1,8 @@
 //! What is wrong with a record that is read.
 
 ghost use Rattle.std.specs.Prelude.{◌≡◌, Some};
-ghost use Rattle.sysmem_sanitise.specs.Faults.{code_name, spot_name, fault_text, want_of_memory, wrong};
+ghost use Rattle.sysmem_sanitise.specs.Faults.{code_name, spot_name, fault_text, wrong};
 
-use std::alloc::{AllocError, AllocFailed};
 use std::fmt;
 use sysmem_counts::Field;
 
@@ -34,7 +33,7 @@ pub enum Code {
     BadPlatformList,
     /// A tiled modifier with a format that isn't of 4 bytes.
     TiledMisfit,
-    /// Memory was refused.
+    /// Memory for the field was refused.
     WantOfMemory,
 }
 
@@ -90,12 +89,6 @@ pub struct Fault {
 }
 
 impl Fault {
-    /// Memory was refused while the record was read.
-    pub const WANT_OF_MEMORY: Fault = Fault {
-        code: Code::WantOfMemory,
-        at: Spot::Whole,
-    };
-
     /// What is wrong with a field.
     pub(crate) fn of(code: Code, field: Field) -> Fault
         ensures { result ≡ wrong code field }
@@ -113,21 +106,5 @@ impl fmt::Display for Fault {
 
     fn fmt<W: fmt::Write>(&self, f: &mut fmt::Formatter<W>) -> fmt::Result {
         write!(f, "{} {}", self.code.name(), self.at.name())
-    }
-}
-
-impl From<AllocError> for Fault {
-    ghost from_gives = { λ _ fault. fault ≡ want_of_memory };
-
-    fn from(_error: AllocError) -> Fault {
-        Fault::WANT_OF_MEMORY
-    }
-}
-
-impl<T: Drop> From<AllocFailed<T>> for Fault {
-    ghost from_gives = { λ _ fault. fault ≡ want_of_memory };
-
-    fn from(_error: AllocFailed<T>) -> Fault {
-        Fault::WANT_OF_MEMORY
     }
 }

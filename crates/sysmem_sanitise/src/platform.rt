@@ -1,6 +1,7 @@
 //! What a platform has, as its record says it.
 
-ghost use Rattle.std.specs.Prelude.{◌≡◌, ◌≤◌, length, false, All, AllPairs, IfOk};
+ghost use Rattle.std.specs.Prelude.{◌≡◌, ◌≢◌, ◌≤◌, length, false, All, AllPairs, IfOk};
+ghost use Rattle.sysmem_formats.specs.Layout.{IsTiledMisfit};
 ghost use Rattle.sysmem_memory.specs.Heap.{same_heap};
 ghost use Rattle.sysmem_sanitise.specs.Equal.{same_platform};
 ghost use Rattle.sysmem_sanitise.specs.EqualLaws.{platform_laws};
@@ -72,16 +73,22 @@ impl Platform {
         &self.heaps
     }
 
-    /// The pairs of a format and a modifier that it has, in its order.
+    /// The pairs of a format and a modifier that it has, in its order: some, none of them twice, no tiled modifier with a
+    /// format that isn't of 4 bytes.
     pub fn pairs(&self) -> &[Pair]
-        ensures { result.now ≡ self.now.pairs }
+        ensures pairs { result.now ≡ self.now.pairs }
+        ensures some { 1 ≤ length result.now }
+        ensures distinct { AllPairs (λ a b. a ≢ b) result.now }
+        ensures fitting { All (λ pair. IsTiledMisfit pair → ⊥) result.now }
     {
         &self.pairs
     }
 
-    /// The colour spaces that it has, in its order.
+    /// The colour spaces that it has, in its order: some, none of them twice.
     pub fn colours(&self) -> &[ColourSpace]
-        ensures { result.now ≡ self.now.colours }
+        ensures colours { result.now ≡ self.now.colours }
+        ensures some { 1 ≤ length result.now }
+        ensures distinct { AllPairs (λ a b. a ≢ b) result.now }
     {
         &self.colours
     }

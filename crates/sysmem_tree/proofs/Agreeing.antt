@@ -4,6 +4,7 @@ use Rattle.std.specs.Prelude.{option_map, option_and_then, unwrap_or, map, if◌
 use Rattle.std.specs.List.{list_all, list_any}
 use Rattle.std.proofs.lemmas.Bool.{cases_eq}
 use Rattle.std.proofs.lemmas.Option.{slice_get_within, same_Some}
+use Rattle.list_lemmas.proofs.CallerLemmas.{and_parts, slice_get_some}
 use Rattle.sysmem_tree.specs.declared.action.ActionKind.{ActionKind}
 use Rattle.sysmem_tree.specs.declared.action.ActionKind.TheVariants.{Duplicate, CreateGroup, Bind, CreateChild, AllChildrenPresent, SetConstraints, AttachToken, Release, Close}
 use Rattle.sysmem_tree.specs.declared.domain.Decision.{Decision}
@@ -23,13 +24,13 @@ use Rattle.sysmem_tree.specs.Table.{allows, state_after}
 use Rattle.sysmem_tree.specs.Tree.{first_tree, applied, tree_after, new_domain, nodes_after, closed_early, domains_after, decided_domain, decided}
 use Rattle.sysmem_tree.proofs.Accepted.{accepted}
 use Rattle.sysmem_tree.proofs.Alike.{decided_alike, decided_tree}
-use Rattle.sysmem_tree.proofs.Growing.{and_parts, stands, still_tree}
+use Rattle.sysmem_tree.proofs.Growing.{stands, still_tree}
 use Rattle.sysmem_tree.proofs.Histories.{acted_tree, ok_from, made, first_nodes_tree}
 use Rattle.sysmem_tree.proofs.Kids.{parent_of}
 use Rattle.sysmem_tree.proofs.Logs.{same_kid, same_path}
 use Rattle.sysmem_tree.proofs.Ready.{unawaited, is_late_there, made_elsewhere, late_kind, still_done}
 use Rattle.sysmem_tree.proofs.SameForest.{grown, same_grown, forest_by_map, member}
-use Rattle.sysmem_tree.proofs.Places.{there, slice_get_some}
+use Rattle.sysmem_tree.proofs.Places.{there}
 use Rattle.sysmem_tree.proofs.Steps.{led_append, led_kid, at_node}
 use Rattle.sysmem_tree.proofs.Ways.{child_born, root_alone}
 

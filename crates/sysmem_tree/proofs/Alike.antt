@@ -2,6 +2,7 @@
 use Rattle.std.proofs.Common.{◌≡◌, ℕ, zero, suc, ◌+◌, ◌≤◌, ◌==◌, ◌&&◌, not, List, [], ◌∷◌, length, Option, Some, None, slice_get, refl, sym, ◌∙◌, ap, subst, arith, inl, inr}
 use Rattle.std.specs.Prelude.{IsSomeAnd}
 use Rattle.std.proofs.lemmas.Option.{same_Some, none-some}
+use Rattle.list_lemmas.proofs.CallerLemmas.{slice_get_some}
 use Rattle.sysmem_tree.specs.declared.node.Birth.{Birth}
 use Rattle.sysmem_tree.specs.declared.state.NodeState.{NodeState}
 use Rattle.sysmem_tree.specs.Domain.{TreeFacts, is_complete}
@@ -10,7 +11,7 @@ use Rattle.sysmem_tree.specs.Nodes.{ordinals, count_from, IsPlaced, IsTree}
 use Rattle.sysmem_tree.specs.Path.{node_at, Shown, shown_of, at_path}
 use Rattle.sysmem_tree.specs.Shape.{members_of}
 use Rattle.sysmem_tree.specs.Tree.{left_out_but, decided}
-use Rattle.sysmem_tree.proofs.Places.{there, put, slice_get_some}
+use Rattle.sysmem_tree.proofs.Places.{there, put}
 use Rattle.sysmem_tree.proofs.Steps.{path_stays, node_within, at_node, at_nowhere}
 
 abbrev pub Same : NodeFacts → NodeFacts → Type 0

@@ -5,6 +5,7 @@ use Rattle.std.proofs.lemmas.Bool.{cases_eq}
 use Rattle.std.proofs.lemmas.List.{length-set}
 use Rattle.std.proofs.lemmas.List.Elements.{filter_map-append}
 use Rattle.std.proofs.lemmas.Option.{slice_get_within, same_Some}
+use Rattle.list_lemmas.proofs.CallerLemmas.{and_parts}
 use Rattle.sysmem_tree.specs.declared.action.ActionKind.{ActionKind}
 use Rattle.sysmem_tree.specs.declared.action.ActionKind.TheVariants.{Duplicate, CreateGroup, Bind, CreateChild, AllChildrenPresent, SetConstraints, AttachToken, Release, Close}
 use Rattle.sysmem_tree.specs.declared.node.Birth.{Birth}
@@ -58,10 +59,6 @@ still_collection SetConstraints s is = is
 still_collection AttachToken s is = is
 still_collection Release s is = is
 still_collection Close s is = is
-
-pub and_parts : (a b : Bool) → (a && b) ≡ true → (a ≡ true) × (b ≡ true)
-and_parts true b e = (refl, e)
-and_parts false b e = absurd (cc)
 
 attached_to : (c : ActionKind) (k : NodeKind) (s : NodeState) → makes_root c ≡ true → suits c k s ≡ true → k ≡ Collection
 attached_to AttachToken Token s e h = absurd (cc)

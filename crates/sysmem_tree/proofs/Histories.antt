@@ -4,6 +4,7 @@ use Rattle.std.specs.Prelude.{Result, Ok, Err, IsOk, option_map, filter_map, unw
 use Rattle.std.proofs.lemmas.Bool.{cases_lt}
 use Rattle.std.proofs.lemmas.List.Elements.{filter_map-append}
 use Rattle.std.proofs.lemmas.Option.{slice_get_within, same_Some, none-some}
+use Rattle.list_lemmas.proofs.CallerLemmas.{slice_get_some}
 use Rattle.sysmem_tree.specs.declared.node.Birth.{Birth}
 use Rattle.sysmem_tree.specs.ActionKind.{Deed, kind_of}
 use Rattle.sysmem_tree.specs.Domain.{TreeFacts}
@@ -18,7 +19,6 @@ use Rattle.sysmem_tree.proofs.Accepted.{accepted}
 use Rattle.sysmem_tree.proofs.Alike.{Alike, decided_alike, alike_tree, alike_node, alike_map}
 use Rattle.sysmem_tree.proofs.Growing.{long_by, still_tree}
 use Rattle.sysmem_tree.proofs.Logs.{IsKept, kept_then}
-use Rattle.sysmem_tree.proofs.Places.{slice_get_some}
 use Rattle.sysmem_tree.proofs.Steps.{has_path, node_within, still, step}
 use Rattle.sysmem_tree.proofs.Ways.{one_path}
 

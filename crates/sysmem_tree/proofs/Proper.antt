@@ -2,6 +2,7 @@
 use Rattle.std.proofs.Common.{◌≡◌, ℕ, List, zero, suc, ◌<◌, ◌==◌, true, false, Option, Some, slice_get, refl, sym, ◌∙◌, ap, subst, arith, rules, tests, inl, inr}
 use Rattle.std.specs.Prelude.{Ok}
 use Rattle.std.proofs.lemmas.Option.{same_Some}
+use Rattle.list_lemmas.proofs.CallerLemmas.{and_parts}
 use Rattle.sysmem_tree.specs.declared.action.ActionKind.{ActionKind}
 use Rattle.sysmem_tree.specs.declared.action.ActionKind.TheVariants.{Duplicate, CreateGroup, Bind, CreateChild, AllChildrenPresent, SetConstraints, AttachToken, Release, Close}
 use Rattle.sysmem_tree.specs.declared.state.NodeKind.{NodeKind}
@@ -15,7 +16,7 @@ use Rattle.sysmem_tree.specs.Table.{suits, wants_child, state_after, constraints
 use Rattle.sysmem_tree.specs.Tree.{first_node, first_tree, Applied, applied, decided}
 use Rattle.sysmem_tree.proofs.Accepted.{accepted}
 use Rattle.sysmem_tree.proofs.Alike.{decided_alike}
-use Rattle.sysmem_tree.proofs.Growing.{and_parts, stands}
+use Rattle.sysmem_tree.proofs.Growing.{stands}
 
 set_suits : (k : NodeKind) (s : NodeState) → suits SetConstraints k s ≡ true → k ≡ Collection
 set_suits Token s h = absurd (cc)

@@ -4,6 +4,7 @@ use Rattle.std.specs.Prelude.{Ok, IsSomeAnd, option_map, option_and_then, unwrap
 use Rattle.std.specs.List.{list_any}
 use Rattle.std.proofs.lemmas.Bool.{cases_eq}
 use Rattle.std.proofs.lemmas.Option.{slice_get_within, same_Some}
+use Rattle.list_lemmas.proofs.CallerLemmas.{and_parts, slice_get_some}
 use Rattle.sysmem_tree.specs.declared.action.ActionKind.{ActionKind}
 use Rattle.sysmem_tree.specs.declared.action.ActionKind.TheVariants.{Duplicate, CreateGroup, Bind, CreateChild, AllChildrenPresent, SetConstraints, AttachToken, Release, Close}
 use Rattle.sysmem_tree.specs.declared.domain.Decision.{Decision}
@@ -24,11 +25,11 @@ use Rattle.sysmem_tree.specs.Tree.{first_tree, Applied, applied, has_room, new_d
 use Rattle.sysmem_tree.proofs.Accepted.{accepted}
 use Rattle.sysmem_tree.proofs.Agreeing.{closed_acted, complete_stays, decided_marks}
 use Rattle.sysmem_tree.proofs.Alike.{decided_alike, alike_tree, alike_node}
-use Rattle.sysmem_tree.proofs.Growing.{and_parts, own_place, other_place, still_tree}
+use Rattle.sysmem_tree.proofs.Growing.{own_place, other_place, still_tree}
 use Rattle.sysmem_tree.proofs.Kids.{parent_of, root_birth}
 use Rattle.sysmem_tree.proofs.Ready.{both_kept, forest_left}
 use Rattle.sysmem_tree.proofs.Labelled.{one_forest}
-use Rattle.sysmem_tree.proofs.Places.{there, put, slice_get_some}
+use Rattle.sysmem_tree.proofs.Places.{there, put}
 use Rattle.sysmem_tree.proofs.Steps.{path_stays, births_kept, path_leads, path_is}
 use Rattle.sysmem_tree.proofs.Ways.{root_alone}
 
@@ -90,7 +91,7 @@ module _ (t u : TreeFacts) (decided_ready : DecidedAreReady t) (keeps : Keeps t 
   own : (r : ℕ) (z : NodeFacts) → slice_get t.nodes r ≡ Some z → is_ready t r ≡ true → fails u r ≡ false
   own r z here ready =
       let p = parts t r ready in
-      let (f, _) = or_false (fails t r) _ p.unfailed in
+      let (f, _) = or_false (fails t r) (list_any (fails t) (unwrap_or (option_map (λ (host : NodeFacts). up_from 127 t.nodes host.domain) (host_of t.nodes r)) [])) p.unfailed in
       let (c, _) = or_false (was_closed_early t.domains r) _ f in
       let fine = host_fine (host_of t.nodes r) (host_of u.nodes r) (keeps.host r z here) p.selected in
       ap (λ b. b || is_host_lost u.domains (host_of u.nodes r)) (keeps.unclosed r ready c) ∙ fine.1

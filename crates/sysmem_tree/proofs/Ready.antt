@@ -4,6 +4,7 @@ use Rattle.std.specs.Prelude.{Ok, if◌then◌else◌}
 use Rattle.std.specs.List.{list_all, list_any}
 use Rattle.std.proofs.lemmas.Bool.{cases_eq}
 use Rattle.std.proofs.lemmas.Option.{slice_get_within, same_Some}
+use Rattle.list_lemmas.proofs.CallerLemmas.{and_parts}
 use Rattle.sysmem_sanitise.specs.Participant.{Participant}
 use Rattle.sysmem_tree.specs.declared.action.ActionKind.{ActionKind}
 use Rattle.sysmem_tree.specs.declared.action.ActionKind.TheVariants.{Duplicate, CreateGroup, Bind, CreateChild, AllChildrenPresent, SetConstraints, AttachToken, Release, Close}
@@ -19,7 +20,7 @@ use Rattle.sysmem_tree.specs.Nodes.{ordinal_under, IsTree}
 use Rattle.sysmem_tree.specs.Shape.{Labels, tree_of, kid_of, before, kids_from, rooted}
 use Rattle.sysmem_tree.specs.Table.{suits, allows, state_after, constraints_after, makes, makes_root}
 use Rattle.sysmem_tree.specs.Tree.{node_after, new_node, nodes_made, nodes_after, left_out_but}
-use Rattle.sysmem_tree.proofs.Growing.{and_parts, own_place, other_place}
+use Rattle.sysmem_tree.proofs.Growing.{own_place, other_place}
 use Rattle.sysmem_tree.proofs.SameForest.{kid_elsewhere}
 
 -- the actions that a node allows for which no decision waits

@@ -3,6 +3,7 @@ use Rattle.std.proofs.Common.{◌≡◌, ◌≢◌, ℕ, zero, suc, ◌<◌, ◌
 use Rattle.std.specs.Prelude.{option_map, option_and_then, unwrap_or, IsSome, Ok, if◌then◌else◌}
 use Rattle.std.proofs.lemmas.Bool.{cases_eq}
 use Rattle.std.proofs.lemmas.Option.{slice_get_within, same_Some, none-some, option_and_then_some}
+use Rattle.list_lemmas.proofs.CallerLemmas.{slice_get_some}
 use Rattle.sysmem_tree.specs.declared.node.Birth.{Birth}
 use Rattle.sysmem_tree.specs.declared.state.NodeState.{NodeState}
 use Rattle.sysmem_tree.specs.ActionKind.{Deed, kind_of}
@@ -17,7 +18,7 @@ use Rattle.sysmem_tree.specs.Tree.{Applied, applied, node_after, new_node, nodes
 use Rattle.sysmem_tree.proofs.Accepted.{accepted}
 use Rattle.sysmem_tree.proofs.Growing.{own_place, other_place, new_place, newest, still_tree}
 use Rattle.sysmem_tree.proofs.Kids.{among_them, under_parent, parent_of, root_birth}
-use Rattle.sysmem_tree.proofs.Places.{there, slice_get_some}
+use Rattle.sysmem_tree.proofs.Places.{there}
 use Rattle.sysmem_tree.proofs.Ways.{distinct, child_found, child_born, root_alone, one_path}
 
 -- what two paths together lead to

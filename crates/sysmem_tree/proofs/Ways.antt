@@ -6,12 +6,13 @@ use Rattle.std.proofs.lemmas.List.{append-nil, reverse-append, reverse-reverse}
 use Rattle.std.proofs.lemmas.List.Quantifiers.{position-Some}
 use Rattle.std.proofs.lemmas.List.Sums.{position_or_len_is}
 use Rattle.std.proofs.lemmas.Option.{slice_get-get_or, get_or_from_slice_get, slice_get_within, same_Some, option_and_then_some}
+use Rattle.list_lemmas.proofs.CallerLemmas.{slice_get_some}
 use Rattle.sysmem_tree.specs.declared.node.Birth.{Birth}
 use Rattle.sysmem_tree.specs.Node.{NodeFacts}
 use Rattle.sysmem_tree.specs.Nodes.{IsTree}
 use Rattle.sysmem_tree.specs.Path.{is_born, child_of, led_to, node_at}
 use Rattle.sysmem_tree.proofs.Kids.{Distinct, once, under_parent, parent_of, root_birth}
-use Rattle.sysmem_tree.proofs.Places.{there, slice_get_some}
+use Rattle.sysmem_tree.proofs.Places.{there}
 
 abbrev is_child : ℕ → ℕ → NodeFacts → Bool
 is_child parent ordinal n = is_born parent ordinal n.birth

@@ -1,8 +1,9 @@
 //! The exit status and text of some endings.
 
 use super::{ending_of, refusal_ending};
-use crate::fault::{RunFault, ScriptFault};
 use clap::error::ErrorKind;
+use script_reading::ScriptFault;
+use script_run::RunFault;
 use std::test::Fail;
 
 #[test]

@@ -1,17 +1,17 @@
 -- The bounds that an entry puts on images.
-use Rattle.std.specs.Prelude.{ℕ, ◌≤◌, ◌-◌, ◌^◌, ◌&&◌, ◌||◌, max, List, Bool, Result, Ok, Err, codes, bytes_eq, nat_le, if◌then◌else◌}
+use Rattle.std.specs.Prelude.{ℕ, ◌≤◌, ◌-◌, ◌^◌, ◌&&◌, ◌||◌, max, min, List, Bool, false, Result, Ok, Err, codes, bytes_eq, nat_le, if◌then◌else◌}
 use Rattle.std.proofs.Common.{arith}
 use Rattle.std.specs.List.{list_all}
 use Rattle.serde_json.specs.Data.{Data, object}
 use Rattle.serde_json.specs.Find.{get}
 use Rattle.sysmem_counts.specs.declared.field.Field.{Field}
 use Rattle.sysmem_counts.specs.declared.field.Field.TheVariants as field
-use Rattle.sysmem_image.specs.declared.bounds.ImageBounds.{ImageBounds}
+use Rattle.sysmem_image.specs.declared.entry.EntryBounds.{EntryBounds}
 use Rattle.sysmem_image.specs.declared.size.Size.{Size}
 use Rattle.sysmem_sanitise.specs.declared.fault.Code.TheVariants as code
 use Rattle.sysmem_sanitise.specs.declared.fault.Fault.{Fault}
 use Rattle.sysmem_sanitise.specs.Faults.{wrong}
-use Rattle.sysmem_sanitise.specs.Reading.Fields.{◌>>=◌, passing, keys_of, read_or, optional, number_of}
+use Rattle.sysmem_sanitise.specs.Reading.Fields.{◌>>=◌, passing, keys_of, read_or, optional, number_of, flag_or}
 
 -- the greatest number of 32 bits
 abbrev pub most : ℕ
@@ -35,6 +35,12 @@ abbrev pub multiple : Field → Data → Result ℕ Fault
 multiple field d = do
   n ← number_of field (2 ^ 64 - 1) d
   passing (wrong code.BadMultiple field) is_multiple n
+
+-- 1 to the greatest number of 64 bits
+abbrev pub large_number : Field → Data → Result ℕ Fault
+large_number field d = do
+  n ← number_of field (2 ^ 64 - 1) d
+  passing (wrong code.WrongKind field) (λ n. nat_le 1 n) n
 
 abbrev pub is_side : List ℕ → Bool
 is_side key = bytes_eq key (codes "width") || bytes_eq key (codes "height")
@@ -84,7 +90,7 @@ bound_or read field absent d = optional field absent (read field) d
 abbrev pub size_or : (Field → Data → Result Size Fault) → Field → ℕ → Data → Result Size Fault
 size_or read field absent d = optional field (record { width = absent; height = absent }) (read field) d
 
--- the numbers of an entry's bounds
+-- what an entry's bounds say, field by field
 pub record StatedBounds : Type 0 where
   pub min_size : Size
   pub max_size : Size
@@ -96,6 +102,8 @@ pub record StatedBounds : Type 0 where
   pub display_rect_alignment : Size
   pub required_min_size : Size
   pub required_max_size : Size
+  pub max_width_times_height : ℕ
+  pub at_pixel_boundary : Bool
 
 abbrev pub stated_bounds : Data → Result StatedBounds Fault
 stated_bounds d = do
@@ -109,6 +117,8 @@ stated_bounds d = do
   display_rect_alignment ← size_or multiple_size field.DisplayRectAlignment 1 d
   required_min_size ← size_or some_size field.RequiredMinSize most d
   required_max_size ← size_or any_size field.RequiredMaxSize 0 d
+  max_width_times_height ← bound_or large_number field.MaxWidthTimesHeight (2 ^ 64 - 1) d
+  at_pixel_boundary ← flag_or field.RequireBytesPerRowAtPixelBoundary false d
   Ok (record {
     min_size = min_size;
     max_size = max_size;
@@ -120,51 +130,70 @@ stated_bounds d = do
     display_rect_alignment = display_rect_alignment;
     required_min_size = required_min_size;
     required_max_size = required_max_size;
+    max_width_times_height = max_width_times_height;
+    at_pixel_boundary = at_pixel_boundary;
   })
 
 pub some_max : (n : ℕ) → 1 ≤ max n 1
 some_max n = omega arith
 
+-- a row divisor is 1 to 65,536, as it is read
+abbrev pub row_step : ℕ → ℕ
+row_step n = min (max n 1) 65536
+
+pub some_step : (n : ℕ) → 1 ≤ row_step n
+some_step n = omega arith
+
+pub small_step : (n : ℕ) → row_step n ≤ 65536
+small_step n = omega arith
+
 -- the bounds of these numbers: those that must be 1 or more are, as they are read
-abbrev pub bounds_by : StatedBounds → ImageBounds
+abbrev pub bounds_by : StatedBounds → EntryBounds
 bounds_by s = record {
-  min_size = some_sides s.min_size;
-  max_size = s.max_size;
-  size_alignment = some_sides s.size_alignment;
-  min_bytes_per_row = max s.min_bytes_per_row 1;
-  max_bytes_per_row = s.max_bytes_per_row;
-  bytes_per_row_divisor = max s.bytes_per_row_divisor 1;
-  start_offset_divisor = max s.start_offset_divisor 1;
-  display_rect_alignment = some_sides s.display_rect_alignment;
-  required_min_size = s.required_min_size;
-  required_max_size = s.required_max_size;
-  min_width_some = some_max s.min_size.width;
-  min_height_some = some_max s.min_size.height;
-  width_step_some = some_max s.size_alignment.width;
-  height_step_some = some_max s.size_alignment.height;
-  min_row_some = some_max s.min_bytes_per_row;
-  row_step_some = some_max s.bytes_per_row_divisor;
-  start_step_some = some_max s.start_offset_divisor;
-  display_width_some = some_max s.display_rect_alignment.width;
-  display_height_some = some_max s.display_rect_alignment.height;
+  asked = record {
+    min_size = some_sides s.min_size;
+    max_size = s.max_size;
+    size_alignment = some_sides s.size_alignment;
+    min_bytes_per_row = max s.min_bytes_per_row 1;
+    max_bytes_per_row = s.max_bytes_per_row;
+    bytes_per_row_divisor = row_step s.bytes_per_row_divisor;
+    start_offset_divisor = max s.start_offset_divisor 1;
+    display_rect_alignment = some_sides s.display_rect_alignment;
+    required_min_size = s.required_min_size;
+    required_max_size = s.required_max_size;
+    max_width_times_height = s.max_width_times_height;
+    min_width_some = some_max s.min_size.width;
+    min_height_some = some_max s.min_size.height;
+    width_step_some = some_max s.size_alignment.width;
+    height_step_some = some_max s.size_alignment.height;
+    min_row_some = some_max s.min_bytes_per_row;
+    row_step_some = some_step s.bytes_per_row_divisor;
+    start_step_some = some_max s.start_offset_divisor;
+    display_width_some = some_max s.display_rect_alignment.width;
+    display_height_some = some_max s.display_rect_alignment.height;
+  };
+  at_pixel_boundary = s.at_pixel_boundary;
+  small_divisor = small_step s.bytes_per_row_divisor;
 }
 
--- the numbers of bounds
-abbrev pub stated_by : ImageBounds → StatedBounds
+-- what these bounds say
+abbrev pub stated_by : EntryBounds → StatedBounds
 stated_by b = record {
-  min_size = b.min_size;
-  max_size = b.max_size;
-  size_alignment = b.size_alignment;
-  min_bytes_per_row = b.min_bytes_per_row;
-  max_bytes_per_row = b.max_bytes_per_row;
-  bytes_per_row_divisor = b.bytes_per_row_divisor;
-  start_offset_divisor = b.start_offset_divisor;
-  display_rect_alignment = b.display_rect_alignment;
-  required_min_size = b.required_min_size;
-  required_max_size = b.required_max_size;
+  min_size = b.asked.min_size;
+  max_size = b.asked.max_size;
+  size_alignment = b.asked.size_alignment;
+  min_bytes_per_row = b.asked.min_bytes_per_row;
+  max_bytes_per_row = b.asked.max_bytes_per_row;
+  bytes_per_row_divisor = b.asked.bytes_per_row_divisor;
+  start_offset_divisor = b.asked.start_offset_divisor;
+  display_rect_alignment = b.asked.display_rect_alignment;
+  required_min_size = b.asked.required_min_size;
+  required_max_size = b.asked.required_max_size;
+  max_width_times_height = b.asked.max_width_times_height;
+  at_pixel_boundary = b.at_pixel_boundary;
 }
 
-abbrev pub bounds_of : Data → Result ImageBounds Fault
+abbrev pub bounds_of : Data → Result EntryBounds Fault
 bounds_of d = do
   stated ← stated_bounds d
   Ok (bounds_by stated)

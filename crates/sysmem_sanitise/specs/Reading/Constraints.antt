@@ -1,5 +1,5 @@
 -- What a participant's record says.
-use Rattle.std.specs.Prelude.{◌-◌, ◌^◌, ◌&&◌, ◌||◌, ◌==◌, List, [], ◌∷◌, Bool, true, false, not, Result, Ok}
+use Rattle.std.specs.Prelude.{◌-◌, ◌^◌, ◌&&◌, ◌||◌, ◌==◌, List, [], ◌∷◌, Bool, true, false, not, Option, None, Result, Ok}
 use Rattle.std.specs.Int.RustNames.{bit_and, bit_or}
 use Rattle.serde_json.specs.Data.{Data}
 use Rattle.sysmem_counts.specs.declared.constraints.CountConstraints.{CountConstraints}
@@ -58,8 +58,8 @@ abbrev pub memory_fields : List Field
 memory_fields = field.MinSizeBytes ∷ field.MaxSizeBytes ∷ field.PhysicallyContiguousRequired ∷ field.SecureRequired
     ∷ field.CpuDomainSupported ∷ field.RamDomainSupported ∷ field.InaccessibleDomainSupported ∷ field.PermittedHeaps ∷ []
 
-abbrev pub memory_of : Data → Result MemoryWishes Fault
-memory_of d = do
+abbrev pub memory_of : Option Field → Data → Result MemoryWishes Fault
+memory_of lack d = do
   _ ← object_of (At field.BufferMemoryConstraints) memory_fields d
   min_size ← number_or field.MinSizeBytes 0 (2 ^ 64 - 1) d
   max_size ← number_or field.MaxSizeBytes (2 ^ 64 - 1) (2 ^ 64 - 1) d
@@ -68,7 +68,7 @@ memory_of d = do
   cpu ← flag_or field.CpuDomainSupported true d
   ram ← flag_or field.RamDomainSupported false d
   inaccessible ← flag_or field.InaccessibleDomainSupported false d
-  heaps ← optional field.PermittedHeaps [] permitted_of d
+  heaps ← optional field.PermittedHeaps [] (permitted_of lack) d
   Ok (record {
     min_size_bytes = min_size;
     max_size_bytes = max_size;
@@ -85,12 +85,16 @@ abbrev pub constraints_fields : List Field
 constraints_fields = field.Usage ∷ field.MinBufferCountForCamping ∷ field.MinBufferCountForDedicatedSlack ∷ field.MinBufferCountForSharedSlack
     ∷ field.MinBufferCount ∷ field.MaxBufferCount ∷ field.BufferMemoryConstraints ∷ field.ImageFormatConstraints ∷ []
 
--- the participant that a value states
-abbrev pub participant_of : Data → Result Participant Fault
-participant_of d = do
+-- the participant that a value states, or its first fault, while memory for one field, or for none, is refused
+abbrev pub participant_with : Option Field → Data → Result Participant Fault
+participant_with lack d = do
   _ ← object_of Whole constraints_fields d
   usage ← stated code.BadUsage field.Usage d >>= usage_of
   counts ← counts_of d
-  memory ← optional field.BufferMemoryConstraints no_wishes memory_of d
-  entries ← optional field.ImageFormatConstraints [] entries_of d
+  memory ← optional field.BufferMemoryConstraints no_wishes (memory_of lack) d
+  entries ← optional field.ImageFormatConstraints [] (entries_of lack) d
   Ok (record { usage = usage; counts = counts; memory = memory; entries = entries })
+
+-- the participant that a value states, or its first fault
+abbrev pub participant_of : Data → Result Participant Fault
+participant_of d = participant_with None d

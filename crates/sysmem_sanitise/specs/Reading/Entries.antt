@@ -12,17 +12,18 @@ use Rattle.sysmem_formats.specs.declared.modifier.Modifier.{Modifier}
 use Rattle.sysmem_formats.specs.declared.modifier.Modifier.TheVariants.{Linear}
 use Rattle.sysmem_formats.specs.declared.pixel_format.PixelFormat.{PixelFormat}
 use Rattle.sysmem_formats.specs.Codes.{format_code, modifier_code}
-use Rattle.sysmem_image.specs.declared.bounds.ImageBounds.{ImageBounds}
 use Rattle.sysmem_image.specs.declared.colours.ColourSet.{ColourSet}
 use Rattle.sysmem_image.specs.declared.entry.Entry.{Entry}
+use Rattle.sysmem_image.specs.declared.entry.EntryBounds.{EntryBounds}
 use Rattle.sysmem_image.specs.Colours.{no_colours, with_any, with_colour}
+use Rattle.sysmem_image.specs.Fields.{all_bounds, field_of}
 use Rattle.sysmem_sanitise.specs.declared.reading.asked.AskedPair.{AskedPair}
 use Rattle.sysmem_sanitise.specs.declared.fault.Code.TheVariants as code
 use Rattle.sysmem_sanitise.specs.declared.fault.Fault.{Fault}
 use Rattle.sysmem_sanitise.specs.declared.fault.Spot.TheVariants.{At}
 use Rattle.sysmem_sanitise.specs.Faults.{wrong}
 use Rattle.sysmem_sanitise.specs.Reading.Bounds.{bounds_of}
-use Rattle.sysmem_sanitise.specs.Reading.Fields.{◌>>=◌, passing, read_each, object_of, optional, required, stated, list_of, has_items, named}
+use Rattle.sysmem_sanitise.specs.Reading.Fields.{◌>>=◌, passing, kept, read_each, object_of, optional, required, stated, list_of, has_items, named}
 use Rattle.sysmem_sanitise.specs.Reading.Names.{format_named, modifier_named, colour_named, choice_named}
 use Rattle.sysmem_sanitise.specs.Reading.Pairs.{pair_fields, is_misfit}
 
@@ -63,12 +64,12 @@ abbrev pub has_asked : List AskedPair → AskedPair → Bool
 has_asked pairs new = list_any (λ pair. same_asked pair new) pairs
 
 -- the pairs of an entry, and one more that a field gives: none of them or of the entries before asks for the same
-abbrev pub with_asked : Field → List Entry → List AskedPair → AskedPair → Result (List AskedPair) Fault
-with_asked field entries pairs asked = do
+abbrev pub with_asked : Option Field → Field → List Entry → List AskedPair → AskedPair → Result (List AskedPair) Fault
+with_asked lack field entries pairs asked = do
   fitting ← passing (wrong code.TiledMisfit field) (λ pair. not (is_unfit pair.format pair.modifier)) asked
   roomy ← passing (wrong code.TooMany field) (λ _. nat_lt (length entries + length pairs) 64) fitting
   new ← passing (wrong code.RepeatedPair field) (λ pair. not (has_entry entries pair || has_asked pairs pair)) roomy
-  Ok (pairs ++ new ∷ [])
+  kept lack field (pairs ++ new ∷ [])
 
 abbrev pub is_filled : Option Items → Bool
 is_filled None = false
@@ -86,28 +87,28 @@ no_pair d = do
   Ok []
 
 -- the entry's own pair
-abbrev pub own_pair : List Entry → Data → Result (List AskedPair) Fault
-own_pair entries d =
-    if is_some (get (field_name field.PixelFormat) d) then asked_of d >>= with_asked field.PixelFormat entries []
+abbrev pub own_pair : Option Field → List Entry → Data → Result (List AskedPair) Fault
+own_pair lack entries d =
+    if is_some (get (field_name field.PixelFormat) d) then asked_of d >>= with_asked lack field.PixelFormat entries []
     else no_pair d
 
 -- the pairs of an entry, and the one that an item of its further pairs states
-abbrev pub with_further : List Entry → List AskedPair → Data → Result (List AskedPair) Fault
-with_further entries pairs d = do
+abbrev pub with_further : Option Field → List Entry → List AskedPair → Data → Result (List AskedPair) Fault
+with_further lack entries pairs d = do
   _ ← object_of (At field.PixelFormatAndModifiers) pair_fields d
   asked ← asked_of d
-  with_asked field.PixelFormatAndModifiers entries pairs asked
+  with_asked lack field.PixelFormatAndModifiers entries pairs asked
 
-abbrev pub further_of : List Entry → List AskedPair → Data → Result (List AskedPair) Fault
-further_of entries own d = do
+abbrev pub further_of : Option Field → List Entry → List AskedPair → Data → Result (List AskedPair) Fault
+further_of lack entries own d = do
   items ← list_of field.PixelFormatAndModifiers d
-  read_each (with_further entries) own items
+  read_each (with_further lack entries) own items
 
 -- an entry's own pair, then its further pairs
-abbrev pub asked_pairs : List Entry → Data → Result (List AskedPair) Fault
-asked_pairs entries d = do
-  own ← own_pair entries d
-  optional field.PixelFormatAndModifiers own (further_of entries own) d
+abbrev pub asked_pairs : Option Field → List Entry → Data → Result (List AskedPair) Fault
+asked_pairs lack entries d = do
+  own ← own_pair lack entries d
+  optional field.PixelFormatAndModifiers own (further_of lack entries own) d
 
 -- the colour spaces, and the one that an item names, or DO_NOT_CARE
 abbrev pub listed : ColourSet → Option ColourSpace → ColourSet
@@ -129,25 +130,24 @@ colour_set_of d = do
 -- the fields of an entry
 abbrev pub entry_fields : List Field
 entry_fields = field.PixelFormat ∷ field.PixelFormatModifier ∷ field.PixelFormatAndModifiers ∷ field.ColorSpaces
-    ∷ field.MinSize ∷ field.MaxSize ∷ field.SizeAlignment ∷ field.MinBytesPerRow ∷ field.MaxBytesPerRow ∷ field.BytesPerRowDivisor
-    ∷ field.StartOffsetDivisor ∷ field.DisplayRectAlignment ∷ field.RequiredMinSize ∷ field.RequiredMaxSize ∷ []
+    ∷ (map field_of all_bounds ++ field.RequireBytesPerRowAtPixelBoundary ∷ [])
 
 abbrev pub entry_object : Data → Result Data Fault
 entry_object d = object_of (At field.ImageFormatConstraints) entry_fields d
 
-abbrev pub entry_with : ColourSet → ImageBounds → AskedPair → Entry
+abbrev pub entry_with : ColourSet → EntryBounds → AskedPair → Entry
 entry_with colours bounds pair = record { format = pair.format; modifier = pair.modifier; colours = colours; bounds = bounds }
 
 -- the entries, and those that an item stands for: one for each of its pairs, which share its other fields
-abbrev pub with_entry : List Entry → Data → Result (List Entry) Fault
-with_entry entries d = do
+abbrev pub with_entry : Option Field → List Entry → Data → Result (List Entry) Fault
+with_entry lack entries d = do
   _ ← entry_object d
-  pairs ← asked_pairs entries d
+  pairs ← asked_pairs lack entries d
   colours ← stated code.NoColourSpaces field.ColorSpaces d >>= colour_set_of
   bounds ← bounds_of d
-  Ok (entries ++ map (entry_with colours bounds) pairs)
+  kept lack field.ImageFormatConstraints (entries ++ map (entry_with colours bounds) pairs)
 
-abbrev pub entries_of : Data → Result (List Entry) Fault
-entries_of d = do
+abbrev pub entries_of : Option Field → Data → Result (List Entry) Fault
+entries_of lack d = do
   items ← list_of field.ImageFormatConstraints d
-  read_each with_entry [] items
+  read_each (with_entry lack) [] items

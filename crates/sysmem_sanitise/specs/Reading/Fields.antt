@@ -1,15 +1,15 @@
 -- Reading one field of a record: the value that it states, or what is wrong with it.
-use Rattle.std.specs.Prelude.{◌≡◌, ◌≢◌, ℕ, List, [], ◌∷◌, Bool, true, false, Option, Some, None, Result, Ok, Err, nat_le, bytes_eq, ok_or, option_and_then, if◌then◌else◌}
+use Rattle.std.specs.Prelude.{◌≡◌, ℕ, List, [], ◌∷◌, Bool, true, false, Option, Some, None, Result, Ok, Err, nat_le, bytes_eq, ok_or, option_and_then, if◌then◌else◌}
 use Rattle.std.specs.List.{list_all, list_any}
 use Rattle.serde_json.specs.Data.{Data, object, Items, no_items, item, Members, no_members, member}
 use Rattle.serde_json.specs.Find.{get, as_array, as_bool, as_number, as_str, as_u64}
 use Rattle.sysmem_counts.specs.declared.field.Field.{Field}
 use Rattle.sysmem_counts.specs.Field.{field_name}
 use Rattle.sysmem_sanitise.specs.declared.fault.Code.{Code}
-use Rattle.sysmem_sanitise.specs.declared.fault.Code.TheVariants.{NotAnObject, UnknownField, WrongKind, UnknownName}
+use Rattle.sysmem_sanitise.specs.declared.fault.Code.TheVariants.{NotAnObject, UnknownField, WrongKind, UnknownName, WantOfMemory}
 use Rattle.sysmem_sanitise.specs.declared.fault.Fault.{Fault}
 use Rattle.sysmem_sanitise.specs.declared.fault.Spot.{Spot}
-use Rattle.sysmem_sanitise.specs.Faults.{wrong, want_of_memory}
+use Rattle.sysmem_sanitise.specs.Faults.{wrong, lack_of}
 
 infixl 10 ◌>>=◌
 -- what is read, and then what comes after it, up to the first fault
@@ -97,7 +97,16 @@ abbrev pub seen_by : {A B : Type 0} → (A → B) → Result A Fault → Result 
 seen_by view (Ok a) = Ok (view a)
 seen_by view (Err fault) = Err fault
 
--- the answer is what the record says, but where memory was refused
-abbrev pub Answers : {A : Type 0} → Result A Fault → Result A Fault → Type 0
-Answers said (Ok a) = said ≡ Ok a
-Answers said (Err fault) = fault ≢ want_of_memory → said ≡ Err fault
+-- the two are one field
+abbrev pub same_field : Field → Field → Bool
+same_field a b = bytes_eq (field_name a) (field_name b)
+
+-- what a field takes memory for, while memory for one field, or for none, is refused
+abbrev pub kept : {A : Type 0} → Option Field → Field → A → Result A Fault
+kept None field a = Ok a
+kept (Some lack) field a = if same_field lack field then Err (wrong WantOfMemory lack) else Ok a
+
+-- the answer is what the record says where memory is refused for the field of an S13, and for no other
+abbrev pub Reads : {A : Type 0} → (Option Field → Result A Fault) → Result A Fault → Type 0
+Reads said (Ok a) = said None ≡ Ok a
+Reads said (Err fault) = said (lack_of fault) ≡ Err fault

@@ -1,5 +1,5 @@
 -- What a heap's name says, and what a platform's heap says.
-use Rattle.std.specs.Prelude.{◌≡◌, ℕ, ◌-◌, ◌^◌, ◌&&◌, ◌||◌, ◌++◌, ◌==◌, List, [], ◌∷◌, length, Bool, true, false, not, Result, Ok, nat_eq, nat_le, nat_lt}
+use Rattle.std.specs.Prelude.{◌≡◌, ℕ, ◌-◌, ◌^◌, ◌&&◌, ◌||◌, ◌++◌, ◌==◌, List, [], ◌∷◌, length, Bool, true, false, not, Option, Result, Ok, nat_eq, nat_le, nat_lt}
 use Rattle.std.specs.List.{list_all, list_any}
 use Rattle.serde_json.specs.Data.{Data}
 use Rattle.sysmem_counts.specs.declared.field.Field.{Field}
@@ -13,7 +13,7 @@ use Rattle.sysmem_sanitise.specs.declared.fault.Code.TheVariants as code
 use Rattle.sysmem_sanitise.specs.declared.fault.Fault.{Fault}
 use Rattle.sysmem_sanitise.specs.declared.fault.Spot.TheVariants.{At}
 use Rattle.sysmem_sanitise.specs.Faults.{wrong}
-use Rattle.sysmem_sanitise.specs.Reading.Fields.{◌>>=◌, passing, read_each, object_of, required, number_or, flag_or, text_of, list_of, named}
+use Rattle.sysmem_sanitise.specs.Reading.Fields.{◌>>=◌, passing, kept, read_each, object_of, required, number_or, flag_or, text_of, list_of, named}
 use Rattle.sysmem_sanitise.specs.Reading.Names.{domain_named}
 
 -- an ASCII letter or digit, `.`, `_` or `-`
@@ -28,15 +28,16 @@ is_heap_type text = nat_le 1 (length text) && nat_le (length text) 128 && list_a
 abbrev pub IsHeapName : HeapName → Type 0
 IsHeapName heap = is_heap_type heap.heap_type ≡ true
 
-abbrev pub heap_type_of : Data → Result (List ℕ) Fault
-heap_type_of d = do
+abbrev pub heap_type_of : Option Field → Data → Result (List ℕ) Fault
+heap_type_of lack d = do
   text ← text_of field.HeapType d
-  passing (wrong code.WrongKind field.HeapType) is_heap_type text
+  heap_type ← passing (wrong code.WrongKind field.HeapType) is_heap_type text
+  kept lack field.HeapType heap_type
 
 -- the name of a heap: its type, and its id
-abbrev pub heap_name_of : Data → Result HeapName Fault
-heap_name_of d = do
-  heap_type ← required field.HeapType heap_type_of d
+abbrev pub heap_name_of : Option Field → Data → Result HeapName Fault
+heap_name_of lack d = do
+  heap_type ← required field.HeapType (heap_type_of lack) d
   id ← number_or field.Id 0 (2 ^ 64 - 1) d
   Ok (record { heap_type = heap_type; id = id })
 
@@ -70,10 +71,10 @@ domains_of d = do
 abbrev pub heap_fields : List Field
 heap_fields = field.HeapType ∷ field.Id ∷ field.Contiguous ∷ field.Secure ∷ field.Domains ∷ []
 
-abbrev pub heap_of : Data → Result HeapFacts Fault
-heap_of d = do
+abbrev pub heap_of : Option Field → Data → Result HeapFacts Fault
+heap_of lack d = do
   _ ← object_of (At field.Heaps) heap_fields d
-  heap ← heap_name_of d
+  heap ← heap_name_of lack d
   contiguous ← flag_or field.Contiguous false d
   secure ← flag_or field.Secure false d
   domains ← required field.Domains domains_of d
@@ -84,43 +85,43 @@ abbrev pub has_heap : List HeapFacts → HeapFacts → Bool
 has_heap heaps new = list_any (λ h. same_heap h.heap new.heap) heaps
 
 -- the heaps, and the one that an item states: the 65th is refused before a repeated one
-abbrev pub with_heap : List HeapFacts → Data → Result (List HeapFacts) Fault
-with_heap heaps d = do
-  heap ← heap_of d
+abbrev pub with_heap : Option Field → List HeapFacts → Data → Result (List HeapFacts) Fault
+with_heap lack heaps d = do
+  heap ← heap_of lack d
   roomy ← passing (wrong code.TooMany field.Heaps) (λ _. nat_lt (length heaps) 64) heap
   new ← passing (wrong code.BadPlatformList field.Heaps) (λ heap. not (has_heap heaps heap)) roomy
-  Ok (heaps ++ new ∷ [])
+  kept lack field.Heaps (heaps ++ new ∷ [])
 
 -- a list of heaps that isn't empty: at most 64, and none twice
-abbrev pub heaps_of : Data → Result (List HeapFacts) Fault
-heaps_of d = do
+abbrev pub heaps_of : Option Field → Data → Result (List HeapFacts) Fault
+heaps_of lack d = do
   items ← list_of field.Heaps d
-  heaps ← read_each with_heap [] items
+  heaps ← read_each (with_heap lack) [] items
   passing (wrong code.BadPlatformList field.Heaps) (λ heaps. not (length heaps == 0)) heaps
 
 -- the fields of a permitted heap
 abbrev pub name_fields : List Field
 name_fields = field.HeapType ∷ field.Id ∷ []
 
-abbrev pub permitted_heap : Data → Result HeapName Fault
-permitted_heap d = do
+abbrev pub permitted_heap : Option Field → Data → Result HeapName Fault
+permitted_heap lack d = do
   _ ← object_of (At field.PermittedHeaps) name_fields d
-  heap_name_of d
+  heap_name_of lack d
 
 -- the heap is among these
 abbrev pub permits : List HeapName → HeapName → Bool
 permits heaps new = list_any (λ h. same_heap h new) heaps
 
 -- the permitted heaps, and the one that an item states: the 65th is refused before a repeated one
-abbrev pub with_permitted : List HeapName → Data → Result (List HeapName) Fault
-with_permitted heaps d = do
-  heap ← permitted_heap d
+abbrev pub with_permitted : Option Field → List HeapName → Data → Result (List HeapName) Fault
+with_permitted lack heaps d = do
+  heap ← permitted_heap lack d
   roomy ← passing (wrong code.TooMany field.PermittedHeaps) (λ _. nat_lt (length heaps) 64) heap
   new ← passing (wrong code.RepeatedHeap field.PermittedHeaps) (λ heap. not (permits heaps heap)) roomy
-  Ok (heaps ++ new ∷ [])
+  kept lack field.PermittedHeaps (heaps ++ new ∷ [])
 
 -- a list of at most 64 heaps, with none twice; an empty list permits every heap
-abbrev pub permitted_of : Data → Result (List HeapName) Fault
-permitted_of d = do
+abbrev pub permitted_of : Option Field → Data → Result (List HeapName) Fault
+permitted_of lack d = do
   items ← list_of field.PermittedHeaps d
-  read_each with_permitted [] items
+  read_each (with_permitted lack) [] items

@@ -1,5 +1,5 @@
 -- What a platform's record says.
-use Rattle.std.specs.Prelude.{◌++◌, ◌==◌, List, [], ◌∷◌, length, not, Result, Ok}
+use Rattle.std.specs.Prelude.{◌++◌, ◌==◌, List, [], ◌∷◌, length, not, Option, None, Result, Ok}
 use Rattle.serde_json.specs.Data.{Data}
 use Rattle.sysmem_counts.specs.declared.field.Field.{Field}
 use Rattle.sysmem_counts.specs.declared.field.Field.TheVariants as field
@@ -11,7 +11,7 @@ use Rattle.sysmem_sanitise.specs.declared.fault.Fault.{Fault}
 use Rattle.sysmem_sanitise.specs.declared.fault.Spot.TheVariants.{Whole, At}
 use Rattle.sysmem_sanitise.specs.Faults.{wrong}
 use Rattle.sysmem_sanitise.specs.Platform.{PlatformFacts}
-use Rattle.sysmem_sanitise.specs.Reading.Fields.{◌>>=◌, passing, read_each, object_of, optional, required, list_of, named}
+use Rattle.sysmem_sanitise.specs.Reading.Fields.{◌>>=◌, passing, kept, read_each, object_of, optional, required, list_of, named}
 use Rattle.sysmem_sanitise.specs.Reading.Heaps.{heaps_of}
 use Rattle.sysmem_sanitise.specs.Reading.Names.{format_named, modifier_named, colour_named}
 use Rattle.sysmem_sanitise.specs.Reading.Pairs.{pair_fields, has_pair, has_colour, is_misfit}
@@ -25,41 +25,45 @@ pair_of d = do
   Ok (record { format = format; modifier = modifier })
 
 -- the pairs, and the one that an item states: no tiled misfit, and not there yet
-abbrev pub with_pair : List Pair → Data → Result (List Pair) Fault
-with_pair pairs d = do
+abbrev pub with_pair : Option Field → List Pair → Data → Result (List Pair) Fault
+with_pair lack pairs d = do
   pair ← pair_of d
   fitting ← passing (wrong code.TiledMisfit field.Pairs) (λ pair. not (is_misfit pair)) pair
   new ← passing (wrong code.BadPlatformList field.Pairs) (λ pair. not (has_pair pairs pair)) fitting
-  Ok (pairs ++ new ∷ [])
+  kept lack field.Pairs (pairs ++ new ∷ [])
 
-abbrev pub pairs_of : Data → Result (List Pair) Fault
-pairs_of d = do
+abbrev pub pairs_of : Option Field → Data → Result (List Pair) Fault
+pairs_of lack d = do
   items ← list_of field.Pairs d
-  pairs ← read_each with_pair [] items
+  pairs ← read_each (with_pair lack) [] items
   passing (wrong code.BadPlatformList field.Pairs) (λ pairs. not (length pairs == 0)) pairs
 
 -- the colour spaces, and the one that an item names, which isn't there yet
-abbrev pub with_colour : List ColourSpace → Data → Result (List ColourSpace) Fault
-with_colour colours d = do
+abbrev pub with_colour : Option Field → List ColourSpace → Data → Result (List ColourSpace) Fault
+with_colour lack colours d = do
   colour ← named colour_named field.ColorSpaces d
   new ← passing (wrong code.BadPlatformList field.ColorSpaces) (λ colour. not (has_colour colours colour)) colour
-  Ok (colours ++ new ∷ [])
+  kept lack field.ColorSpaces (colours ++ new ∷ [])
 
-abbrev pub colours_of : Data → Result (List ColourSpace) Fault
-colours_of d = do
+abbrev pub colours_of : Option Field → Data → Result (List ColourSpace) Fault
+colours_of lack d = do
   items ← list_of field.ColorSpaces d
-  colours ← read_each with_colour [] items
+  colours ← read_each (with_colour lack) [] items
   passing (wrong code.BadPlatformList field.ColorSpaces) (λ colours. not (length colours == 0)) colours
 
 -- the fields of a platform
 abbrev pub platform_fields : List Field
 platform_fields = field.Heaps ∷ field.Pairs ∷ field.ColorSpaces ∷ []
 
--- the platform that a value states
-abbrev pub platform_of : Data → Result PlatformFacts Fault
-platform_of d = do
+-- the platform that a value states, or its first fault, while memory for one field, or for none, is refused
+abbrev pub platform_with : Option Field → Data → Result PlatformFacts Fault
+platform_with lack d = do
   _ ← object_of Whole platform_fields d
-  heaps ← required field.Heaps heaps_of d
-  pairs ← required field.Pairs pairs_of d
-  colours ← required field.ColorSpaces colours_of d
+  heaps ← required field.Heaps (heaps_of lack) d
+  pairs ← required field.Pairs (pairs_of lack) d
+  colours ← required field.ColorSpaces (colours_of lack) d
   Ok (record { heaps = heaps; pairs = pairs; colours = colours })
+
+-- the platform that a value states, or its first fault
+abbrev pub platform_of : Data → Result PlatformFacts Fault
+platform_of d = platform_with None d

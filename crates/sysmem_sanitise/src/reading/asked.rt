@@ -4,9 +4,9 @@ ghost use Rattle.std.specs.Prelude.{◌≡◌, [], None};
 ghost use Rattle.serde_json.specs.View.{view, items_view};
 ghost use Rattle.sysmem_counts.specs.declared.field.Field.TheVariants.{PixelFormatAndModifiers};
 ghost use Rattle.sysmem_sanitise.specs.Reading.Entries.{asked_by, same_format, same_modifier, same_asked, is_unfit, modifier_beside, asked_of, has_entry, has_asked, with_asked, has_further, no_pair, own_pair, with_further, asked_pairs};
-ghost use Rattle.sysmem_sanitise.specs.Reading.Fields.{Answers, read_each, seen_by};
+ghost use Rattle.sysmem_sanitise.specs.Reading.Fields.{Reads, read_each, seen_by};
 
-use super::field::{expect_object, list_of, stated};
+use super::field::{add, expect_object, list_of, stated};
 use super::name::{format_choice_of, modifier_choice_of};
 use crate::fault::{Code, Fault, Spot};
 use serde_json::Value;
@@ -97,7 +97,7 @@ fn add_asked(
     pairs: &mut Vec<AskedPair>,
     new: AskedPair,
 ) -> Result<(), Fault>
-    ensures { Answers (with_asked field entries.now pairs.old.items new)
+    ensures { Reads (λ lack. with_asked lack field entries.now pairs.old.items new)
         (seen_by (λ _. pairs.new.items) result) }
 {
     if is_unfit(new) {
@@ -109,8 +109,7 @@ fn add_asked(
     if has_entry(entries, new) || has_asked(pairs, new) {
         return Err(Fault::of(Code::RepeatedPair, field));
     }
-    pairs.push(new)?;
-    Ok(())
+    add(pairs, new, field)
 }
 
 #[tactic(auto, using(crate::proofs::Members::items_rules))]
@@ -137,7 +136,7 @@ fn expect_no_pair(object: &Value) -> Result<(), Fault>
 }
 
 fn own_pair(alloc: Global, entries: &[Entry], object: &Value) -> Result<Vec<AskedPair>, Fault>
-    ensures { Answers (own_pair entries.now (view object.now)) (seen_by (λ pairs. pairs.items) result) }
+    ensures { Reads (λ lack. own_pair lack entries.now (view object.now)) (seen_by (λ pairs. pairs.items) result) }
 {
     let mut pairs = Vec::new(alloc);
     if object.get(Field::PixelFormat.name()).is_some() {
@@ -150,7 +149,7 @@ fn own_pair(alloc: Global, entries: &[Entry], object: &Value) -> Result<Vec<Aske
 }
 
 fn add_further(entries: &[Entry], pairs: &mut Vec<AskedPair>, value: &Value) -> Result<(), Fault>
-    ensures { Answers (with_further entries.now pairs.old.items (view value.now))
+    ensures { Reads (λ lack. with_further lack entries.now pairs.old.items (view value.now))
         (seen_by (λ _. pairs.new.items) result) }
 {
     let fields = [Field::PixelFormat, Field::PixelFormatModifier];
@@ -164,7 +163,7 @@ fn further_in(
     mut pairs: Vec<AskedPair>,
     list: &[Value],
 ) -> Result<Vec<AskedPair>, Fault>
-    ensures { Answers (read_each (with_further entries.now) pairs.items (items_view list.now))
+    ensures { Reads (λ lack. read_each (with_further lack entries.now) pairs.items (items_view list.now))
         (seen_by (λ pairs. pairs.items) result) }
 {
     for value in list {
@@ -180,7 +179,7 @@ pub(super) fn asked_pairs(
     entries: &[Entry],
     object: &Value,
 ) -> Result<Vec<AskedPair>, Fault>
-    ensures { Answers (asked_pairs entries.now (view object.now)) (seen_by (λ pairs. pairs.items) result) }
+    ensures { Reads (λ lack. asked_pairs lack entries.now (view object.now)) (seen_by (λ pairs. pairs.items) result) }
 {
     let own = own_pair(alloc, entries, object)?;
     match object.get(Field::PixelFormatAndModifiers.name()) {

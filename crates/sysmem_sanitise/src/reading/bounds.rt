@@ -2,36 +2,31 @@
 
 ghost use Rattle.std.specs.Prelude.{◌≡◌, ◌≤◌, IfOk};
 ghost use Rattle.serde_json.specs.View.{view};
-ghost use Rattle.sysmem_sanitise.specs.Reading.Bounds.{some_number, multiple, bound_or, bounds_of, is_multiple, stated_bounds, stated_by};
+ghost use Rattle.sysmem_sanitise.specs.Reading.Bounds.{some_number, multiple, large_number, bound_or, bounds_of, is_multiple, stated_bounds, stated_by};
 ghost use Rattle.sysmem_sanitise.specs.Reading.Fields.{seen_by};
 
-use super::field::{count_or, number_of};
+use super::field::{count_or, flag_or, number_of};
 use super::size::{any_size_or, multiple_size_or, some_size_or};
 use crate::fault::{Code, Fault};
 use serde_json::Value;
 use sysmem_counts::Field;
-use sysmem_image::{ImageBounds, bounds_table};
+use sysmem_image::{EntryBounds, ImageBounds, absent_bound, bounds_table};
 
 macro_rules! read_bounds {
-    (($object:ident) $($name:ident: $shape:ident $rule:ident $field:ident $role:ident $absent:ident $range:ident $more:tt,)*) => {{
-        $(let $name = read_bound!($shape $range $object, $field, absent!($absent));)*
+    (($object:ident) $($name:ident: $shape:ident $rule:ident $field:ident $absent:ident $range:ident,)*) => {{
+        $(let $name = read_bound!($shape $range $object, $field, $absent);)*
         ImageBounds { $($name,)* }
     }};
 }
 
 macro_rules! read_bound {
-    (number any $object:ident, $field:ident, $absent:expr) => { count_or($object, Field::$field, $absent)? };
-    (number some $object:ident, $field:ident, $absent:expr) => { some_number_or($object, Field::$field, $absent)? };
-    (number multiple $object:ident, $field:ident, $absent:expr) => { multiple_or($object, Field::$field, $absent)? };
-    (size any $object:ident, $field:ident, $absent:expr) => { any_size_or($object, Field::$field, $absent)? };
-    (size some $object:ident, $field:ident, $absent:expr) => { some_size_or($object, Field::$field, $absent)? };
-    (size multiple $object:ident, $field:ident, $absent:expr) => { multiple_size_or($object, Field::$field, $absent)? };
-}
-
-macro_rules! absent {
-    (zero) => { 0 };
-    (one) => { 1 };
-    (most) => { u32::MAX };
+    (number any $object:ident, $field:ident, $absent:ident) => { count_or($object, Field::$field, absent_bound!(number $absent))? };
+    (number some $object:ident, $field:ident, $absent:ident) => { some_number_or($object, Field::$field, absent_bound!(number $absent))? };
+    (number multiple $object:ident, $field:ident, $absent:ident) => { multiple_or($object, Field::$field, absent_bound!(number $absent))? };
+    (large from_one $object:ident, $field:ident, $absent:ident) => { large_number_or($object, Field::$field, absent_bound!(large $absent))? };
+    (size any $object:ident, $field:ident, $absent:ident) => { any_size_or($object, Field::$field, absent_bound!(number $absent))? };
+    (size some $object:ident, $field:ident, $absent:ident) => { some_size_or($object, Field::$field, absent_bound!(number $absent))? };
+    (size multiple $object:ident, $field:ident, $absent:ident) => { multiple_size_or($object, Field::$field, absent_bound!(number $absent))? };
 }
 
 /// Whether an alignment or a divisor may be so.
@@ -57,6 +52,7 @@ fn some_number_or(object: &Value, field: Field, absent: u32) -> Result<u32, Faul
 fn multiple_or(object: &Value, field: Field, absent: u32) -> Result<u32, Fault>
     ensures read { result ≡ bound_or multiple field absent (view object.now) }
     ensures some { 1 ≤ absent → IfOk result (λ n. 1 ≤ n) }
+    ensures small { absent ≤ 65536 → IfOk result (λ n. n ≤ 65536) }
 {
     match object.get(field.name()) {
         None => Ok(absent),
@@ -71,14 +67,35 @@ fn multiple_or(object: &Value, field: Field, absent: u32) -> Result<u32, Fault>
     }
 }
 
-fn stated_bounds(object: &Value) -> Result<ImageBounds, Fault>
+fn large_number_or(object: &Value, field: Field, absent: u64) -> Result<u64, Fault>
+    ensures { result ≡ bound_or large_number field absent (view object.now) }
+{
+    match object.get(field.name()) {
+        None => Ok(absent),
+        Some(value) => {
+            let number = number_of(value, field, u64::MAX)?;
+            if 1 <= number {
+                Ok(number)
+            } else {
+                Err(Fault::of(Code::WrongKind, field))
+            }
+        }
+    }
+}
+
+fn stated_bounds(object: &Value) -> Result<EntryBounds, Fault>
     ensures { seen_by stated_by result ≡ stated_bounds (view object.now) }
 {
-    Ok(bounds_table!(read_bounds!(object)))
+    let asked = bounds_table!(read_bounds!(object));
+    let at_pixel_boundary = flag_or(object, Field::RequireBytesPerRowAtPixelBoundary, false)?;
+    Ok(EntryBounds {
+        asked,
+        at_pixel_boundary,
+    })
 }
 
 /// The bounds of an entry, each with its absent value where it is missing.
-pub(super) fn bounds_of(object: &Value) -> Result<ImageBounds, Fault>
+pub(super) fn bounds_of(object: &Value) -> Result<EntryBounds, Fault>
     ensures { result ≡ bounds_of (view object.now) }
 {
     stated_bounds(object)

@@ -2,9 +2,10 @@
 
 ghost use Rattle.std.specs.Prelude.{◌≡◌, ◌≢◌, Ok, Err, IfOk, IfErr};
 ghost use Rattle.serde_json.specs.View.{view};
-ghost use Rattle.sysmem_sanitise.specs.Faults.{want_of_memory};
-ghost use Rattle.sysmem_sanitise.specs.Reading.Constraints.{counts_of, participant_of};
-ghost use Rattle.sysmem_sanitise.specs.Reading.Fields.{Answers};
+ghost use Rattle.sysmem_sanitise.specs.declared.fault.Code.TheVariants.{WantOfMemory};
+ghost use Rattle.sysmem_sanitise.specs.Faults.{lack_of};
+ghost use Rattle.sysmem_sanitise.specs.Reading.Constraints.{counts_of, participant_of, participant_with};
+ghost use Rattle.sysmem_sanitise.specs.Reading.Fields.{Reads};
 
 use super::entry::entries_in;
 use super::field::{count_or, expect_object, stated};
@@ -37,7 +38,7 @@ fn counts_of(object: &Value) -> Result<CountConstraints, Fault>
 }
 
 fn participant_of(alloc: Global, object: &Value) -> Result<Constraints, Fault>
-    ensures { Answers (participant_of (view object.now)) result }
+    ensures { Reads (λ lack. participant_with lack (view object.now)) result }
 {
     let fields = [
         Field::Usage,
@@ -64,7 +65,9 @@ fn participant_of(alloc: Global, object: &Value) -> Result<Constraints, Fault>
 pub fn read_constraints(alloc: Global, value: &Value) -> Result<Constraints, Fault>
     ensures taken { IfOk result (λ constraints. participant_of (view value.now) ≡ Ok constraints) }
     ensures refused { IfErr result
-        (λ fault. fault ≢ want_of_memory → participant_of (view value.now) ≡ Err fault) }
+        (λ fault. fault.code ≢ WantOfMemory → participant_of (view value.now) ≡ Err fault) }
+    ensures wanting { IfErr result (λ fault. fault.code ≡ WantOfMemory
+        → participant_with (lack_of fault) (view value.now) ≡ Err fault) }
 {
     participant_of(alloc, value)
 }

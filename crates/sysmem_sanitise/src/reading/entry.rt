@@ -1,22 +1,22 @@
 //! Reads the image entries of a participant.
 
-ghost use Rattle.std.specs.Prelude.{◌≡◌, ◌++◌, [], Ok, map};
+ghost use Rattle.std.specs.Prelude.{◌≡◌, ◌++◌, [], map};
 ghost use Rattle.serde_json.specs.View.{view, items_view};
 ghost use Rattle.sysmem_counts.specs.declared.field.Field.TheVariants.{ImageFormatConstraints};
 ghost use Rattle.sysmem_sanitise.specs.Reading.Entries.{entry_object, entry_with, with_entry, entries_of};
-ghost use Rattle.sysmem_sanitise.specs.Reading.Fields.{Answers, optional, read_each, seen_by};
+ghost use Rattle.sysmem_sanitise.specs.Reading.Fields.{Reads, kept, optional, read_each, seen_by};
 
 use super::asked::{AskedPair, asked_pairs};
 use super::bounds::bounds_of;
 use super::colour_set::colour_set_of;
-use super::field::{expect_object, list_of, stated};
+use super::field::{add, expect_object, list_of, stated};
 use crate::fault::{Code, Fault, Spot};
 use serde_json::Value;
 use std::alloc::Global;
 use sysmem_counts::Field;
-use sysmem_image::{ColourSet, Entry, ImageBounds};
+use sysmem_image::{ColourSet, Entry, EntryBounds, bounds_table};
 
-fn entry_with(colours: ColourSet, bounds: ImageBounds, pair: AskedPair) -> Entry
+fn entry_with(colours: ColourSet, bounds: EntryBounds, pair: AskedPair) -> Entry
     ensures { result ≡ entry_with colours bounds pair }
 {
     Entry {
@@ -30,42 +30,44 @@ fn entry_with(colours: ColourSet, bounds: ImageBounds, pair: AskedPair) -> Entry
 fn add_entries(
     entries: &mut Vec<Entry>,
     colours: ColourSet,
-    bounds: ImageBounds,
+    bounds: EntryBounds,
     pairs: &[AskedPair],
 ) -> Result<(), Fault>
-    ensures { Answers (Ok (entries.old.items ++ map (entry_with colours bounds) pairs.now))
+    ensures { Reads (λ lack. kept lack ImageFormatConstraints (entries.old.items ++ map (entry_with colours bounds) pairs.now))
         (seen_by (λ _. entries.new.items) result) }
 {
     for pair in pairs {
-        entries.push(entry_with(colours, bounds, *pair))?;
+        add(
+            entries,
+            entry_with(colours, bounds, *pair),
+            Field::ImageFormatConstraints,
+        )?;
     }
     Ok(())
+}
+
+macro_rules! entry_fields {
+    (() $($name:ident: $shape:ident $rule:ident $field:ident $absent:ident $range:ident,)*) => {
+        [
+            Field::PixelFormat,
+            Field::PixelFormatModifier,
+            Field::PixelFormatAndModifiers,
+            Field::ColorSpaces,
+            $(Field::$field,)*
+            Field::RequireBytesPerRowAtPixelBoundary,
+        ]
+    };
 }
 
 fn expect_entry(object: &Value) -> Result<(), Fault>
     ensures { seen_by (λ _. view object.now) result ≡ entry_object (view object.now) }
 {
-    let fields = [
-        Field::PixelFormat,
-        Field::PixelFormatModifier,
-        Field::PixelFormatAndModifiers,
-        Field::ColorSpaces,
-        Field::MinSize,
-        Field::MaxSize,
-        Field::SizeAlignment,
-        Field::MinBytesPerRow,
-        Field::MaxBytesPerRow,
-        Field::BytesPerRowDivisor,
-        Field::StartOffsetDivisor,
-        Field::DisplayRectAlignment,
-        Field::RequiredMinSize,
-        Field::RequiredMaxSize,
-    ];
+    let fields = bounds_table!(entry_fields!());
     expect_object(object, Spot::At(Field::ImageFormatConstraints), &fields)
 }
 
 fn add_entry(alloc: Global, entries: &mut Vec<Entry>, value: &Value) -> Result<(), Fault>
-    ensures { Answers (with_entry entries.old.items (view value.now))
+    ensures { Reads (λ lack. with_entry lack entries.old.items (view value.now))
         (seen_by (λ _. entries.new.items) result) }
 {
     expect_entry(value)?;
@@ -76,7 +78,7 @@ fn add_entry(alloc: Global, entries: &mut Vec<Entry>, value: &Value) -> Result<(
 }
 
 fn entries_list(alloc: Global, list: &[Value]) -> Result<Vec<Entry>, Fault>
-    ensures { Answers (read_each with_entry [] (items_view list.now))
+    ensures { Reads (λ lack. read_each (with_entry lack) [] (items_view list.now))
         (seen_by (λ entries. entries.items) result) }
 {
     let mut entries = Vec::new(alloc);
@@ -88,7 +90,7 @@ fn entries_list(alloc: Global, list: &[Value]) -> Result<Vec<Entry>, Fault>
 
 /// The entries of a participant's record, one for each pair that they give.
 pub(super) fn entries_in(alloc: Global, object: &Value) -> Result<Vec<Entry>, Fault>
-    ensures { Answers (optional ImageFormatConstraints [] entries_of (view object.now))
+    ensures { Reads (λ lack. optional ImageFormatConstraints [] (entries_of lack) (view object.now))
         (seen_by (λ entries. entries.items) result) }
 {
     match object.get(Field::ImageFormatConstraints.name()) {

@@ -1,9 +1,9 @@
 //! Reads one field of a record.
 
-ghost use Rattle.std.specs.Prelude.{◌≡◌, ◌-◌, ◌^◌, ◌≤◌, IfOk};
+ghost use Rattle.std.specs.Prelude.{◌≡◌, ◌-◌, ◌^◌, ◌≤◌, ◌++◌, ◌∷◌, [], IfOk};
 ghost use Rattle.std.specs.List.{list_all};
 ghost use Rattle.serde_json.specs.View.{view, items_view, members_view};
-ghost use Rattle.sysmem_sanitise.specs.Reading.Fields.{keys_of, object_of, is_named, number_of, number_or, flag_or, stated, text_of, list_of, seen_by};
+ghost use Rattle.sysmem_sanitise.specs.Reading.Fields.{keys_of, object_of, is_named, number_of, number_or, flag_or, stated, text_of, list_of, seen_by, kept, Reads};
 
 use crate::fault::{Code, Fault, Spot};
 use serde_json::{Map, Value};
@@ -111,5 +111,16 @@ pub(super) fn list_of(value: &Value, field: Field) -> Result<&[Value], Fault>
     match value.as_array() {
         Some(list) => Ok(list.as_slice()),
         None => Err(Fault::of(Code::WrongKind, field)),
+    }
+}
+
+/// Adds an item to the list of a field.
+pub(super) fn add<T: Drop>(list: &mut Vec<T>, item: T, field: Field) -> Result<(), Fault>
+    ensures { Reads (λ lack. kept lack field (list.old.items ++ item ∷ []))
+        (seen_by (λ _. list.new.items) result) }
+{
+    match list.push(item) {
+        Ok(()) => Ok(()),
+        Err(_) => Err(Fault::of(Code::WantOfMemory, field)),
     }
 }

@@ -1,12 +1,12 @@
 //! Reads the name of a heap, and a list of permitted heaps.
 
-ghost use Rattle.std.specs.Prelude.{◌≡◌, []};
+ghost use Rattle.std.specs.Prelude.{◌≡◌, [], string_bytes};
 ghost use Rattle.std.specs.List.{list_all};
 ghost use Rattle.serde_json.specs.View.{view, items_view};
-ghost use Rattle.sysmem_sanitise.specs.Reading.Fields.{seen_by, read_each, Answers};
+ghost use Rattle.sysmem_sanitise.specs.Reading.Fields.{seen_by, read_each, Reads};
 ghost use Rattle.sysmem_sanitise.specs.Reading.Heaps.{is_heap_byte, is_heap_type, heap_type_of, heap_name_of, permits, permitted_heap, with_permitted, permitted_of};
 
-use super::field::{expect_object, list_of, number_or, stated, text_of};
+use super::field::{add, expect_object, list_of, number_or, stated, text_of};
 use crate::fault::{Code, Fault, Spot};
 use serde_json::Value;
 use std::alloc::Global;
@@ -31,31 +31,30 @@ fn is_heap_type(text: &str) -> bool
     1 <= text.len() && text.len() <= 128 && has_only_heap_bytes(text)
 }
 
-fn heap_type_of(value: &Value) -> Result<&str, Fault>
-    ensures { seen_by (λ text. text.now) result ≡ heap_type_of (view value.now) }
+fn heap_type_of(alloc: Global, value: &Value) -> Result<String, Fault>
+    ensures { Reads (λ lack. heap_type_of lack (view value.now)) (seen_by (λ text. string_bytes text) result) }
 {
     let text = text_of(value, Field::HeapType)?;
-    if is_heap_type(text) {
-        Ok(text)
-    } else {
-        Err(Fault::of(Code::WrongKind, Field::HeapType))
+    if !is_heap_type(text) {
+        return Err(Fault::of(Code::WrongKind, Field::HeapType));
+    }
+    match String::from_str(alloc, text) {
+        Ok(heap_type) => Ok(heap_type),
+        Err(_) => Err(Fault::of(Code::WantOfMemory, Field::HeapType)),
     }
 }
 
 /// The type and the id of a heap.
 pub(super) fn heap_name_of(alloc: Global, object: &Value) -> Result<Heap, Fault>
-    ensures { Answers (heap_name_of (view object.now)) result }
+    ensures { Reads (λ lack. heap_name_of lack (view object.now)) result }
 {
-    let heap_type = heap_type_of(stated(object, Code::WrongKind, Field::HeapType)?)?;
+    let heap_type = heap_type_of(alloc, stated(object, Code::WrongKind, Field::HeapType)?)?;
     let id = number_or(object, Field::Id, 0, u64::MAX)?;
-    Ok(Heap {
-        heap_type: String::from_str(alloc, heap_type)?,
-        id,
-    })
+    Ok(Heap { heap_type, id })
 }
 
 fn permitted_heap(alloc: Global, object: &Value) -> Result<Heap, Fault>
-    ensures { Answers (permitted_heap (view object.now)) result }
+    ensures { Reads (λ lack. permitted_heap lack (view object.now)) result }
 {
     let fields = [Field::HeapType, Field::Id];
     expect_object(object, Spot::At(Field::PermittedHeaps), &fields)?;
@@ -69,7 +68,7 @@ fn permits(heaps: &[Heap], new: &Heap) -> bool
 }
 
 fn add_permitted(alloc: Global, heaps: &mut Vec<Heap>, value: &Value) -> Result<(), Fault>
-    ensures { Answers (with_permitted heaps.old.items (view value.now))
+    ensures { Reads (λ lack. with_permitted lack heaps.old.items (view value.now))
         (seen_by (λ _. heaps.new.items) result) }
 {
     let heap = permitted_heap(alloc, value)?;
@@ -79,12 +78,11 @@ fn add_permitted(alloc: Global, heaps: &mut Vec<Heap>, value: &Value) -> Result<
     if permits(heaps, &heap) {
         return Err(Fault::of(Code::RepeatedHeap, Field::PermittedHeaps));
     }
-    heaps.push(heap)?;
-    Ok(())
+    add(heaps, heap, Field::PermittedHeaps)
 }
 
 fn permitted_in(alloc: Global, list: &[Value]) -> Result<Vec<Heap>, Fault>
-    ensures { Answers (read_each with_permitted [] (items_view list.now))
+    ensures { Reads (λ lack. read_each (with_permitted lack) [] (items_view list.now))
         (seen_by (λ heaps. heaps.items) result) }
 {
     let mut heaps = Vec::new(alloc);
@@ -96,7 +94,7 @@ fn permitted_in(alloc: Global, list: &[Value]) -> Result<Vec<Heap>, Fault>
 
 /// A list of at most 64 heaps, no two of one type and id.
 pub(super) fn permitted_of(alloc: Global, value: &Value) -> Result<Vec<Heap>, Fault>
-    ensures { Answers (permitted_of (view value.now)) (seen_by (λ heaps. heaps.items) result) }
+    ensures { Reads (λ lack. permitted_of lack (view value.now)) (seen_by (λ heaps. heaps.items) result) }
 {
     permitted_in(alloc, list_of(value, Field::PermittedHeaps)?)
 }

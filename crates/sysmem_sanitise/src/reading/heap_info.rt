@@ -2,10 +2,10 @@
 
 ghost use Rattle.std.specs.Prelude.{◌≡◌, []};
 ghost use Rattle.serde_json.specs.View.{view, items_view};
-ghost use Rattle.sysmem_sanitise.specs.Reading.Fields.{seen_by, read_each, Answers};
+ghost use Rattle.sysmem_sanitise.specs.Reading.Fields.{seen_by, read_each, Reads};
 ghost use Rattle.sysmem_sanitise.specs.Reading.Heaps.{no_domains, with_domain, with_named, has_domains, domains_of, heap_of, has_heap, with_heap, heaps_of};
 
-use super::field::{expect_object, flag_or, list_of, stated};
+use super::field::{add, expect_object, flag_or, list_of, stated};
 use super::heap::heap_name_of;
 use super::name::domain_of;
 use crate::fault::{Code, Fault, Spot};
@@ -63,7 +63,7 @@ fn domains_of(value: &Value) -> Result<CoherencyDomains, Fault>
 }
 
 fn heap_of(alloc: Global, object: &Value) -> Result<HeapInfo, Fault>
-    ensures { Answers (heap_of (view object.now)) result }
+    ensures { Reads (λ lack. heap_of lack (view object.now)) result }
 {
     let fields = [
         Field::HeapType,
@@ -92,7 +92,7 @@ fn has_heap(heaps: &[HeapInfo], new: &HeapInfo) -> bool
 }
 
 fn add_heap(alloc: Global, heaps: &mut Vec<HeapInfo>, value: &Value) -> Result<(), Fault>
-    ensures { Answers (with_heap heaps.old.items (view value.now))
+    ensures { Reads (λ lack. with_heap lack heaps.old.items (view value.now))
         (seen_by (λ _. heaps.new.items) result) }
 {
     let heap = heap_of(alloc, value)?;
@@ -102,12 +102,11 @@ fn add_heap(alloc: Global, heaps: &mut Vec<HeapInfo>, value: &Value) -> Result<(
     if has_heap(heaps, &heap) {
         return Err(Fault::of(Code::BadPlatformList, Field::Heaps));
     }
-    heaps.push(heap)?;
-    Ok(())
+    add(heaps, heap, Field::Heaps)
 }
 
 fn heaps_in(alloc: Global, list: &[Value]) -> Result<Vec<HeapInfo>, Fault>
-    ensures { Answers (read_each with_heap [] (items_view list.now))
+    ensures { Reads (λ lack. read_each (with_heap lack) [] (items_view list.now))
         (seen_by (λ heaps. heaps.items) result) }
 {
     let mut heaps = Vec::new(alloc);
@@ -119,7 +118,7 @@ fn heaps_in(alloc: Global, list: &[Value]) -> Result<Vec<HeapInfo>, Fault>
 
 /// A list of 1 to 64 heaps, no two of one type and id.
 pub(super) fn heaps_of(alloc: Global, value: &Value) -> Result<Vec<HeapInfo>, Fault>
-    ensures { Answers (heaps_of (view value.now)) (seen_by (λ heaps. heaps.items) result) }
+    ensures { Reads (λ lack. heaps_of lack (view value.now)) (seen_by (λ heaps. heaps.items) result) }
 {
     let heaps = heaps_in(alloc, list_of(value, Field::Heaps)?)?;
     if heaps.is_empty() {

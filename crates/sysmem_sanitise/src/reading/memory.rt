@@ -6,7 +6,7 @@ ghost use Rattle.sysmem_memory.specs.Wishes.{no_wishes};
 ghost use Rattle.sysmem_counts.specs.declared.field.Field.TheVariants.{BufferMemoryConstraints, PermittedHeaps};
 ghost use Rattle.sysmem_sanitise.specs.Reading.Constraints.{memory_of};
 ghost use Rattle.sysmem_sanitise.specs.Reading.Heaps.{permitted_of};
-ghost use Rattle.sysmem_sanitise.specs.Reading.Fields.{optional, seen_by, Answers};
+ghost use Rattle.sysmem_sanitise.specs.Reading.Fields.{optional, seen_by, Reads};
 
 use super::field::{expect_object, flag_or, number_or};
 use super::heap::permitted_of;
@@ -17,7 +17,7 @@ use sysmem_counts::Field;
 use sysmem_memory::{Heap, MemoryConstraints};
 
 fn permitted_in(alloc: Global, object: &Value) -> Result<Vec<Heap>, Fault>
-    ensures { Answers (optional PermittedHeaps [] permitted_of (view object.now))
+    ensures { Reads (λ lack. optional PermittedHeaps [] (permitted_of lack) (view object.now))
         (seen_by (λ heaps. heaps.items) result) }
 {
     match object.get(Field::PermittedHeaps.name()) {
@@ -27,7 +27,7 @@ fn permitted_in(alloc: Global, object: &Value) -> Result<Vec<Heap>, Fault>
 }
 
 fn memory_of(alloc: Global, object: &Value) -> Result<MemoryConstraints, Fault>
-    ensures { Answers (memory_of (view object.now)) result }
+    ensures { Reads (λ lack. memory_of lack (view object.now)) result }
 {
     let fields = [
         Field::MinSizeBytes,
@@ -58,7 +58,7 @@ fn memory_of(alloc: Global, object: &Value) -> Result<MemoryConstraints, Fault>
 
 /// The memory constraints of a participant's record.
 pub(super) fn memory_in(alloc: Global, object: &Value) -> Result<MemoryConstraints, Fault>
-    ensures { Answers (optional BufferMemoryConstraints no_wishes memory_of (view object.now)) result }
+    ensures { Reads (λ lack. optional BufferMemoryConstraints no_wishes (memory_of lack) (view object.now)) result }
 {
     match object.get(Field::BufferMemoryConstraints.name()) {
         None => Ok(MemoryConstraints::permitting(Vec::new(alloc))),

@@ -4,12 +4,12 @@ ghost use Rattle.std.specs.Prelude.{◌≡◌, []};
 ghost use Rattle.serde_json.specs.View.{view, items_view};
 ghost use Rattle.sysmem_counts.specs.declared.field.Field.TheVariants.{PixelFormatModifier};
 ghost use Rattle.sysmem_formats.specs.declared.modifier.Modifier.TheVariants.{Linear};
-ghost use Rattle.sysmem_sanitise.specs.Reading.Fields.{seen_by, read_each, Answers, optional, named};
+ghost use Rattle.sysmem_sanitise.specs.Reading.Fields.{seen_by, read_each, Reads, optional, named};
 ghost use Rattle.sysmem_sanitise.specs.Reading.Names.{modifier_named};
 ghost use Rattle.sysmem_sanitise.specs.Reading.Pairs.{same_pair, has_pair, has_colour, is_misfit};
 ghost use Rattle.sysmem_sanitise.specs.Reading.Platform.{pair_of, with_pair, pairs_of, with_colour, colours_of};
 
-use super::field::{expect_object, list_of, stated};
+use super::field::{add, expect_object, list_of, stated};
 use super::name::{colour_of, format_of, modifier_of};
 use crate::fault::{Code, Fault, Spot};
 use serde_json::Value;
@@ -60,7 +60,7 @@ fn is_misfit(pair: Pair) -> bool
 }
 
 fn add_pair(pairs: &mut Vec<Pair>, value: &Value) -> Result<(), Fault>
-    ensures { Answers (with_pair pairs.old.items (view value.now))
+    ensures { Reads (λ lack. with_pair lack pairs.old.items (view value.now))
         (seen_by (λ _. pairs.new.items) result) }
 {
     let pair = pair_of(value)?;
@@ -70,12 +70,11 @@ fn add_pair(pairs: &mut Vec<Pair>, value: &Value) -> Result<(), Fault>
     if has_pair(pairs, pair) {
         return Err(Fault::of(Code::BadPlatformList, Field::Pairs));
     }
-    pairs.push(pair)?;
-    Ok(())
+    add(pairs, pair, Field::Pairs)
 }
 
 fn pairs_in(alloc: Global, list: &[Value]) -> Result<Vec<Pair>, Fault>
-    ensures { Answers (read_each with_pair [] (items_view list.now))
+    ensures { Reads (λ lack. read_each (with_pair lack) [] (items_view list.now))
         (seen_by (λ pairs. pairs.items) result) }
 {
     let mut pairs = Vec::new(alloc);
@@ -87,7 +86,7 @@ fn pairs_in(alloc: Global, list: &[Value]) -> Result<Vec<Pair>, Fault>
 
 /// A list of pairs that isn't empty, no two alike and none a tiled modifier with a format that isn't of 4 bytes.
 pub(super) fn pairs_of(alloc: Global, value: &Value) -> Result<Vec<Pair>, Fault>
-    ensures { Answers (pairs_of (view value.now)) (seen_by (λ pairs. pairs.items) result) }
+    ensures { Reads (λ lack. pairs_of lack (view value.now)) (seen_by (λ pairs. pairs.items) result) }
 {
     let pairs = pairs_in(alloc, list_of(value, Field::Pairs)?)?;
     if pairs.is_empty() {
@@ -103,19 +102,18 @@ fn has_colour(colours: &[ColourSpace], new: ColourSpace) -> bool
 }
 
 fn add_colour(colours: &mut Vec<ColourSpace>, value: &Value) -> Result<(), Fault>
-    ensures { Answers (with_colour colours.old.items (view value.now))
+    ensures { Reads (λ lack. with_colour lack colours.old.items (view value.now))
         (seen_by (λ _. colours.new.items) result) }
 {
     let colour = colour_of(value, Field::ColorSpaces)?;
     if has_colour(colours, colour) {
         return Err(Fault::of(Code::BadPlatformList, Field::ColorSpaces));
     }
-    colours.push(colour)?;
-    Ok(())
+    add(colours, colour, Field::ColorSpaces)
 }
 
 fn colours_in(alloc: Global, list: &[Value]) -> Result<Vec<ColourSpace>, Fault>
-    ensures { Answers (read_each with_colour [] (items_view list.now))
+    ensures { Reads (λ lack. read_each (with_colour lack) [] (items_view list.now))
         (seen_by (λ colours. colours.items) result) }
 {
     let mut colours = Vec::new(alloc);
@@ -127,7 +125,7 @@ fn colours_in(alloc: Global, list: &[Value]) -> Result<Vec<ColourSpace>, Fault>
 
 /// A list of colour spaces that isn't empty, no two alike.
 pub(super) fn colours_of(alloc: Global, value: &Value) -> Result<Vec<ColourSpace>, Fault>
-    ensures { Answers (colours_of (view value.now)) (seen_by (λ colours. colours.items) result) }
+    ensures { Reads (λ lack. colours_of lack (view value.now)) (seen_by (λ colours. colours.items) result) }
 {
     let colours = colours_in(alloc, list_of(value, Field::ColorSpaces)?)?;
     if colours.is_empty() {

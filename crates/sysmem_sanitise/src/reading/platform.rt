@@ -2,8 +2,10 @@
 
 ghost use Rattle.std.specs.Prelude.{◌≡◌, ◌≢◌, Ok, Err, IfOk, IfErr};
 ghost use Rattle.serde_json.specs.View.{view};
-ghost use Rattle.sysmem_sanitise.specs.Faults.{want_of_memory};
-ghost use Rattle.sysmem_sanitise.specs.Reading.Platform.{platform_of};
+ghost use Rattle.sysmem_sanitise.specs.declared.fault.Code.TheVariants.{WantOfMemory};
+ghost use Rattle.sysmem_sanitise.specs.Faults.{lack_of};
+ghost use Rattle.sysmem_sanitise.specs.Reading.Fields.{Reads};
+ghost use Rattle.sysmem_sanitise.specs.Reading.Platform.{platform_of, platform_with};
 
 use super::field::{expect_object, stated};
 use super::heap_info::heaps_of;
@@ -14,6 +16,20 @@ use serde_json::Value;
 use std::alloc::Global;
 use sysmem_counts::Field;
 
+fn platform_of(alloc: Global, object: &Value) -> Result<Platform, Fault>
+    ensures { Reads (λ lack. platform_with lack (view object.now)) result }
+{
+    expect_object(
+        object,
+        Spot::Whole,
+        &[Field::Heaps, Field::Pairs, Field::ColorSpaces],
+    )?;
+    let heaps = heaps_of(alloc, stated(object, Code::WrongKind, Field::Heaps)?)?;
+    let pairs = pairs_of(alloc, stated(object, Code::WrongKind, Field::Pairs)?)?;
+    let colours = colours_of(alloc, stated(object, Code::WrongKind, Field::ColorSpaces)?)?;
+    Ok(Platform::new(heaps, pairs, colours))
+}
+
 /// Reads a platform's record: its heaps, its pairs of a format and a modifier, and its colour spaces, each a list
 /// that isn't empty and has no item twice. At most 64 heaps are read.
 ///
@@ -21,15 +37,9 @@ use sysmem_counts::Field;
 pub fn read_platform(alloc: Global, value: &Value) -> Result<Platform, Fault>
     ensures taken { IfOk result (λ platform. platform_of (view value.now) ≡ Ok platform) }
     ensures refused { IfErr result
-        (λ fault. fault ≢ want_of_memory → platform_of (view value.now) ≡ Err fault) }
+        (λ fault. fault.code ≢ WantOfMemory → platform_of (view value.now) ≡ Err fault) }
+    ensures wanting { IfErr result (λ fault. fault.code ≡ WantOfMemory
+        → platform_with (lack_of fault) (view value.now) ≡ Err fault) }
 {
-    expect_object(
-        value,
-        Spot::Whole,
-        &[Field::Heaps, Field::Pairs, Field::ColorSpaces],
-    )?;
-    let heaps = heaps_of(alloc, stated(value, Code::WrongKind, Field::Heaps)?)?;
-    let pairs = pairs_of(alloc, stated(value, Code::WrongKind, Field::Pairs)?)?;
-    let colours = colours_of(alloc, stated(value, Code::WrongKind, Field::ColorSpaces)?)?;
-    Ok(Platform::new(heaps, pairs, colours))
+    platform_of(alloc, value)
 }

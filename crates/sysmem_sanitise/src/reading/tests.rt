@@ -1,11 +1,11 @@
 //! Records with their first faults, and what the others state.
 
 use super::{read_constraints, read_platform};
-use crate::fault::Fault;
+use crate::fault::{Code, Fault, Spot};
 use serde_json::Value;
 use std::alloc::Global;
 use std::test::Fail;
-use sysmem_counts::{CountConstraints, Usage};
+use sysmem_counts::{CountConstraints, Field, Usage};
 use sysmem_formats::{ColourSpace, Modifier, Pair, PixelFormat};
 
 /// The fault of a participant's record, or `ok`.
@@ -396,7 +396,11 @@ fn platform_and_its_copy(rt: HostRuntime) -> Result<(), Fail> {
 
 #[test]
 fn fault_texts(rt: HostRuntime) -> Result<(), Fail> {
-    let text = Fault::WANT_OF_MEMORY.to_string(rt.alloc())?;
-    assert_eq!(rt; text.as_str(), "S13 whole");
+    let text = Fault {
+        code: Code::WantOfMemory,
+        at: Spot::At(Field::Heaps),
+    }
+    .to_string(rt.alloc())?;
+    assert_eq!(rt; text.as_str(), "S13 heaps");
     Ok(())
 }

@@ -7,23 +7,23 @@ use Rattle.sysmem_image.proofs.Sound.{above_none}
 use Rattle.sysmem_image.proofs.merging.merge_into.Goals as goal
 
 pub returns-in_err-bounds-clause-line : goal.returns-in_err-bounds-clause-line
-returns-in_err-bounds-clause-line c = λ o es old.
+returns-in_err-bounds-clause-line c = λ es old.
     let p = err_from_is_err_and c.from_residual.result c.from_residual.ensures.1 in
-    let above = rw (c.effective-more.ensures o) at c.in_err-bounds.ensures.above in
-    rw (p.1, p.2) (above_line _ o es c.args.bounds.now (effective o c.args.entry.now) above old)
+    let above = rw c.effective-more.ensures at c.in_err-bounds.ensures.above in
+    rw (p.1, p.2) (above_line _ c.args.offer.now es c.args.bounds.now (effective c.args.offer.now c.args.entry.now) above old)
 
 pub returns-in_err-bounds-clause-none : goal.returns-in_err-bounds-clause-none
-returns-in_err-bounds-clause-none c = λ o es old.
+returns-in_err-bounds-clause-none c = λ es old.
     let p = err_from_is_err_and c.from_residual.result c.from_residual.ensures.1 in
-    let above = rw (c.effective-more.ensures o) at c.in_err-bounds.ensures.above in
-    rw p.1 (above_none _ o es c.args.bounds.now (effective o c.args.entry.now) above old)
+    let above = rw c.effective-more.ensures at c.in_err-bounds.ensures.above in
+    rw p.1 (above_none _ c.args.offer.now es c.args.bounds.now (effective c.args.offer.now c.args.entry.now) above old)
 
 pub returns-clause-ok : goal.returns-clause-ok
-returns-clause-ok c = λ o s.
-    let is = rw (c.effective-more.ensures o) at c.in_ok-bounds.ensures.ok in
-    merged_meet c.args.bounds.now (effective o c.args.entry.now) c.in_ok-bounds.field-0 is s
+returns-clause-ok c = λ s.
+    let is = rw c.effective-more.ensures at c.in_ok-bounds.ensures.ok in
+    merged_meet c.args.bounds.now (effective c.args.offer.now c.args.entry.now) c.in_ok-bounds.field-0 is s
 
 pub returns-clause-merged : goal.returns-clause-merged
-returns-clause-merged c = λ o es old.
-    let is = rw (c.effective-more.ensures o) at c.in_ok-bounds.ensures.ok in
-    merged_more o es c.args.bounds.now (effective o c.args.entry.now) c.in_ok-bounds.field-0 is c.in_ok-bounds.ensures.in_range old
+returns-clause-merged c = λ es old.
+    let is = rw c.effective-more.ensures at c.in_ok-bounds.ensures.ok in
+    merged_more c.args.offer.now es c.args.bounds.now (effective c.args.offer.now c.args.entry.now) c.in_ok-bounds.field-0 is c.in_ok-bounds.ensures.in_range old

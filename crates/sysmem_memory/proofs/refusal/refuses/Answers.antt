@@ -1,6 +1,7 @@
 use Rattle.std.proofs.Common.{◌∙◌}
 use Rattle.sysmem_memory.specs.PlaceTable.{refuses_by, heap_fields, domain_fields}
-use Rattle.sysmem_memory.proofs.FirstRefusing.{find_front, find_rest, refused_by_first, allowed_by_none}
+use Rattle.list_lemmas.proofs.CallerLemmas.{find_front, find_rest}
+use Rattle.sysmem_memory.proofs.FirstRefusing.{refused_by_first, allowed_by_none}
 use Rattle.sysmem_memory.proofs.refusal.refuses.Goals as goal
 
 pub returns-then-is_some-clause-first : goal.returns-then-is_some-clause-first

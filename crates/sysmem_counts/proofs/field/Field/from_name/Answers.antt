@@ -1,7 +1,7 @@
 use Rattle.sysmem_counts.proofs.field.Field.from_name.Goals as goal
 use Rattle.std.specs.Prelude.{◌≡◌, Some, None}
 use Rattle.sysmem_counts.specs.Field.{field_name}
-use Rattle.sysmem_counts.specs.declared.field.Field.TheVariants.{Usage, MinBufferCountForCamping, MinBufferCountForDedicatedSlack, MinBufferCountForSharedSlack, MinBufferCount, MaxBufferCount, BufferMemoryConstraints, ImageFormatConstraints, MinSizeBytes, MaxSizeBytes, PhysicallyContiguousRequired, SecureRequired, CpuDomainSupported, RamDomainSupported, InaccessibleDomainSupported, PermittedHeaps, PixelFormat, PixelFormatModifier, PixelFormatAndModifiers, ColorSpaces, MinSize, MaxSize, SizeAlignment, MinBytesPerRow, MaxBytesPerRow, BytesPerRowDivisor, StartOffsetDivisor, DisplayRectAlignment, RequiredMinSize, RequiredMaxSize, BufferCountLimit, UnnamedPixelFormat, UnnamedPixelFormatModifier, UnnamedColorSpace, Heaps, Pairs, HeapType, Id, Contiguous, Secure, Domains}
+use Rattle.sysmem_counts.specs.declared.field.Field.TheVariants.{Usage, MinBufferCountForCamping, MinBufferCountForDedicatedSlack, MinBufferCountForSharedSlack, MinBufferCount, MaxBufferCount, BufferMemoryConstraints, ImageFormatConstraints, MinSizeBytes, MaxSizeBytes, PhysicallyContiguousRequired, SecureRequired, CpuDomainSupported, RamDomainSupported, InaccessibleDomainSupported, PermittedHeaps, PixelFormat, PixelFormatModifier, PixelFormatAndModifiers, ColorSpaces, MinSize, MaxSize, SizeAlignment, MinBytesPerRow, MaxBytesPerRow, BytesPerRowDivisor, StartOffsetDivisor, DisplayRectAlignment, RequiredMinSize, RequiredMaxSize, MaxWidthTimesHeight, RequireBytesPerRowAtPixelBoundary, BufferCountLimit, UnnamedPixelFormat, UnnamedPixelFormatModifier, UnnamedColorSpace, Heaps, Pairs, HeapType, Id, Contiguous, Secure, Domains}
 
 -- a text that is none of the names names no field
 pub returns-in_default : goal.returns-in_default
@@ -38,6 +38,8 @@ returns-in_default c f = (
     | DisplayRectAlignment ↦ λ e. absurd (c.in_default.not-display_rect_alignment e)
     | RequiredMinSize ↦ λ e. absurd (c.in_default.not-required_min_size e)
     | RequiredMaxSize ↦ λ e. absurd (c.in_default.not-required_max_size e)
+    | MaxWidthTimesHeight ↦ λ e. absurd (c.in_default.not-max_width_times_height e)
+    | RequireBytesPerRowAtPixelBoundary ↦ λ e. absurd (c.in_default.not-require_bytes_per_row_at_pixel_boundary e)
     | BufferCountLimit ↦ λ e. absurd (c.in_default.not-buffer_count_limit e)
     | UnnamedPixelFormat ↦ λ e. absurd (c.in_default.not-unnamed_pixel_format e)
     | UnnamedPixelFormatModifier ↦ λ e. absurd (c.in_default.not-unnamed_pixel_format_modifier e)

@@ -12,13 +12,13 @@ returns-then-not-takes_colour c ds d found are =
 pub returns-in-Err : goal.returns-in-Err
 returns-in-Err c ds d found are =
     let old = rw c.in-Merged.is at are in
-    refused_line c.in-Err.field c.in-Err.ensures.steady c.args.offer.now ds d c.args.entry.now found (c.in-Err.ensures.line c.args.offer.now (bounds_asked c.args.offer.now ds) old.0)
+    refused_line c.in-Err.field c.in-Err.ensures.steady c.args.offer.now ds d c.args.entry.now found (c.in-Err.ensures.line (bounds_asked c.args.offer.now ds) old.0)
 
 pub returns-in_default-merge_into : goal.returns-in_default-merge_into
 returns-in_default-merge_into c ds d found are =
     let old = rw c.in-Merged.is at are in
     let takes = sym c.takes_colour.ensures ∙ c.if-not-takes_colour.false in
-    merged_more c.args.offer.now ds d c.args.entry.now c.merge_into.new.bounds found takes old.1 (c.in_default-merge_into.ensures.merged c.args.offer.now (bounds_asked c.args.offer.now ds) old.0)
+    merged_more c.args.offer.now ds d c.args.entry.now c.merge_into.new.bounds found takes old.1 (c.in_default-merge_into.ensures.merged (bounds_asked c.args.offer.now ds) old.0)
 
 pub returns-in_default : goal.returns-in_default
 returns-in_default c ds d found are =

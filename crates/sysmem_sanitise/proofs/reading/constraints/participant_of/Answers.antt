@@ -1,6 +1,8 @@
-use Rattle.std.proofs.Common.{sym}
+use Rattle.std.proofs.Common.{rules, sym}
+use Rattle.std.proofs.lemmas.Result.{err_from_is_err_and}
 use Rattle.serde_json.specs.View.{view}
 use Rattle.sysmem_sanitise.proofs.Participants.{usage_of-is, memory-permits, entries-are}
+use Rattle.sysmem_sanitise.proofs.Refusals.{later-participant}
 use Rattle.sysmem_sanitise.proofs.reading.constraints.participant_of.Goals as goal
 
 pub new-requires : goal.new-requires
@@ -16,3 +18,8 @@ new-requires c =
       distinct_entries = entries.distinct;
       each_entry = entries.each;
     }
+
+pub returns-in_err-entries : goal.returns-in_err-entries
+returns-in_err-entries c =
+    let p = err_from_is_err_and c.from_residual-in_err-entries.result c.from_residual-in_err-entries.ensures.1 in
+    rw (p.1, p.2) (later-participant (view c.args.object.now) _ _ _ _ c.in_ok-memory.memory _ c.in_ok-expect_object.ensures c.in_ok-stated.ensures c.in_ok-usage.ensures c.in_ok-counts.ensures c.in_ok-memory.ensures c.in_err-entries.ensures)

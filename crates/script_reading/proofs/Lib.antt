@@ -1,0 +1,3 @@
+pub mod CallsLemmas
+pub mod Members
+pub mod TextsLemmas

@@ -1,0 +1,76 @@
+-- The form of one call of a script: what its object says, apart from the other calls.
+use Rattle.std.specs.Prelude.{ℕ, ◌∷◌, [], ◌&&◌, ◌||◌, Bool, List, bytes_eq, codes, Option, Some, None, option_map, option_and_then, if◌then◌else◌}
+use Rattle.std.specs.List.{list_all}
+use Rattle.std.specs.Option.{option_map_or}
+use Rattle.serde_json.specs.Data.{Data, null, Members, no_members, member}
+use Rattle.serde_json.specs.Find.{get, as_str, as_object}
+use Rattle.script_reading.specs.Names.{main_actor}
+
+-- What a call does to the token that it is made on.
+pub data ActFacts : Type 0 where
+  -- makes a token of this name
+  duplicates : List ℕ → ActFacts
+  binds : ActFacts
+  -- states constraints, or none
+  states : Option Data → ActFacts
+  releases : ActFacts
+  checks : ActFacts
+
+-- What a call does, on which name, by which actor.
+pub record FormFacts : Type 0 where
+  pub act : ActFacts
+  pub on : List ℕ
+  pub actor : List ℕ
+
+infixl 10 ◌>>=◌
+-- a value that is there, and then the next
+abbrev pub ◌>>=◌ : {A B : Type 0} → Option A → (A → Option B) → Option B
+None >>= next = None
+Some a >>= next = next a
+
+abbrev pub keys_of : Members → List (List ℕ)
+keys_of no_members = []
+keys_of (member key value ms) = key ∷ keys_of ms
+
+-- the text at a key
+abbrev pub text_at : List ℕ → Data → Option (List ℕ)
+text_at key call = option_and_then as_str (get key call)
+
+-- the actor that a call names, or `main`
+abbrev pub actor_of : Data → Option (List ℕ)
+actor_of call = option_map_or as_str (get (codes "actor") call) (Some main_actor)
+
+-- null states no constraints
+abbrev pub unless_null : Data → Option Data
+unless_null null = None
+unless_null d = Some d
+
+-- the constraints that a call states
+abbrev pub constraints_of : Data → Option Data
+constraints_of call = option_and_then unless_null (get (codes "constraints") call)
+
+-- what a call of this name does
+abbrev pub act_of : List ℕ → Data → Option ActFacts
+act_of name call =
+    if bytes_eq name (codes "duplicate") then option_map duplicates (text_at (codes "as") call)
+    else if bytes_eq name (codes "bind") then Some binds
+    else if bytes_eq name (codes "set_constraints") then Some (states (constraints_of call))
+    else if bytes_eq name (codes "release") then Some releases
+    else if bytes_eq name (codes "check") then Some checks
+    else None
+
+-- a call of this name may have this key
+unfoldable pub may_have : List ℕ → List ℕ → Bool
+may_have name key = bytes_eq key (codes "call") || bytes_eq key (codes "on") || bytes_eq key (codes "actor")
+    || (bytes_eq key (codes "as") && bytes_eq name (codes "duplicate"))
+    || (bytes_eq key (codes "constraints") && bytes_eq name (codes "set_constraints"))
+
+-- the form of a call: it is an object with no further keys
+abbrev pub form_of : Data → Option FormFacts
+form_of call = do
+  members ← as_object call
+  name ← text_at (codes "call") call
+  on ← text_at (codes "on") call
+  actor ← actor_of call
+  act ← act_of name call
+  if list_all (may_have name) (keys_of members) then Some (record { act = act; on = on; actor = actor }) else None

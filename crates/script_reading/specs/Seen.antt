@@ -1,0 +1,26 @@
+-- What the program's calls stand for.
+use Rattle.std.specs.Prelude.{map, option_map}
+use Rattle.serde_json.specs.View.{view}
+use Rattle.script_reading.specs.declared.call.Act.{Act}
+use Rattle.script_reading.specs.declared.call.Act.TheVariants.{Duplicate, Bind, SetConstraints, Release, Check}
+use Rattle.script_reading.specs.declared.call.Call.{Call}
+use Rattle.script_reading.specs.declared.form.Form.{Form}
+use Rattle.script_reading.specs.declared.script.Script.{Script}
+use Rattle.script_reading.specs.Call.{ActFacts, duplicates, binds, states, releases, checks, FormFacts}
+use Rattle.script_reading.specs.Script.{CallFacts, ScriptFacts}
+
+abbrev pub act_seen : Act → ActFacts
+act_seen (Duplicate name) = duplicates name.now
+act_seen Bind = binds
+act_seen (SetConstraints stated) = states (option_map (λ d. view d.now) stated)
+act_seen Release = releases
+act_seen Check = checks
+
+abbrev pub form_seen : Form → FormFacts
+form_seen s = record { act = act_seen s.act; on = s.on.now; actor = s.actor.now }
+
+abbrev pub call_seen : Call → CallFacts
+call_seen c = record { act = act_seen c.act; on = c.on.now; place = c.place }
+
+abbrev pub script_seen : Script → ScriptFacts
+script_seen s = record { platform = s.platform; calls = map call_seen s.calls.items }

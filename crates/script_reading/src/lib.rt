@@ -1,0 +1,29 @@
+//! Reads scripts of calls on a buffer collection: the platform and the calls that the bytes spell, or the first fault.
+//!
+//! ```
+//! let value = parse_script(rt.alloc(), bytes)?;
+//! let script = read_script(rt.alloc(), &value)?;
+//! for call in &script.calls {
+//!     println!(rt; "{}", call.on)?;
+//! }
+//! ```
+#![tactic(auto)]
+
+mod call;
+mod calls;
+mod fault;
+mod form;
+mod known;
+mod names;
+mod platform;
+mod script;
+mod text;
+
+pub use call::{Act, Call};
+pub use calls::read_calls;
+pub use fault::{ParseFault, ScriptFault};
+pub use script::{Script, read_script};
+pub use text::{LONGEST, parse_script};
+
+#[cfg(test)]
+mod tests;

@@ -1,0 +1,66 @@
+//! A script: the platform that it names and its calls.
+ghost use Rattle.std.specs.Prelude.{◌≡◌, map, option_map};
+ghost use Rattle.std.specs.List.{list_all};
+ghost use Rattle.serde_json.specs.View.{items_view, members_view, view};
+ghost use Rattle.script_reading.specs.Call.{keys_of};
+ghost use Rattle.script_reading.specs.Faults.{Gives};
+ghost use Rattle.script_reading.specs.Script.{is_part, parts_of, script_of};
+ghost use Rattle.script_reading.specs.Seen.{script_seen};
+
+use crate::call::Call;
+use crate::calls::read_calls;
+use crate::fault::{ParseFault, ScriptFault};
+use crate::platform::read_platform;
+use serde_json::{Map, Value};
+use std::alloc::Global;
+use sysmem_sanitise::Platform;
+
+const MOST_CALLS: usize = 4096;
+
+/// A script: the platform that it names, and its calls.
+#[derive(Drop)]
+pub struct Script<'a> {
+    pub platform: Platform,
+    pub calls: Vec<Call<'a>>,
+}
+
+fn is_part(key: &str) -> bool
+    ensures { result ≡ is_part key.now }
+{
+    key == "platform" || key == "calls"
+}
+
+fn has_only_parts(members: &Map<String, Value>) -> bool
+    ensures { result ≡ list_all is_part (keys_of (members_view members.now.entries)) }
+{
+    members.keys().all(|key| is_part(key.as_str()))
+}
+
+fn parts_of(script: &Value) -> Option<(&Value, &[Value])>
+    ensures { option_map (λ parts. (view parts.0.now, items_view parts.1.now)) result
+        ≡ parts_of (view script.now) }
+{
+    let members = script.as_object()?;
+    let platform = script.get("platform")?;
+    let calls = script.get("calls")?.as_array()?;
+    if has_only_parts(members) {
+        Some((platform, calls))
+    } else {
+        None
+    }
+}
+
+/// Reads the script that a value stands for, up to its first fault: its parts, the platform, the number of calls, then each call.
+pub fn read_script(alloc: Global, script: &Value) -> Result<Script<'_>, ParseFault>
+    ensures { Gives script_seen result (script_of (view script.now)) }
+{
+    let Some((platform, calls)) = parts_of(script) else {
+        return Err(ParseFault::Refused(ScriptFault::Misshapen));
+    };
+    let platform = read_platform(alloc, platform)?;
+    if calls.len() > MOST_CALLS {
+        return Err(ParseFault::Refused(ScriptFault::TooManyCalls));
+    }
+    let calls = read_calls(alloc, calls)?;
+    Ok(Script { platform, calls })
+}

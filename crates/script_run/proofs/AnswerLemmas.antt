@@ -1,0 +1,52 @@
+-- Bytes give one answer, where memory is not refused.
+use Rattle.std.proofs.Common.{◌≡◌, ℕ, ◌<◌, ◌≤◌, List, Bool, false, Some, Result, Ok, Err, refl, sym, ◌∙◌, ap, subst, length, arith}
+use Rattle.serde_json.specs.Data.{Data}
+use Rattle.script_reading.specs.declared.fault.ScriptFault.{ScriptFault}
+use Rattle.script_run.specs.Laws.{IsFed, OneAnswer, OneReport}
+use Rattle.script_run.specs.Outcome.{ReportFacts, ValueRunsTo, refused, reported}
+use Rattle.script_run.specs.Report.{IsReport}
+use Rattle.script_reading.specs.Script.{ScriptFacts}
+use Rattle.script_run.specs.State.{first_state}
+use Rattle.script_reading.specs.Text.{IsJson, longest, too_long, not_json, spelled}
+
+-- bytes spell one value
+one_value : (bytes : List ℕ) (v w : Data) → IsJson bytes v → IsJson bytes w → w ≡ v
+one_value bytes v w a b = let same : Some w ≡ Some v = sym b.spelled ∙ a.spelled in cc
+
+same_fields : (a b : ReportFacts) → a.text ≡ b.text → a.starved ≡ b.starved → a ≡ b
+same_fields a b text starved =
+    let first : a ≡ record { text = b.text; starved = a.starved } = ap (λ (t : List ℕ). let r : ReportFacts = record { text = t; starved = a.starved } in r) text in
+    first ∙ ap (λ (s : Bool). let r : ReportFacts = record { text = b.text; starved = s } in r) starved
+
+-- the report of a script whose memory is not refused, with that said of it
+fed_report : (script : ScriptFacts) (r : ReportFacts) → r.starved ≡ false
+    → IsReport script.platform 1 first_state script.calls r.text r.starved → IsReport script.platform 1 first_state script.calls r.text false
+fed_report script r e report = subst (λ (s : Bool). IsReport script.platform 1 first_state script.calls r.text s) e report
+
+-- a value gives one answer
+one_said : OneReport → (value : Data) (a b : Result ReportFacts ScriptFault) → ValueRunsTo value a → ValueRunsTo value b → IsFed a → IsFed b → a ≡ b
+one_said one value _ _ (refused f e) (refused g h) x y =
+    let both : Err f ≡ Err g = sym e ∙ h in let same : f ≡ g = cc in ap Err same
+one_said one value _ _ (refused f e) (reported script r h report) x y = let both : Err f ≡ Ok script = sym e ∙ h in absurd (cc)
+one_said one value _ _ (reported script r e report) (refused g h) x y = let both : Ok script ≡ Err g = sym e ∙ h in absurd (cc)
+one_said one value _ _ (reported script a e first) (reported other b h second) x y =
+    let both : Ok other ≡ Ok script = sym h ∙ e in
+    let same : other ≡ script = cc in
+    let there : IsReport script.platform 1 first_state script.calls b.text false =
+    subst (λ (z : ScriptFacts). IsReport z.platform 1 first_state z.calls b.text false) same (fed_report other b y second) in
+    ap Ok (same_fields a b (one script.platform script.calls a.text b.text (fed_report script a x first) there) (x ∙ sym y))
+
+too_long_alone : (n : ℕ) → longest < n → n ≤ longest → ⊥
+too_long_alone n long few = absurd (omega (arith, long, few))
+
+pub one_answer : OneReport → OneAnswer
+one_answer one input _ _ (too_long long) (too_long _) x y = refl
+one_answer one input _ _ (too_long long) (not_json few none) x y = absurd (too_long_alone (length input) long few)
+one_answer one input _ b (too_long long) (spelled w few json _ said) x y = absurd (too_long_alone (length input) long few)
+one_answer one input _ _ (not_json few none) (too_long long) x y = absurd (too_long_alone (length input) long few)
+one_answer one input _ _ (not_json few none) (not_json _ _) x y = refl
+one_answer one input _ b (not_json few none) (spelled w _ json _ said) x y = absurd (none w json)
+one_answer one input a _ (spelled v few json _ said) (too_long long) x y = absurd (too_long_alone (length input) long few)
+one_answer one input a _ (spelled v _ json _ said) (not_json few none) x y = absurd (none v json)
+one_answer one input a b (spelled v few json _ said) (spelled w _ json' _ said') x y =
+    one_said one v a b said (subst (λ (d : Data). ValueRunsTo d b) (one_value input v w json json') said') x y

@@ -1,0 +1,10 @@
+pub mod Adding
+pub mod AnswerLemmas
+pub mod Answering
+pub mod Corners
+pub mod Entering
+pub mod Reaching
+pub mod RunLemmas
+pub mod Spelling
+pub mod Texts
+pub mod Unique

@@ -1,0 +1,18 @@
+use Rattle.std.proofs.Common.{◌<◌, ◌≤◌, length, map, arith}
+use Rattle.std.specs.String.{string_bytes}
+use Rattle.script_run.specs.Runner.{state_of}
+use Rattle.script_reading.specs.Seen.{call_seen}
+use Rattle.script_run.proofs.Reaching.{reaches-take, reaches-end, drop-call_seen}
+use Rattle.script_run.proofs.report.report_of.Goals as goal
+
+pub loop-index-preserved : goal.loop-index-preserved
+loop-index-preserved c =
+    let within : c.loop-index.index < length c.args.calls.now = omega arith in
+    reaches-take _ (map call_seen c.args.calls.now) c.loop-index.index (state_of c.loop-index.runner) _ _ (string_bytes c.loop-index.text) _
+    (drop-call_seen c.args.calls.now c.loop-index.index c.index-calls-index.result within c.index-calls-index.is) c.in_ok-take.ensures c.loop-index.invariant
+
+pub returns : goal.returns
+returns c =
+    let all : length c.args.calls.now ≤ c.loop-index.index = omega arith in
+    let put = rw c.verdict.ensures at c.in_ok-put_pending.ensures in
+    rw c.is_starved.ensures (reaches-end _ c.args.calls.now c.loop-index.index (state_of c.loop-index.runner) (string_bytes c.loop-index.text) _ all c.loop-index.invariant put)

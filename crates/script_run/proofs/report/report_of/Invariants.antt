@@ -1,0 +1,9 @@
+use Rattle.std.specs.Prelude.{map}
+use Rattle.std.specs.String.{string_bytes}
+use Rattle.script_run.specs.Runner.{state_of}
+use Rattle.script_reading.specs.Seen.{call_seen}
+use Rattle.script_run.proofs.Reaching.{Reaches}
+use Rattle.script_run.proofs.report.report_of.Given as goal
+
+abbrev pub invariant-loop-index : goal.invariant-loop-index
+invariant-loop-index l = Reaches l.platform (map call_seen l.calls) l.index (state_of l.runner) (string_bytes l.text)

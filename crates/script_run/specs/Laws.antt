@@ -1,0 +1,22 @@
+-- What is true of reports, whoever writes them.
+use Rattle.std.specs.Prelude.{◌≡◌, ℕ, List, false, Result, Ok, Err}
+use Rattle.sysmem_sanitise.specs.Platform.{PlatformFacts}
+use Rattle.script_reading.specs.declared.fault.ScriptFault.{ScriptFault}
+use Rattle.script_run.specs.Outcome.{ReportFacts, RunsTo}
+use Rattle.script_run.specs.Report.{IsReport}
+use Rattle.script_reading.specs.Script.{CallFacts}
+use Rattle.script_run.specs.State.{first_state}
+
+-- the calls of a script have one report on a platform, where memory is not refused
+abbrev pub OneReport : Type 0
+OneReport = (platform : PlatformFacts) (rs : List CallFacts) (a b : List ℕ)
+    → IsReport platform 1 first_state rs a false → IsReport platform 1 first_state rs b false → a ≡ b
+
+-- a fault, or a report in which memory is not refused
+abbrev pub IsFed : Result ReportFacts ScriptFault → Type 0
+IsFed (Ok report) = report.starved ≡ false
+IsFed (Err fault) = Unit {0}
+
+-- the bytes of a script give one answer, where memory is not refused: a fault or a report
+abbrev pub OneAnswer : Type 0
+OneAnswer = (input : List ℕ) (a b : Result ReportFacts ScriptFault) → RunsTo input a → RunsTo input b → IsFed a → IsFed b → a ≡ b

@@ -1,0 +1,93 @@
+-- The lines of a report. Each ends with a newline.
+use Rattle.std.specs.Prelude.{◌≡◌, ℕ, ◌++◌, List, [], Option, Some, None, OnOk, Result, String, codes, slice_get, string_bytes}
+use Rattle.std.specs.declared.alloc.Global.{Global}
+use Rattle.std.specs.Fmt.{decimal}
+use Rattle.sysmem_memory.specs.Domain.{domain_name}
+use Rattle.sysmem_memory.specs.Heap.{HeapFacts}
+use Rattle.sysmem_formats.specs.declared.colour_space.ColourSpace.{ColourSpace}
+use Rattle.sysmem_formats.specs.declared.offer.Offer.{Offer}
+use Rattle.sysmem_formats.specs.declared.offer.Offer.TheVariants.{NoImage, Image}
+use Rattle.sysmem_formats.specs.declared.offer.Pair.{Pair}
+use Rattle.sysmem_formats.specs.Names.{colour_name, format_name, modifier_name}
+use Rattle.sysmem_image.specs.declared.size.Corner.{Corner}
+use Rattle.sysmem_merge.specs.declared.settings.Settings.{Settings}
+use Rattle.sysmem_sanitise.specs.Platform.{PlatformFacts}
+use Rattle.sysmem_sanitise.specs.Faults.{fault_text}
+use Rattle.script_run.specs.declared.reply.Refusal.{Refusal}
+use Rattle.script_run.specs.declared.reply.Refusal.TheVariants as refusals
+use Rattle.script_run.specs.declared.reply.Reply.{Reply}
+use Rattle.script_run.specs.declared.reply.Reply.TheVariants.{Accepted, Refused, Misread, Skipped}
+use Rattle.script_run.specs.declared.verdict.Verdict.{Verdict}
+use Rattle.script_run.specs.declared.verdict.Verdict.TheVariants.{Chosen, Empty, NoMemory}
+use Rattle.script_reading.specs.Call.{ActFacts, duplicates, binds, states, releases, checks}
+use Rattle.script_reading.specs.Script.{CallFacts}
+
+abbrev pub refusal_text : Refusal → List ℕ
+refusal_text refusals.NoMemory = codes "E1 NoMemory"
+refusal_text refusals.WrongState = codes "E2 WrongState"
+refusal_text refusals.TooManyNodes = codes "E3 TooManyNodes"
+refusal_text refusals.DomainFailed = codes "E6 DomainFailed"
+refusal_text refusals.ConstraintsIntersectionEmpty = codes "E7 ConstraintsIntersectionEmpty"
+refusal_text refusals.Pending = codes "E9 Pending"
+
+abbrev pub reply_text : Reply → List ℕ
+reply_text Accepted = codes "ok"
+reply_text (Refused refusal) = refusal_text refusal
+reply_text (Misread fault) = fault_text fault
+reply_text Skipped = codes "skipped"
+
+-- the call's name
+abbrev pub act_name : ActFacts → List ℕ
+act_name (duplicates name) = codes "duplicate"
+act_name binds = codes "bind"
+act_name (states constraints) = codes "set_constraints"
+act_name releases = codes "release"
+act_name checks = codes "check"
+
+-- the name that the call gives, behind a space
+abbrev pub new_name : ActFacts → List ℕ
+new_name (duplicates name) = codes " " ++ name
+new_name _ = []
+
+-- `7 duplicate root a ok`
+abbrev pub call_line : ℕ → CallFacts → Reply → List ℕ
+call_line number r reply = decimal number ++ codes " " ++ act_name r.act ++ codes " " ++ r.on ++ new_name r.act ++ codes " " ++ reply_text reply ++ codes "\n"
+
+-- `ram#0`, of the heap of a place
+abbrev pub heap_text : Option HeapFacts → List ℕ
+heap_text (Some h) = h.heap.heap_type ++ codes "#" ++ decimal h.heap.id
+heap_text None = []
+
+-- `NV12 LINEAR REC709 `
+abbrev pub format_text : Pair → ColourSpace → List ℕ
+format_text pair colour = format_name pair.format ++ codes " " ++ modifier_name pair.modifier ++ codes " " ++ colour_name colour ++ codes " "
+
+-- `1920x1088 row 1920`: width and height in pixels, the row in bytes
+abbrev pub corner_text : Corner → List ℕ
+corner_text k = decimal k.width ++ codes "x" ++ decimal k.height ++ codes " row " ++ decimal k.bytes_per_row
+
+-- `NV12 LINEAR REC709 1920x1088 row 1920`, of the smallest image, or `none`
+abbrev pub image_text : Offer → Corner → List ℕ
+image_text NoImage k = codes "none"
+image_text (Image pair colour) k = format_text pair colour ++ corner_text k
+
+-- `count 2 size 4096 place ram#0 cpu image `
+abbrev pub settings_text : PlatformFacts → Settings → List ℕ
+settings_text platform s = (codes "count " ++ decimal s.count ++ codes " size " ++ decimal s.size_bytes ++ codes " place ")
+    ++ heap_text (slice_get platform.heaps s.place.heap)
+    ++ (codes " " ++ domain_name s.place.coherency ++ codes " image ")
+
+-- the line of the domain of the root token, which has no groups to select from
+abbrev pub verdict_line : PlatformFacts → Verdict → List ℕ
+verdict_line platform (Chosen s k) = codes "domain / chosen - " ++ settings_text platform s ++ image_text s.offer k ++ codes "\n"
+verdict_line platform Empty = codes "domain / empty\n"
+verdict_line platform NoMemory = codes "domain / no_memory\n"
+
+-- the last line of a report whose domain has no verdict
+abbrev pub pending_lines : Option Verdict → List ℕ
+pending_lines None = codes "domain / pending\n"
+pending_lines (Some verdict) = []
+
+-- where the result is Ok, the line was put behind the text
+abbrev pub Puts : {T E : Type 0} → Result T E → String Global → String Global → List ℕ → Type 0
+Puts result old new line = OnOk result (string_bytes new ≡ string_bytes old ++ line)

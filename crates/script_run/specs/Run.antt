@@ -1,0 +1,37 @@
+-- What a run has done, by how it ended.
+use Rattle.std.specs.Prelude.{◌≡◌, ◌≢◌, ◌↔◌, ℕ, List, [], Bool, true, false, Option, Result, Ok, Err, IfSome}
+use Rattle.std.specs.Io.KnownBytes.{Appends}
+use Rattle.byte_transfer.specs.Transfer.{WritesFront}
+use Rattle.script_reading.specs.declared.fault.ScriptFault.{ScriptFault}
+use Rattle.script_run.specs.declared.fault.RunFault.{RunFault}
+use Rattle.script_run.specs.declared.fault.RunFault.TheVariants.{Write, Script}
+use Rattle.script_run.specs.declared.running.Ended.{Ended}
+use Rattle.script_run.specs.declared.running.Ended.TheVariants.{Done, MemoryRefused, CheckedNo}
+use Rattle.script_run.specs.Outcome.{ReportFacts, RunsTo}
+
+-- a report of the bytes was written, in which memory was refused or not
+pub record Writes (input : List ℕ) (starved : Bool) (before after : Option (List ℕ)) : Type 0 where
+  pub text : List ℕ
+  pub report : RunsTo input (Ok (record { text = text; starved = starved }))
+  pub written : Appends before after text
+
+-- a prefix of a report of the bytes was written
+pub record WritesPart (input : List ℕ) (before after : Option (List ℕ)) : Type 0 where
+  pub report : ReportFacts
+  pub runs : RunsTo input (Ok report)
+  pub front : WritesFront before after report.text
+
+-- what the reader had, where it tells it, and what the writer held before and after, where it tells that
+pub record Ran (result : Result Ended RunFault) (had before after : Option (List ℕ)) : Type 0 where
+  pub done : result ≡ Ok Done → IfSome had (λ input. Writes input false before after)
+  pub starved : result ≡ Ok MemoryRefused → IfSome had (λ input. Writes input true before after)
+  pub unchecked : result ≢ Ok CheckedNo
+  pub refused : (fault : ScriptFault) → result ≡ Err (Script fault)
+      → IfSome had (λ input. RunsTo input (Err fault))
+  pub front : result ≡ Err Write → IfSome had (λ input. WritesPart input before after)
+  pub unwritten : (fault : RunFault) → result ≡ Err fault → fault ≢ Write → Appends before after []
+
+-- the fault is answered exactly where the count of failures changed, and else the count stays
+pub record IsCausedBy (fault : Type 0) (old new : ℕ) : Type 0 where
+  pub cause : fault ↔ (new ≢ old)
+  pub kept : (¬ fault) → new ≡ old

@@ -1,0 +1,55 @@
+//! The faults that end a run.
+ghost use Rattle.std.specs.Prelude.{◌≡◌};
+ghost use Rattle.script_run.specs.Faults.{fault_of_parse, fault_of_read};
+ghost use Rattle.script_run.specs.declared.fault.RunFault.TheVariants.{Write};
+
+use byte_transfer::{ReadFault, WriteFault};
+use script_reading::{ParseFault, ScriptFault};
+use thiserror::Error;
+
+/// Why a run ended before its report was written.
+#[derive(Clone, Copy, Debug, PartialEq, Eq, Error)]
+pub enum RunFault {
+    /// A reader gave an error.
+    #[error("read fault")]
+    Read,
+    /// A writer gave an error, or took no byte.
+    #[error("write fault")]
+    Write,
+    /// A growth was refused.
+    #[error("no memory")]
+    NoMemory,
+    /// The script is refused.
+    #[error("script refused: {0}")]
+    Script(ScriptFault),
+}
+
+impl From<ReadFault> for RunFault {
+    ghost from_gives = { λ fault e. e ≡ fault_of_read fault };
+
+    fn from(fault: ReadFault) -> RunFault {
+        match fault {
+            ReadFault::Failed => RunFault::Read,
+            ReadFault::NoMemory => RunFault::NoMemory,
+        }
+    }
+}
+
+impl From<WriteFault> for RunFault {
+    ghost from_gives = { λ _ e. e ≡ Write };
+
+    fn from(_fault: WriteFault) -> RunFault {
+        RunFault::Write
+    }
+}
+
+impl From<ParseFault> for RunFault {
+    ghost from_gives = { λ fault e. e ≡ fault_of_parse fault };
+
+    fn from(fault: ParseFault) -> RunFault {
+        match fault {
+            ParseFault::NoMemory => RunFault::NoMemory,
+            ParseFault::Refused(refused) => RunFault::Script(refused),
+        }
+    }
+}

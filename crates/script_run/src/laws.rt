@@ -1,0 +1,21 @@
+//! What is true of reports, whoever writes them.
+
+ghost use Rattle.script_run.specs.Laws.{OneAnswer, OneReport};
+
+use sysmem_image::laws::corner_is_least;
+use sysmem_merge::laws::one_best;
+
+/// The calls of a script have one report on a platform, where memory is not refused.
+pub fn one_report()
+    ensures { OneReport }
+{
+    one_best();
+    corner_is_least();
+}
+
+/// The bytes of a script give one answer, where memory is not refused: a fault, or a report.
+pub fn one_answer()
+    ensures { OneAnswer }
+{
+    one_report();
+}

@@ -1,0 +1,93 @@
+//! A script's run, from its bytes to its report.
+
+ghost use Rattle.std.specs.Prelude.{◌≡◌, [], Err, IfOk, IfErr};
+ghost use Rattle.std.specs.Io.KnownBytes.{Appends};
+ghost use Rattle.std.specs.String.{string_bytes};
+ghost use Rattle.serde_json.specs.View.{view};
+ghost use Rattle.script_reading.specs.Faults.{GivesOneOf};
+ghost use Rattle.script_reading.specs.Seen.{script_seen};
+ghost use Rattle.script_run.specs.Outcome.{RunsTo, ValueRunsTo, report_seen};
+ghost use Rattle.script_run.specs.Report.{IsReport};
+ghost use Rattle.script_run.specs.Run.{IsCausedBy, Ran};
+ghost use Rattle.script_run.specs.State.{first_state};
+
+use crate::fault::RunFault;
+use crate::report::{Report, report_of};
+use byte_transfer::{Sink, Source, read_up_to_limit, write_fully};
+use script_reading::{LONGEST, ParseFault, Script, parse_script, read_script};
+use serde_json::Value;
+use std::alloc::Global;
+
+/// How a run ends that wrote its whole report.
+#[derive(Clone, Copy, Debug, PartialEq, Eq)]
+pub enum Ended {
+    /// The report is written.
+    Done,
+    /// The report is written, and says that memory was refused.
+    MemoryRefused,
+    /// The report is written, and says that a certificate is wrong.
+    CheckedNo,
+}
+
+/// Reads a script, makes its calls, and writes their report. Nothing is written to `proof`.
+///
+/// Any failure of the reader is the fault `Read`, and any of the writer the fault `Write`; what was written then is a
+/// prefix of the report. No other fault is called so. A script that is refused writes nothing.
+pub fn run<R: Source, W: Sink, P: Sink>(
+    alloc: Global,
+    reader: &mut R,
+    writer: &mut W,
+    _proof: &mut P,
+) -> Result<Ended, RunFault>
+    ensures ran { Ran result
+        (R.remaining reader.old) (W.contents writer.old) (W.contents writer.new) }
+    ensures read_fault { IsCausedBy (result ≡ Err RunFault.Read)
+        (R.failures reader.old) (R.failures reader.new) }
+    ensures write_fault { IsCausedBy (result ≡ Err RunFault.Write)
+        (W.failures writer.old) (W.failures writer.new) }
+    ensures uncertified { Appends (P.contents _proof.old) (P.contents _proof.new) [] }
+    ensures untried { P.failures _proof.new ≡ P.failures _proof.old }
+{
+    let bytes = read_up_to_limit(alloc, reader, LONGEST)?;
+    let report = report_on(alloc, &bytes)?;
+    write_fully(writer, report.text.as_bytes())?;
+    if report.starved {
+        return Ok(Ended::MemoryRefused);
+    }
+    Ok(Ended::Done)
+}
+
+/// The report of a script's bytes.
+fn report_on(alloc: Global, bytes: &[u8]) -> Result<Report, ParseFault>
+    ensures { GivesOneOf report_seen result (RunsTo bytes.now) }
+{
+    match parse_script(alloc, bytes) {
+        Ok(value) => report_on_value(alloc, &value),
+        Err(fault) => Err(fault),
+    }
+}
+
+/// The report of a script's value.
+fn report_on_value(alloc: Global, value: &Value) -> Result<Report, ParseFault>
+    ensures { GivesOneOf report_seen result (ValueRunsTo (view value.now)) }
+{
+    match read_script(alloc, value) {
+        Ok(script) => report_on_script(alloc, &script),
+        Err(fault) => Err(fault),
+    }
+}
+
+fn report_on_script(alloc: Global, script: &Script<'_>) -> Result<Report, ParseFault>
+    ensures report { IfOk result (λ report. IsReport
+        (script_seen script.now).platform 1 first_state (script_seen script.now).calls
+        (string_bytes report.text) report.starved) }
+    ensures fault { IfErr result (λ fault. fault ≡ ParseFault.NoMemory) }
+{
+    match report_of(alloc, &script.platform, &script.calls) {
+        Ok(report) => Ok(report),
+        Err(_) => Err(ParseFault::NoMemory),
+    }
+}
+
+#[cfg(test)]
+mod tests;

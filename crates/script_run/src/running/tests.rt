@@ -1,0 +1,147 @@
+//! Runs whose script is cut, and whose reader or writer fails. What whole scripts print is in `tests/`.
+use super::*;
+use byte_transfer::Counted;
+use script_reading::ScriptFault;
+use std::io::{self, Read, Write};
+
+const SCRIPT: &str =
+    r#"{"platform":{"heaps":[{"heap_type":"ram","domains":["cpu"]}],"pairs":[{"pixel_format":"R8"}],"color_spaces":["SRGB"]},"calls":[{"call":"bind","on":"root"},{"call":"set_constraints","on":"root"}]}"#;
+
+const REPORT: &str =
+    "1 bind root ok\n2 set_constraints root ok\ndomain / chosen - count 1 size 1 place ram#0 cpu image none\n";
+
+// Counts what is asked of it.
+#[derive(Drop)]
+struct Untouched {
+    calls: usize,
+}
+
+impl Write for Untouched {
+    fn write(&mut self, buf: &[u8]) -> io::Result<usize> {
+        self.calls = self.calls.saturating_add(1);
+        Ok(buf.len())
+    }
+
+    fn flush(&mut self) -> io::Result<()> {
+        self.calls = self.calls.saturating_add(1);
+        Ok(())
+    }
+}
+
+#[test]
+fn leaves_the_certificate_alone(rt: HostRuntime) {
+    let mut reader = Counted::new(SCRIPT.as_bytes());
+    let mut writer = Counted::new(Vec::new(rt.alloc()));
+    let mut proof = Counted::new(Untouched { calls: 0 });
+    let ended = run(rt.alloc(), &mut reader, &mut writer, &mut proof);
+    assert_eq!(rt; ended, Ok(Ended::Done));
+    assert_eq!(rt; writer.inner.as_slice(), REPORT.as_bytes());
+    assert_eq!(rt; proof.inner.calls, 0);
+}
+
+// A script that is cut at any length is no JSON, and nothing is printed.
+#[test]
+fn cut_script(rt: HostRuntime) {
+    for length in 0..SCRIPT.len() {
+        let mut reader = Counted::new(&SCRIPT.as_bytes()[..length]);
+        let mut writer = Counted::new(Vec::new(rt.alloc()));
+        let mut proof = Counted::new(io::sink());
+        let ended = run(rt.alloc(), &mut reader, &mut writer, &mut proof);
+        assert_eq!(rt; ended, Err(RunFault::Script(ScriptFault::NotJson)));
+        assert_eq!(rt; writer.inner.len(), 0);
+    }
+}
+
+#[derive(Drop)]
+struct FailingReader<'a> {
+    bytes: &'a [u8],
+    calls_left: usize,
+}
+
+impl Read for FailingReader<'_> {
+    fn read(&mut self, buf: &mut [u8]) -> io::Result<usize> {
+        if self.calls_left == 0 {
+            return Err(io::Error::from(io::ErrorKind::Interrupted));
+        }
+        self.calls_left -= 1;
+        let count = self.bytes.len().min(buf.len()).min(100);
+        buf[..count].copy_from_slice(&self.bytes[..count]);
+        self.bytes = &self.bytes[count..];
+        Ok(count)
+    }
+}
+
+// A reader that fails at its kth call is a read fault for each k, until it is read to its end.
+#[test]
+fn failing_reader(rt: HostRuntime) {
+    let needed = SCRIPT.len().div_ceil(100) + 1;
+    for calls_left in 0..=needed {
+        let mut reader = Counted::new(FailingReader {
+            bytes: SCRIPT.as_bytes(),
+            calls_left,
+        });
+        let mut writer = Counted::new(Vec::new(rt.alloc()));
+        let mut proof = Counted::new(io::sink());
+        let ended = run(rt.alloc(), &mut reader, &mut writer, &mut proof);
+        if calls_left == needed {
+            assert_eq!(rt; ended, Ok(Ended::Done));
+            assert_eq!(rt; reader.failures, 0);
+        } else {
+            assert_eq!(rt; ended, Err(RunFault::Read));
+            assert_eq!(rt; reader.failures, 1);
+            assert_eq!(rt; writer.inner.len(), 0);
+        }
+    }
+}
+
+#[derive(Drop)]
+struct FailingWriter {
+    taken: Vec<u8>,
+    calls_left: usize,
+    gives_error: bool,
+}
+
+impl Write for FailingWriter {
+    fn write(&mut self, buf: &[u8]) -> io::Result<usize> {
+        if self.calls_left == 0 {
+            if self.gives_error {
+                return Err(io::Error::from(io::ErrorKind::Interrupted));
+            }
+            return Ok(0);
+        }
+        self.calls_left -= 1;
+        let count = buf.len().min(1);
+        self.taken.extend_from_slice(&buf[..count])?;
+        Ok(count)
+    }
+
+    fn flush(&mut self) -> io::Result<()> {
+        Ok(())
+    }
+}
+
+// A writer that takes one byte a call, and at its kth call fails or takes none: the report's first k bytes are written.
+#[test]
+fn failing_writer(rt: HostRuntime) {
+    for calls_left in 0..=REPORT.len() {
+        let mut writer = Counted::new(FailingWriter {
+            taken: Vec::new(rt.alloc()),
+            calls_left,
+            gives_error: calls_left % 2 == 0,
+        });
+        let mut reader = Counted::new(SCRIPT.as_bytes());
+        let mut proof = Counted::new(io::sink());
+        let ended = run(rt.alloc(), &mut reader, &mut writer, &mut proof);
+        if calls_left == REPORT.len() {
+            assert_eq!(rt; ended, Ok(Ended::Done));
+            assert_eq!(rt; writer.failures, 0);
+        } else {
+            assert_eq!(rt; ended, Err(RunFault::Write));
+            assert_eq!(rt; writer.failures, 1);
+        }
+        assert_eq!(rt;
+            writer.inner.taken.as_slice(),
+            &REPORT.as_bytes()[..calls_left]
+        );
+    }
+}

@@ -1,0 +1,2 @@
+-- What the proofs of other crates use of counts.
+pub use Rattle.sysmem_counts.proofs.Counts.{counted_some, line_of_some, line_sound, tally_in_order}

@@ -1,0 +1,63 @@
+-- What callers need of bounds, corners and lines: the laws as lemmas, and a few more.
+use Rattle.std.proofs.Common.{◌≡◌, List, []}
+use Rattle.sysmem_counts.specs.declared.field.Field.{Field}
+use Rattle.sysmem_formats.specs.declared.offer.Offer.{Offer}
+use Rattle.sysmem_image.specs.declared.bounds.ImageBounds.{ImageBounds}
+use Rattle.sysmem_image.specs.Bounds.{IsTighter, IsOwn, IsFirstFailing}
+use Rattle.sysmem_image.specs.Fields.{Bound, Side, KeepsEach, value}
+use Rattle.sysmem_image.specs.Merged.{MergedOf}
+use Rattle.sysmem_image.specs.Laws.{MergedIsExact, MergedSuits, TighterIsReflexive, LooserAdmits, LinesHold, SteadyLines, SoundFits, MergedReads}
+use Rattle.sysmem_image.proofs.Meets as meets
+use Rattle.sysmem_image.proofs.Rows as rows
+use Rattle.sysmem_image.proofs.Exact as exact
+use Rattle.sysmem_image.proofs.Sound as sound
+use Rattle.sysmem_image.proofs.Steps as steps
+use Rattle.sysmem_image.proofs.Readings as readings
+
+-- bounds keep to themselves
+pub tighter_refl : TighterIsReflexive
+tighter_refl = meets.tighter_refl
+
+-- bounds that keep to each other have the same numbers
+pub tighter_both : (a b : ImageBounds) → IsTighter a b → IsTighter b a → (f : Bound) (side : Side) → value f side a ≡ value f side b
+tighter_both = meets.tighter_both
+
+-- bounds that keep to others keep to them in each field of a list
+pub keeps_each : (fs : List Bound) (a b : ImageBounds) → IsTighter a b → KeepsEach fs a b
+keeps_each = meets.keeps_each
+
+-- bounds that fail in a field don't keep to the others
+pub not_tighter : (f : Field) (a b : ImageBounds) → IsFirstFailing f a b → ¬ IsTighter a b
+not_tighter f a b failing = λ t. failing.fails (t failing.bound)
+
+-- bounds keep to merged bounds exactly where they keep to each of the list
+pub merged_exact : MergedIsExact
+merged_exact = exact.merged_exact
+
+-- merged bounds suit the offer
+pub merged_suits : MergedSuits
+merged_suits = exact.merged_suits
+
+-- bounds that stand for no others are the offer's own
+pub merged_own : (o : Offer) (b : ImageBounds) → MergedOf o [] b → IsOwn o b
+merged_own = rows.merged_own
+
+-- looser bounds admit what tighter ones admit
+pub looser_admits : LooserAdmits
+looser_admits = exact.looser_admits
+
+-- a true line leaves no sound bounds that keep to the fields that it reads
+pub line_holds : LinesHold
+line_holds = sound.line_holds
+
+-- a line about a common multiple stays true of a longer list
+pub steady_line : SteadyLines
+steady_line = steps.steady_line
+
+-- the image of sound bounds is as a list asks to whose fields they keep
+pub fits_image : SoundFits
+fits_image = sound.fits_image
+
+-- what a corner reads of merged bounds is what it reads of the list
+pub merged_reads : MergedReads
+merged_reads = readings.merged_reads

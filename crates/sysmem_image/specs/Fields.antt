@@ -1,0 +1,146 @@
+-- The table of image bounds: its fields, and in a column each what it says of them.
+use Rattle.std.specs.Prelude.{ℕ, ◌≤◌, List, [], ◌∷◌, nat_lt}
+use Rattle.std.specs.Int.{◌∣◌}
+use Rattle.std.specs.List.{filter}
+use Rattle.sysmem_counts.specs.declared.field.Field.{Field}
+use Rattle.sysmem_counts.specs.declared.field.Field.TheVariants as field
+use Rattle.sysmem_formats.specs.declared.offer.Offer.{Offer}
+use Rattle.sysmem_formats.specs.Layout.{width_alignment_of, height_alignment_of, row_divisor_of}
+use Rattle.sysmem_image.specs.declared.bounds.ImageBounds.{ImageBounds}
+
+-- a field of image bounds
+pub data Bound : Type 0 where
+  MinSize : Bound
+  MaxSize : Bound
+  SizeAlignment : Bound
+  MinBytesPerRow : Bound
+  MaxBytesPerRow : Bound
+  BytesPerRowDivisor : Bound
+  StartOffsetDivisor : Bound
+  DisplayRectAlignment : Bound
+  RequiredMinSize : Bound
+  RequiredMaxSize : Bound
+  MaxWidthTimesHeight : Bound
+
+-- a dimension of a size; a field of one number has it in both
+pub data Side : Type 0 where
+  Width : Side
+  Height : Side
+
+-- what two values are merged to
+pub data Rule : Type 0 where
+  Greatest : Rule
+  Least : Rule
+  Multiple : Rule
+
+-- the fields in the table's order
+abbrev pub all_bounds : List Bound
+all_bounds = MinSize ∷ MaxSize ∷ SizeAlignment ∷ MinBytesPerRow ∷ MaxBytesPerRow ∷ BytesPerRowDivisor
+    ∷ StartOffsetDivisor ∷ DisplayRectAlignment ∷ RequiredMinSize ∷ RequiredMaxSize ∷ MaxWidthTimesHeight ∷ []
+
+-- its number in the table
+abbrev pub number_of : Bound → ℕ
+number_of MinSize = 21
+number_of MaxSize = 22
+number_of SizeAlignment = 23
+number_of MinBytesPerRow = 24
+number_of MaxBytesPerRow = 25
+number_of BytesPerRowDivisor = 26
+number_of StartOffsetDivisor = 27
+number_of DisplayRectAlignment = 28
+number_of RequiredMinSize = 29
+number_of RequiredMaxSize = 30
+number_of MaxWidthTimesHeight = 31
+
+-- its name
+abbrev pub field_of : Bound → Field
+field_of MinSize = field.MinSize
+field_of MaxSize = field.MaxSize
+field_of SizeAlignment = field.SizeAlignment
+field_of MinBytesPerRow = field.MinBytesPerRow
+field_of MaxBytesPerRow = field.MaxBytesPerRow
+field_of BytesPerRowDivisor = field.BytesPerRowDivisor
+field_of StartOffsetDivisor = field.StartOffsetDivisor
+field_of DisplayRectAlignment = field.DisplayRectAlignment
+field_of RequiredMinSize = field.RequiredMinSize
+field_of RequiredMaxSize = field.RequiredMaxSize
+field_of MaxWidthTimesHeight = field.MaxWidthTimesHeight
+
+-- its value in a dimension
+abbrev pub value : Bound → Side → ImageBounds → ℕ
+value MinSize Width b = b.min_size.width
+value MinSize Height b = b.min_size.height
+value MaxSize Width b = b.max_size.width
+value MaxSize Height b = b.max_size.height
+value SizeAlignment Width b = b.size_alignment.width
+value SizeAlignment Height b = b.size_alignment.height
+value MinBytesPerRow _ b = b.min_bytes_per_row
+value MaxBytesPerRow _ b = b.max_bytes_per_row
+value BytesPerRowDivisor _ b = b.bytes_per_row_divisor
+value StartOffsetDivisor _ b = b.start_offset_divisor
+value DisplayRectAlignment Width b = b.display_rect_alignment.width
+value DisplayRectAlignment Height b = b.display_rect_alignment.height
+value RequiredMinSize Width b = b.required_min_size.width
+value RequiredMinSize Height b = b.required_min_size.height
+value RequiredMaxSize Width b = b.required_max_size.width
+value RequiredMaxSize Height b = b.required_max_size.height
+value MaxWidthTimesHeight _ b = b.max_width_times_height
+
+-- what its values are merged to
+abbrev pub rule_of : Bound → Rule
+rule_of MinSize = Greatest
+rule_of MaxSize = Least
+rule_of SizeAlignment = Multiple
+rule_of MinBytesPerRow = Greatest
+rule_of MaxBytesPerRow = Least
+rule_of BytesPerRowDivisor = Multiple
+rule_of StartOffsetDivisor = Multiple
+rule_of DisplayRectAlignment = Multiple
+rule_of RequiredMinSize = Least
+rule_of RequiredMaxSize = Greatest
+rule_of MaxWidthTimesHeight = Least
+
+-- its greatest value
+abbrev pub most : Bound → ℕ
+most MaxWidthTimesHeight = 18446744073709551615
+most _ = 4294967295
+
+-- its value where it isn't given
+abbrev pub absent : Bound → ℕ
+absent MinSize = 1
+absent MaxSize = 4294967295
+absent SizeAlignment = 1
+absent MinBytesPerRow = 1
+absent MaxBytesPerRow = 4294967295
+absent BytesPerRowDivisor = 1
+absent StartOffsetDivisor = 1
+absent DisplayRectAlignment = 1
+absent RequiredMinSize = 4294967295
+absent RequiredMaxSize = 0
+absent MaxWidthTimesHeight = 18446744073709551615
+
+-- an offer's own value, where no entry gives any
+abbrev pub own_value : Offer → Bound → Side → ℕ
+own_value o SizeAlignment Width = width_alignment_of o
+own_value o SizeAlignment Height = height_alignment_of o
+own_value o BytesPerRowDivisor _ = row_divisor_of o
+own_value o f _ = absent f
+
+-- the fields that stand before it in the table
+abbrev pub fields_before : Bound → List Bound
+fields_before f = filter (λ g. nat_lt (number_of g) (number_of f)) all_bounds
+
+-- n keeps to m
+abbrev pub Keeps : Rule → ℕ → ℕ → Type 0
+Keeps Greatest m n = m ≤ n
+Keeps Least m n = n ≤ m
+Keeps Multiple m n = m ∣ n
+
+-- the bounds a keep to the bounds b in a field: in both dimensions
+abbrev pub KeepsIn : Bound → ImageBounds → ImageBounds → Type 0
+KeepsIn f a b = (side : Side) → Keeps (rule_of f) (value f side b) (value f side a)
+
+-- the same in each field of a list
+abbrev pub KeepsEach : List Bound → ImageBounds → ImageBounds → Type 0
+KeepsEach [] a b = Unit {0}
+KeepsEach (f ∷ fs) a b = KeepsIn f a b × KeepsEach fs a b

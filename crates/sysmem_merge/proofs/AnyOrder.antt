@@ -1,0 +1,153 @@
+-- What stands for participants stands for them in any order.
+use Rattle.std.proofs.Common.{ℕ, ◌≡◌, ◌≤◌, ◌<◌, ◌^◌, ◌&&◌, Bool, true, false, List, All, Any, inl, inr, refl, sym, ap, ◌∙◌}
+use Rattle.std.proofs.lemmas.List.Sorted.{All-permutation, Contains-permutation, IsPermutation-map, IsPermutation-sym, list_any-IsPermutation, length_permutation}
+use Rattle.std.proofs.lemmas.List.Sums.{AllPass-from_list_all, list_all-from_AllPass}
+use Rattle.std.specs.Int.{◌∣◌}
+use Rattle.std.specs.List.{list_all}
+use Rattle.std.specs.List.Sorted.{IsPermutation}
+use Rattle.sysmem_counts.proofs.CallerLemmas.{tally_in_order}
+use Rattle.sysmem_counts.specs.declared.constraints.CountConstraints.{CountConstraints}
+use Rattle.sysmem_counts.specs.declared.field.Field.TheVariants.{PixelFormat, ColorSpaces, SizeAlignment, BytesPerRowDivisor, StartOffsetDivisor, DisplayRectAlignment}
+use Rattle.sysmem_formats.specs.declared.offer.Offer.{Offer}
+use Rattle.sysmem_image.specs.declared.bounds.ImageBounds.{ImageBounds}
+use Rattle.sysmem_image.specs.Entries.{first_match}
+use Rattle.sysmem_image.specs.Lines.{NoCommon}
+use Rattle.sysmem_image.specs.Merged.{IsMergeOf, MergedOf}
+use Rattle.sysmem_memory.specs.Domain.{has_domain}
+use Rattle.sysmem_merge.specs.declared.kept.KeptBounds.{KeptBounds}
+use Rattle.sysmem_merge.specs.declared.kept.KeptBounds.TheVariants.{Merged, Refused}
+use Rattle.sysmem_merge.specs.declared.kept.KeptOffer.{KeptOffer}
+use Rattle.sysmem_merge.specs.Aggregate.{AreSizes, IsListed, AreKeptBounds, IsKept}
+use Rattle.sysmem_merge.specs.Demands.{OfferDemand, counts_asked, place_demand, place_demands, offer_demand, offer_demands}
+use Rattle.sysmem_merge.specs.Laws.{StandsInAnyOrder}
+use Rattle.sysmem_merge.specs.Offers.{has_format, has_colour, Asks, bounds_asked, names_format, names_modifier, names_colour}
+use Rattle.sysmem_merge.specs.Reasons.{IsOfferLine}
+use Rattle.sysmem_sanitise.specs.Participant.{Participant}
+use Rattle.sysmem_merge.proofs.Asked.{asked_all, asked_each}
+
+-- two tests that pass together are one
+same_bool : (a b : Bool) → (a ≡ true → b ≡ true) → (b ≡ true → a ≡ true) → a ≡ b
+same_bool true true there back = refl
+same_bool true false there back = sym (there refl)
+same_bool false true there back = back refl
+same_bool false false there back = refl
+
+all_half : {X : Type 0} (p : X → Bool) (xs ys : List X) → IsPermutation xs ys → list_all p xs ≡ true → list_all p ys ≡ true
+all_half p xs ys order is = list_all-from_AllPass p ys (All-permutation (λ x. p x ≡ true) xs ys order (AllPass-from_list_all p xs is))
+
+all_in_order : {X : Type 0} (p : X → Bool) (xs ys : List X) → IsPermutation xs ys → list_all p xs ≡ list_all p ys
+all_in_order p xs ys order = same_bool (list_all p xs) (list_all p ys) (all_half p xs ys order) (all_half p ys xs (IsPermutation-sym xs ys order))
+
+any_in_order : {X : Type 0} (P : X → Type 0) (xs ys : List X) → IsPermutation xs ys → Any P xs → Any P ys
+any_in_order P xs ys order (k, x, below, is, p) = let at = Contains-permutation xs ys x order (k, below, is) in (at.0, x, at.1, at.2, p)
+
+-- what the bounds asked have, they have in another order
+bounds_in_order : (o : Offer) (P : ImageBounds → Type 0) (ds es : List OfferDemand) → IsPermutation ds es → All P (bounds_asked o ds) → All P (bounds_asked o es)
+bounds_in_order o P ds es order all = asked_all o P es (All-permutation (Asks o P) ds es order (asked_each o P ds all))
+
+merge_in_order : (R : ℕ → ℕ → Type 0) (own : ℕ) (f : ImageBounds → ℕ) (o : Offer) (ds es : List OfferDemand) (m : ℕ) → IsPermutation ds es
+    → IsMergeOf R own f (bounds_asked o ds) m → IsMergeOf R own f (bounds_asked o es) m
+merge_in_order R own f o ds es m order row = record {
+  suits = row.suits;
+  exactly = λ n keeps. (
+    λ r. bounds_in_order o (λ e. R (f e) n) ds es order ((row.exactly n keeps).0 r),
+    λ all. (row.exactly n keeps).1 (bounds_in_order o (λ e. R (f e) n) es ds (IsPermutation-sym ds es order) all),
+  );
+}
+
+merged_in_order : (o : Offer) (ds es : List OfferDemand) (b : ImageBounds) → IsPermutation ds es → MergedOf o (bounds_asked o ds) b → MergedOf o (bounds_asked o es) b
+merged_in_order o ds es b order m = record {
+  in_range = m.in_range;
+  min_width = merge_in_order _ _ _ o ds es _ order m.min_width;
+  min_height = merge_in_order _ _ _ o ds es _ order m.min_height;
+  max_width = merge_in_order _ _ _ o ds es _ order m.max_width;
+  max_height = merge_in_order _ _ _ o ds es _ order m.max_height;
+  width_step = merge_in_order _ _ _ o ds es _ order m.width_step;
+  height_step = merge_in_order _ _ _ o ds es _ order m.height_step;
+  min_row = merge_in_order _ _ _ o ds es _ order m.min_row;
+  max_row = merge_in_order _ _ _ o ds es _ order m.max_row;
+  row_step = merge_in_order _ _ _ o ds es _ order m.row_step;
+  start_step = merge_in_order _ _ _ o ds es _ order m.start_step;
+  display_width_step = merge_in_order _ _ _ o ds es _ order m.display_width_step;
+  display_height_step = merge_in_order _ _ _ o ds es _ order m.display_height_step;
+  required_min_width = merge_in_order _ _ _ o ds es _ order m.required_min_width;
+  required_min_height = merge_in_order _ _ _ o ds es _ order m.required_min_height;
+  required_max_width = merge_in_order _ _ _ o ds es _ order m.required_max_width;
+  required_max_height = merge_in_order _ _ _ o ds es _ order m.required_max_height;
+}
+
+none_in_order : (first : ℕ) (f : ImageBounds → ℕ) (o : Offer) (ds es : List OfferDemand) → IsPermutation ds es → NoCommon first f (bounds_asked o ds) → NoCommon first f (bounds_asked o es)
+none_in_order first f o ds es order none (n, c) = none (
+  n,
+  record {
+    some = c.some;
+    small = c.small;
+    own = c.own;
+    each = bounds_in_order o (λ e. f e ∣ n) es ds (IsPermutation-sym ds es order) c.each;
+  },
+)
+
+kept_bounds_in_order : (o : Offer) (ds es : List OfferDemand) (kept : KeptBounds) → IsPermutation ds es → AreKeptBounds o ds kept → AreKeptBounds o es kept
+kept_bounds_in_order o ds es (Merged b) order are = (merged_in_order o ds es b order are.0, All-permutation (IsListed o) ds es order are.1)
+kept_bounds_in_order o ds es (Refused PixelFormat) order are = (are.0, any_in_order (λ d. has_format o d ≡ false) ds es order are.1)
+kept_bounds_in_order o ds es (Refused ColorSpaces) order are = (are.0, any_in_order (λ d. has_colour o d ≡ false) ds es order are.1)
+kept_bounds_in_order o ds es (Refused SizeAlignment) order are = (
+  are.0,
+  elim are.1 as (λ _. IsOfferLine SizeAlignment o es) [
+    | inl none ↦ inl (none_in_order _ _ o ds es order none)
+    | inr none ↦ inr (none_in_order _ _ o ds es order none)
+  ],
+)
+kept_bounds_in_order o ds es (Refused BytesPerRowDivisor) order are = (are.0, none_in_order _ _ o ds es order are.1)
+kept_bounds_in_order o ds es (Refused StartOffsetDivisor) order are = (are.0, none_in_order _ _ o ds es order are.1)
+kept_bounds_in_order o ds es (Refused DisplayRectAlignment) order are = (
+  are.0,
+  elim are.1 as (λ _. IsOfferLine DisplayRectAlignment o es) [
+    | inl none ↦ inl (none_in_order _ _ o ds es order none)
+    | inr none ↦ inr (none_in_order _ _ o ds es order none)
+  ],
+)
+kept_bounds_in_order o ds es (Refused _) order are = absurd are.0
+
+kept_in_order : (o : Offer) (ds es : List OfferDemand) (kept : KeptOffer) → IsPermutation ds es → IsKept o ds kept → IsKept o es kept
+kept_in_order o ds es kept order is = record {
+  bounds = kept_bounds_in_order o ds es kept.bounds order is.bounds;
+  format = is.format ∙ list_any-IsPermutation (λ d. names_format (first_match o d.entries)) ds es order;
+  modifier = is.modifier ∙ list_any-IsPermutation (λ d. names_modifier (first_match o d.entries)) ds es order;
+  colour = is.colour ∙ list_any-IsPermutation (λ d. names_colour o (first_match o d.entries)) ds es order;
+}
+
+sizes_in_order : (ds es : List OfferDemand) (low high : ℕ) → IsPermutation ds es → AreSizes ds low high → AreSizes es low high
+sizes_in_order ds es low high order s = record {
+  low = λ n. (
+    λ within. All-permutation (λ d. d.min_size_bytes ≤ n) ds es order ((s.low n).0 within),
+    λ all. (s.low n).1 (All-permutation (λ d. d.min_size_bytes ≤ n) es ds (IsPermutation-sym ds es order) all),
+  );
+  high = λ n small. (
+    λ within. All-permutation (λ d. n ≤ d.max_size_bytes) ds es order ((s.high n small).0 within),
+    λ all. (s.high n small).1 (All-permutation (λ d. n ≤ d.max_size_bytes) es ds (IsPermutation-sym ds es order) all),
+  );
+}
+
+-- what stands for participants stands for them in any order
+pub stands_in_order : StandsInAnyOrder
+stands_in_order kept platform ps qs order stands =
+    let asked = IsPermutation-map (λ (p : Participant). p.counts) ps qs order in
+    let offered = IsPermutation-map offer_demand ps qs order in record {
+      on = stands.on;
+      counts = record {
+        tallied = stands.counts.tallied ∙ tally_in_order (counts_asked ps) (counts_asked qs) asked;
+        fits = All-permutation (λ (q : CountConstraints). q.max_buffer_count < 2 ^ 32) (counts_asked ps) (counts_asked qs) asked stands.counts.fits;
+      };
+      places = record {
+        limit = stands.places.limit;
+        exactly = λ k h s d here got. stands.places.exactly k h s d here got
+            ∙ ap (λ b. has_domain h.domains d && b) (all_in_order _ (place_demands ps) (place_demands qs) (IsPermutation-map place_demand ps qs order));
+      };
+      offers = record {
+        many = stands.offers.many;
+        each = λ k o one here got. kept_in_order o (offer_demands ps) (offer_demands qs) one offered (stands.offers.each k o one here got);
+      };
+      sizes = sizes_in_order (offer_demands ps) (offer_demands qs) kept.least_size kept.greatest_size offered stands.sizes;
+      many = stands.many ∙ sym (length_permutation ps qs order);
+    }

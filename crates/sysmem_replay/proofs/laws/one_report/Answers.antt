@@ -1,5 +1,0 @@
-use Rattle.sysmem_replay.proofs.Unique.{one_report}
-use Rattle.sysmem_replay.proofs.laws.one_report.Goals as goal
-
-pub returns : goal.returns
-returns c = one_report c.one_best.ensures c.corner_is_least.ensures

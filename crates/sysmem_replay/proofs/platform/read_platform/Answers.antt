@@ -1,6 +1,0 @@
-use Rattle.std.proofs.Common.{ap}
-use Rattle.sysmem_replay.specs.Platform.{script_says}
-use Rattle.sysmem_replay.proofs.platform.read_platform.Goals as goal
-
-pub returns-in-Ok : goal.returns-in-Ok
-returns-in-Ok c = ap script_says c.in-Ok.ensures.taken

@@ -1,9 +1,0 @@
-use Rattle.serde_json.specs.View.{view}
-use Rattle.sysmem_replay.proofs.Running.{runs-fault, runs-value}
-use Rattle.sysmem_replay.proofs.run.report_on.Goals as goal
-
-pub returns-in-Ok : goal.returns-in-Ok
-returns-in-Ok c = runs-value _ (view c.in-Ok.value) c.report_on_value.result c.in-Ok.ensures c.report_on_value.ensures
-
-pub returns-in-Err : goal.returns-in-Err
-returns-in-Err c = runs-fault _ c.in-Err.fault c.in-Err.ensures

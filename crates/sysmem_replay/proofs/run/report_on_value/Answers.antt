@@ -1,9 +1,0 @@
-use Rattle.sysmem_replay.proofs.Running.{value-fault, script-report}
-use Rattle.sysmem_replay.proofs.run.report_on_value.Goals as goal
-
-pub returns-in-Ok : goal.returns-in-Ok
-returns-in-Ok c =
-    script-report _ c.in-Ok.script c.report_on_script.result c.in-Ok.ensures c.report_on_script.ensures.report c.report_on_script.ensures.fault
-
-pub returns-in-Err : goal.returns-in-Err
-returns-in-Err c = value-fault _ c.in-Err.fault c.in-Err.ensures

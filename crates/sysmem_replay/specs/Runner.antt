@@ -1,6 +1,0 @@
--- What the runner stands for.
-use Rattle.sysmem_replay.specs.declared.runner.Runner.{Runner}
-use Rattle.sysmem_replay.specs.State.{State}
-
-abbrev pub state_of : Runner → State
-state_of r = record { nodes = r.nodes.items; names = r.names.items; verdict = r.verdict; starved = r.starved }

@@ -1,0 +1,34 @@
+use Rattle.std.proofs.Common.{rules}
+use Rattle.std.proofs.lemmas.Result.{err_from_is_err_and}
+use Rattle.serde_json.specs.View.{view}
+use Rattle.sysmem_sanitise.proofs.Platforms.{heaps_of-are, pairs_of-are, colours_of-are}
+use Rattle.sysmem_sanitise.proofs.Refusals.{later-pairs, later-colours}
+use Rattle.sysmem_sanitise.proofs.reading.platform.platform_of.Goals as goal
+
+pub new-requires : goal.new-requires
+new-requires c =
+    let hs = heaps_of-are _ _ c.in_ok-heaps.ensures in
+    let ps = pairs_of-are _ _ c.in_ok-pairs.ensures in
+    let cs = colours_of-are _ _ c.in_ok-colours.ensures in
+    record {
+      some_heaps = hs.some;
+      few_heaps = hs.few;
+      distinct_heaps = hs.distinct;
+      each_heap = hs.each;
+      some_pairs = ps.some;
+      distinct_pairs = ps.distinct;
+      fitting_pairs = ps.fitting;
+      some_colours = cs.some;
+      distinct_colours = cs.distinct;
+    }
+
+pub returns-in_err-pairs : goal.returns-in_err-pairs
+returns-in_err-pairs c =
+    let p = err_from_is_err_and c.from_residual-in_err-pairs.result c.from_residual-in_err-pairs.ensures.1 in
+    rw (p.1, p.2) (later-pairs (view c.args.object.now) _ c.in_ok-heaps.heaps.items _ c.in_ok-expect_object.ensures (search rules) (search rules))
+
+pub returns-in_err-colours : goal.returns-in_err-colours
+returns-in_err-colours c =
+    let p = err_from_is_err_and c.from_residual-in_err-colours.result c.from_residual-in_err-colours.ensures.1 in
+    rw (p.1, p.2) (later-pairs (view c.args.object.now) _ c.in_ok-heaps.heaps.items _ c.in_ok-expect_object.ensures (search rules)
+    (later-colours (view c.args.object.now) c.in_ok-heaps.heaps.items c.in_ok-pairs.pairs.items _ (search rules) (search rules)))
