@@ -38,10 +38,19 @@ pub fn row_bytes(offer: &Offer, width: u32) -> u64
     ensures value { result ≡ row_bytes_of offer.now width }
     ensures small { result < 2 ^ 36 }
 {
+    wide_row_bytes(offer, u64::from(width))
+}
+
+/// The same of a width that may be above 32 bits, but isn't 2^33 or more.
+pub fn wide_row_bytes(offer: &Offer, width: u64) -> u64
+    requires { width < 2 ^ 33 }
+    ensures value { result ≡ row_bytes_of offer.now width }
+    ensures small { result < 2 ^ 36 }
+{
     match offer {
         Offer::NoImage => 0,
         Offer::Image(pair, _) => {
-            let bytes = u64::from(width) * u64::from(format_pixel_bytes(pair.format));
+            let bytes = width * u64::from(format_pixel_bytes(pair.format));
             match pair.modifier {
                 Modifier::Linear => bytes,
                 Modifier::IntelXTiled => (bytes + 511) / 512 * 512,
@@ -54,6 +63,15 @@ pub fn row_bytes(offer: &Offer, width: u32) -> u64
 /// Bytes of an image of `height` rows of `bytes_per_row` bytes, all planes and a tile's rows included;
 /// 0 for no image.
 pub fn image_bytes(offer: &Offer, bytes_per_row: u32, height: u32) -> u128
+    ensures { result ≡ image_bytes_of offer.now bytes_per_row height }
+{
+    wide_image_bytes(offer, u64::from(bytes_per_row), u64::from(height))
+}
+
+/// The same of a row and a height that may be above 32 bits: a row below 2^40 bytes, a height below 2^33.
+pub fn wide_image_bytes(offer: &Offer, bytes_per_row: u64, height: u64) -> u128
+    requires row { bytes_per_row < 2 ^ 40 }
+    requires height { height < 2 ^ 33 }
     ensures { result ≡ image_bytes_of offer.now bytes_per_row height }
 {
     match offer {
@@ -137,11 +155,11 @@ fn format_alignment(format: PixelFormat) -> (u32, u32)
 }
 
 /// Rows of a height, a tile's part included.
-fn tiled_rows(modifier: Modifier, height: u32) -> u64
+fn tiled_rows(modifier: Modifier, height: u64) -> u64
+    requires { height < 2 ^ 33 }
     ensures value { result ≡ rows_of modifier height }
-    ensures small { result < 2 ^ 33 }
+    ensures small { result < 2 ^ 34 }
 {
-    let height = u64::from(height);
     match modifier {
         Modifier::Linear => height,
         Modifier::IntelXTiled => (height + 7) / 8 * 8,
@@ -151,7 +169,7 @@ fn tiled_rows(modifier: Modifier, height: u32) -> u64
 
 /// The bytes of all planes of an image whose first plane has `first` bytes.
 fn all_planes(format: PixelFormat, first: u128) -> u128
-    requires { first < 2 ^ 66 }
+    requires { first < 2 ^ 80 }
     ensures { result ≡ plane_bytes format first }
 {
     match format {

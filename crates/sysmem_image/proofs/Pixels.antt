@@ -1,5 +1,5 @@
 -- Rows that end at a pixel.
-use Rattle.std.proofs.Common.{◌≡◌, ◌↔◌, ℕ, zero, suc, ◌*◌, ◌/◌, ◌%◌, ◌≤◌, ◌<◌, ◌==◌, max, inl, inr, Bool, true, false, refl, sym, ap, subst, arith}
+use Rattle.std.proofs.Common.{◌≡◌, ◌↔◌, ℕ, zero, suc, ◌*◌, ◌%◌, ◌≤◌, ◌==◌, max, inl, inr, Bool, true, false, refl, sym, subst, arith}
 use Rattle.std.specs.Prelude.{if◌then◌else◌}
 use Rattle.std.specs.Int.{◌∣◌}
 use Rattle.std.proofs.Math.Nat.{mul-dvd-mul_left, mul-dvd-mul_right, dvd-mul_left, dvd-mul_right, dvd_of_mul-dvd-mul_left, mul-pos}

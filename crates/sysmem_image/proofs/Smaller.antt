@@ -4,16 +4,17 @@ use Rattle.sysmem_formats.specs.declared.offer.Offer.{Offer}
 use Rattle.sysmem_formats.specs.Layout.{row_bytes_of, image_bytes_of}
 use Rattle.sysmem_image.specs.declared.size.Corner.{Corner}
 use Rattle.sysmem_image.specs.declared.bounds.ImageBounds.{ImageBounds}
-use Rattle.sysmem_image.specs.Corners.{IsWidth, IsHeight, IsRow, IsCorner, IsLeastAbove, HasSides, HasArea}
+use Rattle.sysmem_image.specs.Corners.{IsWidth, IsHeight, IsRow, IsCorner, IsLeastAbove, AreLeastSides, HasArea}
 use Rattle.sysmem_image.proofs.Layouts.{row_bytes_mono, image_bytes_mono}
 
 -- the least sides and row make the corner
 pub corner_from : (o : Offer) (b : ImageBounds) (k : Corner)
-    → IsLeastAbove b.size_alignment.width b.min_size.width b.required_max_size.width k.width → k.width ≤ b.max_size.width
-    → IsLeastAbove b.size_alignment.height b.min_size.height b.required_max_size.height k.height → k.height ≤ b.max_size.height
+    → AreLeastSides b k.width k.height
     → IsLeastAbove b.bytes_per_row_divisor b.min_bytes_per_row (row_bytes_of o k.width) k.bytes_per_row → k.bytes_per_row ≤ b.max_bytes_per_row
     → k.width * k.height ≤ b.max_width_times_height → k.bytes ≡ image_bytes_of o k.bytes_per_row k.height → IsCorner o b k
-corner_from o b k wide narrow high low long short area bytes =
+corner_from o b k least long short area bytes =
+    let wide = least.width in
+    let high = least.height in
     let least_width : (w : ℕ) → IsWidth b w → k.width ≤ w = λ w is. wide.least w is.step is.from is.required in
     let least_height : (h : ℕ) → IsHeight b h → k.height ≤ h = λ h is. high.least h is.step is.from is.required in
     let least_row : (w r : ℕ) → IsWidth b w → IsRow o b w r → k.bytes_per_row ≤ r = λ w r is_width is_row.
@@ -23,8 +24,8 @@ corner_from o b k wide narrow high low long short area bytes =
       admitted = record {
         min_width = wide.from;
         min_height = high.from;
-        max_width = narrow;
-        max_height = low;
+        max_width = least.max_width;
+        max_height = least.max_height;
         width_step = wide.multiple;
         height_step = high.multiple;
         min_row = long.from;
@@ -42,18 +43,15 @@ corner_from o b k wide narrow high low long short area bytes =
     }
 
 -- the least sides are sides that the bounds allow
-pub area_from : (b : ImageBounds) (w h : ℕ)
-    → IsLeastAbove b.size_alignment.width b.min_size.width b.required_max_size.width w
-    → IsLeastAbove b.size_alignment.height b.min_size.height b.required_max_size.height h
-    → (w ≤ b.max_size.width) × (h ≤ b.max_size.height) → w * h ≤ b.max_width_times_height → HasArea b
-area_from b w h wide high within area = record {
+pub area_from : (b : ImageBounds) (w h : ℕ) → AreLeastSides b w h → w * h ≤ b.max_width_times_height → HasArea b
+area_from b w h least area = record {
   sides = record {
     width = w;
-    is_width = record { step = wide.multiple; from = wide.from; required = wide.above };
-    max_width = within.0;
+    is_width = record { step = least.width.multiple; from = least.width.from; required = least.width.above };
+    max_width = least.max_width;
     height = h;
-    is_height = record { step = high.multiple; from = high.from; required = high.above };
-    max_height = within.1;
+    is_height = record { step = least.height.multiple; from = least.height.from; required = least.height.above };
+    max_height = least.max_height;
   };
   area = area;
 }

@@ -1,5 +1,5 @@
 -- A true line leaves no sound bounds.
-use Rattle.std.proofs.Common.{ℕ, ◌*◌, ◌≤◌, List, [], ◌∷◌, ◌++◌, arith, inl, inr}
+use Rattle.std.proofs.Common.{◌*◌, ◌≤◌, List, [], ◌∷◌, ◌++◌, arith, inl, inr}
 use Rattle.std.specs.Prelude.{All}
 use Rattle.std.specs.Int.{◌∣◌}
 use Rattle.std.proofs.Math.Nat.{one-dvd}
@@ -14,7 +14,7 @@ use Rattle.sysmem_image.specs.Fields.{Bound, Side, Width, Height, Keeps, KeepsIn
 use Rattle.sysmem_image.specs.Bounds.{IsTighter, IsInRange, Suits}
 use Rattle.sysmem_image.specs.Images.{Image, IsSoundBounds}
 use Rattle.sysmem_image.specs.Merged.{MergedOf, NoneMerge, IsFirstAbove}
-use Rattle.sysmem_image.specs.Lines.{FitsWidth, FitsHeight, FitsRow, MeetsIn, IsBoundsLine, IsFirstLine, IsSteady, KeepsCorner, KeepsLine}
+use Rattle.sysmem_image.specs.Lines.{FitsWidth, FitsHeight, FitsRow, MeetsIn, IsBoundsLine, IsSteady, KeepsCorner, KeepsLine}
 use Rattle.sysmem_image.specs.Laws.{FitsImage}
 use Rattle.sysmem_image.proofs.Steps.{all_map, common_kept, above_line}
 

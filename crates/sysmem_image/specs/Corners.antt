@@ -86,3 +86,10 @@ pub record IsLeastAbove (step low other m : ℕ) : Type 0 where
   pub from : low ≤ m
   pub above : other ≤ m
   pub least : (k : ℕ) → step ∣ k → low ≤ k → other ≤ k → m ≤ k
+
+-- the least width and the least height that the bounds allow, and they are up to max_size
+pub record AreLeastSides (b : ImageBounds) (w h : ℕ) : Type 0 where
+  pub width : IsLeastAbove b.size_alignment.width b.min_size.width b.required_max_size.width w
+  pub height : IsLeastAbove b.size_alignment.height b.min_size.height b.required_max_size.height h
+  pub max_width : w ≤ b.max_size.width
+  pub max_height : h ≤ b.max_size.height

@@ -1,5 +1,5 @@
 -- Sizes, compared in both dimensions.
-use Rattle.std.specs.Prelude.{ℕ, ◌≤◌, ◌≡◌, max, min}
+use Rattle.std.specs.Prelude.{◌≤◌, ◌≡◌, max, min}
 use Rattle.std.specs.Int.{◌∣◌}
 use Rattle.sysmem_image.specs.declared.size.Size.{Size}
 

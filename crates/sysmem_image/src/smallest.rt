@@ -6,7 +6,7 @@ ghost use Rattle.sysmem_image.specs.declared.bounds.ImageBounds.{ImageBounds};
 ghost use Rattle.sysmem_counts.specs.declared.field.Field.{Field};
 ghost use Rattle.sysmem_image.specs.Size.{IsSizeUpTo};
 ghost use Rattle.sysmem_image.specs.Merged.{MergedOf};
-ghost use Rattle.sysmem_image.specs.Corners.{IsCorner, HasNoCorner, HasNoWidth, HasNoHeight, EarlierHold, IsLeastAbove};
+ghost use Rattle.sysmem_image.specs.Corners.{IsCorner, HasNoCorner, HasNoWidth, HasNoHeight, EarlierHold, IsLeastAbove, AreLeastSides};
 ghost use Rattle.sysmem_image.specs.Lines.{IsFirstLine};
 
 use crate::bounds::ImageBounds;
@@ -64,9 +64,7 @@ fn corner_of(bounds: &ImageBounds, offer: &Offer) -> Result<Corner, Field>
 
 /// The least sides that the bounds allow, or `max_size` where one is above it.
 fn least_sides(bounds: &ImageBounds) -> Result<(u32, u32), Field>
-    ensures width { IfOk result (λ sides. IsLeastAbove bounds.now.size_alignment.width bounds.now.min_size.width bounds.now.required_max_size.width sides.0) }
-    ensures height { IfOk result (λ sides. IsLeastAbove bounds.now.size_alignment.height bounds.now.min_size.height bounds.now.required_max_size.height sides.1) }
-    ensures within { IfOk result (λ sides. (sides.0 ≤ bounds.now.max_size.width) × (sides.1 ≤ bounds.now.max_size.height)) }
+    ensures sides { IfOk result (λ sides. AreLeastSides bounds.now sides.0 sides.1) }
     ensures named { IfErr result (λ f. f ≡ Field.MaxSize) }
     ensures none { OnErr result (HasNoWidth bounds.now ⊎ HasNoHeight bounds.now) }
 {

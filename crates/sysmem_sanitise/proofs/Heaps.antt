@@ -5,10 +5,10 @@ use Rattle.sysmem_counts.specs.declared.field.Field.TheVariants as field
 use Rattle.sysmem_memory.specs.declared.domain.CoherencyDomains.{CoherencyDomains}
 use Rattle.sysmem_memory.specs.Heap.{HeapName, HeapFacts}
 use Rattle.sysmem_sanitise.specs.declared.fault.Code.TheVariants as code
-use Rattle.sysmem_sanitise.specs.declared.fault.Spot.TheVariants.{At}
+use Rattle.sysmem_sanitise.specs.declared.fault.FaultPlace.TheVariants.{At}
 use Rattle.sysmem_sanitise.specs.Platform.{IsHeap}
 use Rattle.sysmem_sanitise.specs.Reading.Fields.{passing, read_each, object_of, stated, required, number_or, flag_or, text_of, list_of}
-use Rattle.sysmem_sanitise.specs.Reading.Heaps.{IsHeapName, is_heap_type, heap_type_of, heap_name_of, no_domains, with_named, has_domains, domains_of, heap_fields, heap_of}
+use Rattle.sysmem_sanitise.specs.Reading.Heaps.{IsHeapName, is_heap_type, heap_type_of, heap_name_of, no_domains, with_named, has_domains, domains_of, heap_info_fields, heap_of}
 use Rattle.sysmem_sanitise.proofs.Steps.{bind-ok, bind-then, ok-same, passing-ok}
 
 heap_type_of-is : (d : Data) (text : List ℕ) → heap_type_of None d ≡ Ok text → is_heap_type text ≡ true
@@ -32,7 +32,7 @@ domains_of-some d domains gives =
 
 pub heap_of-is : (d : Data) (heap : HeapFacts) → heap_of None d ≡ Ok heap → IsHeap heap
 heap_of-is d heap gives =
-    bind-then (object_of (At field.Heaps) heap_fields d) _ heap gives (λ object is a1.
+    bind-then (object_of (At field.Heaps) heap_info_fields d) _ heap gives (λ object is a1.
     bind-then (heap_name_of None d) _ heap a1 (λ name named a2.
     bind-then (flag_or field.Contiguous _ d) _ heap a2 (λ contiguous is a3.
     bind-then (flag_or field.Secure _ d) _ heap a3 (λ secure is a4.

@@ -31,13 +31,13 @@ use Rattle.sysmem_image.specs.Colours.{no_colours, with_colour}
 use Rattle.sysmem_memory.specs.Heap.{HeapName, same_heap}
 use Rattle.sysmem_memory.specs.Wishes.{MemoryWishes, no_wishes}
 use Rattle.sysmem_sanitise.specs.declared.reading.asked.AskedPair.{AskedPair}
-use Rattle.sysmem_sanitise.specs.declared.fault.Spot.TheVariants.{At}
-use Rattle.sysmem_sanitise.specs.Participant.{IsUsage, IsUpTo, IsEntry, AreApart, most_step}
+use Rattle.sysmem_sanitise.specs.declared.fault.FaultPlace.TheVariants.{At}
+use Rattle.sysmem_sanitise.specs.Participant.{IsUsage, IsSizeUpTo, IsEntry, AreApart, most_multiple}
 use Rattle.sysmem_sanitise.specs.Reading.Bounds.{is_multiple, multiple, multiple_size, any_size, some_size, some_sides, size_to, size_or, bound_or, any_number, some_number, large_number, stated_bounds, bounds_by, bounds_of, most}
 use Rattle.sysmem_sanitise.specs.Reading.Constraints.{no_usage, with_family, is_usage, usage_of, memory_fields, memory_of}
-use Rattle.sysmem_sanitise.specs.Reading.Entries.{same_format, same_modifier, same_asked, is_unfit, asked_of, asked_by, has_further, modifier_beside, has_entry, has_asked, with_asked, no_pair, own_pair, with_further, further_of, asked_pairs, listed, with_listed, colour_set_of, entry_object, entry_with, with_entry, entries_of}
+use Rattle.sysmem_sanitise.specs.Reading.Entries.{same_format, same_modifier, same_asked, asks_misfit, asked_of, asked_by, has_further, modifier_beside, has_entry, has_asked, with_asked, no_pair, own_pair, with_further, further_of, asked_pairs, listed, with_listed, colour_set_of, entry_object, entry_with, with_entry, entries_of}
 use Rattle.sysmem_sanitise.specs.Reading.Fields.{◌>>=◌, passing, list_of, named, number_of, number_or, flag_or, optional, stated, text_of, object_of, has_items, read_each}
-use Rattle.sysmem_sanitise.specs.Reading.Heaps.{IsHeapName, permitted_heap, permits, with_permitted, permitted_of}
+use Rattle.sysmem_sanitise.specs.Reading.Heaps.{IsHeapName, permitted_heap, has_permitted, with_permitted, permitted_of}
 use Rattle.sysmem_sanitise.proofs.Heaps.{heap_name_of-is}
 use Rattle.sysmem_sanitise.proofs.Platforms.{fitting}
 use Rattle.sysmem_sanitise.proofs.Steps.{bind-ok, bind-then, ok-same, passing-ok, not-true, and-true, none_passes, each-keeps, optional-keeps, below}
@@ -81,12 +81,12 @@ with_permitted-keeps : (hs ts : List HeapName) (d : Data) → ArePermitted hs �
 with_permitted-keeps hs ts d kept gives =
     let (heap, read, after) = bind-ok (permitted_heap None d) _ ts gives in
     let (roomy, room, after2) = bind-ok (passing _ (λ _. nat_lt (length hs) 64) heap) _ ts after in
-    let (new, passes, made) = bind-ok (passing _ (λ heap. not (permits hs heap)) roomy) _ ts after2 in
+    let (new, passes, made) = bind-ok (passing _ (λ heap. not (has_permitted hs heap)) roomy) _ ts after2 in
     let (object, is, name) = bind-ok (object_of _ _ d) _ heap read in
     let roomed = passing-ok _ (λ _. nat_lt (length hs) 64) heap roomy room in
-    let passed = passing-ok _ (λ heap. not (permits hs heap)) roomy new passes in
+    let passed = passing-ok _ (λ heap. not (has_permitted hs heap)) roomy new passes in
     let few = below (length hs) roomed.holds in
-    let absent : permits hs new ≡ false = not-true _ passed.holds in
+    let absent : has_permitted hs new ≡ false = not-true _ passed.holds in
     let heap-is : IsHeapName new = subst IsHeapName (roomed.same ∙ passed.same) (heap_name_of-is d heap name) in
     let is : hs ++ new ∷ [] ≡ ts = ok-same _ _ made in
     subst ArePermitted is (record {
@@ -117,15 +117,15 @@ pub memory-permits : (d : Data) (m : MemoryWishes) → optional field.BufferMemo
 memory-permits d m gives = optional-keeps (λ (m : MemoryWishes). ArePermitted m.permitted_heaps) field.BufferMemoryConstraints no_wishes (memory_of None) d m no_heaps-are (λ v. memory_of-permits v m) gives
 
 -- 1 to the most that a step may be
-multiple-is : (n : ℕ) → is_multiple n ≡ true → n ≤ most_step
+multiple-is : (n : ℕ) → is_multiple n ≡ true → n ≤ most_multiple
 multiple-is n h = search (rules, tests)
 
-multiple-step : (at : Field) (d : Data) (n : ℕ) → multiple at d ≡ Ok n → n ≤ most_step
+multiple-step : (at : Field) (d : Data) (n : ℕ) → multiple at d ≡ Ok n → n ≤ most_multiple
 multiple-step at d n gives =
     let (read, is, tested) = bind-ok (number_of at (2 ^ 64 - 1) d) _ n gives in
     multiple-is n (passing-ok _ is_multiple read n tested).holds
 
-multiple_size-step : (at : Field) (d : Data) (size : Size) → multiple_size at d ≡ Ok size → IsUpTo most_step size
+multiple_size-step : (at : Field) (d : Data) (size : Size) → multiple_size at d ≡ Ok size → IsSizeUpTo most_multiple size
 multiple_size-step at d size gives =
     let (read, is, tested) = bind-ok (size_to at (2 ^ 64 - 1) d) _ size gives in
     let (wide, high) = and-true _ _ (passing-ok _ (λ size. is_multiple size.width && is_multiple size.height) read size tested).holds in
@@ -138,24 +138,24 @@ some_size-some at d size gives =
 
 -- what bounds keep to beside their own invariant
 record AreAsked (b : EntryBounds) : Type 0 where
-  size_alignment : IsUpTo most_step b.asked.size_alignment
-  start_offset_divisor : b.asked.start_offset_divisor ≤ most_step
-  display_rect_alignment : IsUpTo most_step b.asked.display_rect_alignment
+  size_alignment : IsSizeUpTo most_multiple b.asked.size_alignment
+  start_offset_divisor : b.asked.start_offset_divisor ≤ most_multiple
+  display_rect_alignment : IsSizeUpTo most_multiple b.asked.display_rect_alignment
   required_min_width : 1 ≤ b.asked.required_min_size.width
   required_min_height : 1 ≤ b.asked.required_min_size.height
   max_width_times_height : 1 ≤ b.asked.max_width_times_height
 
-step-some : (n : ℕ) → n ≤ most_step → max n 1 ≤ most_step
+step-some : (n : ℕ) → n ≤ most_multiple → max n 1 ≤ most_multiple
 step-some n h = omega arith
 
-sides-some : (size : Size) → IsUpTo most_step size → IsUpTo most_step (some_sides size)
+sides-some : (size : Size) → IsSizeUpTo most_multiple size → IsSizeUpTo most_multiple (some_sides size)
 sides-some size h = (step-some size.width h.0, step-some size.height h.1)
 
-size_step : (at : Field) (d : Data) (size : Size) → size_or multiple_size at 1 d ≡ Ok size → IsUpTo most_step (some_sides size)
-size_step at d size gives = sides-some size (optional-keeps (IsUpTo most_step) at (record { width = 1; height = 1 }) (multiple_size at) d size (omega arith, omega arith) (λ v. multiple_size-step at v size) gives)
+size_step : (at : Field) (d : Data) (size : Size) → size_or multiple_size at 1 d ≡ Ok size → IsSizeUpTo most_multiple (some_sides size)
+size_step at d size gives = sides-some size (optional-keeps (IsSizeUpTo most_multiple) at (record { width = 1; height = 1 }) (multiple_size at) d size (omega arith, omega arith) (λ v. multiple_size-step at v size) gives)
 
-step : (at : Field) (d : Data) (n : ℕ) → bound_or multiple at 1 d ≡ Ok n → max n 1 ≤ most_step
-step at d n gives = step-some n (optional-keeps (λ n. n ≤ most_step) at 1 (multiple at) d n (omega arith) (λ v. multiple-step at v n) gives)
+step : (at : Field) (d : Data) (n : ℕ) → bound_or multiple at 1 d ≡ Ok n → max n 1 ≤ most_multiple
+step at d n gives = step-some n (optional-keeps (λ n. n ≤ most_multiple) at 1 (multiple at) d n (omega arith) (λ v. multiple-step at v n) gives)
 
 required_sides : (d : Data) (size : Size) → size_or some_size field.RequiredMinSize most d ≡ Ok size → (1 ≤ size.width) × (1 ≤ size.height)
 required_sides d size gives =
@@ -250,7 +250,7 @@ apart a b differ formats modifiers =
     let h : true ≡ false = rw (f, m) at differ in
     absurd (cc)
 
-fits : (f : Option PixelFormat) (m : Option Modifier) → is_unfit f m ≡ false → Fits (record { format = f; modifier = m })
+fits : (f : Option PixelFormat) (m : Option Modifier) → asks_misfit f m ≡ false → Fits (record { format = f; modifier = m })
 fits None m fit pair named tiled misfit = absurd (cc)
 fits (Some f) None fit pair named tiled misfit = absurd (cc)
 fits (Some f) (Some m) fit pair named tiled misfit =
@@ -270,10 +270,10 @@ with_asked-keeps : (at : Field) (entries : List Entry) (pairs after : List Asked
     → ArePairs (map asked_by entries) pairs → with_asked None at entries pairs asked ≡ Ok after → ArePairs (map asked_by entries) after
 with_asked-keeps at entries pairs after asked kept gives =
     let before = map asked_by entries in
-    let (fit, fitted, a1) = bind-ok (passing _ (λ (pair : AskedPair). not (is_unfit pair.format pair.modifier)) asked) _ after gives in
+    let (fit, fitted, a1) = bind-ok (passing _ (λ (pair : AskedPair). not (asks_misfit pair.format pair.modifier)) asked) _ after gives in
     let (roomy, room, a2) = bind-ok (passing _ (λ _. nat_lt (length entries + length pairs) 64) fit) _ after a1 in
     let (new, passes, made) = bind-ok (passing _ (λ pair. not (has_entry entries pair || has_asked pairs pair)) roomy) _ after a2 in
-    let first = passing-ok _ (λ (pair : AskedPair). not (is_unfit pair.format pair.modifier)) asked fit fitted in
+    let first = passing-ok _ (λ (pair : AskedPair). not (asks_misfit pair.format pair.modifier)) asked fit fitted in
     let roomed = passing-ok _ (λ _. nat_lt (length entries + length pairs) 64) fit roomy room in
     let passed = passing-ok _ (λ pair. not (has_entry entries pair || has_asked pairs pair)) roomy new passes in
     let less : length entries + length pairs < 64 = below _ roomed.holds in

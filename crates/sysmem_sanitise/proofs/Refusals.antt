@@ -10,7 +10,7 @@ use Rattle.sysmem_counts.specs.declared.field.Field.TheVariants as field
 use Rattle.sysmem_counts.specs.declared.usage.Usage.{Usage}
 use Rattle.sysmem_formats.specs.declared.colour_space.ColourSpace.{ColourSpace}
 use Rattle.sysmem_formats.specs.declared.offer.Pair.{Pair}
-use Rattle.sysmem_image.specs.declared.bounds.ImageBounds.{ImageBounds}
+use Rattle.sysmem_image.specs.declared.entry.EntryBounds.{EntryBounds}
 use Rattle.sysmem_image.specs.declared.colours.ColourSet.{ColourSet}
 use Rattle.sysmem_image.specs.declared.entry.Entry.{Entry}
 use Rattle.sysmem_memory.specs.Heap.{HeapName, HeapFacts}
@@ -19,16 +19,16 @@ use Rattle.sysmem_sanitise.specs.declared.fault.Code.{Code}
 use Rattle.sysmem_sanitise.specs.declared.fault.Code.TheVariants as code
 use Rattle.sysmem_sanitise.specs.declared.fault.Code.TheVariants.{WantOfMemory}
 use Rattle.sysmem_sanitise.specs.declared.fault.Fault.{Fault}
-use Rattle.sysmem_sanitise.specs.declared.fault.Spot.{Spot}
-use Rattle.sysmem_sanitise.specs.declared.fault.Spot.TheVariants.{Whole, At}
+use Rattle.sysmem_sanitise.specs.declared.fault.FaultPlace.{FaultPlace}
+use Rattle.sysmem_sanitise.specs.declared.fault.FaultPlace.TheVariants.{Whole, At}
 use Rattle.sysmem_sanitise.specs.Faults.{wrong, lack_at, lack_of}
 use Rattle.sysmem_sanitise.specs.Reading.Fields.{◌>>=◌, passing, kept, same_field, object_of, stated, required, optional, read_or, number_or, flag_or, text_of, named, list_of, read_each, Reads}
 use Rattle.sysmem_sanitise.specs.declared.reading.asked.AskedPair.{AskedPair}
 use Rattle.sysmem_sanitise.specs.Platform.{PlatformFacts}
 use Rattle.sysmem_sanitise.specs.Reading.Bounds.{bounds_of}
 use Rattle.sysmem_sanitise.specs.Reading.Constraints.{usage_of, counts_of, memory_fields, memory_of, constraints_fields, participant_with}
-use Rattle.sysmem_sanitise.specs.Reading.Entries.{is_unfit, asked_of, has_entry, has_asked, with_asked, no_pair, own_pair, with_further, further_of, asked_pairs, colour_set_of, entry_object, entry_with, with_entry, entries_of}
-use Rattle.sysmem_sanitise.specs.Reading.Heaps.{is_heap_type, heap_type_of, heap_name_of, domains_of, heap_fields, heap_of, has_heap, with_heap, heaps_of, name_fields, permitted_heap, permits, with_permitted, permitted_of}
+use Rattle.sysmem_sanitise.specs.Reading.Entries.{asks_misfit, asked_of, has_entry, has_asked, with_asked, no_pair, own_pair, with_further, further_of, asked_pairs, colour_set_of, entry_object, entry_with, with_entry, entries_of}
+use Rattle.sysmem_sanitise.specs.Reading.Heaps.{is_heap_type, heap_type_of, heap_name_of, domains_of, heap_info_fields, heap_of, has_heap, with_heap, heaps_of, name_fields, permitted_heap, has_permitted, with_permitted, permitted_of}
 use Rattle.sysmem_sanitise.specs.Reading.Names.{colour_named}
 use Rattle.sysmem_sanitise.specs.Reading.Pairs.{pair_fields, has_pair, has_colour, is_misfit}
 use Rattle.sysmem_sanitise.specs.Reading.Platform.{pair_of, with_pair, pairs_of, with_colour, colours_of, platform_fields, platform_with}
@@ -52,8 +52,8 @@ kept-by : {A : Type 0} (lack field : Field) (a : A) (t : Bool) → same_field la
 kept-by lack field a true same = inr (rw same refl)
 kept-by lack field a false same = inl (rw same refl)
 
-kept-at : {A : Type 0} (code : Code) (spot : Spot) (field : Field) (a : A)
-    → IsOr (record { code = code; at = spot }) a (kept (lack_at code spot) field a)
+kept-at : {A : Type 0} (code : Code) (place : FaultPlace) (field : Field) (a : A)
+    → IsOr (record { code = code; at = place }) a (kept (lack_at code place) field a)
 kept-at WantOfMemory (At lack) field a = kept-by lack field a _ refl
 kept-at WantOfMemory Whole field a = inl refl
 kept-at _ _ field a = inl refl
@@ -152,11 +152,11 @@ pub steady-permitted : (heaps : List HeapName) (d : Data) → IsSteady (λ lack.
 steady-permitted heaps d =
     steady-then (λ lack. permitted_heap lack d) _ (steady-after (object_of (At field.PermittedHeaps) name_fields d) _ (λ object. steady-name d)) (λ heap.
     steady-after (passing (wrong code.TooMany field.PermittedHeaps) (λ _. nat_lt (length heaps) 64) heap) _ (λ roomy.
-    steady-after (passing (wrong code.RepeatedHeap field.PermittedHeaps) (λ heap. not (permits heaps heap)) roomy) _ (λ new. steady-kept field.PermittedHeaps _)))
+    steady-after (passing (wrong code.RepeatedHeap field.PermittedHeaps) (λ heap. not (has_permitted heaps heap)) roomy) _ (λ new. steady-kept field.PermittedHeaps _)))
 
 pub steady-heap : (heaps : List HeapFacts) (d : Data) → IsSteady (λ lack. with_heap lack heaps d)
 steady-heap heaps d =
-    steady-then (λ lack. heap_of lack d) _ (steady-after (object_of (At field.Heaps) heap_fields d) _ (λ object. steady-then (λ lack. heap_name_of lack d) _ (steady-name d) (λ name. steady-plain _))) (λ heap.
+    steady-then (λ lack. heap_of lack d) _ (steady-after (object_of (At field.Heaps) heap_info_fields d) _ (λ object. steady-then (λ lack. heap_name_of lack d) _ (steady-name d) (λ name. steady-plain _))) (λ heap.
     steady-after (passing (wrong code.TooMany field.Heaps) (λ _. nat_lt (length heaps) 64) heap) _ (λ roomy.
     steady-after (passing (wrong code.BadPlatformList field.Heaps) (λ heap. not (has_heap heaps heap)) roomy) _ (λ new. steady-kept field.Heaps _)))
 
@@ -181,7 +181,7 @@ steady-colour colours d =
 
 steady-asked : (field : Field) (entries : List Entry) (pairs : List AskedPair) (asked : AskedPair) → IsSteady (λ lack. with_asked lack field entries pairs asked)
 steady-asked field entries pairs asked =
-    steady-after (passing (wrong code.TiledMisfit field) (λ (pair : AskedPair). not (is_unfit pair.format pair.modifier)) asked) _ (λ fitting.
+    steady-after (passing (wrong code.TiledMisfit field) (λ (pair : AskedPair). not (asks_misfit pair.format pair.modifier)) asked) _ (λ fitting.
     steady-after (passing (wrong code.TooMany field) (λ _. nat_lt (length entries + length pairs) 64) fitting) _ (λ roomy.
     steady-after (passing (wrong code.RepeatedPair field) (λ pair. not (has_entry entries pair || has_asked pairs pair)) roomy) _ (λ new. steady-kept field _)))
 
@@ -235,7 +235,7 @@ heap_rest heap d = do
   domains ← required field.Domains domains_of d
   Ok (record { heap = heap; contiguous = contiguous; secure = secure; domains = domains })
 
-pub later-heap : (d o : Data) (heap : HeapName) (fault : Fault) → Ok o ≡ object_of (At field.Heaps) heap_fields d → heap_name_of None d ≡ Ok heap
+pub later-heap : (d o : Data) (heap : HeapName) (fault : Fault) → Ok o ≡ object_of (At field.Heaps) heap_info_fields d → heap_name_of None d ≡ Ok heap
     → heap_rest heap d ≡ Err fault → heap_of (lack_of fault) d ≡ Err fault
 later-heap d o heap fault is name rest = rw (sym is) (later (λ lack. heap_name_of lack d) (λ heap. heap_rest heap d) heap fault (steady-name d) name rest)
 
@@ -295,15 +295,15 @@ pub reads-further : (entries : List Entry) (d : Data) (own : List AskedPair) (r 
 reads-further entries d own r is rest =
     reads-then (λ lack. own_pair lack entries d) (λ own lack. optional field.PixelFormatAndModifiers own (further_of lack entries own) d) own r (steady-own entries d) is rest
 
-pub reads-entry : (entries : List Entry) (d o v : Data) (pairs : List AskedPair) (colours : ColourSet) (bounds : ImageBounds) (r : Result (List Entry) Fault)
+pub reads-entry : (entries : List Entry) (d o v : Data) (pairs : List AskedPair) (colours : ColourSet) (bounds : EntryBounds) (r : Result (List Entry) Fault)
     → Ok o ≡ entry_object d → asked_pairs None entries d ≡ Ok pairs → Ok v ≡ stated code.NoColourSpaces field.ColorSpaces d → Ok colours ≡ colour_set_of v → Ok bounds ≡ bounds_of d
     → Reads (λ lack. kept lack field.ImageFormatConstraints (entries ++ map (entry_with colours bounds) pairs)) r → Reads (λ lack. with_entry lack entries d) r
 reads-entry entries d o v pairs colours bounds r is all there listed bounded rest =
     rw (sym is) (reads-then (λ lack. asked_pairs lack entries d) (λ pairs lack. entry_rest lack entries d pairs) pairs r (steady-all entries d) all (rw (sym there, sym listed, sym bounded) rest))
 
-lack-none : (code : Code) (spot : Spot) → (code ≡ WantOfMemory → ⊥) → lack_at code spot ≡ None
-lack-none WantOfMemory spot other = absurd (other refl)
-lack-none _ spot other = refl
+lack-none : (code : Code) (place : FaultPlace) → (code ≡ WantOfMemory → ⊥) → lack_at code place ≡ None
+lack-none WantOfMemory place other = absurd (other refl)
+lack-none _ place other = refl
 
 -- a fault other than want of memory says of no field that its memory was refused
 pub no-lack : (fault : Fault) → (fault.code ≡ WantOfMemory → ⊥) → lack_of fault ≡ None

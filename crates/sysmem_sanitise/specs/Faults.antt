@@ -5,8 +5,8 @@ use Rattle.sysmem_counts.specs.Field.{field_name}
 use Rattle.sysmem_sanitise.specs.declared.fault.Code.{Code}
 use Rattle.sysmem_sanitise.specs.declared.fault.Code.TheVariants.{NotAnObject, UnknownField, WrongKind, UnknownName, BadUsage, NoColourSpaces, BadMultiple, RepeatedPair, TooMany, RepeatedHeap, BadPlatformList, TiledMisfit, WantOfMemory}
 use Rattle.sysmem_sanitise.specs.declared.fault.Fault.{Fault}
-use Rattle.sysmem_sanitise.specs.declared.fault.Spot.{Spot}
-use Rattle.sysmem_sanitise.specs.declared.fault.Spot.TheVariants.{Whole, At}
+use Rattle.sysmem_sanitise.specs.declared.fault.FaultPlace.{FaultPlace}
+use Rattle.sysmem_sanitise.specs.declared.fault.FaultPlace.TheVariants.{Whole, At}
 
 abbrev pub code_name : Code → List ℕ
 code_name NotAnObject = codes "S1"
@@ -23,19 +23,19 @@ code_name BadPlatformList = codes "S11"
 code_name TiledMisfit = codes "S12"
 code_name WantOfMemory = codes "S13"
 
-abbrev pub spot_name : Spot → List ℕ
-spot_name Whole = codes "whole"
-spot_name (At field) = field_name field
+abbrev pub place_name : FaultPlace → List ℕ
+place_name Whole = codes "whole"
+place_name (At field) = field_name field
 
 -- `S3 id`
 abbrev pub fault_text : Fault → List ℕ
-fault_text fault = code_name fault.code ++ codes " " ++ spot_name fault.at
+fault_text fault = code_name fault.code ++ codes " " ++ place_name fault.at
 
 -- what is wrong with a field
 abbrev pub wrong : Code → Field → Fault
 wrong code field = record { code = code; at = At field }
 
-abbrev pub lack_at : Code → Spot → Option Field
+abbrev pub lack_at : Code → FaultPlace → Option Field
 lack_at WantOfMemory (At field) = Some field
 lack_at _ _ = None
 

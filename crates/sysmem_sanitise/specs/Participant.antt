@@ -26,13 +26,13 @@ pub record IsUsage (usage : Usage) : Type 0 where
   pub some : usage_bits usage ≢ 0
   pub none_alone : bit_and (usage_bits usage) 1 ≡ 1 → usage_bits usage ≡ 1
 
--- the most that an alignment or a divisor may be
-abbrev pub most_step : ℕ
-most_step = 65536
+-- the greatest alignment or divisor
+abbrev pub most_multiple : ℕ
+most_multiple = 65536
 
 -- neither side is above n
-abbrev pub IsUpTo : ℕ → Size → Type 0
-IsUpTo n size = (size.width ≤ n) × (size.height ≤ n)
+abbrev pub IsSizeUpTo : ℕ → Size → Type 0
+IsSizeUpTo n size = (size.width ≤ n) × (size.height ≤ n)
 
 -- what an entry may ask: no tiled modifier with a format that isn't of 4 bytes, some colour spaces, alignments and
 -- divisors up to 65,536, a required_min_size and a max_width_times_height from 1. What else is 1 or more its bounds say
@@ -40,9 +40,9 @@ IsUpTo n size = (size.width ≤ n) × (size.height ≤ n)
 pub record IsEntry (entry : Entry) : Type 0 where
   pub fitting : (pair : Pair) → entry.format ≡ Some pair.format → entry.modifier ≡ Some pair.modifier → IsTiledMisfit pair → ⊥
   pub some_colours : entry.colours ≢ no_colours
-  pub size_alignment : IsUpTo most_step entry.bounds.asked.size_alignment
-  pub start_offset_divisor : entry.bounds.asked.start_offset_divisor ≤ most_step
-  pub display_rect_alignment : IsUpTo most_step entry.bounds.asked.display_rect_alignment
+  pub size_alignment : IsSizeUpTo most_multiple entry.bounds.asked.size_alignment
+  pub start_offset_divisor : entry.bounds.asked.start_offset_divisor ≤ most_multiple
+  pub display_rect_alignment : IsSizeUpTo most_multiple entry.bounds.asked.display_rect_alignment
   pub required_min_width : 1 ≤ entry.bounds.asked.required_min_size.width
   pub required_min_height : 1 ≤ entry.bounds.asked.required_min_size.height
   pub max_width_times_height : 1 ≤ entry.bounds.asked.max_width_times_height

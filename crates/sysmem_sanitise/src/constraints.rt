@@ -60,7 +60,8 @@ impl Constraints {
         entries: Vec<Entry>,
     ) -> Constraints
         requires { IsParticipant usage memory entries.items }
-        ensures { result ≡ record { usage = usage; counts = counts; memory = memory; entries = entries.items } }
+        ensures { result
+            ≡ record { usage = usage; counts = counts; memory = memory; entries = entries.items } }
     {
         Constraints {
             usage,

@@ -1,7 +1,7 @@
 //! What is wrong with a record that is read.
 
 ghost use Rattle.std.specs.Prelude.{◌≡◌, Some};
-ghost use Rattle.sysmem_sanitise.specs.Faults.{code_name, spot_name, fault_text, wrong};
+ghost use Rattle.sysmem_sanitise.specs.Faults.{code_name, place_name, fault_text, wrong};
 
 use std::fmt;
 use sysmem_counts::Field;
@@ -62,21 +62,21 @@ impl Code {
 
 /// Where in the record a fault is.
 #[derive(Clone, Copy, Debug, PartialEq, Eq)]
-pub enum Spot {
+pub enum FaultPlace {
     /// The record as a whole.
     Whole,
     /// A field, or the object that it holds.
     At(Field),
 }
 
-impl Spot {
-    /// The spot as a report prints it: `whole`, or the field's name.
+impl FaultPlace {
+    /// The place as a report prints it: `whole`, or the field's name.
     pub fn name(self) -> &'static str
-        ensures { result.now ≡ spot_name self }
+        ensures { result.now ≡ place_name self }
     {
         match self {
-            Spot::Whole => "whole",
-            Spot::At(field) => field.name(),
+            FaultPlace::Whole => "whole",
+            FaultPlace::At(field) => field.name(),
         }
     }
 }
@@ -85,7 +85,7 @@ impl Spot {
 #[derive(Clone, Copy, Debug, PartialEq, Eq)]
 pub struct Fault {
     pub code: Code,
-    pub at: Spot,
+    pub at: FaultPlace,
 }
 
 impl Fault {
@@ -95,7 +95,7 @@ impl Fault {
     {
         Fault {
             code,
-            at: Spot::At(field),
+            at: FaultPlace::At(field),
         }
     }
 }

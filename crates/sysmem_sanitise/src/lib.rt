@@ -15,6 +15,6 @@ mod platform;
 mod reading;
 
 pub use constraints::Constraints;
-pub use fault::{Code, Fault, Spot};
+pub use fault::{Code, Fault, FaultPlace};
 pub use platform::Platform;
 pub use reading::{read_constraints, read_platform};

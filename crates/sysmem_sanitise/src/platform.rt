@@ -53,7 +53,8 @@ impl PartialEq for Platform {
 impl Platform {
     pub(crate) fn new(heaps: Vec<HeapInfo>, pairs: Vec<Pair>, colours: Vec<ColourSpace>) -> Platform
         requires { IsPlatform heaps.items pairs.items colours.items }
-        ensures { result ≡ record { heaps = heaps.items; pairs = pairs.items; colours = colours.items } }
+        ensures { result
+            ≡ record { heaps = heaps.items; pairs = pairs.items; colours = colours.items } }
     {
         Platform {
             heaps,

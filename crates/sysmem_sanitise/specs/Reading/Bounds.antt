@@ -11,6 +11,7 @@ use Rattle.sysmem_image.specs.declared.size.Size.{Size}
 use Rattle.sysmem_sanitise.specs.declared.fault.Code.TheVariants as code
 use Rattle.sysmem_sanitise.specs.declared.fault.Fault.{Fault}
 use Rattle.sysmem_sanitise.specs.Faults.{wrong}
+use Rattle.sysmem_sanitise.specs.Participant.{most_multiple}
 use Rattle.sysmem_sanitise.specs.Reading.Fields.{◌>>=◌, passing, keys_of, read_or, optional, number_of, flag_or}
 
 -- the greatest number of 32 bits
@@ -28,7 +29,7 @@ some_number field d = do
   Ok (max n 1)
 
 abbrev pub is_multiple : ℕ → Bool
-is_multiple n = nat_le 1 n && nat_le n 65536
+is_multiple n = nat_le 1 n && nat_le n most_multiple
 
 -- 1 to 65,536
 abbrev pub multiple : Field → Data → Result ℕ Fault
@@ -139,12 +140,12 @@ some_max n = omega arith
 
 -- a row divisor is 1 to 65,536, as it is read
 abbrev pub row_step : ℕ → ℕ
-row_step n = min (max n 1) 65536
+row_step n = min (max n 1) most_multiple
 
 pub some_step : (n : ℕ) → 1 ≤ row_step n
 some_step n = omega arith
 
-pub small_step : (n : ℕ) → row_step n ≤ 65536
+pub small_step : (n : ℕ) → row_step n ≤ most_multiple
 small_step n = omega arith
 
 -- the bounds of these numbers: those that must be 1 or more are, as they are read

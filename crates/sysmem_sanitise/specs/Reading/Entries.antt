@@ -20,7 +20,7 @@ use Rattle.sysmem_image.specs.Fields.{all_bounds, field_of}
 use Rattle.sysmem_sanitise.specs.declared.reading.asked.AskedPair.{AskedPair}
 use Rattle.sysmem_sanitise.specs.declared.fault.Code.TheVariants as code
 use Rattle.sysmem_sanitise.specs.declared.fault.Fault.{Fault}
-use Rattle.sysmem_sanitise.specs.declared.fault.Spot.TheVariants.{At}
+use Rattle.sysmem_sanitise.specs.declared.fault.FaultPlace.TheVariants.{At}
 use Rattle.sysmem_sanitise.specs.Faults.{wrong}
 use Rattle.sysmem_sanitise.specs.Reading.Bounds.{bounds_of}
 use Rattle.sysmem_sanitise.specs.Reading.Fields.{◌>>=◌, passing, kept, read_each, object_of, optional, required, stated, list_of, has_items, named}
@@ -38,9 +38,9 @@ abbrev pub same_asked : AskedPair → AskedPair → Bool
 same_asked a b = same_format a.format b.format && same_modifier a.modifier b.modifier
 
 -- a tiled modifier with a named format that isn't of 4 bytes
-abbrev pub is_unfit : Option PixelFormat → Option Modifier → Bool
-is_unfit (Some format) (Some modifier) = is_misfit (record { format = format; modifier = modifier })
-is_unfit _ _ = false
+abbrev pub asks_misfit : Option PixelFormat → Option Modifier → Bool
+asks_misfit (Some format) (Some modifier) = is_misfit (record { format = format; modifier = modifier })
+asks_misfit _ _ = false
 
 -- the modifier beside a format: if it is missing, LINEAR, or DO_NOT_CARE if the format is
 abbrev pub modifier_beside : Option PixelFormat → Data → Result (Option Modifier) Fault
@@ -66,7 +66,7 @@ has_asked pairs new = list_any (λ pair. same_asked pair new) pairs
 -- the pairs of an entry, and one more that a field gives: none of them or of the entries before asks for the same
 abbrev pub with_asked : Option Field → Field → List Entry → List AskedPair → AskedPair → Result (List AskedPair) Fault
 with_asked lack field entries pairs asked = do
-  fitting ← passing (wrong code.TiledMisfit field) (λ pair. not (is_unfit pair.format pair.modifier)) asked
+  fitting ← passing (wrong code.TiledMisfit field) (λ pair. not (asks_misfit pair.format pair.modifier)) asked
   roomy ← passing (wrong code.TooMany field) (λ _. nat_lt (length entries + length pairs) 64) fitting
   new ← passing (wrong code.RepeatedPair field) (λ pair. not (has_entry entries pair || has_asked pairs pair)) roomy
   kept lack field (pairs ++ new ∷ [])

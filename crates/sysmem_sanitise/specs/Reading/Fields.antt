@@ -8,7 +8,7 @@ use Rattle.sysmem_counts.specs.Field.{field_name}
 use Rattle.sysmem_sanitise.specs.declared.fault.Code.{Code}
 use Rattle.sysmem_sanitise.specs.declared.fault.Code.TheVariants.{NotAnObject, UnknownField, WrongKind, UnknownName, WantOfMemory}
 use Rattle.sysmem_sanitise.specs.declared.fault.Fault.{Fault}
-use Rattle.sysmem_sanitise.specs.declared.fault.Spot.{Spot}
+use Rattle.sysmem_sanitise.specs.declared.fault.FaultPlace.{FaultPlace}
 use Rattle.sysmem_sanitise.specs.Faults.{wrong, lack_of}
 
 infixl 10 ◌>>=◌
@@ -22,19 +22,19 @@ abbrev pub passing : {A : Type 0} → Fault → (A → Bool) → A → Result A 
 passing fault test a = if test a then Ok a else Err fault
 
 -- a key that names one of these fields
-unfoldable pub is_named : List Field → List ℕ → Bool
-is_named fields key = list_any (λ field. bytes_eq (field_name field) key) fields
+unfoldable pub is_key_of : List Field → List ℕ → Bool
+is_key_of fields key = list_any (λ field. bytes_eq (field_name field) key) fields
 
 abbrev pub keys_of : Members → List (List ℕ)
 keys_of no_members = []
 keys_of (member key value ms) = key ∷ keys_of ms
 
--- an object at a spot, with no other fields than these
-abbrev pub object_of : Spot → List Field → Data → Result Data Fault
-object_of spot fields (object ms) =
-    if list_all (is_named fields) (keys_of ms) then Ok (object ms)
-    else Err (record { code = UnknownField; at = spot })
-object_of spot fields _ = Err (record { code = NotAnObject; at = spot })
+-- an object at a place, with no other fields than these
+abbrev pub object_of : FaultPlace → List Field → Data → Result Data Fault
+object_of place fields (object ms) =
+    if list_all (is_key_of fields) (keys_of ms) then Ok (object ms)
+    else Err (record { code = UnknownField; at = place })
+object_of place fields _ = Err (record { code = NotAnObject; at = place })
 
 -- what a value reads as, or what stands for a missing one
 abbrev pub read_or : {A : Type 0} → Result A Fault → (Data → Result A Fault) → Option Data → Result A Fault

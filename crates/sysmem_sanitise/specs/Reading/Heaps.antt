@@ -11,7 +11,7 @@ use Rattle.sysmem_memory.specs.Domain.{has_domain}
 use Rattle.sysmem_memory.specs.Heap.{HeapName, HeapFacts, same_heap}
 use Rattle.sysmem_sanitise.specs.declared.fault.Code.TheVariants as code
 use Rattle.sysmem_sanitise.specs.declared.fault.Fault.{Fault}
-use Rattle.sysmem_sanitise.specs.declared.fault.Spot.TheVariants.{At}
+use Rattle.sysmem_sanitise.specs.declared.fault.FaultPlace.TheVariants.{At}
 use Rattle.sysmem_sanitise.specs.Faults.{wrong}
 use Rattle.sysmem_sanitise.specs.Reading.Fields.{◌>>=◌, passing, kept, read_each, object_of, required, number_or, flag_or, text_of, list_of, named}
 use Rattle.sysmem_sanitise.specs.Reading.Names.{domain_named}
@@ -68,12 +68,12 @@ domains_of d = do
   passing (wrong code.BadPlatformList field.Domains) has_domains domains
 
 -- the fields of a platform's heap
-abbrev pub heap_fields : List Field
-heap_fields = field.HeapType ∷ field.Id ∷ field.Contiguous ∷ field.Secure ∷ field.Domains ∷ []
+abbrev pub heap_info_fields : List Field
+heap_info_fields = field.HeapType ∷ field.Id ∷ field.Contiguous ∷ field.Secure ∷ field.Domains ∷ []
 
 abbrev pub heap_of : Option Field → Data → Result HeapFacts Fault
 heap_of lack d = do
-  _ ← object_of (At field.Heaps) heap_fields d
+  _ ← object_of (At field.Heaps) heap_info_fields d
   heap ← heap_name_of lack d
   contiguous ← flag_or field.Contiguous false d
   secure ← flag_or field.Secure false d
@@ -109,15 +109,15 @@ permitted_heap lack d = do
   heap_name_of lack d
 
 -- the heap is among these
-abbrev pub permits : List HeapName → HeapName → Bool
-permits heaps new = list_any (λ h. same_heap h new) heaps
+abbrev pub has_permitted : List HeapName → HeapName → Bool
+has_permitted heaps new = list_any (λ h. same_heap h new) heaps
 
 -- the permitted heaps, and the one that an item states: the 65th is refused before a repeated one
 abbrev pub with_permitted : Option Field → List HeapName → Data → Result (List HeapName) Fault
 with_permitted lack heaps d = do
   heap ← permitted_heap lack d
   roomy ← passing (wrong code.TooMany field.PermittedHeaps) (λ _. nat_lt (length heaps) 64) heap
-  new ← passing (wrong code.RepeatedHeap field.PermittedHeaps) (λ heap. not (permits heaps heap)) roomy
+  new ← passing (wrong code.RepeatedHeap field.PermittedHeaps) (λ heap. not (has_permitted heaps heap)) roomy
   kept lack field.PermittedHeaps (heaps ++ new ∷ [])
 
 -- a list of at most 64 heaps, with none twice; an empty list permits every heap

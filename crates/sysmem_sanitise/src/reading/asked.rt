@@ -3,12 +3,12 @@
 ghost use Rattle.std.specs.Prelude.{◌≡◌, [], None};
 ghost use Rattle.serde_json.specs.View.{view, items_view};
 ghost use Rattle.sysmem_counts.specs.declared.field.Field.TheVariants.{PixelFormatAndModifiers};
-ghost use Rattle.sysmem_sanitise.specs.Reading.Entries.{asked_by, same_format, same_modifier, same_asked, is_unfit, modifier_beside, asked_of, has_entry, has_asked, with_asked, has_further, no_pair, own_pair, with_further, asked_pairs};
+ghost use Rattle.sysmem_sanitise.specs.Reading.Entries.{asked_by, same_format, same_modifier, same_asked, asks_misfit, modifier_beside, asked_of, has_entry, has_asked, with_asked, has_further, no_pair, own_pair, with_further, asked_pairs};
 ghost use Rattle.sysmem_sanitise.specs.Reading.Fields.{Reads, read_each, seen_by};
 
 use super::field::{add, expect_object, list_of, stated};
 use super::name::{format_choice_of, modifier_choice_of};
-use crate::fault::{Code, Fault, Spot};
+use crate::fault::{Code, Fault, FaultPlace};
 use serde_json::Value;
 use std::alloc::Global;
 use sysmem_counts::Field;
@@ -43,8 +43,8 @@ fn asked_of(object: &Value) -> Result<AskedPair, Fault>
     Ok(AskedPair { format, modifier })
 }
 
-fn is_unfit(asked: AskedPair) -> bool
-    ensures { result ≡ is_unfit asked.format asked.modifier }
+fn asks_misfit(asked: AskedPair) -> bool
+    ensures { result ≡ asks_misfit asked.format asked.modifier }
 {
     match (asked.format, asked.modifier) {
         (Some(format), Some(modifier)) => is_tiled_misfit(Pair { format, modifier }),
@@ -100,7 +100,7 @@ fn add_asked(
     ensures { Reads (λ lack. with_asked lack field entries.now pairs.old.items new)
         (seen_by (λ _. pairs.new.items) result) }
 {
-    if is_unfit(new) {
+    if asks_misfit(new) {
         return Err(Fault::of(Code::TiledMisfit, field));
     }
     if 64 <= entries.len() + pairs.len() {
@@ -136,7 +136,8 @@ fn expect_no_pair(object: &Value) -> Result<(), Fault>
 }
 
 fn own_pair(alloc: Global, entries: &[Entry], object: &Value) -> Result<Vec<AskedPair>, Fault>
-    ensures { Reads (λ lack. own_pair lack entries.now (view object.now)) (seen_by (λ pairs. pairs.items) result) }
+    ensures { Reads (λ lack. own_pair lack entries.now (view object.now))
+        (seen_by (λ pairs. pairs.items) result) }
 {
     let mut pairs = Vec::new(alloc);
     if object.get(Field::PixelFormat.name()).is_some() {
@@ -153,7 +154,11 @@ fn add_further(entries: &[Entry], pairs: &mut Vec<AskedPair>, value: &Value) -> 
         (seen_by (λ _. pairs.new.items) result) }
 {
     let fields = [Field::PixelFormat, Field::PixelFormatModifier];
-    expect_object(value, Spot::At(Field::PixelFormatAndModifiers), &fields)?;
+    expect_object(
+        value,
+        FaultPlace::At(Field::PixelFormatAndModifiers),
+        &fields,
+    )?;
     let asked = asked_of(value)?;
     add_asked(Field::PixelFormatAndModifiers, entries, pairs, asked)
 }
@@ -163,7 +168,8 @@ fn further_in(
     mut pairs: Vec<AskedPair>,
     list: &[Value],
 ) -> Result<Vec<AskedPair>, Fault>
-    ensures { Reads (λ lack. read_each (with_further lack entries.now) pairs.items (items_view list.now))
+    ensures { Reads (λ lack. read_each (with_further lack entries.now) pairs.items
+        (items_view list.now))
         (seen_by (λ pairs. pairs.items) result) }
 {
     for value in list {
@@ -179,7 +185,8 @@ pub(super) fn asked_pairs(
     entries: &[Entry],
     object: &Value,
 ) -> Result<Vec<AskedPair>, Fault>
-    ensures { Reads (λ lack. asked_pairs lack entries.now (view object.now)) (seen_by (λ pairs. pairs.items) result) }
+    ensures { Reads (λ lack. asked_pairs lack entries.now (view object.now))
+        (seen_by (λ pairs. pairs.items) result) }
 {
     let own = own_pair(alloc, entries, object)?;
     match object.get(Field::PixelFormatAndModifiers.name()) {

@@ -2,6 +2,7 @@
 
 ghost use Rattle.std.specs.Prelude.{◌≡◌, ◌≤◌, IfOk};
 ghost use Rattle.serde_json.specs.View.{view};
+ghost use Rattle.sysmem_sanitise.specs.Participant.{most_multiple};
 ghost use Rattle.sysmem_sanitise.specs.Reading.Bounds.{some_number, multiple, large_number, bound_or, bounds_of, is_multiple, stated_bounds, stated_by};
 ghost use Rattle.sysmem_sanitise.specs.Reading.Fields.{seen_by};
 
@@ -29,11 +30,14 @@ macro_rules! read_bound {
     (size multiple $object:ident, $field:ident, $absent:ident) => { multiple_size_or($object, Field::$field, absent_bound!(number $absent))? };
 }
 
+/// The greatest alignment or divisor.
+const MOST_MULTIPLE: u64 = 65_536;
+
 /// Whether an alignment or a divisor may be so.
 pub(super) fn is_multiple(number: u64) -> bool
     ensures { result ≡ is_multiple number }
 {
-    1 <= number && number <= 65_536
+    1 <= number && number <= MOST_MULTIPLE
 }
 
 fn some_number_or(object: &Value, field: Field, absent: u32) -> Result<u32, Fault>
@@ -52,7 +56,7 @@ fn some_number_or(object: &Value, field: Field, absent: u32) -> Result<u32, Faul
 fn multiple_or(object: &Value, field: Field, absent: u32) -> Result<u32, Fault>
     ensures read { result ≡ bound_or multiple field absent (view object.now) }
     ensures some { 1 ≤ absent → IfOk result (λ n. 1 ≤ n) }
-    ensures small { absent ≤ 65536 → IfOk result (λ n. n ≤ 65536) }
+    ensures small { absent ≤ most_multiple → IfOk result (λ n. n ≤ most_multiple) }
 {
     match object.get(field.name()) {
         None => Ok(absent),

@@ -12,7 +12,7 @@ use super::field::{count_or, expect_object, stated};
 use super::memory::memory_in;
 use super::usage::usage_of;
 use crate::constraints::Constraints;
-use crate::fault::{Code, Fault, Spot};
+use crate::fault::{Code, Fault, FaultPlace};
 use serde_json::Value;
 use std::alloc::Global;
 use sysmem_counts::{CountConstraints, Field};
@@ -50,7 +50,7 @@ fn participant_of(alloc: Global, object: &Value) -> Result<Constraints, Fault>
         Field::BufferMemoryConstraints,
         Field::ImageFormatConstraints,
     ];
-    expect_object(object, Spot::Whole, &fields)?;
+    expect_object(object, FaultPlace::Whole, &fields)?;
     let usage = usage_of(stated(object, Code::BadUsage, Field::Usage)?)?;
     let counts = counts_of(object)?;
     let memory = memory_in(alloc, object)?;
@@ -61,7 +61,8 @@ fn participant_of(alloc: Global, object: &Value) -> Result<Constraints, Fault>
 /// Reads a participant's record: its usage, the five counts, its memory constraints and its image entries. One
 /// with further pairs stands for several entries. At most 64 permitted heaps and 64 entries are read.
 ///
-/// Refuses with the record's first fault in the order of its fields, or with want of memory.
+/// Refuses with the record's first fault in the order of its fields. Memory that a field takes and is
+/// refused is a fault of this field, where it takes it.
 pub fn read_constraints(alloc: Global, value: &Value) -> Result<Constraints, Fault>
     ensures taken { IfOk result (λ constraints. participant_of (view value.now) ≡ Ok constraints) }
     ensures refused { IfErr result

@@ -10,7 +10,7 @@ use super::asked::{AskedPair, asked_pairs};
 use super::bounds::bounds_of;
 use super::colour_set::colour_set_of;
 use super::field::{add, expect_object, list_of, stated};
-use crate::fault::{Code, Fault, Spot};
+use crate::fault::{Code, Fault, FaultPlace};
 use serde_json::Value;
 use std::alloc::Global;
 use sysmem_counts::Field;
@@ -33,7 +33,8 @@ fn add_entries(
     bounds: EntryBounds,
     pairs: &[AskedPair],
 ) -> Result<(), Fault>
-    ensures { Reads (λ lack. kept lack ImageFormatConstraints (entries.old.items ++ map (entry_with colours bounds) pairs.now))
+    ensures { Reads (λ lack. kept lack ImageFormatConstraints
+        (entries.old.items ++ map (entry_with colours bounds) pairs.now))
         (seen_by (λ _. entries.new.items) result) }
 {
     for pair in pairs {
@@ -63,7 +64,11 @@ fn expect_entry(object: &Value) -> Result<(), Fault>
     ensures { seen_by (λ _. view object.now) result ≡ entry_object (view object.now) }
 {
     let fields = bounds_table!(entry_fields!());
-    expect_object(object, Spot::At(Field::ImageFormatConstraints), &fields)
+    expect_object(
+        object,
+        FaultPlace::At(Field::ImageFormatConstraints),
+        &fields,
+    )
 }
 
 fn add_entry(alloc: Global, entries: &mut Vec<Entry>, value: &Value) -> Result<(), Fault>

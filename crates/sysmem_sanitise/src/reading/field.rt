@@ -1,30 +1,31 @@
 //! Reads one field of a record.
 
-ghost use Rattle.std.specs.Prelude.{◌≡◌, ◌-◌, ◌^◌, ◌≤◌, ◌++◌, ◌∷◌, [], IfOk};
+ghost use Rattle.std.specs.Prelude.{◌≡◌, ◌≤◌, ◌++◌, ◌∷◌, [], IfOk};
 ghost use Rattle.std.specs.List.{list_all};
 ghost use Rattle.serde_json.specs.View.{view, items_view, members_view};
-ghost use Rattle.sysmem_sanitise.specs.Reading.Fields.{keys_of, object_of, is_named, number_of, number_or, flag_or, stated, text_of, list_of, seen_by, kept, Reads};
+ghost use Rattle.sysmem_sanitise.specs.Reading.Bounds.{most};
+ghost use Rattle.sysmem_sanitise.specs.Reading.Fields.{keys_of, object_of, is_key_of, number_of, number_or, flag_or, stated, text_of, list_of, seen_by, kept, Reads};
 
-use crate::fault::{Code, Fault, Spot};
+use crate::fault::{Code, Fault, FaultPlace};
 use serde_json::{Map, Value};
 use sysmem_counts::Field;
 
-#[tactic(auto, unfolding(crate::specs::Reading::Fields::is_named))]
-fn is_named(key: &str, fields: &[Field]) -> bool
-    ensures { result ≡ is_named fields.now key.now }
+#[tactic(auto, unfolding(crate::specs::Reading::Fields::is_key_of))]
+fn is_key_of(key: &str, fields: &[Field]) -> bool
+    ensures { result ≡ is_key_of fields.now key.now }
 {
     fields.iter().any(|field| field.name() == key)
 }
 
-fn are_named(members: &Map<String, Value>, fields: &[Field]) -> bool
+fn are_keys_of(members: &Map<String, Value>, fields: &[Field]) -> bool
     ensures { result
-        ≡ list_all (is_named fields.now) (keys_of (members_view members.now.entries)) }
+        ≡ list_all (is_key_of fields.now) (keys_of (members_view members.now.entries)) }
 {
-    members.keys().all(|key| is_named(key.as_str(), fields))
+    members.keys().all(|key| is_key_of(key.as_str(), fields))
 }
 
-/// Whether the value is an object that has no other fields than these; else the fault at its spot.
-pub(super) fn expect_object(value: &Value, at: Spot, fields: &[Field]) -> Result<(), Fault>
+/// Whether the value is an object that has no other fields than these; else the fault at its place.
+pub(super) fn expect_object(value: &Value, at: FaultPlace, fields: &[Field]) -> Result<(), Fault>
     ensures { seen_by (λ _. view value.now) result ≡ object_of at fields.now (view value.now) }
 {
     match value.as_object() {
@@ -33,7 +34,7 @@ pub(super) fn expect_object(value: &Value, at: Spot, fields: &[Field]) -> Result
             at,
         }),
         Some(members) => {
-            if are_named(members, fields) {
+            if are_keys_of(members, fields) {
                 Ok(())
             } else {
                 Err(Fault {
@@ -81,7 +82,7 @@ pub(super) fn number_or(
 
 /// A number of 32 bits.
 pub(super) fn count_or(object: &Value, field: Field, absent: u32) -> Result<u32, Fault>
-    ensures { result ≡ number_or field absent (2 ^ 32 - 1) (view object.now) }
+    ensures { result ≡ number_or field absent most (view object.now) }
 {
     let number = number_or(object, field, u64::from(absent), u64::from(u32::MAX))?;
     Ok(number as u32)

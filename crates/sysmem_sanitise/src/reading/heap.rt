@@ -4,10 +4,10 @@ ghost use Rattle.std.specs.Prelude.{◌≡◌, [], string_bytes};
 ghost use Rattle.std.specs.List.{list_all};
 ghost use Rattle.serde_json.specs.View.{view, items_view};
 ghost use Rattle.sysmem_sanitise.specs.Reading.Fields.{seen_by, read_each, Reads};
-ghost use Rattle.sysmem_sanitise.specs.Reading.Heaps.{is_heap_byte, is_heap_type, heap_type_of, heap_name_of, permits, permitted_heap, with_permitted, permitted_of};
+ghost use Rattle.sysmem_sanitise.specs.Reading.Heaps.{is_heap_byte, is_heap_type, heap_type_of, heap_name_of, has_permitted, permitted_heap, with_permitted, permitted_of};
 
 use super::field::{add, expect_object, list_of, number_or, stated, text_of};
-use crate::fault::{Code, Fault, Spot};
+use crate::fault::{Code, Fault, FaultPlace};
 use serde_json::Value;
 use std::alloc::Global;
 use sysmem_counts::Field;
@@ -32,7 +32,8 @@ fn is_heap_type(text: &str) -> bool
 }
 
 fn heap_type_of(alloc: Global, value: &Value) -> Result<String, Fault>
-    ensures { Reads (λ lack. heap_type_of lack (view value.now)) (seen_by (λ text. string_bytes text) result) }
+    ensures { Reads (λ lack. heap_type_of lack (view value.now))
+        (seen_by (λ text. string_bytes text) result) }
 {
     let text = text_of(value, Field::HeapType)?;
     if !is_heap_type(text) {
@@ -57,12 +58,12 @@ fn permitted_heap(alloc: Global, object: &Value) -> Result<Heap, Fault>
     ensures { Reads (λ lack. permitted_heap lack (view object.now)) result }
 {
     let fields = [Field::HeapType, Field::Id];
-    expect_object(object, Spot::At(Field::PermittedHeaps), &fields)?;
+    expect_object(object, FaultPlace::At(Field::PermittedHeaps), &fields)?;
     heap_name_of(alloc, object)
 }
 
-fn permits(heaps: &[Heap], new: &Heap) -> bool
-    ensures { result ≡ permits heaps.now new.now }
+fn has_permitted(heaps: &[Heap], new: &Heap) -> bool
+    ensures { result ≡ has_permitted heaps.now new.now }
 {
     heaps.iter().any(|heap| *heap == *new)
 }
@@ -75,7 +76,7 @@ fn add_permitted(alloc: Global, heaps: &mut Vec<Heap>, value: &Value) -> Result<
     if 64 <= heaps.len() {
         return Err(Fault::of(Code::TooMany, Field::PermittedHeaps));
     }
-    if permits(heaps, &heap) {
+    if has_permitted(heaps, &heap) {
         return Err(Fault::of(Code::RepeatedHeap, Field::PermittedHeaps));
     }
     add(heaps, heap, Field::PermittedHeaps)
@@ -94,7 +95,8 @@ fn permitted_in(alloc: Global, list: &[Value]) -> Result<Vec<Heap>, Fault>
 
 /// A list of at most 64 heaps, no two of one type and id.
 pub(super) fn permitted_of(alloc: Global, value: &Value) -> Result<Vec<Heap>, Fault>
-    ensures { Reads (λ lack. permitted_of lack (view value.now)) (seen_by (λ heaps. heaps.items) result) }
+    ensures { Reads (λ lack. permitted_of lack (view value.now))
+        (seen_by (λ heaps. heaps.items) result) }
 {
     permitted_in(alloc, list_of(value, Field::PermittedHeaps)?)
 }

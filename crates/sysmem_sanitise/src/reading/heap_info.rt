@@ -8,7 +8,7 @@ ghost use Rattle.sysmem_sanitise.specs.Reading.Heaps.{no_domains, with_domain, w
 use super::field::{add, expect_object, flag_or, list_of, stated};
 use super::heap::heap_name_of;
 use super::name::domain_of;
-use crate::fault::{Code, Fault, Spot};
+use crate::fault::{Code, Fault, FaultPlace};
 use serde_json::Value;
 use std::alloc::Global;
 use sysmem_counts::Field;
@@ -72,7 +72,7 @@ fn heap_of(alloc: Global, object: &Value) -> Result<HeapInfo, Fault>
         Field::Secure,
         Field::Domains,
     ];
-    expect_object(object, Spot::At(Field::Heaps), &fields)?;
+    expect_object(object, FaultPlace::At(Field::Heaps), &fields)?;
     let heap = heap_name_of(alloc, object)?;
     let contiguous = flag_or(object, Field::Contiguous, false)?;
     let secure = flag_or(object, Field::Secure, false)?;
@@ -118,7 +118,8 @@ fn heaps_in(alloc: Global, list: &[Value]) -> Result<Vec<HeapInfo>, Fault>
 
 /// A list of 1 to 64 heaps, no two of one type and id.
 pub(super) fn heaps_of(alloc: Global, value: &Value) -> Result<Vec<HeapInfo>, Fault>
-    ensures { Reads (λ lack. heaps_of lack (view value.now)) (seen_by (λ heaps. heaps.items) result) }
+    ensures { Reads (λ lack. heaps_of lack (view value.now))
+        (seen_by (λ heaps. heaps.items) result) }
 {
     let heaps = heaps_in(alloc, list_of(value, Field::Heaps)?)?;
     if heaps.is_empty() {

@@ -10,7 +10,7 @@ ghost use Rattle.sysmem_sanitise.specs.Reading.Fields.{optional, seen_by, Reads}
 
 use super::field::{expect_object, flag_or, number_or};
 use super::heap::permitted_of;
-use crate::fault::{Fault, Spot};
+use crate::fault::{Fault, FaultPlace};
 use serde_json::Value;
 use std::alloc::Global;
 use sysmem_counts::Field;
@@ -39,7 +39,11 @@ fn memory_of(alloc: Global, object: &Value) -> Result<MemoryConstraints, Fault>
         Field::InaccessibleDomainSupported,
         Field::PermittedHeaps,
     ];
-    expect_object(object, Spot::At(Field::BufferMemoryConstraints), &fields)?;
+    expect_object(
+        object,
+        FaultPlace::At(Field::BufferMemoryConstraints),
+        &fields,
+    )?;
     Ok(MemoryConstraints {
         min_size_bytes: number_or(object, Field::MinSizeBytes, 0, u64::MAX)?,
         max_size_bytes: number_or(object, Field::MaxSizeBytes, u64::MAX, u64::MAX)?,
@@ -58,7 +62,8 @@ fn memory_of(alloc: Global, object: &Value) -> Result<MemoryConstraints, Fault>
 
 /// The memory constraints of a participant's record.
 pub(super) fn memory_in(alloc: Global, object: &Value) -> Result<MemoryConstraints, Fault>
-    ensures { Reads (λ lack. optional BufferMemoryConstraints no_wishes (memory_of lack) (view object.now)) result }
+    ensures { Reads (λ lack. optional BufferMemoryConstraints no_wishes (memory_of lack)
+        (view object.now)) result }
 {
     match object.get(Field::BufferMemoryConstraints.name()) {
         None => Ok(MemoryConstraints::permitting(Vec::new(alloc))),

@@ -11,14 +11,16 @@ ghost use Rattle.sysmem_sanitise.specs.Reading.Platform.{pair_of, with_pair, pai
 
 use super::field::{add, expect_object, list_of, stated};
 use super::name::{colour_of, format_of, modifier_of};
-use crate::fault::{Code, Fault, Spot};
+use crate::fault::{Code, Fault, FaultPlace};
 use serde_json::Value;
 use std::alloc::Global;
 use sysmem_counts::Field;
 use sysmem_formats::{ColourSpace, Modifier, Pair, is_tiled_misfit};
 
 fn modifier_in(object: &Value) -> Result<Modifier, Fault>
-    ensures { result ≡ optional PixelFormatModifier Linear (named modifier_named PixelFormatModifier) (view object.now) }
+    ensures { result
+        ≡ optional PixelFormatModifier Linear (named modifier_named PixelFormatModifier)
+        (view object.now) }
 {
     match object.get(Field::PixelFormatModifier.name()) {
         None => Ok(Modifier::Linear),
@@ -31,7 +33,7 @@ fn pair_of(object: &Value) -> Result<Pair, Fault>
 {
     expect_object(
         object,
-        Spot::At(Field::Pairs),
+        FaultPlace::At(Field::Pairs),
         &[Field::PixelFormat, Field::PixelFormatModifier],
     )?;
     let format = stated(object, Code::WrongKind, Field::PixelFormat)?;
@@ -86,7 +88,8 @@ fn pairs_in(alloc: Global, list: &[Value]) -> Result<Vec<Pair>, Fault>
 
 /// A list of pairs that isn't empty, no two alike and none a tiled modifier with a format that isn't of 4 bytes.
 pub(super) fn pairs_of(alloc: Global, value: &Value) -> Result<Vec<Pair>, Fault>
-    ensures { Reads (λ lack. pairs_of lack (view value.now)) (seen_by (λ pairs. pairs.items) result) }
+    ensures { Reads (λ lack. pairs_of lack (view value.now))
+        (seen_by (λ pairs. pairs.items) result) }
 {
     let pairs = pairs_in(alloc, list_of(value, Field::Pairs)?)?;
     if pairs.is_empty() {
@@ -125,7 +128,8 @@ fn colours_in(alloc: Global, list: &[Value]) -> Result<Vec<ColourSpace>, Fault>
 
 /// A list of colour spaces that isn't empty, no two alike.
 pub(super) fn colours_of(alloc: Global, value: &Value) -> Result<Vec<ColourSpace>, Fault>
-    ensures { Reads (λ lack. colours_of lack (view value.now)) (seen_by (λ colours. colours.items) result) }
+    ensures { Reads (λ lack. colours_of lack (view value.now))
+        (seen_by (λ colours. colours.items) result) }
 {
     let colours = colours_in(alloc, list_of(value, Field::ColorSpaces)?)?;
     if colours.is_empty() {

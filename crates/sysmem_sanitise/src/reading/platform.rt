@@ -10,7 +10,7 @@ ghost use Rattle.sysmem_sanitise.specs.Reading.Platform.{platform_of, platform_w
 use super::field::{expect_object, stated};
 use super::heap_info::heaps_of;
 use super::pair::{colours_of, pairs_of};
-use crate::fault::{Code, Fault, Spot};
+use crate::fault::{Code, Fault, FaultPlace};
 use crate::platform::Platform;
 use serde_json::Value;
 use std::alloc::Global;
@@ -21,7 +21,7 @@ fn platform_of(alloc: Global, object: &Value) -> Result<Platform, Fault>
 {
     expect_object(
         object,
-        Spot::Whole,
+        FaultPlace::Whole,
         &[Field::Heaps, Field::Pairs, Field::ColorSpaces],
     )?;
     let heaps = heaps_of(alloc, stated(object, Code::WrongKind, Field::Heaps)?)?;
@@ -33,7 +33,8 @@ fn platform_of(alloc: Global, object: &Value) -> Result<Platform, Fault>
 /// Reads a platform's record: its heaps, its pairs of a format and a modifier, and its colour spaces, each a list
 /// that isn't empty and has no item twice. At most 64 heaps are read.
 ///
-/// Refuses with the record's first fault in the order of its fields, or with want of memory.
+/// Refuses with the record's first fault in the order of its fields. Memory that a field takes and is
+/// refused is a fault of this field, where it takes it.
 pub fn read_platform(alloc: Global, value: &Value) -> Result<Platform, Fault>
     ensures taken { IfOk result (λ platform. platform_of (view value.now) ≡ Ok platform) }
     ensures refused { IfErr result

@@ -62,7 +62,8 @@ fn height_of(value: &Value, field: Field, greatest: u64) -> Result<u64, Fault>
 
 /// A width and a height, each from 0 to the greatest.
 fn size_to(value: &Value, field: Field, greatest: u64) -> Result<(u64, u64), Fault>
-    ensures read { seen_by (λ size. record { width = size.0; height = size.1 }) result ≡ size_to field greatest (view value.now) }
+    ensures read { seen_by (λ size. record { width = size.0; height = size.1 }) result
+        ≡ size_to field greatest (view value.now) }
     ensures fits { IfOk result (λ size. (size.0 ≤ greatest) × (size.1 ≤ greatest)) }
 {
     expect_sides(value, field)?;

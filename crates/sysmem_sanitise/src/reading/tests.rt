@@ -1,7 +1,7 @@
 //! Records with their first faults, and what the others state.
 
 use super::{read_constraints, read_platform};
-use crate::fault::{Code, Fault, Spot};
+use crate::fault::{Code, Fault, FaultPlace};
 use serde_json::Value;
 use std::alloc::Global;
 use std::test::Fail;
@@ -351,10 +351,13 @@ fn flattened(rt: HostRuntime) -> Result<(), Fail> {
         assert_eq!(rt; entry.modifier, format.map(|_| Modifier::Linear));
         assert!(rt; entry.colours.accepts(ColourSpace::Rec709) && !entry.colours.lists_any());
         assert_eq!(rt;
-            (entry.bounds.min_size.width, entry.bounds.min_size.height),
+            (
+                entry.bounds.asked.min_size.width,
+                entry.bounds.asked.min_size.height
+            ),
             (1, 2)
         );
-        assert_eq!(rt; entry.bounds.max_bytes_per_row, 4294967295);
+        assert_eq!(rt; entry.bounds.asked.max_bytes_per_row, 4294967295);
     }
     Ok(())
 }
@@ -398,7 +401,7 @@ fn platform_and_its_copy(rt: HostRuntime) -> Result<(), Fail> {
 fn fault_texts(rt: HostRuntime) -> Result<(), Fail> {
     let text = Fault {
         code: Code::WantOfMemory,
-        at: Spot::At(Field::Heaps),
+        at: FaultPlace::At(Field::Heaps),
     }
     .to_string(rt.alloc())?;
     assert_eq!(rt; text.as_str(), "S13 heaps");

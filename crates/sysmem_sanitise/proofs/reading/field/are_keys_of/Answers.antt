@@ -2,12 +2,12 @@ use Rattle.std.proofs.Common.{rules, tests, ◌∙◌, sym, string_bytes, Global
 use Rattle.std.proofs.lemmas.Iterator.Consumers.{YieldsList-from_rest}
 use Rattle.std.proofs.lemmas.Iterator.Search.{all_from_yields_List}
 use Rattle.std.specs.BTreeMap.{keys}
-use Rattle.sysmem_sanitise.specs.Reading.Fields.{is_named}
+use Rattle.sysmem_sanitise.specs.Reading.Fields.{is_key_of}
 use Rattle.sysmem_sanitise.proofs.Members.{list_all-keys_of}
-use Rattle.sysmem_sanitise.proofs.reading.field.are_named.Goals as goal
+use Rattle.sysmem_sanitise.proofs.reading.field.are_keys_of.Goals as goal
 
 pub returns : goal.returns
 returns c =
-    all_from_yields_List (λ key. is_named c.args.fields.now (string_bytes {Z = Global} key)) _ _ c.all.result c.all.ensures.ran
+    all_from_yields_List (λ key. is_key_of c.args.fields.now (string_bytes {Z = Global} key)) _ _ c.all.result c.all.ensures.ran
     (YieldsList-from_rest (keys c.args.members.now) c.keys.ensures.rest) (λ x b q k. search (rules, tests))
-    ∙ sym (list_all-keys_of (is_named c.args.fields.now) c.args.members.now.entries)
+    ∙ sym (list_all-keys_of (is_key_of c.args.fields.now) c.args.members.now.entries)
