@@ -19,3 +19,4 @@ pub mod Readiness
 pub mod Entries
 pub mod Apart
 pub mod Rows
+pub mod CallerLemmas

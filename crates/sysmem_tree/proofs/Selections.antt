@@ -6,7 +6,7 @@ use Rattle.std.proofs.lemmas.Bool.{cases_eq, cases_lt}
 use Rattle.std.proofs.lemmas.List.{length-map, map-append}
 use Rattle.std.proofs.lemmas.Option.{same_Some, none-some, option_and_then_some}
 use Rattle.std.proofs.Math.Nat.{add-mul, mul-add}
-use Rattle.sysmem_counts.specs.Sublist.{IsSublist, ended, taken, left_out}
+use Rattle.sysmem_tree.specs.Sublist.{IsSublist, ended, taken, left_out}
 use Rattle.sysmem_tree.specs.Forest.{Forest, Empty, Plain, Group, each, kids_else_rest, choices, settled, relabel, count, count_each, total, first_group}
 use Rattle.sysmem_tree.specs.Laws.{IsCounted}
 use Rattle.sysmem_tree.specs.Selection.{after, IsPrefix, IsSelection, IsEarlier}

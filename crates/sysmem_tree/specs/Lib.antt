@@ -12,3 +12,4 @@ pub mod Refusal
 pub mod Step
 pub mod History
 pub mod Laws
+pub mod Sublist
