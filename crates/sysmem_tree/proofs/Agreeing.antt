@@ -11,7 +11,7 @@ use Rattle.sysmem_tree.specs.declared.domain.Decision.{Decision}
 use Rattle.sysmem_tree.specs.declared.domain.Domain.{Domain}
 use Rattle.sysmem_tree.specs.declared.node.Birth.{Birth}
 use Rattle.sysmem_tree.specs.ActionKind.{Deed, kind_of}
-use Rattle.sysmem_tree.specs.Domain.{TreeFacts, was_closed_early, host_of, is_selected, is_lost, up_from, fails, has_failed, is_complete, is_ready, is_host_selected, is_host_lost}
+use Rattle.sysmem_tree.specs.Domain.{TreeFacts, was_closed_early, host_of, up_from, fails, has_failed, is_complete, is_ready, is_host_selected, is_host_lost}
 use Rattle.sysmem_tree.specs.Forest.{Empty}
 use Rattle.sysmem_tree.specs.History.{Entry, Acted, Decided, AreAccepted, after_entry, replay_from, replay, log_at, SameCalls, is_close, NoEarlyClose}
 use Rattle.sysmem_tree.specs.Laws.{SameInitial, SameReady}

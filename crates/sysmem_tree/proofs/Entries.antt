@@ -3,7 +3,7 @@ use Rattle.std.proofs.Common.{◌≡◌, ℕ, true, List, [], ◌∷◌, Option,
 use Rattle.std.specs.Prelude.{Ok}
 use Rattle.sysmem_tree.specs.ActionKind.{Deed}
 use Rattle.sysmem_tree.specs.Domain.{TreeFacts, HasDomain, is_undecided, decision_of, is_ready, IsSound}
-use Rattle.sysmem_tree.specs.History.{Entry, Acted, Decided, Accepts, after_entry, AreAccepted, replay_from, replay}
+use Rattle.sysmem_tree.specs.History.{Entry, Acted, Decided, Accepts, after_entry, AreAccepted, replay_from}
 use Rattle.sysmem_tree.specs.Laws.{IsSameDomain, IsMade}
 use Rattle.sysmem_tree.specs.Nodes.{IsTree}
 use Rattle.sysmem_tree.specs.Tree.{first_tree, Applied, applied, decided}

@@ -12,7 +12,7 @@ use Rattle.sysmem_tree.specs.declared.domain.Decision.TheVariants.{Undecided, Ch
 use Rattle.sysmem_tree.specs.declared.domain.Domain.{Domain}
 use Rattle.sysmem_tree.specs.declared.node.Birth.{Birth}
 use Rattle.sysmem_tree.specs.ActionKind.{Deed, kind_of}
-use Rattle.sysmem_tree.specs.Domain.{TreeFacts, HasDomain, is_chosen, is_none_chosen, is_undecided, was_closed_early, decision_of, host_of, is_selected, is_lost, up_from, fails, has_failed, is_complete, is_ready, IsDecidedReady, DecidedAreReady, is_host_selected, is_host_lost}
+use Rattle.sysmem_tree.specs.Domain.{TreeFacts, HasDomain, is_chosen, is_none_chosen, is_undecided, was_closed_early, decision_of, host_of, is_selected, up_from, fails, has_failed, is_complete, is_ready, IsDecidedReady, DecidedAreReady, is_host_selected, is_host_lost}
 use Rattle.sysmem_tree.specs.Forest.{relabel}
 use Rattle.sysmem_tree.specs.Laws.{by_both, IsSameDomain}
 use Rattle.sysmem_tree.specs.Node.{NodeFacts}

@@ -1,9 +1,9 @@
 -- What actions leave of a domain that is ready.
 use Rattle.std.proofs.Common.{◌≡◌, ◌≢◌, ℕ, zero, suc, ◌+◌, ◌<◌, ◌==◌, ◌&&◌, ◌||◌, not, Bool, true, false, List, [], ◌∷◌, ◌++◌, length, Option, Some, None, slice_get, slice_set, refl, sym, ◌∙◌, ap, subst, arith, rules, tests, inl, inr, append-nil}
-use Rattle.std.specs.Prelude.{Ok, if◌then◌else◌}
+use Rattle.std.specs.Prelude.{if◌then◌else◌}
 use Rattle.std.specs.List.{list_all, list_any}
 use Rattle.std.proofs.lemmas.Bool.{cases_eq}
-use Rattle.std.proofs.lemmas.Option.{slice_get_within, same_Some}
+use Rattle.std.proofs.lemmas.Option.{same_Some}
 use Rattle.list_lemmas.proofs.CallerLemmas.{and_parts}
 use Rattle.sysmem_sanitise.specs.Participant.{Participant}
 use Rattle.sysmem_tree.specs.declared.action.ActionKind.{ActionKind}
@@ -12,11 +12,11 @@ use Rattle.sysmem_tree.specs.declared.state.NodeKind.{NodeKind}
 use Rattle.sysmem_tree.specs.declared.state.NodeKind.TheVariants.{Token, Group, Collection}
 use Rattle.sysmem_tree.specs.declared.state.NodeState.{NodeState}
 use Rattle.sysmem_tree.specs.ActionKind.{Deed, kind_of, sets, duplicates, creates_group, binds, creates_child, has_all_children, attaches_token, releases, closes}
-use Rattle.sysmem_tree.specs.Domain.{TreeFacts, is_complete, is_ready}
+use Rattle.sysmem_tree.specs.Domain.{is_complete}
 use Rattle.sysmem_tree.specs.Forest.{Forest, Empty}
 use Rattle.sysmem_tree.specs.Laws.{by_both}
 use Rattle.sysmem_tree.specs.Node.{awaits, is_awaited, NodeFacts}
-use Rattle.sysmem_tree.specs.Nodes.{ordinal_under, IsTree}
+use Rattle.sysmem_tree.specs.Nodes.{ordinal_under}
 use Rattle.sysmem_tree.specs.Shape.{Labels, tree_of, kid_of, before, kids_from, rooted}
 use Rattle.sysmem_tree.specs.Table.{suits, allows, state_after, constraints_after, makes, makes_root}
 use Rattle.sysmem_tree.specs.Tree.{node_after, new_node, nodes_made, nodes_after, left_out_but}

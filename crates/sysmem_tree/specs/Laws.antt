@@ -2,7 +2,7 @@
 use Rattle.std.specs.Prelude.{◌≡◌, ◌≢◌, ◌<◌, ◌≤◌, ◌⊎◌, ◌++◌, ℕ, suc, max, true, List, [], ◌∷◌, length, AllPairs, Some, None, Ok, map, option_map, slice_get}
 use Rattle.sysmem_tree.specs.Sublist.{IsSublist}
 use Rattle.sysmem_tree.specs.ActionKind.{Deed}
-use Rattle.sysmem_tree.specs.Domain.{TreeFacts, HasDomain, is_complete, is_ready, DecidedAreReady, IsSound}
+use Rattle.sysmem_tree.specs.Domain.{TreeFacts, HasDomain, is_complete, is_ready, IsSound}
 use Rattle.sysmem_tree.specs.Forest.{Forest, Empty, Plain, Group, choices, settled, relabel, count, total, first_group}
 use Rattle.sysmem_tree.specs.History.{Entry, Accepts, after_entry, AreAccepted, replay, log_at, SameCalls, NoEarlyClose}
 use Rattle.sysmem_tree.specs.Node.{NodeFacts}
