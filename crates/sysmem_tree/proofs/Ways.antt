@@ -1,28 +1,21 @@
 -- Paths, step by step.
-use Rattle.std.proofs.Common.{◌≡◌, ℕ, ◌+◌, ◌<◌, ◌==◌, ◌&&◌, Bool, true, false, List, [], ◌∷◌, ◌++◌, length, drop, get_or, Option, Some, None, slice_get, refl, sym, ◌∙◌, ap, subst, arith, rules, tests, append_assoc, nat_lt}
-use Rattle.std.specs.Prelude.{option_and_then, position, reverse}
+use Rattle.std.proofs.Common.{◌≡◌, ℕ, zero, suc, ◌≤◌, ◌<◌, ◌==◌, ◌&&◌, Bool, true, false, List, [], ◌∷◌, ◌++◌, length, get_or, Option, Some, None, slice_get, refl, sym, ◌∙◌, ap, subst, arith, rules, tests, append_assoc, nat_lt}
+use Rattle.std.specs.Prelude.{position, reverse}
 use Rattle.std.specs.List.{position_or_len}
-use Rattle.std.proofs.lemmas.List.{at_drop_more, append-nil, reverse-append, reverse-reverse}
+use Rattle.std.proofs.lemmas.List.{append-nil, reverse-append, reverse-reverse}
 use Rattle.std.proofs.lemmas.List.Quantifiers.{position-Some}
 use Rattle.std.proofs.lemmas.List.Sums.{position_or_len_is}
 use Rattle.std.proofs.lemmas.Option.{slice_get-get_or, get_or_from_slice_get, slice_get_within, same_Some, option_and_then_some}
+use Rattle.list_lemmas.proofs.CallerLemmas.{slice_get_some}
 use Rattle.sysmem_tree.specs.declared.node.Birth.{Birth}
 use Rattle.sysmem_tree.specs.Node.{NodeFacts}
-use Rattle.sysmem_tree.specs.Path.{is_born, is_child, child_of, led_to, node_at}
 use Rattle.sysmem_tree.specs.Nodes.{IsTree}
-use Rattle.sysmem_tree.proofs.Standing.{there}
+use Rattle.sysmem_tree.specs.Path.{is_born, child_of, led_to, node_at}
+use Rattle.sysmem_tree.proofs.Kids.{Distinct, once, under_parent, parent_of, root_birth}
+use Rattle.sysmem_tree.proofs.Places.{there}
 
--- one step on, the rest leads to the same node
-pub led_on : (nodes : List NodeFacts) (path : List ℕ) (number child at : ℕ) → at < length path → child_of nodes number (get_or path at 0) ≡ Some child
-    → led_to nodes child (drop (at + 1) path) ≡ led_to nodes number (drop at path)
-led_on nodes path number child at within is =
-    sym (at_drop_more (led_to nodes number) path at 0 within ∙ ap (λ o. option_and_then (λ c. led_to nodes c (drop (at + 1) path)) o) is)
-
--- without a child no node is there
-pub led_off : (nodes : List NodeFacts) (path : List ℕ) (number at : ℕ) → at < length path → child_of nodes number (get_or path at 0) ≡ None
-    → None ≡ led_to nodes number (drop at path)
-led_off nodes path number at within is =
-    sym (at_drop_more (led_to nodes number) path at 0 within ∙ ap (λ o. option_and_then (λ c. led_to nodes c (drop (at + 1) path)) o) is)
+abbrev is_child : ℕ → ℕ → NodeFacts → Bool
+is_child parent ordinal n = is_born parent ordinal n.birth
 
 eq-nat : (a b : ℕ) → (a == b) ≡ true → a ≡ b
 eq-nat a b h = search (rules, tests)
@@ -53,10 +46,6 @@ position_is p xs k x here passes first =
     let less : nat_lt k (length xs) ≡ true = search (rules, tests, within) in
     rw (at, less) refl
 
--- no two nodes are of one birth
-abbrev pub Distinct : List NodeFacts → Type 0
-Distinct nodes = (j k : ℕ) (m n : NodeFacts) → slice_get nodes j ≡ Some m → slice_get nodes k ≡ Some n → m.birth ≡ n.birth → j ≡ k
-
 -- a child is found by its birth
 pub child_found : (nodes : List NodeFacts) (k : ℕ) (n : NodeFacts) (b : Birth) → Distinct nodes → slice_get nodes k ≡ Some n → n.birth ≡ Some b
     → child_of nodes b.parent b.ordinal ≡ Some k
@@ -71,16 +60,20 @@ child_found nodes k n b distinct here is =
           let same : j ≡ k = distinct j k (get_or nodes j n) n at here (birth ∙ sym is) in
           absurd (omega (arith, same, below))
 
--- from a node's parent its ordinal leads to it, and on
-pub led_up : (nodes : List NodeFacts) (k : ℕ) (n : NodeFacts) (b : Birth) (rest : List ℕ) (o : Option ℕ) → IsTree nodes → slice_get nodes k ≡ Some n → n.birth ≡ Some b
-    → led_to nodes k rest ≡ o → led_to nodes b.parent (b.ordinal ∷ rest) ≡ o
-led_up nodes k n b rest o tree here is leads = ap (λ c. option_and_then (λ child. led_to nodes child rest) c) (child_found nodes k n b tree.distinct here is) ∙ leads
-
 -- a node that is nobody's child is the root
 pub root_alone : (nodes : List NodeFacts) (k : ℕ) (n : NodeFacts) → IsTree nodes → slice_get nodes k ≡ Some n → n.birth ≡ None → k ≡ 0
-root_alone nodes k n tree here none =
-    let (r, at, root) = there (λ x. x.birth ≡ None) (slice_get nodes 0) tree.root in
-    tree.distinct k 0 n r here at (none ∙ sym root)
+root_alone nodes zero n tree here none = refl
+root_alone nodes (suc k) n tree here none = let (b, is, _) = there (λ (b : Birth). b.parent ≤ k) n.birth (tree.child k n here) in absurd (cc)
+
+-- in a tree they are distinct
+pub distinct : (nodes : List NodeFacts) → IsTree nodes → Distinct nodes
+distinct nodes tree j k m n at_j at_k same = at m.birth refl where
+  at : (o : Option Birth) → m.birth ≡ o → j ≡ k
+  at None e = root_alone nodes j m tree at_j e ∙ sym (root_alone nodes k n tree at_k (sym same ∙ e))
+  at (Some b) e =
+      let up = parent_of nodes tree j m b at_j e in
+      let (p, here) = slice_get_some nodes b.parent (omega (arith, up, slice_get_within nodes j m at_j)) in
+      once b.parent nodes 0 p.state.children b.ordinal j k m n (tree.numbered b.parent p here) at_j at_k (under_parent b m.birth e) (under_parent b n.birth (sym same ∙ e))
 
 -- the ordinals, the last one first, lead up from a node to the root
 abbrev Up : List NodeFacts → ℕ → List ℕ → Type 0
@@ -108,12 +101,10 @@ one_way : (nodes : List NodeFacts) → IsTree nodes → (p q : List ℕ) (k : �
 one_way nodes tree [] [] k a b = refl
 one_way nodes tree [] (o ∷ q) k a (i, found, b) =
     let (n, here, is) = child_born nodes i o k found in
-    let (r, at, root) = there (λ x. x.birth ≡ None) (slice_get nodes 0) tree.root in
-    absurd (let same : n ≡ r = same_Some n r (sym here ∙ (ap (slice_get nodes) a ∙ at)) in cc (is, root, same))
+    let root = root_birth nodes tree n (sym (ap (slice_get nodes) a) ∙ here) in absurd (cc (is, root.0))
 one_way nodes tree (o ∷ p) [] k (i, found, a) b =
     let (n, here, is) = child_born nodes i o k found in
-    let (r, at, root) = there (λ x. x.birth ≡ None) (slice_get nodes 0) tree.root in
-    absurd (let same : n ≡ r = same_Some n r (sym here ∙ (ap (slice_get nodes) b ∙ at)) in cc (is, root, same))
+    let root = root_birth nodes tree n (sym (ap (slice_get nodes) b) ∙ here) in absurd (cc (is, root.0))
 one_way nodes tree (o ∷ p) (u ∷ q) k (i, found, a) (j, gained, b) =
     let (n, here, is) = child_born nodes i o k found in
     let (m, there', was) = child_born nodes j u k gained in

@@ -1,19 +1,105 @@
 //! What is true of trees, whoever makes them.
 
-ghost use Rattle.sysmem_tree.specs.Laws.{ActionIsPathStep, OnePath, ReadyStays};
+ghost use Rattle.sysmem_tree.specs.Laws.{OnePath, ActionIsStep, SameMapSameShape, OneForest, SoundStays, ReadyStays, ForestStays, PathsInShapesDiffer, FewGroupsNest, SettledGrows, Counts, FirstGroup, SelectionsAreListed, OneIsEarlier, EarlierIsAnOrder, PrefixOfPrefix, Relabels, MapsOfLogs, InitialShape, Confluence};
 
-/// No two paths lead to one node.
+/// Each node has one path.
 pub fn one_path()
     ensures { OnePath }
 {}
 
-/// Seen as a map from paths to nodes, an action changes its own node, puts the token that it makes behind the children so far, and
-/// leaves what is at each other path.
-pub fn action_is_path_step()
-    ensures { ActionIsPathStep }
+/// Seen as a map from paths to nodes: an accepted action changes its own node, puts the node that it makes behind the children so
+/// far, and leaves what is at each other path.
+pub fn action_is_step()
+    ensures { ActionIsStep }
 {}
 
-/// A domain that is ready stays so, and no action changes what became of it.
+/// Trees with one map have one shape in each domain, whatever order their nodes were made in.
+pub fn same_shape()
+    ensures { SameMapSameShape }
+{}
+
+/// A domain's forest of node numbers and its shape are one forest under two kinds of labels.
+pub fn one_forest()
+    ensures { OneForest }
+{}
+
+/// What is true of each tree stays true, by accepted actions and by decisions.
+pub fn sound_stays()
+    ensures { SoundStays }
+{}
+
+/// Once ready a domain stays so, by actions and by decisions.
 pub fn ready_stays()
     ensures { ReadyStays }
+{}
+
+/// From ready on neither an action nor a decision changes a domain's forest, and so its shape and the members of its selections.
+pub fn forest_stays()
+    ensures { ForestStays }
+{}
+
+/// The nodes of a shape have paths of their own, and so do those that choices settle.
+pub fn paths_in_shapes_differ()
+    ensures { PathsInShapesDiffer }
+{}
+
+/// In a shape at most 128 groups stand within each other.
+pub fn few_groups_nest()
+    ensures { FewGroupsNest }
+{}
+
+/// Choices only add to the nodes that are settled.
+pub fn settled_grows()
+    ensures { SettledGrows }
+{}
+
+/// There is one selection where there is no group, else as many as the choices for the first group have together.
+pub fn counts()
+    ensures { Counts }
+{}
+
+/// There are as many choices as the first group has children.
+pub fn first_group()
+    ensures { FirstGroup }
+{}
+
+/// All selections stand in a list, each once, in their order, as long as their count.
+pub fn selections_are_listed()
+    ensures { SelectionsAreListed }
+{}
+
+/// Of two selections one is earlier, or they are equal.
+pub fn one_is_earlier()
+    ensures { OneIsEarlier }
+{}
+
+/// No selection is earlier than itself, and what is earlier than an earlier one is earlier.
+pub fn earlier_is_an_order()
+    ensures { EarlierIsAnOrder }
+{}
+
+/// The first choices of a prefix are a prefix.
+pub fn prefix_of_prefix()
+    ensures { PrefixOfPrefix }
+{}
+
+/// Other labels change neither the choices nor what they settle.
+pub fn relabels()
+    ensures { Relabels }
+{}
+
+/// A history makes a tree whose map is what the actions at each path make.
+pub fn maps_of_logs()
+    ensures { MapsOfLogs }
+{}
+
+/// The initial domain's shape, and whether its nodes are complete, depend on nothing but the actions at its own paths.
+pub fn initial_shape()
+    ensures { InitialShape }
+{}
+
+/// Histories with the same actions at each path, in which no node is closed before the initial domain's decision, leave it ready both
+/// or neither, and of one shape.
+pub fn confluence()
+    ensures { Confluence }
 {}

@@ -1,4 +1,4 @@
-//! The tree of a collection: its nodes, what their calls make of them, and when its domain is ready for a decision.
+//! The tree of a collection: its nodes, what their actions make of it, and when its domains are ready for a decision.
 //!
 //! ```
 //! let mut tree = Tree::new(rt.alloc())?;
@@ -9,22 +9,17 @@
 #![tactic(auto)]
 
 mod action;
-mod copying;
-mod fate;
+mod domain;
 mod id;
 pub mod laws;
 mod node;
 mod path;
-mod paths;
 mod refusal;
-mod tree;
+mod state;
 
-pub use action::{Action, Event};
-pub use fate::Fate;
+pub use action::{Action, ActionKind, Event};
+pub use domain::Decision;
 pub use id::{DomainId, NodeId};
 pub use path::Path;
 pub use refusal::Refusal;
-pub use tree::{MOST_NODES, Tree};
-
-#[cfg(test)]
-mod tests;
+pub use state::{NodeKind, NodeState};

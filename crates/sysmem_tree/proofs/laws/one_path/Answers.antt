@@ -1,5 +1,6 @@
-use Rattle.sysmem_tree.proofs.Ways.{one_path}
+-- See Steps.antt.
+use Rattle.sysmem_tree.proofs.Steps.{only_path as lemma}
 use Rattle.sysmem_tree.proofs.laws.one_path.Goals as goal
 
 pub returns : goal.returns
-returns c = one_path
+returns c = lemma

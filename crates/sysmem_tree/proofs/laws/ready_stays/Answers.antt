@@ -1,5 +1,6 @@
-use Rattle.sysmem_tree.proofs.Accepted.{ready_stays}
+-- See Entries.antt.
+use Rattle.sysmem_tree.proofs.Entries.{ready_stays as lemma}
 use Rattle.sysmem_tree.proofs.laws.ready_stays.Goals as goal
 
 pub returns : goal.returns
-returns c = ready_stays
+returns c = lemma

@@ -1,0 +1,6 @@
+-- See Selections.antt.
+use Rattle.sysmem_tree.proofs.Selections.{first_many as lemma}
+use Rattle.sysmem_tree.proofs.laws.first_group.Goals as goal
+
+pub returns : goal.returns
+returns c = lemma

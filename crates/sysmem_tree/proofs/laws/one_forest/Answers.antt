@@ -1,0 +1,6 @@
+-- See Labelled.antt.
+use Rattle.sysmem_tree.proofs.Labelled.{one_forest as lemma}
+use Rattle.sysmem_tree.proofs.laws.one_forest.Goals as goal
+
+pub returns : goal.returns
+returns c = lemma

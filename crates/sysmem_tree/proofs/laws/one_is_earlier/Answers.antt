@@ -1,0 +1,6 @@
+-- See Selections.antt.
+use Rattle.sysmem_tree.proofs.Selections.{one_is_earlier as lemma}
+use Rattle.sysmem_tree.proofs.laws.one_is_earlier.Goals as goal
+
+pub returns : goal.returns
+returns c = lemma

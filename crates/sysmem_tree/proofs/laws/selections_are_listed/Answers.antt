@@ -1,0 +1,6 @@
+-- See Listed.antt.
+use Rattle.sysmem_tree.proofs.Listed.{listed as lemma}
+use Rattle.sysmem_tree.proofs.laws.selections_are_listed.Goals as goal
+
+pub returns : goal.returns
+returns c = lemma
