@@ -1,3 +1,9 @@
+pub mod Leading
+pub mod Acting
+pub mod Soundness
+pub mod Entering
+pub mod Upwards
+pub mod Writes
 pub mod Places
 pub mod Kids
 pub mod Accepted

@@ -121,7 +121,7 @@ module _ (t u : TreeFacts) (decided_ready : DecidedAreReady t) (keeps : Keeps t 
       ∙ (ap (λ b. true && (not b && is_host_selected u.domains (host_of u.nodes r))) f ∙ ap (λ b. true && (not false && b)) s)
 
 -- a domain's root roots itself
-home_root : (nodes : List NodeFacts) → IsTree nodes → (bound k : ℕ) (n : NodeFacts) → k < bound → slice_get nodes k ≡ Some n → HasDomain nodes n.domain
+pub home_root : (nodes : List NodeFacts) → IsTree nodes → (bound k : ℕ) (n : NodeFacts) → k < bound → slice_get nodes k ≡ Some n → HasDomain nodes n.domain
 home_root nodes tree zero k n below here = absurd (omega (arith, below))
 home_root nodes tree (suc bound) k n below here = by (λ j m less at. home_root nodes tree bound j m less at) n.birth refl where
   mine : n.domain ≡ k → HasDomain nodes n.domain

@@ -4,6 +4,8 @@ use Rattle.std.specs.List.{list_all, list_any}
 use Rattle.sysmem_tree.specs.declared.domain.Decision.{Decision}
 use Rattle.sysmem_tree.specs.declared.domain.Decision.TheVariants.{Undecided, Chosen, NoneChosen}
 use Rattle.sysmem_tree.specs.declared.domain.Domain.{Domain}
+use Rattle.sysmem_tree.specs.declared.fate.Fate.{Fate}
+use Rattle.sysmem_tree.specs.declared.fate.Fate.TheVariants as fates
 use Rattle.sysmem_tree.specs.Node.{NodeFacts, is_awaited}
 use Rattle.sysmem_tree.specs.Nodes.{IsTree, AreProper}
 use Rattle.sysmem_tree.specs.Path.{birth_of}
@@ -76,6 +78,16 @@ fails t r = was_closed_early t.domains r || is_host_lost t.domains (host_of t.no
 -- a domain has failed where it, or one above it, fails by itself
 abbrev pub has_failed : TreeFacts → ℕ → Bool
 has_failed t r = list_any (fails t) (up_from 128 t.nodes r)
+
+-- what a decision makes of its domain
+abbrev pub fate_by : Decision → Fate
+fate_by Undecided = fates.Undecided
+fate_by Chosen = fates.Chosen
+fate_by NoneChosen = fates.NoneChosen
+
+-- what became of a domain
+abbrev pub fate_of : TreeFacts → ℕ → Fate
+fate_of t r = if has_failed t r then fates.Failed else fate_by (decision_of t.domains r)
 
 -- the domains that one event made fail, in order of creation of their roots: those that have failed and hadn't before
 abbrev pub newly_failed : TreeFacts → TreeFacts → List ℕ

@@ -9,17 +9,24 @@
 #![tactic(auto)]
 
 mod action;
+mod copying;
 mod domain;
+mod fate;
 mod id;
 pub mod laws;
 mod node;
 mod path;
+mod paths;
 mod refusal;
+mod standing;
 mod state;
+mod table;
+mod tree;
 
 pub use action::{Action, ActionKind, Event};
-pub use domain::Decision;
+pub use fate::Fate;
 pub use id::{DomainId, NodeId};
 pub use path::Path;
 pub use refusal::Refusal;
 pub use state::{NodeKind, NodeState};
+pub use tree::{MOST_NODES, Tree};

@@ -1,6 +1,13 @@
 //! A node of a tree.
 
-use crate::state::NodeState;
+ghost use Rattle.std.specs.Prelude.{◌≡◌, ◌<◌, option_map};
+ghost use Rattle.sysmem_tree.specs.ActionKind.{deed_of};
+ghost use Rattle.sysmem_tree.specs.Path.{is_born};
+ghost use Rattle.sysmem_tree.specs.Table.{makes};
+ghost use Rattle.sysmem_tree.specs.Tree.{first_node, new_node, node_after};
+
+use crate::action::{Action, ActionKind};
+use crate::state::{NodeKind, NodeState};
 use std::marker::Model;
 use std::sync::Arc;
 use sysmem_sanitise::Constraints;
@@ -38,4 +45,86 @@ impl Model for Node {
       constraints = option_map (λ shared. arc_value shared) n.constraints;
       is_left_out = n.is_left_out;
     } };
+}
+
+impl Node {
+    /// The root token.
+    pub(crate) fn root() -> Node
+        ensures { result ≡ first_node }
+    {
+        Node {
+            birth: None,
+            domain: 0,
+            state: NodeState::fresh(NodeKind::Token),
+            constraints: None,
+            is_left_out: false,
+        }
+    }
+
+    /// The node that the action makes, if any, where this one has the number `own` and the one that is made `made`.
+    pub(crate) fn next_child(&self, own: usize, made: usize, kind: ActionKind) -> Option<Node>
+        ensures { result ≡ option_map (new_node made own self.now kind) (makes kind) }
+    {
+        let state = kind.makes()?;
+        let birth = Birth {
+            parent: own,
+            ordinal: self.state.children,
+        };
+        Some(Node {
+            birth: Some(birth),
+            domain: if kind.makes_root() { made } else { self.domain },
+            state,
+            constraints: None,
+            is_left_out: false,
+        })
+    }
+
+    /// Which child of which node it is; `None` for the root.
+    pub(crate) fn birth(&self) -> Option<Birth>
+        ensures { result ≡ self.now.birth }
+    {
+        self.birth
+    }
+
+    /// The number of the node that is the root of its domain.
+    pub(crate) fn domain(&self) -> usize
+        ensures { result ≡ self.now.domain }
+    {
+        self.domain
+    }
+
+    /// What its own actions made of it, but for its constraints.
+    pub(crate) fn state(&self) -> NodeState
+        ensures { result ≡ self.now.state }
+    {
+        self.state
+    }
+
+    /// Whether its domain's decision left it out.
+    pub(crate) fn is_left_out(&self) -> bool
+        ensures { result ≡ self.now.is_left_out }
+    {
+        self.is_left_out
+    }
+
+    /// Whether it is this child of this node.
+    pub(crate) fn is_child(&self, parent: usize, ordinal: u32) -> bool
+        ensures { result ≡ is_born parent ordinal self.now.birth }
+    {
+        match self.birth {
+            Some(birth) => birth.parent == parent && birth.ordinal == ordinal,
+            None => false,
+        }
+    }
+
+    /// What the action makes of it.
+    pub(crate) fn act(&mut self, action: Action)
+        requires { self.old.state.children < 128 }
+        ensures { self.new ≡ node_after (deed_of action) self.old }
+    {
+        self.state.act(action.kind());
+        if let Action::SetConstraints(constraints) = action {
+            self.constraints = constraints;
+        }
+    }
 }

@@ -1,0 +1,47 @@
+//! Paths in a list of nodes.
+
+ghost use Rattle.std.specs.Prelude.{◌≡◌, ◌<◌, ℕ, List, Some, length, IfOk, IfSome};
+ghost use Rattle.sysmem_tree.specs.Path.{child_of, node_at, path_of};
+ghost use Rattle.sysmem_tree.specs.Nodes.{IsTree};
+
+use crate::node::Node;
+use std::alloc::{AllocError, Global};
+
+/// This child of this parent.
+fn child_of(nodes: &[Node], parent: usize, ordinal: u32) -> Option<usize>
+    ensures child { result ≡ child_of nodes.now parent ordinal }
+    ensures there { IfSome result (λ number. number < length nodes.now) }
+{
+    nodes.iter().position(|node| node.is_child(parent, ordinal))
+}
+
+/// The node at a path from the first node.
+pub(crate) fn node_at(nodes: &[Node], path: &[u32]) -> Option<usize>
+    requires { 0 < length nodes.now }
+    ensures node { result ≡ node_at nodes.now path.now }
+    ensures there { IfSome result (λ number. number < length nodes.now) }
+{
+    let mut number = 0;
+    for ordinal in path {
+        number = child_of(nodes, number, *ordinal)?;
+    }
+    Some(number)
+}
+
+/// The path to a node from the first one.
+pub(crate) fn path_to(alloc: Global, nodes: &[Node], node: usize) -> Result<Vec<u32>, AllocError>
+    requires tree { IsTree nodes.now }
+    requires there { node < length nodes.now }
+    ensures path { IfOk result (λ path. path.items ≡ path_of nodes.now node) }
+    ensures leads { IfOk result (λ path. node_at nodes.now path.items ≡ Some node) }
+    ensures only { IfOk result (λ path. (other : List ℕ) → node_at nodes.now other ≡ Some node → other ≡ path.items) }
+{
+    let mut path = Vec::new(alloc);
+    let mut number = node;
+    while let Some(birth) = nodes[number].birth() {
+        path.push(birth.ordinal)?;
+        number = birth.parent;
+    }
+    path.reverse();
+    Ok(path)
+}
