@@ -19,3 +19,8 @@ pub mod Readiness
 pub mod Entries
 pub mod Apart
 pub mod Rows
+pub mod Numbers
+pub mod Layouts
+pub mod Few
+pub mod Chosen
+pub mod Walks

@@ -12,3 +12,5 @@ pub mod Refusal
 pub mod Step
 pub mod History
 pub mod Laws
+pub mod Layout
+pub mod Prefix

@@ -9,11 +9,14 @@
 #![tactic(auto)]
 
 mod action;
+mod count;
 mod domain;
 mod id;
 pub mod laws;
+mod layout;
 mod node;
 mod path;
+mod prefix;
 mod refusal;
 mod state;
 
@@ -21,5 +24,6 @@ pub use action::{Action, ActionKind, Event};
 pub use domain::Decision;
 pub use id::{DomainId, NodeId};
 pub use path::Path;
+pub use prefix::Prefix;
 pub use refusal::Refusal;
 pub use state::{NodeKind, NodeState};
