@@ -26,3 +26,8 @@ pub mod Entries
 pub mod Apart
 pub mod Rows
 pub mod CallerLemmas
+pub mod Numbers
+pub mod Layouts
+pub mod Few
+pub mod Chosen
+pub mod Walks

@@ -13,3 +13,5 @@ pub mod Step
 pub mod History
 pub mod Laws
 pub mod Sublist
+pub mod Layout
+pub mod Prefix

@@ -10,13 +10,16 @@
 
 mod action;
 mod copying;
+mod count;
 mod domain;
 mod fate;
 mod id;
 pub mod laws;
+mod layout;
 mod node;
 mod path;
 mod paths;
+mod prefix;
 mod refusal;
 mod standing;
 mod state;
@@ -27,6 +30,7 @@ pub use action::{Action, ActionKind, Event};
 pub use fate::Fate;
 pub use id::{DomainId, NodeId};
 pub use path::Path;
+pub use prefix::Prefix;
 pub use refusal::Refusal;
 pub use state::{NodeKind, NodeState};
 pub use tree::{MOST_NODES, Tree};

@@ -1,0 +1,203 @@
+//! The forest of a domain in a flat layout, in pre-order.
+
+ghost use Rattle.std.specs.Prelude.{◌≡◌, ◌≤◌, ◌<◌, ◌+◌, ℕ, Some, None, IfSome, [], drop, length, is_some, slice_get, if◌then◌else◌};
+ghost use Rattle.sysmem_tree.specs.Shape.{kids_from, by_number, kid_of};
+ghost use Rattle.sysmem_tree.specs.Layout.{is_group, size, Lays};
+
+use crate::node::Node;
+use crate::state::NodeKind;
+
+/// How many places there are: as many as nodes.
+pub(crate) const PLACES: usize = 128;
+
+/// The place of a node in a domain's layout. Places are in pre-order, so that what is below a node comes just behind it.
+#[derive(Clone, Copy, Debug, PartialEq, Eq)]
+pub struct Place {
+    /// The number of the node.
+    pub(crate) node: usize,
+    /// Whether its children are alternatives.
+    pub(crate) is_group: bool,
+    /// How many children it has in the domain.
+    pub(crate) children: u32,
+    /// The place behind all that is below it.
+    pub(crate) end: usize,
+    /// The first group from here on, as long as the groups around it choose the way to it: itself, one below it or one behind it.
+    pub(crate) next: Option<usize>,
+}
+
+const NO_PLACE: Place = Place {
+    node: 0,
+    is_group: false,
+    children: 0,
+    end: 0,
+    next: None,
+};
+
+/// What is laid out: children of a node, with all that is below them.
+#[derive(Clone, Copy)]
+pub(crate) struct Children {
+    /// The number of the node whose children they are.
+    pub(crate) parent: usize,
+    /// Whether they are alternatives.
+    pub(crate) is_group: bool,
+    /// The place before which they end.
+    pub(crate) end: usize,
+    /// The first group behind them.
+    pub(crate) next: Option<usize>,
+}
+
+/// What was laid out.
+#[derive(Clone, Copy)]
+pub(crate) struct Laid {
+    /// The place of the first of them.
+    pub(crate) start: usize,
+    /// How many they are.
+    pub(crate) children: u32,
+    /// The first group behind what comes before them: among them, unless they are alternatives, or else behind them.
+    pub(crate) next: Option<usize>,
+}
+
+/// Whether a node is a child of another one, in the domain.
+pub(crate) fn is_kid(node: &Node, domain: usize, parent: usize) -> bool
+    ensures { result ≡ is_some (kid_of domain parent node.now) }
+{
+    match node.birth {
+        Some(birth) => node.domain == domain && birth.parent == parent,
+        None => false,
+    }
+}
+
+/// Whether a node's children are alternatives.
+pub(crate) fn has_alternatives(node: &Node) -> bool
+    ensures { result ≡ is_group node.now.state.kind }
+{
+    node.state.kind == NodeKind::Group
+}
+
+/// The one or the other.
+fn either(test: bool, yes: Option<usize>, no: Option<usize>) -> Option<usize>
+    ensures { result ≡ (if test then yes else no) }
+{
+    if test { yes } else { no }
+}
+
+/// Lays out those children of a node that are among the nodes from number `from` on, the last one first.
+fn lay_from(
+    nodes: &[Node],
+    domain: usize,
+    from: usize,
+    what: Children,
+    places: &mut [Place; 128],
+) -> Laid
+    requires from { from ≤ length nodes.now }
+    requires end { what.end ≤ 128 }
+    requires room { size (kids_from by_number domain from (drop from nodes.now) what.parent []) ≤ what.end }
+    ensures laid { Lays what.is_group places.new (kids_from by_number domain from (drop from nodes.now) what.parent []) result what.end what.next }
+    ensures kept { (k : ℕ) → what.end ≤ k → slice_get places.new k ≡ slice_get places.old k }
+{
+    if from == nodes.len() {
+        return Laid {
+            start: what.end,
+            children: 0,
+            next: what.next,
+        };
+    }
+    let rest = lay_from(nodes, domain, from + 1, what, places);
+    let node = &nodes[from];
+    if !is_kid(node, domain, what.parent) {
+        return rest;
+    }
+    let is_group = has_alternatives(node);
+    let below = Children {
+        parent: from,
+        is_group,
+        end: rest.start,
+        next: rest.next,
+    };
+    let kids = lay_from(nodes, domain, from + 1, below, places);
+    let start = kids.start - 1;
+    let next = either(is_group, Some(start), kids.next);
+    places[start] = Place {
+        node: from,
+        is_group,
+        children: kids.children,
+        end: rest.start,
+        next,
+    };
+    Laid {
+        start,
+        children: rest.children + 1,
+        next: either(what.is_group, what.next, next),
+    }
+}
+
+/// The forest of a domain: its nodes in pre-order, in the last of 128 places.
+#[derive(Clone, Copy, Debug)]
+pub struct Layout {
+    pub(crate) places: [Place; 128],
+    /// The place of the domain's root.
+    pub(crate) start: usize,
+}
+
+impl Layout {
+    ghost use Rattle.sysmem_tree.specs.Nodes.{IsTree};
+    ghost use Rattle.sysmem_tree.specs.Shape.{forest_of};
+    ghost use Rattle.sysmem_tree.specs.Forest.{Forest, each};
+    ghost use Rattle.sysmem_tree.specs.Layout.{IsLayout, Spot, start, first_place};
+    ghost use Rattle.sysmem_tree.specs.Prefix.{AreAlternatives, AreOpen};
+    ghost use Rattle.sysmem_tree.specs.Selection.{IsPrefix, after};
+
+    /// Of the nodes in the domain of this root.
+    pub(crate) fn new(nodes: &[Node], root: usize) -> Layout
+        requires tree { IsTree nodes.now }
+        requires there { root < length nodes.now }
+        ensures { IsLayout result (forest_of by_number nodes.now root []) }
+    {
+        let is_group = has_alternatives(&nodes[root]);
+        let below = Children {
+            parent: root,
+            is_group,
+            end: 128,
+            next: None,
+        };
+        let mut places = [NO_PLACE; 128];
+        let kids = lay_from(nodes, root, root + 1, below, &mut places);
+        let start = kids.start - 1;
+        let next = either(is_group, Some(start), kids.next);
+        places[start] = Place {
+            node: root,
+            is_group,
+            children: kids.children,
+            end: 128,
+            next,
+        };
+        Layout { places, start }
+    }
+
+    /// The place of this child of a group.
+    fn child(&self, group: usize, choice: u8) -> usize
+        requires { (kids : Forest Spot) × AreAlternatives self.now.places (group + 1) kids × (choice < length (each kids)) }
+        ensures place { (kids kid : Forest Spot) → AreAlternatives self.now.places (group + 1) kids → slice_get (each kids) choice ≡ Some kid → start kid 0 ≡ result }
+        ensures within { result < 128 }
+    {
+        let mut at = group + 1;
+        let mut left = choice;
+        while left > 0 {
+            at = self.places[at].end;
+            left -= 1;
+        }
+        at
+    }
+
+    /// The place of the group that is next after these choices.
+    pub(crate) fn group_after(&self, choices: &[u8]) -> Option<usize>
+        requires { (d : Forest ℕ) × (laid : IsLayout self.now d) × IsPrefix laid.spots choices.now }
+        ensures { (d : Forest ℕ) → (laid : IsLayout self.now d) → IfSome (after laid.spots choices.now) (λ e. (result ≡ first_place e) × AreOpen self.now.places e None) }
+    {
+        let mut group = self.places[self.start].next;
+        for choice in choices {
+            group = self.places[self.child(group?, *choice)].next;
+        }
+        group
+    }
+}

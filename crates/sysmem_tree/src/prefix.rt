@@ -1,0 +1,68 @@
+//! Choices for the first groups of a domain.
+
+ghost use Rattle.std.specs.Prelude.{◌≡◌, ◌≤◌, ◌<◌, ◌++◌, [], ◌∷◌, length, MatchOption, false};
+
+use std::marker::Model;
+
+/// The choices for the first groups in effect of a domain, at most 128: for each the number of the chosen child.
+#[derive(Debug, Drop)]
+pub struct Prefix {
+    choices: [u8; 128],
+    many: usize,
+}
+
+impl Model for Prefix {
+    ghost use Rattle.std.specs.Prelude.{◌≡◌, ◌≤◌, ℕ, List, take};
+
+    ghost Value = { List ℕ };
+
+    ghost view = { λ p. take p.many p.choices };
+
+    ghost invariant = { λ p. p.many ≤ 128 };
+}
+
+impl Prefix {
+    /// No choice.
+    pub fn new() -> Prefix
+        ensures { result ≡ [] }
+    {
+        Prefix {
+            choices: [0; 128],
+            many: 0,
+        }
+    }
+
+    /// The choices, that for the first group first.
+    pub fn choices(&self) -> &[u8]
+        ensures { result.now ≡ self.now }
+    {
+        &self.choices[..self.many]
+    }
+
+    /// Whether 128 choices are there, so that no further one fits.
+    pub fn is_full(&self) -> bool
+        ensures { result ≡ false → length self.now < 128 }
+    {
+        self.many == 128
+    }
+
+    /// Chooses this child for the next group.
+    pub fn push(&mut self, choice: u8)
+        requires { length self.old < 128 }
+        ensures { self.new ≡ self.old ++ choice ∷ [] }
+    {
+        self.choices[self.many] = choice;
+        self.many += 1;
+    }
+
+    /// Takes the last choice back.
+    pub fn pop(&mut self) -> Option<u8>
+        ensures { MatchOption result ((self.old ≡ []) × (self.new ≡ [])) (λ choice. self.old ≡ self.new ++ choice ∷ []) }
+    {
+        if self.many == 0 {
+            return None;
+        }
+        self.many -= 1;
+        Some(self.choices[self.many])
+    }
+}
