@@ -30,3 +30,6 @@ pub use path::Path;
 pub use refusal::Refusal;
 pub use state::{NodeKind, NodeState};
 pub use tree::{MOST_NODES, Tree};
+
+#[cfg(test)]
+mod tests;
