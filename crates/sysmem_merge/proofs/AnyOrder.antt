@@ -1,5 +1,5 @@
 -- What stands for participants stands for them in any order.
-use Rattle.std.proofs.Common.{ℕ, ◌≡◌, ◌≤◌, ◌<◌, ◌^◌, ◌&&◌, Bool, true, false, List, All, Any, inl, inr, refl, sym, ap, ◌∙◌}
+use Rattle.std.proofs.Common.{ℕ, ◌≡◌, ◌≤◌, ◌<◌, ◌^◌, ◌&&◌, Bool, true, false, List, All, Any, refl, sym, ap, ◌∙◌}
 use Rattle.std.proofs.lemmas.List.Sorted.{All-permutation, Contains-permutation, IsPermutation-map, IsPermutation-sym, list_any-IsPermutation, length_permutation}
 use Rattle.std.proofs.lemmas.List.Sums.{AllPass-from_list_all, list_all-from_AllPass}
 use Rattle.std.specs.Int.{◌∣◌}
@@ -11,7 +11,9 @@ use Rattle.sysmem_counts.specs.declared.field.Field.TheVariants.{PixelFormat, Co
 use Rattle.sysmem_formats.specs.declared.offer.Offer.{Offer}
 use Rattle.sysmem_image.specs.declared.bounds.ImageBounds.{ImageBounds}
 use Rattle.sysmem_image.specs.Entries.{first_match}
-use Rattle.sysmem_image.specs.Lines.{NoCommon}
+use Rattle.sysmem_image.specs.Fields as bound
+use Rattle.sysmem_image.specs.Fields.{Bound, Keeps, rule_of, value, own_value}
+use Rattle.sysmem_image.specs.Lines.{MeetsIn}
 use Rattle.sysmem_image.specs.Merged.{IsMergeOf, MergedOf}
 use Rattle.sysmem_memory.specs.Domain.{has_domain}
 use Rattle.sysmem_merge.specs.declared.kept.KeptBounds.{KeptBounds}
@@ -21,7 +23,6 @@ use Rattle.sysmem_merge.specs.Aggregate.{AreSizes, IsListed, AreKeptBounds, IsKe
 use Rattle.sysmem_merge.specs.Demands.{OfferDemand, counts_asked, place_demand, place_demands, offer_demand, offer_demands}
 use Rattle.sysmem_merge.specs.Laws.{StandsInAnyOrder}
 use Rattle.sysmem_merge.specs.Offers.{has_format, has_colour, Asks, bounds_asked, names_format, names_modifier, names_colour}
-use Rattle.sysmem_merge.specs.Reasons.{IsOfferLine}
 use Rattle.sysmem_sanitise.specs.Participant.{Participant}
 use Rattle.sysmem_merge.proofs.Asked.{asked_all, asked_each}
 
@@ -32,12 +33,15 @@ same_bool true false there back = sym (there refl)
 same_bool false true there back = back refl
 same_bool false false there back = refl
 
+-- a test that all pass, all pass in another order
 all_half : {X : Type 0} (p : X → Bool) (xs ys : List X) → IsPermutation xs ys → list_all p xs ≡ true → list_all p ys ≡ true
 all_half p xs ys order is = list_all-from_AllPass p ys (All-permutation (λ x. p x ≡ true) xs ys order (AllPass-from_list_all p xs is))
 
+-- so it answers the same of them in any order
 all_in_order : {X : Type 0} (p : X → Bool) (xs ys : List X) → IsPermutation xs ys → list_all p xs ≡ list_all p ys
 all_in_order p xs ys order = same_bool (list_all p xs) (list_all p ys) (all_half p xs ys order) (all_half p ys xs (IsPermutation-sym xs ys order))
 
+-- what some have, some have in another order
 any_in_order : {X : Type 0} (P : X → Type 0) (xs ys : List X) → IsPermutation xs ys → Any P xs → Any P ys
 any_in_order P xs ys order (k, x, below, is, p) = let at = Contains-permutation xs ys x order (k, below, is) in (at.0, x, at.1, at.2, p)
 
@@ -45,6 +49,7 @@ any_in_order P xs ys order (k, x, below, is, p) = let at = Contains-permutation 
 bounds_in_order : (o : Offer) (P : ImageBounds → Type 0) (ds es : List OfferDemand) → IsPermutation ds es → All P (bounds_asked o ds) → All P (bounds_asked o es)
 bounds_in_order o P ds es order all = asked_all o P es (All-permutation (Asks o P) ds es order (asked_each o P ds all))
 
+-- nor does what a number is merged of depend on the order
 merge_in_order : (R : ℕ → ℕ → Type 0) (own : ℕ) (f : ImageBounds → ℕ) (o : Offer) (ds es : List OfferDemand) (m : ℕ) → IsPermutation ds es
     → IsMergeOf R own f (bounds_asked o ds) m → IsMergeOf R own f (bounds_asked o es) m
 merge_in_order R own f o ds es m order row = record {
@@ -55,60 +60,41 @@ merge_in_order R own f o ds es m order row = record {
   );
 }
 
+-- merged bounds stand for the same participants in another order
 merged_in_order : (o : Offer) (ds es : List OfferDemand) (b : ImageBounds) → IsPermutation ds es → MergedOf o (bounds_asked o ds) b → MergedOf o (bounds_asked o es) b
 merged_in_order o ds es b order m = record {
   in_range = m.in_range;
-  min_width = merge_in_order _ _ _ o ds es _ order m.min_width;
-  min_height = merge_in_order _ _ _ o ds es _ order m.min_height;
-  max_width = merge_in_order _ _ _ o ds es _ order m.max_width;
-  max_height = merge_in_order _ _ _ o ds es _ order m.max_height;
-  width_step = merge_in_order _ _ _ o ds es _ order m.width_step;
-  height_step = merge_in_order _ _ _ o ds es _ order m.height_step;
-  min_row = merge_in_order _ _ _ o ds es _ order m.min_row;
-  max_row = merge_in_order _ _ _ o ds es _ order m.max_row;
-  row_step = merge_in_order _ _ _ o ds es _ order m.row_step;
-  start_step = merge_in_order _ _ _ o ds es _ order m.start_step;
-  display_width_step = merge_in_order _ _ _ o ds es _ order m.display_width_step;
-  display_height_step = merge_in_order _ _ _ o ds es _ order m.display_height_step;
-  required_min_width = merge_in_order _ _ _ o ds es _ order m.required_min_width;
-  required_min_height = merge_in_order _ _ _ o ds es _ order m.required_min_height;
-  required_max_width = merge_in_order _ _ _ o ds es _ order m.required_max_width;
-  required_max_height = merge_in_order _ _ _ o ds es _ order m.required_max_height;
+  each = λ f side. merge_in_order (Keeps (rule_of f)) (own_value o f side) (value f side) o ds es (value f side b) order (m.each f side);
 }
 
-none_in_order : (first : ℕ) (f : ImageBounds → ℕ) (o : Offer) (ds es : List OfferDemand) → IsPermutation ds es → NoCommon first f (bounds_asked o ds) → NoCommon first f (bounds_asked o es)
-none_in_order first f o ds es order none (n, c) = none (
-  n,
+-- what has common multiples has them in another order
+meets_in_order : (f : Bound) (o : Offer) (ds es : List OfferDemand) → IsPermutation ds es → MeetsIn f o (bounds_asked o ds) → MeetsIn f o (bounds_asked o es)
+meets_in_order f o ds es order meet side = let c = meet side in (
+  c.0,
   record {
-    some = c.some;
-    small = c.small;
-    own = c.own;
-    each = bounds_in_order o (λ e. f e ∣ n) es ds (IsPermutation-sym ds es order) c.each;
+    some = c.1.some;
+    small = c.1.small;
+    own = c.1.own;
+    each = bounds_in_order o (λ e. value f side e ∣ c.0) ds es order c.1.each;
   },
 )
 
+-- and what has none has none
+none_in_order : (f : Bound) (o : Offer) (ds es : List OfferDemand) → IsPermutation ds es → ¬ (MeetsIn f o (bounds_asked o ds)) → ¬ (MeetsIn f o (bounds_asked o es))
+none_in_order f o ds es order none meet = none (meets_in_order f o es ds (IsPermutation-sym ds es order) meet)
+
+-- what is kept of an offer's bounds
 kept_bounds_in_order : (o : Offer) (ds es : List OfferDemand) (kept : KeptBounds) → IsPermutation ds es → AreKeptBounds o ds kept → AreKeptBounds o es kept
 kept_bounds_in_order o ds es (Merged b) order are = (merged_in_order o ds es b order are.0, All-permutation (IsListed o) ds es order are.1)
 kept_bounds_in_order o ds es (Refused PixelFormat) order are = (are.0, any_in_order (λ d. has_format o d ≡ false) ds es order are.1)
 kept_bounds_in_order o ds es (Refused ColorSpaces) order are = (are.0, any_in_order (λ d. has_colour o d ≡ false) ds es order are.1)
-kept_bounds_in_order o ds es (Refused SizeAlignment) order are = (
-  are.0,
-  elim are.1 as (λ _. IsOfferLine SizeAlignment o es) [
-    | inl none ↦ inl (none_in_order _ _ o ds es order none)
-    | inr none ↦ inr (none_in_order _ _ o ds es order none)
-  ],
-)
-kept_bounds_in_order o ds es (Refused BytesPerRowDivisor) order are = (are.0, none_in_order _ _ o ds es order are.1)
-kept_bounds_in_order o ds es (Refused StartOffsetDivisor) order are = (are.0, none_in_order _ _ o ds es order are.1)
-kept_bounds_in_order o ds es (Refused DisplayRectAlignment) order are = (
-  are.0,
-  elim are.1 as (λ _. IsOfferLine DisplayRectAlignment o es) [
-    | inl none ↦ inl (none_in_order _ _ o ds es order none)
-    | inr none ↦ inr (none_in_order _ _ o ds es order none)
-  ],
-)
+kept_bounds_in_order o ds es (Refused SizeAlignment) order are = (are.0, none_in_order bound.SizeAlignment o ds es order are.1)
+kept_bounds_in_order o ds es (Refused BytesPerRowDivisor) order are = (are.0, none_in_order bound.BytesPerRowDivisor o ds es order are.1)
+kept_bounds_in_order o ds es (Refused StartOffsetDivisor) order are = (are.0, none_in_order bound.StartOffsetDivisor o ds es order are.1)
+kept_bounds_in_order o ds es (Refused DisplayRectAlignment) order are = (are.0, none_in_order bound.DisplayRectAlignment o ds es order are.1)
 kept_bounds_in_order o ds es (Refused _) order are = absurd are.0
 
+-- and of the offer
 kept_in_order : (o : Offer) (ds es : List OfferDemand) (kept : KeptOffer) → IsPermutation ds es → IsKept o ds kept → IsKept o es kept
 kept_in_order o ds es kept order is = record {
   bounds = kept_bounds_in_order o ds es kept.bounds order is.bounds;
@@ -117,6 +103,7 @@ kept_in_order o ds es kept order is = record {
   colour = is.colour ∙ list_any-IsPermutation (λ d. names_colour o (first_match o d.entries)) ds es order;
 }
 
+-- and of sizes
 sizes_in_order : (ds es : List OfferDemand) (low high : ℕ) → IsPermutation ds es → AreSizes ds low high → AreSizes es low high
 sizes_in_order ds es low high order s = record {
   low = λ n. (

@@ -13,7 +13,7 @@ use sysmem_image::{ImageBounds, corner};
 
 /// What settings say of images: an offer, the bounds on its images, and a buffer's size for it in bytes.
 #[derive(Clone, Copy, Debug, PartialEq, Eq)]
-pub(crate) struct Fit {
+pub struct Fit {
     pub offer: Offer,
     pub bounds: ImageBounds,
     pub size_bytes: u64,

@@ -21,6 +21,7 @@ mod tests;
 mod walk;
 
 pub use aggregate::Aggregate;
+pub use fit::Fit;
 pub use meets::meets_one;
 pub use reason::Reason;
 pub use settings::Settings;
