@@ -17,7 +17,8 @@ mod pixel_format;
 
 pub use colour_space::ColourSpace;
 pub use layout::{
-    bytes_per_pixel, image_bytes, is_tiled_misfit, own_alignment, own_row_divisor, row_bytes, wide_image_bytes, wide_row_bytes,
+    bytes_per_pixel, image_bytes, is_tiled_misfit, own_alignment, own_row_divisor, row_bytes,
+    wide_image_bytes, wide_row_bytes,
 };
 pub use modifier::Modifier;
 pub use offer::{Offer, Pair};
