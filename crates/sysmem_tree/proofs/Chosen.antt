@@ -1,12 +1,12 @@
 -- What a choice for the first group makes of a forest and of its groups.
-use Rattle.std.proofs.Common.{◌≡◌, ◌≤◌, ◌<◌, ℕ, zero, suc, ◌+◌, ◌++◌, true, false, List, [], ◌∷◌, Option, Some, None, length, slice_get, refl, sym, ◌∙◌, ap, subst, arith}
+use Rattle.std.proofs.Common.{◌≡◌, ◌≤◌, ℕ, zero, suc, ◌++◌, true, false, List, [], ◌∷◌, Option, Some, None, slice_get, refl, sym, ◌∙◌, ap, subst, arith}
 use Rattle.std.specs.Prelude.{map, option_and_then, IsSomeAnd}
 use Rattle.std.specs.Option.{option_or}
 use Rattle.std.proofs.lemmas.List.{append_assoc}
-use Rattle.std.proofs.lemmas.Option.{same_Some, none-some}
+use Rattle.std.proofs.lemmas.Option.{same_Some}
 use Rattle.sysmem_tree.specs.declared.layout.Place.{Place}
 use Rattle.sysmem_tree.specs.Forest.{Forest, Empty, Plain, Group, each, kids_else_rest, choices, settled}
-use Rattle.sysmem_tree.specs.Layout.{Spot, start, first_place, behind, IsPlace, AreLaid}
+use Rattle.sysmem_tree.specs.Layout.{Spot, start, first_place, AreLaid}
 use Rattle.sysmem_tree.specs.Prefix.{Alternatives, next_alternatives, AreOpen}
 use Rattle.sysmem_tree.proofs.Layouts.{or_assoc, starts_before}
 

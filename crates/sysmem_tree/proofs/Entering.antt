@@ -1,5 +1,5 @@
 -- An action that isn't refused: what it needs, and what it leads to.
-use Rattle.std.proofs.Common.{◌≡◌, ◌≤◌, ◌<◌, ◌+◌, ℕ, Bool, true, false, ◌||◌, List, [], ◌∷◌, ◌++◌, length, Option, Some, None, slice_get, slice_set, refl, sym, ◌∙◌, ap, subst, arith, rules, tests, nat_le, length-append}
+use Rattle.std.proofs.Common.{◌≡◌, ◌≤◌, ◌<◌, ◌+◌, ℕ, Bool, true, false, ◌||◌, List, [], ◌++◌, length, Option, Some, None, slice_get, slice_set, sym, ◌∙◌, ap, subst, arith, rules, tests, length-append}
 use Rattle.std.specs.Prelude.{IfSome, Ok, is_some, if◌then◌else◌}
 use Rattle.std.specs.Result.{result_err}
 use Rattle.std.proofs.lemmas.List.{length-set}
@@ -11,7 +11,6 @@ use Rattle.sysmem_tree.specs.declared.state.NodeState.{NodeState}
 use Rattle.sysmem_tree.specs.ActionKind.{Deed, kind_of}
 use Rattle.sysmem_tree.specs.Domain.{TreeFacts, IsSound, decision_of, has_failed, is_none_chosen, fate_by, fate_of}
 use Rattle.sysmem_tree.specs.declared.domain.Decision.{Decision}
-use Rattle.sysmem_tree.specs.declared.fate.Fate.{Fate}
 use Rattle.sysmem_tree.specs.declared.fate.Fate.TheVariants.{Failed}
 use Rattle.sysmem_tree.specs.Node.{NodeFacts}
 use Rattle.sysmem_tree.specs.Table.{makes, makes_root}

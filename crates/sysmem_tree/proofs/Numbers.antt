@@ -1,16 +1,16 @@
 -- The forest of a domain by the numbers of its nodes, in steps along the nodes.
-use Rattle.std.proofs.Common.{◌≡◌, ◌≤◌, ◌<◌, ℕ, zero, suc, ◌+◌, ◌*◌, ◌-◌, ◌++◌, Bool, true, false, List, [], ◌∷◌, Option, Some, None, min, length, drop, get_or, slice_get, refl, sym, ◌∙◌, ap, subst, arith, inl, inr}
+use Rattle.std.proofs.Common.{◌≡◌, ◌≤◌, ◌<◌, ℕ, zero, suc, ◌+◌, ◌*◌, ◌++◌, Bool, true, false, List, [], ◌∷◌, Option, Some, None, min, length, drop, get_or, slice_get, refl, sym, ◌∙◌, ap, subst, arith, inl, inr}
 use Rattle.std.specs.Prelude.{◌⊎◌, is_some}
 use Rattle.std.proofs.lemmas.Bool.{cases_Bool, cases_lt}
 use Rattle.std.proofs.lemmas.List.{drop_more}
 use Rattle.std.proofs.Math.Nat.{le_trans, le-mul_of_pos_right, mul_comm}
 use Rattle.sysmem_tree.specs.declared.state.NodeKind.{NodeKind}
 use Rattle.sysmem_tree.specs.declared.state.NodeKind.TheVariants as kinds
-use Rattle.sysmem_tree.specs.Forest.{Forest, Empty, Plain, Group, count, count_each}
+use Rattle.sysmem_tree.specs.Forest.{Forest}
 use Rattle.sysmem_tree.specs.Layout.{is_group, count_as, size}
 use Rattle.sysmem_tree.proofs.Layouts.{size_tree}
 use Rattle.sysmem_tree.specs.Node.{NodeFacts}
-use Rattle.sysmem_tree.specs.Shape.{Labels, tree_of, kid_of, before, kids_from, by_number}
+use Rattle.sysmem_tree.specs.Shape.{tree_of, kid_of, before, kids_from, by_number}
 
 -- the children of p, whatever its path
 abbrev pub numbers : ℕ → ℕ → List NodeFacts → ℕ → Forest ℕ

@@ -1,22 +1,15 @@
 -- The domains of a sound tree.
-use Rattle.std.proofs.Common.{◌≡◌, ◌≤◌, ◌<◌, ◌+◌, ◌==◌, ℕ, zero, suc, Bool, true, false, List, [], ◌∷◌, length, Option, Some, None, map, option_map, get_or, slice_get, refl, sym, ◌∙◌, ap, subst, arith, rules, tests}
-use Rattle.std.specs.Prelude.{Ok, IsSomeAnd, if◌then◌else◌}
+use Rattle.std.proofs.Common.{◌≡◌, ◌≤◌, ◌<◌, ◌+◌, ◌==◌, ℕ, zero, suc, Bool, true, false, List, [], ◌∷◌, length, Some, None, map, option_map, get_or, slice_get, refl, sym, ◌∙◌, ap, subst, arith, rules, tests}
+use Rattle.std.specs.Prelude.{IsSomeAnd, if◌then◌else◌}
 use Rattle.std.proofs.lemmas.Option.{same_Some, slice_get_read, slice_get_within}
 use Rattle.sysmem_tree.specs.declared.domain.Domain.{Domain}
-use Rattle.sysmem_tree.specs.ActionKind.{Deed}
-use Rattle.sysmem_tree.specs.Domain.{TreeFacts, IsSound, HasDomain, roots_from, is_ready, is_undecided, decision_of}
+use Rattle.sysmem_tree.specs.Domain.{TreeFacts, IsSound, HasDomain, roots_from}
 use Rattle.sysmem_tree.specs.declared.node.Birth.{Birth}
 use Rattle.sysmem_tree.specs.Node.{NodeFacts}
 use Rattle.sysmem_tree.specs.Nodes.{HasNode}
-use Rattle.sysmem_tree.specs.Tree.{Applied, applied, decided, first_tree}
-use Rattle.sysmem_tree.proofs.Alike.{decided_tree}
-use Rattle.sysmem_tree.proofs.Growing.{stays_tree}
-use Rattle.sysmem_tree.proofs.Histories.{first_nodes_tree}
 use Rattle.sysmem_tree.proofs.Kids.{parent_of}
 use Rattle.sysmem_tree.proofs.Places.{there}
-use Rattle.sysmem_tree.proofs.Proper.{stays_proper, decided_proper, first_proper}
-use Rattle.sysmem_tree.proofs.Readiness.{acted_decided, decided_decided, first_decided, home_root}
-use Rattle.sysmem_tree.proofs.Roots.{acted_domains, decided_domains}
+use Rattle.sysmem_tree.proofs.Readiness.{home_root}
 
 -- a node's domain is one of the tree's
 pub domain_there : (t : TreeFacts) (k : ℕ) (n : NodeFacts) → IsSound t → slice_get t.nodes k ≡ Some n → HasDomain t.nodes n.domain

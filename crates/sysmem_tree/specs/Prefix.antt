@@ -1,8 +1,8 @@
 -- The next group of a forest, and where it stands in a layout.
-use Rattle.std.specs.Prelude.{◌≡◌, ◌≤◌, ℕ, List, Option, Some, None, true, length, slice_get, IsSomeAnd}
+use Rattle.std.specs.Prelude.{◌≡◌, ◌≤◌, ℕ, List, Option, Some, None, true}
 use Rattle.std.specs.Option.{option_or}
 use Rattle.sysmem_tree.specs.declared.layout.Place.{Place}
-use Rattle.sysmem_tree.specs.Forest.{Forest, Empty, Plain, Group, each}
+use Rattle.sysmem_tree.specs.Forest.{Forest, Empty, Plain, Group}
 use Rattle.sysmem_tree.specs.Layout.{Spot, start, first_place, IsPlace, AreLaid}
 
 -- a group and its alternatives

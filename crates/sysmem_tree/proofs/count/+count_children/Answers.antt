@@ -1,5 +1,5 @@
 -- The counts of a child and of the others, together.
-use Rattle.std.proofs.Common.{◌≡◌, ◌∙◌, ap, sym, drop, min, ◌+◌, arith}
+use Rattle.std.proofs.Common.{◌∙◌, ap, sym, drop, min, ◌+◌, arith}
 use Rattle.sysmem_tree.specs.Layout.{count_as}
 use Rattle.sysmem_tree.proofs.count.+count_children.Goals as goal
 use Rattle.sysmem_tree.proofs.Numbers.{numbers, counted_as_alternatives, counted_as_plain}

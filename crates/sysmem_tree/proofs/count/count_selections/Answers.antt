@@ -1,5 +1,5 @@
 -- The root's own children are all that is counted.
-use Rattle.std.proofs.Common.{◌≡◌, ◌+◌, ◌*◌, length, drop, min, Some, slice_get, refl, sym, ◌∙◌, ap}
+use Rattle.std.proofs.Common.{◌≡◌, ◌+◌, length, drop, min, Some, slice_get, refl, sym, ◌∙◌, ap}
 use Rattle.std.proofs.Math.Nat.{mul-one}
 use Rattle.std.proofs.lemmas.Option.{slice_get_read}
 use Rattle.sysmem_tree.specs.Forest.{Empty, count}

@@ -1,5 +1,5 @@
 -- A child in front of the others.
-use Rattle.std.proofs.Common.{◌≡◌, ◌≤◌, ◌<◌, ℕ, suc, drop, length, slice_get, ◌+◌, ◌-◌, arith, sym, ap, ◌∙◌}
+use Rattle.std.proofs.Common.{◌≡◌, ◌<◌, suc, length, ◌-◌, arith, sym, ◌∙◌}
 use Rattle.std.proofs.Math.Nat.{le_trans}
 use Rattle.sysmem_tree.proofs.layout.+lay_from.Goals as goal
 use Rattle.sysmem_tree.proofs.Layouts.{kid_laid_as, set_above}

@@ -1,4 +1,3 @@
-use Rattle.std.proofs.Common.{ap}
 use Rattle.sysmem_tree.specs.Tree.{closed_early}
 use Rattle.sysmem_tree.proofs.Writes.{written_next}
 use Rattle.sysmem_tree.proofs.standing.close_early.Goals as goal

@@ -1,4 +1,4 @@
-use Rattle.std.proofs.Common.{◌≡◌, ◌-◌, ◌+◌, ◌∙◌, ap, option_map, Bor, sym, arith}
+use Rattle.std.proofs.Common.{◌-◌, ◌+◌, ◌∙◌, ap, option_map, Bor, sym, arith}
 use Rattle.sysmem_tree.specs.Node.{NodeFacts}
 use Rattle.sysmem_tree.proofs.Upwards.{fails_within, failed_here, failed_nowhere, failed_above, failed_end}
 use Rattle.sysmem_tree.proofs.standing.has_failed.Goals as goal

@@ -1,13 +1,13 @@
 -- One choice after the other.
-use Rattle.std.proofs.Common.{◌≡◌, ◌<◌, ◌≤◌, ◌+◌, ◌∷◌, ℕ, List, Some, None, drop, length, slice_get, get_or, refl, sym, ◌∙◌, ap, subst, arith}
-use Rattle.std.specs.Prelude.{IsSome, IsSomeAnd}
+use Rattle.std.proofs.Common.{◌≡◌, ◌+◌, None, slice_get, refl, sym, ◌∙◌, ap, subst, arith}
+use Rattle.std.specs.Prelude.{IsSomeAnd}
 use Rattle.std.specs.Option.{option_or}
 use Rattle.std.proofs.lemmas.List.{drop_more}
 use Rattle.std.proofs.lemmas.Option.{same_Some, none-some, slice_get_within}
 use Rattle.sysmem_tree.specs.declared.layout.Place.{Place}
 use Rattle.sysmem_tree.specs.Forest.{each}
 use Rattle.sysmem_tree.specs.Layout.{first_place}
-use Rattle.sysmem_tree.specs.Prefix.{AreAlternatives, AreOpen}
+use Rattle.sysmem_tree.specs.Prefix.{AreAlternatives}
 use Rattle.sysmem_tree.specs.Selection.{after}
 use Rattle.sysmem_tree.proofs.layout.Layout.group_after.Goals as goal
 use Rattle.sysmem_tree.proofs.Chosen.{all_open}

@@ -1,11 +1,9 @@
 -- The domain's root in front of all that is below it.
-use Rattle.std.proofs.Common.{◌≡◌, ◌≤◌, ◌<◌, ℕ, suc, ◌+◌, ◌-◌, false, [], drop, length, slice_get, Some, None, refl, sym, ap, ◌∙◌, arith}
+use Rattle.std.proofs.Common.{◌≡◌, suc, ◌+◌, ◌-◌, false, [], drop, length, slice_get, Some, None, refl, sym, ap, ◌∙◌, arith}
 use Rattle.std.proofs.lemmas.List.{length-drop}
 use Rattle.std.proofs.lemmas.Option.{slice_get_read}
-use Rattle.sysmem_tree.specs.declared.layout.Laid.{Laid}
 use Rattle.sysmem_tree.specs.Forest.{Empty}
-use Rattle.sysmem_tree.specs.Layout.{size, Lays}
-use Rattle.sysmem_tree.specs.Shape.{forest_of, by_number, rooted, tree_of}
+use Rattle.sysmem_tree.specs.Shape.{by_number, rooted, tree_of}
 use Rattle.sysmem_tree.proofs.layout.Layout.new.Goals as goal
 use Rattle.sysmem_tree.proofs.Few.{few_numbers, kids_later}
 use Rattle.sysmem_tree.proofs.Layouts.{kid_laid_as}

@@ -1,4 +1,4 @@
-use Rattle.std.proofs.Common.{◌∙◌, ap, length}
+use Rattle.std.proofs.Common.{ap, length}
 use Rattle.sysmem_tree.proofs.Soundness.{count_few}
 use Rattle.sysmem_tree.proofs.tree.Tree.copy.Goals as goal
 

@@ -1,4 +1,4 @@
-use Rattle.std.proofs.Common.{◌≤◌, ◌∙◌, sym, arith}
+use Rattle.std.proofs.Common.{◌∙◌, arith}
 use Rattle.sysmem_tree.proofs.Soundness.{count_few}
 use Rattle.sysmem_tree.proofs.tree.Tree.domains.Goals as goal
 
