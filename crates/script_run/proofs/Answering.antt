@@ -6,7 +6,8 @@ use Rattle.sysmem_sanitise.specs.declared.fault.Fault.{Fault}
 use Rattle.sysmem_sanitise.specs.declared.fault.Code.{Code}
 use Rattle.sysmem_sanitise.specs.declared.fault.Code.TheVariants.{WantOfMemory}
 use Rattle.sysmem_sanitise.specs.Participant.{Participant}
-use Rattle.sysmem_sanitise.specs.Reading.{participant_of}
+use Rattle.sysmem_sanitise.specs.Faults.{lack_of}
+use Rattle.sysmem_sanitise.specs.Reading.{participant_of, participant_with}
 use Rattle.script_run.specs.declared.action.Action.{Action}
 use Rattle.script_run.specs.declared.action.Action.TheVariants.{SetConstraints}
 use Rattle.script_run.specs.declared.reply.Refusal.{Refusal}
@@ -53,20 +54,23 @@ starves_for_want WantOfMemory e = refl
 starves_for_want _ e = absurd (cc)
 
 by_code : (s t : State) (r : CallFacts) (k : ℕ) (d : Data) (fault : Fault) (b : Bool) → node_named s r ≡ Some k → r.act ≡ states (Some d)
-    → ((fault.code ≡ WantOfMemory → ⊥) → participant_of d ≡ Err fault) → starves fault.code ≡ b → t ≡ record s { starved = s.starved || starves fault.code }
+    → ((fault.code ≡ WantOfMemory → ⊥) → participant_of d ≡ Err fault) → (fault.code ≡ WantOfMemory → participant_with (lack_of fault) d ≡ Err fault)
+    → starves fault.code ≡ b → t ≡ record s { starved = s.starved || starves fault.code }
     → Replies s r (Misread fault) t
-by_code s t r k d fault true here act said g e =
+by_code s t r k d fault true here act said lacks g e =
     let all : (s.starved || starves fault.code) ≡ true = rw g (or_true s.starved) in
-    rw (e, all) (starved_by k d fault here act (starves_for_want fault.code g))
-by_code s t r k d fault false here act said g e =
+    let want : fault.code ≡ WantOfMemory = starves_for_want fault.code g in
+    rw (e, all) (starved_by k d fault here act want (lacks want))
+by_code s t r k d fault false here act said lacks g e =
     let all : (s.starved || starves fault.code) ≡ s.starved = rw g (or_false s.starved) in
     rw (e, all) (misreads k d fault here act (said (λ (want : fault.code ≡ WantOfMemory). absurd (cc (g, ap starves want)))))
 
 -- a fault for want of memory starves, and every other one is what is wrong with the record
 pub misread_as : (s t : State) (r : CallFacts) (k : ℕ) (d : Data) (fault : Fault) → node_named s r ≡ Some k → r.act ≡ states (Some d)
-    → ((fault.code ≡ WantOfMemory → ⊥) → participant_of d ≡ Err fault) → t ≡ record s { starved = s.starved || starves fault.code }
+    → ((fault.code ≡ WantOfMemory → ⊥) → participant_of d ≡ Err fault) → (fault.code ≡ WantOfMemory → participant_with (lack_of fault) d ≡ Err fault)
+    → t ≡ record s { starved = s.starved || starves fault.code }
     → Replies s r (Misread fault) t
-misread_as s t r k d fault here act said e = by_code s t r k d fault (starves fault.code) here act said refl e
+misread_as s t r k d fault here act said lacks e = by_code s t r k d fault (starves fault.code) here act said lacks refl e
 
 -- a decision of a domain that is due follows the reply
 pub decided_as : (platform : PlatformFacts) (s t : State) (before after : List ℕ) (verdict : Verdict) → is_due s ≡ true

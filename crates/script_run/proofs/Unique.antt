@@ -84,7 +84,7 @@ is_answer : (s : State) (r : CallFacts) (reply : Reply) (t : State) → Replies 
 unfolding answer_for answer_at act_on set_on
 is_answer s r _ _ (skips none) e = rw none refl
 is_answer s r _ _ (misreads k d fault here act read) e = rw (here, act, read) refl
-is_answer s r _ _ (starves k d fault here act want) e = absurd_true e
+is_answer s r _ _ (starves k d fault here act want lack) e = absurd_true e
 is_answer s r _ _ (refuses k action refusal here asks why) e = rw (here, asked_for s r k r.act action asks, why) refl
 is_answer s r _ _ (accepts k action after here asks made) e = rw (here, asked_for s r k r.act action asks, made) refl
 is_answer s r _ _ (tells k here act) e = rw (here, act) refl
@@ -153,7 +153,7 @@ kept_starved s after k action e = kept_by s after k action (is_barred s.verdict 
 answer_starves : (s t : State) (r : CallFacts) (reply : Reply) → Replies s r reply t → s.starved ≡ true → t.starved ≡ true
 answer_starves s _ r _ (skips none) e = e
 answer_starves s _ r _ (misreads k d fault here act read) e = e
-answer_starves s _ r _ (starves k d fault here act want) e = refl
+answer_starves s _ r _ (starves k d fault here act want lack) e = refl
 answer_starves s _ r _ (refuses k action refusal here asks why) e = e
 answer_starves s _ r _ (accepts k action after here asks made) e = kept_starved s after k action made ∙ e
 answer_starves s _ r _ (tells k here act) e = e

@@ -9,7 +9,8 @@ use Rattle.sysmem_sanitise.specs.declared.fault.Fault.{Fault}
 use Rattle.sysmem_merge.specs.declared.settings.Settings.{Settings}
 use Rattle.sysmem_sanitise.specs.Participant.{Participant}
 use Rattle.sysmem_sanitise.specs.Platform.{PlatformFacts}
-use Rattle.sysmem_sanitise.specs.Reading.{participant_of}
+use Rattle.sysmem_sanitise.specs.Faults.{lack_of}
+use Rattle.sysmem_sanitise.specs.Reading.{participant_of, participant_with}
 use Rattle.script_run.specs.declared.action.Action.{Action}
 use Rattle.script_run.specs.declared.action.Action.TheVariants.{Duplicate, Bind, SetConstraints, Release}
 use Rattle.script_run.specs.declared.node.Node.{Node}
@@ -68,7 +69,8 @@ pub data Replies (s : State) (r : CallFacts) : Reply → State → Type 0 where
   misreads : (k : ℕ) (d : Data) (fault : Fault) → node_named s r ≡ Some k
       → r.act ≡ states (Some d) → participant_of d ≡ Err fault → Replies s r (Misread fault) s
   starves : (k : ℕ) (d : Data) (fault : Fault) → node_named s r ≡ Some k
-      → r.act ≡ states (Some d) → fault.code ≡ WantOfMemory → Replies s r (Misread fault) (record s { starved = true })
+      → r.act ≡ states (Some d) → fault.code ≡ WantOfMemory → participant_with (lack_of fault) d ≡ Err fault
+      → Replies s r (Misread fault) (record s { starved = true })
   refuses : (k : ℕ) (action : Action) (refusal : Refusal) → node_named s r ≡ Some k
       → Asks r.act action → applied s k action ≡ Err refusal → Replies s r (Refused refusal) (unmade s r.act)
   accepts : (k : ℕ) (action : Action) (after : State) → node_named s r ≡ Some k

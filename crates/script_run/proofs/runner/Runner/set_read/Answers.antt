@@ -6,4 +6,4 @@ act-requires-clause-asks c = asks_set _ _ _ c.requires.stated c.in-Ok.ensures.ta
 
 pub returns-in-Err : goal.returns-in-Err
 returns-in-Err c =
-    rw c.misread.ensures.reply (misread_as _ _ _ c.args.node _ c.in-Err.fault c.requires.named c.requires.stated c.in-Err.ensures.refused c.misread.ensures.starved)
+    rw c.misread.ensures.reply (misread_as _ _ _ c.args.node _ c.in-Err.fault c.requires.named c.requires.stated c.in-Err.ensures.refused c.in-Err.ensures.wanting c.misread.ensures.starved)
