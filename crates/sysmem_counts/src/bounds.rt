@@ -54,7 +54,8 @@ impl CountBounds {
     /// one participant raises it by less than 2^33.
     pub fn add(&mut self, asked: &CountConstraints)
         requires { sum_of self.old < 2 ^ 62 }
-        ensures added { (ps : List Asked) → StandsFor self.old ps → StandsFor self.new (ps ++ asked.now ∷ []) }
+        ensures added { (ps : List Asked) → StandsFor self.old ps
+            → StandsFor self.new (ps ++ asked.now ∷ []) }
         ensures grows { sum_of self.new < sum_of self.old + 2 ^ 33 }
     {
         self.own += u64::from(asked.min_buffer_count_for_camping)
@@ -67,9 +68,12 @@ impl CountBounds {
     /// The least number of buffers, 1 to 128, that suits all participants. Where none does, the field that
     /// says so: `MaxBufferCount` if they need more than one of their maximums, else `BufferCountLimit`.
     pub fn least_count(&self) -> Result<u32, Field>
-        ensures cases { (ps : List Asked) → StandsFor self.now ps → MatchResult result (IsLeastCount ps) (IsCountFault ps) }
-        ensures line { (ps : List Asked) → StandsFor self.now ps → IfErr result (λ field. IsCountLine field ps) }
-        ensures none { (ps : List Asked) → StandsFor self.now ps → IfErr result (λ _. HasNoCount ps) }
+        ensures cases { (ps : List Asked) → StandsFor self.now ps
+            → MatchResult result (IsLeastCount ps) (IsCountFault ps) }
+        ensures line { (ps : List Asked) → StandsFor self.now ps
+            → IfErr result (λ field. IsCountLine field ps) }
+        ensures none { (ps : List Asked) → StandsFor self.now ps
+            → IfErr result (λ _. HasNoCount ps) }
     {
         let needed = self.needed();
         if needed > u64::from(self.maximum) {
@@ -96,7 +100,8 @@ impl CountBounds {
     /// Whether a line is true of the participants where the count is fixed: `MinBufferCount` where they need
     /// more, `MaxBufferCount` where one of their maximums is below it; no other field is one.
     pub fn is_fixed_line(&self, count: u32, field: Field) -> bool
-        ensures { (ps : List Asked) → StandsFor self.now ps → IsTrue result ↔ IsFixedCountLine count field ps }
+        ensures { (ps : List Asked) → StandsFor self.now ps → IsTrue result
+            ↔ IsFixedCountLine count field ps }
     {
         match field {
             Field::MinBufferCount => u64::from(count) < self.needed(),

@@ -37,7 +37,8 @@ impl ColourSpace {
 
     /// The colour space of this name, or `None` where none has it. `DO_NOT_CARE` names none.
     pub fn from_name(name: &str) -> Option<ColourSpace>
-        ensures { (colour : ColourSpace) → (result ≡ Some colour) ↔ (name.now ≡ colour_name colour) }
+        ensures { (colour : ColourSpace) → (result ≡ Some colour)
+            ↔ (name.now ≡ colour_name colour) }
     {
         match name {
             "SRGB" => Some(ColourSpace::Srgb),

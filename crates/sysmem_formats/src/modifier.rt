@@ -27,7 +27,8 @@ impl Modifier {
 
     /// The modifier of this name, or `None` where no modifier has it. `DO_NOT_CARE` names none.
     pub fn from_name(name: &str) -> Option<Modifier>
-        ensures { (modifier : Modifier) → (result ≡ Some modifier) ↔ (name.now ≡ modifier_name modifier) }
+        ensures { (modifier : Modifier) → (result ≡ Some modifier)
+            ↔ (name.now ≡ modifier_name modifier) }
     {
         match name {
             "LINEAR" => Some(Modifier::Linear),

@@ -51,7 +51,8 @@ impl PixelFormat {
 
     /// The format of this name, or `None` where no format has it. `DO_NOT_CARE` names no format.
     pub fn from_name(name: &str) -> Option<PixelFormat>
-        ensures { (format : PixelFormat) → (result ≡ Some format) ↔ (name.now ≡ format_name format) }
+        ensures { (format : PixelFormat) → (result ≡ Some format)
+            ↔ (name.now ≡ format_name format) }
     {
         match name {
             "R8G8B8A8" => Some(PixelFormat::R8G8B8A8),

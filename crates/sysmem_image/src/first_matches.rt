@@ -66,7 +66,8 @@ impl<'a> FirstMatches<'a> {
 
     /// The index of the first entry for images of a pair, or the number of entries where none is.
     fn first_for(&self, pair: Pair) -> usize
-        ensures { (colour : ColourSpace) → slice_get self.now result ≡ first_match (Image pair colour) self.now }
+        ensures { (colour : ColourSpace)
+            → slice_get self.now result ≡ first_match (Image pair colour) self.now }
     {
         let (format, modifier) = (Some(pair.format), Some(pair.modifier));
         let named = self

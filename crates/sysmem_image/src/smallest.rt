@@ -21,7 +21,8 @@ use sysmem_formats::{Offer, image_bytes, row_bytes};
 /// line in the table of conflicts is the first that fails.
 pub fn corner(bounds: &ImageBounds, offer: &Offer) -> Result<Corner, Field>
     ensures corner { IfOk result (λ k. IsCorner offer.now bounds.now k) }
-    ensures required { IfOk result (λ _. IsSizeUpTo bounds.now.min_size bounds.now.required_min_size) }
+    ensures required { IfOk result
+        (λ _. IsSizeUpTo bounds.now.min_size bounds.now.required_min_size) }
     ensures none { IfErr result (λ field. HasNoCorner field offer.now bounds.now) }
     ensures earlier { IfErr result (λ field. EarlierHold field bounds.now) }
     ensures line { (es : List ImageBounds) → MergedOf offer.now es bounds.now →
@@ -33,7 +34,8 @@ pub fn corner(bounds: &ImageBounds, offer: &Offer) -> Result<Corner, Field>
 /// The corner, or the line that fails, said of the bounds alone.
 fn corner_of(bounds: &ImageBounds, offer: &Offer) -> Result<Corner, Field>
     ensures corner { IfOk result (λ k. IsCorner offer.now bounds.now k) }
-    ensures required { IfOk result (λ _. IsSizeUpTo bounds.now.min_size bounds.now.required_min_size) }
+    ensures required { IfOk result
+        (λ _. IsSizeUpTo bounds.now.min_size bounds.now.required_min_size) }
     ensures none { IfErr result (λ field. HasNoCorner field offer.now bounds.now) }
     ensures earlier { IfErr result (λ field. EarlierHold field bounds.now) }
 {

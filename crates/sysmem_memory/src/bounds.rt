@@ -65,8 +65,10 @@ impl MemoryBounds {
     /// The heaps are those that `new` was given.
     pub fn first_place(&self, heaps: &[HeapInfo]) -> Option<Place>
         requires { length heaps.now ≤ 64 }
-        ensures first { (ps : List PlaceDemand) → StandsFor self.now heaps.now ps → IfSome result (IsFirstPlace heaps.now ps) }
-        ensures none { (ps : List PlaceDemand) → StandsFor self.now heaps.now ps → IfNone result (HasNoPlace heaps.now ps) }
+        ensures first { (ps : List PlaceDemand) → StandsFor self.now heaps.now ps
+            → IfSome result (IsFirstPlace heaps.now ps) }
+        ensures none { (ps : List PlaceDemand) → StandsFor self.now heaps.now ps
+            → IfNone result (HasNoPlace heaps.now ps) }
     {
         for heap in 0..heaps.len() {
             if let Some(coherency) = self.left[heap].first() {
@@ -84,7 +86,8 @@ fn still_left(
     memory: &MemoryConstraints,
     usage: Usage,
 ) -> CoherencyDomains
-    ensures { (d : Domain) → has_domain result d ≡ (has_domain left d && is_none (first_refusing memory.now usage heap.now d)) }
+    ensures { (d : Domain) → has_domain result d
+        ≡ (has_domain left d && is_none (first_refusing memory.now usage heap.now d)) }
 {
     if heap_refuses(memory, heap).is_some() {
         return CoherencyDomains::NONE;

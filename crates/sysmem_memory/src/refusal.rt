@@ -24,7 +24,8 @@ pub fn refuses(
 ) -> Option<Field>
     ensures first { result ≡ first_refusing memory.now usage heap.now domain }
     ensures refused { IfSome result (λ f. refuses_by f memory.now usage heap.now domain ≡ true) }
-    ensures allowed { IfNone result ((f : Named) → refuses_by f memory.now usage heap.now domain ≡ false) }
+    ensures allowed { IfNone result ((f : Named)
+        → refuses_by f memory.now usage heap.now domain ≡ false) }
 {
     let by_heap = heap_refuses(memory, heap);
     if by_heap.is_some() {
@@ -66,7 +67,8 @@ pub fn refuses_in(
 
 /// The first field that refuses the heap, whatever its coherency domain.
 pub(crate) fn heap_refuses(memory: &MemoryConstraints, heap: &HeapInfo) -> Option<Field>
-    ensures { (u : Used) (d : Domain) → result ≡ find (λ f. refuses_by f memory.now u heap.now d) heap_fields }
+    ensures { (u : Used) (d : Domain)
+        → result ≡ find (λ f. refuses_by f memory.now u heap.now d) heap_fields }
 {
     let permitted = permits(memory.permitted_heaps.as_slice(), &heap.heap);
     if !permitted {

@@ -77,7 +77,8 @@ impl<'p> Aggregate<'p> {
     /// Adds one more participant, where fewer than 1,024 were added. It takes no memory, so it isn't refused.
     pub fn add(&mut self, asked: &Constraints) -> Result<(), AllocError>
         requires { self.old.added < 1024 }
-        ensures ok { (platform : PlatformFacts) (ps : List Participant) → StandsFor self.old platform ps
+        ensures ok { (platform : PlatformFacts) (ps : List Participant)
+            → StandsFor self.old platform ps
             → OnOk result (StandsFor self.new platform (ps ++ asked.now ∷ [])) }
         ensures always { IfErr result (λ _. ⊥) }
         ensures grows { self.new.added ≤ self.old.added + 1 }
@@ -98,11 +99,14 @@ impl<'p> Aggregate<'p> {
     /// `whole` says that they are all that a decision has, so that an image's format, modifier and colour space must each be
     /// named by some of them.
     pub fn best_settings(&self, whole: bool) -> Result<Settings, Reason>
-        ensures best { (platform : PlatformFacts) (ps : List Participant) → StandsFor self.now platform ps
+        ensures best { (platform : PlatformFacts) (ps : List Participant)
+            → StandsFor self.now platform ps
             → IfOk result (IsBest whole platform ps) }
-        ensures none { (platform : PlatformFacts) (ps : List Participant) → StandsFor self.now platform ps
+        ensures none { (platform : PlatformFacts) (ps : List Participant)
+            → StandsFor self.now platform ps
             → IfErr result (λ _. IsUnmet whole platform ps) }
-        ensures reason { (platform : PlatformFacts) (ps : List Participant) → StandsFor self.now platform ps
+        ensures reason { (platform : PlatformFacts) (ps : List Participant)
+            → StandsFor self.now platform ps
             → IfErr result (IsFirstReason whole platform ps) }
     {
         let count = match self.counts.least_count() {

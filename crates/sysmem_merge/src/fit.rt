@@ -28,9 +28,11 @@ pub(crate) fn best_fit(
     least_size: u64,
     greatest_size: u64,
 ) -> Result<Fit, Field>
-    ensures best { (ds : List OfferDemand) → AreKeptBounds offer.now ds kept.now → AreSizes ds least_size greatest_size
+    ensures best { (ds : List OfferDemand) → AreKeptBounds offer.now ds kept.now
+        → AreSizes ds least_size greatest_size
         → IfOk result (IsBestFit offer.now ds) }
-    ensures line { (ds : List OfferDemand) → AreKeptBounds offer.now ds kept.now → AreSizes ds least_size greatest_size
+    ensures line { (ds : List OfferDemand) → AreKeptBounds offer.now ds kept.now
+        → AreSizes ds least_size greatest_size
         → IfErr result (λ field. IsOfferLine field offer.now ds) }
 {
     let bounds = match kept {

@@ -47,7 +47,8 @@ impl KeptOffer {
 
     /// Whether somebody named each part of the offer's name. No image needs no name.
     pub(crate) fn is_named(&self, offer: &Offer) -> bool
-        ensures { (ds : List OfferDemand) → IsKept offer.now ds self.now → result ≡ is_named offer.now ds }
+        ensures { (ds : List OfferDemand) → IsKept offer.now ds self.now
+            → result ≡ is_named offer.now ds }
     {
         match offer {
             Offer::NoImage => true,
@@ -57,7 +58,8 @@ impl KeptOffer {
 
     /// Keeps what one more participant asks of the offer by its entries.
     pub(crate) fn add(&mut self, offer: &Offer, matches: &FirstMatches)
-        ensures { (ds : List OfferDemand) (d : OfferDemand) → d.entries ≡ matches.now → IsKept offer.now ds self.old
+        ensures { (ds : List OfferDemand) (d : OfferDemand) → d.entries ≡ matches.now
+            → IsKept offer.now ds self.old
             → IsKept offer.now (ds ++ d ∷ []) self.new }
     {
         match matches.entry_for(offer) {
@@ -76,9 +78,12 @@ impl KeptOffer {
     /// Keeps which parts of the offer's name one more entry for it names.
     fn name(&mut self, offer: &Offer, entry: &Entry)
         ensures bounds { self.new.bounds ≡ self.old.bounds }
-        ensures format { self.new.format_named ≡ (self.old.format_named || names_format (Some entry.now)) }
-        ensures modifier { self.new.modifier_named ≡ (self.old.modifier_named || names_modifier (Some entry.now)) }
-        ensures colour { self.new.colour_named ≡ (self.old.colour_named || names_colour offer.now (Some entry.now)) }
+        ensures format { self.new.format_named
+            ≡ (self.old.format_named || names_format (Some entry.now)) }
+        ensures modifier { self.new.modifier_named
+            ≡ (self.old.modifier_named || names_modifier (Some entry.now)) }
+        ensures colour { self.new.colour_named
+            ≡ (self.old.colour_named || names_colour offer.now (Some entry.now)) }
     {
         self.format_named = self.format_named || entry.format.is_some();
         self.modifier_named = self.modifier_named || entry.modifier.is_some();
@@ -89,7 +94,8 @@ impl KeptOffer {
 impl KeptBounds {
     /// Keeps what one more participant's entry for the offer asks.
     fn add(&mut self, offer: &Offer, entry: &Entry)
-        ensures { (ds : List OfferDemand) (d : OfferDemand) → Some entry.now ≡ first_match offer.now d.entries
+        ensures { (ds : List OfferDemand) (d : OfferDemand)
+            → Some entry.now ≡ first_match offer.now d.entries
             → AreKeptBounds offer.now ds self.old → AreKeptBounds offer.now (ds ++ d ∷ []) self.new }
     {
         if !takes_colour(entry, offer) {
@@ -104,8 +110,10 @@ impl KeptBounds {
 
     /// Refuses the offer for a field, if it isn't refused already.
     fn refuse(&mut self, field: Field)
-        ensures first { (bounds : ImageBounds) → self.old ≡ Merged bounds → self.new ≡ Refused field }
-        ensures still { (earlier : Field) → self.old ≡ Refused earlier → self.new ≡ Refused earlier }
+        ensures first { (bounds : ImageBounds) → self.old ≡ Merged bounds
+            → self.new ≡ Refused field }
+        ensures still { (earlier : Field) → self.old ≡ Refused earlier
+            → self.new ≡ Refused earlier }
     {
         if let KeptBounds::Merged(_) = self {
             *self = KeptBounds::Refused(field);

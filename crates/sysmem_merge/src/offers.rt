@@ -27,7 +27,8 @@ pub(crate) fn kept_offers(alloc: Global, platform: &Platform) -> Result<Vec<Kept
 
 /// Keeps what one more participant asks of each offer by its entries.
 pub(crate) fn add_to_offers(kept: &mut [KeptOffer], platform: &Platform, entries: &[Entry])
-    ensures { (ds : List OfferDemand) (d : OfferDemand) → d.entries ≡ entries.now → AreKept (offers_of platform.now) ds kept.old
+    ensures { (ds : List OfferDemand) (d : OfferDemand) → d.entries ≡ entries.now
+        → AreKept (offers_of platform.now) ds kept.old
         → AreKept (offers_of platform.now) (ds ++ d ∷ []) kept.new }
 {
     let matches = FirstMatches::of(entries);
@@ -38,7 +39,8 @@ pub(crate) fn add_to_offers(kept: &mut [KeptOffer], platform: &Platform, entries
 
 /// Keeps what one more participant asks of the platform's offer at this index by its entries.
 fn add_to_offer(kept: &mut KeptOffer, platform: &Platform, index: usize, matches: &FirstMatches)
-    ensures { (o : Offer) (ds : List OfferDemand) (d : OfferDemand) → slice_get (offers_of platform.now) index ≡ Some o
+    ensures { (o : Offer) (ds : List OfferDemand) (d : OfferDemand)
+        → slice_get (offers_of platform.now) index ≡ Some o
         → d.entries ≡ matches.now → IsKept o ds kept.old → IsKept o (ds ++ d ∷ []) kept.new }
 {
     if let Some(offer) = offer_at(platform.pairs(), platform.colours(), index) {

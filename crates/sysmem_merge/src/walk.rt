@@ -22,9 +22,11 @@ pub(crate) fn first_fit(
     greatest_size: u64,
     whole: bool,
 ) -> Option<Fit>
-    ensures first { (ds : List OfferDemand) → AreKept (offers_of platform.now) ds kept.now → AreSizes ds least_size greatest_size
+    ensures first { (ds : List OfferDemand) → AreKept (offers_of platform.now) ds kept.now
+        → AreSizes ds least_size greatest_size
         → IfSome result (IsFirstFit whole (offers_of platform.now) ds) }
-    ensures none { (ds : List OfferDemand) → AreKept (offers_of platform.now) ds kept.now → AreSizes ds least_size greatest_size
+    ensures none { (ds : List OfferDemand) → AreKept (offers_of platform.now) ds kept.now
+        → AreSizes ds least_size greatest_size
         → IfNone result (AreOffersRefused whole (offers_of platform.now) ds) }
 {
     for (index, one) in kept.iter().enumerate() {
@@ -44,11 +46,14 @@ fn fit_at(
     greatest_size: u64,
     whole: bool,
 ) -> Option<Fit>
-    ensures best { (o : Offer) (ds : List OfferDemand) → slice_get (offers_of platform.now) index ≡ Some o → IsKept o ds kept.now
+    ensures best { (o : Offer) (ds : List OfferDemand)
+        → slice_get (offers_of platform.now) index ≡ Some o → IsKept o ds kept.now
         → AreSizes ds least_size greatest_size → IfSome result (IsBestFit o ds) }
-    ensures named { (o : Offer) (ds : List OfferDemand) → slice_get (offers_of platform.now) index ≡ Some o → IsKept o ds kept.now
+    ensures named { (o : Offer) (ds : List OfferDemand)
+        → slice_get (offers_of platform.now) index ≡ Some o → IsKept o ds kept.now
         → IfSome result (λ _. whole ≡ true → is_named o ds ≡ true) }
-    ensures none { (o : Offer) (ds : List OfferDemand) → slice_get (offers_of platform.now) index ≡ Some o → IsKept o ds kept.now
+    ensures none { (o : Offer) (ds : List OfferDemand)
+        → slice_get (offers_of platform.now) index ≡ Some o → IsKept o ds kept.now
         → AreSizes ds least_size greatest_size → IfNone result (IsOfferRefused whole o ds) }
 {
     let offer = offer_at(platform.pairs(), platform.colours(), index)?;
@@ -63,11 +68,13 @@ fn fit_of(
     greatest_size: u64,
     whole: bool,
 ) -> Option<Fit>
-    ensures best { (ds : List OfferDemand) → IsKept offer.now ds kept.now → AreSizes ds least_size greatest_size
+    ensures best { (ds : List OfferDemand) → IsKept offer.now ds kept.now
+        → AreSizes ds least_size greatest_size
         → IfSome result (IsBestFit offer.now ds) }
     ensures named { (ds : List OfferDemand) → IsKept offer.now ds kept.now
         → IfSome result (λ _. whole ≡ true → is_named offer.now ds ≡ true) }
-    ensures none { (ds : List OfferDemand) → IsKept offer.now ds kept.now → AreSizes ds least_size greatest_size
+    ensures none { (ds : List OfferDemand) → IsKept offer.now ds kept.now
+        → AreSizes ds least_size greatest_size
         → IfNone result (IsOfferRefused whole offer.now ds) }
 {
     if whole && !kept.is_named(offer) {

@@ -13,7 +13,9 @@ use sysmem_sanitise::Constraints;
 
 /// One more owner of the constraints, if there are any.
 fn shared(constraints: &Option<Arc<Constraints>>) -> Result<Option<Arc<Constraints>>, AllocError>
-    ensures { IfOk result (λ copy. option_map (λ one. arc_value one) copy ≡ option_map (λ one. arc_value one) constraints.now) }
+    ensures { IfOk result
+        (λ copy. option_map (λ one. arc_value one) copy ≡ option_map
+        (λ one. arc_value one) constraints.now) }
 {
     match constraints {
         Some(one) => Ok(Some(Arc::try_clone(one)?)),

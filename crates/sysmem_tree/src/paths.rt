@@ -34,7 +34,8 @@ pub(crate) fn path_to(alloc: Global, nodes: &[Node], node: usize) -> Result<Vec<
     requires there { node < length nodes.now }
     ensures path { IfOk result (λ path. path.items ≡ path_of nodes.now node) }
     ensures leads { IfOk result (λ path. node_at nodes.now path.items ≡ Some node) }
-    ensures only { IfOk result (λ path. (other : List ℕ) → node_at nodes.now other ≡ Some node → other ≡ path.items) }
+    ensures only { IfOk result
+        (λ path. (other : List ℕ) → node_at nodes.now other ≡ Some node → other ≡ path.items) }
 {
     let mut path = Vec::new(alloc);
     let mut number = node;

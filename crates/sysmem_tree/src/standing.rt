@@ -68,7 +68,8 @@ fn fails(nodes: &[Node], domains: &[Domain], root: usize) -> bool
 
 /// Whether a domain, or one above it, fails by itself.
 pub(crate) fn has_failed(nodes: &[Node], domains: &[Domain], root: usize) -> bool
-    ensures { result ≡ domain.has_failed (record { nodes = nodes.now; domains = domains.now }) root }
+    ensures { result
+        ≡ domain.has_failed (record { nodes = nodes.now; domains = domains.now }) root }
 {
     let mut above = root;
     for _ in 0..MOST_NODES {
