@@ -31,3 +31,5 @@ pub mod Layouts
 pub mod Few
 pub mod Chosen
 pub mod Walks
+pub mod NextGroups
+pub mod Settling
