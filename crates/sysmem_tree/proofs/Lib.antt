@@ -33,3 +33,4 @@ pub mod Chosen
 pub mod Walks
 pub mod NextGroups
 pub mod Settling
+pub mod ToldMembers

@@ -68,7 +68,8 @@ shown_at ps e i told = by (next_alternatives e) refl (stands ps e None told.1) w
           pair e f = rw (e, f) refl
 
 module _ (layout : Layout) (d : Forest ℕ) (laid : IsLayout layout d) (cs : List ℕ) where
-  after_spots : after d cs ≡ option_map (relabel node_of) (after laid.spots cs)
+  -- a prefix leads to the same forest, by numbers and by places
+  pub after_spots : after d cs ≡ option_map (relabel node_of) (after laid.spots cs)
   after_spots = ap (λ x. after x cs) (sym laid.numbers) ∙ after_relabel node_of cs laid.spots
 
   -- a prefix of the domain is one of its places

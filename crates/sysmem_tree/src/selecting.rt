@@ -1,15 +1,18 @@
 //! What is left to choose in the domains of a tree.
 
-ghost use Rattle.std.specs.Prelude.{◌≡◌, ◌^◌, ◌-◌, [], min, IfSome};
+ghost use Rattle.std.specs.Prelude.{◌≡◌, ◌==◌, ◌^◌, ◌-◌, [], min, IfSome};
+ghost use Rattle.std.specs.List.{list_any};
 ghost use Rattle.sysmem_tree.specs.Domain.{HasDomain};
 ghost use Rattle.sysmem_tree.specs.Forest.{count as count_of, first_group};
+ghost use Rattle.sysmem_tree.specs.Nodes.{HasNode};
 ghost use Rattle.sysmem_tree.specs.Selection.{IsPrefix, after};
-ghost use Rattle.sysmem_tree.specs.Shape.{by_number, forest_of};
+ghost use Rattle.sysmem_tree.specs.Shape.{by_number, forest_of, participants_of};
 
 use crate::count::count_selections;
 use crate::id::{DomainId, NodeId};
 use crate::next_group::next_group;
 use crate::prefix::Prefix;
+use crate::settled::is_settled;
 use crate::tree::Tree;
 
 impl Tree {
@@ -28,5 +31,15 @@ impl Tree {
         ensures { IfSome (after (forest_of by_number self.now.nodes domain []) prefix.now) (λ d. result ≡ first_group d) }
     {
         next_group(&self.nodes, domain.0, prefix)
+    }
+
+    /// Whether a node of the tree has constraints and is settled in the domain by these choices: the groups above it are all chosen, on the way to it.
+    pub fn settled(&self, domain: DomainId, prefix: &Prefix, node: NodeId) -> bool
+        requires domain { HasDomain self.now.nodes domain }
+        requires node { HasNode self.now.nodes node }
+        requires prefix { IsPrefix (forest_of by_number self.now.nodes domain []) prefix.now }
+        ensures { result ≡ list_any (λ i. i == node) (participants_of self.now.nodes domain prefix.now) }
+    {
+        self.constraints_of(node).is_some() && is_settled(&self.nodes, domain.0, prefix, node.0)
     }
 }
