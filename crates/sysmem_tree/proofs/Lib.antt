@@ -31,3 +31,6 @@ pub mod Layouts
 pub mod Few
 pub mod Chosen
 pub mod Walks
+pub mod NextGroups
+pub mod Settling
+pub mod ToldMembers

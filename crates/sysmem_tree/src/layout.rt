@@ -175,7 +175,7 @@ impl Layout {
     }
 
     /// The place of this child of a group.
-    fn child(&self, group: usize, choice: u8) -> usize
+    pub(crate) fn child(&self, group: usize, choice: u8) -> usize
         requires { (kids : Forest Spot) × AreAlternatives self.now.places (group + 1) kids × (choice < length (each kids)) }
         ensures place { (kids kid : Forest Spot) → AreAlternatives self.now.places (group + 1) kids → slice_get (each kids) choice ≡ Some kid → start kid 0 ≡ result }
         ensures within { result < 128 }
