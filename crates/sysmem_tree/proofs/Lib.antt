@@ -1,3 +1,4 @@
+pub mod LeavingOut
 pub mod Leading
 pub mod Acting
 pub mod Soundness
@@ -31,3 +32,5 @@ pub mod Layouts
 pub mod Few
 pub mod Chosen
 pub mod Walks
+pub mod Settling
+pub mod Marking

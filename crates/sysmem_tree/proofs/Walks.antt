@@ -1,16 +1,28 @@
 -- Walks over a layout: to a child of a group, and by the choices of a prefix.
-use Rattle.std.proofs.Common.{◌≡◌, ◌≤◌, ◌<◌, ℕ, zero, suc, ◌+◌, true, false, List, [], ◌∷◌, Option, Some, None, length, drop, get_or, slice_get, refl, sym, ◌∙◌, ap, subst, arith}
+use Rattle.std.proofs.Common.{◌≡◌, ◌≤◌, ◌<◌, ℕ, zero, suc, ◌+◌, ◌++◌, ◌||◌, Bool, true, false, List, [], ◌∷◌, Option, Some, None, length, drop, get_or, slice_get, refl, sym, ◌∙◌, ap, subst, arith}
 use Rattle.std.specs.Prelude.{option_and_then, IsSome, IfSome, IsSomeAnd}
+use Rattle.std.specs.List.{list_any}
 use Rattle.std.specs.Option.{option_or}
 use Rattle.std.proofs.lemmas.Option.{same_Some, get_or_from_slice_get}
 use Rattle.sysmem_tree.specs.declared.layout.Layout.{Layout}
 use Rattle.sysmem_tree.specs.declared.layout.Place.{Place}
-use Rattle.sysmem_tree.specs.Forest.{Forest, Empty, Plain, Group, each}
+use Rattle.sysmem_tree.specs.Forest.{Forest, Empty, Plain, Group, each, settled}
 use Rattle.sysmem_tree.specs.Layout.{Spot, start, first_place, behind, IsPlace, AreLaid, IsLayout}
 use Rattle.sysmem_tree.specs.Prefix.{Alternatives, AreAlternatives, next_alternatives, AreOpen}
 use Rattle.sysmem_tree.specs.Selection.{after}
 use Rattle.sysmem_tree.proofs.Chosen.{chosen, Steps, steps}
 use Rattle.sysmem_tree.proofs.Layouts.{starts_before}
+
+or_or : (a b c : Bool) → ((a || b) || c) ≡ (a || (b || c))
+or_or true b c = refl
+or_or false b c = refl
+
+last_or : (a b c : Bool) → (a || (b || c)) ≡ ((a || c) || b)
+last_or true b c = refl
+last_or false true true = refl
+last_or false true false = refl
+last_or false false true = refl
+last_or false false false = refl
 
 -- from one alternative to the next
 pub step_over : (ps : List Place) (at m : ℕ) (d : Place) (ks : Forest Spot) → AreAlternatives ps at ks → suc m < length (each ks)
@@ -96,8 +108,18 @@ begins layout d p laid = by laid.spots laid.starts laid.laid where
   by (Plain x kids rest) s l = ap (λ (q : Place). q.next) (get_or_from_slice_get layout.places layout.start _ p (ap (slice_get layout.places) (sym s) ∙ l.0.here)) ∙ or_none (first_place kids) (first_place rest)
   by (Group x kids rest) s l = ap (λ (q : Place). q.next) (get_or_from_slice_get layout.places layout.start _ p (ap (slice_get layout.places) (sym s) ∙ l.0.here))
 
+-- what is put into a list adds what it has
+any_append : (P : Spot → Bool) (xs ys : List Spot) → list_any P (xs ++ ys) ≡ (list_any P xs || list_any P ys)
+any_append P [] ys = refl
+any_append P (x ∷ xs) ys = ap (λ b. P x || b) (any_append P xs ys) ∙ sym (or_or (P x) (list_any P xs) (list_any P ys))
+
+any_between : (P : Spot → Bool) (front added back before now : List Spot) → before ≡ front ++ back → now ≡ front ++ (added ++ back) → list_any P now ≡ (list_any P before || list_any P added)
+any_between P front added back before now was is =
+    ap (list_any P) is ∙ (any_append P front (added ++ back) ∙ (ap (λ b. list_any P front || b) (any_append P added back)
+    ∙ (last_or (list_any P front) (list_any P added) (list_any P back) ∙ ap (λ b. b || list_any P added) (sym (ap (list_any P) was ∙ any_append P front back)))))
+
 -- what the next choice leads to, where the group at `at` is next
-pub record OnChoice (ps : List Place) (w : Forest Spot) (cs rest : List ℕ) (c at : ℕ) : Type 0 where
+pub record OnChoice (ps : List Place) (w e : Forest Spot) (cs rest : List ℕ) (c at : ℕ) : Type 0 where
   pub kids : Forest Spot
   pub alternatives : AreAlternatives ps (at + 1) kids
   pub kid : Forest Spot
@@ -106,10 +128,11 @@ pub record OnChoice (ps : List Place) (w : Forest Spot) (cs rest : List ℕ) (c 
   pub goes : after w cs ≡ after left rest
   pub open_left : AreOpen ps left None
   pub next : IsSomeAnd (slice_get ps (start kid 0)) (λ (p : Place). p.next ≡ option_or (first_place left) None)
+  pub settles : (P : Spot → Bool) → list_any P (settled left) ≡ (list_any P (settled e) || list_any P (settled kid))
 
 -- a prefix has choices left only where a group is
 pub on_choice : (ps : List Place) (w e : Forest Spot) (cs rest : List ℕ) (c : ℕ) (group : Option ℕ) → IsSome (after w cs) → after w cs ≡ after e (c ∷ rest) → AreOpen ps e None → group ≡ first_place e
-    → (at : ℕ) × (group ≡ Some at) × OnChoice ps w cs rest c at
+    → (at : ℕ) × (group ≡ Some at) × OnChoice ps w e cs rest c at
 on_choice ps w e cs rest c group some goes o is =
     let (f, on, st) = walk_on ps e c rest o (subst IsSome goes some) in
     let stand : Stands ps st.first = subst (λ x. IfSome x (Stands ps)) st.is_first (stands ps e None o) in (
@@ -124,10 +147,11 @@ on_choice ps w e cs rest c group some goes o is =
         goes = goes ∙ on;
         open_left = st.open_after;
         next = st.goes_on_after;
+        settles = λ P. any_between P st.front (settled st.kid) st.back (settled e) (settled f) st.settled_before st.settled_after;
       },
     )
 
-drop_end : {X : Type 0} (xs : List X) (i : ℕ) → length xs ≤ i → drop i xs ≡ []
+pub drop_end : {X : Type 0} (xs : List X) (i : ℕ) → length xs ≤ i → drop i xs ≡ []
 drop_end [] zero less = refl
 drop_end [] (suc i) less = refl
 drop_end (x ∷ xs) zero less = absurd (omega (arith, less))

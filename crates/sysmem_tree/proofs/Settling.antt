@@ -1,0 +1,73 @@
+-- Which nodes a part of a layout settles, and those that a choice adds.
+use Rattle.std.proofs.Common.{◌≡◌, ◌≢◌, ◌≤◌, ◌<◌, ℕ, eq-eqb, zero, suc, ◌+◌, ◌++◌, ◌==◌, Bool, true, false, List, [], ◌∷◌, Option, Some, None, length, get_or, slice_get, refl, sym, ◌∙◌, ap, subst, arith}
+use Rattle.std.specs.Prelude.{◌||◌, if◌then◌else◌}
+use Rattle.std.specs.List.{list_any}
+use Rattle.std.proofs.lemmas.Bool.{ne_eqb}
+use Rattle.std.proofs.lemmas.List.{append_assoc, append-nil}
+use Rattle.std.proofs.lemmas.Option.{get_or_from_slice_get}
+use Rattle.sysmem_tree.specs.declared.layout.Place.{Place}
+use Rattle.sysmem_tree.specs.Forest.{Forest, Empty, Plain, Group, settled}
+use Rattle.sysmem_tree.specs.Layout.{Spot, start, behind, AreLaid}
+use Rattle.sysmem_tree.proofs.Layouts.{starts_before}
+
+-- the place that follows one in a walk past the alternatives of groups
+abbrev pub past : Place → ℕ → ℕ
+past p at = if p.is_group then p.end else at + 1
+
+-- a walk from a place on meets the nodes of these spots, and ends before `to`
+abbrev pub Meets : List Place → ℕ → ℕ → List Spot → Type 0
+Meets ps to at [] = at ≡ to
+Meets ps to at (s ∷ ss) = (at < to) × ((p : Place) × (slice_get ps at ≡ Some p) × (p.node ≡ s.node) × (at < past p at) × Meets ps to (past p at) ss)
+
+-- a walk over what is laid out meets what is settled
+module _ (ps : List Place) (to : ℕ) where
+  meets : (g : Bool) (w : Forest Spot) (e : ℕ) (next : Option ℕ) (ss : List Spot) → AreLaid g ps w e next → e ≤ to → Meets ps to e ss → Meets ps to (start w e) (settled w ++ ss)
+  meets g Empty e next ss l small m = m
+  meets g (Plain s kids rest) e next ss l small m =
+      let x = starts_before g ps rest e next l.2 in
+      let y = starts_before false ps kids (start rest e) (behind g rest next) l.1 in
+      let later = meets g rest e next ss l.2 small m in
+      let below = meets false kids (start rest e) (behind g rest next) (settled rest ++ ss) l.1 (omega (arith, x, small)) later in
+      subst (λ zs. Meets ps to s.place (s ∷ zs)) (sym (append_assoc (settled kids) (settled rest) ss))
+      (omega (arith, x, y, small, l.0.kids_here), (_, l.0.here, refl, omega arith, subst (λ i. Meets ps to i (settled kids ++ (settled rest ++ ss))) l.0.kids_here below))
+  meets g (Group s kids rest) e next ss l small m =
+      let x = starts_before g ps rest e next l.2 in
+      let y = starts_before true ps kids (start rest e) (behind g rest next) l.1 in
+      (omega (arith, x, y, small, l.0.kids_here), (_, l.0.here, refl, omega (arith, y, l.0.kids_here), meets g rest e next ss l.2 small m))
+
+pub meets_settled : (ps : List Place) (g : Bool) (w : Forest Spot) (to : ℕ) (next : Option ℕ) → AreLaid g ps w to next → Meets ps to (start w to) (settled w)
+meets_settled ps g w to next l = subst (Meets ps to (start w to)) (append-nil (settled w)) (meets ps to g w to next [] l (omega arith) refl)
+
+-- whether a spot has the node
+abbrev pub is_at : ℕ → Spot → Bool
+is_at node s = s.node == node
+
+-- at a place before the end
+pub meets_here : (ps : List Place) (to at : ℕ) (ss : List Spot) (p : Place) → at < to → Meets ps to at ss → p ≡ get_or ps at p
+    → (at < past p at) × (past p at ≤ to) × ((s : Spot) × (rest : List Spot) × (ss ≡ s ∷ rest) × (p.node ≡ s.node) × Meets ps to (past p at) rest)
+meets_here ps to at [] p less m is = absurd (omega (arith, less, m))
+meets_here ps to at (s ∷ ss) p less m is =
+    let (q, here, node, up, on) = m.1 in
+    let same : q ≡ p = sym (is ∙ get_or_from_slice_get ps at q p here) in
+    subst (λ x. (at < past x at) × (past x at ≤ to) × ((t : Spot) × (rest : List Spot) × (s ∷ ss ≡ t ∷ rest) × (x.node ≡ t.node) × Meets ps to (past x at) rest)) same (up, within (past q at) ss on, (s, ss, refl, node, on)) where
+      within : (i : ℕ) (zs : List Spot) → Meets ps to i zs → i ≤ to
+      within i [] m = omega (arith, m)
+      within i (z ∷ zs) m = omega (arith, m.0)
+
+-- the walk goes on past a node that isn't the one
+pub goes_past : (ps : List Place) (to at node : ℕ) (ss : List Spot) (p : Place) → at < to → Meets ps to at ss → p ≡ get_or ps at p → p.node ≢ node
+    → (rest : List Spot) × Meets ps to (past p at) rest × (list_any (is_at node) ss ≡ list_any (is_at node) rest)
+goes_past ps to at node ss p less m is other =
+    let (s, rest, e, same, on) = (meets_here ps to at ss p less m is).2 in
+    (rest, on, ap (list_any (is_at node)) e ∙ ap (λ b. b || list_any (is_at node) rest) (ne_eqb s.node node (λ f. other (same ∙ f))))
+
+-- and stops at the one
+pub stops_at : (ps : List Place) (to at node : ℕ) (ss : List Spot) (p : Place) → at < to → Meets ps to at ss → p ≡ get_or ps at p → p.node ≡ node → list_any (is_at node) ss ≡ true
+stops_at ps to at node ss p less m is here =
+    let (s, rest, e, same, on) = (meets_here ps to at ss p less m is).2 in
+    ap (list_any (is_at node)) e ∙ ap (λ b. b || list_any (is_at node) rest) (eq-eqb s.node node (sym same ∙ here))
+
+-- at the end there is nothing more
+pub nothing_more : (ps : List Place) (to at node : ℕ) (ss : List Spot) → to ≤ at → Meets ps to at ss → list_any (is_at node) ss ≡ false
+nothing_more ps to at node [] less m = refl
+nothing_more ps to at node (s ∷ ss) less m = absurd (omega (arith, less, m.0))
