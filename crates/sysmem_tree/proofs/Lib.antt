@@ -34,3 +34,4 @@ pub mod Chosen
 pub mod Walks
 pub mod Settling
 pub mod Marking
+pub mod Decisions

@@ -15,7 +15,7 @@ impl Tree {
     /// nodes of the domain that are no members are left out; or for none. It takes no memory.
     pub fn decided(&mut self, domain: DomainId, choices: Option<&[u8]>)
         requires { IsDecidable self.old domain (option_map (λ chosen. chosen.now) choices) }
-        ensures { self.new ≡ decided self.old domain (option_map (λ chosen. chosen.now) choices) }
+        ensures { self.new ≡ decided self.old domain (option_map (λ chosen. chosen.now) choices.entry) }
     {
         let Some(chosen) = choices else {
             decide(&mut self.domains, domain.0, Decision::NoneChosen);
