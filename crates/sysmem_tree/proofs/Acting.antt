@@ -65,7 +65,7 @@ made_so nodes i many n kind deed o long is given =
     sym (given ∙ (ap (λ z. option_map (new_node z i n kind) (makes kind)) long ∙ ap (λ z. option_map (new_node (length nodes) i n z) (makes z)) is))
 
 -- a vector whose items were all written has what was written
-pub all_written : (many : ℕ) (xs new : List Domain) → many ≡ length new → take many (new ++ drop (length new) xs) ≡ new
+pub all_written : {X : Type 0} (many : ℕ) (xs new : List X) → many ≡ length new → take many (new ++ drop (length new) xs) ≡ new
 all_written many xs new same = rw same (take-append_seam new (drop (length new) xs))
 
 -- a close in a domain that isn't ready

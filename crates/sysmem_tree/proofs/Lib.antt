@@ -1,3 +1,4 @@
+pub mod LeavingOut
 pub mod Leading
 pub mod Acting
 pub mod Soundness
@@ -34,3 +35,5 @@ pub mod Walks
 pub mod NextGroups
 pub mod Settling
 pub mod ToldMembers
+pub mod Marking
+pub mod Decisions

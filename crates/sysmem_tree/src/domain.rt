@@ -2,7 +2,7 @@
 
 ghost use Rattle.std.specs.Prelude.{◌≡◌};
 ghost use Rattle.sysmem_tree.specs.Domain.{is_chosen, is_none_chosen};
-ghost use Rattle.sysmem_tree.specs.Tree.{closed_early, new_domain};
+ghost use Rattle.sysmem_tree.specs.Tree.{closed_early, decided_domain, new_domain};
 
 /// What was decided for a domain.
 #[derive(Clone, Copy, Debug, PartialEq, Eq)]
@@ -58,6 +58,15 @@ impl Domain {
     {
         if self.root == root {
             self.is_closed_early = true;
+        }
+    }
+
+    /// Enters the decision, if it is the one of this root.
+    pub(crate) fn decide(&mut self, root: usize, decision: Decision)
+        ensures { self.new ≡ decided_domain root decision self.old }
+    {
+        if self.root == root {
+            self.decision = decision;
         }
     }
 }

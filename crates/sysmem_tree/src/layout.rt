@@ -2,7 +2,7 @@
 
 ghost use Rattle.std.specs.Prelude.{◌≡◌, ◌≤◌, ◌<◌, ◌+◌, ℕ, Some, None, IfSome, [], drop, length, is_some, slice_get, if◌then◌else◌};
 ghost use Rattle.sysmem_tree.specs.Shape.{kids_from, by_number, kid_of};
-ghost use Rattle.sysmem_tree.specs.Layout.{is_group, size, Lays};
+ghost use Rattle.sysmem_tree.specs.Layout.{is_group, size, HoldNumbers, Lays};
 
 use crate::node::Node;
 use crate::state::NodeKind;
@@ -89,11 +89,13 @@ fn lay_from(
     what: Children,
     places: &mut [Place; 128],
 ) -> Laid
+    requires few { length nodes.now ≤ 128 }
     requires from { from ≤ length nodes.now }
     requires end { what.end ≤ 128 }
     requires room { size (kids_from by_number domain from (drop from nodes.now) what.parent []) ≤ what.end }
     ensures laid { Lays what.is_group places.new (kids_from by_number domain from (drop from nodes.now) what.parent []) result what.end what.next }
     ensures kept { (k : ℕ) → what.end ≤ k → slice_get places.new k ≡ slice_get places.old k }
+    ensures numbers { HoldNumbers places.old → HoldNumbers places.new }
 {
     if from == nodes.len() {
         return Laid {
@@ -151,7 +153,8 @@ impl Layout {
     pub(crate) fn new(nodes: &[Node], root: usize) -> Layout
         requires tree { IsTree nodes.now }
         requires there { root < length nodes.now }
-        ensures { IsLayout result (forest_of by_number nodes.now root []) }
+        ensures layout { IsLayout result (forest_of by_number nodes.now root []) }
+        ensures numbers { HoldNumbers result.places }
     {
         let is_group = has_alternatives(&nodes[root]);
         let below = Children {

@@ -11,11 +11,13 @@
 mod action;
 mod copying;
 mod count;
+mod deciding;
 mod domain;
 mod fate;
 mod id;
 pub mod laws;
 mod layout;
+mod members;
 mod next_group;
 mod node;
 mod path;

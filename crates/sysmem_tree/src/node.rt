@@ -1,6 +1,6 @@
 //! A node of a tree.
 
-ghost use Rattle.std.specs.Prelude.{◌≡◌, ◌<◌, option_map};
+ghost use Rattle.std.specs.Prelude.{◌≡◌, ◌<◌, ◌==◌, ◌&&◌, ◌||◌, not, option_map};
 ghost use Rattle.sysmem_tree.specs.ActionKind.{deed_of};
 ghost use Rattle.sysmem_tree.specs.Path.{is_born};
 ghost use Rattle.sysmem_tree.specs.Table.{makes};
@@ -125,6 +125,14 @@ impl Node {
         self.state.act(action.kind());
         if let Action::SetConstraints(constraints) = action {
             self.constraints = constraints;
+        }
+    }
+    /// What a decision of the domain of this root makes of it: left out, if it is of the domain and no member.
+    pub(crate) fn leave_out(&mut self, root: usize, is_member: bool)
+        ensures { self.new ≡ record self.old { is_left_out = self.old.is_left_out || ((self.old.domain == root) && not is_member) } }
+    {
+        if self.domain == root && !is_member {
+            self.is_left_out = true;
         }
     }
 }

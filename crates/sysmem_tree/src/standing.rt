@@ -1,8 +1,9 @@
 //! How it stands with domains: which have failed, and which are ready.
 
-ghost use Rattle.std.specs.Prelude.{◌≡◌, map, option_map};
+ghost use Rattle.std.specs.Prelude.{◌≡◌, ◌≤◌, ◌==◌, ℕ, List, false, length, map, option_map, get_or};
+ghost use Rattle.std.specs.List.{list_any};
 ghost use Rattle.sysmem_tree.specs.Domain as domain;
-ghost use Rattle.sysmem_tree.specs.Tree.{closed_early};
+ghost use Rattle.sysmem_tree.specs.Tree.{closed_early, decided_domain, left_out_but};
 
 use crate::domain::{Decision, Domain};
 use crate::node::Node;
@@ -109,5 +110,25 @@ pub(crate) fn close_early(domains: &mut [Domain], root: usize)
 {
     for domain in domains.iter_mut() {
         domain.close_early(root);
+    }
+}
+
+/// Enters the decision of the domain of this root.
+pub(crate) fn decide(domains: &mut [Domain], root: usize, decision: Decision)
+    ensures { domains.new ≡ map (decided_domain root decision) domains.old }
+{
+    for domain in domains.iter_mut() {
+        domain.decide(root, decision);
+    }
+}
+
+/// Leaves all nodes of the domain of this root out, but its members; each node is marked by its number.
+pub(crate) fn leave_out(nodes: &mut [Node], root: usize, members: &[bool; MOST_NODES])
+    requires { length nodes.old ≤ 128 }
+    ensures { (numbers : List ℕ) → ((k : ℕ) → get_or members.now k false ≡ list_any (λ m. m == k) numbers)
+        → nodes.new ≡ left_out_but numbers root 0 nodes.old }
+{
+    for (number, node) in nodes.iter_mut().enumerate() {
+        node.leave_out(root, members[number]);
     }
 }

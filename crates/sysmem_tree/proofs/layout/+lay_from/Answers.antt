@@ -3,19 +3,20 @@ use Rattle.std.proofs.Common.{◌≡◌, ◌<◌, suc, length, ◌-◌, arith, s
 use Rattle.std.proofs.Math.Nat.{le_trans}
 use Rattle.sysmem_tree.proofs.layout.+lay_from.Goals as goal
 use Rattle.sysmem_tree.proofs.Layouts.{kid_laid_as, set_above}
+use Rattle.sysmem_tree.proofs.Marking.{hold_written}
 use Rattle.sysmem_tree.proofs.Numbers.{numbers_here, size_here, size_falls}
 
 pub lay_from-rest-requires : goal.lay_from-rest-requires
 lay_from-rest-requires t c =
     let less : c.args.from < length c.args.nodes.now = omega (arith, c.requires.from, c.if-from-nodes.false) in
-    (omega (arith, c.decreases, less), (omega (arith, less), (c.requires.end, le_trans (size_falls c.args.nodes.now c.args.domain c.args.from c.args.what.parent less) c.requires.room)))
+    (omega (arith, c.decreases, less), (c.requires.few, (omega (arith, less), (c.requires.end, le_trans (size_falls c.args.nodes.now c.args.domain c.args.from c.args.what.parent less) c.requires.room))))
 
 pub lay_from-kids-requires : goal.lay_from-kids-requires
 lay_from-kids-requires t c =
     let less : c.args.from < length c.args.nodes.now = omega (arith, c.requires.from, c.if-from-nodes.false) in
     let all = size_here c.args.nodes.now c.args.domain c.args.from c.args.what.parent c.index-nodes-from.result less c.index-nodes-from.is (sym c.if-not-is_kid.ensures) in
     let long = c.lay_from-rest.ensures.laid.long in
-    (omega (arith, c.decreases, less), (omega (arith, less), (omega (arith, c.requires.end, long), omega (arith, c.requires.room, all, long))))
+    (omega (arith, c.decreases, less), (c.requires.few, (omega (arith, less), (omega (arith, c.requires.end, long), omega (arith, c.requires.room, all, long)))))
 
 pub overflow_sub-start : goal.overflow_sub-start
 overflow_sub-start t c =
@@ -45,3 +46,8 @@ returns-clause-kept t c = λ k p.
     let up : c.lay_from-kids.result.start - 1 < k = omega (arith, c.requires.room, all, long, below, p) in
     set_above c.lay_from-kids.new.places (c.lay_from-kids.result.start - 1) _ k up
     ∙ (c.lay_from-kids.ensures.kept k (omega (arith, p, long)) ∙ c.lay_from-rest.ensures.kept k p)
+
+pub returns-clause-numbers : goal.returns-clause-numbers
+returns-clause-numbers t c = λ all.
+    let less : c.args.from < length c.args.nodes.now = omega (arith, c.requires.from, c.if-from-nodes.false) in
+    hold_written c.lay_from-kids.new.places (c.lay_from-kids.result.start - 1) _ (c.lay_from-kids.ensures.numbers (c.lay_from-rest.ensures.numbers all)) (omega (arith, less, c.requires.few))

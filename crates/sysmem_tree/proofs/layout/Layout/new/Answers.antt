@@ -7,6 +7,7 @@ use Rattle.sysmem_tree.specs.Shape.{by_number, rooted, tree_of}
 use Rattle.sysmem_tree.proofs.layout.Layout.new.Goals as goal
 use Rattle.sysmem_tree.proofs.Few.{few_numbers, kids_later}
 use Rattle.sysmem_tree.proofs.Layouts.{kid_laid_as}
+use Rattle.sysmem_tree.proofs.Marking.{hold_first, hold_written}
 use Rattle.sysmem_tree.proofs.Numbers.{numbers}
 
 pub lay_from-kids-requires-clause-room : goal.lay_from-kids-requires-clause-room
@@ -20,8 +21,8 @@ overflow_sub-start c =
     let long = c.lay_from-kids.ensures.laid.long in
     omega (arith, few, long, length-drop (c.args.root + 1) c.args.nodes.now, c.requires.tree.few, c.requires.there)
 
-pub returns : goal.returns
-returns c =
+pub returns-clause-layout : goal.returns-clause-layout
+returns-clause-layout c =
     let few = few_numbers c.args.root (drop (c.args.root + 1) c.args.nodes.now) (c.args.root + 1) c.args.root (omega arith) in
     let long = c.lay_from-kids.ensures.laid.long in
     let before : suc (c.lay_from-kids.result.start - 1) ≡ c.lay_from-kids.result.start =
@@ -43,3 +44,7 @@ returns c =
       within = omega (arith, before, long);
       laid = laid.places_laid;
     }
+
+pub returns-clause-numbers : goal.returns-clause-numbers
+returns-clause-numbers c =
+    hold_written c.lay_from-kids.new.places (c.lay_from-kids.result.start - 1) _ (c.lay_from-kids.ensures.numbers (hold_first 128)) (omega (arith, c.requires.there, c.requires.tree.few))

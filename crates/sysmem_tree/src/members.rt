@@ -1,0 +1,67 @@
+//! The members of selections.
+
+ghost use Rattle.std.specs.Prelude.{◌≡◌, ◌≤◌, ◌<◌, ◌+◌, ◌==◌, ◌||◌, ℕ, Bool, Option, false, [], length, get_or, IfSome, if◌then◌else◌};
+ghost use Rattle.std.specs.List.{list_any};
+ghost use Rattle.sysmem_tree.specs.Forest.{Forest, settled};
+ghost use Rattle.sysmem_tree.specs.Layout.{Spot, AreLaid, HoldNumbers, IsLayout, start};
+ghost use Rattle.sysmem_tree.specs.Nodes.{IsTree};
+ghost use Rattle.sysmem_tree.specs.Selection.{IsPrefix, after};
+ghost use Rattle.sysmem_tree.specs.Shape.{by_number, forest_of, members_of};
+
+use crate::layout::{Layout, Place};
+use crate::node::Node;
+
+/// The place that follows one, past what is below it where that is alternatives.
+fn past(place: &Place, at: usize) -> usize
+    requires { at < 128 }
+    ensures { result ≡ (if place.now.is_group then place.now.end else at + 1) }
+{
+    if place.is_group { place.end } else { at + 1 }
+}
+
+/// Marks the nodes between two places that no group there has yet to choose.
+fn mark(layout: &Layout, from: usize, to: usize, marks: &mut [bool; 128])
+    requires laid { (w : Forest Spot) × (g : Bool) × (next : Option ℕ) × AreLaid g layout.now.places w to next × (start w to ≡ from) }
+    requires numbers { HoldNumbers layout.now.places }
+    requires to { to ≤ 128 }
+    ensures { (w : Forest Spot) (g : Bool) (next : Option ℕ) → AreLaid g layout.now.places w to next → start w to ≡ from
+        → (k : ℕ) → get_or marks.new k false ≡ (get_or marks.old k false || list_any (λ s. s.node == k) (settled w)) }
+{
+    let mut at = from;
+    while at < to {
+        let place = layout.places[at];
+        marks[place.node] = true;
+        at = past(&place, at);
+    }
+}
+
+/// The nodes that choices settle, marked by their numbers.
+fn marks_after(layout: &Layout, choices: &[u8]) -> [bool; 128]
+    requires numbers { HoldNumbers layout.now.places }
+    requires prefix { (d : Forest ℕ) × (laid : IsLayout layout.now d) × IsPrefix laid.spots choices.now }
+    ensures { (d : Forest ℕ) → (laid : IsLayout layout.now d) → IfSome (after laid.spots choices.now)
+        (λ e. (k : ℕ) → get_or result k false ≡ list_any (λ s. s.node == k) (settled e)) }
+{
+    let mut marks = [false; 128];
+    mark(layout, layout.start, 128, &mut marks);
+    let mut group = layout.places[layout.start].next;
+    for choice in choices {
+        let Some(at) = group else {
+            return marks;
+        };
+        let kid = layout.child(at, *choice);
+        mark(layout, kid, layout.places[kid].end, &mut marks);
+        group = layout.places[kid].next;
+    }
+    marks
+}
+
+/// The members of the selection that the choices make in the domain of this root, marked by their numbers.
+pub(crate) fn members(nodes: &[Node], root: usize, choices: &[u8]) -> [bool; 128]
+    requires tree { IsTree nodes.now }
+    requires there { root < length nodes.now }
+    requires prefix { IsPrefix (forest_of by_number nodes.now root []) choices.now }
+    ensures { (k : ℕ) → get_or result k false ≡ list_any (λ m. m == k) (members_of nodes.now root choices.now) }
+{
+    marks_after(&Layout::new(nodes, root), choices)
+}
