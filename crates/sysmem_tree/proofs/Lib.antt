@@ -32,6 +32,8 @@ pub mod Layouts
 pub mod Few
 pub mod Chosen
 pub mod Walks
+pub mod NextGroups
 pub mod Settling
+pub mod ToldMembers
 pub mod Marking
 pub mod Decisions

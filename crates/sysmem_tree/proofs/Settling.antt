@@ -42,30 +42,56 @@ meets_settled ps g w to next l = subst (Meets ps to (start w to)) (append-nil (s
 abbrev pub is_at : ℕ → Spot → Bool
 is_at node s = s.node == node
 
--- at a place before the end
-pub meets_here : (ps : List Place) (to at : ℕ) (ss : List Spot) (p : Place) → at < to → Meets ps to at ss → p ≡ get_or ps at p
-    → (at < past p at) × (past p at ≤ to) × ((s : Spot) × (rest : List Spot) × (ss ≡ s ∷ rest) × (p.node ≡ s.node) × Meets ps to (past p at) rest)
-meets_here ps to at [] p less m is = absurd (omega (arith, less, m))
-meets_here ps to at (s ∷ ss) p less m is =
-    let (q, here, node, up, on) = m.1 in
-    let same : q ≡ p = sym (is ∙ get_or_from_slice_get ps at q p here) in
-    subst (λ x. (at < past x at) × (past x at ≤ to) × ((t : Spot) × (rest : List Spot) × (s ∷ ss ≡ t ∷ rest) × (x.node ≡ t.node) × Meets ps to (past x at) rest)) same (up, within (past q at) ss on, (s, ss, refl, node, on)) where
-      within : (i : ℕ) (zs : List Spot) → Meets ps to i zs → i ≤ to
-      within i [] m = omega (arith, m)
-      within i (z ∷ zs) m = omega (arith, m.0)
+module _ (ps : List Place) (to at : ℕ) (d : Place) (less : at < to) where
+  abbrev here : Place
+  here = get_or ps at d
 
--- the walk goes on past a node that isn't the one
-pub goes_past : (ps : List Place) (to at node : ℕ) (ss : List Spot) (p : Place) → at < to → Meets ps to at ss → p ≡ get_or ps at p → p.node ≢ node
-    → (rest : List Spot) × Meets ps to (past p at) rest × (list_any (is_at node) ss ≡ list_any (is_at node) rest)
-goes_past ps to at node ss p less m is other =
-    let (s, rest, e, same, on) = (meets_here ps to at ss p less m is).2 in
-    (rest, on, ap (list_any (is_at node)) e ∙ ap (λ b. b || list_any (is_at node) rest) (ne_eqb s.node node (λ f. other (same ∙ f))))
+  -- what a walk meets at a place before its end
+  pub record IsMet (ss : List Spot) : Type 0 where
+    pub there : slice_get ps at ≡ Some here
+    pub up : at < past here at
+    pub within : past here at ≤ to
+    pub spot : Spot
+    pub rest : List Spot
+    pub is : ss ≡ spot ∷ rest
+    pub node : here.node ≡ spot.node
+    pub on : Meets ps to (past here at) rest
 
--- and stops at the one
-pub stops_at : (ps : List Place) (to at node : ℕ) (ss : List Spot) (p : Place) → at < to → Meets ps to at ss → p ≡ get_or ps at p → p.node ≡ node → list_any (is_at node) ss ≡ true
-stops_at ps to at node ss p less m is here =
-    let (s, rest, e, same, on) = (meets_here ps to at ss p less m is).2 in
-    ap (list_any (is_at node)) e ∙ ap (λ b. b || list_any (is_at node) rest) (eq-eqb s.node node (sym same ∙ here))
+  pub is_met : (ss : List Spot) → Meets ps to at ss → IsMet ss
+  is_met [] m = absurd (omega (arith, less, m))
+  is_met (s ∷ ss) m =
+      let (q, there, node, up, on) = m.1 in
+      let same : q ≡ here = sym (get_or_from_slice_get ps at q d there) in
+      record {
+        there = there ∙ ap (λ x. Some x) same;
+        up = subst (λ x. at < past x at) same up;
+        within = subst (λ x. past x at ≤ to) same (within (past q at) ss on);
+        spot = s;
+        rest = ss;
+        is = refl;
+        node = subst (λ x. x.node ≡ s.node) same node;
+        on = subst (λ x. Meets ps to (past x at) ss) same on;
+      } where
+        within : (i : ℕ) (zs : List Spot) → Meets ps to i zs → i ≤ to
+        within i [] m = omega (arith, m)
+        within i (z ∷ zs) m = omega (arith, m.0)
+
+  -- the walk goes up, and not past its end
+  pub goes_up : (i : ℕ) (ss : List Spot) → i ≡ past here at → Meets ps to at ss → (at < i) × (i ≤ to)
+  goes_up i ss is m = let met = is_met ss m in (subst (λ x. at < x) (sym is) met.up, subst (λ x. x ≤ to) (sym is) met.within)
+
+  -- it goes on past a node that isn't the one
+  pub goes_past : (node : ℕ) (ss : List Spot) → Meets ps to at ss → here.node ≢ node
+      → (rest : List Spot) × Meets ps to (past here at) rest × (list_any (is_at node) ss ≡ list_any (is_at node) rest)
+  goes_past node ss m other =
+      let met = is_met ss m in
+      (met.rest, met.on, ap (list_any (is_at node)) met.is ∙ ap (λ b. b || list_any (is_at node) met.rest) (ne_eqb met.spot.node node (λ f. other (met.node ∙ f))))
+
+  -- and stops at the one
+  pub stops_at : (node : ℕ) (ss : List Spot) → Meets ps to at ss → here.node ≡ node → list_any (is_at node) ss ≡ true
+  stops_at node ss m is =
+      let met = is_met ss m in
+      ap (list_any (is_at node)) met.is ∙ ap (λ b. b || list_any (is_at node) met.rest) (eq-eqb met.spot.node node (sym met.node ∙ is))
 
 -- at the end there is nothing more
 pub nothing_more : (ps : List Place) (to at node : ℕ) (ss : List Spot) → to ≤ at → Meets ps to at ss → list_any (is_at node) ss ≡ false

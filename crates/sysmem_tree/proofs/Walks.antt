@@ -1,8 +1,9 @@
 -- Walks over a layout: to a child of a group, and by the choices of a prefix.
-use Rattle.std.proofs.Common.{◌≡◌, ◌≤◌, ◌<◌, ℕ, zero, suc, ◌+◌, ◌++◌, ◌||◌, Bool, true, false, List, [], ◌∷◌, Option, Some, None, length, drop, get_or, slice_get, refl, sym, ◌∙◌, ap, subst, arith}
-use Rattle.std.specs.Prelude.{option_and_then, IsSome, IfSome, IsSomeAnd}
+use Rattle.std.proofs.Common.{◌≡◌, ◌≤◌, ◌<◌, ℕ, zero, suc, ◌+◌, ◌++◌, Bool, true, false, List, [], ◌∷◌, Option, Some, None, length, drop, get_or, slice_get, refl, sym, ◌∙◌, ap, subst, arith}
+use Rattle.std.specs.Prelude.{◌||◌, option_and_then, IsSome, IfSome, IsSomeAnd}
 use Rattle.std.specs.List.{list_any}
 use Rattle.std.specs.Option.{option_or}
+use Rattle.std.proofs.lemmas.List.Folds.{list_any-append}
 use Rattle.std.proofs.lemmas.Option.{same_Some, get_or_from_slice_get}
 use Rattle.sysmem_tree.specs.declared.layout.Layout.{Layout}
 use Rattle.sysmem_tree.specs.declared.layout.Place.{Place}
@@ -12,17 +13,6 @@ use Rattle.sysmem_tree.specs.Prefix.{Alternatives, AreAlternatives, next_alterna
 use Rattle.sysmem_tree.specs.Selection.{after}
 use Rattle.sysmem_tree.proofs.Chosen.{chosen, Steps, steps}
 use Rattle.sysmem_tree.proofs.Layouts.{starts_before}
-
-or_or : (a b c : Bool) → ((a || b) || c) ≡ (a || (b || c))
-or_or true b c = refl
-or_or false b c = refl
-
-last_or : (a b c : Bool) → (a || (b || c)) ≡ ((a || c) || b)
-last_or true b c = refl
-last_or false true true = refl
-last_or false true false = refl
-last_or false false true = refl
-last_or false false false = refl
 
 -- from one alternative to the next
 pub step_over : (ps : List Place) (at m : ℕ) (d : Place) (ks : Forest Spot) → AreAlternatives ps at ks → suc m < length (each ks)
@@ -108,16 +98,6 @@ begins layout d p laid = by laid.spots laid.starts laid.laid where
   by (Plain x kids rest) s l = ap (λ (q : Place). q.next) (get_or_from_slice_get layout.places layout.start _ p (ap (slice_get layout.places) (sym s) ∙ l.0.here)) ∙ or_none (first_place kids) (first_place rest)
   by (Group x kids rest) s l = ap (λ (q : Place). q.next) (get_or_from_slice_get layout.places layout.start _ p (ap (slice_get layout.places) (sym s) ∙ l.0.here))
 
--- what is put into a list adds what it has
-any_append : (P : Spot → Bool) (xs ys : List Spot) → list_any P (xs ++ ys) ≡ (list_any P xs || list_any P ys)
-any_append P [] ys = refl
-any_append P (x ∷ xs) ys = ap (λ b. P x || b) (any_append P xs ys) ∙ sym (or_or (P x) (list_any P xs) (list_any P ys))
-
-any_between : (P : Spot → Bool) (front added back before now : List Spot) → before ≡ front ++ back → now ≡ front ++ (added ++ back) → list_any P now ≡ (list_any P before || list_any P added)
-any_between P front added back before now was is =
-    ap (list_any P) is ∙ (any_append P front (added ++ back) ∙ (ap (λ b. list_any P front || b) (any_append P added back)
-    ∙ (last_or (list_any P front) (list_any P added) (list_any P back) ∙ ap (λ b. b || list_any P added) (sym (ap (list_any P) was ∙ any_append P front back)))))
-
 -- what the next choice leads to, where the group at `at` is next
 pub record OnChoice (ps : List Place) (w e : Forest Spot) (cs rest : List ℕ) (c at : ℕ) : Type 0 where
   pub kids : Forest Spot
@@ -128,7 +108,26 @@ pub record OnChoice (ps : List Place) (w e : Forest Spot) (cs rest : List ℕ) (
   pub goes : after w cs ≡ after left rest
   pub open_left : AreOpen ps left None
   pub next : IsSomeAnd (slice_get ps (start kid 0)) (λ (p : Place). p.next ≡ option_or (first_place left) None)
-  pub settles : (P : Spot → Bool) → list_any P (settled left) ≡ (list_any P (settled e) || list_any P (settled kid))
+  pub adds : (test : Spot → Bool) → list_any test (settled left) ≡ (list_any test (settled e) || list_any test (settled kid))
+
+or_last : (a b c : Bool) → (a || (b || c)) ≡ ((a || c) || b)
+or_last true b c = refl
+or_last false true true = refl
+or_last false true false = refl
+or_last false false c = or_false c where
+  or_false : (c : Bool) → c ≡ (c || false)
+  or_false true = refl
+  or_false false = refl
+
+-- a choice settles what it chose, and nothing else
+settles_kid : (ps : List Place) (d : Forest Spot) (next : Option ℕ) (c : ℕ) (e : Forest Spot) (st : Steps ps d next c e) (test : Spot → Bool)
+    → list_any test (settled e) ≡ (list_any test (settled d) || list_any test (settled st.kid))
+settles_kid ps d next c e st test =
+    ap (list_any test) st.settled_after
+    ∙ (list_any-append test st.front (settled st.kid ++ st.back)
+    ∙ (ap (λ b. list_any test st.front || b) (list_any-append test (settled st.kid) st.back)
+    ∙ (or_last (list_any test st.front) (list_any test (settled st.kid)) (list_any test st.back)
+    ∙ (ap (λ b. b || list_any test (settled st.kid)) (sym (ap (list_any test) st.settled_before ∙ list_any-append test st.front st.back))))))
 
 -- a prefix has choices left only where a group is
 pub on_choice : (ps : List Place) (w e : Forest Spot) (cs rest : List ℕ) (c : ℕ) (group : Option ℕ) → IsSome (after w cs) → after w cs ≡ after e (c ∷ rest) → AreOpen ps e None → group ≡ first_place e
@@ -147,20 +146,23 @@ on_choice ps w e cs rest c group some goes o is =
         goes = goes ∙ on;
         open_left = st.open_after;
         next = st.goes_on_after;
-        settles = λ P. any_between P st.front (settled st.kid) st.back (settled e) (settled f) st.settled_before st.settled_after;
+        adds = settles_kid ps e None c f st;
       },
     )
 
-pub drop_end : {X : Type 0} (xs : List X) (i : ℕ) → length xs ≤ i → drop i xs ≡ []
+drop_end : {X : Type 0} (xs : List X) (i : ℕ) → length xs ≤ i → drop i xs ≡ []
 drop_end [] zero less = refl
 drop_end [] (suc i) less = refl
 drop_end (x ∷ xs) zero less = absurd (omega (arith, less))
 drop_end (x ∷ xs) (suc i) less = drop_end xs i (omega (arith, less))
 
 -- what holds at the end of the walk
+pub at_end_of : (w e : Forest Spot) (cs : List ℕ) (i : ℕ) (P : Forest Spot → Type 0) → length cs ≤ i → after w cs ≡ after e (drop i cs) → P e → IfSome (after w cs) P
+at_end_of w e cs i P less goes h = subst (λ x. IfSome x P) (sym (goes ∙ ap (after e) (drop_end cs i less))) h
+
 pub at_end : (ps : List Place) (w e : Forest Spot) (cs : List ℕ) (i : ℕ) (group : Option ℕ) → length cs ≤ i → after w cs ≡ after e (drop i cs) → AreOpen ps e None → group ≡ first_place e
     → IfSome (after w cs) (λ x. (group ≡ first_place x) × AreOpen ps x None)
-at_end ps w e cs i group less goes o is = subst (λ x. IfSome x (λ x. (group ≡ first_place x) × AreOpen ps x None)) (sym (goes ∙ ap (after e) (drop_end cs i less))) (is, o)
+at_end ps w e cs i group less goes o is = at_end_of w e cs i (λ x. (group ≡ first_place x) × AreOpen ps x None) less goes (is, o)
 
 pub if_some : {X : Type 0} (o : Option X) (P : X → Type 0) → (IsSome o → IfSome o P) → IfSome o P
 if_some None P h = tt
@@ -176,3 +178,22 @@ next_there ps i d n h = by (slice_get ps i) refl h where
   by : (o : Option Place) → slice_get ps i ≡ o → IsSomeAnd o (λ (p : Place). p.next ≡ option_or n None) → (get_or ps i d).next ≡ n
   by None is h = absurd h
   by (Some p) is h = ap (λ (q : Place). q.next) (get_or_from_slice_get ps i p d is) ∙ (h ∙ or_nothing n)
+
+first_laid : (ps : List Place) (w : Forest Spot) (place end : ℕ) (next : Option ℕ) (entry : Place) → slice_get ps place ≡ Some entry → entry.end ≡ end → AreLaid true ps w end next
+    → ((x : ℕ) → start w x ≡ place) → end ≤ 128 → (kid : Forest Spot) → w ≡ kid → (at : ℕ) → start kid 0 ≡ at → (d : Place)
+    → AreLaid true ps kid (get_or ps at d).end next × (start kid (get_or ps at d).end ≡ at) × ((get_or ps at d).end ≤ 128)
+first_laid ps w place end next entry here is l starts small kid same at there d =
+    let e : (get_or ps at d).end ≡ end = ap (λ i. (get_or ps i d).end) (sym there ∙ (ap (λ x. start x 0) (sym same) ∙ starts 0)) ∙ (ap (λ (p : Place). p.end) (get_or_from_slice_get ps place entry d here) ∙ is) in
+    subst (λ x. AreLaid true ps x (get_or ps at d).end next × (start x (get_or ps at d).end ≡ at) × ((get_or ps at d).end ≤ 128)) same
+    (subst (λ i. AreLaid true ps w i next) (sym e) l, starts _ ∙ (sym (starts 0) ∙ (ap (λ x. start x 0) same ∙ there)), omega (arith, e, small))
+
+-- a chosen alternative is laid out up to the end that its entry tells
+pub alternative_laid : (ps : List Place) (kids : Forest Spot) (to : ℕ) (next : Option ℕ) → AreLaid true ps kids to next → to ≤ 128 → (c : ℕ) (kid : Forest Spot) → slice_get (each kids) c ≡ Some kid
+    → (at : ℕ) → start kid 0 ≡ at → (d : Place) → AreLaid true ps kid (get_or ps at d).end next × (start kid (get_or ps at d).end ≡ at) × ((get_or ps at d).end ≤ 128)
+alternative_laid ps Empty to next l small c kid is at there d = absurd (cc)
+alternative_laid ps (Plain s kk ks) to next l small zero kid is at there d = first_laid ps (Plain s kk Empty) s.place (start ks to) next _ l.0.here refl (l.0, l.1, tt) (λ x. refl)
+    (let b = starts_before true ps ks to next l.2 in omega (arith, b, small)) kid (same_Some (Plain s kk Empty) kid is) at there d
+alternative_laid ps (Group s kk ks) to next l small zero kid is at there d = first_laid ps (Group s kk Empty) s.place (start ks to) next _ l.0.here refl (l.0, l.1, tt) (λ x. refl)
+    (let b = starts_before true ps ks to next l.2 in omega (arith, b, small)) kid (same_Some (Group s kk Empty) kid is) at there d
+alternative_laid ps (Plain s kk ks) to next l small (suc c) kid is at there d = alternative_laid ps ks to next l.2 small c kid is at there d
+alternative_laid ps (Group s kk ks) to next l small (suc c) kid is at there d = alternative_laid ps ks to next l.2 small c kid is at there d

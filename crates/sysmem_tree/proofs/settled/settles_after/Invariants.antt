@@ -1,0 +1,14 @@
+-- What the choices so far settle.
+use Rattle.std.proofs.Common.{◌≡◌, ℕ, None, drop}
+use Rattle.std.specs.List.{list_any}
+use Rattle.sysmem_tree.specs.Forest.{Forest, settled}
+use Rattle.sysmem_tree.specs.Layout.{IsLayout, Spot, first_place}
+use Rattle.sysmem_tree.specs.Prefix.{AreOpen}
+use Rattle.sysmem_tree.specs.Selection.{IsPrefix, after}
+use Rattle.sysmem_tree.proofs.Settling.{is_at}
+use Rattle.sysmem_tree.proofs.settled.settles_after.Given as goal
+
+abbrev pub invariant-loop-choice : goal.invariant-loop-choice
+invariant-loop-choice l = (d : Forest ℕ) (laid : IsLayout l.layout d) → IsPrefix laid.spots l.choices
+    → (e : Forest Spot) × (after laid.spots l.choices ≡ after e (drop l.choice-index l.choices)) × AreOpen l.layout.places e None × (l.group ≡ first_place e)
+    × (l.is_settled ≡ list_any (is_at l.node) (settled e))
