@@ -47,9 +47,12 @@ pub mark_next : (ps : List Place) (to at after : ℕ) (d : Place) (marks : List 
 mark_next ps to at after d marks ss all long hold less m is so_far =
     let met = is_met ps to at d less ss m in
     let small = hold at (get_or ps at d) met.there in
-    let within : (get_or ps at d).node < length marks = omega (arith, small, long) in
-    (met.rest, subst (λ i. Meets ps to i met.rest) (sym is) met.on, λ k. marked_on marks (get_or ps at d).node met.spot met.rest k within met.node
-    ∙ (ap (λ zs. get_or marks k false || list_any (is_at k) zs) (sym met.is) ∙ so_far k))
+    let within : (get_or ps at d).node < length marks = omega (arith, small, long) in (
+      met.rest,
+      subst (λ i. Meets ps to i met.rest) (sym is) met.on,
+      λ k. marked_on marks (get_or ps at d).node met.spot met.rest k within met.node
+          ∙ (ap (λ zs. get_or marks k false || list_any (is_at k) zs) (sym met.is) ∙ so_far k),
+    )
 
 -- a written place names a node too
 pub hold_written : (ps : List Place) (i : ℕ) (q : Place) → HoldNumbers ps → q.node < 128 → HoldNumbers (slice_set ps i q)

@@ -30,7 +30,7 @@ loop-at-preserved c = λ w g next laid starts.
     let (long, ss, meets, same) = c.loop-at.invariant w g next laid starts in
     let (rest, on, all) =
     mark_next c.args.layout.now.places c.args.to c.loop-at.at c.past-at.result nowhere c.loop-at.marks ss (λ k. get_or c.args.marks.now k false || list_any (is_at k) (settled w)) long c.requires.numbers c.loop-at-test.true meets
-        c.past-at.ensures same in
+    c.past-at.ensures same in
     (length-set c.loop-at.marks (get_or c.args.layout.now.places c.loop-at.at nowhere).node true ∙ long, rest, on, all)
 
 pub returns : goal.returns

@@ -69,15 +69,14 @@ loop-choice-preserved c = λ d laid h.
     let same : at ≡ c.in-Some.at = same_Some at c.in-Some.at (sym there ∙ c.in-Some.is) in
     let alternatives = subst (λ x. AreAlternatives c.args.layout.now.places (x + 1) on.kids) same on.alternatives in
     let child = c.child-kid.ensures.place on.kids on.kid alternatives on.is_kid in
-    let (laid', from, small) = alternative_laid c.args.layout.now.places on.kids alternatives.to alternatives.next alternatives.laid alternatives.small _ on.kid on.is_kid c.child-kid.result child nowhere in
-    (
+    let (laid', from, small) = alternative_laid c.args.layout.now.places on.kids alternatives.to alternatives.next alternatives.laid alternatives.small _ on.kid on.is_kid c.child-kid.result child nowhere in (
       on.left,
       on.goes,
       on.open_left,
       next_there c.args.layout.now.places c.child-kid.result _ (first_place on.left)
           (subst (λ x. IsSomeAnd (slice_get c.args.layout.now.places x) (λ (p : Place). p.next ≡ option_or (first_place on.left) None)) child on.next),
       λ k. c.mark-in-loop-choice.ensures on.kid true alternatives.next laid' from k
-      ∙ (ap (λ b. b || list_any (is_at k) (settled on.kid)) (marked k) ∙ sym (on.adds (is_at k))),
+          ∙ (ap (λ b. b || list_any (is_at k) (settled on.kid)) (marked k) ∙ sym (on.adds (is_at k))),
     )
 
 pub returns : goal.returns
