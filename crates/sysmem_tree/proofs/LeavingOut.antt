@@ -17,7 +17,7 @@ left_at members r s (x ∷ xs) zero d less =
 left_at members r s (x ∷ xs) (suc i) d less =
     let same : s + suc i ≡ (s + 1) + i = omega arith in
     ap (λ k. node_left r (list_any (λ m. m == s) members) x
-        ∷ slice_set (left_out_but members r (s + 1) (take i xs) ++ drop i xs) i (node_left r (list_any (λ m. m == k) members) (get_or (left_out_but members r (s + 1) (take i xs) ++ drop i xs) i d))) same
+    ∷ slice_set (left_out_but members r (s + 1) (take i xs) ++ drop i xs) i (node_left r (list_any (λ m. m == k) members) (get_or (left_out_but members r (s + 1) (take i xs) ++ drop i xs) i d))) same
     ∙ ap (λ zs. node_left r (list_any (λ m. m == s) members) x ∷ zs) (left_at members r (s + 1) xs i d (omega (arith, less)))
 
 -- the next node is left out too, if it is
@@ -28,4 +28,4 @@ left_next members r xs now i d y b so_far less is next =
     let from : i ≡ 0 + i = omega arith in
     ap (λ z. slice_set now i z) (next ∙ ap (λ z. node_left r z (get_or now i d)) (is ∙ ap (λ k. list_any (λ m. m == k) members) from))
     ∙ (ap (λ zs. slice_set zs i (node_left r (list_any (λ m. m == (0 + i)) members) (get_or zs i d))) so_far
-        ∙ (left_at members r 0 xs i d less ∙ ap (λ k. left_out_but members r 0 (take k xs) ++ drop k xs) one))
+    ∙ (left_at members r 0 xs i d less ∙ ap (λ k. left_out_but members r 0 (take k xs) ++ drop k xs) one))

@@ -48,6 +48,7 @@ module _ (ps : List Place) (to at : ℕ) (d : Place) (less : at < to) where
 
   -- what a walk meets at a place before its end
   pub record IsMet (ss : List Spot) : Type 0 where
+    pub there : slice_get ps at ≡ Some here
     pub up : at < past here at
     pub within : past here at ≤ to
     pub spot : Spot
@@ -56,12 +57,13 @@ module _ (ps : List Place) (to at : ℕ) (d : Place) (less : at < to) where
     pub node : here.node ≡ spot.node
     pub on : Meets ps to (past here at) rest
 
-  is_met : (ss : List Spot) → Meets ps to at ss → IsMet ss
+  pub is_met : (ss : List Spot) → Meets ps to at ss → IsMet ss
   is_met [] m = absurd (omega (arith, less, m))
   is_met (s ∷ ss) m =
       let (q, there, node, up, on) = m.1 in
       let same : q ≡ here = sym (get_or_from_slice_get ps at q d there) in
       record {
+        there = there ∙ ap (λ x. Some x) same;
         up = subst (λ x. at < past x at) same up;
         within = subst (λ x. past x at ≤ to) same (within (past q at) ss on);
         spot = s;

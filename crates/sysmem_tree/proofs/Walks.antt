@@ -150,7 +150,7 @@ on_choice ps w e cs rest c group some goes o is =
       },
     )
 
-pub drop_end : {X : Type 0} (xs : List X) (i : ℕ) → length xs ≤ i → drop i xs ≡ []
+drop_end : {X : Type 0} (xs : List X) (i : ℕ) → length xs ≤ i → drop i xs ≡ []
 drop_end [] zero less = refl
 drop_end [] (suc i) less = refl
 drop_end (x ∷ xs) zero less = absurd (omega (arith, less))

@@ -1,6 +1,6 @@
 //! The members of selections.
 
-ghost use Rattle.std.specs.Prelude.{◌≡◌, ◌≤◌, ◌<◌, ◌+◌, ◌==◌, ◌||◌, ℕ, Bool, Option, false, [], length, get_or, IfSome, if◌then◌else◌};
+ghost use Rattle.std.specs.Prelude.{◌≡◌, ◌≤◌, ◌<◌, ◌==◌, ◌||◌, ℕ, Bool, Option, false, [], length, get_or, IfSome};
 ghost use Rattle.std.specs.List.{list_any};
 ghost use Rattle.sysmem_tree.specs.Forest.{Forest, settled};
 ghost use Rattle.sysmem_tree.specs.Layout.{Spot, AreLaid, HoldNumbers, IsLayout, start};
@@ -8,16 +8,9 @@ ghost use Rattle.sysmem_tree.specs.Nodes.{IsTree};
 ghost use Rattle.sysmem_tree.specs.Selection.{IsPrefix, after};
 ghost use Rattle.sysmem_tree.specs.Shape.{by_number, forest_of, members_of};
 
-use crate::layout::{Layout, Place};
+use crate::layout::Layout;
 use crate::node::Node;
-
-/// The place that follows one, past what is below it where that is alternatives.
-fn past(place: &Place, at: usize) -> usize
-    requires { at < 128 }
-    ensures { result ≡ (if place.now.is_group then place.now.end else at + 1) }
-{
-    if place.is_group { place.end } else { at + 1 }
-}
+use crate::settled::past;
 
 /// Marks the nodes between two places that no group there has yet to choose.
 fn mark(layout: &Layout, from: usize, to: usize, marks: &mut [bool; 128])
@@ -39,8 +32,8 @@ fn mark(layout: &Layout, from: usize, to: usize, marks: &mut [bool; 128])
 fn marks_after(layout: &Layout, choices: &[u8]) -> [bool; 128]
     requires numbers { HoldNumbers layout.now.places }
     requires prefix { (d : Forest ℕ) × (laid : IsLayout layout.now d) × IsPrefix laid.spots choices.now }
-    ensures { (d : Forest ℕ) → (laid : IsLayout layout.now d) → IfSome (after laid.spots choices.now)
-        (λ e. (k : ℕ) → get_or result k false ≡ list_any (λ s. s.node == k) (settled e)) }
+    ensures { (d : Forest ℕ) → (laid : IsLayout layout.now d) → (k : ℕ) → IfSome (after laid.spots choices.now)
+        (λ e. get_or result k false ≡ list_any (λ s. s.node == k) (settled e)) }
 {
     let mut marks = [false; 128];
     mark(layout, layout.start, 128, &mut marks);

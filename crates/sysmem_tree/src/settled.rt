@@ -13,7 +13,7 @@ use crate::node::Node;
 use crate::prefix::Prefix;
 
 /// The place that follows one, past what is below it where that is alternatives.
-fn past(place: &Place, at: usize) -> usize
+pub(crate) fn past(place: &Place, at: usize) -> usize
     requires { at < 128 }
     ensures { result ≡ (if place.now.is_group then place.now.end else at + 1) }
 {

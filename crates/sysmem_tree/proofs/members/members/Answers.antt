@@ -1,15 +1,11 @@
 -- The layout's marks are the domain's.
-use Rattle.std.proofs.Common.{[]}
-use Rattle.sysmem_tree.specs.Shape.{by_number, forest_of}
+use Rattle.std.proofs.Common.{false, get_or, refl}
 use Rattle.sysmem_tree.proofs.members.members.Goals as goal
-use Rattle.sysmem_tree.proofs.Marking.{prefix_laid, marks_members}
+use Rattle.sysmem_tree.proofs.NextGroups.{prefix_of_places}
+use Rattle.sysmem_tree.proofs.ToldMembers.{told_member}
 
 pub marks_after-requires-clause-prefix : goal.marks_after-requires-clause-prefix
-marks_after-requires-clause-prefix c =
-    let d = forest_of by_number c.args.nodes.now c.args.root [] in
-    (d, c.new.ensures.layout, prefix_laid c.new.result d c.new.ensures.layout c.args.choices.now c.requires.prefix)
+marks_after-requires-clause-prefix c = (_, c.new.ensures.layout, prefix_of_places c.new.result _ c.new.ensures.layout _ _ refl c.requires.prefix)
 
 pub returns : goal.returns
-returns c =
-    let d = forest_of by_number c.args.nodes.now c.args.root [] in
-    marks_members c.new.result d c.new.ensures.layout c.args.choices.now c.marks_after.result c.requires.prefix (c.marks_after.ensures d c.new.ensures.layout)
+returns c = λ k. told_member c.new.result c.args.nodes.now c.args.root k _ _ (get_or c.marks_after.result k false) c.new.ensures.layout refl c.requires.prefix (c.marks_after.ensures _ c.new.ensures.layout k)

@@ -4,18 +4,18 @@ use Rattle.sysmem_tree.proofs.next_group.next_group.Goals as goal
 use Rattle.sysmem_tree.proofs.NextGroups.{prefix_of_places, told_none, told_group, group_within}
 
 pub group_after-requires : goal.group_after-requires
-group_after-requires c = (_, c.new-layout.ensures, prefix_of_places c.new-layout.result _ c.new-layout.ensures _ _ c.choices.ensures c.requires.prefix)
+group_after-requires c = (_, c.new-layout.ensures.layout, prefix_of_places c.new-layout.result _ c.new-layout.ensures.layout _ _ c.choices.ensures c.requires.prefix)
 
 pub bounds-layout-at : goal.bounds-layout-at
-bounds-layout-at c = group_within c.new-layout.result _ c.new-layout.ensures _ _ c.choices.ensures _ (c.group_after.ensures _ c.new-layout.ensures) c.in-Some.at c.in-Some.is c.requires.prefix
+bounds-layout-at c = group_within c.new-layout.result _ c.new-layout.ensures.layout _ _ c.choices.ensures _ (c.group_after.ensures _ c.new-layout.ensures.layout) c.in-Some.at c.in-Some.is c.requires.prefix
 
 pub offset_bounds-layout-at : goal.offset_bounds-layout-at
 offset_bounds-layout-at c =
-    let less = group_within c.new-layout.result _ c.new-layout.ensures _ _ c.choices.ensures _ (c.group_after.ensures _ c.new-layout.ensures) c.in-Some.at c.in-Some.is c.requires.prefix in
+    let less = group_within c.new-layout.result _ c.new-layout.ensures.layout _ _ c.choices.ensures _ (c.group_after.ensures _ c.new-layout.ensures.layout) c.in-Some.at c.in-Some.is c.requires.prefix in
     omega (arith, less)
 
 pub returns-in-None : goal.returns-in-None
-returns-in-None c = told_none c.new-layout.result _ c.new-layout.ensures _ _ c.choices.ensures _ (c.group_after.ensures _ c.new-layout.ensures) c.in-None.is
+returns-in-None c = told_none c.new-layout.result _ c.new-layout.ensures.layout _ _ c.choices.ensures _ (c.group_after.ensures _ c.new-layout.ensures.layout) c.in-None.is
 
 pub returns-in-Some : goal.returns-in-Some
-returns-in-Some c = told_group c.new-layout.result _ c.new-layout.ensures _ _ c.choices.ensures _ (c.group_after.ensures _ c.new-layout.ensures) c.in-Some.at _ c.in-Some.is
+returns-in-Some c = told_group c.new-layout.result _ c.new-layout.ensures.layout _ _ c.choices.ensures _ (c.group_after.ensures _ c.new-layout.ensures.layout) c.in-Some.at _ c.in-Some.is

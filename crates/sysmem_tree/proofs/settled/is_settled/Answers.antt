@@ -4,7 +4,7 @@ use Rattle.sysmem_tree.proofs.NextGroups.{prefix_of_places}
 use Rattle.sysmem_tree.proofs.ToldMembers.{told_member}
 
 pub settles_after-requires : goal.settles_after-requires
-settles_after-requires c = (_, c.new-layout.ensures, prefix_of_places c.new-layout.result _ c.new-layout.ensures _ _ c.choices.ensures c.requires.prefix)
+settles_after-requires c = (_, c.new-layout.ensures.layout, prefix_of_places c.new-layout.result _ c.new-layout.ensures.layout _ _ c.choices.ensures c.requires.prefix)
 
 pub returns : goal.returns
-returns c = told_member c.new-layout.result c.args.nodes.now c.args.root c.args.node _ _ c.settles_after.result c.new-layout.ensures c.choices.ensures c.requires.prefix (c.settles_after.ensures _ c.new-layout.ensures)
+returns c = told_member c.new-layout.result c.args.nodes.now c.args.root c.args.node _ _ c.settles_after.result c.new-layout.ensures.layout c.choices.ensures c.requires.prefix (c.settles_after.ensures _ c.new-layout.ensures.layout)
