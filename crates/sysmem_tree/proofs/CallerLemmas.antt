@@ -1,11 +1,16 @@
--- What callers need of histories and of decisions.
-use Rattle.std.proofs.Common.{◌≡◌, ℕ, Bool, true, false, List, [], ◌∷◌, ◌++◌, refl}
-use Rattle.std.specs.Prelude.{if◌then◌else◌}
+-- What callers need of histories, of decisions and of prefixes.
+use Rattle.std.proofs.Common.{◌≡◌, ◌<◌, ℕ, Bool, true, false, List, [], ◌∷◌, ◌++◌, Option, Some, None, length, slice_get, refl, sym, ◌∙◌, ap, subst, arith}
+use Rattle.std.specs.Prelude.{option_map, option_and_then, IsSome, IfSome, if◌then◌else◌}
+use Rattle.std.proofs.lemmas.Option.{same_Some}
 use Rattle.sysmem_tree.specs.declared.domain.Decision.{Decision}
 use Rattle.sysmem_tree.specs.declared.domain.Decision.TheVariants.{Undecided, Chosen, NoneChosen}
 use Rattle.sysmem_tree.specs.declared.fate.Fate.TheVariants as fates
 use Rattle.sysmem_tree.specs.Domain.{TreeFacts, decision_of, fate_by, fate_of, has_failed, is_undecided}
+use Rattle.sysmem_tree.specs.Forest.{Forest, choices, first_group}
 use Rattle.sysmem_tree.specs.History.{Entry, Accepts, after_entry, replay_from, AreAccepted}
+use Rattle.sysmem_tree.specs.Selection.{after, IsPrefix, IsSelection}
+use Rattle.sysmem_tree.proofs.Numbers.{front}
+use Rattle.sysmem_tree.proofs.Selections.{after_more, first_many}
 
 -- a history with one more entry leads to the tree after that entry
 pub replay_push : (t : TreeFacts) (es : List Entry) (e : Entry) → replay_from t (es ++ e ∷ []) ≡ after_entry (replay_from t es) e
@@ -25,3 +30,28 @@ undecided_by_fate t r is = by (has_failed t r) (decision_of t.domains r) is wher
   by false Undecided e = refl
   by false Chosen e = absurd (cc)
   by false NoneChosen e = absurd (cc)
+
+-- a prefix and a choice of a child of the group that is next are a prefix
+pub prefix_push : (d : Forest ℕ) (cs : List ℕ) (c group children : ℕ) → IsPrefix d cs → IfSome (after d cs) (λ e. Some (group, children) ≡ first_group e) → c < children → IsPrefix d (cs ++ c ∷ [])
+prefix_push d cs c group children h next less = subst IsSome (sym (after_more cs (c ∷ []) d)) (by (after d cs) h next) where
+  chosen : (ks : Option (List (Forest ℕ))) → option_map length ks ≡ Some children → IsSome (option_and_then (λ f. after f []) (option_and_then (λ es. slice_get es c) ks))
+  chosen None e = absurd (cc)
+  chosen (Some es) e =
+      let many : length es ≡ children = same_Some (length es) children e in
+      let (f, at, _) = front es c (omega (arith, less, many)) in
+      subst (λ o. IsSome (option_and_then (λ x. after x []) o)) (sym at) refl
+
+  by : (o : Option (Forest ℕ)) → IsSome o → IfSome o (λ e. Some (group, children) ≡ first_group e) → IsSome (option_and_then (λ e. after e (c ∷ [])) o)
+  by None h n = h
+  by (Some e) h n = chosen (choices e) (first_many e ∙ ap (option_map (λ (g : ℕ × ℕ). g.1)) (sym n))
+
+-- where no group is next, a prefix is a selection
+pub is_selection : (d : Forest ℕ) (cs : List ℕ) → IsPrefix d cs → IfSome (after d cs) (λ e. None ≡ first_group e) → (e : Forest ℕ) × IsSelection d cs e
+is_selection d cs h none = by (after d cs) refl h none where
+  whole : (ks : Option (List (Forest ℕ))) → option_map length ks ≡ None → ks ≡ None
+  whole None e = refl
+  whole (Some es) e = absurd (cc)
+
+  by : (o : Option (Forest ℕ)) → after d cs ≡ o → IsSome o → IfSome o (λ e. None ≡ first_group e) → (e : Forest ℕ) × IsSelection d cs e
+  by None is h n = absurd (cc)
+  by (Some e) is h n = (e, record { leads = is; whole = whole (choices e) (first_many e ∙ ap (option_map (λ (g : ℕ × ℕ). g.1)) (sym n)) })

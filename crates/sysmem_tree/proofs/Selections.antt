@@ -149,7 +149,7 @@ module _ {A : Type 0} where
         ih x (record { leads = leads; whole = p.whole }) (record { leads = subst (λ z. after z bs ≡ Some f) is leads'; whole = q.whole })))
 
   -- a prefix of a prefix
-  after_more : (as' bs : List ℕ) (d : Forest A) → after d (as' ++ bs) ≡ option_and_then (λ e. after e bs) (after d as')
+  pub after_more : (as' bs : List ℕ) (d : Forest A) → after d (as' ++ bs) ≡ option_and_then (λ e. after e bs) (after d as')
   after_more [] bs d = refl
   after_more (a ∷ as') bs d = by (option_and_then (λ es. slice_get es a) (choices d)) (after_more as' bs) where
     by : (o : Option (Forest A)) → ((e : Forest A) → after e (as' ++ bs) ≡ option_and_then (λ x. after x bs) (after e as'))
