@@ -28,7 +28,7 @@ pub use bounds::ImageBounds;
 pub use colours::ColourSet;
 pub use entry::{Entry, EntryBounds};
 pub use first_matches::FirstMatches;
-pub use keeping::{first_failing, suits};
+pub use keeping::{first_failing, keeps_field, suits};
 pub use matching::{entry_for, takes_colour};
 pub use merging::merge_into;
 pub use multiples::lcm_capped;

@@ -249,6 +249,10 @@ fn failing_fields(rt: HostRuntime) {
         first_failing(&second.bounds.asked, &first, &offer),
         Some(Field::BytesPerRowDivisor)
     );
+    let kept = |field| keeps_field(field, &second.bounds.asked, &first, &offer);
+    assert!(rt; kept(Field::MaxBytesPerRow) && !kept(Field::BytesPerRowDivisor));
+    assert!(rt; kept(Field::MinSize) && !kept(Field::RequiredMaxSize));
+    assert!(rt; kept(Field::Usage));
 }
 
 #[test]
