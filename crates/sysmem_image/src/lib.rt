@@ -20,6 +20,7 @@ mod matching;
 mod merging;
 mod multiples;
 mod own;
+mod read;
 mod size;
 mod smallest;
 mod table;
@@ -32,6 +33,7 @@ pub use keeping::{first_failing, keeps_field, suits};
 pub use matching::{entry_for, takes_colour};
 pub use merging::merge_into;
 pub use multiples::lcm_capped;
+pub use read::BoundsRead;
 pub use size::{Corner, Size};
 pub use smallest::corner;
 
