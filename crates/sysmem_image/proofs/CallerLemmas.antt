@@ -1,12 +1,12 @@
 -- What callers need of bounds, corners and lines: the laws as lemmas, and a few more.
-use Rattle.std.proofs.Common.{◌≡◌, List, []}
+use Rattle.std.proofs.Common.{◌↔◌, List, []}
 use Rattle.sysmem_counts.specs.declared.field.Field.{Field}
 use Rattle.sysmem_formats.specs.declared.offer.Offer.{Offer}
 use Rattle.sysmem_image.specs.declared.bounds.ImageBounds.{ImageBounds}
-use Rattle.sysmem_image.specs.Bounds.{IsTighter, IsOwn, IsFirstFailing}
-use Rattle.sysmem_image.specs.Fields.{Bound, Side, KeepsEach, value}
+use Rattle.sysmem_image.specs.Bounds.{IsTighter, KeepsField, IsOwn, IsFirstFailing}
+use Rattle.sysmem_image.specs.Fields.{Bound, KeepsIn, KeepsEach, field_of}
 use Rattle.sysmem_image.specs.Merged.{MergedOf}
-use Rattle.sysmem_image.specs.Laws.{MergedIsExact, MergedSuits, TighterIsReflexive, LooserAdmits, LinesHold, SteadyLines, SoundFits, MergedReads}
+use Rattle.sysmem_image.specs.Laws.{MergedIsExact, MergedSuits, TighterIsReflexive, TighterBothWays, LooserAdmits, LinesHold, SteadyLines, SoundFits, MergedReads}
 use Rattle.sysmem_image.proofs.Meets as meets
 use Rattle.sysmem_image.proofs.Rows as rows
 use Rattle.sysmem_image.proofs.Exact as exact
@@ -19,12 +19,16 @@ pub tighter_refl : TighterIsReflexive
 tighter_refl = meets.tighter_refl
 
 -- bounds that keep to each other have the same numbers
-pub tighter_both : (a b : ImageBounds) → IsTighter a b → IsTighter b a → (f : Bound) (side : Side) → value f side a ≡ value f side b
+pub tighter_both : TighterBothWays
 tighter_both = meets.tighter_both
 
 -- bounds that keep to others keep to them in each field of a list
 pub keeps_each : (fs : List Bound) (a b : ImageBounds) → IsTighter a b → KeepsEach fs a b
 keeps_each = meets.keeps_each
+
+-- bounds keep to others in the field of a name exactly where they do in that field
+pub keeps_named : (f : Bound) (a b : ImageBounds) → KeepsIn f a b ↔ KeepsField (field_of f) a b
+keeps_named = meets.keeps_named
 
 -- bounds that fail in a field don't keep to the others
 pub not_tighter : (f : Field) (a b : ImageBounds) → IsFirstFailing f a b → ¬ IsTighter a b

@@ -9,4 +9,6 @@ pub mod Sound
 pub mod Exact
 pub mod Slots
 pub mod Pixels
+pub mod KeptBounds
+pub mod KeptLines
 pub mod CallerLemmas

@@ -1,13 +1,15 @@
 -- Keeping to bounds, by what their fields are merged to.
-use Rattle.std.proofs.Common.{subst, sym, ◌≡◌, ◌↔◌, ℕ, ◌≤◌, List, [], ◌∷◌, arith}
+use Rattle.std.proofs.Common.{subst, sym, refl, ◌≡◌, ◌↔◌, ℕ, ◌≤◌, Bool, IsTrue, List, [], ◌∷◌, Option, Some, None, arith}
+use Rattle.sysmem_counts.specs.declared.field.Field.{Field}
+use Rattle.sysmem_counts.specs.declared.field.Field.TheVariants as field
 use Rattle.std.specs.Int.{◌∣◌}
 use Rattle.std.proofs.lemmas.Nat.Gcd.{dvd_trans, dvd_refl, dvd_antisymm}
 use Rattle.sysmem_image.specs.declared.bounds.ImageBounds.{ImageBounds}
 use Rattle.sysmem_image.specs.Size.{DividesSize, IsSizeInRange}
 use Rattle.sysmem_formats.specs.declared.offer.Offer.{Offer}
 use Rattle.sysmem_formats.specs.Layout.{width_alignment_of, height_alignment_of, row_divisor_of}
-use Rattle.sysmem_image.specs.Fields.{Bound, MinSize, MaxSize, SizeAlignment, MinBytesPerRow, MaxBytesPerRow, BytesPerRowDivisor, StartOffsetDivisor, DisplayRectAlignment, RequiredMinSize, RequiredMaxSize, MaxWidthTimesHeight, Side, Width, Height, Rule, Greatest, Least, Multiple, Keeps, KeepsIn, KeepsEach, rule_of, value}
-use Rattle.sysmem_image.specs.Bounds.{IsTighter, IsInRange, Suits}
+use Rattle.sysmem_image.specs.Fields.{Bound, MinSize, MaxSize, SizeAlignment, MinBytesPerRow, MaxBytesPerRow, BytesPerRowDivisor, StartOffsetDivisor, DisplayRectAlignment, RequiredMinSize, RequiredMaxSize, MaxWidthTimesHeight, Side, Width, Height, Rule, Greatest, Least, Multiple, Keeps, KeepsIn, KeepsEach, field_of, rule_of, value}
+use Rattle.sysmem_image.specs.Bounds.{IsTighter, KeepsField, IsInRange, Suits}
 use Rattle.sysmem_image.specs.Merged.{IsMerged, IsMergedBy}
 
 -- a number keeps to itself
@@ -58,6 +60,51 @@ tighter_both a b p q f d = keeps_both (rule_of f) (value f d a) (value f d b) (q
 pub in_both : (f : Bound) (a b : ImageBounds) → Keeps (rule_of f) (value f Width b) (value f Width a) → Keeps (rule_of f) (value f Height b) (value f Height a) → KeepsIn f a b
 in_both f a b w h Width = w
 in_both f a b w h Height = h
+
+-- the field of bounds that has a name
+abbrev bound_of : Field → Option Bound
+bound_of field.MinSize = Some MinSize
+bound_of field.MaxSize = Some MaxSize
+bound_of field.SizeAlignment = Some SizeAlignment
+bound_of field.MinBytesPerRow = Some MinBytesPerRow
+bound_of field.MaxBytesPerRow = Some MaxBytesPerRow
+bound_of field.BytesPerRowDivisor = Some BytesPerRowDivisor
+bound_of field.StartOffsetDivisor = Some StartOffsetDivisor
+bound_of field.DisplayRectAlignment = Some DisplayRectAlignment
+bound_of field.RequiredMinSize = Some RequiredMinSize
+bound_of field.RequiredMaxSize = Some RequiredMaxSize
+bound_of field.MaxWidthTimesHeight = Some MaxWidthTimesHeight
+bound_of _ = None
+
+-- it is the one field of that name
+bound_named : (f : Bound) → bound_of (field_of f) ≡ Some f
+bound_named MinSize = refl
+bound_named MaxSize = refl
+bound_named SizeAlignment = refl
+bound_named MinBytesPerRow = refl
+bound_named MaxBytesPerRow = refl
+bound_named BytesPerRowDivisor = refl
+bound_named StartOffsetDivisor = refl
+bound_named DisplayRectAlignment = refl
+bound_named RequiredMinSize = refl
+bound_named RequiredMaxSize = refl
+bound_named MaxWidthTimesHeight = refl
+
+one_name : (name : Field) (f g : Bound) → name ≡ field_of f → name ≡ field_of g → f ≡ g
+one_name name f g is other =
+    let left : bound_of name ≡ Some f = subst (λ n. bound_of n ≡ Some f) (sym is) (bound_named f) in
+    let right : bound_of name ≡ Some g = subst (λ n. bound_of n ≡ Some g) (sym other) (bound_named g) in
+    cc
+
+-- bounds keep to others in the field of a name exactly where they do in that field
+pub keeps_named : (f : Bound) (a b : ImageBounds) → KeepsIn f a b ↔ KeepsField (field_of f) a b
+keeps_named f a b = (λ kept g same. subst (λ x. KeepsIn x a b) (one_name (field_of f) f g refl same) kept, λ kept. kept f refl)
+
+-- a test that is exact of a field of bounds is exact of the field of its name
+pub named_test : (name : Field) (f : Bound) (a b : ImageBounds) (test : Bool) → name ≡ field_of f → (IsTrue test → KeepsIn f a b) → (KeepsIn f a b → IsTrue test) → IsTrue test ↔ KeepsField name a b
+named_test name f a b test is holds tests =
+    let named = keeps_named f a b in
+    rw is (λ t. named.0 (holds t), λ kept. tests (named.1 kept))
 
 -- bounds whose numbers are within their types are in range
 pub in_range_by : (b : ImageBounds) → IsSizeInRange b.min_size → IsSizeInRange b.max_size → IsSizeInRange b.size_alignment → b.min_bytes_per_row ≤ 4294967295 → b.max_bytes_per_row ≤ 4294967295

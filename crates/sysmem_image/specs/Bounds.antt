@@ -11,6 +11,10 @@ use Rattle.sysmem_image.specs.Fields.{Bound, Side, field_of, value, most, own_va
 abbrev pub IsTighter : ImageBounds → ImageBounds → Type 0
 IsTighter a b = (f : Bound) → KeepsIn f a b
 
+-- the bounds a keep to the bounds b in the field of this name, if it is one of bounds
+abbrev pub KeepsField : Field → ImageBounds → ImageBounds → Type 0
+KeepsField field a b = (f : Bound) → field ≡ field_of f → KeepsIn f a b
+
 -- the field is the first in the table's order in which a doesn't keep to b
 pub record IsFirstFailing (field : Field) (a b : ImageBounds) : Type 0 where
   pub bound : Bound

@@ -8,6 +8,7 @@ use Rattle.sysmem_image.specs.declared.bounds.ImageBounds.{ImageBounds}
 use Rattle.sysmem_image.specs.declared.size.Corner.{Corner}
 use Rattle.sysmem_image.specs.declared.entry.Entry.{Entry}
 use Rattle.sysmem_image.specs.Size.{IsSizeUpTo}
+use Rattle.sysmem_image.specs.Fields.{Bound, Side, value}
 use Rattle.sysmem_image.specs.Bounds.{IsTighter, IsInRange, Suits, IsOwn}
 use Rattle.sysmem_image.specs.Images.{Image, Admits, IsLargeEnough, IsSoundBounds}
 use Rattle.sysmem_image.specs.Merged.{MergedOf}
@@ -44,6 +45,10 @@ TighterIsReflexive = (a : ImageBounds) → IsTighter a a
 -- what keeps to bounds keeps to what these keep to
 abbrev pub TighterIsTransitive : Type 0
 TighterIsTransitive = (a b c : ImageBounds) → IsTighter a b → IsTighter b c → IsTighter a c
+
+-- bounds that keep to each other have the same numbers
+abbrev pub TighterBothWays : Type 0
+TighterBothWays = (a b : ImageBounds) → IsTighter a b → IsTighter b a → (f : Bound) (side : Side) → value f side a ≡ value f side b
 
 -- looser bounds admit each image that tighter ones admit, and it is as large as they ask for
 abbrev pub LooserAdmits : Type 0

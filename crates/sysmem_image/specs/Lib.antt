@@ -10,3 +10,4 @@ pub mod Colours
 pub mod Entries
 pub mod Slots
 pub mod Laws
+pub mod Read

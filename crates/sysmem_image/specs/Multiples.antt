@@ -1,5 +1,5 @@
 -- Common multiples and their limit.
-use Rattle.std.specs.Prelude.{ℕ, ◌≤◌, ◌<◌, ◌⊎◌}
+use Rattle.std.specs.Prelude.{◌≡◌, ℕ, ◌≤◌, ◌<◌, ◌⊎◌, Option, Some, None}
 use Rattle.std.specs.Int.{◌∣◌}
 use Rattle.sysmem_image.specs.declared.size.Size.{Size}
 
@@ -34,3 +34,15 @@ pub record HasMultiple (a b : ℕ) : Type 0 where
 pub record HasSizeMultiple (a b : Size) : Type 0 where
   pub width : HasMultiple a.width b.width
   pub height : HasMultiple a.height b.height
+
+-- the least common multiple with one more, or nothing where it is above the limit
+abbrev pub IsJoined : Option ℕ → ℕ → Option ℕ → Type 0
+IsJoined None more m = m ≡ None
+IsJoined (Some a) more None = IsAboveLimit a more
+IsJoined (Some a) more (Some m) = IsLcm a more m
+
+-- the same of both dimensions, or nothing where one is above the limit
+abbrev pub IsSizeJoined : Option Size → Size → Option Size → Type 0
+IsSizeJoined None more m = m ≡ None
+IsSizeJoined (Some a) more None = IsSizeAboveLimit a more
+IsSizeJoined (Some a) more (Some m) = IsSizeLcm a more m

@@ -3,7 +3,7 @@
 ghost use Rattle.std.specs.Prelude.{◌≤◌, ◌↔◌, IsTrue, IfSome, OnSome, IfNone};
 ghost use Rattle.std.specs.Int.{◌∣◌};
 ghost use Rattle.sysmem_image.specs.Size.{IsSizeUpTo, DividesSize};
-ghost use Rattle.sysmem_image.specs.Bounds.{IsTighter, IsFirstFailing, Suits};
+ghost use Rattle.sysmem_image.specs.Bounds.{IsTighter, KeepsField, IsFirstFailing, Suits};
 ghost use Rattle.sysmem_image.specs.Entries.{effective};
 
 use crate::bounds::ImageBounds;
@@ -26,6 +26,15 @@ macro_rules! failing {
     }};
 }
 
+macro_rules! keeps_named {
+    (($asked:expr, $a:expr, $b:expr) $($name:ident: $shape:ident $rule:ident $field:ident $absent:ident $range:ident,)*) => {
+        match $asked {
+            $(Field::$field => keeps_field!($shape $rule $a.$name, $b.$name),)*
+            _ => true,
+        }
+    };
+}
+
 macro_rules! keeps_field {
     (number greatest $a:expr, $b:expr) => { is_up_to($b, $a) };
     (number least $a:expr, $b:expr) => { is_up_to($a, $b) };
@@ -46,6 +55,15 @@ pub fn first_failing(bounds: &ImageBounds, entry: &Entry, offer: &Offer) -> Opti
     failing_field(bounds, &asked)
 }
 
+/// Whether bounds of an offer keep to what an entry for it asks for in one field. True of a field that
+/// isn't one of bounds.
+pub fn keeps_field(field: Field, bounds: &ImageBounds, entry: &Entry, offer: &Offer) -> bool
+    ensures { IsTrue result ↔ KeepsField field bounds.now (effective offer.now entry.now) }
+{
+    let asked = effective(entry, offer);
+    keeps_in(field, bounds, &asked)
+}
+
 /// Whether alignments and row divisor are multiples of the offer's own.
 pub fn suits(bounds: &ImageBounds, offer: &Offer) -> bool
     ensures { IsTrue result ↔ Suits offer.now bounds.now }
@@ -62,6 +80,13 @@ fn failing_field(a: &ImageBounds, b: &ImageBounds) -> Option<Field>
     ensures failing { IfSome result (λ field. IsFirstFailing field a.now b.now) }
 {
     bounds_table!(failing!(a, b))
+}
+
+/// Whether bounds keep to others in one field.
+fn keeps_in(field: Field, a: &ImageBounds, b: &ImageBounds) -> bool
+    ensures { IsTrue result ↔ KeepsField field a.now b.now }
+{
+    bounds_table!(keeps_named!(field, a, b))
 }
 
 fn is_up_to(a: u32, b: u32) -> bool

@@ -9,6 +9,7 @@ ghost use Rattle.sysmem_image.specs.Laws.{
   MergedSuits,
   TighterIsReflexive,
   TighterIsTransitive,
+  TighterBothWays,
   LooserAdmits,
   NoCorner,
   CornerIsLeast,
@@ -47,6 +48,11 @@ pub fn tighter_is_reflexive()
 /// What keeps to bounds keeps to what these keep to.
 pub fn tighter_is_transitive()
     ensures { TighterIsTransitive }
+{}
+
+/// Bounds that keep to each other are one.
+pub fn tighter_both_ways()
+    ensures { TighterBothWays }
 {}
 
 /// Looser bounds admit what tighter ones admit.

@@ -64,19 +64,19 @@ fn merged(a: &ImageBounds, b: &ImageBounds) -> Result<ImageBounds, Field>
     Ok(bounds_table!(merged!(a, b)))
 }
 
-fn greatest(a: u32, b: u32) -> u32
+pub(crate) fn greatest(a: u32, b: u32) -> u32
     ensures { result ≡ max a b }
 {
     a.max(b)
 }
 
-fn least_large(a: u64, b: u64) -> u64
+pub(crate) fn least_large(a: u64, b: u64) -> u64
     ensures { result ≡ min a b }
 {
     a.min(b)
 }
 
-fn least(a: u32, b: u32) -> u32
+pub(crate) fn least(a: u32, b: u32) -> u32
     ensures { result ≡ min a b }
 {
     a.min(b)
@@ -94,7 +94,7 @@ fn multiple(a: u32, b: u32, field: Field) -> Result<u32, Field>
     lcm_capped(a, b).ok_or(field)
 }
 
-fn greatest_size(a: Size, b: Size) -> Size
+pub(crate) fn greatest_size(a: Size, b: Size) -> Size
     ensures size { IsSizeGreatest a b result }
     ensures in_range { IsSizeInRange result }
 {
@@ -104,7 +104,7 @@ fn greatest_size(a: Size, b: Size) -> Size
     }
 }
 
-fn least_size(a: Size, b: Size) -> Size
+pub(crate) fn least_size(a: Size, b: Size) -> Size
     ensures size { IsSizeLeast a b result }
     ensures in_range { IsSizeInRange result }
 {

@@ -249,6 +249,10 @@ fn failing_fields(rt: HostRuntime) {
         first_failing(&second.bounds.asked, &first, &offer),
         Some(Field::BytesPerRowDivisor)
     );
+    let kept = |field| keeps_field(field, &second.bounds.asked, &first, &offer);
+    assert!(rt; kept(Field::MaxBytesPerRow) && !kept(Field::BytesPerRowDivisor));
+    assert!(rt; kept(Field::MinSize) && !kept(Field::RequiredMaxSize));
+    assert!(rt; kept(Field::Usage));
 }
 
 #[test]
@@ -328,4 +332,68 @@ fn suited_bounds(rt: HostRuntime) {
     assert!(rt; !suits(&ImageBounds::of(&tiled), &nv12));
     assert!(rt; !suits(&ImageBounds::of(&nv12), &tiled));
     assert!(rt; suits(&ImageBounds::of(&nv12), &Offer::NoImage));
+}
+
+/// What is kept of an offer once the entries were added.
+fn read(offer: &Offer, entries: &[Entry]) -> BoundsRead {
+    let mut kept = BoundsRead::new(offer);
+    for entry in entries {
+        kept.add(entry, offer);
+    }
+    kept
+}
+
+/// Each line can be asked, also after one whose common multiple is above the limit.
+#[test]
+fn true_lines(rt: HostRuntime) {
+    let linear = offer(PixelFormat::R8, Modifier::Linear);
+    let mut first = entry(PixelFormat::R8);
+    first.bounds.asked.bytes_per_row_divisor = 65521;
+    let mut second = entry(PixelFormat::R8);
+    second.bounds.asked.bytes_per_row_divisor = 65519;
+    let mut third = entry(PixelFormat::R8);
+    third.bounds.asked.bytes_per_row_divisor = 2;
+    let both = read(&linear, &[first, second]);
+    assert!(rt; !both.is_line(&linear, Field::BytesPerRowDivisor));
+    let mut small = entry(PixelFormat::R8);
+    small.bounds.asked.required_min_size = Size {
+        width: 15,
+        height: 15,
+    };
+    let mut large = entry(PixelFormat::R8);
+    large.bounds.asked.min_size = Size {
+        width: 16,
+        height: 16,
+    };
+    let all = read(&linear, &[first, second, third, small, large]);
+    assert!(rt; all.is_line(&linear, Field::BytesPerRowDivisor));
+    assert!(rt; all.is_line(&linear, Field::RequiredMinSize));
+    assert!(rt; !all.is_line(&linear, Field::SizeAlignment));
+    assert!(rt; !all.is_line(&linear, Field::MaxBytesPerRow));
+    assert!(rt; !read(&linear, &[large]).is_line(&linear, Field::RequiredMinSize));
+}
+
+/// The lines that the smallest image heads: its sides, its pixels and its row.
+#[test]
+fn true_corner_lines(rt: HostRuntime) {
+    let linear = offer(PixelFormat::R8, Modifier::Linear);
+    let mut asked = at_least(PixelFormat::R8, 100, 10);
+    asked.bounds.asked.max_width_times_height = 999;
+    let few = read(&linear, &[asked]);
+    assert!(rt; few.is_line(&linear, Field::MaxWidthTimesHeight));
+    assert!(rt; !few.is_line(&linear, Field::MaxSize));
+    asked.bounds.asked.max_width_times_height = 1000;
+    assert!(rt; !read(&linear, &[asked]).is_line(&linear, Field::MaxWidthTimesHeight));
+    let wide = offer(PixelFormat::R8G8B8A8, Modifier::Linear);
+    let mut row = at_least(PixelFormat::R8G8B8A8, 4294967295, 1);
+    let long = read(&wide, &[row]);
+    assert!(rt; long.is_line(&wide, Field::MaxBytesPerRow));
+    assert!(rt; !long.is_line(&wide, Field::MaxSize));
+    assert_eq!(rt; long.least_sides(), Some((4294967295, 1)));
+    assert_eq!(rt; long.least_row(&wide, 4294967295), Some(17179869180));
+    row.bounds.asked.max_size = Size {
+        width: 4294967294,
+        height: 1,
+    };
+    assert!(rt; read(&wide, &[row]).is_line(&wide, Field::MaxSize));
 }
