@@ -1,5 +1,5 @@
 -- Nodes that are left out, one after the other.
-use Rattle.std.proofs.Common.{◌≡◌, ◌<◌, ◌+◌, ◌==◌, ◌&&◌, ◌||◌, not, ℕ, zero, suc, Bool, List, [], ◌∷◌, ◌++◌, length, take, drop, get_or, slice_set, refl, sym, ◌∙◌, ap, arith}
+use Rattle.std.proofs.Common.{◌≡◌, ◌<◌, ◌+◌, ◌==◌, ◌&&◌, ◌||◌, not, ℕ, zero, suc, Bool, List, [], ◌∷◌, ◌++◌, length, take, drop, get_or, slice_set, ◌∙◌, ap, arith}
 use Rattle.std.specs.List.{list_any}
 use Rattle.sysmem_tree.specs.Node.{NodeFacts}
 use Rattle.sysmem_tree.specs.Tree.{left_out_but}

@@ -1,19 +1,13 @@
 -- Nodes that are marked, by what a choice settles.
-use Rattle.std.proofs.Common.{◌≡◌, ◌≢◌, ◌≤◌, ◌<◌, ℕ, zero, suc, ◌==◌, ◌||◌, eq-eqb, Bool, true, false, List, [], ◌∷◌, Option, Some, None, length, get_or, replicate, slice_get, slice_set, refl, sym, ◌∙◌, ap, subst, arith, inl, inr}
+use Rattle.std.proofs.Common.{◌≡◌, ◌<◌, ℕ, zero, suc, ◌||◌, eq-eqb, Bool, true, false, List, [], ◌∷◌, None, length, get_or, replicate, slice_set, refl, sym, ◌∙◌, ap, subst, arith, inl, inr}
 use Rattle.std.specs.List.{list_any}
-use Rattle.std.specs.Prelude.{map, option_map, unwrap_or, IfSome, IsSome}
 use Rattle.std.proofs.lemmas.Bool.{cases_eq, ne_eqb}
 use Rattle.std.proofs.lemmas.Grind.{get_or-set_at}
 use Rattle.std.proofs.lemmas.List.{get_or-set_other}
-use Rattle.std.proofs.lemmas.Option.{same_Some, get_or_from_slice_get}
-use Rattle.sysmem_tree.specs.declared.layout.Layout.{Layout}
+use Rattle.std.proofs.lemmas.Option.{same_Some}
 use Rattle.sysmem_tree.specs.declared.layout.Place.{Place}
-use Rattle.sysmem_tree.specs.Forest.{Forest, Empty, Plain, Group, each, relabel, settled}
-use Rattle.sysmem_tree.specs.Layout.{Spot, start, AreLaid, HoldNumbers, IsLayout}
-use Rattle.sysmem_tree.specs.Prefix.{AreAlternatives}
-use Rattle.sysmem_tree.specs.Selection.{IsPrefix, after, settled_by}
-use Rattle.sysmem_tree.proofs.Layouts.{starts_before}
-use Rattle.sysmem_tree.proofs.Selections.{after_relabel, settled_relabel}
+use Rattle.sysmem_tree.specs.Layout.{Spot, HoldNumbers}
+use Rattle.sysmem_tree.specs.Selection.{after}
 use Rattle.sysmem_tree.proofs.Settling.{Meets, past, is_at, is_met}
 
 -- what is read where there is no place

@@ -8,7 +8,7 @@ use Rattle.std.proofs.lemmas.Option.{same_Some, get_or_from_slice_get}
 use Rattle.sysmem_tree.specs.declared.layout.Layout.{Layout}
 use Rattle.sysmem_tree.specs.declared.layout.Place.{Place}
 use Rattle.sysmem_tree.specs.Forest.{Forest, Empty, Plain, Group, each, settled}
-use Rattle.sysmem_tree.specs.Layout.{Spot, start, first_place, behind, IsPlace, AreLaid, IsLayout}
+use Rattle.sysmem_tree.specs.Layout.{Spot, start, first_place, AreLaid, IsLayout}
 use Rattle.sysmem_tree.specs.Prefix.{Alternatives, AreAlternatives, next_alternatives, AreOpen}
 use Rattle.sysmem_tree.specs.Selection.{after}
 use Rattle.sysmem_tree.proofs.Chosen.{chosen, Steps, steps}

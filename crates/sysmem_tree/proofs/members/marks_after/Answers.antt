@@ -1,14 +1,14 @@
 -- One choice after the other marks what it settles.
-use Rattle.std.proofs.Common.{◌≡◌, ◌<◌, ◌≤◌, ◌+◌, ◌||◌, ◌∷◌, ℕ, Bool, List, Some, None, true, false, drop, length, slice_get, get_or, refl, sym, ◌∙◌, ap, subst, arith}
+use Rattle.std.proofs.Common.{◌≡◌, ◌+◌, ◌||◌, None, true, false, slice_get, get_or, refl, sym, ◌∙◌, ap, subst, arith}
 use Rattle.std.specs.List.{list_any}
-use Rattle.std.specs.Prelude.{IsSome, IsSomeAnd, IfSome}
+use Rattle.std.specs.Prelude.{IsSomeAnd}
 use Rattle.std.specs.Option.{option_or}
 use Rattle.std.proofs.lemmas.List.{drop_more}
 use Rattle.std.proofs.lemmas.Option.{same_Some, none-some, slice_get_within}
 use Rattle.sysmem_tree.specs.declared.layout.Place.{Place}
-use Rattle.sysmem_tree.specs.Forest.{Forest, each, settled}
-use Rattle.sysmem_tree.specs.Layout.{Spot, first_place}
-use Rattle.sysmem_tree.specs.Prefix.{AreAlternatives, AreOpen}
+use Rattle.sysmem_tree.specs.Forest.{each, settled}
+use Rattle.sysmem_tree.specs.Layout.{first_place}
+use Rattle.sysmem_tree.specs.Prefix.{AreAlternatives}
 use Rattle.sysmem_tree.specs.Selection.{after}
 use Rattle.sysmem_tree.proofs.members.marks_after.Goals as goal
 use Rattle.sysmem_tree.proofs.Chosen.{all_open}

@@ -1,5 +1,5 @@
 -- From one settled node to the next.
-use Rattle.std.proofs.Common.{refl, sym, ◌∙◌, ap, subst, arith}
+use Rattle.std.proofs.Common.{refl, sym, ◌∙◌, subst, arith}
 use Rattle.sysmem_tree.specs.Forest.{settled}
 use Rattle.sysmem_tree.proofs.Settling.{Meets, meets_settled, goes_up, goes_past, stops_at, nothing_more}
 use Rattle.sysmem_tree.proofs.settled.settles.Goals as goal

@@ -1,5 +1,5 @@
 -- One choice after the other adds what is settled below the child that it chose.
-use Rattle.std.proofs.Common.{◌≡◌, ◌<◌, ◌+◌, ◌∷◌, Some, None, true, drop, length, slice_get, refl, sym, ◌∙◌, ap, subst, arith}
+use Rattle.std.proofs.Common.{◌≡◌, ◌+◌, None, true, slice_get, refl, sym, ◌∙◌, ap, subst, arith}
 use Rattle.std.specs.Prelude.{◌||◌, IsSomeAnd}
 use Rattle.std.specs.List.{list_any}
 use Rattle.std.specs.Option.{option_or}

@@ -1,4 +1,3 @@
-use Rattle.std.proofs.Common.{ap}
 use Rattle.sysmem_tree.specs.Tree.{decided_domain}
 use Rattle.sysmem_tree.proofs.Writes.{written_next}
 use Rattle.sysmem_tree.proofs.standing.decide.Goals as goal
