@@ -11,9 +11,9 @@ use Rattle.sysmem_tree.specs.declared.domain.Decision.{Decision}
 use Rattle.sysmem_tree.specs.declared.domain.Domain.{Domain}
 use Rattle.sysmem_tree.specs.declared.node.Birth.{Birth}
 use Rattle.sysmem_tree.specs.ActionKind.{Deed, kind_of}
-use Rattle.sysmem_tree.specs.Domain.{TreeFacts, was_closed_early, host_of, up_from, fails, has_failed, is_complete, is_ready, is_host_selected, is_host_lost}
+use Rattle.sysmem_tree.specs.Domain.{TreeFacts, was_closed_early, host_node, up_from, fails, has_failed, is_complete, is_ready, is_host_selected, is_host_lost}
 use Rattle.sysmem_tree.specs.Forest.{Empty}
-use Rattle.sysmem_tree.specs.History.{Entry, Acted, Decided, AreAccepted, after_entry, replay_from, replay, log_at, SameCalls, is_close, NoEarlyClose}
+use Rattle.sysmem_tree.specs.History.{HistoryEntry, Acted, Decided, AreAccepted, after_entry, replay_from, replay, log_at, SameCalls, is_close, NoEarlyClose}
 use Rattle.sysmem_tree.specs.Laws.{SameInitial, SameReady}
 use Rattle.sysmem_tree.specs.Node.{awaits, is_awaited, NodeFacts}
 use Rattle.sysmem_tree.specs.Nodes.{IsTree}
@@ -127,7 +127,7 @@ module _ (xs ys : List NodeFacts) (tree : IsTree xs) (tree' : IsTree ys) (agree 
       let is : shown_of j y ≡ shown_of k x = same_Some (shown_of j y) (shown_of k x) (sym (at_node xs q j y leads' here) ∙ (same ∙ at_node ys q k x leads read)) in
       ap (λ (z : Shown). is_awaited z.state) (sym is) ∙ unawaited xs 0 j y done here kin)
 
-pub initial_shape : (es fs : List Entry) → AreAccepted first_tree es → AreAccepted first_tree fs
+pub initial_shape : (es fs : List HistoryEntry) → AreAccepted first_tree es → AreAccepted first_tree fs
     → ((q : List ℕ) → IsInitial (at_path (replay es).nodes) q → log_at es q ≡ log_at fs q) → SameInitial (replay es) (replay fs)
 initial_shape es fs r r' same =
     let t : TreeFacts = replay es in
@@ -189,7 +189,7 @@ closed_decided (e ∷ ds) r d x = ap (λ b. (((decided_domain d x e).root == r) 
   by false t = rw t refl
 
 -- the initial domain has no host: it is ready where it is complete and wasn't closed early
-pub no_host : (nodes : List NodeFacts) → IsTree nodes → host_of nodes 0 ≡ None
+pub no_host : (nodes : List NodeFacts) → IsTree nodes → host_node nodes 0 ≡ None
 no_host nodes tree =
     let (n, here, root) = there (λ (x : NodeFacts). (x.birth ≡ None) × (x.domain ≡ 0)) (slice_get nodes 0) tree.root in
     ap (λ o. option_and_then (λ (x : NodeFacts). option_and_then (λ (b : Birth). slice_get nodes b.parent) x.birth) o) here ∙ ap (λ o. option_and_then (λ (b : Birth). slice_get nodes b.parent) o) root.0
@@ -204,7 +204,7 @@ ready_alone t tree open' =
     let chain : up_from 128 t.nodes 0 ≡ 0 ∷ [] = ap (λ o. 0 ∷ unwrap_or (option_map (λ (host : NodeFacts). up_from 127 t.nodes host.domain) o) []) none in
     let own : fails t 0 ≡ false = ap (λ o. closed_at t.domains 0 || is_host_lost t.domains o) none ∙ ap (λ b. b || false) open' in
     let failed : has_failed t 0 ≡ false = ap (list_any (fails t)) chain ∙ ap (λ b. b || false) own in
-    ap (λ b. is_complete t.nodes 0 && (not b && is_host_selected t.domains (host_of t.nodes 0))) failed
+    ap (λ b. is_complete t.nodes 0 && (not b && is_host_selected t.domains (host_node t.nodes 0))) failed
     ∙ (ap (λ o. is_complete t.nodes 0 && (not false && is_host_selected t.domains o)) none ∙ alone (is_complete t.nodes 0))
 
 close_by : (ready : Bool) (t : TreeFacts) (n : NodeFacts) (r : ℕ) → is_ready t n.domain ≡ ready → is_ready t r ≡ true → closed_at t.domains r ≡ false
@@ -231,7 +231,7 @@ decided_marks t r e None = closed_decided t.domains e r _
 decided_marks t r e (Some ms) = closed_decided t.domains e r _
 
 -- without an early close the initial domain isn't closed early: until it is complete no close comes
-never_closed : (t : TreeFacts) (es : List Entry) → IsTree t.nodes → AreAccepted t es → closed_at t.domains 0 ≡ false → (is_complete t.nodes 0 ≡ true) ⊎ NoEarlyClose es
+never_closed : (t : TreeFacts) (es : List HistoryEntry) → IsTree t.nodes → AreAccepted t es → closed_at t.domains 0 ≡ false → (is_complete t.nodes 0 ≡ true) ⊎ NoEarlyClose es
     → closed_at (replay_from t es).domains 0 ≡ false
 never_closed t [] tree a unclosed calm = unclosed
 never_closed t (Acted i deed ∷ es) tree a unclosed calm =
@@ -259,10 +259,10 @@ never_closed t (Decided r choices ∷ es) tree a unclosed calm =
       ]
     ])
 
-first_open : (es : List Entry) → AreAccepted first_tree es → NoEarlyClose es → closed_at (replay es).domains 0 ≡ false
+first_open : (es : List HistoryEntry) → AreAccepted first_tree es → NoEarlyClose es → closed_at (replay es).domains 0 ≡ false
 first_open es a calm = never_closed first_tree es first_nodes_tree a refl (inr calm)
 
-pub confluence : (es fs : List Entry) → AreAccepted first_tree es → AreAccepted first_tree fs → SameCalls es fs → NoEarlyClose es → NoEarlyClose fs → SameReady (replay es) (replay fs)
+pub confluence : (es fs : List HistoryEntry) → AreAccepted first_tree es → AreAccepted first_tree fs → SameCalls es fs → NoEarlyClose es → NoEarlyClose fs → SameReady (replay es) (replay fs)
 confluence es fs a b same calm calm' =
     let initial = initial_shape es fs a b (λ q _. same q) in
     record {

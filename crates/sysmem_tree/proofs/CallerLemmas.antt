@@ -7,18 +7,18 @@ use Rattle.sysmem_tree.specs.declared.domain.Decision.TheVariants.{Undecided, Ch
 use Rattle.sysmem_tree.specs.declared.fate.Fate.TheVariants as fates
 use Rattle.sysmem_tree.specs.Domain.{TreeFacts, decision_of, fate_by, fate_of, has_failed, is_undecided}
 use Rattle.sysmem_tree.specs.Forest.{Forest, choices, first_group}
-use Rattle.sysmem_tree.specs.History.{Entry, Accepts, after_entry, replay_from, AreAccepted}
+use Rattle.sysmem_tree.specs.History.{HistoryEntry, Accepts, after_entry, replay_from, AreAccepted}
 use Rattle.sysmem_tree.specs.Selection.{after, IsPrefix, IsSelection}
 use Rattle.sysmem_tree.proofs.Numbers.{front}
 use Rattle.sysmem_tree.proofs.Selections.{after_more, first_many}
 
 -- a history with one more entry leads to the tree after that entry
-pub replay_push : (t : TreeFacts) (es : List Entry) (e : Entry) → replay_from t (es ++ e ∷ []) ≡ after_entry (replay_from t es) e
+pub replay_push : (t : TreeFacts) (es : List HistoryEntry) (e : HistoryEntry) → replay_from t (es ++ e ∷ []) ≡ after_entry (replay_from t es) e
 replay_push t [] e = refl
 replay_push t (x ∷ es) e = replay_push (after_entry t x) es e
 
 -- and is accepted where the entry is
-pub accepted_push : (t : TreeFacts) (es : List Entry) (e : Entry) → AreAccepted t es → Accepts (replay_from t es) e → AreAccepted t (es ++ e ∷ [])
+pub accepted_push : (t : TreeFacts) (es : List HistoryEntry) (e : HistoryEntry) → AreAccepted t es → Accepts (replay_from t es) e → AreAccepted t (es ++ e ∷ [])
 accepted_push t [] e all one = (one, tt)
 accepted_push t (x ∷ es) e all one = (all.0, accepted_push (after_entry t x) es e all.1 one)
 

@@ -9,7 +9,7 @@ use Rattle.sysmem_tree.specs.declared.action.ActionKind.TheVariants.{Duplicate, 
 use Rattle.sysmem_tree.specs.declared.domain.Domain.{Domain}
 use Rattle.sysmem_tree.specs.declared.state.NodeState.{NodeState}
 use Rattle.sysmem_tree.specs.ActionKind.{Deed, kind_of}
-use Rattle.sysmem_tree.specs.Domain.{TreeFacts, IsSound, decision_of, has_failed, is_none_chosen, fate_by, fate_of}
+use Rattle.sysmem_tree.specs.Domain.{TreeFacts, IsSoundTree, decision_of, has_failed, is_none_chosen, fate_by, fate_of}
 use Rattle.sysmem_tree.specs.declared.domain.Decision.{Decision}
 use Rattle.sysmem_tree.specs.declared.fate.Fate.TheVariants.{Failed}
 use Rattle.sysmem_tree.specs.Node.{NodeFacts}
@@ -61,7 +61,7 @@ root_room nodes Release root room = absurd (cc)
 root_room nodes Close root room = absurd (cc)
 
 -- where it makes a root there is room for a domain
-pub domain_room : (t u : TreeFacts) (i : ℕ) (deed : Deed) (kind : ActionKind) → IsSound t → t ≡ u → result_err (applied u i deed) ≡ None → kind ≡ kind_of deed
+pub domain_room : (t u : TreeFacts) (i : ℕ) (deed : Deed) (kind : ActionKind) → IsSoundTree t → t ≡ u → result_err (applied u i deed) ≡ None → kind ≡ kind_of deed
     → makes_root kind ≡ true → length t.domains < 128
 domain_room t u i deed k sound same none is root =
     let (after, _, (n, ok)) = let_in t u i deed same none in
@@ -69,11 +69,11 @@ domain_room t u i deed k sound same none is root =
     omega (arith, room, few_domains t sound)
 
 -- what was written is the tree that it leads to
-pub entered : (t u : TreeFacts) (i m : ℕ) (deed : Deed) (kind : ActionKind) (ns seen : List NodeFacts) (ds : List Domain) → IsSound t → t ≡ u → result_err (applied u i deed) ≡ None
+pub entered : (t u : TreeFacts) (i m : ℕ) (deed : Deed) (kind : ActionKind) (ns seen : List NodeFacts) (ds : List Domain) → IsSoundTree t → t ≡ u → result_err (applied u i deed) ≡ None
     → seen ≡ t.nodes → kind ≡ kind_of deed
     → IfSome (slice_get seen i) (λ n. ds ≡ domains_after (record { nodes = seen; domains = t.domains }) n kind)
     → IfSome (slice_get t.nodes i) (λ n. ns ≡ nodes_after t.nodes i n deed) → m ≡ number_after t.nodes i (kind_of deed)
-    → (applied u i deed ≡ Ok (record { tree = record { nodes = ns; domains = ds }; node = m })) × IsSound (record { nodes = ns; domains = ds })
+    → (applied u i deed ≡ Ok (record { tree = record { nodes = ns; domains = ds }; node = m })) × IsSoundTree (record { nodes = ns; domains = ds })
 entered t u i m deed kind ns seen ds sound same none read is noted acted number =
     let (after, accepts, (n, ok)) = let_in t u i deed same none in
     let domains = of_some (λ n. ds ≡ domains_after (record { nodes = seen; domains = t.domains }) n kind) (slice_get seen i) n (ap (λ z. slice_get z i) read ∙ ok.there) noted
@@ -85,7 +85,7 @@ entered t u i m deed kind ns seen ds sound same none read is noted acted number 
     ap (λ z. let x : Applied = record { tree = z; node = after.node } in x) tree
     ∙ ap (λ z. let x : Applied = record { tree = record { nodes = ns; domains = ds }; node = z } in x) (sym (number ∙ ok.node)) in (
       ap (λ z. applied z i deed) (sym same) ∙ (accepts ∙ ap Ok whole),
-      subst IsSound tree (acted_sound t i deed after sound accepts),
+      subst IsSoundTree tree (acted_sound t i deed after sound accepts),
     )
 
 longer : (nodes : List NodeFacts) (i : ℕ) (n m : NodeFacts) (kind : ActionKind) (o : Option NodeState) → i < length nodes

@@ -16,7 +16,7 @@ use Rattle.sysmem_tree.specs.ActionKind.{Deed, kind_of}
 use Rattle.sysmem_tree.specs.Domain.{TreeFacts}
 use Rattle.sysmem_tree.specs.Node.{fresh, NodeFacts}
 use Rattle.sysmem_tree.specs.Nodes.{ordinal_under, ordinals, count_from, IsPlaced, IsTree}
-use Rattle.sysmem_tree.specs.Table.{suits, allows, state_after, makes, makes_root}
+use Rattle.sysmem_tree.specs.Table.{suits_node, allows, state_after, makes, makes_root}
 use Rattle.sysmem_tree.specs.Tree.{Applied, applied, node_after, new_node, nodes_made, nodes_after, has_room}
 use Rattle.sysmem_tree.proofs.Accepted.{accepted}
 use Rattle.sysmem_tree.proofs.Kids.{under_parent, under_none, parent_of}
@@ -60,7 +60,7 @@ still_collection AttachToken s is = is
 still_collection Release s is = is
 still_collection Close s is = is
 
-attached_to : (c : ActionKind) (k : NodeKind) (s : NodeState) → makes_root c ≡ true → suits c k s ≡ true → k ≡ Collection
+attached_to : (c : ActionKind) (k : NodeKind) (s : NodeState) → makes_root c ≡ true → suits_node c k s ≡ true → k ≡ Collection
 attached_to AttachToken Token s e h = absurd (cc)
 attached_to AttachToken Group s e h = absurd (cc)
 attached_to AttachToken Collection s e h = refl

@@ -8,7 +8,7 @@ use Rattle.list_lemmas.proofs.CallerLemmas.{slice_get_some}
 use Rattle.sysmem_tree.specs.declared.node.Birth.{Birth}
 use Rattle.sysmem_tree.specs.ActionKind.{Deed, kind_of}
 use Rattle.sysmem_tree.specs.Domain.{TreeFacts}
-use Rattle.sysmem_tree.specs.History.{Entry, Acted, Decided, Accepts, after_entry, after_answer, AreAccepted, replay_from, replay, asked_of, log, log_in}
+use Rattle.sysmem_tree.specs.History.{HistoryEntry, Acted, Decided, Accepts, after_entry, after_answer, AreAccepted, replay_from, replay, asked_of, log, log_in}
 use Rattle.sysmem_tree.specs.Node.{NodeFacts}
 use Rattle.sysmem_tree.specs.Nodes.{ordinals, count_from, IsPlaced, IsTree}
 use Rattle.sysmem_tree.specs.Path.{node_at, Shown, at_path}
@@ -23,7 +23,7 @@ use Rattle.sysmem_tree.proofs.Steps.{has_path, node_within, still, step}
 use Rattle.sysmem_tree.proofs.Ways.{one_path}
 
 -- a tree with what its history says of it
-pub record Made (es : List Entry) (nodes : List NodeFacts) : Type 0 where
+pub record Made (es : List HistoryEntry) (nodes : List NodeFacts) : Type 0 where
   pub tree : IsTree nodes
   pub kept : IsKept (log_in nodes es) (at_path nodes)
   pub yet : (k : ℕ) → length nodes ≤ k → log es k ≡ []
@@ -65,10 +65,10 @@ first_made = record {
 }
 
 -- logs by paths
-log_there : (es : List Entry) (nodes : List NodeFacts) (q : List ℕ) (k : ℕ) → node_at nodes q ≡ Some k → log_in nodes es q ≡ log es k
+log_there : (es : List HistoryEntry) (nodes : List NodeFacts) (q : List ℕ) (k : ℕ) → node_at nodes q ≡ Some k → log_in nodes es q ≡ log es k
 log_there es nodes q k is = ap (λ o. unwrap_or (option_map (log es) o) []) is
 
-log_nowhere : (es : List Entry) (nodes : List NodeFacts) (q : List ℕ) → node_at nodes q ≡ None → log_in nodes es q ≡ []
+log_nowhere : (es : List HistoryEntry) (nodes : List NodeFacts) (q : List ℕ) → node_at nodes q ≡ None → log_in nodes es q ≡ []
 log_nowhere es nodes q is = ap (λ o. unwrap_or (option_map (log es) o) []) is
 
 -- a log goes on with what the last entry asks
@@ -76,11 +76,11 @@ abbrev one_asked : Option Deed → List Deed
 one_asked None = []
 one_asked (Some deed) = deed ∷ []
 
-asked_alone : (k : ℕ) (e : Entry) (o : Option Deed) → asked_of k e ≡ o → log (e ∷ []) k ≡ one_asked o
+asked_alone : (k : ℕ) (e : HistoryEntry) (o : Option Deed) → asked_of k e ≡ o → log (e ∷ []) k ≡ one_asked o
 asked_alone k e None is = rw is refl
 asked_alone k e (Some deed) is = rw is refl
 
-log_push : (es : List Entry) (e : Entry) (k : ℕ) (o : Option Deed) → asked_of k e ≡ o → log (es ++ e ∷ []) k ≡ log es k ++ one_asked o
+log_push : (es : List HistoryEntry) (e : HistoryEntry) (k : ℕ) (o : Option Deed) → asked_of k e ≡ o → log (es ++ e ∷ []) k ≡ log es k ++ one_asked o
 log_push es e k o is = filter_map-append (asked_of k) es (e ∷ []) ∙ ap (λ l. log es k ++ l) (asked_alone k e o is)
 
 asked_here : (i : ℕ) (deed : Deed) → asked_of i (Acted i deed) ≡ Some deed
@@ -89,14 +89,14 @@ asked_here i deed = let t : (i == i) ≡ true = search (rules, tests) in rw t re
 asked_elsewhere : (i k : ℕ) (deed : Deed) → i ≢ k → asked_of k (Acted i deed) ≡ None
 asked_elsewhere i k deed other = let t : (i == k) ≡ false = search (rules, tests, other) in rw t refl
 
-log_elsewhere : (es : List Entry) (i k : ℕ) (deed : Deed) → i ≢ k → log (es ++ Acted i deed ∷ []) k ≡ log es k
+log_elsewhere : (es : List HistoryEntry) (i k : ℕ) (deed : Deed) → i ≢ k → log (es ++ Acted i deed ∷ []) k ≡ log es k
 log_elsewhere es i k deed other = log_push es (Acted i deed) k None (asked_elsewhere i k deed other) ∙ append-nil (log es k)
 
-log_decided : (es : List Entry) (r k : ℕ) (choices : Option (List ℕ)) → log (es ++ Decided r choices ∷ []) k ≡ log es k
+log_decided : (es : List HistoryEntry) (r k : ℕ) (choices : Option (List ℕ)) → log (es ++ Decided r choices ∷ []) k ≡ log es k
 log_decided es r k choices = log_push es (Decided r choices) k None refl ∙ append-nil (log es k)
 
 -- after an accepted action
-module _ (es : List Entry) (nodes : List NodeFacts) (i : ℕ) (n : NodeFacts) (deed : Deed) (here : slice_get nodes i ≡ Some n) (allowed : allows (kind_of deed) n.state ≡ true) (content : wants_child (kind_of deed) n.state ≡ false)
+module _ (es : List HistoryEntry) (nodes : List NodeFacts) (i : ℕ) (n : NodeFacts) (deed : Deed) (here : slice_get nodes i ≡ Some n) (allowed : allows (kind_of deed) n.state ≡ true) (content : wants_child (kind_of deed) n.state ≡ false)
     (room : has_room nodes (kind_of deed) ≡ true) (made : Made es nodes) where
   new_tree : IsTree (nodes_after nodes i n deed)
   new_tree = still_tree nodes i n deed here made.tree allowed room
@@ -144,7 +144,7 @@ module _ (es : List Entry) (nodes : List NodeFacts) (i : ℕ) (n : NodeFacts) (d
   acted_made = let (path, leads) = has_path nodes made.tree i (slice_get_within nodes i n here) in acted_made_at path leads
 
 -- after a decision
-module _ (es : List Entry) (xs ys : List NodeFacts) (r : ℕ) (members : Option (List ℕ)) (alike : Alike xs ys) (made : Made es xs) where
+module _ (es : List HistoryEntry) (xs ys : List NodeFacts) (r : ℕ) (members : Option (List ℕ)) (alike : Alike xs ys) (made : Made es xs) where
   same_log : (q : List ℕ) → log_in ys (es ++ Decided r members ∷ []) q ≡ log_in xs es q
   same_log q = ap (λ o. unwrap_or (option_map (log (es ++ Decided r members ∷ [])) o) []) (alike_node xs ys alike made.tree q) ∙ by (node_at xs q) where
     by : (o : Option ℕ) → unwrap_or (option_map (log (es ++ Decided r members ∷ [])) o) [] ≡ unwrap_or (option_map (log es) o) []
@@ -178,18 +178,18 @@ pub ok_from : {X E : Type 0} (o : Result X E) → IsOk o → (x : X) × (o ≡ O
 ok_from (Ok x) h = (x, refl)
 ok_from (Err e) h = absurd (cc)
 
-made_next : (es : List Entry) (t : TreeFacts) (e : Entry) → Made es t.nodes → Accepts t e → Made (es ++ e ∷ []) (after_entry t e).nodes
+made_next : (es : List HistoryEntry) (t : TreeFacts) (e : HistoryEntry) → Made es t.nodes → Accepts t e → Made (es ++ e ∷ []) (after_entry t e).nodes
 made_next es t (Acted i deed) m a =
     let (after, is) = ok_from (applied t i deed) a in
     let (n, ok) = accepted t i deed after is in
     subst (λ (x : TreeFacts). Made (es ++ Acted i deed ∷ []) x.nodes) (ok.tree ∙ sym (acted_tree t i deed after is)) (acted_made es t.nodes i n deed ok.there ok.allowed ok.content ok.room m)
 made_next es t (Decided r choices) m a = decided_made es t.nodes (decided t r choices).nodes r choices (decided_alike t r choices) m
 
-made_from : (done es : List Entry) (t : TreeFacts) → Made done t.nodes → AreAccepted t es → Made (done ++ es) (replay_from t es).nodes
+made_from : (done es : List HistoryEntry) (t : TreeFacts) → Made done t.nodes → AreAccepted t es → Made (done ++ es) (replay_from t es).nodes
 made_from done [] t m a = subst (λ xs. Made xs t.nodes) (sym (append-nil done)) m
 made_from done (e ∷ es) t m a =
     subst (λ xs. Made xs (replay_from (after_entry t e) es).nodes) (append_assoc done (e ∷ []) es) (made_from (done ++ e ∷ []) es (after_entry t e) (made_next done t e m a.0) a.1)
 
 -- the whole
-pub made : (es : List Entry) → AreAccepted first_tree es → Made es (replay es).nodes
+pub made : (es : List HistoryEntry) → AreAccepted first_tree es → Made es (replay es).nodes
 made es a = made_from [] es first_tree first_made a

@@ -4,7 +4,7 @@ use Rattle.std.specs.Prelude.{map, option_and_then}
 use Rattle.std.proofs.lemmas.Option.{slice_get_within, same_Some, none-some, option_and_then_some}
 use Rattle.sysmem_tree.specs.Forest.{Forest, Empty, Plain, Group, each, kids_else_rest, choices, count, total}
 use Rattle.sysmem_tree.specs.Laws.{IsListed}
-use Rattle.sysmem_tree.specs.Selection.{after, IsSelection, IsEarlier}
+use Rattle.sysmem_tree.specs.Selection.{after, IsSelection, IsEarlierSelection}
 use Rattle.sysmem_tree.proofs.Selections.{AllOf, IfAny, all_mapped, counts}
 
 get_append : {X : Type 0} (xs ys : List X) (k : ℕ) (z : X) → slice_get (xs ++ ys) k ≡ Some z → (slice_get xs k ≡ Some z) ⊎ ((j : ℕ) × (k ≡ length xs + j) × (slice_get ys j ≡ Some z))
@@ -71,7 +71,7 @@ record AreBranches (c : ℕ) (es : List (Forest ℕ)) : Type 0 where
   many : length all ≡ total es
   sound : (k : ℕ) (cs : List ℕ) → slice_get all k ≡ Some cs → (i : ℕ) × (ds : List ℕ) × (e : Forest ℕ) × (f : Forest ℕ) × (cs ≡ (c + i) ∷ ds) × (slice_get es i ≡ Some e) × IsSelection e ds f
   found : (i : ℕ) (ds : List ℕ) (e f : Forest ℕ) → slice_get es i ≡ Some e → IsSelection e ds f → (k : ℕ) × (slice_get all k ≡ Some ((c + i) ∷ ds))
-  order : (j k : ℕ) (as' bs : List ℕ) → slice_get all j ≡ Some as' → slice_get all k ≡ Some bs → j < k → IsEarlier as' bs
+  order : (j k : ℕ) (as' bs : List ℕ) → slice_get all j ≡ Some as' → slice_get all k ≡ Some bs → j < k → IsEarlierSelection as' bs
 
 branches : (c : ℕ) (es : List (Forest ℕ)) → AllOf IsListed es → AreBranches c es
 branches c [] h = record {
@@ -111,17 +111,17 @@ branches c (e ∷ es) h = joined h.0 (branches (c + 1) es h.1) where
         let z : (c + 1) + i ≡ c + suc i = omega arith in
         get_behind mine b.all j ((c + suc i) ∷ ds) (there ∙ ap (λ y. Some (y ∷ ds)) z)
 
-    order : (j k : ℕ) (as' bs : List ℕ) → slice_get (mine ++ b.all) j ≡ Some as' → slice_get (mine ++ b.all) k ≡ Some bs → j < k → IsEarlier as' bs
+    order : (j k : ℕ) (as' bs : List ℕ) → slice_get (mine ++ b.all) j ≡ Some as' → slice_get (mine ++ b.all) k ≡ Some bs → j < k → IsEarlierSelection as' bs
     order j k as' bs at_j at_k less = elim (get_append mine b.all j as' at_j) [
       | inl front ↦
           let (ds, there, is) = get_map (λ xs. c ∷ xs) l.all j as' front in
           elim (get_append mine b.all k bs at_k) [
             | inl front' ↦
                 let (ds', there', is') = get_map (λ xs. c ∷ xs) l.all k bs front' in
-                subst (λ xs. IsEarlier xs bs) is (subst (IsEarlier (c ∷ ds)) is' (inr (refl, l.order j k ds ds' there there' less)))
+                subst (λ xs. IsEarlierSelection xs bs) is (subst (IsEarlierSelection (c ∷ ds)) is' (inr (refl, l.order j k ds ds' there there' less)))
             | inr (k', _, there') ↦
                 let (i, ds', x, f, is', _, _) = b.sound k' bs there' in
-                subst (λ xs. IsEarlier xs bs) is (subst (IsEarlier (c ∷ ds)) (sym is') (inl (omega arith)))
+                subst (λ xs. IsEarlierSelection xs bs) is (subst (IsEarlierSelection (c ∷ ds)) (sym is') (inl (omega arith)))
           ]
       | inr (j', at, there) ↦ elim (get_append mine b.all k bs at_k) [
         | inl front' ↦ absurd (omega (arith, slice_get_within mine k bs front', at, less))
@@ -145,7 +145,7 @@ listed_by d None e h = record {
   found [] f s = (0, refl)
   found (c ∷ cs) f s = absurd (none-some f (sym (ap (λ o. option_and_then (λ x. after x cs) (option_and_then (λ es. slice_get es c) o)) e) ∙ s.leads))
 
-  order : (j k : ℕ) (as' bs : List ℕ) → slice_get ([] ∷ []) j ≡ Some as' → slice_get ([] ∷ []) k ≡ Some bs → j < k → IsEarlier as' bs
+  order : (j k : ℕ) (as' bs : List ℕ) → slice_get ([] ∷ []) j ≡ Some as' → slice_get ([] ∷ []) k ≡ Some bs → j < k → IsEarlierSelection as' bs
   order j zero as' bs a b less = absurd (omega (arith, less))
   order j (suc k) as' bs a b less = absurd (cc)
 listed_by d (Some es) e h = by (branches 0 es h) where

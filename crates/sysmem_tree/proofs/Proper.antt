@@ -12,23 +12,23 @@ use Rattle.sysmem_tree.specs.ActionKind.{Deed, kind_of, sets, duplicates, create
 use Rattle.sysmem_tree.specs.Domain.{TreeFacts}
 use Rattle.sysmem_tree.specs.Node.{fresh, NodeFacts}
 use Rattle.sysmem_tree.specs.Nodes.{IsProper, AreProper}
-use Rattle.sysmem_tree.specs.Table.{suits, wants_child, state_after, constraints_after, makes}
+use Rattle.sysmem_tree.specs.Table.{suits_node, wants_child, state_after, constraints_after, makes}
 use Rattle.sysmem_tree.specs.Tree.{first_node, first_tree, Applied, applied, decided}
 use Rattle.sysmem_tree.proofs.Accepted.{accepted}
 use Rattle.sysmem_tree.proofs.Alike.{decided_alike}
 use Rattle.sysmem_tree.proofs.Growing.{stands}
 
-set_suits : (k : NodeKind) (s : NodeState) → suits SetConstraints k s ≡ true → k ≡ Collection
+set_suits : (k : NodeKind) (s : NodeState) → suits_node SetConstraints k s ≡ true → k ≡ Collection
 set_suits Token s h = absurd (cc)
 set_suits Group s h = absurd (cc)
 set_suits Collection s h = refl
 
-complete_suits : (k : NodeKind) (s : NodeState) → suits AllChildrenPresent k s ≡ true → k ≡ Group
+complete_suits : (k : NodeKind) (s : NodeState) → suits_node AllChildrenPresent k s ≡ true → k ≡ Group
 complete_suits Token s h = absurd (cc)
 complete_suits Group s h = refl
 complete_suits Collection s h = absurd (cc)
 
-bind_suits : (k : NodeKind) (s : NodeState) → suits Bind k s ≡ true → k ≡ Token
+bind_suits : (k : NodeKind) (s : NodeState) → suits_node Bind k s ≡ true → k ≡ Token
 bind_suits Token s h = refl
 bind_suits Group s h = absurd (cc)
 bind_suits Collection s h = absurd (cc)
@@ -36,7 +36,7 @@ bind_suits Collection s h = absurd (cc)
 some_child : (c : ℕ) → (c == 0) ≡ false → 0 < c
 some_child c h = search (rules, tests, arith)
 
-proper_own : (deed : Deed) (n : NodeFacts) → IsProper n → suits (kind_of deed) n.state.kind n.state ≡ true → wants_child (kind_of deed) n.state ≡ false
+proper_own : (deed : Deed) (n : NodeFacts) → IsProper n → suits_node (kind_of deed) n.state.kind n.state ≡ true → wants_child (kind_of deed) n.state ≡ false
     → IsProper (record n { state = state_after (kind_of deed) n.state; constraints = constraints_after deed n.constraints })
 proper_own duplicates n p suit content = record { set = p.set; constrained = p.constrained; complete = λ e. let was = p.complete e in (was.0, omega (arith, was.1)) }
 proper_own creates_group n p suit content = record { set = p.set; constrained = p.constrained; complete = λ e. let was = p.complete e in (was.0, omega (arith, was.1)) }

@@ -12,7 +12,7 @@ use Rattle.sysmem_tree.specs.declared.domain.Decision.TheVariants.{Undecided, Ch
 use Rattle.sysmem_tree.specs.declared.domain.Domain.{Domain}
 use Rattle.sysmem_tree.specs.declared.node.Birth.{Birth}
 use Rattle.sysmem_tree.specs.ActionKind.{Deed, kind_of}
-use Rattle.sysmem_tree.specs.Domain.{TreeFacts, HasDomain, is_chosen, is_none_chosen, is_undecided, was_closed_early, decision_of, host_of, is_selected, up_from, fails, has_failed, is_complete, is_ready, IsDecidedReady, DecidedAreReady, is_host_selected, is_host_lost}
+use Rattle.sysmem_tree.specs.Domain.{TreeFacts, HasDomain, is_chosen, is_none_chosen, is_undecided, was_closed_early, decision_of, host_node, is_selected, up_from, fails, has_failed, is_complete, is_ready, IsDecidedReady, DecidedAreReady, is_host_selected, is_host_lost}
 use Rattle.sysmem_tree.specs.Forest.{relabel}
 use Rattle.sysmem_tree.specs.Laws.{by_both, IsSameDomain}
 use Rattle.sysmem_tree.specs.Node.{NodeFacts}
@@ -63,13 +63,13 @@ HostKept t u (Some h) (Some h') = (HasDomain t.nodes h.domain) × (h.domain ≡ 
 pub record Keeps (t u : TreeFacts) : Type 0 where
   pub complete : (r : ℕ) → r < length t.nodes → is_complete t.nodes r ≡ true → is_complete u.nodes r ≡ true
   pub unclosed : (r : ℕ) → is_ready t r ≡ true → was_closed_early t.domains r ≡ false → was_closed_early u.domains r ≡ false
-  pub host : (r : ℕ) (z : NodeFacts) → slice_get t.nodes r ≡ Some z → HostKept t u (host_of t.nodes r) (host_of u.nodes r)
+  pub host : (r : ℕ) (z : NodeFacts) → slice_get t.nodes r ≡ Some z → HostKept t u (host_node t.nodes r) (host_node u.nodes r)
 
 -- the parts of readiness
 record Parts (t : TreeFacts) (r : ℕ) : Type 0 where
   complete : is_complete t.nodes r ≡ true
   unfailed : has_failed t r ≡ false
-  selected : is_host_selected t.domains (host_of t.nodes r) ≡ true
+  selected : is_host_selected t.domains (host_node t.nodes r) ≡ true
 
 parts : (t : TreeFacts) (r : ℕ) → is_ready t r ≡ true → Parts t r
 parts t r e =
@@ -91,16 +91,16 @@ module _ (t u : TreeFacts) (decided_ready : DecidedAreReady t) (keeps : Keeps t 
   own : (r : ℕ) (z : NodeFacts) → slice_get t.nodes r ≡ Some z → is_ready t r ≡ true → fails u r ≡ false
   own r z here ready =
       let p = parts t r ready in
-      let (f, _) = or_false (fails t r) (list_any (fails t) (unwrap_or (option_map (λ (host : NodeFacts). up_from 127 t.nodes host.domain) (host_of t.nodes r)) [])) p.unfailed in
+      let (f, _) = or_false (fails t r) (list_any (fails t) (unwrap_or (option_map (λ (host : NodeFacts). up_from 127 t.nodes host.domain) (host_node t.nodes r)) [])) p.unfailed in
       let (c, _) = or_false (was_closed_early t.domains r) _ f in
-      let fine = host_fine (host_of t.nodes r) (host_of u.nodes r) (keeps.host r z here) p.selected in
-      ap (λ b. b || is_host_lost u.domains (host_of u.nodes r)) (keeps.unclosed r ready c) ∙ fine.1
+      let fine = host_fine (host_node t.nodes r) (host_node u.nodes r) (keeps.host r z here) p.selected in
+      ap (λ b. b || is_host_lost u.domains (host_node u.nodes r)) (keeps.unclosed r ready c) ∙ fine.1
 
   chain : (many r : ℕ) (z : NodeFacts) → slice_get t.nodes r ≡ Some z → is_ready t r ≡ true → list_any (fails u) (up_from many u.nodes r) ≡ false
   chain zero r z here ready = refl
   chain (suc many) r z here ready =
-      ap (λ b. b || list_any (fails u) (unwrap_or (option_map (λ (host : NodeFacts). up_from many u.nodes host.domain) (host_of u.nodes r)) [])) (own r z here ready)
-      ∙ up (host_of t.nodes r) (host_of u.nodes r) (keeps.host r z here) (parts t r ready).selected (λ d y at ok. chain many d y at ok) where
+      ap (λ b. b || list_any (fails u) (unwrap_or (option_map (λ (host : NodeFacts). up_from many u.nodes host.domain) (host_node u.nodes r)) [])) (own r z here ready)
+      ∙ up (host_node t.nodes r) (host_node u.nodes r) (keeps.host r z here) (parts t r ready).selected (λ d y at ok. chain many d y at ok) where
         up : (a b : Option NodeFacts) → HostKept t u a b → is_host_selected t.domains a ≡ true
             → ((d : ℕ) (y : NodeFacts) → slice_get t.nodes d ≡ Some y → is_ready t d ≡ true → list_any (fails u) (up_from many u.nodes d) ≡ false)
             → list_any (fails u) (unwrap_or (option_map (λ (host : NodeFacts). up_from many u.nodes host.domain) b) []) ≡ false
@@ -116,9 +116,9 @@ module _ (t u : TreeFacts) (decided_ready : DecidedAreReady t) (keeps : Keeps t 
       let p = parts t r ready in
       let c = keeps.complete r (slice_get_within t.nodes r z here) p.complete in
       let f : has_failed u r ≡ false = chain 128 r z here ready in
-      let s = (host_fine (host_of t.nodes r) (host_of u.nodes r) (keeps.host r z here) p.selected).0 in
-      ap (λ b. b && (not (has_failed u r) && is_host_selected u.domains (host_of u.nodes r))) c
-      ∙ (ap (λ b. true && (not b && is_host_selected u.domains (host_of u.nodes r))) f ∙ ap (λ b. true && (not false && b)) s)
+      let s = (host_fine (host_node t.nodes r) (host_node u.nodes r) (keeps.host r z here) p.selected).0 in
+      ap (λ b. b && (not (has_failed u r) && is_host_selected u.domains (host_node u.nodes r))) c
+      ∙ (ap (λ b. true && (not b && is_host_selected u.domains (host_node u.nodes r))) f ∙ ap (λ b. true && (not false && b)) s)
 
 -- a domain's root roots itself
 pub home_root : (nodes : List NodeFacts) → IsTree nodes → (bound k : ℕ) (n : NodeFacts) → k < bound → slice_get nodes k ≡ Some n → HasDomain nodes n.domain
@@ -138,19 +138,19 @@ home_root nodes tree (suc bound) k n below here = by (λ j m less at. home_root 
       ]
 
 -- hosts by their numbers
-host_none : (nodes : List NodeFacts) (r : ℕ) (z : NodeFacts) → slice_get nodes r ≡ Some z → z.birth ≡ None → host_of nodes r ≡ None
+host_none : (nodes : List NodeFacts) (r : ℕ) (z : NodeFacts) → slice_get nodes r ≡ Some z → z.birth ≡ None → host_node nodes r ≡ None
 host_none nodes r z here e = ap (λ o. option_and_then (λ (x : NodeFacts). option_and_then (λ (b : Birth). slice_get nodes b.parent) x.birth) o) here ∙ ap (λ o. option_and_then (λ (b : Birth). slice_get nodes b.parent) o) e
 
-host_some : (nodes : List NodeFacts) (r : ℕ) (z h : NodeFacts) (b : Birth) → slice_get nodes r ≡ Some z → z.birth ≡ Some b → slice_get nodes b.parent ≡ Some h → host_of nodes r ≡ Some h
+host_some : (nodes : List NodeFacts) (r : ℕ) (z h : NodeFacts) (b : Birth) → slice_get nodes r ≡ Some z → z.birth ≡ Some b → slice_get nodes b.parent ≡ Some h → host_node nodes r ≡ Some h
 host_some nodes r z h b here e up =
     ap (λ o. option_and_then (λ (x : NodeFacts). option_and_then (λ (b : Birth). slice_get nodes b.parent) x.birth) o) here ∙ (ap (λ o. option_and_then (λ (b : Birth). slice_get nodes b.parent) o) e ∙ up)
 
 -- where each node stays, with its birth and its domain, hosts are kept if selected nodes are
 module _ (t u : TreeFacts) (tree : IsTree t.nodes)
     (stays : (k : ℕ) (x : NodeFacts) → slice_get t.nodes k ≡ Some x → (y : NodeFacts) × (slice_get u.nodes k ≡ Some y) × (y.birth ≡ x.birth) × (x.domain ≡ y.domain) × (is_selected t.domains x ≡ true → is_selected u.domains y ≡ true)) where
-  hosts_kept : (r : ℕ) (z : NodeFacts) → slice_get t.nodes r ≡ Some z → HostKept t u (host_of t.nodes r) (host_of u.nodes r)
+  hosts_kept : (r : ℕ) (z : NodeFacts) → slice_get t.nodes r ≡ Some z → HostKept t u (host_node t.nodes r) (host_node u.nodes r)
   hosts_kept r z here = by z.birth refl where
-    by : (b : Option Birth) → z.birth ≡ b → HostKept t u (host_of t.nodes r) (host_of u.nodes r)
+    by : (b : Option Birth) → z.birth ≡ b → HostKept t u (host_node t.nodes r) (host_node u.nodes r)
     by None e =
         let (y, now, birth, _, _) = stays r z here in
         rw (host_none t.nodes r z here e, host_none u.nodes r y now (birth ∙ e)) tt
@@ -160,7 +160,7 @@ module _ (t u : TreeFacts) (tree : IsTree t.nodes)
         let (h, up) = slice_get_some t.nodes b.parent (omega (arith, less, slice_get_within t.nodes r z here)) in
         let (h', up', _, same, selected) = stays b.parent h up in
         let kept : HostKept t u (Some h) (Some h') = (home_root t.nodes tree (suc b.parent) b.parent h (omega arith) up, same, selected) in
-        subst (λ o. HostKept t u o (host_of u.nodes r)) (sym (host_some t.nodes r z h b here e up)) (subst (λ o. HostKept t u (Some h) o) (sym (host_some u.nodes r y h' b now (birth ∙ e) up')) kept)
+        subst (λ o. HostKept t u o (host_node u.nodes r)) (sym (host_some t.nodes r z h b here e up)) (subst (λ o. HostKept t u (Some h) o) (sym (host_some u.nodes r y h' b now (birth ∙ e) up')) kept)
 
 -- decisions of domains stay by actions
 decision_push : (ds : List Domain) (e m : ℕ) → decision_of (ds ++ new_domain m ∷ []) e ≡ decision_of ds e

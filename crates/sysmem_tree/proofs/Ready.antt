@@ -18,7 +18,7 @@ use Rattle.sysmem_tree.specs.Laws.{by_both}
 use Rattle.sysmem_tree.specs.Node.{awaits, is_awaited, NodeFacts}
 use Rattle.sysmem_tree.specs.Nodes.{ordinal_under}
 use Rattle.sysmem_tree.specs.Shape.{Labels, tree_of, kid_of, before, kids_from, rooted}
-use Rattle.sysmem_tree.specs.Table.{suits, allows, state_after, constraints_after, makes, makes_root}
+use Rattle.sysmem_tree.specs.Table.{suits_node, allows, state_after, constraints_after, makes, makes_root}
 use Rattle.sysmem_tree.specs.Tree.{node_after, new_node, nodes_made, nodes_after, left_out_but}
 use Rattle.sysmem_tree.proofs.Growing.{own_place, other_place}
 use Rattle.sysmem_tree.proofs.SameForest.{kid_elsewhere}
@@ -35,7 +35,7 @@ no_set true live a b c = cc
 no_set false true a b c = cc
 no_set false false a b c = cc
 
-late_by : (c : ActionKind) (k : NodeKind) (s : NodeState) → s.is_open ≡ true → suits c k s ≡ true → awaits k s ≡ false → is_late c ≡ true
+late_by : (c : ActionKind) (k : NodeKind) (s : NodeState) → s.is_open ≡ true → suits_node c k s ≡ true → awaits k s ≡ false → is_late c ≡ true
 late_by AttachToken k s live suit done = refl
 late_by Release k s live suit done = refl
 late_by Close k s live suit done = refl
@@ -59,7 +59,7 @@ late_by SetConstraints Group s live suit done = absurd (cc)
 late_by SetConstraints Collection s live suit done = absurd (no_set s.is_set s.is_open live suit done)
 
 pub late : (c : ActionKind) (s : NodeState) → allows c s ≡ true → is_awaited s ≡ false → is_late c ≡ true
-late c s allowed done = let both = and_parts s.is_open (suits c s.kind s) allowed in late_by c s.kind s both.0 both.1 done
+late c s allowed done = let both = and_parts s.is_open (suits_node c s.kind s) allowed in late_by c s.kind s both.0 both.1 done
 
 -- they leave a node's kind and constraints, and what they make roots a domain of its own
 pub late_kind : (c : ActionKind) (s : NodeState) → is_late c ≡ true → (state_after c s).kind ≡ s.kind

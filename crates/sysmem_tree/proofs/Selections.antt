@@ -8,8 +8,8 @@ use Rattle.std.proofs.lemmas.Option.{same_Some, none-some, option_and_then_some}
 use Rattle.std.proofs.Math.Nat.{add-mul, mul-add}
 use Rattle.sysmem_tree.specs.Sublist.{IsSublist, ended, taken, left_out}
 use Rattle.sysmem_tree.specs.Forest.{Forest, Empty, Plain, Group, each, kids_else_rest, choices, settled, relabel, count, count_each, total, first_group}
-use Rattle.sysmem_tree.specs.Laws.{IsCounted}
-use Rattle.sysmem_tree.specs.Selection.{after, IsPrefix, IsSelection, IsEarlier}
+use Rattle.sysmem_tree.specs.Laws.{CountAddsUp}
+use Rattle.sysmem_tree.specs.Selection.{after, IsPrefix, IsSelection, IsEarlierSelection}
 use Rattle.sysmem_tree.specs.Shape.{Member}
 
 -- lists with some elements left out
@@ -127,7 +127,7 @@ module _ {A : Type 0} where
       let none : choices d ≡ None = ap choices (same_Some d e p.leads) ∙ p.whole in
       none-some f (sym (ap (λ o. option_and_then (λ x. after x bs) (option_and_then (λ es. slice_get es b) o)) none) ∙ q.leads)
 
-  pub three_cases : (as' bs : List ℕ) (d e f : Forest A) → IsSelection d as' e → IsSelection d bs f → IsEarlier as' bs ⊎ ((as' ≡ bs) ⊎ IsEarlier bs as')
+  pub three_cases : (as' bs : List ℕ) (d e f : Forest A) → IsSelection d as' e → IsSelection d bs f → IsEarlierSelection as' bs ⊎ ((as' ≡ bs) ⊎ IsEarlierSelection bs as')
   three_cases [] [] d e f p q = inr (inl refl)
   three_cases [] (b ∷ bs) d e f p q = absurd (none_left d e f b bs p q)
   three_cases (a ∷ as') [] d e f p q = absurd (none_left d f e a as' q p)
@@ -141,7 +141,7 @@ module _ {A : Type 0} where
     ]
     | inr other ↦ elim (cases_lt a b) [ inl less ↦ inl (inl less) | inr more ↦ inr (inr (inl (omega (arith, more, other)))) ]
   ] where
-    on : ((x : Forest A) → IsSelection x as' e → IsSelection x bs f → IsEarlier as' bs ⊎ ((as' ≡ bs) ⊎ IsEarlier bs as')) → a ≡ b → IsEarlier as' bs ⊎ ((as' ≡ bs) ⊎ IsEarlier bs as')
+    on : ((x : Forest A) → IsSelection x as' e → IsSelection x bs f → IsEarlierSelection as' bs ⊎ ((as' ≡ bs) ⊎ IsEarlierSelection bs as')) → a ≡ b → IsEarlierSelection as' bs ⊎ ((as' ≡ bs) ⊎ IsEarlierSelection bs as')
     on ih same = option_and_then_some (λ x. after x as') (option_and_then (λ es. slice_get es a) (choices d)) e p.leads
         (λ x one leads. option_and_then_some (λ y. after y bs) (option_and_then (λ es. slice_get es b) (choices d)) f q.leads
         (λ y two leads'.
@@ -164,12 +164,12 @@ module _ {A : Type 0} where
     by (Some e) h = refl
 
 -- the order
-pub never_before_itself : (as' : List ℕ) → IsEarlier as' as' → ⊥
+pub never_before_itself : (as' : List ℕ) → IsEarlierSelection as' as' → ⊥
 never_before_itself [] h = h
 never_before_itself (a ∷ as') (inl less) = omega (arith, less)
 never_before_itself (a ∷ as') (inr h) = never_before_itself as' h.1
 
-pub before_that : (as' bs cs : List ℕ) → IsEarlier as' bs → IsEarlier bs cs → IsEarlier as' cs
+pub before_that : (as' bs cs : List ℕ) → IsEarlierSelection as' bs → IsEarlierSelection bs cs → IsEarlierSelection as' cs
 before_that [] bs cs p q = absurd p
 before_that (a ∷ as') [] cs p q = absurd p
 before_that (a ∷ as') (b ∷ bs) [] p q = absurd q
@@ -230,13 +230,13 @@ module _ {A B : Type 0} (f : A → B) where
 pub settled_grows : (d e : Forest ℕ) (cs : List ℕ) → after d cs ≡ Some e → IsSublist (settled d) (settled e)
 settled_grows = keeps_after
 
-pub counted : (d : Forest ℕ) → IsCounted d
+pub counted : (d : Forest ℕ) → CountAddsUp d
 counted d = record { whole = λ none. subst (Counted d) none (counts d); split = λ es is. subst (Counted d) is (counts d) }
 
-pub one_is_earlier : (d e f : Forest ℕ) (as' bs : List ℕ) → IsSelection d as' e → IsSelection d bs f → IsEarlier as' bs ⊎ ((as' ≡ bs) ⊎ IsEarlier bs as')
+pub one_is_earlier : (d e f : Forest ℕ) (as' bs : List ℕ) → IsSelection d as' e → IsSelection d bs f → IsEarlierSelection as' bs ⊎ ((as' ≡ bs) ⊎ IsEarlierSelection bs as')
 one_is_earlier d e f as' bs p q = three_cases as' bs d e f p q
 
-pub an_order : ((as' : List ℕ) → IsEarlier as' as' → ⊥) × ((as' bs cs : List ℕ) → IsEarlier as' bs → IsEarlier bs cs → IsEarlier as' cs)
+pub an_order : ((as' : List ℕ) → IsEarlierSelection as' as' → ⊥) × ((as' bs cs : List ℕ) → IsEarlierSelection as' bs → IsEarlierSelection bs cs → IsEarlierSelection as' cs)
 an_order = (never_before_itself, before_that)
 
 pub prefix_of_prefix : (d : Forest ℕ) (as' bs : List ℕ) → IsPrefix d (as' ++ bs) → IsPrefix d as'

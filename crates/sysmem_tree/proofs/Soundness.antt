@@ -3,7 +3,7 @@ use Rattle.std.proofs.Common.{◌≡◌, ◌≤◌, ◌<◌, ◌+◌, ◌==◌, 
 use Rattle.std.specs.Prelude.{IsSomeAnd, if◌then◌else◌}
 use Rattle.std.proofs.lemmas.Option.{same_Some, slice_get_read, slice_get_within}
 use Rattle.sysmem_tree.specs.declared.domain.Domain.{Domain}
-use Rattle.sysmem_tree.specs.Domain.{TreeFacts, IsSound, HasDomain, roots_from}
+use Rattle.sysmem_tree.specs.Domain.{TreeFacts, IsSoundTree, HasDomain, roots_from}
 use Rattle.sysmem_tree.specs.declared.node.Birth.{Birth}
 use Rattle.sysmem_tree.specs.Node.{NodeFacts}
 use Rattle.sysmem_tree.specs.Nodes.{HasNode}
@@ -12,7 +12,7 @@ use Rattle.sysmem_tree.proofs.Places.{there}
 use Rattle.sysmem_tree.proofs.Readiness.{home_root}
 
 -- a node's domain is one of the tree's
-pub domain_there : (t : TreeFacts) (k : ℕ) (n : NodeFacts) → IsSound t → slice_get t.nodes k ≡ Some n → HasDomain t.nodes n.domain
+pub domain_there : (t : TreeFacts) (k : ℕ) (n : NodeFacts) → IsSoundTree t → slice_get t.nodes k ≡ Some n → HasDomain t.nodes n.domain
 domain_there t k n sound here = home_root t.nodes sound.tree (k + 1) k n (omega arith) here
 
 few_roots : (i : ℕ) (nodes : List NodeFacts) → length (roots_from i nodes) ≤ length nodes
@@ -26,11 +26,11 @@ length_roots : (ds : List Domain) → length (map (λ (d : Domain). d.root) ds) 
 length_roots [] = refl
 length_roots (d ∷ ds) = ap suc (length_roots ds)
 
-as_many : (t : TreeFacts) → IsSound t → length t.domains ≡ length (roots_from 0 t.nodes)
+as_many : (t : TreeFacts) → IsSoundTree t → length t.domains ≡ length (roots_from 0 t.nodes)
 as_many t sound = sym (length_roots t.domains) ∙ ap length sound.domains
 
 -- there are no more domains than nodes
-pub few_domains : (t : TreeFacts) → IsSound t → length t.domains ≤ length t.nodes
+pub few_domains : (t : TreeFacts) → IsSoundTree t → length t.domains ≤ length t.nodes
 few_domains t sound = omega (arith, as_many t sound, few_roots 0 t.nodes)
 
 some_root : (nodes : List NodeFacts) → IsSomeAnd (slice_get nodes 0) (λ n. (n.birth ≡ None) × (n.domain ≡ 0)) → 1 ≤ length (roots_from 0 nodes)
@@ -40,7 +40,7 @@ some_root (n ∷ nodes) (nobody, own) = subst (λ b. 1 ≤ length (if b then 0 �
   same = search (rules, tests, own)
 
 -- and there is one
-pub some_domain : (t : TreeFacts) → IsSound t → 1 ≤ length t.domains
+pub some_domain : (t : TreeFacts) → IsSoundTree t → 1 ≤ length t.domains
 some_domain t sound = omega (arith, as_many t sound, some_root t.nodes sound.tree.root)
 
 root_there : (i : ℕ) (nodes : List NodeFacts) (k r : ℕ) → slice_get (roots_from i nodes) k ≡ Some r → (m : ℕ) × (r ≡ i + m) × IsSomeAnd (slice_get nodes m) (λ n. n.domain ≡ r)
@@ -61,7 +61,7 @@ root_there i (n ∷ nodes) k r at_k = at (n.domain == i) refl (λ j at_j. root_t
   at false own rest k here = on rest k here
 
 -- each domain of a tree is one that a node roots
-pub listed_there : (t : TreeFacts) (k : ℕ) (d : Domain) → IsSound t → slice_get t.domains k ≡ Some d → HasDomain t.nodes d.root
+pub listed_there : (t : TreeFacts) (k : ℕ) (d : Domain) → IsSoundTree t → slice_get t.domains k ≡ Some d → HasDomain t.nodes d.root
 listed_there t k d sound here =
     let (m, is, own) = root_there 0 t.nodes k d.root (ap (λ rs. slice_get rs k) (sym sound.domains) ∙ mapped t.domains k here) in
     let same : d.root ≡ m = omega (arith, is) in
@@ -80,14 +80,14 @@ root_within t u k r same is has =
     omega (arith, is, within, long)
 
 -- a node that is read has its domain
-pub home_there : (t u : TreeFacts) (k r d : ℕ) (n : NodeFacts) → IsSound t → t ≡ u → k ≡ r → r < length u.nodes → n ≡ get_or t.nodes k n → d ≡ n.domain → HasDomain u.nodes d
+pub home_there : (t u : TreeFacts) (k r d : ℕ) (n : NodeFacts) → IsSoundTree t → t ≡ u → k ≡ r → r < length u.nodes → n ≡ get_or t.nodes k n → d ≡ n.domain → HasDomain u.nodes d
 home_there t u k r d n sound same is within read home =
     let long : length t.nodes ≡ length u.nodes = ap (λ (x : TreeFacts). length x.nodes) same in
     let here = slice_get_read t.nodes (length t.nodes) k n refl (omega (arith, is, within, long)) read in
     subst (λ (x : TreeFacts). HasDomain x.nodes d) same (subst (HasDomain t.nodes) (sym home) (domain_there t k n sound here))
 
 -- and its parent
-pub parent_there : (t u : TreeFacts) (k r : ℕ) (n : NodeFacts) (b : Birth) → IsSound t → t ≡ u → k ≡ r → HasDomain u.nodes r → n ≡ get_or t.nodes k n → n.birth ≡ Some b
+pub parent_there : (t u : TreeFacts) (k r : ℕ) (n : NodeFacts) (b : Birth) → IsSoundTree t → t ≡ u → k ≡ r → HasDomain u.nodes r → n ≡ get_or t.nodes k n → n.birth ≡ Some b
     → HasNode u.nodes b.parent
 parent_there t u k r n b sound same is has read born =
     let within = root_within t u k r same is has in
@@ -97,9 +97,9 @@ parent_there t u k r n b sound same is has read born =
     omega (arith, older, within, long)
 
 -- a domain that is read is one that a node roots
-pub read_there : (t u : TreeFacts) (k : ℕ) (d : Domain) → IsSound t → t ≡ u → slice_get t.domains k ≡ Some d → HasDomain u.nodes d.root
+pub read_there : (t u : TreeFacts) (k : ℕ) (d : Domain) → IsSoundTree t → t ≡ u → slice_get t.domains k ≡ Some d → HasDomain u.nodes d.root
 read_there t u k d sound same here = subst (λ (x : TreeFacts). HasDomain x.nodes d.root) same (listed_there t k d sound here)
 
 -- there are 1 to 128 domains
-pub count_few : (t : TreeFacts) (many : ℕ) → IsSound t → many ≡ length t.domains → (1 ≤ many) × (many ≤ 128)
+pub count_few : (t : TreeFacts) (many : ℕ) → IsSoundTree t → many ≡ length t.domains → (1 ≤ many) × (many ≤ 128)
 count_few t many sound is = (omega (arith, is, some_domain t sound), omega (arith, is, few_domains t sound, sound.tree.few))

@@ -41,8 +41,8 @@ decision_of [] r = Undecided
 decision_of (d ∷ ds) r = if d.root == r then d.decision else decision_of ds r
 
 -- the host of a domain, the collection to which its root was attached; the initial domain has none
-abbrev pub host_of : List NodeFacts → ℕ → Option NodeFacts
-host_of nodes r = option_and_then (λ n. option_and_then (λ b. slice_get nodes b.parent) n.birth) (slice_get nodes r)
+abbrev pub host_node : List NodeFacts → ℕ → Option NodeFacts
+host_node nodes r = option_and_then (λ n. option_and_then (λ b. slice_get nodes b.parent) n.birth) (slice_get nodes r)
 
 -- the host's number
 abbrev pub host_number : List NodeFacts → ℕ → Option ℕ
@@ -69,11 +69,11 @@ is_host_lost domains (Some host) = is_lost domains host
 -- a domain and those above it, each the domain of the host of the one before; at most so many
 abbrev pub up_from : ℕ → List NodeFacts → ℕ → List ℕ
 up_from zero nodes r = []
-up_from (suc many) nodes r = r ∷ unwrap_or (option_map (λ host. up_from many nodes host.domain) (host_of nodes r)) []
+up_from (suc many) nodes r = r ∷ unwrap_or (option_map (λ host. up_from many nodes host.domain) (host_node nodes r)) []
 
 -- a domain fails by itself where it was closed early, or its host was lost
 abbrev pub fails : TreeFacts → ℕ → Bool
-fails t r = was_closed_early t.domains r || is_host_lost t.domains (host_of t.nodes r)
+fails t r = was_closed_early t.domains r || is_host_lost t.domains (host_node t.nodes r)
 
 -- a domain has failed where it, or one above it, fails by itself
 abbrev pub has_failed : TreeFacts → ℕ → Bool
@@ -99,7 +99,7 @@ is_complete nodes r = list_all (λ n. not ((n.domain == r) && is_awaited n.state
 
 -- a domain is ready where its nodes are complete, it hasn't failed, and its host, if it has one, is selected
 abbrev pub is_ready : TreeFacts → ℕ → Bool
-is_ready t r = is_complete t.nodes r && (not (has_failed t r) && is_host_selected t.domains (host_of t.nodes r))
+is_ready t r = is_complete t.nodes r && (not (has_failed t r) && is_host_selected t.domains (host_node t.nodes r))
 
 -- the nodes that root a domain, from number i on
 abbrev pub roots_from : ℕ → List NodeFacts → List ℕ
@@ -119,7 +119,7 @@ abbrev pub DecidedAreReady : TreeFacts → Type 0
 DecidedAreReady t = (r : ℕ) → is_undecided (decision_of t.domains r) ≡ false → IsDecidedReady t r
 
 -- what is true of each tree: its nodes are one, and proper; its domains stand in order of their roots; and what is decided is ready
-pub record IsSound (t : TreeFacts) : Type 0 where
+pub record IsSoundTree (t : TreeFacts) : Type 0 where
   pub tree : IsTree t.nodes
   pub proper : AreProper t.nodes
   pub domains : AreDomains t

@@ -13,9 +13,9 @@ use Rattle.sysmem_tree.specs.Shape.{forest_of, by_number}
 use Rattle.sysmem_tree.specs.Tree.{first_tree, Applied, applied, decided}
 
 -- an action on a node, or a decision of the domain that a node roots: for the selection that these choices make, or for none
-pub data Entry : Type 0 where
-  Acted : ℕ → Deed → Entry
-  Decided : ℕ → Option (List ℕ) → Entry
+pub data HistoryEntry : Type 0 where
+  Acted : ℕ → Deed → HistoryEntry
+  Decided : ℕ → Option (List ℕ) → HistoryEntry
 
 -- a domain may be decided where it is ready and undecided: for one of its selections, or for none
 pub record IsDecidable (t : TreeFacts) (r : ℕ) (choices : Option (List ℕ)) : Type 0 where
@@ -25,7 +25,7 @@ pub record IsDecidable (t : TreeFacts) (r : ℕ) (choices : Option (List ℕ)) :
   pub selects : IfSome choices (λ cs. (e : Forest ℕ) × IsSelection (forest_of by_number t.nodes r []) cs e)
 
 -- a tree accepts an entry
-abbrev pub Accepts : TreeFacts → Entry → Type 0
+abbrev pub Accepts : TreeFacts → HistoryEntry → Type 0
 Accepts t (Acted i deed) = IsOk (applied t i deed)
 Accepts t (Decided r choices) = IsDecidable t r choices
 
@@ -35,43 +35,43 @@ after_answer t (Ok after) = after.tree
 after_answer t (Err refusal) = t
 
 -- a tree after an entry
-abbrev pub after_entry : TreeFacts → Entry → TreeFacts
+abbrev pub after_entry : TreeFacts → HistoryEntry → TreeFacts
 after_entry t (Acted i deed) = after_answer t (applied t i deed)
 after_entry t (Decided r choices) = decided t r choices
 
 -- a tree after entries, the oldest first
-abbrev pub replay_from : TreeFacts → List Entry → TreeFacts
+abbrev pub replay_from : TreeFacts → List HistoryEntry → TreeFacts
 replay_from t [] = t
 replay_from t (e ∷ es) = replay_from (after_entry t e) es
 
 -- the tree that a history makes of a root token
-abbrev pub replay : List Entry → TreeFacts
+abbrev pub replay : List HistoryEntry → TreeFacts
 replay es = replay_from first_tree es
 
 -- each entry is accepted by the tree before it
-abbrev pub AreAccepted : TreeFacts → List Entry → Type 0
+abbrev pub AreAccepted : TreeFacts → List HistoryEntry → Type 0
 AreAccepted t [] = Unit {0}
 AreAccepted t (e ∷ es) = Accepts t e × AreAccepted (after_entry t e) es
 
 -- what an entry asks of node i
-abbrev pub asked_of : ℕ → Entry → Option Deed
+abbrev pub asked_of : ℕ → HistoryEntry → Option Deed
 asked_of i (Acted k deed) = if k == i then Some deed else None
 asked_of i (Decided r choices) = None
 
 -- the actions on node i, the oldest first
-abbrev pub log : List Entry → ℕ → List Deed
+abbrev pub log : List HistoryEntry → ℕ → List Deed
 log es i = filter_map (asked_of i) es
 
 -- the actions on the node at a path
-abbrev pub log_in : List NodeFacts → List Entry → List ℕ → List Deed
+abbrev pub log_in : List NodeFacts → List HistoryEntry → List ℕ → List Deed
 log_in nodes es path = unwrap_or (option_map (log es) (node_at nodes path)) []
 
 -- the actions that a history has at a path
-abbrev pub log_at : List Entry → List ℕ → List Deed
+abbrev pub log_at : List HistoryEntry → List ℕ → List Deed
 log_at es path = log_in (replay es).nodes es path
 
 -- histories with the same actions at each path, constraints included
-abbrev pub SameCalls : List Entry → List Entry → Type 0
+abbrev pub SameCalls : List HistoryEntry → List HistoryEntry → Type 0
 SameCalls es fs = (path : List ℕ) → log_at es path ≡ log_at fs path
 
 abbrev pub is_close : ActionKind → Bool
@@ -79,7 +79,7 @@ is_close Close = true
 is_close _ = false
 
 -- no node is closed before the initial domain's decision
-abbrev pub NoEarlyClose : List Entry → Type 0
+abbrev pub NoEarlyClose : List HistoryEntry → Type 0
 NoEarlyClose [] = Unit {0}
 NoEarlyClose (Acted i deed ∷ es) = (is_close (kind_of deed) ≡ false) × NoEarlyClose es
 NoEarlyClose (Decided r choices ∷ es) = r ≢ 0 → NoEarlyClose es

@@ -2,13 +2,13 @@
 use Rattle.std.specs.Prelude.{◌≡◌, ◌≢◌, ◌<◌, ◌≤◌, ◌⊎◌, ◌++◌, ℕ, suc, max, true, List, [], ◌∷◌, length, AllPairs, Some, None, Ok, map, option_map, slice_get}
 use Rattle.sysmem_tree.specs.Sublist.{IsSublist}
 use Rattle.sysmem_tree.specs.ActionKind.{Deed}
-use Rattle.sysmem_tree.specs.Domain.{TreeFacts, HasDomain, is_complete, is_ready, IsSound}
+use Rattle.sysmem_tree.specs.Domain.{TreeFacts, HasDomain, is_complete, is_ready, IsSoundTree}
 use Rattle.sysmem_tree.specs.Forest.{Forest, Empty, Plain, Group, choices, settled, relabel, count, total, first_group}
-use Rattle.sysmem_tree.specs.History.{Entry, Accepts, after_entry, AreAccepted, replay, log_at, SameCalls, NoEarlyClose}
+use Rattle.sysmem_tree.specs.History.{HistoryEntry, Accepts, after_entry, AreAccepted, replay, log_at, SameCalls, NoEarlyClose}
 use Rattle.sysmem_tree.specs.Node.{NodeFacts}
 use Rattle.sysmem_tree.specs.Nodes.{IsTree}
 use Rattle.sysmem_tree.specs.Path.{node_at, path_of, at_path}
-use Rattle.sysmem_tree.specs.Selection.{after, IsPrefix, IsSelection, IsEarlier}
+use Rattle.sysmem_tree.specs.Selection.{after, IsPrefix, IsSelection, IsEarlierSelection}
 use Rattle.sysmem_tree.specs.Shape.{Member, Labels, by_number, by_path, forest_of, shape_of, members_of}
 use Rattle.sysmem_tree.specs.Step.{IsStep, IsMapOf, IsInitial}
 use Rattle.sysmem_tree.specs.Tree.{first_tree, Applied, applied}
@@ -46,11 +46,11 @@ OneForest = (nodes : List NodeFacts) (r : ℕ) → AreOneForest nodes r
 
 -- what is true of each tree stays true, by accepted actions and by decisions
 abbrev pub SoundStays : Type 0
-SoundStays = (t : TreeFacts) (e : Entry) → IsSound t → Accepts t e → IsSound (after_entry t e)
+SoundStays = (t : TreeFacts) (e : HistoryEntry) → IsSoundTree t → Accepts t e → IsSoundTree (after_entry t e)
 
 -- once ready a domain stays so, by actions and by decisions
 abbrev pub ReadyStays : Type 0
-ReadyStays = (t : TreeFacts) (e : Entry) (r : ℕ) → IsSound t → Accepts t e → HasDomain t.nodes r → is_ready t r ≡ true → is_ready (after_entry t e) r ≡ true
+ReadyStays = (t : TreeFacts) (e : HistoryEntry) (r : ℕ) → IsSoundTree t → Accepts t e → HasDomain t.nodes r → is_ready t r ≡ true → is_ready (after_entry t e) r ≡ true
 
 -- a domain has the forest that it had, by numbers and by paths, kinds and constraints, and so each selection has the members that it had
 pub record IsSameDomain (old new : List NodeFacts) (r : ℕ) : Type 0 where
@@ -60,19 +60,19 @@ pub record IsSameDomain (old new : List NodeFacts) (r : ℕ) : Type 0 where
 
 -- from ready on neither an action nor a decision changes a domain's forest
 abbrev pub ForestStays : Type 0
-ForestStays = (t : TreeFacts) (e : Entry) (r : ℕ) → IsTree t.nodes → Accepts t e → HasDomain t.nodes r → is_ready t r ≡ true → IsSameDomain t.nodes (after_entry t e).nodes r
+ForestStays = (t : TreeFacts) (e : HistoryEntry) (r : ℕ) → IsTree t.nodes → Accepts t e → HasDomain t.nodes r → is_ready t r ≡ true → IsSameDomain t.nodes (after_entry t e).nodes r
 
 -- choices only add to what is settled
 abbrev pub SettledGrows : Type 0
 SettledGrows = (d e : Forest ℕ) (cs : List ℕ) → after d cs ≡ Some e → IsSublist (settled d) (settled e)
 
 -- the count of selections: one where there is no group, else as many as the choices for the first group have together
-pub record IsCounted (d : Forest ℕ) : Type 0 where
+pub record CountAddsUp (d : Forest ℕ) : Type 0 where
   pub whole : choices d ≡ None → count d ≡ 1
   pub split : (es : List (Forest ℕ)) → choices d ≡ Some es → count d ≡ total es
 
 abbrev pub Counts : Type 0
-Counts = (d : Forest ℕ) → IsCounted d
+Counts = (d : Forest ℕ) → CountAddsUp d
 
 -- all selections stand in a list, each once, in their order, as long as the count
 pub record IsListed (d : Forest ℕ) : Type 0 where
@@ -80,7 +80,7 @@ pub record IsListed (d : Forest ℕ) : Type 0 where
   pub many : length all ≡ count d
   pub sound : (k : ℕ) (cs : List ℕ) → slice_get all k ≡ Some cs → (e : Forest ℕ) × IsSelection d cs e
   pub found : (cs : List ℕ) (e : Forest ℕ) → IsSelection d cs e → (k : ℕ) × (slice_get all k ≡ Some cs)
-  pub order : (j k : ℕ) (as' bs : List ℕ) → slice_get all j ≡ Some as' → slice_get all k ≡ Some bs → j < k → IsEarlier as' bs
+  pub order : (j k : ℕ) (as' bs : List ℕ) → slice_get all j ≡ Some as' → slice_get all k ≡ Some bs → j < k → IsEarlierSelection as' bs
 
 abbrev pub SelectionsAreListed : Type 0
 SelectionsAreListed = (d : Forest ℕ) → IsListed d
@@ -91,11 +91,11 @@ FirstGroup = (d : Forest ℕ) → option_map length (choices d) ≡ option_map (
 
 -- of two selections of a forest one is earlier, or they are equal
 abbrev pub OneIsEarlier : Type 0
-OneIsEarlier = (d e f : Forest ℕ) (as' bs : List ℕ) → IsSelection d as' e → IsSelection d bs f → IsEarlier as' bs ⊎ ((as' ≡ bs) ⊎ IsEarlier bs as')
+OneIsEarlier = (d e f : Forest ℕ) (as' bs : List ℕ) → IsSelection d as' e → IsSelection d bs f → IsEarlierSelection as' bs ⊎ ((as' ≡ bs) ⊎ IsEarlierSelection bs as')
 
 -- no selection is earlier than itself, and what is earlier than an earlier one is earlier
 abbrev pub EarlierIsAnOrder : Type 0
-EarlierIsAnOrder = ((as' : List ℕ) → IsEarlier as' as' → ⊥) × ((as' bs cs : List ℕ) → IsEarlier as' bs → IsEarlier bs cs → IsEarlier as' cs)
+EarlierIsAnOrder = ((as' : List ℕ) → IsEarlierSelection as' as' → ⊥) × ((as' bs cs : List ℕ) → IsEarlierSelection as' bs → IsEarlierSelection bs cs → IsEarlierSelection as' cs)
 
 -- the first choices of a prefix are a prefix
 abbrev pub PrefixOfPrefix : Type 0
@@ -134,12 +134,12 @@ abbrev pub FewGroupsNest : Type 0
 FewGroupsNest = (nodes : List NodeFacts) (r : ℕ) → IsTree nodes → HasDomain nodes r → nesting (shape_of nodes r) ≤ 128
 
 -- a history makes a sound tree, and the map that goes with the actions at each path
-pub record IsMade (es : List Entry) : Type 0 where
-  pub sound : IsSound (replay es)
+pub record IsMade (es : List HistoryEntry) : Type 0 where
+  pub sound : IsSoundTree (replay es)
   pub map : IsMapOf (log_at es) (at_path (replay es).nodes)
 
 abbrev pub MapsOfLogs : Type 0
-MapsOfLogs = (es : List Entry) → AreAccepted first_tree es → IsMade es
+MapsOfLogs = (es : List HistoryEntry) → AreAccepted first_tree es → IsMade es
 
 -- two trees agree on the initial domain
 pub record SameInitial (t u : TreeFacts) : Type 0 where
@@ -149,7 +149,7 @@ pub record SameInitial (t u : TreeFacts) : Type 0 where
 -- the initial domain's shape, and whether its nodes are complete, are one function of the actions at its own paths: decisions and what
 -- happens in attached domains don't enter
 abbrev pub InitialShape : Type 0
-InitialShape = (es fs : List Entry) → AreAccepted first_tree es → AreAccepted first_tree fs
+InitialShape = (es fs : List HistoryEntry) → AreAccepted first_tree es → AreAccepted first_tree fs
     → ((q : List ℕ) → IsInitial (at_path (replay es).nodes) q → log_at es q ≡ log_at fs q) → SameInitial (replay es) (replay fs)
 
 -- both trees have the initial domain ready, or neither; and it has one shape
@@ -159,4 +159,4 @@ pub record SameReady (t u : TreeFacts) : Type 0 where
 
 -- histories with the same actions at each path and no early close leave the initial domain ready both or neither, and of one shape
 abbrev pub Confluence : Type 0
-Confluence = (es fs : List Entry) → AreAccepted first_tree es → AreAccepted first_tree fs → SameCalls es fs → NoEarlyClose es → NoEarlyClose fs → SameReady (replay es) (replay fs)
+Confluence = (es fs : List HistoryEntry) → AreAccepted first_tree es → AreAccepted first_tree fs → SameCalls es fs → NoEarlyClose es → NoEarlyClose fs → SameReady (replay es) (replay fs)

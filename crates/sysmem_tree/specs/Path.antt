@@ -48,8 +48,3 @@ shown_of i n = record { state = n.state; constraints = n.constraints; is_domain_
 -- the tree as a map from paths to what is shown of nodes
 abbrev pub at_path : List NodeFacts → List ℕ → Option Shown
 at_path nodes path = option_and_then (λ i. option_map (shown_of i) (slice_get nodes i)) (node_at nodes path)
-
--- node r, at this path, roots a domain
-pub record IsRootAt (nodes : List NodeFacts) (r : ℕ) (path : List ℕ) : Type 0 where
-  pub at : node_at nodes path ≡ Some r
-  pub root : IsSomeAnd (slice_get nodes r) (λ n. n.domain ≡ r)

@@ -21,7 +21,7 @@ abbrev pub settled_by : {A : Type 0} → Forest A → List ℕ → Option (List 
 settled_by d cs = option_map settled (after d cs)
 
 -- the smaller child has priority, at the first group at which they differ
-abbrev pub IsEarlier : List ℕ → List ℕ → Type 0
-IsEarlier [] bs = ⊥
-IsEarlier (a ∷ as') [] = ⊥
-IsEarlier (a ∷ as') (b ∷ bs) = (a < b) ⊎ ((a ≡ b) × IsEarlier as' bs)
+abbrev pub IsEarlierSelection : List ℕ → List ℕ → Type 0
+IsEarlierSelection [] bs = ⊥
+IsEarlierSelection (a ∷ as') [] = ⊥
+IsEarlierSelection (a ∷ as') (b ∷ bs) = (a < b) ⊎ ((a ≡ b) × IsEarlierSelection as' bs)

@@ -10,23 +10,23 @@ use Rattle.sysmem_tree.specs.ActionKind.{Deed, sets}
 use Rattle.sysmem_tree.specs.Node.{fresh}
 
 -- whether an open node of the kind allows the action in its state
-abbrev pub suits : ActionKind → NodeKind → NodeState → Bool
-suits Duplicate Token s = true
-suits CreateGroup Token s = true
-suits Bind Token s = true
-suits CreateChild Group s = not s.is_complete
-suits AllChildrenPresent Group s = not s.is_complete
-suits SetConstraints Collection s = not s.is_set
-suits AttachToken Collection s = true
-suits Release Token s = true
-suits Release Collection s = true
-suits Release Group s = s.is_complete
-suits Close _ s = true
-suits _ _ s = false
+abbrev pub suits_node : ActionKind → NodeKind → NodeState → Bool
+suits_node Duplicate Token s = true
+suits_node CreateGroup Token s = true
+suits_node Bind Token s = true
+suits_node CreateChild Group s = not s.is_complete
+suits_node AllChildrenPresent Group s = not s.is_complete
+suits_node SetConstraints Collection s = not s.is_set
+suits_node AttachToken Collection s = true
+suits_node Release Token s = true
+suits_node Release Collection s = true
+suits_node Release Group s = s.is_complete
+suits_node Close _ s = true
+suits_node _ _ s = false
 
 -- whether the node's state allows the action
 abbrev pub allows : ActionKind → NodeState → Bool
-allows kind s = s.is_open && suits kind s.kind s
+allows kind s = s.is_open && suits_node kind s.kind s
 
 -- the action wants a child, and there is none
 abbrev pub wants_child : ActionKind → NodeState → Bool

@@ -32,7 +32,7 @@ pub(crate) fn decision_of(domains: &[Domain], root: usize) -> Decision
 
 /// The host of a domain: the collection to which its root was attached.
 pub(crate) fn host_of(nodes: &[Node], root: usize) -> Option<&Node>
-    ensures { option_map (λ host. host.now) result ≡ domain.host_of nodes.now root }
+    ensures { option_map (λ host. host.now) result ≡ domain.host_node nodes.now root }
 {
     let birth = nodes.get(root)?.birth()?;
     nodes.get(birth.parent)

@@ -4,7 +4,7 @@ ghost use Rattle.std.specs.Prelude.{◌≡◌, ℕ, List, ◌<◌, ◌≤◌, tr
 ghost use Rattle.std.specs.Result.{result_err};
 ghost use Rattle.std.specs.Vec.{vec_capacity};
 ghost use Rattle.sysmem_tree.specs.ActionKind.{deed_of, kind_of};
-ghost use Rattle.sysmem_tree.specs.Domain.{HasDomain, IsSound, decision_of, fate_of, host_number, is_ready, is_selected, is_undecided};
+ghost use Rattle.sysmem_tree.specs.Domain.{HasDomain, IsSoundTree, decision_of, fate_of, host_number, is_ready, is_selected, is_undecided};
 ghost use Rattle.sysmem_tree.specs.Nodes.{HasNode, IsTree};
 ghost use Rattle.sysmem_tree.specs.Path.{node_at, path_of};
 ghost use Rattle.sysmem_tree.specs.Table.{makes_root};
@@ -38,13 +38,13 @@ pub struct Tree {
 impl Model for Tree {
     ghost use Rattle.std.specs.Prelude.{◌≤◌};
     ghost use Rattle.std.specs.Vec.{vec_capacity};
-    ghost use Rattle.sysmem_tree.specs.Domain.{IsSound, TreeFacts};
+    ghost use Rattle.sysmem_tree.specs.Domain.{IsSoundTree, TreeFacts};
 
     ghost Value = { TreeFacts };
 
     ghost view = { λ t. record { nodes = t.nodes.items; domains = t.domains.items } };
 
-    ghost invariant = { λ t. IsSound (record { nodes = t.nodes.items; domains = t.domains.items })
+    ghost invariant = { λ t. IsSoundTree (record { nodes = t.nodes.items; domains = t.domains.items })
         × (128 ≤ vec_capacity t.nodes) × (128 ≤ vec_capacity t.domains) };
 }
 
@@ -85,7 +85,7 @@ impl Tree {
         ensures number { result ≡ length self.now.nodes }
         ensures some { 1 ≤ result }
         ensures few { result ≤ 128 }
-        ensures sound { IsSound self.now }
+        ensures sound { IsSoundTree self.now }
     {
         self.nodes.len() as u32
     }
