@@ -5,7 +5,7 @@ use Rattle.sysmem_formats.specs.declared.offer.Offer.{Offer}
 use Rattle.sysmem_formats.specs.Layout.{image_bytes_of}
 use Rattle.sysmem_image.specs.declared.bounds.ImageBounds.{ImageBounds}
 use Rattle.sysmem_image.specs.declared.size.Corner.{Corner}
-use Rattle.sysmem_image.specs.Corners.{IsCorner, HasNoCorner, image_of}
+use Rattle.sysmem_image.specs.Corners.{IsCorner, RefusesCorner, image_of}
 use Rattle.sysmem_image.specs.Laws.{CornerIsLeast, IsUpTo, NoCorner}
 use Rattle.sysmem_merge.specs.declared.settings.Settings.{Settings}
 use Rattle.sysmem_merge.specs.Best.{IsBest}
@@ -44,7 +44,7 @@ one_chosen least s t k m e x y =
     ap (λ (n : Corner). Chosen s n) (one_corner least s.offer s.bounds k m x there) ∙ ap (λ (z : Settings). Chosen z m) e
 
 -- the best settings have a corner, since they hold an image
-pub has_corner : NoCorner → (platform : PlatformFacts) (ps : List Participant) (s : Settings) (field : Field) → IsBest true platform ps s → HasNoCorner field s.offer s.bounds → ⊥
+pub has_corner : NoCorner → (platform : PlatformFacts) (ps : List Participant) (s : Settings) (field : Field) → IsBest true platform ps s → RefusesCorner field s.offer s.bounds → ⊥
 has_corner none platform ps s field best refused =
     let sound = best.meets.loosely.sound in
     none field s.offer s.bounds refused sound.image sound.bounds.admitted sound.bounds.large sound.bounds.required

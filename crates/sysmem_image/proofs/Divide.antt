@@ -4,6 +4,7 @@ use Rattle.std.specs.Int.{◌∣◌}
 use Rattle.std.proofs.Math.Nat.{dvd-add_iff_left, dvd-mul_right, dvd-mul_left, dvd_of_mul-dvd-mul_right, mod-add-div, div-mul_cancel, mul-dvd-mul_right, mul-pos, pos_of_dvd_of_pos, dvd-sub, lt_of_not-le}
 use Rattle.std.proofs.lemmas.Nat.Gcd.{dvd_trans, dvd_refl, dvd-zero, le_of_dvd}
 use Rattle.sysmem_image.specs.Multiples.{IsLcm, IsAboveLimit}
+use Rattle.sysmem_image.specs.Size.{most_number}
 
 -- a turn of Euclid's loop for the numbers a and b
 pub record IsStep (a b x y : ℕ) : Type 0 where
@@ -71,15 +72,15 @@ lcm_some a b g a_some b_some p =
     mul-pos (pos_of_dvd_of_pos part a_some) b_some
 
 -- where the least common multiple is above the limit, each common multiple is
-pub lcm_above : (a b m : ℕ) → IsLcm a b m → 4294967295 < m → IsAboveLimit a b
+pub lcm_above : (a b m : ℕ) → IsLcm a b m → most_number < m → IsAboveLimit a b
 lcm_above a b m is above k some p q =
     let up_to : m ≤ k = le_of_dvd some (is.least k p q) in omega arith
 
--- a multiple less than a step above a number is the least that isn't below the number
-pub least_multiple : (step from m k : ℕ) → step ∣ m → m < from + step → step ∣ k → from ≤ k → m ≤ k
-least_multiple step from m k p near q above =
+-- a multiple less than a divisor above a number is the least that isn't below the number
+pub least_multiple : (divisor from m k : ℕ) → divisor ∣ m → m < from + divisor → divisor ∣ k → from ≤ k → m ≤ k
+least_multiple divisor from m k p near q above =
     let below : m < k + 1 = lt_of_not-le (λ (h : k + 1 ≤ m).
     let gap : 0 < m - k = omega arith in
-    let wide : step ≤ m - k = le_of_dvd gap (dvd-sub step p q) in
+    let wide : divisor ≤ m - k = le_of_dvd gap (dvd-sub divisor p q) in
     let no : ⊥ = omega arith in no) in
     omega arith

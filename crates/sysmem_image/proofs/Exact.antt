@@ -16,6 +16,7 @@ use Rattle.sysmem_image.specs.Entries.{effective, effective_all}
 use Rattle.sysmem_image.specs.Fields.{Bound, MinSize, MaxSize, SizeAlignment, MinBytesPerRow, MaxBytesPerRow, BytesPerRowDivisor, RequiredMaxSize, MaxWidthTimesHeight, Side, Width, Height, value}
 use Rattle.sysmem_image.proofs.Sound.{own_kept}
 use Rattle.sysmem_image.proofs.Steps.{all_map}
+use Rattle.sysmem_image.specs.Size.{most_number}
 
 -- merged bounds suit the offer
 pub merged_suits : (o : Offer) (es : List ImageBounds) (b : ImageBounds) → MergedOf o es b → Suits o b
@@ -40,33 +41,33 @@ intersection o own' b es own old i = (
       let some_width : 1 ≤ i.width = omega (arith, b.min_width_some, a.min_width) in
       let some_height : 1 ≤ i.height = omega (arith, b.min_height_some, a.min_height) in
       let some_row : 1 ≤ i.row = omega (arith, b.min_row_some, a.min_row) in
-      let small_width : i.width ≤ 4294967295 = omega (arith, a.max_width, old.in_range MaxSize Width) in
-      let small_height : i.height ≤ 4294967295 = omega (arith, a.max_height, old.in_range MaxSize Height) in
-      let small_row : i.row ≤ 4294967295 = omega (arith, a.max_row, old.in_range MaxBytesPerRow Width) in
-      let own_width : width_alignment_of o ∣ i.width = dvd_trans (width_alignment_of o) (old.each SizeAlignment Width).suits a.width_step in
-      let own_height : height_alignment_of o ∣ i.height = dvd_trans (height_alignment_of o) (old.each SizeAlignment Height).suits a.height_step in
-      let own_row : row_divisor_of o ∣ i.row = dvd_trans (row_divisor_of o) (old.each BytesPerRowDivisor Width).suits a.row_step in
+      let small_width : i.width ≤ most_number = omega (arith, a.max_width, old.in_range MaxSize Width) in
+      let small_height : i.height ≤ most_number = omega (arith, a.max_height, old.in_range MaxSize Height) in
+      let small_row : i.row ≤ most_number = omega (arith, a.max_row, old.in_range MaxBytesPerRow Width) in
+      let own_width : width_alignment_of o ∣ i.width = dvd_trans (width_alignment_of o) (old.each SizeAlignment Width).suits a.width_alignment in
+      let own_height : height_alignment_of o ∣ i.height = dvd_trans (height_alignment_of o) (old.each SizeAlignment Height).suits a.height_alignment in
+      let own_row : row_divisor_of o ∣ i.row = dvd_trans (row_divisor_of o) (old.each BytesPerRowDivisor Width).suits a.row_divisor in
       let small_area : i.width * i.height ≤ 18446744073709551615 = omega (arith, a.area, old.in_range MaxWidthTimesHeight Width) in
       let min_width = ((old.each MinSize Width).exactly i.width some_width).0 a.min_width in
       let min_height = ((old.each MinSize Height).exactly i.height some_height).0 a.min_height in
       let max_width = ((old.each MaxSize Width).exactly i.width small_width).0 a.max_width in
       let max_height = ((old.each MaxSize Height).exactly i.height small_height).0 a.max_height in
-      let width_step = ((old.each SizeAlignment Width).exactly i.width own_width).0 a.width_step in
-      let height_step = ((old.each SizeAlignment Height).exactly i.height own_height).0 a.height_step in
+      let width_alignment = ((old.each SizeAlignment Width).exactly i.width own_width).0 a.width_alignment in
+      let height_alignment = ((old.each SizeAlignment Height).exactly i.height own_height).0 a.height_alignment in
       let min_row = ((old.each MinBytesPerRow Width).exactly i.row some_row).0 a.min_row in
       let max_row = ((old.each MaxBytesPerRow Width).exactly i.row small_row).0 a.max_row in
-      let row_step = ((old.each BytesPerRowDivisor Width).exactly i.row own_row).0 a.row_step in
+      let row_divisor = ((old.each BytesPerRowDivisor Width).exactly i.row own_row).0 a.row_divisor in
       let area = ((old.each MaxWidthTimesHeight Width).exactly (i.width * i.height) small_area).0 a.area in (
         record {
           min_width = omega (arith, (own MinSize Width), some_width);
           min_height = omega (arith, (own MinSize Height), some_height);
           max_width = omega (arith, (own MaxSize Width), small_width);
           max_height = omega (arith, (own MaxSize Height), small_height);
-          width_step = subst (λ z. z ∣ i.width) (sym (own SizeAlignment Width)) own_width;
-          height_step = subst (λ z. z ∣ i.height) (sym (own SizeAlignment Height)) own_height;
+          width_alignment = subst (λ z. z ∣ i.width) (sym (own SizeAlignment Width)) own_width;
+          height_alignment = subst (λ z. z ∣ i.height) (sym (own SizeAlignment Height)) own_height;
           min_row = omega (arith, (own MinBytesPerRow Width), some_row);
           max_row = omega (arith, (own MaxBytesPerRow Width), small_row);
-          row_step = subst (λ z. z ∣ i.row) (sym (own BytesPerRowDivisor Width)) own_row;
+          row_divisor = subst (λ z. z ∣ i.row) (sym (own BytesPerRowDivisor Width)) own_row;
           row_bytes = a.row_bytes;
           area = omega (arith, own MaxWidthTimesHeight Width, small_area);
         },
@@ -75,11 +76,11 @@ intersection o own' b es own old i = (
           min_height = min_height k d within;
           max_width = max_width k d within;
           max_height = max_height k d within;
-          width_step = width_step k d within;
-          height_step = height_step k d within;
+          width_alignment = width_alignment k d within;
+          height_alignment = height_alignment k d within;
           min_row = min_row k d within;
           max_row = max_row k d within;
-          row_step = row_step k d within;
+          row_divisor = row_divisor k d within;
           row_bytes = a.row_bytes;
           area = area k d within;
         },
@@ -89,23 +90,23 @@ intersection o own' b es own old i = (
       let some_width : 1 ≤ i.width = omega (arith, (own MinSize Width), a.min_width) in
       let some_height : 1 ≤ i.height = omega (arith, (own MinSize Height), a.min_height) in
       let some_row : 1 ≤ i.row = omega (arith, (own MinBytesPerRow Width), a.min_row) in
-      let small_width : i.width ≤ 4294967295 = omega (arith, (own MaxSize Width), a.max_width) in
-      let small_height : i.height ≤ 4294967295 = omega (arith, (own MaxSize Height), a.max_height) in
-      let small_row : i.row ≤ 4294967295 = omega (arith, (own MaxBytesPerRow Width), a.max_row) in
+      let small_width : i.width ≤ most_number = omega (arith, (own MaxSize Width), a.max_width) in
+      let small_height : i.height ≤ most_number = omega (arith, (own MaxSize Height), a.max_height) in
+      let small_row : i.row ≤ most_number = omega (arith, (own MaxBytesPerRow Width), a.max_row) in
       let small_area : i.width * i.height ≤ 18446744073709551615 = omega (arith, own MaxWidthTimesHeight Width, a.area) in
-      let own_width : width_alignment_of o ∣ i.width = subst (λ z. z ∣ i.width) (own SizeAlignment Width) a.width_step in
-      let own_height : height_alignment_of o ∣ i.height = subst (λ z. z ∣ i.height) (own SizeAlignment Height) a.height_step in
-      let own_row : row_divisor_of o ∣ i.row = subst (λ z. z ∣ i.row) (own BytesPerRowDivisor Width) a.row_step in
+      let own_width : width_alignment_of o ∣ i.width = subst (λ z. z ∣ i.width) (own SizeAlignment Width) a.width_alignment in
+      let own_height : height_alignment_of o ∣ i.height = subst (λ z. z ∣ i.height) (own SizeAlignment Height) a.height_alignment in
+      let own_row : row_divisor_of o ∣ i.row = subst (λ z. z ∣ i.row) (own BytesPerRowDivisor Width) a.row_divisor in
       record {
         min_width = ((old.each MinSize Width).exactly i.width some_width).1 (all_map (λ e. Admits o e i) (λ e. e.min_size.width ≤ i.width) es (λ e k. k.min_width) both.1);
         min_height = ((old.each MinSize Height).exactly i.height some_height).1 (all_map (λ e. Admits o e i) (λ e. e.min_size.height ≤ i.height) es (λ e k. k.min_height) both.1);
         max_width = ((old.each MaxSize Width).exactly i.width small_width).1 (all_map (λ e. Admits o e i) (λ e. i.width ≤ e.max_size.width) es (λ e k. k.max_width) both.1);
         max_height = ((old.each MaxSize Height).exactly i.height small_height).1 (all_map (λ e. Admits o e i) (λ e. i.height ≤ e.max_size.height) es (λ e k. k.max_height) both.1);
-        width_step = ((old.each SizeAlignment Width).exactly i.width own_width).1 (all_map (λ e. Admits o e i) (λ e. e.size_alignment.width ∣ i.width) es (λ e k. k.width_step) both.1);
-        height_step = ((old.each SizeAlignment Height).exactly i.height own_height).1 (all_map (λ e. Admits o e i) (λ e. e.size_alignment.height ∣ i.height) es (λ e k. k.height_step) both.1);
+        width_alignment = ((old.each SizeAlignment Width).exactly i.width own_width).1 (all_map (λ e. Admits o e i) (λ e. e.size_alignment.width ∣ i.width) es (λ e k. k.width_alignment) both.1);
+        height_alignment = ((old.each SizeAlignment Height).exactly i.height own_height).1 (all_map (λ e. Admits o e i) (λ e. e.size_alignment.height ∣ i.height) es (λ e k. k.height_alignment) both.1);
         min_row = ((old.each MinBytesPerRow Width).exactly i.row some_row).1 (all_map (λ e. Admits o e i) (λ e. e.min_bytes_per_row ≤ i.row) es (λ e k. k.min_row) both.1);
         max_row = ((old.each MaxBytesPerRow Width).exactly i.row small_row).1 (all_map (λ e. Admits o e i) (λ e. i.row ≤ e.max_bytes_per_row) es (λ e k. k.max_row) both.1);
-        row_step = ((old.each BytesPerRowDivisor Width).exactly i.row own_row).1 (all_map (λ e. Admits o e i) (λ e. e.bytes_per_row_divisor ∣ i.row) es (λ e k. k.row_step) both.1);
+        row_divisor = ((old.each BytesPerRowDivisor Width).exactly i.row own_row).1 (all_map (λ e. Admits o e i) (λ e. e.bytes_per_row_divisor ∣ i.row) es (λ e k. k.row_divisor) both.1);
         row_bytes = a.row_bytes;
         area = ((old.each MaxWidthTimesHeight Width).exactly (i.width * i.height) small_area).1 (all_map (λ e. Admits o e i) (λ e. i.width * i.height ≤ e.max_width_times_height) es (λ e k. k.area) both.1);
       },
@@ -133,11 +134,11 @@ looser_admits o a b t i admitted large = (
     min_height = omega (arith, (t MinSize Height), admitted.min_height);
     max_width = omega (arith, (t MaxSize Width), admitted.max_width);
     max_height = omega (arith, (t MaxSize Height), admitted.max_height);
-    width_step = dvd_trans b.size_alignment.width (t SizeAlignment Width) admitted.width_step;
-    height_step = dvd_trans b.size_alignment.height (t SizeAlignment Height) admitted.height_step;
+    width_alignment = dvd_trans b.size_alignment.width (t SizeAlignment Width) admitted.width_alignment;
+    height_alignment = dvd_trans b.size_alignment.height (t SizeAlignment Height) admitted.height_alignment;
     min_row = omega (arith, (t MinBytesPerRow Width), admitted.min_row);
     max_row = omega (arith, (t MaxBytesPerRow Width), admitted.max_row);
-    row_step = dvd_trans b.bytes_per_row_divisor (t BytesPerRowDivisor Width) admitted.row_step;
+    row_divisor = dvd_trans b.bytes_per_row_divisor (t BytesPerRowDivisor Width) admitted.row_divisor;
     row_bytes = admitted.row_bytes;
     area = omega (arith, t MaxWidthTimesHeight Width, admitted.area);
   },

@@ -5,7 +5,7 @@ use Rattle.sysmem_formats.specs.declared.offer.Offer.{Offer}
 use Rattle.sysmem_image.specs.declared.bounds.ImageBounds.{ImageBounds}
 use Rattle.sysmem_image.specs.declared.read.BoundsRead.{BoundsRead}
 use Rattle.sysmem_image.specs.declared.size.Size.{Size}
-use Rattle.sysmem_image.specs.Size.{IsSizeInRange}
+use Rattle.sysmem_image.specs.Size.{IsSizeInRange, most_number}
 use Rattle.sysmem_image.specs.Fields.{Bound, MinSize, MaxSize, SizeAlignment, MinBytesPerRow, MaxBytesPerRow, BytesPerRowDivisor, StartOffsetDivisor, DisplayRectAlignment, RequiredMinSize, RequiredMaxSize, MaxWidthTimesHeight, Side, Width, Height, Multiple, Keeps, rule_of, most, value, own_value}
 use Rattle.sysmem_image.specs.Lines.{MeetsIn}
 use Rattle.sysmem_image.specs.Merged.{IsMergeOf, IsMergedBy}
@@ -21,16 +21,16 @@ size_read f o es s w h Width = w
 size_read f o es s w h Height = h
 
 -- both dimensions of a size are up to a number
-pub size_small : (s : Size) → IsSizeInRange s → (side : Side) → size_in s side ≤ 4294967295
+pub size_small : (s : Size) → IsSizeInRange s → (side : Side) → size_in s side ≤ most_number
 size_small s small Width = small.width
 size_small s small Height = small.height
 
 -- the same of what is kept of a field of sizes
-pub sizes_small : (k : Option Size) → IfSome k IsSizeInRange → IfSome (option_map size_in k) (λ m. (side : Side) → m side ≤ 4294967295)
+pub sizes_small : (k : Option Size) → IfSome k IsSizeInRange → IfSome (option_map size_in k) (λ m. (side : Side) → m side ≤ most_number)
 sizes_small None small = tt
 sizes_small (Some s) small = size_small s small
 
-pub number_small : (k : Option ℕ) → IfSome k (λ n. n ≤ 4294967295) → IfSome (option_map number_in k) (λ m. (side : Side) → m side ≤ 4294967295)
+pub number_small : (k : Option ℕ) → IfSome k (λ n. n ≤ most_number) → IfSome (option_map number_in k) (λ m. (side : Side) → m side ≤ most_number)
 number_small None small = tt
 number_small (Some n) small = λ side. small
 
@@ -75,12 +75,12 @@ size_joined f rule o es b (Some a) (Some m) more w h joined old =
     size_more f o es b a m (by_multiple f rule a.width (value f Width b) more.width m.width w joined.width) (by_multiple f rule a.height (value f Height b) more.height m.height h joined.height) old
 
 -- numbers that stand for those of a list are common multiples
-pub meet_of : (f : Bound) → rule_of f ≡ Multiple → (o : Offer) (es : List ImageBounds) (m : Side → ℕ) → ((side : Side) → 1 ≤ m side) → ((side : Side) → m side ≤ 4294967295) → IsRead f o es (Some m) → MeetsIn f o es
+pub meet_of : (f : Bound) → rule_of f ≡ Multiple → (o : Offer) (es : List ImageBounds) (m : Side → ℕ) → ((side : Side) → 1 ≤ m side) → ((side : Side) → m side ≤ most_number) → IsRead f o es (Some m) → MeetsIn f o es
 meet_of f rule o es m some small old = λ side.
     common_merged (own_value o f side) (value f side) es (m side) (some side) (small side) (subst (λ r. IsMergeOf (Keeps r) (own_value o f side) (value f side) es (m side)) rule (old side))
 
 -- nothing is kept of a field exactly where its numbers have no common multiples up to the limit
-pub number_lacks : (f : Bound) → rule_of f ≡ Multiple → (o : Offer) (es : List ImageBounds) (k : Option ℕ) (test : Bool) → is_some k ≡ not test → IfSome k (λ n. 1 ≤ n) → IfSome (option_map number_in k) (λ m. (side : Side) → m side ≤ 4294967295)
+pub number_lacks : (f : Bound) → rule_of f ≡ Multiple → (o : Offer) (es : List ImageBounds) (k : Option ℕ) (test : Bool) → is_some k ≡ not test → IfSome k (λ n. 1 ≤ n) → IfSome (option_map number_in k) (λ m. (side : Side) → m side ≤ most_number)
     → IsRead f o es (option_map number_in k) → IsTrue test ↔ (¬ MeetsIn f o es)
 number_lacks f rule o es None true same some small old = (λ _. old, λ _. refl)
 number_lacks f rule o es None false same some small old = absurd (cc same)
@@ -93,25 +93,25 @@ size_some s w h Width = w
 size_some s w h Height = h
 
 pub size_lacks : (f : Bound) → rule_of f ≡ Multiple → (o : Offer) (es : List ImageBounds) (k : Option Size) (test : Bool) → is_some k ≡ not test → IfSome k (λ s. 1 ≤ s.width) → IfSome k (λ s. 1 ≤ s.height)
-    → IfSome (option_map size_in k) (λ m. (side : Side) → m side ≤ 4294967295) → IsRead f o es (option_map size_in k) → IsTrue test ↔ (¬ MeetsIn f o es)
+    → IfSome (option_map size_in k) (λ m. (side : Side) → m side ≤ most_number) → IsRead f o es (option_map size_in k) → IsTrue test ↔ (¬ MeetsIn f o es)
 size_lacks f rule o es None true same w h small old = (λ _. old, λ _. refl)
 size_lacks f rule o es None false same w h small old = absurd (cc same)
 size_lacks f rule o es (Some s) true same w h small old = absurd (cc same)
 size_lacks f rule o es (Some s) false same w h small old = (λ no. absurd (cc no), λ none. absurd (none (meet_of f rule o es (size_in s) (size_some s w h) small old)))
 
 -- where something is kept of a field, its numbers have common multiples up to the limit
-pub number_meets : (f : Bound) → rule_of f ≡ Multiple → (o : Offer) (es : List ImageBounds) (k : Option ℕ) (n : ℕ) → k ≡ Some n → IfSome k (λ n. 1 ≤ n) → IfSome (option_map number_in k) (λ m. (side : Side) → m side ≤ 4294967295)
+pub number_meets : (f : Bound) → rule_of f ≡ Multiple → (o : Offer) (es : List ImageBounds) (k : Option ℕ) (n : ℕ) → k ≡ Some n → IfSome k (λ n. 1 ≤ n) → IfSome (option_map number_in k) (λ m. (side : Side) → m side ≤ most_number)
     → IsRead f o es (option_map number_in k) → MeetsIn f o es
 number_meets f rule o es None n is some small old = absurd (cc is)
 number_meets f rule o es (Some m) n is some small old = meet_of f rule o es (number_in m) (λ _. some) small old
 
 pub sizes_meet : (f : Bound) → rule_of f ≡ Multiple → (o : Offer) (es : List ImageBounds) (k : Option Size) (s : Size) → k ≡ Some s → IfSome k (λ s. 1 ≤ s.width) → IfSome k (λ s. 1 ≤ s.height)
-    → IfSome (option_map size_in k) (λ m. (side : Side) → m side ≤ 4294967295) → IsRead f o es (option_map size_in k) → MeetsIn f o es
+    → IfSome (option_map size_in k) (λ m. (side : Side) → m side ≤ most_number) → IsRead f o es (option_map size_in k) → MeetsIn f o es
 sizes_meet f rule o es None s is w h small old = absurd (cc is)
 sizes_meet f rule o es (Some m) s is w h small old = meet_of f rule o es (size_in m) (size_some m w h) small old
 
 -- what is kept is in range where each of its numbers is
-kept_small : (k : BoundsRead) → IsSizeInRange k.min_size → IsSizeInRange k.max_size → IfSome k.size_alignment IsSizeInRange → k.min_bytes_per_row ≤ 4294967295 → k.max_bytes_per_row ≤ 4294967295 → IfSome k.bytes_per_row_divisor (λ n. n ≤ 4294967295) → IfSome k.start_offset_divisor (λ n. n ≤ 4294967295) → IfSome k.display_rect_alignment IsSizeInRange → IsSizeInRange k.required_min_size → IsSizeInRange k.required_max_size → k.max_width_times_height ≤ 18446744073709551615
+kept_small : (k : BoundsRead) → IsSizeInRange k.min_size → IsSizeInRange k.max_size → IfSome k.size_alignment IsSizeInRange → k.min_bytes_per_row ≤ most_number → k.max_bytes_per_row ≤ most_number → IfSome k.bytes_per_row_divisor (λ n. n ≤ most_number) → IfSome k.start_offset_divisor (λ n. n ≤ most_number) → IfSome k.display_rect_alignment IsSizeInRange → IsSizeInRange k.required_min_size → IsSizeInRange k.required_max_size → k.max_width_times_height ≤ 18446744073709551615
     → (f : Bound) → IfSome (kept_of f k) (λ m. (side : Side) → m side ≤ most f)
 kept_small k n0 n1 n2 n3 n4 n5 n6 n7 n8 n9 n10 MinSize = size_small k.min_size n0
 kept_small k n0 n1 n2 n3 n4 n5 n6 n7 n8 n9 n10 MaxSize = size_small k.max_size n1
@@ -152,7 +152,7 @@ kept_each o es k n0 n1 n2 n3 n4 n5 n6 n7 n8 n9 n10 RequiredMaxSize = n9
 kept_each o es k n0 n1 n2 n3 n4 n5 n6 n7 n8 n9 n10 MaxWidthTimesHeight = n10
 
 -- the two together
-pub read_by : (o : Offer) (es : List ImageBounds) (k : BoundsRead) → IsSizeInRange k.min_size → IsSizeInRange k.max_size → IfSome k.size_alignment IsSizeInRange → k.min_bytes_per_row ≤ 4294967295 → k.max_bytes_per_row ≤ 4294967295 → IfSome k.bytes_per_row_divisor (λ n. n ≤ 4294967295) → IfSome k.start_offset_divisor (λ n. n ≤ 4294967295) → IfSome k.display_rect_alignment IsSizeInRange → IsSizeInRange k.required_min_size → IsSizeInRange k.required_max_size → k.max_width_times_height ≤ 18446744073709551615
+pub read_by : (o : Offer) (es : List ImageBounds) (k : BoundsRead) → IsSizeInRange k.min_size → IsSizeInRange k.max_size → IfSome k.size_alignment IsSizeInRange → k.min_bytes_per_row ≤ most_number → k.max_bytes_per_row ≤ most_number → IfSome k.bytes_per_row_divisor (λ n. n ≤ most_number) → IfSome k.start_offset_divisor (λ n. n ≤ most_number) → IfSome k.display_rect_alignment IsSizeInRange → IsSizeInRange k.required_min_size → IsSizeInRange k.required_max_size → k.max_width_times_height ≤ 18446744073709551615
     → IsRead MinSize o es (Some (size_in k.min_size))
     → IsRead MaxSize o es (Some (size_in k.max_size))
     → IsRead SizeAlignment o es (option_map size_in k.size_alignment)

@@ -9,7 +9,7 @@ use Rattle.sysmem_formats.specs.Layout.{width_alignment_of, height_alignment_of,
 use Rattle.sysmem_image.specs.declared.bounds.ImageBounds.{ImageBounds}
 use Rattle.sysmem_image.specs.declared.read.BoundsRead.{BoundsRead}
 use Rattle.sysmem_image.specs.declared.size.Size.{Size}
-use Rattle.sysmem_image.specs.Size.{IsSizeUpTo}
+use Rattle.sysmem_image.specs.Size.{IsSizeUpTo, most_number}
 use Rattle.sysmem_image.specs.Corners.{IsLeastAbove}
 use Rattle.sysmem_image.specs.Fields.{MinSize, MaxSize, SizeAlignment, MinBytesPerRow, MaxBytesPerRow, BytesPerRowDivisor, RequiredMinSize, RequiredMaxSize, MaxWidthTimesHeight, Width, Height}
 use Rattle.sysmem_image.specs.Lines.{FitsWidth, FitsHeight, IsBoundsLine, AlignmentsMeet, DivisorsMeet, WidthAbove, HeightAbove}
@@ -26,61 +26,61 @@ test_of a b low high same_low same_high exact = (
       search (rules, above),
 )
 
--- the least multiple of the width's step fits, and no width that fits is less
-width_fits : (o : Offer) (es : List ImageBounds) (k : BoundsRead) (step : Size) (w : ℕ) → IsRead SizeAlignment o es (Some (size_in step)) → AreRead o es k
-    → IsLeastAbove step.width k.min_size.width k.required_max_size.width w → FitsWidth o es w × ((n : ℕ) → FitsWidth o es n → w ≤ n)
-width_fits o es k step w steps read l =
+-- the least multiple of the width's alignment fits, and no width that fits is less
+width_fits : (o : Offer) (es : List ImageBounds) (k : BoundsRead) (alignment : Size) (w : ℕ) → IsRead SizeAlignment o es (Some (size_in alignment)) → AreRead o es k
+    → IsLeastAbove alignment.width k.min_size.width k.required_max_size.width w → FitsWidth o es w × ((n : ℕ) → FitsWidth o es n → w ≤ n)
+width_fits o es k alignment w aligned read l =
     let low = read.each MinSize Width in
     let large = read.each RequiredMaxSize Width in
     let some : 1 ≤ w = omega (arith, low.suits, l.from) in
-    let own = dvd_trans (width_alignment_of o) (steps Width).suits l.multiple in (
+    let own = dvd_trans (width_alignment_of o) (aligned Width).suits l.multiple in (
       record {
         some = some;
         own = own;
-        step = ((steps Width).exactly w own).0 l.multiple;
+        alignments = ((aligned Width).exactly w own).0 l.multiple;
         least = (low.exactly w some).0 l.from;
         required = (large.exactly w (omega arith)).0 l.above;
       },
-      λ n fits. l.least n (((steps Width).exactly n fits.own).1 fits.step) ((low.exactly n fits.some).1 fits.least) ((large.exactly n (omega arith)).1 fits.required),
+      λ n fits. l.least n (((aligned Width).exactly n fits.own).1 fits.alignments) ((low.exactly n fits.some).1 fits.least) ((large.exactly n (omega arith)).1 fits.required),
     )
 
 -- the same of heights
-height_fits : (o : Offer) (es : List ImageBounds) (k : BoundsRead) (step : Size) (h : ℕ) → IsRead SizeAlignment o es (Some (size_in step)) → AreRead o es k
-    → IsLeastAbove step.height k.min_size.height k.required_max_size.height h → FitsHeight o es h × ((n : ℕ) → FitsHeight o es n → h ≤ n)
-height_fits o es k step h steps read l =
+height_fits : (o : Offer) (es : List ImageBounds) (k : BoundsRead) (alignment : Size) (h : ℕ) → IsRead SizeAlignment o es (Some (size_in alignment)) → AreRead o es k
+    → IsLeastAbove alignment.height k.min_size.height k.required_max_size.height h → FitsHeight o es h × ((n : ℕ) → FitsHeight o es n → h ≤ n)
+height_fits o es k alignment h aligned read l =
     let low = read.each MinSize Height in
     let large = read.each RequiredMaxSize Height in
     let some : 1 ≤ h = omega (arith, low.suits, l.from) in
-    let own = dvd_trans (height_alignment_of o) (steps Height).suits l.multiple in (
+    let own = dvd_trans (height_alignment_of o) (aligned Height).suits l.multiple in (
       record {
         some = some;
         own = own;
-        step = ((steps Height).exactly h own).0 l.multiple;
+        alignments = ((aligned Height).exactly h own).0 l.multiple;
         least = (low.exactly h some).0 l.from;
         required = (large.exactly h (omega arith)).0 l.above;
       },
-      λ n fits. l.least n (((steps Height).exactly n fits.own).1 fits.step) ((low.exactly n fits.some).1 fits.least) ((large.exactly n (omega arith)).1 fits.required),
+      λ n fits. l.least n (((aligned Height).exactly n fits.own).1 fits.alignments) ((low.exactly n fits.some).1 fits.least) ((large.exactly n (omega arith)).1 fits.required),
     )
 
--- the least sides, from the least multiples of both steps
-pub sides_fit : (o : Offer) (es : List ImageBounds) (k : BoundsRead) (step : Size) (w h : ℕ) → IsRead SizeAlignment o es (Some (size_in step)) → AreRead o es k
-    → IsLeastAbove step.width k.min_size.width k.required_max_size.width w → IsLeastAbove step.height k.min_size.height k.required_max_size.height h → FitLeast o es w h
-sides_fit o es k step w h steps read wide high =
-    let width = width_fits o es k step w steps read wide in
-    let height = height_fits o es k step h steps read high in
+-- the least sides, from the least multiples of both aligned
+pub sides_fit : (o : Offer) (es : List ImageBounds) (k : BoundsRead) (alignment : Size) (w h : ℕ) → IsRead SizeAlignment o es (Some (size_in alignment)) → AreRead o es k
+    → IsLeastAbove alignment.width k.min_size.width k.required_max_size.width w → IsLeastAbove alignment.height k.min_size.height k.required_max_size.height h → FitLeast o es w h
+sides_fit o es k alignment w h aligned read wide high =
+    let width = width_fits o es k alignment w aligned read wide in
+    let height = height_fits o es k alignment h aligned read high in
     record { width = width.0; height = height.0; least_width = width.1; least_height = height.1 }
 
--- the least row, from the least multiple of its step
-pub row_fits : (o : Offer) (es : List ImageBounds) (k : BoundsRead) (step w h r : ℕ) → IsRead BytesPerRowDivisor o es (Some (number_in step)) → AreRead o es k → FitLeast o es w h
-    → IsLeastAbove step k.min_bytes_per_row (row_bytes_of o w) r → FitsLeastRow o es w r
-row_fits o es k step w h r steps read sides l =
+-- the least row, from the least multiple of its divisor
+pub row_fits : (o : Offer) (es : List ImageBounds) (k : BoundsRead) (divisor w h r : ℕ) → IsRead BytesPerRowDivisor o es (Some (number_in divisor)) → AreRead o es k → FitLeast o es w h
+    → IsLeastAbove divisor k.min_bytes_per_row (row_bytes_of o w) r → FitsLeastRow o es w r
+row_fits o es k divisor w h r divisors read sides l =
     let low = read.each MinBytesPerRow Width in
-    let merged = steps Width in
+    let merged = divisors Width in
     let some : 1 ≤ r = omega (arith, low.suits, l.from) in
     let own = dvd_trans (row_divisor_of o) merged.suits l.multiple in
     record {
-      row = record { some = some; own = own; step = (merged.exactly r own).0 l.multiple; least = (low.exactly r some).0 l.from; row_bytes = l.above };
-      least = λ v n wide long. l.least n ((merged.exactly n long.own).1 long.step) ((low.exactly n long.some).1 long.least)
+      row = record { some = some; own = own; divisors = (merged.exactly r own).0 l.multiple; least = (low.exactly r some).0 l.from; row_bytes = l.above };
+      least = λ v n wide long. l.least n ((merged.exactly n long.own).1 long.divisors) ((low.exactly n long.some).1 long.least)
           (omega (arith, row_bytes_mono o w v (sides.least_width v wide), long.row_bytes));
     }
 
@@ -140,13 +140,13 @@ max_line o es k w h read sides meet = (
     | inl unmet ↦ elim (cases_lt k.max_size.width w) as (λ _. (k.max_size.width < w) ⊎ (k.max_size.height < h)) [
       | inl above ↦ inl above
       | inr inside ↦
-          let small : w ≤ 4294967295 = omega (arith, (read.each MaxSize Width).suits) in
+          let small : w ≤ most_number = omega (arith, (read.each MaxSize Width).suits) in
           absurd (unmet w small sides.width (((read.each MaxSize Width).exactly w small).0 inside))
     ]
     | inr unmet ↦ elim (cases_lt k.max_size.height h) as (λ _. (k.max_size.width < w) ⊎ (k.max_size.height < h)) [
       | inl above ↦ inr above
       | inr inside ↦
-          let small : h ≤ 4294967295 = omega (arith, (read.each MaxSize Height).suits) in
+          let small : h ≤ most_number = omega (arith, (read.each MaxSize Height).suits) in
           absurd (unmet h small sides.height (((read.each MaxSize Height).exactly h small).0 inside))
     ]
   ],
@@ -189,7 +189,7 @@ row_line o es k w h r read sides row meet divisors =
       λ all. elim (cases_lt k.max_bytes_per_row r) as (λ _. k.max_bytes_per_row < r) [
         | inl above ↦ above
         | inr inside ↦
-            let small : r ≤ 4294967295 = omega (arith, inside, merged.suits) in
+            let small : r ≤ most_number = omega (arith, inside, merged.suits) in
             absurd (all.2 w r small sides.width row.row ((merged.exactly r small).0 inside))
       ],
     )

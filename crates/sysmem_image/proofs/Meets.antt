@@ -5,7 +5,7 @@ use Rattle.sysmem_counts.specs.declared.field.Field.TheVariants as field
 use Rattle.std.specs.Int.{◌∣◌}
 use Rattle.std.proofs.lemmas.Nat.Gcd.{dvd_trans, dvd_refl, dvd_antisymm}
 use Rattle.sysmem_image.specs.declared.bounds.ImageBounds.{ImageBounds}
-use Rattle.sysmem_image.specs.Size.{DividesSize, IsSizeInRange}
+use Rattle.sysmem_image.specs.Size.{DividesSize, IsSizeInRange, most_number}
 use Rattle.sysmem_formats.specs.declared.offer.Offer.{Offer}
 use Rattle.sysmem_formats.specs.Layout.{width_alignment_of, height_alignment_of, row_divisor_of}
 use Rattle.sysmem_image.specs.Fields.{Bound, MinSize, MaxSize, SizeAlignment, MinBytesPerRow, MaxBytesPerRow, BytesPerRowDivisor, StartOffsetDivisor, DisplayRectAlignment, RequiredMinSize, RequiredMaxSize, MaxWidthTimesHeight, Side, Width, Height, Rule, Greatest, Least, Multiple, Keeps, KeepsIn, KeepsEach, field_of, rule_of, value}
@@ -107,8 +107,8 @@ named_test name f a b test is holds tests =
     rw is (λ t. named.0 (holds t), λ kept. tests (named.1 kept))
 
 -- bounds whose numbers are within their types are in range
-pub in_range_by : (b : ImageBounds) → IsSizeInRange b.min_size → IsSizeInRange b.max_size → IsSizeInRange b.size_alignment → b.min_bytes_per_row ≤ 4294967295 → b.max_bytes_per_row ≤ 4294967295
-    → b.bytes_per_row_divisor ≤ 4294967295 → b.start_offset_divisor ≤ 4294967295 → IsSizeInRange b.display_rect_alignment → IsSizeInRange b.required_min_size → IsSizeInRange b.required_max_size
+pub in_range_by : (b : ImageBounds) → IsSizeInRange b.min_size → IsSizeInRange b.max_size → IsSizeInRange b.size_alignment → b.min_bytes_per_row ≤ most_number → b.max_bytes_per_row ≤ most_number
+    → b.bytes_per_row_divisor ≤ most_number → b.start_offset_divisor ≤ most_number → IsSizeInRange b.display_rect_alignment → IsSizeInRange b.required_min_size → IsSizeInRange b.required_max_size
     → b.max_width_times_height ≤ 18446744073709551615 → IsInRange b
 in_range_by b n0 n1 n2 n3 n4 n5 n6 n7 n8 n9 n10 MinSize Width = n0.width
 in_range_by b n0 n1 n2 n3 n4 n5 n6 n7 n8 n9 n10 MinSize Height = n0.height
@@ -133,7 +133,7 @@ pub keeps_each : (fs : List Bound) (a b : ImageBounds) → IsTighter a b → Kee
 keeps_each [] a b t = tt
 keeps_each (f ∷ fs) a b t = (t f, keeps_each fs a b t)
 
--- numbers equal to the offer's own divide the bounds' steps exactly where these suit the offer
+-- numbers equal to the offer's own divide the bounds' alignments and divisor exactly where these suit the offer
 pub suits_from : (o : Offer) (b : ImageBounds) (w h r : ℕ) → w ≡ width_alignment_of o → h ≡ height_alignment_of o → r ≡ row_divisor_of o → (DividesSize (record { width = w; height = h }) b.size_alignment × (r ∣ b.bytes_per_row_divisor)) ↔ Suits o b
 suits_from o b w h r is_width is_height is_row = (
   λ both. record {

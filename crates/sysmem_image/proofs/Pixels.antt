@@ -124,13 +124,13 @@ divisor_asked o e n = by_flag e.at_pixel_boundary where
   by_flag : (b : Bool) → (max (if b then pixel_multiple (bytes_per_pixel_of o) e.asked.bytes_per_row_divisor else e.asked.bytes_per_row_divisor) 1 ∣ n)
       ↔ ((e.asked.bytes_per_row_divisor ∣ n) × (b ≡ true → bytes_per_pixel_of o ∣ n))
   by_flag false =
-      let same : max e.asked.bytes_per_row_divisor 1 ≡ e.asked.bytes_per_row_divisor = omega (arith, e.asked.row_step_some) in (
+      let same : max e.asked.bytes_per_row_divisor 1 ≡ e.asked.bytes_per_row_divisor = omega (arith, e.asked.row_divisor_some) in (
         λ h. (subst (λ z. z ∣ n) same h, λ never. absurd (cc never)),
         λ both. subst (λ z. z ∣ n) (sym same) both.0,
       )
   by_flag true =
       let is = pixel_lcm (bytes_per_pixel_of o) e.asked.bytes_per_row_divisor (pixel_some o).0 (pixel_some o).1 in
-      let some = multiple_some (bytes_per_pixel_of o) e.asked.bytes_per_row_divisor (pixel_some o).0 e.asked.row_step_some in
+      let some = multiple_some (bytes_per_pixel_of o) e.asked.bytes_per_row_divisor (pixel_some o).0 e.asked.row_divisor_some in
       let same : max (pixel_multiple (bytes_per_pixel_of o) e.asked.bytes_per_row_divisor) 1 ≡ pixel_multiple (bytes_per_pixel_of o) e.asked.bytes_per_row_divisor = omega (arith, some) in (
         λ h. let m = subst (λ z. z ∣ n) same h in (dvd_trans e.asked.bytes_per_row_divisor is.right m, λ t. dvd_trans (bytes_per_pixel_of o) is.left m),
         λ both. subst (λ z. z ∣ n) (sym same) (is.least n (both.1 refl) both.0),
@@ -181,26 +181,26 @@ effective_admits o e i =
           min_height = a.min_height;
           max_width = a.max_width;
           max_height = a.max_height;
-          width_step = a.width_step;
-          height_step = a.height_step;
+          width_alignment = a.width_alignment;
+          height_alignment = a.height_alignment;
           min_row = a.min_row;
           max_row = a.max_row;
-          row_step = (rows.0 a.row_step).0;
+          row_divisor = (rows.0 a.row_divisor).0;
           row_bytes = a.row_bytes;
           area = a.area;
         },
-        (rows.0 a.row_step).1,
+        (rows.0 a.row_divisor).1,
       ),
       λ both. let a = both.0 in record {
         min_width = a.min_width;
         min_height = a.min_height;
         max_width = a.max_width;
         max_height = a.max_height;
-        width_step = a.width_step;
-        height_step = a.height_step;
+        width_alignment = a.width_alignment;
+        height_alignment = a.height_alignment;
         min_row = a.min_row;
         max_row = a.max_row;
-        row_step = rows.1 (a.row_step, both.1);
+        row_divisor = rows.1 (a.row_divisor, both.1);
         row_bytes = a.row_bytes;
         area = a.area;
       },

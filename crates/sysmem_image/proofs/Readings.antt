@@ -10,9 +10,9 @@ use Rattle.sysmem_formats.specs.declared.offer.Offer.{Offer}
 use Rattle.sysmem_formats.specs.Layout.{width_alignment_of, height_alignment_of, row_divisor_of}
 use Rattle.sysmem_image.specs.declared.bounds.ImageBounds.{ImageBounds}
 use Rattle.sysmem_image.specs.declared.size.Corner.{Corner}
-use Rattle.sysmem_image.specs.Size.{IsSizeUpTo}
+use Rattle.sysmem_image.specs.Size.{IsSizeUpTo, most_number}
 use Rattle.sysmem_image.specs.Merged.{IsMergeOf, MergedOf}
-use Rattle.sysmem_image.specs.Corners.{IsWidth, IsHeight, IsRow, HasNoCorner, HasSides, HasArea, EarlierHold}
+use Rattle.sysmem_image.specs.Corners.{IsWidth, IsHeight, IsRow, RefusesCorner, HasSides, HasArea, EarlierHold}
 use Rattle.sysmem_image.specs.Lines.{FitsWidth, FitsHeight, FitsRow, AlignmentsMeet, DivisorsMeet, MinAboveRequired, WidthAbove, HeightAbove, IsBoundsLine, IsFirstLine, MeetsIn, NoLines, multiple_lines}
 use Rattle.sysmem_image.specs.Fields as bound
 use Rattle.sysmem_image.specs.Fields.{Bound, Side, Width, Height, Multiple, Keeps, rule_of, most, value, own_value}
@@ -24,16 +24,16 @@ pub width_reads : (o : Offer) (es : List ImageBounds) (b : ImageBounds) → Merg
 width_reads o es b old n = (
   λ is.
       let some : 1 ≤ n = omega (arith, b.min_width_some, is.from) in
-      let own : width_alignment_of o ∣ n = dvd_trans (width_alignment_of o) (old.each bound.SizeAlignment Width).suits is.step in
+      let own : width_alignment_of o ∣ n = dvd_trans (width_alignment_of o) (old.each bound.SizeAlignment Width).suits is.alignment in
       record {
         some = some;
         own = own;
-        step = ((old.each bound.SizeAlignment Width).exactly n own).0 is.step;
+        alignments = ((old.each bound.SizeAlignment Width).exactly n own).0 is.alignment;
         least = ((old.each bound.MinSize Width).exactly n some).0 is.from;
         required = ((old.each bound.RequiredMaxSize Width).exactly n (omega arith)).0 is.required;
       },
   λ fits. record {
-    step = ((old.each bound.SizeAlignment Width).exactly n fits.own).1 fits.step;
+    alignment = ((old.each bound.SizeAlignment Width).exactly n fits.own).1 fits.alignments;
     from = ((old.each bound.MinSize Width).exactly n fits.some).1 fits.least;
     required = ((old.each bound.RequiredMaxSize Width).exactly n (omega arith)).1 fits.required;
   },
@@ -44,16 +44,16 @@ pub height_reads : (o : Offer) (es : List ImageBounds) (b : ImageBounds) → Mer
 height_reads o es b old n = (
   λ is.
       let some : 1 ≤ n = omega (arith, b.min_height_some, is.from) in
-      let own : height_alignment_of o ∣ n = dvd_trans (height_alignment_of o) (old.each bound.SizeAlignment Height).suits is.step in
+      let own : height_alignment_of o ∣ n = dvd_trans (height_alignment_of o) (old.each bound.SizeAlignment Height).suits is.alignment in
       record {
         some = some;
         own = own;
-        step = ((old.each bound.SizeAlignment Height).exactly n own).0 is.step;
+        alignments = ((old.each bound.SizeAlignment Height).exactly n own).0 is.alignment;
         least = ((old.each bound.MinSize Height).exactly n some).0 is.from;
         required = ((old.each bound.RequiredMaxSize Height).exactly n (omega arith)).0 is.required;
       },
   λ fits. record {
-    step = ((old.each bound.SizeAlignment Height).exactly n fits.own).1 fits.step;
+    alignment = ((old.each bound.SizeAlignment Height).exactly n fits.own).1 fits.alignments;
     from = ((old.each bound.MinSize Height).exactly n fits.some).1 fits.least;
     required = ((old.each bound.RequiredMaxSize Height).exactly n (omega arith)).1 fits.required;
   },
@@ -64,31 +64,31 @@ pub row_reads : (o : Offer) (es : List ImageBounds) (b : ImageBounds) → Merged
 row_reads o es b old w r = (
   λ is.
       let some : 1 ≤ r = omega (arith, b.min_row_some, is.from) in
-      let own : row_divisor_of o ∣ r = dvd_trans (row_divisor_of o) (old.each bound.BytesPerRowDivisor Width).suits is.step in
+      let own : row_divisor_of o ∣ r = dvd_trans (row_divisor_of o) (old.each bound.BytesPerRowDivisor Width).suits is.divisor in
       record {
         some = some;
         own = own;
-        step = ((old.each bound.BytesPerRowDivisor Width).exactly r own).0 is.step;
+        divisors = ((old.each bound.BytesPerRowDivisor Width).exactly r own).0 is.divisor;
         least = ((old.each bound.MinBytesPerRow Width).exactly r some).0 is.from;
         row_bytes = is.row_bytes;
       },
   λ fits. record {
-    step = ((old.each bound.BytesPerRowDivisor Width).exactly r fits.own).1 fits.step;
+    divisor = ((old.each bound.BytesPerRowDivisor Width).exactly r fits.own).1 fits.divisors;
     from = ((old.each bound.MinBytesPerRow Width).exactly r fits.some).1 fits.least;
     row_bytes = fits.row_bytes;
   },
 )
 
 -- a merged alignment or divisor is a common multiple
-merged_meets : (f : Bound) → rule_of f ≡ Multiple → (o : Offer) (es : List ImageBounds) (b : ImageBounds) → ((d : Side) → 1 ≤ value f d b) → most f ≡ 4294967295 → MergedOf o es b → MeetsIn f o es
+merged_meets : (f : Bound) → rule_of f ≡ Multiple → (o : Offer) (es : List ImageBounds) (b : ImageBounds) → ((d : Side) → 1 ≤ value f d b) → most f ≡ most_number → MergedOf o es b → MeetsIn f o es
 merged_meets f rule o es b some limit old d =
     common_merged (own_value o f d) (value f d) es (value f d b) (some d) (omega (arith, limit, old.in_range f d))
     (subst (λ r. IsMergeOf (Keeps r) (own_value o f d) (value f d) es (value f d b)) rule (old.each f d))
 
 -- the alignments of bounds are 1 or more
 alignments_some : (b : ImageBounds) (d : Side) → 1 ≤ value bound.SizeAlignment d b
-alignments_some b Width = b.width_step_some
-alignments_some b Height = b.height_step_some
+alignments_some b Width = b.width_alignment_some
+alignments_some b Height = b.height_alignment_some
 
 display_some : (b : ImageBounds) (d : Side) → 1 ≤ value bound.DisplayRectAlignment d b
 display_some b Width = b.display_width_some
@@ -100,7 +100,7 @@ alignments_meet o es b old = merged_meets bound.SizeAlignment refl o es b (align
 
 -- a merged row divisor is a common multiple
 pub divisors_meet : (o : Offer) (es : List ImageBounds) (b : ImageBounds) → MergedOf o es b → DivisorsMeet o es
-divisors_meet o es b old = merged_meets bound.BytesPerRowDivisor refl o es b (λ d. b.row_step_some) refl old
+divisors_meet o es b old = merged_meets bound.BytesPerRowDivisor refl o es b (λ d. b.row_divisor_some) refl old
 
 -- what a corner reads of merged bounds is what it reads of the list
 pub merged_reads : (o : Offer) (es : List ImageBounds) (b : ImageBounds) → MergedOf o es b → ReadsAs o es b
@@ -119,7 +119,7 @@ no_multiple_lines o es b old = (
   (
     λ line. line (divisors_meet o es b old),
     (
-      λ line. line (merged_meets bound.StartOffsetDivisor refl o es b (λ d. b.start_step_some) refl old),
+      λ line. line (merged_meets bound.StartOffsetDivisor refl o es b (λ d. b.start_divisor_some) refl old),
       (λ line. line (merged_meets bound.DisplayRectAlignment refl o es b (display_some b) refl old), tt),
     ),
   ),
@@ -139,8 +139,8 @@ no_required_line o es b old fits = λ line. elim line as (λ _. ⊥) [
 -- where some sides are up to max_size, its line isn't true
 no_max_line : (o : Offer) (es : List ImageBounds) (b : ImageBounds) → MergedOf o es b → HasSides b → ¬ IsBoundsLine MaxSize o es
 no_max_line o es b old has = λ line.
-    let narrow : has.width ≤ 4294967295 = omega (arith, has.max_width, (old.in_range bound.MaxSize Width)) in
-    let low : has.height ≤ 4294967295 = omega (arith, has.max_height, (old.in_range bound.MaxSize Height)) in
+    let narrow : has.width ≤ most_number = omega (arith, has.max_width, (old.in_range bound.MaxSize Width)) in
+    let low : has.height ≤ most_number = omega (arith, has.max_height, (old.in_range bound.MaxSize Height)) in
     elim line.1 as (λ _. ⊥) [
       | inl unmet ↦ unmet has.width narrow ((width_reads o es b old has.width).0 has.is_width) (((old.each bound.MaxSize Width).exactly has.width narrow).0 has.max_width)
       | inr unmet ↦ unmet has.height low ((height_reads o es b old has.height).0 has.is_height) (((old.each bound.MaxSize Height).exactly has.height low).0 has.max_height)
@@ -171,7 +171,7 @@ height_above o es b old above = λ n some small mins requireds.
     no
 
 -- the field for which merged bounds have no corner heads a line that is true of the list
-corner_line : (f : Field) (o : Offer) (es : List ImageBounds) (b : ImageBounds) → HasNoCorner f o b → MergedOf o es b → IsBoundsLine f o es
+corner_line : (f : Field) (o : Offer) (es : List ImageBounds) (b : ImageBounds) → RefusesCorner f o b → MergedOf o es b → IsBoundsLine f o es
 corner_line RequiredMinSize o es b none old =
     elim (cases_lt b.required_min_size.width b.min_size.width) as (λ _. IsBoundsLine RequiredMinSize o es) [
       | inl above ↦ inl (width_above o es b old above)
@@ -215,7 +215,7 @@ corner_line MaxBytesPerRow o es b none old = (
 corner_line _ o es b none old = absurd none
 
 -- and it heads the first one
-pub first_line : (f : Field) (o : Offer) (es : List ImageBounds) (b : ImageBounds) → HasNoCorner f o b → EarlierHold f b → MergedOf o es b → IsFirstLine f o es
+pub first_line : (f : Field) (o : Offer) (es : List ImageBounds) (b : ImageBounds) → RefusesCorner f o b → EarlierHold f b → MergedOf o es b → IsFirstLine f o es
 first_line RequiredMinSize o es b none earlier old = record {
   line = corner_line RequiredMinSize o es b none old;
   before = no_multiple_lines o es b old;
@@ -235,6 +235,6 @@ first_line MaxBytesPerRow o es b none earlier old = record {
 first_line _ o es b none earlier old = absurd none
 
 -- the same of what a corner's call returned
-pub first_line_of : (r : Result Corner Field) (o : Offer) (es : List ImageBounds) (b : ImageBounds) → IfErr r (λ f. HasNoCorner f o b) → IfErr r (λ f. EarlierHold f b) → MergedOf o es b → IfErr r (λ f. IsFirstLine f o es)
+pub first_line_of : (r : Result Corner Field) (o : Offer) (es : List ImageBounds) (b : ImageBounds) → IfErr r (λ f. RefusesCorner f o b) → IfErr r (λ f. EarlierHold f b) → MergedOf o es b → IfErr r (λ f. IsFirstLine f o es)
 first_line_of (Ok k) o es b none earlier old = tt
 first_line_of (Err f) o es b none earlier old = first_line f o es b none earlier old

@@ -15,22 +15,22 @@ pub corner_from : (o : Offer) (b : ImageBounds) (k : Corner)
 corner_from o b k least long short area bytes =
     let wide = least.width in
     let high = least.height in
-    let least_width : (w : ℕ) → IsWidth b w → k.width ≤ w = λ w is. wide.least w is.step is.from is.required in
-    let least_height : (h : ℕ) → IsHeight b h → k.height ≤ h = λ h is. high.least h is.step is.from is.required in
+    let least_width : (w : ℕ) → IsWidth b w → k.width ≤ w = λ w is. wide.least w is.alignment is.from is.required in
+    let least_height : (h : ℕ) → IsHeight b h → k.height ≤ h = λ h is. high.least h is.alignment is.from is.required in
     let least_row : (w r : ℕ) → IsWidth b w → IsRow o b w r → k.bytes_per_row ≤ r = λ w r is_width is_row.
     let enough : row_bytes_of o k.width ≤ r = omega (arith, row_bytes_mono o k.width w (least_width w is_width), is_row.row_bytes) in
-    long.least r is_row.step is_row.from enough in
+    long.least r is_row.divisor is_row.from enough in
     record {
       admitted = record {
         min_width = wide.from;
         min_height = high.from;
         max_width = least.max_width;
         max_height = least.max_height;
-        width_step = wide.multiple;
-        height_step = high.multiple;
+        width_alignment = wide.multiple;
+        height_alignment = high.multiple;
         min_row = long.from;
         max_row = short;
-        row_step = long.multiple;
+        row_divisor = long.multiple;
         row_bytes = long.above;
         area = area;
       };
@@ -47,10 +47,10 @@ pub area_from : (b : ImageBounds) (w h : ℕ) → AreLeastSides b w h → w * h 
 area_from b w h least area = record {
   sides = record {
     width = w;
-    is_width = record { step = least.width.multiple; from = least.width.from; required = least.width.above };
+    is_width = record { alignment = least.width.multiple; from = least.width.from; required = least.width.above };
     max_width = least.max_width;
     height = h;
-    is_height = record { step = least.height.multiple; from = least.height.from; required = least.height.above };
+    is_height = record { alignment = least.height.multiple; from = least.height.from; required = least.height.above };
     max_height = least.max_height;
   };
   area = area;

@@ -17,6 +17,7 @@ use Rattle.sysmem_image.specs.Merged.{MergedOf, NoneMerge, IsFirstAbove}
 use Rattle.sysmem_image.specs.Lines.{FitsWidth, FitsHeight, FitsRow, MeetsIn, IsBoundsLine, IsSteady, KeepsCorner, KeepsLine}
 use Rattle.sysmem_image.specs.Laws.{FitsImage}
 use Rattle.sysmem_image.proofs.Steps.{all_map, common_kept, above_line}
+use Rattle.sysmem_image.specs.Size.{most_number}
 
 -- bounds of an offer keep to its own value in each field
 pub own_kept : (o : Offer) (s : ImageBounds) → IsInRange s → Suits o s → (f : Bound) (d : Side) → Keeps (rule_of f) (own_value o f d) (value f d s)
@@ -36,30 +37,30 @@ own_kept o s in_range suits bound.MaxWidthTimesHeight d = in_range bound.MaxWidt
 
 -- the width of a sound image is as a list asks, if the bounds keep to its fields
 pub fits_width : (o : Offer) (es : List ImageBounds) (s : ImageBounds) (i : Image) → IsSoundBounds o s i → All (λ e. KeepsIn bound.MinSize s e) es → All (λ e. KeepsIn bound.SizeAlignment s e) es → All (λ e. KeepsIn bound.RequiredMaxSize s e) es → FitsWidth o es i.width
-fits_width o es s i sound mins steps larges = record {
+fits_width o es s i sound mins aligned larges = record {
   some = omega (arith, s.min_width_some, sound.admitted.min_width);
-  own = dvd_trans (width_alignment_of o) sound.suits.width sound.admitted.width_step;
-  step = all_map (λ e. KeepsIn bound.SizeAlignment s e) (λ e. e.size_alignment.width ∣ i.width) es (λ e k. dvd_trans e.size_alignment.width (k Width) sound.admitted.width_step) steps;
+  own = dvd_trans (width_alignment_of o) sound.suits.width sound.admitted.width_alignment;
+  alignments = all_map (λ e. KeepsIn bound.SizeAlignment s e) (λ e. e.size_alignment.width ∣ i.width) es (λ e k. dvd_trans e.size_alignment.width (k Width) sound.admitted.width_alignment) aligned;
   least = all_map (λ e. KeepsIn bound.MinSize s e) (λ e. e.min_size.width ≤ i.width) es (λ e k. omega (arith, (k Width), sound.admitted.min_width)) mins;
   required = all_map (λ e. KeepsIn bound.RequiredMaxSize s e) (λ e. e.required_max_size.width ≤ i.width) es (λ e k. omega (arith, (k Width), sound.large.width)) larges;
 }
 
 -- the height of a sound image is as a list asks, if the bounds keep to its fields
 pub fits_height : (o : Offer) (es : List ImageBounds) (s : ImageBounds) (i : Image) → IsSoundBounds o s i → All (λ e. KeepsIn bound.MinSize s e) es → All (λ e. KeepsIn bound.SizeAlignment s e) es → All (λ e. KeepsIn bound.RequiredMaxSize s e) es → FitsHeight o es i.height
-fits_height o es s i sound mins steps larges = record {
+fits_height o es s i sound mins aligned larges = record {
   some = omega (arith, s.min_height_some, sound.admitted.min_height);
-  own = dvd_trans (height_alignment_of o) sound.suits.height sound.admitted.height_step;
-  step = all_map (λ e. KeepsIn bound.SizeAlignment s e) (λ e. e.size_alignment.height ∣ i.height) es (λ e k. dvd_trans e.size_alignment.height (k Height) sound.admitted.height_step) steps;
+  own = dvd_trans (height_alignment_of o) sound.suits.height sound.admitted.height_alignment;
+  alignments = all_map (λ e. KeepsIn bound.SizeAlignment s e) (λ e. e.size_alignment.height ∣ i.height) es (λ e k. dvd_trans e.size_alignment.height (k Height) sound.admitted.height_alignment) aligned;
   least = all_map (λ e. KeepsIn bound.MinSize s e) (λ e. e.min_size.height ≤ i.height) es (λ e k. omega (arith, (k Height), sound.admitted.min_height)) mins;
   required = all_map (λ e. KeepsIn bound.RequiredMaxSize s e) (λ e. e.required_max_size.height ≤ i.height) es (λ e k. omega (arith, (k Height), sound.large.height)) larges;
 }
 
 -- the row of a sound image is as a list asks, if the bounds keep to its fields
 pub fits_row : (o : Offer) (es : List ImageBounds) (s : ImageBounds) (i : Image) → IsSoundBounds o s i → All (λ e. KeepsIn bound.MinBytesPerRow s e) es → All (λ e. KeepsIn bound.BytesPerRowDivisor s e) es → FitsRow o es i.width i.row
-fits_row o es s i sound mins steps = record {
+fits_row o es s i sound mins divided = record {
   some = omega (arith, s.min_row_some, sound.admitted.min_row);
-  own = dvd_trans (row_divisor_of o) sound.suits.row sound.admitted.row_step;
-  step = all_map (λ e. KeepsIn bound.BytesPerRowDivisor s e) (λ e. e.bytes_per_row_divisor ∣ i.row) es (λ e k. dvd_trans e.bytes_per_row_divisor (k Width) sound.admitted.row_step) steps;
+  own = dvd_trans (row_divisor_of o) sound.suits.row sound.admitted.row_divisor;
+  divisors = all_map (λ e. KeepsIn bound.BytesPerRowDivisor s e) (λ e. e.bytes_per_row_divisor ∣ i.row) es (λ e k. dvd_trans e.bytes_per_row_divisor (k Width) sound.admitted.row_divisor) divided;
   least = all_map (λ e. KeepsIn bound.MinBytesPerRow s e) (λ e. e.min_bytes_per_row ≤ i.row) es (λ e k. omega (arith, k Width, sound.admitted.min_row)) mins;
   row_bytes = sound.admitted.row_bytes;
 }
@@ -68,11 +69,11 @@ fits_row o es s i sound mins steps = record {
 pub fits_image : (o : Offer) (es : List ImageBounds) (s : ImageBounds) (i : Image) → IsSoundBounds o s i → All (λ e. KeepsCorner s e) es → FitsImage o es i
 fits_image o es s i sound all =
     let mins = all_map (KeepsCorner s) (λ e. KeepsIn bound.MinSize s e) es (λ e k. k.0) all in
-    let steps = all_map (KeepsCorner s) (λ e. KeepsIn bound.SizeAlignment s e) es (λ e k. k.1.0) all in
+    let aligned = all_map (KeepsCorner s) (λ e. KeepsIn bound.SizeAlignment s e) es (λ e k. k.1.0) all in
     let larges = all_map (KeepsCorner s) (λ e. KeepsIn bound.RequiredMaxSize s e) es (λ e k. k.1.1.1.1.0) all in
     record {
-      width = fits_width o es s i sound mins steps larges;
-      height = fits_height o es s i sound mins steps larges;
+      width = fits_width o es s i sound mins aligned larges;
+      height = fits_height o es s i sound mins aligned larges;
       row = fits_row o es s i sound
           (all_map (KeepsCorner s) (λ e. KeepsIn bound.MinBytesPerRow s e) es (λ e k. k.1.1.0) all)
           (all_map (KeepsCorner s) (λ e. KeepsIn bound.BytesPerRowDivisor s e) es (λ e k. k.1.1.1.0) all);
@@ -80,7 +81,7 @@ fits_image o es s i sound all =
 
 -- bounds that keep to a list in a field have a common multiple with it
 meets_kept : (f : Bound) (o : Offer) (es : List ImageBounds) (s : ImageBounds) → ((e : ImageBounds) → KeepsIn f s e → (d : Side) → value f d e ∣ value f d s)
-    → ((d : Side) → 1 ≤ value f d s) → ((d : Side) → value f d s ≤ 4294967295) → ((d : Side) → own_value o f d ∣ value f d s) → All (λ e. KeepsIn f s e) es → MeetsIn f o es
+    → ((d : Side) → 1 ≤ value f d s) → ((d : Side) → value f d s ≤ most_number) → ((d : Side) → own_value o f d ∣ value f d s) → All (λ e. KeepsIn f s e) es → MeetsIn f o es
 meets_kept f o es s divides some small suits all d =
     common_kept (own_value o f d) (value f d) es (value f d s) (some d) (small d) (suits d) (all_map (λ e. KeepsIn f s e) (λ e. value f d e ∣ value f d s) es (λ e k. divides e k d) all)
 
@@ -88,14 +89,14 @@ meets_kept f o es s divides some small suits all d =
 size_meets : (o : Offer) (es : List ImageBounds) (s : ImageBounds) → IsInRange s → Suits o s → All (λ e. KeepsIn bound.SizeAlignment s e) es → MeetsIn bound.SizeAlignment o es
 size_meets o es s in_range suits all = meets_kept bound.SizeAlignment o es s (λ e k. k) some (in_range bound.SizeAlignment) (own_kept o s in_range suits bound.SizeAlignment) all where
   some : (d : Side) → 1 ≤ value bound.SizeAlignment d s
-  some Width = s.width_step_some
-  some Height = s.height_step_some
+  some Width = s.width_alignment_some
+  some Height = s.height_alignment_some
 
 row_meets : (o : Offer) (es : List ImageBounds) (s : ImageBounds) → IsInRange s → Suits o s → All (λ e. KeepsIn bound.BytesPerRowDivisor s e) es → MeetsIn bound.BytesPerRowDivisor o es
-row_meets o es s in_range suits all = meets_kept bound.BytesPerRowDivisor o es s (λ e k. k) (λ d. s.row_step_some) (in_range bound.BytesPerRowDivisor) (own_kept o s in_range suits bound.BytesPerRowDivisor) all
+row_meets o es s in_range suits all = meets_kept bound.BytesPerRowDivisor o es s (λ e k. k) (λ d. s.row_divisor_some) (in_range bound.BytesPerRowDivisor) (own_kept o s in_range suits bound.BytesPerRowDivisor) all
 
 start_meets : (o : Offer) (es : List ImageBounds) (s : ImageBounds) → IsInRange s → Suits o s → All (λ e. KeepsIn bound.StartOffsetDivisor s e) es → MeetsIn bound.StartOffsetDivisor o es
-start_meets o es s in_range suits all = meets_kept bound.StartOffsetDivisor o es s (λ e k. k) (λ d. s.start_step_some) (in_range bound.StartOffsetDivisor) (own_kept o s in_range suits bound.StartOffsetDivisor) all
+start_meets o es s in_range suits all = meets_kept bound.StartOffsetDivisor o es s (λ e k. k) (λ d. s.start_divisor_some) (in_range bound.StartOffsetDivisor) (own_kept o s in_range suits bound.StartOffsetDivisor) all
 
 display_meets : (o : Offer) (es : List ImageBounds) (s : ImageBounds) → IsInRange s → Suits o s → All (λ e. KeepsIn bound.DisplayRectAlignment s e) es → MeetsIn bound.DisplayRectAlignment o es
 display_meets o es s in_range suits all = meets_kept bound.DisplayRectAlignment o es s (λ e k. k) some (in_range bound.DisplayRectAlignment) (own_kept o s in_range suits bound.DisplayRectAlignment) all where
@@ -119,20 +120,20 @@ line_holds RequiredMinSize o es line s i sound all = elim line as (λ _. ⊥) [
 ]
 line_holds MaxSize o es line s i sound all =
     let mins = all_map (KeepsLine MaxSize s) (λ e. KeepsIn bound.MinSize s e) es (λ e k. k.0) all in
-    let steps = all_map (KeepsLine MaxSize s) (λ e. KeepsIn bound.SizeAlignment s e) es (λ e k. k.1.1.0) all in
+    let aligned = all_map (KeepsLine MaxSize s) (λ e. KeepsIn bound.SizeAlignment s e) es (λ e k. k.1.1.0) all in
     let larges = all_map (KeepsLine MaxSize s) (λ e. KeepsIn bound.RequiredMaxSize s e) es (λ e k. k.1.1.1.0) all in
     elim line.1 as (λ _. ⊥) [
-      | inl unmet ↦ unmet i.width (omega (arith, sound.admitted.max_width, sound.in_range bound.MaxSize Width)) (fits_width o es s i sound mins steps larges)
+      | inl unmet ↦ unmet i.width (omega (arith, sound.admitted.max_width, sound.in_range bound.MaxSize Width)) (fits_width o es s i sound mins aligned larges)
           (all_map (KeepsLine MaxSize s) (λ e. i.width ≤ e.max_size.width) es (λ e k. omega (arith, k.1.0 Width, sound.admitted.max_width)) all)
-      | inr unmet ↦ unmet i.height (omega (arith, sound.admitted.max_height, sound.in_range bound.MaxSize Height)) (fits_height o es s i sound mins steps larges)
+      | inr unmet ↦ unmet i.height (omega (arith, sound.admitted.max_height, sound.in_range bound.MaxSize Height)) (fits_height o es s i sound mins aligned larges)
           (all_map (KeepsLine MaxSize s) (λ e. i.height ≤ e.max_size.height) es (λ e k. omega (arith, k.1.0 Height, sound.admitted.max_height)) all)
     ]
 line_holds MaxWidthTimesHeight o es line s i sound all =
     let mins = all_map (KeepsLine MaxWidthTimesHeight s) (λ e. KeepsIn bound.MinSize s e) es (λ e k. k.0) all in
-    let steps = all_map (KeepsLine MaxWidthTimesHeight s) (λ e. KeepsIn bound.SizeAlignment s e) es (λ e k. k.1.0) all in
+    let aligned = all_map (KeepsLine MaxWidthTimesHeight s) (λ e. KeepsIn bound.SizeAlignment s e) es (λ e k. k.1.0) all in
     let larges = all_map (KeepsLine MaxWidthTimesHeight s) (λ e. KeepsIn bound.RequiredMaxSize s e) es (λ e k. k.1.1.0) all in
     line.1 i.width i.height (omega (arith, sound.admitted.area, sound.in_range bound.MaxWidthTimesHeight Width))
-    (fits_width o es s i sound mins steps larges) (fits_height o es s i sound mins steps larges)
+    (fits_width o es s i sound mins aligned larges) (fits_height o es s i sound mins aligned larges)
     (all_map (KeepsLine MaxWidthTimesHeight s) (λ e. i.width * i.height ≤ e.max_width_times_height) es (λ e k. omega (arith, k.1.1.1.0 Width, sound.admitted.area)) all)
 line_holds MaxBytesPerRow o es line s i sound all =
     let fits = fits_image o es s i sound (all_map (KeepsLine MaxBytesPerRow s) (KeepsCorner s) es (λ e k. k.1) all) in

@@ -14,6 +14,7 @@ use Rattle.sysmem_image.specs.Multiples.{IsAboveLimit, HasMultiple}
 use Rattle.sysmem_image.specs.Merged.{IsMergeOf, MergedOf, IsFirstAbove}
 use Rattle.sysmem_image.specs.Lines.{HasCommon, MeetsIn, IsBoundsLine, IsFirstLine, IsSteady}
 use Rattle.sysmem_image.proofs.Rows.{both_pop}
+use Rattle.sysmem_image.specs.Size.{most_number}
 
 -- what follows from a fact follows of each of a list
 pub all_map : {X : Type 0} (P Q : X → Type 0) (es : List X) → ((e : X) → P e → Q e) → All P es → All Q es
@@ -36,13 +37,13 @@ common_more own f es e m old has =
 pub none_above : (own : ℕ) (f : ImageBounds → ℕ) (es : List ImageBounds) (e : ImageBounds) (m : ℕ) → IsMergeOf (Keeps Multiple) own f es m → IsAboveLimit m (f e) → ¬ HasCommon own f (es ++ e ∷ [])
 none_above own f es e m old above = λ common.
     let parts = both_pop (λ x. f x ∣ common.0) es e common.1.each in
-    let limit : 4294967295 < common.0 = above common.0 common.1.some ((old.exactly common.0 common.1.own).1 parts.0) parts.1 in
-    let small : common.0 ≤ 4294967295 = common.1.small in
+    let limit : most_number < common.0 = above common.0 common.1.some ((old.exactly common.0 common.1.own).1 parts.0) parts.1 in
+    let small : common.0 ≤ most_number = common.1.small in
     let no : ⊥ = omega arith in
     no
 
 -- a merged number is a common multiple
-pub common_merged : (own : ℕ) (f : ImageBounds → ℕ) (es : List ImageBounds) (m : ℕ) → 1 ≤ m → m ≤ 4294967295 → IsMergeOf (Keeps Multiple) own f es m → HasCommon own f es
+pub common_merged : (own : ℕ) (f : ImageBounds → ℕ) (es : List ImageBounds) (m : ℕ) → 1 ≤ m → m ≤ most_number → IsMergeOf (Keeps Multiple) own f es m → HasCommon own f es
 common_merged own f es m some small old = (
   m,
   record {
@@ -54,7 +55,7 @@ common_merged own f es m some small old = (
 )
 
 -- a number that suits the offer and is a multiple of each of a list is a common multiple
-pub common_kept : (own : ℕ) (f : ImageBounds → ℕ) (es : List ImageBounds) (n : ℕ) → 1 ≤ n → n ≤ 4294967295 → own ∣ n → All (λ e. f e ∣ n) es → HasCommon own f es
+pub common_kept : (own : ℕ) (f : ImageBounds → ℕ) (es : List ImageBounds) (n : ℕ) → 1 ≤ n → n ≤ most_number → own ∣ n → All (λ e. f e ∣ n) es → HasCommon own f es
 common_kept own f es n some small suits each = (n, record { some = some; small = small; own = suits; each = each })
 
 -- the common multiples of a list and one more are common to the list

@@ -10,21 +10,21 @@ use Rattle.sysmem_image.specs.declared.size.Corner.{Corner}
 use Rattle.sysmem_image.specs.Size.{IsSizeUpTo}
 use Rattle.sysmem_image.specs.Images.{Image, Admits, IsLargeEnough}
 
--- a width of the bounds' steps that isn't below their lower bounds; it may be above max_size
+-- a width of the bounds' alignment that isn't below their lower bounds; it may be above max_size
 pub record IsWidth (b : ImageBounds) (w : ℕ) : Type 0 where
-  pub step : b.size_alignment.width ∣ w
+  pub alignment : b.size_alignment.width ∣ w
   pub from : b.min_size.width ≤ w
   pub required : b.required_max_size.width ≤ w
 
--- a height of the bounds' steps that isn't below their lower bounds; it may be above max_size
+-- a height of the bounds' alignment that isn't below their lower bounds; it may be above max_size
 pub record IsHeight (b : ImageBounds) (h : ℕ) : Type 0 where
-  pub step : b.size_alignment.height ∣ h
+  pub alignment : b.size_alignment.height ∣ h
   pub from : b.min_size.height ≤ h
   pub required : b.required_max_size.height ≤ h
 
--- a row of the bounds' steps for a width, not below their lower bound; it may be above the maximum
+-- a row of the bounds' divisor for a width, not below their lower bound; it may be above the maximum
 pub record IsRow (o : Offer) (b : ImageBounds) (w r : ℕ) : Type 0 where
-  pub step : b.bytes_per_row_divisor ∣ r
+  pub divisor : b.bytes_per_row_divisor ∣ r
   pub from : b.min_bytes_per_row ≤ r
   pub row_bytes : row_bytes_of o w ≤ r
 
@@ -33,7 +33,7 @@ abbrev pub image_of : Corner → Image
 image_of k = record { width = k.width; height = k.height; row = k.bytes_per_row }
 
 -- the corner is an image of the bounds, at least required_max_size, and least in width, height, row
--- and bytes among all that the steps and lower bounds allow
+-- and bytes among all that alignment, divisor and lower bounds allow
 pub record IsCorner (o : Offer) (b : ImageBounds) (k : Corner) : Type 0 where
   pub admitted : Admits o b (image_of k)
   pub large : IsLargeEnough b (image_of k)
@@ -43,23 +43,23 @@ pub record IsCorner (o : Offer) (b : ImageBounds) (k : Corner) : Type 0 where
   pub least_row : (w r : ℕ) → IsWidth b w → IsRow o b w r → k.bytes_per_row ≤ r
   pub least_bytes : (w h r : ℕ) → IsWidth b w → IsHeight b h → IsRow o b w r → k.bytes ≤ image_bytes_of o r h
 
--- no width that the steps and lower bounds allow is up to max_size
+-- no width that the alignment and lower bounds allow is up to max_size
 abbrev pub HasNoWidth : ImageBounds → Type 0
 HasNoWidth b = (w : ℕ) → IsWidth b w → b.max_size.width < w
 
--- no height that the steps and lower bounds allow is up to max_size
+-- no height that the alignment and lower bounds allow is up to max_size
 abbrev pub HasNoHeight : ImageBounds → Type 0
 HasNoHeight b = (h : ℕ) → IsHeight b h → b.max_size.height < h
 
--- why bounds have no corner: the line of the conflict table that this field heads fails
-abbrev pub HasNoCorner : Field → Offer → ImageBounds → Type 0
-HasNoCorner RequiredMinSize o b = ¬ IsSizeUpTo b.min_size b.required_min_size
-HasNoCorner MaxSize o b = HasNoWidth b ⊎ HasNoHeight b
-HasNoCorner MaxWidthTimesHeight o b = (w h : ℕ) → IsWidth b w → IsHeight b h → b.max_width_times_height < w * h
-HasNoCorner MaxBytesPerRow o b = (w r : ℕ) → IsWidth b w → IsRow o b w r → b.max_bytes_per_row < r
-HasNoCorner _ o b = ⊥
+-- for this field bounds are refused a corner: the line of the conflict table that it heads fails
+abbrev pub RefusesCorner : Field → Offer → ImageBounds → Type 0
+RefusesCorner RequiredMinSize o b = ¬ IsSizeUpTo b.min_size b.required_min_size
+RefusesCorner MaxSize o b = HasNoWidth b ⊎ HasNoHeight b
+RefusesCorner MaxWidthTimesHeight o b = (w h : ℕ) → IsWidth b w → IsHeight b h → b.max_width_times_height < w * h
+RefusesCorner MaxBytesPerRow o b = (w r : ℕ) → IsWidth b w → IsRow o b w r → b.max_bytes_per_row < r
+RefusesCorner _ o b = ⊥
 
--- a width and a height that the steps and lower bounds allow are up to max_size
+-- a width and a height that the alignment and lower bounds allow are up to max_size
 pub record HasSides (b : ImageBounds) : Type 0 where
   pub width : ℕ
   pub is_width : IsWidth b width
@@ -80,12 +80,12 @@ EarlierHold MaxWidthTimesHeight b = IsSizeUpTo b.min_size b.required_min_size ×
 EarlierHold MaxBytesPerRow b = IsSizeUpTo b.min_size b.required_min_size × HasArea b
 EarlierHold _ b = Unit {0}
 
--- m is the least multiple of the step that isn't below either number
-pub record IsLeastAbove (step low other m : ℕ) : Type 0 where
-  pub multiple : step ∣ m
+-- m is the least multiple of n that isn't below either bound
+pub record IsLeastAbove (n low other m : ℕ) : Type 0 where
+  pub multiple : n ∣ m
   pub from : low ≤ m
   pub above : other ≤ m
-  pub least : (k : ℕ) → step ∣ k → low ≤ k → other ≤ k → m ≤ k
+  pub least : (k : ℕ) → n ∣ k → low ≤ k → other ≤ k → m ≤ k
 
 -- the least width and the least height that the bounds allow, and they are up to max_size
 pub record AreLeastSides (b : ImageBounds) (w h : ℕ) : Type 0 where

@@ -52,7 +52,7 @@ some_max n = omega arith
 
 -- the bounds that an entry puts on an offer, whose row divisor is 1 or more, as all are
 abbrev pub effective : Offer → Entry → ImageBounds
-effective o entry = record entry.bounds.asked { bytes_per_row_divisor = max (row_divisor_asked o entry.bounds) 1; row_step_some = some_max (row_divisor_asked o entry.bounds) }
+effective o entry = record entry.bounds.asked { bytes_per_row_divisor = max (row_divisor_asked o entry.bounds) 1; row_divisor_some = some_max (row_divisor_asked o entry.bounds) }
 
 -- the bounds that each entry of a list puts on an offer
 abbrev pub effective_all : Offer → List Entry → List ImageBounds

@@ -7,6 +7,7 @@ use Rattle.sysmem_counts.specs.declared.field.Field.TheVariants as field
 use Rattle.sysmem_formats.specs.declared.offer.Offer.{Offer}
 use Rattle.sysmem_formats.specs.Layout.{width_alignment_of, height_alignment_of, row_divisor_of}
 use Rattle.sysmem_image.specs.declared.bounds.ImageBounds.{ImageBounds}
+use Rattle.sysmem_image.specs.Size.{most_number}
 
 -- a field of image bounds
 pub data Bound : Type 0 where
@@ -103,19 +104,19 @@ rule_of MaxWidthTimesHeight = Least
 -- its greatest value
 abbrev pub most : Bound → ℕ
 most MaxWidthTimesHeight = 18446744073709551615
-most _ = 4294967295
+most _ = most_number
 
 -- its value where it isn't given
 abbrev pub absent : Bound → ℕ
 absent MinSize = 1
-absent MaxSize = 4294967295
+absent MaxSize = most_number
 absent SizeAlignment = 1
 absent MinBytesPerRow = 1
-absent MaxBytesPerRow = 4294967295
+absent MaxBytesPerRow = most_number
 absent BytesPerRowDivisor = 1
 absent StartOffsetDivisor = 1
 absent DisplayRectAlignment = 1
-absent RequiredMinSize = 4294967295
+absent RequiredMinSize = most_number
 absent RequiredMaxSize = 0
 absent MaxWidthTimesHeight = 18446744073709551615
 

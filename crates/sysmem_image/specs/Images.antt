@@ -19,11 +19,11 @@ pub record Admits (o : Offer) (b : ImageBounds) (i : Image) : Type 0 where
   pub min_height : b.min_size.height ≤ i.height
   pub max_width : i.width ≤ b.max_size.width
   pub max_height : i.height ≤ b.max_size.height
-  pub width_step : b.size_alignment.width ∣ i.width
-  pub height_step : b.size_alignment.height ∣ i.height
+  pub width_alignment : b.size_alignment.width ∣ i.width
+  pub height_alignment : b.size_alignment.height ∣ i.height
   pub min_row : b.min_bytes_per_row ≤ i.row
   pub max_row : i.row ≤ b.max_bytes_per_row
-  pub row_step : b.bytes_per_row_divisor ∣ i.row
+  pub row_divisor : b.bytes_per_row_divisor ∣ i.row
   pub row_bytes : row_bytes_of o i.width ≤ i.row
   pub area : i.width * i.height ≤ b.max_width_times_height
 

@@ -12,7 +12,7 @@ use Rattle.sysmem_image.specs.Fields.{Bound, Side, value}
 use Rattle.sysmem_image.specs.Bounds.{IsTighter, IsInRange, Suits, IsOwn}
 use Rattle.sysmem_image.specs.Images.{Image, Admits, IsLargeEnough, IsSoundBounds}
 use Rattle.sysmem_image.specs.Merged.{MergedOf}
-use Rattle.sysmem_image.specs.Corners.{IsWidth, IsHeight, IsRow, IsCorner, HasNoCorner}
+use Rattle.sysmem_image.specs.Corners.{IsWidth, IsHeight, IsRow, IsCorner, RefusesCorner}
 use Rattle.sysmem_image.specs.Lines.{FitsWidth, FitsHeight, FitsRow, AlignmentsMeet, DivisorsMeet, IsBoundsLine, IsSteady, KeepsCorner, KeepsLine}
 use Rattle.sysmem_image.specs.Entries.{effective, effective_all}
 
@@ -56,7 +56,7 @@ LooserAdmits = (o : Offer) (a b : ImageBounds) → IsTighter a b → (i : Image)
 
 -- where the corner is refused, no image is as the bounds ask, or required_min_size fails
 abbrev pub NoCorner : Type 0
-NoCorner = (f : Field) (o : Offer) (b : ImageBounds) → HasNoCorner f o b → (i : Image) → Admits o b i → IsLargeEnough b i → IsSizeUpTo b.min_size b.required_min_size → ⊥
+NoCorner = (f : Field) (o : Offer) (b : ImageBounds) → RefusesCorner f o b → (i : Image) → Admits o b i → IsLargeEnough b i → IsSizeUpTo b.min_size b.required_min_size → ⊥
 
 -- the corner is no wider, no higher, of no longer rows and of no more bytes than an image
 pub record IsUpTo (o : Offer) (k : Corner) (i : Image) : Type 0 where
@@ -87,7 +87,7 @@ pub record FitsImage (o : Offer) (es : List ImageBounds) (i : Image) : Type 0 wh
 abbrev pub SoundFits : Type 0
 SoundFits = (o : Offer) (es : List ImageBounds) (s : ImageBounds) (i : Image) → IsSoundBounds o s i → All (λ e. KeepsCorner s e) es → FitsImage o es i
 
--- the steps and lower bounds of merged bounds are those of the list, and its common multiples exist
+-- the alignments, divisors and lower bounds of merged bounds are those of the list, and its common multiples exist
 pub record ReadsAs (o : Offer) (es : List ImageBounds) (b : ImageBounds) : Type 0 where
   pub width : (w : ℕ) → IsWidth b w ↔ FitsWidth o es w
   pub height : (h : ℕ) → IsHeight b h ↔ FitsHeight o es h

@@ -8,11 +8,12 @@ use Rattle.sysmem_formats.specs.Layout.{width_alignment_of, height_alignment_of,
 use Rattle.sysmem_image.specs.declared.bounds.ImageBounds.{ImageBounds}
 use Rattle.sysmem_image.specs.Fields as bound
 use Rattle.sysmem_image.specs.Fields.{Bound, Side, value, own_value, KeepsEach}
+use Rattle.sysmem_image.specs.Size.{most_number}
 
 -- n is a common multiple, up to the limit, of the own number and those of a list
 pub record IsCommon (first : ℕ) (f : ImageBounds → ℕ) (es : List ImageBounds) (n : ℕ) : Type 0 where
   pub some : 1 ≤ n
-  pub small : n ≤ 4294967295
+  pub small : n ≤ most_number
   pub own : first ∣ n
   pub each : All (λ e. f e ∣ n) es
 
@@ -29,7 +30,7 @@ MeetsIn f o es = (side : Side) → HasCommon (own_value o f side) (value f side)
 pub record FitsWidth (o : Offer) (es : List ImageBounds) (w : ℕ) : Type 0 where
   pub some : 1 ≤ w
   pub own : width_alignment_of o ∣ w
-  pub step : All (λ e. e.size_alignment.width ∣ w) es
+  pub alignments : All (λ e. e.size_alignment.width ∣ w) es
   pub least : All (λ e. e.min_size.width ≤ w) es
   pub required : All (λ e. e.required_max_size.width ≤ w) es
 
@@ -37,7 +38,7 @@ pub record FitsWidth (o : Offer) (es : List ImageBounds) (w : ℕ) : Type 0 wher
 pub record FitsHeight (o : Offer) (es : List ImageBounds) (h : ℕ) : Type 0 where
   pub some : 1 ≤ h
   pub own : height_alignment_of o ∣ h
-  pub step : All (λ e. e.size_alignment.height ∣ h) es
+  pub alignments : All (λ e. e.size_alignment.height ∣ h) es
   pub least : All (λ e. e.min_size.height ≤ h) es
   pub required : All (λ e. e.required_max_size.height ≤ h) es
 
@@ -45,7 +46,7 @@ pub record FitsHeight (o : Offer) (es : List ImageBounds) (h : ℕ) : Type 0 whe
 pub record FitsRow (o : Offer) (es : List ImageBounds) (w r : ℕ) : Type 0 where
   pub some : 1 ≤ r
   pub own : row_divisor_of o ∣ r
-  pub step : All (λ e. e.bytes_per_row_divisor ∣ r) es
+  pub divisors : All (λ e. e.bytes_per_row_divisor ∣ r) es
   pub least : All (λ e. e.min_bytes_per_row ≤ r) es
   pub row_bytes : row_bytes_of o w ≤ r
 
@@ -59,15 +60,15 @@ DivisorsMeet o es = MeetsIn bound.BytesPerRowDivisor o es
 
 -- the greatest min_size of a list is above its least required_min_size in the dimension
 abbrev pub MinAboveRequired : (ImageBounds → ℕ) → (ImageBounds → ℕ) → List ImageBounds → Type 0
-MinAboveRequired min required es = (n : ℕ) → 1 ≤ n → n ≤ 4294967295 → All (λ e. min e ≤ n) es → All (λ e. n ≤ required e) es → ⊥
+MinAboveRequired min required es = (n : ℕ) → 1 ≤ n → n ≤ most_number → All (λ e. min e ≤ n) es → All (λ e. n ≤ required e) es → ⊥
 
 -- the corner's width is above the least max_size
 abbrev pub WidthAbove : Offer → List ImageBounds → Type 0
-WidthAbove o es = (w : ℕ) → w ≤ 4294967295 → FitsWidth o es w → All (λ e. w ≤ e.max_size.width) es → ⊥
+WidthAbove o es = (w : ℕ) → w ≤ most_number → FitsWidth o es w → All (λ e. w ≤ e.max_size.width) es → ⊥
 
 -- the corner's height is above the least max_size
 abbrev pub HeightAbove : Offer → List ImageBounds → Type 0
-HeightAbove o es = (h : ℕ) → h ≤ 4294967295 → FitsHeight o es h → All (λ e. h ≤ e.max_size.height) es → ⊥
+HeightAbove o es = (h : ℕ) → h ≤ most_number → FitsHeight o es h → All (λ e. h ≤ e.max_size.height) es → ⊥
 
 -- the corner's width times height is above the least max_width_times_height
 abbrev pub AreaAbove : Offer → List ImageBounds → Type 0
@@ -75,7 +76,7 @@ AreaAbove o es = (w h : ℕ) → w * h ≤ 18446744073709551615 → FitsWidth o 
 
 -- the corner's row is above the least max_bytes_per_row, where the corner may be wider than 32 bits
 abbrev pub RowAbove : Offer → List ImageBounds → Type 0
-RowAbove o es = (w r : ℕ) → r ≤ 4294967295 → FitsWidth o es w → FitsRow o es w r → All (λ e. r ≤ e.max_bytes_per_row) es → ⊥
+RowAbove o es = (w r : ℕ) → r ≤ most_number → FitsWidth o es w → FitsRow o es w r → All (λ e. r ≤ e.max_bytes_per_row) es → ⊥
 
 -- the line of the conflict table that the field heads is true of the bounds of a list, in exact arithmetic
 abbrev pub IsBoundsLine : Field → Offer → List ImageBounds → Type 0

@@ -2,6 +2,7 @@
 use Rattle.std.specs.Prelude.{◌≡◌, ℕ, ◌≤◌, ◌<◌, ◌⊎◌, Option, Some, None}
 use Rattle.std.specs.Int.{◌∣◌}
 use Rattle.sysmem_image.specs.declared.size.Size.{Size}
+use Rattle.sysmem_image.specs.Size.{most_number}
 
 -- m is the least common multiple of a and b: a common multiple that divides each other one
 pub record IsLcm (a b m : ℕ) : Type 0 where
@@ -16,7 +17,7 @@ pub record IsSizeLcm (a b m : Size) : Type 0 where
 
 -- each common multiple of a and b, but 0, is above the limit
 abbrev pub IsAboveLimit : ℕ → ℕ → Type 0
-IsAboveLimit a b = (k : ℕ) → 1 ≤ k → a ∣ k → b ∣ k → 4294967295 < k
+IsAboveLimit a b = (k : ℕ) → 1 ≤ k → a ∣ k → b ∣ k → most_number < k
 
 -- the same of one dimension at least
 abbrev pub IsSizeAboveLimit : Size → Size → Type 0
@@ -26,7 +27,7 @@ IsSizeAboveLimit a b = IsAboveLimit a.width b.width ⊎ IsAboveLimit a.height b.
 pub record HasMultiple (a b : ℕ) : Type 0 where
   pub multiple : ℕ
   pub some : 1 ≤ multiple
-  pub small : multiple ≤ 4294967295
+  pub small : multiple ≤ most_number
   pub left : a ∣ multiple
   pub right : b ∣ multiple
 

@@ -1,7 +1,11 @@
 -- Sizes, compared in both dimensions.
-use Rattle.std.specs.Prelude.{◌≤◌, ◌≡◌, max, min}
+use Rattle.std.specs.Prelude.{ℕ, ◌≤◌, ◌≡◌, max, min}
 use Rattle.std.specs.Int.{◌∣◌}
 use Rattle.sysmem_image.specs.declared.size.Size.{Size}
+
+-- the greatest number of 32 bits
+abbrev pub most_number : ℕ
+most_number = 4294967295
 
 -- both dimensions of a are at most those of b
 pub record IsSizeUpTo (a b : Size) : Type 0 where
@@ -15,8 +19,8 @@ pub record DividesSize (a b : Size) : Type 0 where
 
 -- both dimensions are within 32 bits
 pub record IsSizeInRange (a : Size) : Type 0 where
-  pub width : a.width ≤ 4294967295
-  pub height : a.height ≤ 4294967295
+  pub width : a.width ≤ most_number
+  pub height : a.height ≤ most_number
 
 -- m has the greater width and the greater height
 pub record IsSizeGreatest (a b m : Size) : Type 0 where

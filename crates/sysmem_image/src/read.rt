@@ -8,7 +8,7 @@ ghost use Rattle.sysmem_formats.specs.declared.offer.Offer.{Offer};
 ghost use Rattle.sysmem_image.specs.Corners.{IsLeastAbove};
 ghost use Rattle.sysmem_image.specs.Entries.{effective};
 ghost use Rattle.sysmem_image.specs.Lines.{AlignmentsMeet, DivisorsMeet, IsBoundsLine};
-ghost use Rattle.sysmem_image.specs.Size.{IsSizeInRange};
+ghost use Rattle.sysmem_image.specs.Size.{IsSizeInRange, most_number};
 ghost use Rattle.sysmem_image.specs.Multiples.{IsJoined, IsSizeJoined};
 
 use crate::bounds::ImageBounds;
@@ -39,10 +39,10 @@ pub struct BoundsRead {
     required_min_size: Size,
     required_max_size: Size,
     max_width_times_height: u64,
-    ghost width_step_some: { IfSome size_alignment (λ s. 1 ≤ s.width) } by { Prim.hlevel props },
-    ghost height_step_some: { IfSome size_alignment (λ s. 1 ≤ s.height) } by { Prim.hlevel props },
-    ghost row_step_some: { IfSome bytes_per_row_divisor (λ n. 1 ≤ n) } by { Prim.hlevel props },
-    ghost start_step_some: { IfSome start_offset_divisor (λ n. 1 ≤ n) } by { Prim.hlevel props },
+    ghost width_alignment_some: { IfSome size_alignment (λ s. 1 ≤ s.width) } by { Prim.hlevel props },
+    ghost height_alignment_some: { IfSome size_alignment (λ s. 1 ≤ s.height) } by { Prim.hlevel props },
+    ghost row_divisor_some: { IfSome bytes_per_row_divisor (λ n. 1 ≤ n) } by { Prim.hlevel props },
+    ghost start_divisor_some: { IfSome start_offset_divisor (λ n. 1 ≤ n) } by { Prim.hlevel props },
     ghost display_width_some: { IfSome display_rect_alignment (λ s. 1 ≤ s.width) } by { Prim.hlevel props },
     ghost display_height_some: { IfSome display_rect_alignment (λ s. 1 ≤ s.height) } by { Prim.hlevel props },
 }
@@ -126,10 +126,10 @@ impl BoundsRead {
         ensures small_width { IfSome result (λ s. s.0 < 2 ^ 33) }
         ensures small_height { IfSome result (λ s. s.1 < 2 ^ 33) }
     {
-        let step = self.size_alignment?;
+        let alignment = self.size_alignment?;
         let (low, large) = (self.min_size, self.required_max_size);
-        let width = least_side(step.width, low.width, large.width);
-        let height = least_side(step.height, low.height, large.height);
+        let width = least_side(alignment.width, low.width, large.width);
+        let height = least_side(alignment.height, low.height, large.height);
         Some((width, height))
     }
 
@@ -146,8 +146,12 @@ impl BoundsRead {
             IfNone result (¬ DivisorsMeet offer.now es) }
         ensures small { IfSome result (λ r. r < 2 ^ 40) }
     {
-        let step = self.bytes_per_row_divisor?;
-        Some(least_above(step, self.min_bytes_per_row, wide_row_bytes(offer, width)))
+        let divisor = self.bytes_per_row_divisor?;
+        Some(least_above(
+            divisor,
+            self.min_bytes_per_row,
+            wide_row_bytes(offer, width),
+        ))
     }
 
     /// What is kept with the bounds of one more entry.
@@ -205,7 +209,7 @@ fn joined(kept: Option<u32>, more: u32) -> Option<u32>
     requires more { 1 ≤ more }
     ensures joined { IsJoined kept more result }
     ensures some { IfSome result (λ n. 1 ≤ n) }
-    ensures small { IfSome result (λ n. n ≤ 4294967295) }
+    ensures small { IfSome result (λ n. n ≤ most_number) }
 {
     lcm_capped(kept?, more)
 }
@@ -227,22 +231,24 @@ fn joined_size(kept: Option<Size>, more: Size) -> Option<Size>
     Some(Size { width, height })
 }
 
-/// The least multiple of a side's step that isn't below its two lower bounds; it may be above 32 bits.
-fn least_side(step: u32, low: u32, large: u32) -> u64
-    requires { 1 ≤ step }
-    ensures least { IsLeastAbove step low large result }
+/// The least multiple of a side's alignment that isn't below its two lower bounds; it may be above 32 bits.
+fn least_side(alignment: u32, low: u32, large: u32) -> u64
+    requires { 1 ≤ alignment }
+    ensures least { IsLeastAbove alignment low large result }
     ensures small { result < 2 ^ 33 }
 {
-    least_above(step, low, u64::from(large))
+    least_above(alignment, low, u64::from(large))
 }
 
-/// The least multiple of a step that isn't below two numbers; it may be above 32 bits.
-fn least_above(step: u32, low: u32, other: u64) -> u64
-    requires step { 1 ≤ step }
+/// The least multiple of a divisor that isn't below two numbers; it may be above 32 bits.
+fn least_above(divisor: u32, low: u32, other: u64) -> u64
+    requires divisor { 1 ≤ divisor }
     requires other { other < 2 ^ 36 }
-    ensures least { IsLeastAbove step low other result }
+    ensures least { IsLeastAbove divisor low other result }
     ensures small { result < 2 ^ 40 }
     ensures sides { other < 2 ^ 32 → result < 2 ^ 33 }
 {
-    other.max(u64::from(low)).next_multiple_of(u64::from(step))
+    other
+        .max(u64::from(low))
+        .next_multiple_of(u64::from(divisor))
 }

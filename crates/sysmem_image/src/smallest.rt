@@ -6,7 +6,7 @@ ghost use Rattle.sysmem_image.specs.declared.bounds.ImageBounds.{ImageBounds};
 ghost use Rattle.sysmem_counts.specs.declared.field.Field.{Field};
 ghost use Rattle.sysmem_image.specs.Size.{IsSizeUpTo};
 ghost use Rattle.sysmem_image.specs.Merged.{MergedOf};
-ghost use Rattle.sysmem_image.specs.Corners.{IsCorner, HasNoCorner, HasNoWidth, HasNoHeight, EarlierHold, IsLeastAbove, AreLeastSides};
+ghost use Rattle.sysmem_image.specs.Corners.{IsCorner, RefusesCorner, HasNoWidth, HasNoHeight, EarlierHold, IsLeastAbove, AreLeastSides};
 ghost use Rattle.sysmem_image.specs.Lines.{IsFirstLine};
 
 use crate::bounds::ImageBounds;
@@ -23,7 +23,7 @@ pub fn corner(bounds: &ImageBounds, offer: &Offer) -> Result<Corner, Field>
     ensures corner { IfOk result (λ k. IsCorner offer.now bounds.now k) }
     ensures required { IfOk result
         (λ _. IsSizeUpTo bounds.now.min_size bounds.now.required_min_size) }
-    ensures none { IfErr result (λ field. HasNoCorner field offer.now bounds.now) }
+    ensures none { IfErr result (λ field. RefusesCorner field offer.now bounds.now) }
     ensures earlier { IfErr result (λ field. EarlierHold field bounds.now) }
     ensures line { (es : List ImageBounds) → MergedOf offer.now es bounds.now →
         IfErr result (λ field. IsFirstLine field offer.now es) }
@@ -36,7 +36,7 @@ fn corner_of(bounds: &ImageBounds, offer: &Offer) -> Result<Corner, Field>
     ensures corner { IfOk result (λ k. IsCorner offer.now bounds.now k) }
     ensures required { IfOk result
         (λ _. IsSizeUpTo bounds.now.min_size bounds.now.required_min_size) }
-    ensures none { IfErr result (λ field. HasNoCorner field offer.now bounds.now) }
+    ensures none { IfErr result (λ field. RefusesCorner field offer.now bounds.now) }
     ensures earlier { IfErr result (λ field. EarlierHold field bounds.now) }
 {
     let required = is_size_up_to(bounds.min_size, bounds.required_min_size);
@@ -70,10 +70,10 @@ fn least_sides(bounds: &ImageBounds) -> Result<(u32, u32), Field>
     ensures named { IfErr result (λ f. f ≡ Field.MaxSize) }
     ensures none { OnErr result (HasNoWidth bounds.now ⊎ HasNoHeight bounds.now) }
 {
-    let (low, step) = (bounds.min_size, bounds.size_alignment);
+    let (low, alignment) = (bounds.min_size, bounds.size_alignment);
     let (large, high) = (bounds.required_max_size, bounds.max_size);
-    let width = least_side(step.width, low.width, large.width, high.width)?;
-    let height = least_side(step.height, low.height, large.height, high.height)?;
+    let width = least_side(alignment.width, low.width, large.width, high.width)?;
+    let height = least_side(alignment.height, low.height, large.height, high.height)?;
     Ok((width, height))
 }
 
@@ -84,28 +84,28 @@ fn is_area_up_to(width: u32, height: u32, most: u64) -> bool
     u64::from(width) * u64::from(height) <= most
 }
 
-/// The least multiple of a side's step that isn't below its two lower bounds.
-fn least_side(step: u32, low: u32, large: u32, max: u32) -> Result<u32, Field>
-    requires { 1 ≤ step }
-    ensures ok { IfOk result (λ m. IsLeastAbove step low large m) }
+/// The least multiple of a side's alignment that isn't below its two lower bounds.
+fn least_side(alignment: u32, low: u32, large: u32, max: u32) -> Result<u32, Field>
+    requires { 1 ≤ alignment }
+    ensures ok { IfOk result (λ m. IsLeastAbove alignment low large m) }
     ensures within { IfOk result (λ m. m ≤ max) }
     ensures named { IfErr result (λ f. f ≡ Field.MaxSize) }
-    ensures none { OnErr result ((k : ℕ) → step ∣ k → low ≤ k → large ≤ k → max < k) }
+    ensures none { OnErr result ((k : ℕ) → alignment ∣ k → low ≤ k → large ≤ k → max < k) }
 {
-    least_within(step, low, u64::from(large), max, Field::MaxSize)
+    least_within(alignment, low, u64::from(large), max, Field::MaxSize)
 }
 
-/// The least multiple of a step that isn't below two numbers, or the field where it is above a third.
-fn least_within(step: u32, low: u32, other: u64, max: u32, field: Field) -> Result<u32, Field>
-    requires step { 1 ≤ step }
+/// The least multiple of a divisor that isn't below two numbers, or the field where it is above a third.
+fn least_within(divisor: u32, low: u32, other: u64, max: u32, field: Field) -> Result<u32, Field>
+    requires divisor { 1 ≤ divisor }
     requires other { other < 2 ^ 40 }
-    ensures ok { IfOk result (λ m. IsLeastAbove step low other m) }
+    ensures ok { IfOk result (λ m. IsLeastAbove divisor low other m) }
     ensures within { IfOk result (λ m. m ≤ max) }
     ensures named { IfErr result (λ f. f ≡ field) }
-    ensures none { OnErr result ((k : ℕ) → step ∣ k → low ≤ k → other ≤ k → max < k) }
+    ensures none { OnErr result ((k : ℕ) → divisor ∣ k → low ≤ k → other ≤ k → max < k) }
 {
     let from = other.max(u64::from(low));
-    let least = from.next_multiple_of(u64::from(step));
+    let least = from.next_multiple_of(u64::from(divisor));
     if least <= u64::from(max) {
         Ok(least as u32)
     } else {

@@ -80,9 +80,9 @@ meets_holds b k t corner tighter sound =
     let admits = looser_admits t.offer t.bounds b tighter i sound.bounds.admitted sound.bounds.large in
     let a = admits.0 in
     let least = corner.least_bytes i.width i.height i.row
-    (record { step = a.width_step; from = a.min_width; required = admits.1.width })
-    (record { step = a.height_step; from = a.min_height; required = admits.1.height })
-    (record { step = a.row_step; from = a.min_row; row_bytes = a.row_bytes }) in
+    (record { alignment = a.width_alignment; from = a.min_width; required = admits.1.width })
+    (record { alignment = a.height_alignment; from = a.min_height; required = admits.1.height })
+    (record { divisor = a.row_divisor; from = a.min_row; row_bytes = a.row_bytes }) in
     omega (arith, least, sound.bytes)
 
 -- no fit that meets the participants has a smaller size, or bounds that ask for less

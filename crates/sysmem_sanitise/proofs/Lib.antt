@@ -1,4 +1,5 @@
 mod Bounds
+pub mod CallerLemmas
 mod Examples
 mod Heaps
 mod Members

@@ -32,7 +32,7 @@ use Rattle.sysmem_memory.specs.Heap.{HeapName, same_heap}
 use Rattle.sysmem_memory.specs.Wishes.{MemoryWishes, no_wishes}
 use Rattle.sysmem_sanitise.specs.declared.reading.asked.AskedPair.{AskedPair}
 use Rattle.sysmem_sanitise.specs.declared.fault.FaultPlace.TheVariants.{At}
-use Rattle.sysmem_sanitise.specs.Participant.{IsUsage, IsSizeUpTo, IsEntry, AreApart, most_multiple}
+use Rattle.sysmem_sanitise.specs.Participant.{IsUsage, HasSidesUpTo, IsEntry, AreApart, most_multiple}
 use Rattle.sysmem_sanitise.specs.Reading.Bounds.{is_multiple, multiple, multiple_size, any_size, some_size, some_sides, size_to, size_or, bound_or, any_number, some_number, large_number, stated_bounds, bounds_by, bounds_of, most}
 use Rattle.sysmem_sanitise.specs.Reading.Constraints.{no_usage, with_family, is_usage, usage_of, memory_fields, memory_of}
 use Rattle.sysmem_sanitise.specs.Reading.Entries.{same_format, same_modifier, same_asked, asks_misfit, asked_of, asked_by, has_further, modifier_beside, has_entry, has_asked, with_asked, no_pair, own_pair, with_further, further_of, asked_pairs, listed, with_listed, colour_set_of, entry_object, entry_with, with_entry, entries_of}
@@ -125,7 +125,7 @@ multiple-step at d n gives =
     let (read, is, tested) = bind-ok (number_of at (2 ^ 64 - 1) d) _ n gives in
     multiple-is n (passing-ok _ is_multiple read n tested).holds
 
-multiple_size-step : (at : Field) (d : Data) (size : Size) → multiple_size at d ≡ Ok size → IsSizeUpTo most_multiple size
+multiple_size-step : (at : Field) (d : Data) (size : Size) → multiple_size at d ≡ Ok size → HasSidesUpTo most_multiple size
 multiple_size-step at d size gives =
     let (read, is, tested) = bind-ok (size_to at (2 ^ 64 - 1) d) _ size gives in
     let (wide, high) = and-true _ _ (passing-ok _ (λ size. is_multiple size.width && is_multiple size.height) read size tested).holds in
@@ -138,9 +138,9 @@ some_size-some at d size gives =
 
 -- what bounds keep to beside their own invariant
 record AreAsked (b : EntryBounds) : Type 0 where
-  size_alignment : IsSizeUpTo most_multiple b.asked.size_alignment
+  size_alignment : HasSidesUpTo most_multiple b.asked.size_alignment
   start_offset_divisor : b.asked.start_offset_divisor ≤ most_multiple
-  display_rect_alignment : IsSizeUpTo most_multiple b.asked.display_rect_alignment
+  display_rect_alignment : HasSidesUpTo most_multiple b.asked.display_rect_alignment
   required_min_width : 1 ≤ b.asked.required_min_size.width
   required_min_height : 1 ≤ b.asked.required_min_size.height
   max_width_times_height : 1 ≤ b.asked.max_width_times_height
@@ -148,11 +148,11 @@ record AreAsked (b : EntryBounds) : Type 0 where
 step-some : (n : ℕ) → n ≤ most_multiple → max n 1 ≤ most_multiple
 step-some n h = omega arith
 
-sides-some : (size : Size) → IsSizeUpTo most_multiple size → IsSizeUpTo most_multiple (some_sides size)
+sides-some : (size : Size) → HasSidesUpTo most_multiple size → HasSidesUpTo most_multiple (some_sides size)
 sides-some size h = (step-some size.width h.0, step-some size.height h.1)
 
-size_step : (at : Field) (d : Data) (size : Size) → size_or multiple_size at 1 d ≡ Ok size → IsSizeUpTo most_multiple (some_sides size)
-size_step at d size gives = sides-some size (optional-keeps (IsSizeUpTo most_multiple) at (record { width = 1; height = 1 }) (multiple_size at) d size (omega arith, omega arith) (λ v. multiple_size-step at v size) gives)
+size_step : (at : Field) (d : Data) (size : Size) → size_or multiple_size at 1 d ≡ Ok size → HasSidesUpTo most_multiple (some_sides size)
+size_step at d size gives = sides-some size (optional-keeps (HasSidesUpTo most_multiple) at (record { width = 1; height = 1 }) (multiple_size at) d size (omega arith, omega arith) (λ v. multiple_size-step at v size) gives)
 
 step : (at : Field) (d : Data) (n : ℕ) → bound_or multiple at 1 d ≡ Ok n → max n 1 ≤ most_multiple
 step at d n gives = step-some n (optional-keeps (λ n. n ≤ most_multiple) at 1 (multiple at) d n (omega arith) (λ v. multiple-step at v n) gives)
@@ -179,7 +179,7 @@ bounds_of-are d b gives =
     bind-then (size_or multiple_size field.SizeAlignment 1 d) _ s a2 (λ size_alignment is3 a3.
     bind-then (bound_or some_number field.MinBytesPerRow 1 d) _ s a3 (λ min_row is4 a4.
     bind-then (bound_or any_number field.MaxBytesPerRow most d) _ s a4 (λ max_row is5 a5.
-    bind-then (bound_or multiple field.BytesPerRowDivisor 1 d) _ s a5 (λ row_step is6 a6.
+    bind-then (bound_or multiple field.BytesPerRowDivisor 1 d) _ s a5 (λ row_divisor is6 a6.
     bind-then (bound_or multiple field.StartOffsetDivisor 1 d) _ s a6 (λ start_step is7 a7.
     bind-then (size_or multiple_size field.DisplayRectAlignment 1 d) _ s a7 (λ display_step is8 a8.
     bind-then (size_or some_size field.RequiredMinSize most d) _ s a8 (λ required_min is9 a9.

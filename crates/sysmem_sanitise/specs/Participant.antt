@@ -31,8 +31,8 @@ abbrev pub most_multiple : ℕ
 most_multiple = 65536
 
 -- neither side is above n
-abbrev pub IsSizeUpTo : ℕ → Size → Type 0
-IsSizeUpTo n size = (size.width ≤ n) × (size.height ≤ n)
+abbrev pub HasSidesUpTo : ℕ → Size → Type 0
+HasSidesUpTo n size = (size.width ≤ n) × (size.height ≤ n)
 
 -- what an entry may ask: no tiled modifier with a format that isn't of 4 bytes, some colour spaces, alignments and
 -- divisors up to 65,536, a required_min_size and a max_width_times_height from 1. What else is 1 or more its bounds say
@@ -40,9 +40,9 @@ IsSizeUpTo n size = (size.width ≤ n) × (size.height ≤ n)
 pub record IsEntry (entry : Entry) : Type 0 where
   pub fitting : (pair : Pair) → entry.format ≡ Some pair.format → entry.modifier ≡ Some pair.modifier → IsTiledMisfit pair → ⊥
   pub some_colours : entry.colours ≢ no_colours
-  pub size_alignment : IsSizeUpTo most_multiple entry.bounds.asked.size_alignment
+  pub size_alignment : HasSidesUpTo most_multiple entry.bounds.asked.size_alignment
   pub start_offset_divisor : entry.bounds.asked.start_offset_divisor ≤ most_multiple
-  pub display_rect_alignment : IsSizeUpTo most_multiple entry.bounds.asked.display_rect_alignment
+  pub display_rect_alignment : HasSidesUpTo most_multiple entry.bounds.asked.display_rect_alignment
   pub required_min_width : 1 ≤ entry.bounds.asked.required_min_size.width
   pub required_min_height : 1 ≤ entry.bounds.asked.required_min_size.height
   pub max_width_times_height : 1 ≤ entry.bounds.asked.max_width_times_height

@@ -47,6 +47,3 @@ pub(crate) fn are_same_heaps(a: &[HeapInfo], b: &[HeapInfo]) -> bool
 {
     a.len() == b.len() && a.iter().zip(b).all(|(x, y)| is_same_heap(x, y))
 }
-
-#[cfg(test)]
-mod tests;

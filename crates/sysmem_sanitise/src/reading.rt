@@ -17,6 +17,3 @@ mod usage;
 
 pub use constraints::read_constraints;
 pub use platform::read_platform;
-
-#[cfg(test)]
-mod tests;

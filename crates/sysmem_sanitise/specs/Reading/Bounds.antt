@@ -8,6 +8,7 @@ use Rattle.sysmem_counts.specs.declared.field.Field.{Field}
 use Rattle.sysmem_counts.specs.declared.field.Field.TheVariants as field
 use Rattle.sysmem_image.specs.declared.entry.EntryBounds.{EntryBounds}
 use Rattle.sysmem_image.specs.declared.size.Size.{Size}
+use Rattle.sysmem_image.specs.Size.{most_number}
 use Rattle.sysmem_sanitise.specs.declared.fault.Code.TheVariants as code
 use Rattle.sysmem_sanitise.specs.declared.fault.Fault.{Fault}
 use Rattle.sysmem_sanitise.specs.Faults.{wrong}
@@ -16,7 +17,7 @@ use Rattle.sysmem_sanitise.specs.Reading.Fields.{◌>>=◌, passing, keys_of, re
 
 -- the greatest number of 32 bits
 abbrev pub most : ℕ
-most = 2 ^ 32 - 1
+most = most_number
 
 -- 0 to the greatest
 abbrev pub any_number : Field → Data → Result ℕ Fault
@@ -139,14 +140,14 @@ pub some_max : (n : ℕ) → 1 ≤ max n 1
 some_max n = omega arith
 
 -- a row divisor is 1 to 65,536, as it is read
-abbrev pub row_step : ℕ → ℕ
-row_step n = min (max n 1) most_multiple
+abbrev pub row_divisor : ℕ → ℕ
+row_divisor n = min (max n 1) most_multiple
 
-pub some_step : (n : ℕ) → 1 ≤ row_step n
-some_step n = omega arith
+pub some_divisor : (n : ℕ) → 1 ≤ row_divisor n
+some_divisor n = omega arith
 
-pub small_step : (n : ℕ) → row_step n ≤ most_multiple
-small_step n = omega arith
+pub small_divisor_of : (n : ℕ) → row_divisor n ≤ most_multiple
+small_divisor_of n = omega arith
 
 -- the bounds of these numbers: those that must be 1 or more are, as they are read
 abbrev pub bounds_by : StatedBounds → EntryBounds
@@ -157,7 +158,7 @@ bounds_by s = record {
     size_alignment = some_sides s.size_alignment;
     min_bytes_per_row = max s.min_bytes_per_row 1;
     max_bytes_per_row = s.max_bytes_per_row;
-    bytes_per_row_divisor = row_step s.bytes_per_row_divisor;
+    bytes_per_row_divisor = row_divisor s.bytes_per_row_divisor;
     start_offset_divisor = max s.start_offset_divisor 1;
     display_rect_alignment = some_sides s.display_rect_alignment;
     required_min_size = s.required_min_size;
@@ -165,16 +166,16 @@ bounds_by s = record {
     max_width_times_height = s.max_width_times_height;
     min_width_some = some_max s.min_size.width;
     min_height_some = some_max s.min_size.height;
-    width_step_some = some_max s.size_alignment.width;
-    height_step_some = some_max s.size_alignment.height;
+    width_alignment_some = some_max s.size_alignment.width;
+    height_alignment_some = some_max s.size_alignment.height;
     min_row_some = some_max s.min_bytes_per_row;
-    row_step_some = some_step s.bytes_per_row_divisor;
-    start_step_some = some_max s.start_offset_divisor;
+    row_divisor_some = some_divisor s.bytes_per_row_divisor;
+    start_divisor_some = some_max s.start_offset_divisor;
     display_width_some = some_max s.display_rect_alignment.width;
     display_height_some = some_max s.display_rect_alignment.height;
   };
   at_pixel_boundary = s.at_pixel_boundary;
-  small_divisor = small_step s.bytes_per_row_divisor;
+  small_divisor = small_divisor_of s.bytes_per_row_divisor;
 }
 
 -- what these bounds say

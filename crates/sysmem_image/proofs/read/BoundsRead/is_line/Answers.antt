@@ -7,7 +7,7 @@ use Rattle.sysmem_image.proofs.read.BoundsRead.is_line.Goals as goal
 pub returns-in-SizeAlignment : goal.returns-in-SizeAlignment
 returns-in-SizeAlignment c = λ es read.
     let k = c.args.self.now in
-    rw c.in-SizeAlignment.is (size_lacks bound.SizeAlignment refl c.args.offer.now es k.size_alignment c.is_none.result c.is_none.ensures k.width_step_some k.height_step_some (read.in_range bound.SizeAlignment) (read.each bound.SizeAlignment))
+    rw c.in-SizeAlignment.is (size_lacks bound.SizeAlignment refl c.args.offer.now es k.size_alignment c.is_none.result c.is_none.ensures k.width_alignment_some k.height_alignment_some (read.in_range bound.SizeAlignment) (read.each bound.SizeAlignment))
 
 pub returns-in-DisplayRectAlignment : goal.returns-in-DisplayRectAlignment
 returns-in-DisplayRectAlignment c = λ es read.
@@ -17,12 +17,12 @@ returns-in-DisplayRectAlignment c = λ es read.
 pub returns-in-BytesPerRowDivisor : goal.returns-in-BytesPerRowDivisor
 returns-in-BytesPerRowDivisor c = λ es read.
     let k = c.args.self.now in
-    rw c.in-BytesPerRowDivisor.is (number_lacks bound.BytesPerRowDivisor refl c.args.offer.now es k.bytes_per_row_divisor c.is_none-in-BytesPerRowDivisor.result c.is_none-in-BytesPerRowDivisor.ensures k.row_step_some (read.in_range bound.BytesPerRowDivisor) (read.each bound.BytesPerRowDivisor))
+    rw c.in-BytesPerRowDivisor.is (number_lacks bound.BytesPerRowDivisor refl c.args.offer.now es k.bytes_per_row_divisor c.is_none-in-BytesPerRowDivisor.result c.is_none-in-BytesPerRowDivisor.ensures k.row_divisor_some (read.in_range bound.BytesPerRowDivisor) (read.each bound.BytesPerRowDivisor))
 
 pub returns-in-StartOffsetDivisor : goal.returns-in-StartOffsetDivisor
 returns-in-StartOffsetDivisor c = λ es read.
     let k = c.args.self.now in
-    rw c.in-StartOffsetDivisor.is (number_lacks bound.StartOffsetDivisor refl c.args.offer.now es k.start_offset_divisor c.is_none-in-StartOffsetDivisor.result c.is_none-in-StartOffsetDivisor.ensures k.start_step_some (read.in_range bound.StartOffsetDivisor) (read.each bound.StartOffsetDivisor))
+    rw c.in-StartOffsetDivisor.is (number_lacks bound.StartOffsetDivisor refl c.args.offer.now es k.start_offset_divisor c.is_none-in-StartOffsetDivisor.result c.is_none-in-StartOffsetDivisor.ensures k.start_divisor_some (read.in_range bound.StartOffsetDivisor) (read.each bound.StartOffsetDivisor))
 
 pub returns-in-RequiredMinSize : goal.returns-in-RequiredMinSize
 returns-in-RequiredMinSize c = λ es read. rw c.in-RequiredMinSize.is (required_line c.args.offer.now es c.args.self.now c.is_size_up_to.result c.is_size_up_to.ensures read)

@@ -1,11 +1,9 @@
 //! Records that are equal, and records that differ in one place.
 
-use crate::constraints::Constraints;
-use crate::platform::Platform;
-use crate::reading::{read_constraints, read_platform};
 use serde_json::Value;
 use std::alloc::Global;
 use std::test::Fail;
+use sysmem_sanitise::{Constraints, Platform, read_constraints, read_platform};
 
 /// A participant that permits the heap of this id, and whose second entry has this least width.
 fn asked(alloc: Global, id: u32, width: u32) -> Result<Constraints, Fail> {

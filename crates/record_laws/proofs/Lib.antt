@@ -1,0 +1,5 @@
+mod Wants
+mod Each
+mod Names
+mod Heaps
+mod Platforms

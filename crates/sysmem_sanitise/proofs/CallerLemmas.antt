@@ -1,0 +1,9 @@
+-- What callers need of the definitions of records.
+use Rattle.std.proofs.Common.{◌≡◌}
+use Rattle.sysmem_image.specs.declared.entry.EntryBounds.{EntryBounds}
+use Rattle.sysmem_sanitise.specs.Reading.Bounds.{stated_by, bounds_by}
+use Rattle.sysmem_sanitise.proofs.Bounds as bounds
+
+-- bounds are those of their numbers
+pub bounds_by_numbers : (b : EntryBounds) → bounds_by (stated_by b) ≡ b
+bounds_by_numbers = bounds.bounds_by-stated_by
