@@ -1,5 +1,5 @@
 -- Reading what states a list: each item is added to those before it.
-use Rattle.std.proofs.Common.{◌≡◌, ℕ, ◌<◌, ◌≤◌, ◌==◌, Bool, true, false, not, List, [], ◌∷◌, ◌++◌, length, get_or, Result, Ok, Err, refl, sym, ap, ◌∙◌, subst, arith, rules, tests, length-append, append_assoc, append-nil}
+use Rattle.std.proofs.Common.{◌≡◌, ℕ, ◌+◌, ◌<◌, ◌≤◌, ◌==◌, Bool, true, false, not, List, [], ◌∷◌, ◌++◌, length, get_or, Result, Ok, Err, refl, sym, ap, ◌∙◌, subst, arith, rules, tests, length-append, append_assoc, append-nil}
 use Rattle.std.specs.Prelude.{All, AllPairs, map, nat_le, nat_lt, if◌then◌else◌}
 use Rattle.std.specs.List.{list_any}
 use Rattle.std.proofs.Math.ListN.{get_or-append}
@@ -15,15 +15,15 @@ pub passes : {A : Type 0} (fault : Fault) (test : A → Bool) (a : A) → test a
 passes fault test a holds = ap (λ b. if b then Ok a else Err fault) holds
 
 -- what is read, and then what comes after it
-pub then : {A B : Type 0} (r : Result A Fault) (a : A) (f : A → Result B Fault) (b : Result B Fault) → r ≡ Ok a → f a ≡ b → (r >>= f) ≡ b
-then r a f b is after = ap (λ r. r >>= f) is ∙ after
+pub next : {A B : Type 0} (r : Result A Fault) (a : A) (f : A → Result B Fault) (b : Result B Fault) → r ≡ Ok a → f a ≡ b → (r >>= f) ≡ b
+next r a f b is after = ap (λ r. r >>= f) is ∙ after
 
 pub each_stated : {A : Type 0} (state : A → Data) (read : List A → Data → Result (List A) Fault) (all : List A)
     → ((front back : List A) (x : A) → front ++ x ∷ back ≡ all → read front (state x) ≡ Ok (front ++ x ∷ []))
     → (front rest : List A) → front ++ rest ≡ all → read_each read front (items_of (map state rest)) ≡ Ok all
 each_stated state read all reads front [] is = ap Ok (sym (append-nil front) ∙ is)
 each_stated state read all reads front (x ∷ rest) is =
-    then (read front (state x)) (front ++ x ∷ []) (λ after. read_each read after (items_of (map state rest))) (Ok all) (reads front rest x is)
+    next (read front (state x)) (front ++ x ∷ []) (λ after. read_each read after (items_of (map state rest))) (Ok all) (reads front rest x is)
     (each_stated state read all reads (front ++ x ∷ []) rest (append_assoc front (x ∷ []) rest ∙ is))
 
 -- an item is one of the whole

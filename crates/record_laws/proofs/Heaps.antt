@@ -1,5 +1,5 @@
 -- The records of heaps state them.
-use Rattle.std.proofs.Common.{◌≡◌, ℕ, ◌≤◌, Bool, true, false, ◌||◌, List, [], ◌∷◌, ◌++◌, length, None, Ok, refl, arith}
+use Rattle.std.proofs.Common.{◌≡◌, ℕ, ◌≤◌, ◌==◌, Bool, true, false, ◌||◌, List, [], ◌∷◌, ◌++◌, length, None, Ok, refl, arith}
 use Rattle.std.specs.Prelude.{All, AllPairs, nat_le, nat_lt, not}
 use Rattle.serde_json.specs.Data.{string, array, no_items}
 use Rattle.sysmem_counts.specs.declared.field.Field.TheVariants as field
@@ -14,7 +14,7 @@ use Rattle.sysmem_sanitise.specs.Reading.Heaps.{IsHeapName, is_heap_type, heap_t
 use Rattle.sysmem_sanitise.specs.Reading.Names.{domain_named}
 use Rattle.record_laws.specs.Ranges.{most_large, IsHeapId}
 use Rattle.record_laws.specs.Records.{list, item_if, heap_name_record, heap_record}
-use Rattle.record_laws.proofs.Each.{passes, then, each_stated, item_has, has_room, none_before, not_empty, up_to, refused_not}
+use Rattle.record_laws.proofs.Each.{passes, next, each_stated, item_has, has_room, none_before, not_empty, up_to, refused_not}
 
 domains_by : (cpu ram inaccessible : Bool) → (cpu || ram || inaccessible) ≡ true
     → domains_of (array (item_if cpu (string (domain_name Cpu)) (item_if ram (string (domain_name Ram)) (item_if inaccessible (string (domain_name Inaccessible)) no_items))))
@@ -30,42 +30,42 @@ domains_by false false true some = refl
 domains_by false false false some = absurd (cc)
 
 type_stated : (text : List ℕ) → is_heap_type text ≡ true → heap_type_of None (string text) ≡ Ok text
-type_stated text typed = then (passing (wrong code.WrongKind field.HeapType) is_heap_type text) text (kept None field.HeapType) (Ok text) (passes _ is_heap_type text typed) refl
+type_stated text typed = next (passing (wrong code.WrongKind field.HeapType) is_heap_type text) text (kept None field.HeapType) (Ok text) (passes _ is_heap_type text typed) refl
 
 -- the name of a permitted heap
 pub permitted_stated : (h : HeapName) → IsHeapName h → IsHeapId h → permitted_heap None (heap_name_record h) ≡ Ok h
 unfolding is_key_of
 permitted_stated h typed small =
-    then (heap_type_of None (string h.heap_type)) h.heap_type _ (Ok h) (type_stated h.heap_type typed)
-    (then (passing (wrong code.WrongKind field.Id) (λ n. nat_le n most_large) h.id) h.id _ (Ok h) (passes _ (λ n. nat_le n most_large) h.id (up_to h.id most_large small)) refl)
+    next (heap_type_of None (string h.heap_type)) h.heap_type _ (Ok h) (type_stated h.heap_type typed)
+    (next (passing (wrong code.WrongKind field.Id) (λ n. nat_le n most_large) h.id) h.id _ (Ok h) (passes _ (λ n. nat_le n most_large) h.id (up_to h.id most_large small)) refl)
 
 -- a platform's heap
 pub heap_stated : (h : HeapFacts) → IsHeap h → IsHeapId h.heap → heap_of None (heap_record h) ≡ Ok h
 unfolding is_key_of
 heap_stated h is small =
-    then (heap_name_of None (heap_record h)) h.heap _ (Ok h)
-    (then (heap_type_of None (string h.heap.heap_type)) h.heap.heap_type _ (Ok h.heap) (type_stated h.heap.heap_type is.0)
-    (then (passing (wrong code.WrongKind field.Id) (λ n. nat_le n most_large) h.heap.id) h.heap.id _ (Ok h.heap) (passes _ (λ n. nat_le n most_large) h.heap.id (up_to h.heap.id most_large small)) refl))
-    (then (required field.Domains domains_of (heap_record h)) h.domains _ (Ok h) (domains_by h.domains.cpu h.domains.ram h.domains.inaccessible is.1) refl)
+    next (heap_name_of None (heap_record h)) h.heap _ (Ok h)
+    (next (heap_type_of None (string h.heap.heap_type)) h.heap.heap_type _ (Ok h.heap) (type_stated h.heap.heap_type is.0)
+    (next (passing (wrong code.WrongKind field.Id) (λ n. nat_le n most_large) h.heap.id) h.heap.id _ (Ok h.heap) (passes _ (λ n. nat_le n most_large) h.heap.id (up_to h.heap.id most_large small)) refl))
+    (next (required field.Domains domains_of (heap_record h)) h.domains _ (Ok h) (domains_by h.domains.cpu h.domains.ram h.domains.inaccessible is.1) refl)
 
 -- a list of permitted heaps
 pub permitted_list : (hs : List HeapName) → length hs ≤ 64 → AllPairs (λ a b. same_heap a b ≡ false) hs → All IsHeapName hs → All IsHeapId hs
     → permitted_of None (list heap_name_record hs) ≡ Ok hs
 permitted_list hs few distinct each small =
     each_stated heap_name_record (with_permitted None) hs (λ front back h is.
-    then (permitted_heap None (heap_name_record h)) h _ (Ok (front ++ h ∷ [])) (permitted_stated h (item_has IsHeapName hs front back h is each) (item_has IsHeapId hs front back h is small))
-    (then (passing (wrong code.TooMany field.PermittedHeaps) (λ _. nat_lt (length front) 64) h) h _ (Ok (front ++ h ∷ [])) (passes _ (λ _. nat_lt (length front) 64) h (has_room hs front back h is few))
-    (then (passing (wrong code.RepeatedHeap field.PermittedHeaps) (λ heap. not (has_permitted front heap)) h) h _ (Ok (front ++ h ∷ []))
+    next (permitted_heap None (heap_name_record h)) h _ (Ok (front ++ h ∷ [])) (permitted_stated h (item_has IsHeapName hs front back h is each) (item_has IsHeapId hs front back h is small))
+    (next (passing (wrong code.TooMany field.PermittedHeaps) (λ _. nat_lt (length front) 64) h) h _ (Ok (front ++ h ∷ [])) (passes _ (λ _. nat_lt (length front) 64) h (has_room hs front back h is few))
+    (next (passing (wrong code.RepeatedHeap field.PermittedHeaps) (λ heap. not (has_permitted front heap)) h) h _ (Ok (front ++ h ∷ []))
     (passes _ (λ heap. not (has_permitted front heap)) h (refused_not _ (none_before (λ a b. same_heap a b ≡ false) same_heap (λ a b e. e) hs front back h is distinct))) refl))) [] hs refl
 
 -- a list of a platform's heaps
 pub heaps_list : (hs : List HeapFacts) → 1 ≤ length hs → length hs ≤ 64 → AllPairs (λ a b. same_heap a.heap b.heap ≡ false) hs → All IsHeap hs → All (λ h. IsHeapId h.heap) hs
     → heaps_of None (list heap_record hs) ≡ Ok hs
 heaps_list hs some few distinct each small =
-    then (read_each (with_heap None) [] _) hs _ (Ok hs)
+    next (read_each (with_heap None) [] _) hs _ (Ok hs)
     (each_stated heap_record (with_heap None) hs (λ front back h is.
-    then (heap_of None (heap_record h)) h _ (Ok (front ++ h ∷ [])) (heap_stated h (item_has IsHeap hs front back h is each) (item_has (λ h. IsHeapId h.heap) hs front back h is small))
-    (then (passing (wrong code.TooMany field.Heaps) (λ _. nat_lt (length front) 64) h) h _ (Ok (front ++ h ∷ [])) (passes _ (λ _. nat_lt (length front) 64) h (has_room hs front back h is few))
-    (then (passing (wrong code.BadPlatformList field.Heaps) (λ heap. not (has_heap front heap)) h) h _ (Ok (front ++ h ∷ []))
+    next (heap_of None (heap_record h)) h _ (Ok (front ++ h ∷ [])) (heap_stated h (item_has IsHeap hs front back h is each) (item_has (λ h. IsHeapId h.heap) hs front back h is small))
+    (next (passing (wrong code.TooMany field.Heaps) (λ _. nat_lt (length front) 64) h) h _ (Ok (front ++ h ∷ [])) (passes _ (λ _. nat_lt (length front) 64) h (has_room hs front back h is few))
+    (next (passing (wrong code.BadPlatformList field.Heaps) (λ heap. not (has_heap front heap)) h) h _ (Ok (front ++ h ∷ []))
     (passes _ (λ heap. not (has_heap front heap)) h (refused_not _ (none_before (λ a b. same_heap a.heap b.heap ≡ false) (λ a b. same_heap a.heap b.heap) (λ a b e. e) hs front back h is distinct))) refl))) [] hs refl)
     (passes _ (λ hs. not (length hs == 0)) hs (not_empty hs some))

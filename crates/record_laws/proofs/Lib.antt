@@ -1,5 +1,9 @@
-mod Wants
+mod Bounds
+mod Colours
 mod Each
-mod Names
 mod Heaps
+mod Names
+mod Participants
 mod Platforms
+mod Usages
+mod Wants

@@ -17,7 +17,7 @@ use Rattle.sysmem_sanitise.specs.Reading.Pairs.{same_pair, has_pair, same_colour
 use Rattle.sysmem_sanitise.specs.Reading.Platform.{pair_of, with_pair, pairs_of, with_colour, colours_of}
 use Rattle.record_laws.specs.Laws.{EachPlatformIsStated}
 use Rattle.record_laws.specs.Records.{list, heap_record, pair_record, colour_record}
-use Rattle.record_laws.proofs.Each.{passes, then, each_stated, item_has, none_before, not_empty, refused_not}
+use Rattle.record_laws.proofs.Each.{passes, next, each_stated, item_has, none_before, not_empty, refused_not}
 use Rattle.record_laws.proofs.Heaps.{heaps_list}
 use Rattle.record_laws.proofs.Names.{named_stated, format_stated, modifier_stated, colour_stated}
 
@@ -43,31 +43,31 @@ apart false P decides not = refl
 pair_stated : (p : Pair) → pair_of (pair_record p) ≡ Ok p
 unfolding is_key_of
 pair_stated p =
-    then (named format_named field.PixelFormat (string (format_name p.format))) p.format _ (Ok p) (named_stated format_named field.PixelFormat (format_name p.format) p.format (format_stated p.format))
-    (then (named modifier_named field.PixelFormatModifier (string (modifier_name p.modifier))) p.modifier _ (Ok p) (named_stated modifier_named field.PixelFormatModifier (modifier_name p.modifier) p.modifier (modifier_stated p.modifier)) refl)
+    next (named format_named field.PixelFormat (string (format_name p.format))) p.format _ (Ok p) (named_stated format_named field.PixelFormat (format_name p.format) p.format (format_stated p.format))
+    (next (named modifier_named field.PixelFormatModifier (string (modifier_name p.modifier))) p.modifier _ (Ok p) (named_stated modifier_named field.PixelFormatModifier (modifier_name p.modifier) p.modifier (modifier_stated p.modifier)) refl)
 
 pairs_list : (ps : List Pair) → 1 ≤ length ps → AllPairs (λ a b. a ≢ b) ps → All (λ p. IsTiledMisfit p → ⊥) ps → pairs_of None (list pair_record ps) ≡ Ok ps
 pairs_list ps some distinct fits =
-    then (read_each (with_pair None) [] _) ps _ (Ok ps)
+    next (read_each (with_pair None) [] _) ps _ (Ok ps)
     (each_stated pair_record (with_pair None) ps (λ front back p is.
-    then (pair_of (pair_record p)) p _ (Ok (front ++ p ∷ [])) (pair_stated p)
-    (then (passing (wrong code.TiledMisfit field.Pairs) (λ pair. not (is_misfit pair)) p) p _ (Ok (front ++ p ∷ [])) (passes _ (λ pair. not (is_misfit pair)) p (refused_not _ (no_misfit p (item_has (λ p. IsTiledMisfit p → ⊥) ps front back p is fits))))
-    (then (passing (wrong code.BadPlatformList field.Pairs) (λ pair. not (has_pair front pair)) p) p _ (Ok (front ++ p ∷ []))
+    next (pair_of (pair_record p)) p _ (Ok (front ++ p ∷ [])) (pair_stated p)
+    (next (passing (wrong code.TiledMisfit field.Pairs) (λ pair. not (is_misfit pair)) p) p _ (Ok (front ++ p ∷ [])) (passes _ (λ pair. not (is_misfit pair)) p (refused_not _ (no_misfit p (item_has (λ p. IsTiledMisfit p → ⊥) ps front back p is fits))))
+    (next (passing (wrong code.BadPlatformList field.Pairs) (λ pair. not (has_pair front pair)) p) p _ (Ok (front ++ p ∷ []))
     (passes _ (λ pair. not (has_pair front pair)) p (refused_not _ (none_before (λ a b. a ≢ b) same_pair (λ a b differ. apart (same_pair a b) (a ≡ b) (pair_tells a b) differ) ps front back p is distinct))) refl))) [] ps refl)
     (passes _ (λ ps. not (length ps == 0)) ps (not_empty ps some))
 
 colours_list : (cs : List ColourSpace) → 1 ≤ length cs → AllPairs (λ a b. a ≢ b) cs → colours_of None (list colour_record cs) ≡ Ok cs
 colours_list cs some distinct =
-    then (read_each (with_colour None) [] _) cs _ (Ok cs)
+    next (read_each (with_colour None) [] _) cs _ (Ok cs)
     (each_stated colour_record (with_colour None) cs (λ front back c is.
-    then (named colour_named field.ColorSpaces (colour_record c)) c _ (Ok (front ++ c ∷ [])) (named_stated colour_named field.ColorSpaces (colour_name c) c (colour_stated c))
-    (then (passing (wrong code.BadPlatformList field.ColorSpaces) (λ colour. not (has_colour front colour)) c) c _ (Ok (front ++ c ∷ []))
+    next (named colour_named field.ColorSpaces (colour_record c)) c _ (Ok (front ++ c ∷ [])) (named_stated colour_named field.ColorSpaces (colour_name c) c (colour_stated c))
+    (next (passing (wrong code.BadPlatformList field.ColorSpaces) (λ colour. not (has_colour front colour)) c) c _ (Ok (front ++ c ∷ []))
     (passes _ (λ colour. not (has_colour front colour)) c (refused_not _ (none_before (λ a b. a ≢ b) same_colour (λ a b differ. apart (same_colour a b) (a ≡ b) (colour_tells a b) differ) cs front back c is distinct))) refl)) [] cs refl)
     (passes _ (λ cs. not (length cs == 0)) cs (not_empty cs some))
 
 pub platform_stated : EachPlatformIsStated
 unfolding is_key_of
 platform_stated p is small =
-    then (heaps_of None (list heap_record p.heaps)) p.heaps _ (Ok p) (heaps_list p.heaps is.some_heaps is.few_heaps is.distinct_heaps is.each_heap small)
-    (then (pairs_of None (list pair_record p.pairs)) p.pairs _ (Ok p) (pairs_list p.pairs is.some_pairs is.distinct_pairs is.fitting_pairs)
-    (then (colours_of None (list colour_record p.colours)) p.colours _ (Ok p) (colours_list p.colours is.some_colours is.distinct_colours) refl))
+    next (heaps_of None (list heap_record p.heaps)) p.heaps _ (Ok p) (heaps_list p.heaps is.some_heaps is.few_heaps is.distinct_heaps is.each_heap small)
+    (next (pairs_of None (list pair_record p.pairs)) p.pairs _ (Ok p) (pairs_list p.pairs is.some_pairs is.distinct_pairs is.fitting_pairs)
+    (next (colours_of None (list colour_record p.colours)) p.colours _ (Ok p) (colours_list p.colours is.some_colours is.distinct_colours) refl))
