@@ -58,6 +58,9 @@ line_holds = sound.line_holds
 pub steady_line : SteadyLines
 steady_line = steps.steady_line
 
+-- and one that is true of either of two lists is true of both together; the offer's own bounds add nothing to merged ones
+pub use Rattle.sysmem_image.proofs.Joined.{own_adds_nothing, steady_first, steady_second}
+
 -- the image of sound bounds is as a list asks to whose fields they keep
 pub fits_image : SoundFits
 fits_image = sound.fits_image
