@@ -1,4 +1,5 @@
 -- What callers need of bounds, corners and lines: the laws as lemmas, and a few more.
+pub use Rattle.sysmem_image.proofs.Joined.{own_adds_nothing, steady_first, steady_second}
 use Rattle.std.proofs.Common.{◌↔◌, List, []}
 use Rattle.sysmem_counts.specs.declared.field.Field.{Field}
 use Rattle.sysmem_formats.specs.declared.offer.Offer.{Offer}
@@ -57,9 +58,6 @@ line_holds = sound.line_holds
 -- a line about a common multiple stays true of a longer list
 pub steady_line : SteadyLines
 steady_line = steps.steady_line
-
--- and one that is true of either of two lists is true of both together; the offer's own bounds add nothing to merged ones
-pub use Rattle.sysmem_image.proofs.Joined.{own_adds_nothing, steady_first, steady_second}
 
 -- the image of sound bounds is as a list asks to whose fields they keep
 pub fits_image : SoundFits

@@ -112,17 +112,17 @@ meets_parts f o es fs meet = (
 
 -- a line about a common multiple that is true of one of two lists is true of both together
 pub steady_first : (f : Field) → IsSteady f → (o : Offer) (es fs : List ImageBounds) → IsBoundsLine f o es → IsBoundsLine f o (es ++ fs)
-steady_first SizeAlignment steady o es fs line meet = line (meets_parts bound.SizeAlignment o es fs meet).0
-steady_first BytesPerRowDivisor steady o es fs line meet = line (meets_parts bound.BytesPerRowDivisor o es fs meet).0
-steady_first StartOffsetDivisor steady o es fs line meet = line (meets_parts bound.StartOffsetDivisor o es fs meet).0
-steady_first DisplayRectAlignment steady o es fs line meet = line (meets_parts bound.DisplayRectAlignment o es fs meet).0
+steady_first SizeAlignment steady o es fs line = λ meet. line (meets_parts bound.SizeAlignment o es fs meet).0
+steady_first BytesPerRowDivisor steady o es fs line = λ meet. line (meets_parts bound.BytesPerRowDivisor o es fs meet).0
+steady_first StartOffsetDivisor steady o es fs line = λ meet. line (meets_parts bound.StartOffsetDivisor o es fs meet).0
+steady_first DisplayRectAlignment steady o es fs line = λ meet. line (meets_parts bound.DisplayRectAlignment o es fs meet).0
 steady_first _ steady o es fs line = absurd steady
 
 pub steady_second : (f : Field) → IsSteady f → (o : Offer) (es fs : List ImageBounds) → IsBoundsLine f o fs → IsBoundsLine f o (es ++ fs)
-steady_second SizeAlignment steady o es fs line meet = line (meets_parts bound.SizeAlignment o es fs meet).1
-steady_second BytesPerRowDivisor steady o es fs line meet = line (meets_parts bound.BytesPerRowDivisor o es fs meet).1
-steady_second StartOffsetDivisor steady o es fs line meet = line (meets_parts bound.StartOffsetDivisor o es fs meet).1
-steady_second DisplayRectAlignment steady o es fs line meet = line (meets_parts bound.DisplayRectAlignment o es fs meet).1
+steady_second SizeAlignment steady o es fs line = λ meet. line (meets_parts bound.SizeAlignment o es fs meet).1
+steady_second BytesPerRowDivisor steady o es fs line = λ meet. line (meets_parts bound.BytesPerRowDivisor o es fs meet).1
+steady_second StartOffsetDivisor steady o es fs line = λ meet. line (meets_parts bound.StartOffsetDivisor o es fs meet).1
+steady_second DisplayRectAlignment steady o es fs line = λ meet. line (meets_parts bound.DisplayRectAlignment o es fs meet).1
 steady_second _ steady o es fs line = absurd steady
 
 -- the offer's own bounds add nothing to a number that stands for a list

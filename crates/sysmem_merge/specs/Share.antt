@@ -1,5 +1,5 @@
 -- What the participants of one choice ask for.
-use Rattle.std.specs.Prelude.{List, IsPermutation}
+use Rattle.std.specs.Prelude.{List}
 use Rattle.sysmem_merge.specs.Sum.{SumFacts, SumsUp}
 use Rattle.sysmem_sanitise.specs.Participant.{Participant}
 use Rattle.sysmem_sanitise.specs.Platform.{PlatformFacts}
@@ -11,8 +11,3 @@ pub record ShareFacts : Type 0 where
 -- the share is that of these participants on the platform
 pub record IsShareOf (share : ShareFacts) (platform : PlatformFacts) (ps : List Participant) : Type 0 where
   pub sums : SumsUp share.sum platform ps
-
--- a sum of participants is their sum in any order
-abbrev pub SumsInAnyOrder : Type 0
-SumsInAnyOrder = (sum : SumFacts) (platform : PlatformFacts) (ps qs : List Participant)
-    → IsPermutation ps qs → SumsUp sum platform ps → SumsUp sum platform qs

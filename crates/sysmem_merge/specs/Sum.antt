@@ -1,5 +1,5 @@
 -- What is kept of participants apart from their platform: of those that a prefix settles, and of those that one choice does.
-use Rattle.std.specs.Prelude.{ℕ, List, Bool}
+use Rattle.std.specs.Prelude.{ℕ, List, Bool, IsPermutation}
 use Rattle.sysmem_counts.specs.Tally.{Tally}
 use Rattle.sysmem_memory.specs.declared.domain.CoherencyDomains.{CoherencyDomains}
 use Rattle.sysmem_merge.specs.declared.kept.KeptOffer.{KeptOffer}
@@ -38,3 +38,8 @@ SumsUp sum platform ps = StandsFor (kept_on platform sum) platform ps
 -- some settings meet these participants
 abbrev pub IsMet : Bool → PlatformFacts → List Participant → Type 0
 IsMet whole platform ps = (t : Settings) × MeetsAs whole platform ps t
+
+-- a sum of participants is their sum in any order
+abbrev pub SumsInAnyOrder : Type 0
+SumsInAnyOrder = (sum : SumFacts) (platform : PlatformFacts) (ps qs : List Participant)
+    → IsPermutation ps qs → SumsUp sum platform ps → SumsUp sum platform qs

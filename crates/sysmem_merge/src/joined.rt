@@ -1,11 +1,12 @@
-//! What is kept of each offer for the participants of two lists.
+//! What is kept of each offer, copied, or joined for the participants of two lists.
 
-ghost use Rattle.std.specs.Prelude.{◌≡◌, List, ◌++◌, Some, slice_get};
+ghost use Rattle.std.specs.Prelude.{◌≡◌, List, ◌++◌, Some, slice_get, IfOk};
 ghost use Rattle.sysmem_formats.specs.declared.offer.Offer.{Offer};
 ghost use Rattle.sysmem_merge.specs.Aggregate.{AreKept, AreKeptBounds, IsKept};
 ghost use Rattle.sysmem_merge.specs.Demands.{OfferDemand};
 
 use crate::kept::{KeptBounds, KeptOffer};
+use std::alloc::{AllocError, Global};
 use sysmem_image::merge_bounds;
 
 /// Keeps of each offer what those above ask, then more participants, whatever was kept of it.
@@ -58,4 +59,15 @@ fn joined_bounds(above: &KeptBounds, more: &KeptBounds) -> KeptBounds
             }
         }
     }
+}
+
+/// A copy of what is kept of each offer, in memory of its own.
+pub(crate) fn copied_offers(alloc: Global, kept: &[KeptOffer]) -> Result<Vec<KeptOffer>, AllocError>
+    ensures { IfOk result (λ copy. copy.items ≡ kept.now) }
+{
+    let mut copy = Vec::new(alloc);
+    for one in kept {
+        copy.push(*one)?;
+    }
+    Ok(copy)
 }

@@ -20,6 +20,8 @@ mod settings;
 mod share;
 mod sum;
 #[cfg(test)]
+mod sum_tests;
+#[cfg(test)]
 mod tests;
 mod walk;
 

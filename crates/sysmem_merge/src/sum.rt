@@ -68,7 +68,7 @@ impl Sum {
     /// Adds one more participant, where fewer than 1,024 were added.
     pub(crate) fn add(&mut self, platform: &Platform, asked: &Constraints)
         requires { self.old.added < 1024 }
-        ensures sums { (ps : List Participant) → SumsUp self.old platform.now ps
+        ensures { (ps : List Participant) → SumsUp self.old platform.now ps
             → SumsUp self.new platform.now (ps ++ asked.now ∷ []) }
     {
         let memory = asked.memory();
@@ -83,8 +83,8 @@ impl Sum {
     /// Becomes the sum of the participants above, then those of a share, whatever it was the sum of. All three were made for
     /// this platform, and the participants are at most 1,024. It takes no memory.
     pub fn join_of(&mut self, platform: &Platform, above: &Sum, share: &Share)
-        requires few { above.now.added + share.now.sum.added ≤ 1024 }
-        ensures sums { (others ps qs : List Participant) → SumsUp self.old platform.now others
+        requires { above.now.added + share.now.sum.added ≤ 1024 }
+        ensures { (others ps qs : List Participant) → SumsUp self.old platform.now others
             → SumsUp above.now platform.now ps → IsShareOf share.now platform.now qs
             → SumsUp self.new platform.now (ps ++ qs) }
     {
