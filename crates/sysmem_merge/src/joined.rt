@@ -25,8 +25,10 @@ fn join_at(kept: &mut KeptOffer, index: usize, above: &[KeptOffer], more: &[Kept
         → (o : Offer) (ds es : List OfferDemand) → IsKept o ds a → IsKept o es b
         → IsKept o (ds ++ es) kept.new }
 {
-    if let (Some(above), Some(more)) = (above.get(index), more.get(index)) {
-        *kept = joined(above, more);
+    if let Some(above) = above.get(index) {
+        if let Some(more) = more.get(index) {
+            *kept = joined(above, more);
+        }
     }
 }
 

@@ -1,7 +1,7 @@
 //! What participants ask for together, apart from their platform: what a search keeps of each prefix of choices.
 
 ghost use Rattle.std.specs.Prelude.{◌≡◌, ◌+◌, ◌<◌, ◌≤◌, ◌++◌, List, [], ◌∷◌, IfOk, IfErr, OnOk};
-ghost use Rattle.sysmem_merge.specs.Best.{IsUnmet};
+ghost use Rattle.sysmem_merge.specs.Best.{IsBest, IsUnmet};
 ghost use Rattle.sysmem_merge.specs.Reasons.{IsFirstReason};
 ghost use Rattle.sysmem_merge.specs.Share.{IsShareOf};
 ghost use Rattle.sysmem_merge.specs.Sum.{SumsUp, IsMet};
@@ -11,6 +11,7 @@ use crate::joined::join_offers;
 use crate::kept::KeptOffer;
 use crate::offers::{add_to_offers, kept_offers};
 use crate::reason::Reason;
+use crate::settings::Settings;
 use crate::share::Share;
 use crate::walk::first_fit;
 use std::alloc::{AllocError, Global};
@@ -99,10 +100,39 @@ impl Sum {
         self.added = above.added + more.added;
     }
 
-    /// Whether some settings meet the participants, on the platform that it was made for: Ok exactly where the best settings
-    /// of an aggregate of the same participants are. Where none do, the first reason that is true of them. `whole` says
+    /// The best settings for the participants, or the first reason why none meet them: those that an aggregate of the same
+    /// participants gives. The platform is the one that it was made for. It takes no memory.
+    pub fn best_settings(&self, platform: &Platform, whole: bool) -> Result<Settings, Reason>
+        ensures best { (ps : List Participant) → SumsUp self.now platform.now ps
+            → IfOk result (IsBest whole platform.now ps) }
+        ensures none { (ps : List Participant) → SumsUp self.now platform.now ps
+            → IfErr result (λ _. IsUnmet whole platform.now ps) }
+        ensures reason { (ps : List Participant) → SumsUp self.now platform.now ps
+            → IfErr result (IsFirstReason whole platform.now ps) }
+    {
+        let count = match self.counts.least_count() {
+            Ok(count) => count,
+            Err(field) => return Err(Reason::Count(field)),
+        };
+        let Some(place) = self.memory.first_place(platform.heaps()) else {
+            return Err(Reason::NoPlace);
+        };
+        let (least, greatest) = (self.least_size, self.greatest_size);
+        let Some(fit) = first_fit(platform, &self.offers, least, greatest, whole) else {
+            return Err(Reason::NoOffer);
+        };
+        Ok(Settings {
+            offer: fit.offer,
+            place,
+            count,
+            size_bytes: fit.size_bytes,
+            bounds: fit.bounds,
+        })
+    }
+
+    /// Whether some settings meet the participants; where none do, the first reason that is true of them. `whole` says
     /// that they are all that a decision has, so that an image's format, modifier and colour space must each be named by
-    /// some of them. It takes no memory.
+    /// some of them. The platform is the one that it was made for. It takes no memory.
     pub fn ask(&self, platform: &Platform, whole: bool) -> Result<(), Reason>
         ensures met { (ps : List Participant) → SumsUp self.now platform.now ps
             → OnOk result (IsMet whole platform.now ps) }
@@ -111,16 +141,9 @@ impl Sum {
         ensures reason { (ps : List Participant) → SumsUp self.now platform.now ps
             → IfErr result (IsFirstReason whole platform.now ps) }
     {
-        if let Err(field) = self.counts.least_count() {
-            return Err(Reason::Count(field));
-        }
-        if self.memory.first_place(platform.heaps()).is_none() {
-            return Err(Reason::NoPlace);
-        }
-        let (least, greatest) = (self.least_size, self.greatest_size);
-        match first_fit(platform, &self.offers, least, greatest, whole) {
-            Some(_) => Ok(()),
-            None => Err(Reason::NoOffer),
+        match self.best_settings(platform, whole) {
+            Ok(_) => Ok(()),
+            Err(reason) => Err(reason),
         }
     }
 }
