@@ -4,8 +4,8 @@ use Rattle.std.proofs.lemmas.List.Sorted.{sum_by-IsPermutation}
 use Rattle.std.proofs.Common.{sym, ◌↔◌, Any, inl, inr, arith, ℕ, ◌≡◌, ◌≤◌, ◌<◌, ◌+◌, ◌^◌, max, min, List, [], ◌∷◌, ◌++◌, All, refl, ap}
 use Rattle.list_lemmas.proofs.CallerLemmas.{All-some, Any-not_All, sum_some}
 use Rattle.std.proofs.lemmas.Bool.{cases_lt}
-use Rattle.std.proofs.lemmas.List.Elements.{All-push}
-use Rattle.std.proofs.lemmas.List.Sums.{sum_by_push}
+use Rattle.std.proofs.lemmas.List.Elements.{All-push, All-append}
+use Rattle.std.proofs.lemmas.List.Sums.{sum_by_push, sum_by-append}
 use Rattle.sysmem_counts.specs.Bounds.{StandsFor, tally}
 use Rattle.sysmem_counts.specs.Counts.{own_buffers, needed, IsCounted, IsLeastCount, HasNoCount, IsCountLine}
 use Rattle.sysmem_counts.specs.Laws.{CountSuitsSome, CountLineLeavesNone, OneLeastCount}
@@ -13,7 +13,7 @@ use Rattle.sysmem_counts.specs.Tally.{Tally}
 use Rattle.sysmem_counts.specs.declared.constraints.CountConstraints.{CountConstraints}
 use Rattle.sysmem_counts.specs.declared.field.Field.{Field}
 use Rattle.sysmem_counts.specs.declared.field.Field.TheVariants.{MaxBufferCount, BufferCountLimit}
-use Rattle.sysmem_counts.proofs.Lists.{greatest-push, least-push, greatest_within, within_greatest, above_least, one_below, one_below_any, greatest_in_order, least_in_order, greatest_some}
+use Rattle.sysmem_counts.proofs.Lists.{greatest-push, least-push, greatest-append, least-append, greatest_within, within_greatest, above_least, one_below, one_below_any, greatest_in_order, least_in_order, greatest_some}
 
 -- no number below what is needed suits
 pub needed_le : (ps : List CountConstraints) (count : ℕ) → IsCounted ps count → needed ps ≤ count
@@ -137,4 +137,27 @@ stands_push kept ps p small stands = record {
     least-push (λ q. q.max_buffer_count) ps p small,
   ) refl;
   fits = All-push (λ q. q.max_buffer_count < 2 ^ 32) ps p stands.fits small;
+}
+
+-- what is kept of participants and of more together
+abbrev pub tally_both : Tally → Tally → Tally
+tally_both kept more = record {
+  own = kept.own + more.own;
+  shared = max kept.shared more.shared;
+  minimum = max kept.minimum more.minimum;
+  maximum = min kept.maximum more.maximum;
+}
+
+-- it stands for both lists together
+pub stands_append : (kept more : Tally) (ps qs : List CountConstraints) → StandsFor kept ps → StandsFor more qs → StandsFor (tally_both kept more) (ps ++ qs)
+stands_append kept more ps qs stands others = record {
+  tallied = rw (
+    stands.tallied,
+    others.tallied,
+    sum_by-append own_buffers ps qs,
+    greatest-append (λ q. q.min_buffer_count_for_shared_slack) ps qs,
+    greatest-append (λ q. q.min_buffer_count) ps qs,
+    least-append (λ q. q.max_buffer_count) ps qs,
+  ) refl;
+  fits = All-append (λ q. q.max_buffer_count < 2 ^ 32) ps qs stands.fits others.fits;
 }

@@ -18,6 +18,21 @@ pub least-push : {X : Type 0} (f : X → ℕ) (xs : List X) (x : X) → f x < 2 
 least-push f [] x small = omega arith
 least-push f (y ∷ xs) x small = omega (arith, least-push f xs x small)
 
+-- the greatest of two lists is the greater of theirs
+pub greatest-append : {X : Type 0} (f : X → ℕ) (xs ys : List X) → greatest f (xs ++ ys) ≡ max (greatest f xs) (greatest f ys)
+greatest-append f [] ys = omega arith
+greatest-append f (x ∷ xs) ys = omega (arith, greatest-append f xs ys)
+
+-- the least of a list is of 32 bits
+least_small : {X : Type 0} (f : X → ℕ) (xs : List X) → least f xs ≤ 4294967295
+least_small f [] = omega arith
+least_small f (x ∷ xs) = omega (arith, least_small f xs)
+
+-- the least of two lists is the lesser of theirs
+pub least-append : {X : Type 0} (f : X → ℕ) (xs ys : List X) → least f (xs ++ ys) ≡ min (least f xs) (least f ys)
+least-append f [] ys = omega (arith, least_small f ys)
+least-append f (x ∷ xs) ys = omega (arith, least-append f xs ys)
+
 -- a bound of each number bounds the greatest
 pub greatest_within : {X : Type 0} (f : X → ℕ) (m : ℕ) (xs : List X) → All (λ x. f x ≤ m) xs → greatest f xs ≤ m
 greatest_within f m [] all = omega arith
@@ -67,14 +82,10 @@ greatest_in_order f xs ys order =
 pub least_in_order : {X : Type 0} (f : X → ℕ) (xs ys : List X) → IsPermutation xs ys → least f xs ≡ least f ys
 least_in_order {X} f xs ys order =
     omega (arith, least_at_most xs ys order, least_at_most ys xs (IsPermutation-sym xs ys order)) where
-      small : (zs : List X) → least f zs ≤ 4294967295
-      small [] = omega arith
-      small (z ∷ zs) = omega (arith, small zs)
-
       above : (m : ℕ) (zs : List X) → m ≤ 4294967295 → All (λ z. m ≤ f z) zs → m ≤ least f zs
       above m [] fits all = fits
       above m (z ∷ zs) fits all = omega (arith, All-head (λ z. m ≤ f z) z zs all, above m zs fits (All-tail (λ z. m ≤ f z) z zs all))
 
       least_at_most : (us vs : List X) → IsPermutation us vs → least f us ≤ least f vs
-      least_at_most us vs order = above (least f us) vs (small us)
+      least_at_most us vs order = above (least f us) vs (least_small f us)
           (All-permutation (λ z. least f us ≤ f z) us vs order (above_least f (least f us) us (omega arith)))

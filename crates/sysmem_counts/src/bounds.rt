@@ -65,6 +65,20 @@ impl CountBounds {
         self.maximum = self.maximum.min(asked.max_buffer_count);
     }
 
+    /// Joins the bounds of more participants: they are those of both together. The two sums of camping and dedicated
+    /// slack must be below 2^62 together.
+    pub fn join(&mut self, more: &CountBounds)
+        requires { sum_of self.old + sum_of more.now < 2 ^ 62 }
+        ensures joined { (ps qs : List Asked) → StandsFor self.old ps → StandsFor more.now qs
+            → StandsFor self.new (ps ++ qs) }
+        ensures sum { sum_of self.new ≡ sum_of self.old + sum_of more.now }
+    {
+        self.own += more.own;
+        self.shared = self.shared.max(more.shared);
+        self.minimum = self.minimum.max(more.minimum);
+        self.maximum = self.maximum.min(more.maximum);
+    }
+
     /// The least number of buffers, 1 to 128, that suits all participants. Where none does, the field that
     /// says so: `MaxBufferCount` if they need more than one of their maximums, else `BufferCountLimit`.
     pub fn least_count(&self) -> Result<u32, Field>

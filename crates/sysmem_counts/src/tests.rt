@@ -53,6 +53,28 @@ fn slack_too_many(rt: HostRuntime) {
     );
 }
 
+// The least count of two participants whose bounds were made apart and joined.
+fn least_joined(first: CountConstraints, second: CountConstraints) -> Result<u32, Field> {
+    let mut bounds = CountBounds::new();
+    bounds.add(&first);
+    let mut more = CountBounds::new();
+    more.add(&second);
+    bounds.join(&more);
+    bounds.least_count()
+}
+
+#[test]
+fn joined(rt: HostRuntime) {
+    let first = asked(2, 0, 1, 0, u32::MAX);
+    assert_eq!(rt; least_joined(first, asked(3, 1, 2, 0, u32::MAX)), Ok(8));
+    assert_eq!(rt; least_joined(asked(3, 1, 2, 0, 8), first), Ok(8));
+    assert_eq!(rt;
+        least_joined(asked(3, 1, 2, 0, 7), first),
+        Err(Field::MaxBufferCount)
+    );
+    assert_eq!(rt; least_joined(first, asked(0, 0, 0, 9, 9)), Ok(9));
+}
+
 #[test]
 fn minimums(rt: HostRuntime) {
     let first = asked(1, 0, 0, 5, u32::MAX);

@@ -1,4 +1,5 @@
 -- What callers need of bounds, corners and lines: the laws as lemmas, and a few more.
+pub use Rattle.sysmem_image.proofs.Joined.{own_adds_nothing, steady_first, steady_second}
 use Rattle.std.proofs.Common.{◌↔◌, List, []}
 use Rattle.sysmem_counts.specs.declared.field.Field.{Field}
 use Rattle.sysmem_formats.specs.declared.offer.Offer.{Offer}

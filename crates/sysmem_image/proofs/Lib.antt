@@ -3,6 +3,7 @@ pub mod Meets
 pub mod Rows
 pub mod Steps
 pub mod Readings
+pub mod Joined
 pub mod Layouts
 pub mod Smaller
 pub mod Sound

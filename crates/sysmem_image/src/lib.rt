@@ -31,7 +31,7 @@ pub use entry::{Entry, EntryBounds};
 pub use first_matches::FirstMatches;
 pub use keeping::{first_failing, keeps_field, suits};
 pub use matching::{entry_for, takes_colour};
-pub use merging::merge_into;
+pub use merging::{merge_bounds, merge_into};
 pub use multiples::lcm_capped;
 pub use read::BoundsRead;
 pub use size::{Corner, Size};

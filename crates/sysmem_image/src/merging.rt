@@ -7,6 +7,7 @@ ghost use Rattle.sysmem_image.specs.Multiples.{IsLcm, IsSizeLcm, IsAboveLimit, I
 ghost use Rattle.sysmem_image.specs.Bounds.{IsTighter, IsInRange};
 ghost use Rattle.sysmem_image.specs.Merged.{MergedOf, NoneMerge, IsMerged, IsFirstAbove};
 ghost use Rattle.sysmem_image.specs.Lines.{IsFirstLine, IsSteady};
+ghost use Rattle.sysmem_formats.specs.declared.offer.Offer.{Offer};
 ghost use Rattle.sysmem_image.specs.Entries.{effective};
 
 use crate::bounds::ImageBounds;
@@ -52,6 +53,23 @@ pub fn merge_into(bounds: &mut ImageBounds, entry: &Entry, offer: &Offer) -> Res
 {
     let more = effective(entry, offer);
     *bounds = merged(bounds, &more)?;
+    Ok(())
+}
+
+/// Merges more bounds of an offer into bounds of it: where both were merged of lists, they are those of both lists.
+///
+/// Refuses with the first field whose common multiple is above 32 bits; the bounds are unchanged then.
+pub fn merge_bounds(bounds: &mut ImageBounds, more: &ImageBounds) -> Result<(), Field>
+    ensures ok { OnOk result ((s : ImageBounds) →
+        IsTighter s bounds.new ↔ (IsTighter s bounds.old × IsTighter s more.now)) }
+    ensures merged { (o : Offer) (es fs : List ImageBounds) → MergedOf o es bounds.old → MergedOf o fs more.now →
+        OnOk result (MergedOf o (es ++ fs) bounds.new) }
+    ensures unchanged { OnErr result (bounds.new ≡ bounds.old) }
+    ensures line { (o : Offer) (es fs : List ImageBounds) → MergedOf o es bounds.old → MergedOf o fs more.now →
+        IfErr result (λ field. IsFirstLine field o (es ++ fs)) }
+    ensures steady { IfErr result IsSteady }
+{
+    *bounds = merged(bounds, more)?;
     Ok(())
 }
 

@@ -1,6 +1,7 @@
 //! Bounds, corners and entries, as they were worked out by hand.
 
 use super::*;
+use std::test::Fail;
 use sysmem_counts::Field;
 use sysmem_formats::{ColourSpace, Modifier, Offer, Pair, PixelFormat};
 
@@ -253,6 +254,39 @@ fn failing_fields(rt: HostRuntime) {
     assert!(rt; kept(Field::MaxBytesPerRow) && !kept(Field::BytesPerRowDivisor));
     assert!(rt; kept(Field::MinSize) && !kept(Field::RequiredMaxSize));
     assert!(rt; kept(Field::Usage));
+}
+
+/// The bounds of one entry on an offer.
+fn bounds_of(entry: &Entry, offer: &Offer) -> Result<ImageBounds, Field> {
+    let mut bounds = ImageBounds::of(offer);
+    merge_into(&mut bounds, entry, offer)?;
+    Ok(bounds)
+}
+
+/// Bounds that were merged apart, then with one another: rows of 48 and of 64 bytes meet at 192.
+#[test]
+fn bounds_merged_apart(rt: HostRuntime) -> Result<(), Fail> {
+    let offer = offer(PixelFormat::R8, Modifier::Linear);
+    let mut first = at_least(PixelFormat::R8, 100, 10);
+    first.bounds.asked.bytes_per_row_divisor = 48;
+    let mut second = at_least(PixelFormat::R8, 10, 30);
+    second.bounds.asked.bytes_per_row_divisor = 64;
+    let (Ok(mut both), Ok(more)) = (bounds_of(&first, &offer), bounds_of(&second, &offer)) else {
+        return Err(Fail::from("no bounds"));
+    };
+    assert_eq!(rt; merge_bounds(&mut both, &more), Ok(()));
+    assert_eq!(rt; corner(&both, &offer), image(100, 30, 192, 5760));
+    let mut large = both;
+    large.start_offset_divisor = 4294967291;
+    let mut other = more;
+    other.start_offset_divisor = 4294967279;
+    let before = large;
+    assert_eq!(rt;
+        merge_bounds(&mut large, &other),
+        Err(Field::StartOffsetDivisor)
+    );
+    assert_eq!(rt; large, before);
+    Ok(())
 }
 
 #[test]

@@ -1,5 +1,6 @@
 pub mod FirstRefusing
 pub mod LawProofs
+pub mod Joined
 pub mod Left
 pub mod ListedPlaces
 pub mod CallerLemmas

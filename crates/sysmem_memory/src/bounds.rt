@@ -61,6 +61,18 @@ impl MemoryBounds {
         }
     }
 
+    /// Joins the bounds of more participants: what any of both refuses is no longer left. The heaps are those that `new`
+    /// was given, of both.
+    pub fn join(&mut self, heaps: &[HeapInfo], more: &MemoryBounds)
+        requires { length heaps.now ≤ 64 }
+        ensures { (ps qs : List PlaceDemand) → StandsFor self.old heaps.now ps
+            → StandsFor more.now heaps.now qs → StandsFor self.new heaps.now (ps ++ qs) }
+    {
+        for index in 0..heaps.len() {
+            self.left[index] = left_by_both(self.left[index], more.left[index]);
+        }
+    }
+
     /// The first place that nobody who was added refuses, or `None` where each place is refused by somebody.
     /// The heaps are those that `new` was given.
     pub fn first_place(&self, heaps: &[HeapInfo]) -> Option<Place>
@@ -76,6 +88,17 @@ impl MemoryBounds {
             }
         }
         None
+    }
+}
+
+/// The domains that are in both sets.
+fn left_by_both(left: CoherencyDomains, more: CoherencyDomains) -> CoherencyDomains
+    ensures { (d : Domain) → has_domain result d ≡ (has_domain left d && has_domain more d) }
+{
+    CoherencyDomains {
+        cpu: left.cpu & more.cpu,
+        ram: left.ram & more.ram,
+        inaccessible: left.inaccessible & more.inaccessible,
     }
 }
 

@@ -128,6 +128,30 @@ fn secure_heap(rt: HostRuntime) -> Result<(), Fail> {
     Ok(())
 }
 
+// The same two participants, their bounds made apart and joined: secure memory, and a processor or a video device.
+#[test]
+fn joined(rt: HostRuntime) -> Result<(), Fail> {
+    let heaps = platform(rt.alloc())?;
+    assert_eq!(rt; heaps.len(), 3);
+    let mut any = MemoryConstraints::permitting(Vec::new(rt.alloc()));
+    any.inaccessible_domain_supported = true;
+    let mut player = MemoryBounds::new(&heaps);
+    player.add(&heaps, &secure(rt.alloc()), Usage::VIDEO);
+    let mut processor = MemoryBounds::new(&heaps);
+    processor.add(&heaps, &any, Usage::CPU);
+    let mut video = MemoryBounds::new(&heaps);
+    video.add(&heaps, &any, Usage::VIDEO);
+    let vault = Place {
+        heap: 2,
+        coherency: CoherencyDomain::Inaccessible,
+    };
+    processor.join(&heaps, &player);
+    assert_eq!(rt; processor.first_place(&heaps), None);
+    player.join(&heaps, &video);
+    assert_eq!(rt; player.first_place(&heaps), Some(vault));
+    Ok(())
+}
+
 #[test]
 fn a_processor_alone(rt: HostRuntime) -> Result<(), Fail> {
     let heaps = platform(rt.alloc())?;

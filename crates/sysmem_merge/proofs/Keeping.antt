@@ -51,7 +51,7 @@ lasting_more DisplayRectAlignment lasting o ds d line = steady_asked DisplayRect
 lasting_more _ lasting o ds d line = absurd lasting
 
 -- a line about a common multiple is a lasting line of the participants
-steady_lasts : (f : Field) → IsSteady f → (o : Offer) (ds : List OfferDemand) → IsBoundsLine f o (bounds_asked o ds) → IsLasting f × IsOfferLine f o ds
+pub steady_lasts : (f : Field) → IsSteady f → (o : Offer) (ds : List OfferDemand) → IsBoundsLine f o (bounds_asked o ds) → IsLasting f × IsOfferLine f o ds
 steady_lasts SizeAlignment steady o ds line = (tt, line)
 steady_lasts BytesPerRowDivisor steady o ds line = (tt, line)
 steady_lasts StartOffsetDivisor steady o ds line = (tt, line)

@@ -4,6 +4,7 @@ pub mod AnyOrder
 pub mod Asked
 pub mod FirstFits
 pub mod Fits
+pub mod Joining
 pub mod Keeping
 pub mod Lines
 pub mod Many
@@ -12,4 +13,5 @@ pub mod OneLine
 pub mod Reasons
 pub mod Sizes
 pub mod SomeMet
+pub mod Summing
 pub mod Together

@@ -7,3 +7,5 @@ pub mod Laws
 pub mod Offers
 pub mod Reasons
 pub mod Settings
+pub mod Share
+pub mod Sum

@@ -7,6 +7,7 @@ ghost use Rattle.sysmem_sanitise.specs.Participant.{Participant};
 ghost use Rattle.sysmem_sanitise.specs.Platform.{PlatformFacts};
 ghost use Rattle.sysmem_merge.specs.Reasons.{IsFirstReason};
 
+use crate::joined::copied_offers;
 use crate::kept::KeptOffer;
 use crate::offers::{add_to_offers, kept_offers};
 use crate::reason::Reason;
@@ -72,6 +73,22 @@ impl<'p> Aggregate<'p> {
         ensures { result.now ≡ self.now.platform }
     {
         self.platform
+    }
+
+    /// An aggregate that is equal to this one, in memory of its own. It fails where memory is refused.
+    pub fn copy(&self) -> Result<Aggregate<'p>, AllocError>
+        ensures { IfOk result (λ copy. copy ≡ self.now) }
+    {
+        let offers = copied_offers(*self.offers.allocator(), &self.offers)?;
+        Ok(Aggregate {
+            platform: self.platform,
+            counts: self.counts,
+            memory: self.memory,
+            offers,
+            least_size: self.least_size,
+            greatest_size: self.greatest_size,
+            added: self.added,
+        })
     }
 
     /// Adds one more participant, where fewer than 1,024 were added. It takes no memory, so it isn't refused.

@@ -3,6 +3,7 @@
 ghost use Rattle.sysmem_merge.specs.Laws.{OneBest, ReasonLeavesNone, ReasonOfSomeLeavesNone};
 ghost use Rattle.sysmem_merge.specs.Laws.{OfferLineLeavesNone, PlaceLineLeavesNone, CountLineLeavesNone, SizeLineHolds};
 ghost use Rattle.sysmem_merge.specs.Laws.{StandsInAnyOrder, SomeAreMet, UnmetBySome, UnnamedLineLeavesNone};
+ghost use Rattle.sysmem_merge.specs.Sum.{SumsInAnyOrder};
 
 /// Participants have at most one best settings.
 pub fn one_best()
@@ -55,4 +56,9 @@ pub fn unmet_by_some()
 /// reads.
 pub fn size_line_holds()
     ensures { SizeLineHolds }
+{}
+
+/// A sum of participants is their sum in any order, so that a search may join the shares of choices in the order of choices.
+pub fn sums_in_any_order()
+    ensures { SumsInAnyOrder }
 {}

@@ -10,12 +10,17 @@
 
 mod aggregate;
 mod fit;
+mod joined;
 mod kept;
 pub mod laws;
 mod meets;
 mod offers;
 mod reason;
 mod settings;
+mod share;
+mod sum;
+#[cfg(test)]
+mod sum_tests;
 #[cfg(test)]
 mod tests;
 mod walk;
@@ -25,3 +30,5 @@ pub use fit::Fit;
 pub use meets::meets_one;
 pub use reason::Reason;
 pub use settings::Settings;
+pub use share::Share;
+pub use sum::Sum;

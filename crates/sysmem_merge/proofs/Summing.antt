@@ -1,0 +1,46 @@
+-- What stands for participants and for more of them stands for both together.
+use Rattle.std.proofs.Common.{arith, ℕ, ◌≡◌, ◌≤◌, ◌+◌, max, min, refl, List, [], ◌∷◌, ◌++◌, All, map, length, length-append}
+use Rattle.std.proofs.lemmas.List.{map-append}
+use Rattle.std.proofs.lemmas.List.Elements.{All-append, All-nil, All-cons, All-head, All-tail}
+use Rattle.sysmem_counts.specs.Bounds as counts
+use Rattle.sysmem_memory.specs.Place as places
+use Rattle.sysmem_merge.specs.Aggregate.{AreSizes, AreKept, StandsFor}
+use Rattle.sysmem_merge.specs.Demands.{OfferDemand, counts_asked, place_demand, place_demands, offer_demand, offer_demands}
+use Rattle.sysmem_merge.specs.Sum.{SumFacts, SumsUp}
+use Rattle.sysmem_sanitise.specs.Participant.{Participant}
+use Rattle.sysmem_sanitise.specs.Platform.{PlatformFacts, offers_of}
+
+-- what holds of each of two lists together holds of each of both
+all_parts : {X : Type 0} (P : X → Type 0) (xs ys : List X) → All P (xs ++ ys) → All P xs × All P ys
+all_parts P [] ys all = (All-nil P, all)
+all_parts P (x ∷ xs) ys all =
+    let rest = all_parts P xs ys (All-tail P x (xs ++ ys) all) in (All-cons P x xs (All-head P x (xs ++ ys) all) rest.0, rest.1)
+
+-- the greater least, and the lesser greatest
+sizes_both : (ds es : List OfferDemand) (least greatest more_least more_greatest : ℕ) → AreSizes ds least greatest → AreSizes es more_least more_greatest
+    → AreSizes (ds ++ es) (max least more_least) (min greatest more_greatest)
+sizes_both ds es least greatest more_least more_greatest first second = record {
+  low = λ n. (
+    λ within. All-append (λ x. x.min_size_bytes ≤ n) ds es ((first.low n).0 (omega (arith, within))) ((second.low n).0 (omega (arith, within))),
+    λ all. let parts = all_parts (λ x. x.min_size_bytes ≤ n) ds es all in omega (arith, (first.low n).1 parts.0, (second.low n).1 parts.1),
+  );
+  high = λ n small. (
+    λ within. All-append (λ x. n ≤ x.max_size_bytes) ds es ((first.high n small).0 (omega (arith, within))) ((second.high n small).0 (omega (arith, within))),
+    λ all. let parts = all_parts (λ x. n ≤ x.max_size_bytes) ds es all in omega (arith, (first.high n small).1 parts.0, (second.high n small).1 parts.1),
+  );
+}
+
+-- each part stands for both lists, so the whole does
+pub sums_both : (above more new : SumFacts) (platform : PlatformFacts) (ps qs : List Participant) → SumsUp above platform ps → SumsUp more platform qs
+    → counts.StandsFor new.counts (counts_asked ps ++ counts_asked qs) → places.StandsFor new.places platform.heaps (place_demands ps ++ place_demands qs)
+    → AreKept (offers_of platform) (offer_demands ps ++ offer_demands qs) new.offers
+    → new.least_size ≡ max above.least_size more.least_size → new.greatest_size ≡ min above.greatest_size more.greatest_size → new.added ≡ above.added + more.added
+    → SumsUp new platform (ps ++ qs)
+sums_both above more new platform ps qs first second counted placed offered least greatest many = record {
+  on = refl;
+  counts = rw map-append counted;
+  places = rw map-append placed;
+  offers = rw map-append offered;
+  sizes = rw (map-append, least, greatest) (sizes_both (offer_demands ps) (offer_demands qs) above.least_size above.greatest_size more.least_size more.greatest_size first.sizes second.sizes);
+  many = omega (arith, many, first.many, second.many, length-append ps qs);
+}

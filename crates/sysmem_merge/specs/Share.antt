@@ -1,0 +1,13 @@
+-- What the participants of one choice ask for.
+use Rattle.std.specs.Prelude.{List}
+use Rattle.sysmem_merge.specs.Sum.{SumFacts, SumsUp}
+use Rattle.sysmem_sanitise.specs.Participant.{Participant}
+use Rattle.sysmem_sanitise.specs.Platform.{PlatformFacts}
+
+-- their sum
+pub record ShareFacts : Type 0 where
+  pub sum : SumFacts
+
+-- the share is that of these participants on the platform
+pub record IsShareOf (share : ShareFacts) (platform : PlatformFacts) (ps : List Participant) : Type 0 where
+  pub sums : SumsUp share.sum platform ps

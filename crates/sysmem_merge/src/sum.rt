@@ -1,0 +1,149 @@
+//! What participants ask for together, apart from their platform: what a search keeps of each prefix of choices.
+
+ghost use Rattle.std.specs.Prelude.{◌≡◌, ◌+◌, ◌<◌, ◌≤◌, ◌++◌, List, [], ◌∷◌, IfOk, IfErr, OnOk};
+ghost use Rattle.sysmem_merge.specs.Best.{IsBest, IsUnmet};
+ghost use Rattle.sysmem_merge.specs.Reasons.{IsFirstReason};
+ghost use Rattle.sysmem_merge.specs.Share.{IsShareOf};
+ghost use Rattle.sysmem_merge.specs.Sum.{SumsUp, IsMet};
+ghost use Rattle.sysmem_sanitise.specs.Participant.{Participant};
+
+use crate::joined::join_offers;
+use crate::kept::KeptOffer;
+use crate::offers::{add_to_offers, kept_offers};
+use crate::reason::Reason;
+use crate::settings::Settings;
+use crate::share::Share;
+use crate::walk::first_fit;
+use std::alloc::{AllocError, Global};
+use std::marker::Model;
+use sysmem_counts::CountBounds;
+use sysmem_memory::MemoryBounds;
+use sysmem_sanitise::{Constraints, Platform};
+
+/// What participants ask for together. A search reserves one for each level of choices, so that a prefix takes no memory.
+#[derive(Debug, Drop)]
+pub struct Sum {
+    counts: CountBounds,
+    memory: MemoryBounds,
+    offers: Vec<KeptOffer>,
+    least_size: u64,
+    greatest_size: u64,
+    added: u64,
+}
+
+impl Model for Sum {
+    ghost use Rattle.std.specs.Prelude.{◌*◌, ◌^◌, ◌≤◌};
+    ghost use Rattle.sysmem_counts.specs.Tally.{sum_of};
+    ghost use Rattle.sysmem_merge.specs.Sum.{SumFacts};
+
+    ghost Value = { SumFacts };
+
+    ghost view = { λ s. record {
+      counts = s.counts;
+      places = s.memory;
+      offers = s.offers.items;
+      least_size = s.least_size;
+      greatest_size = s.greatest_size;
+      added = s.added;
+    } };
+
+    ghost invariant = { λ s. (sum_of s.counts ≤ s.added * 2 ^ 33) × (s.added ≤ 1024) };
+}
+
+impl Sum {
+    /// The sum of no participant at all, in memory that later sums on this platform need too.
+    pub fn new(alloc: Global, platform: &Platform) -> Result<Sum, AllocError>
+        ensures { IfOk result (λ made. SumsUp made platform.now []) }
+    {
+        let offers = kept_offers(alloc, platform)?;
+        Ok(Sum {
+            counts: CountBounds::new(),
+            memory: MemoryBounds::new(platform.heaps()),
+            offers,
+            least_size: 0,
+            greatest_size: u64::MAX,
+            added: 0,
+        })
+    }
+
+    /// Adds one more participant, where fewer than 1,024 were added.
+    pub(crate) fn add(&mut self, platform: &Platform, asked: &Constraints)
+        requires { self.old.added < 1024 }
+        ensures { (ps : List Participant) → SumsUp self.old platform.now ps
+            → SumsUp self.new platform.now (ps ++ asked.now ∷ []) }
+    {
+        let memory = asked.memory();
+        self.counts.add(asked.counts());
+        self.memory.add(platform.heaps(), memory, asked.usage());
+        add_to_offers(&mut self.offers, platform, asked.entries());
+        self.least_size = self.least_size.max(memory.min_size_bytes);
+        self.greatest_size = self.greatest_size.min(memory.max_size_bytes);
+        self.added += 1;
+    }
+
+    /// Becomes the sum of the participants above, then those of a share, whatever it was the sum of. All three were made for
+    /// this platform, and the participants are at most 1,024. It takes no memory.
+    pub fn join_of(&mut self, platform: &Platform, above: &Sum, share: &Share)
+        requires { above.now.added + share.now.sum.added ≤ 1024 }
+        ensures { (others ps qs : List Participant) → SumsUp self.old platform.now others
+            → SumsUp above.now platform.now ps → IsShareOf share.now platform.now qs
+            → SumsUp self.new platform.now (ps ++ qs) }
+    {
+        let more = share.sum();
+        self.counts = above.counts;
+        self.counts.join(&more.counts);
+        self.memory = above.memory;
+        self.memory.join(platform.heaps(), &more.memory);
+        join_offers(&mut self.offers, &above.offers, &more.offers);
+        self.least_size = above.least_size.max(more.least_size);
+        self.greatest_size = above.greatest_size.min(more.greatest_size);
+        self.added = above.added + more.added;
+    }
+
+    /// The best settings for the participants, or the first reason why none meet them: those that an aggregate of the same
+    /// participants gives. The platform is the one that it was made for. It takes no memory.
+    pub fn best_settings(&self, platform: &Platform, whole: bool) -> Result<Settings, Reason>
+        ensures best { (ps : List Participant) → SumsUp self.now platform.now ps
+            → IfOk result (IsBest whole platform.now ps) }
+        ensures none { (ps : List Participant) → SumsUp self.now platform.now ps
+            → IfErr result (λ _. IsUnmet whole platform.now ps) }
+        ensures reason { (ps : List Participant) → SumsUp self.now platform.now ps
+            → IfErr result (IsFirstReason whole platform.now ps) }
+    {
+        let count = match self.counts.least_count() {
+            Ok(count) => count,
+            Err(field) => return Err(Reason::Count(field)),
+        };
+        let Some(place) = self.memory.first_place(platform.heaps()) else {
+            return Err(Reason::NoPlace);
+        };
+        let (least, greatest) = (self.least_size, self.greatest_size);
+        let Some(fit) = first_fit(platform, &self.offers, least, greatest, whole) else {
+            return Err(Reason::NoOffer);
+        };
+        Ok(Settings {
+            offer: fit.offer,
+            place,
+            count,
+            size_bytes: fit.size_bytes,
+            bounds: fit.bounds,
+        })
+    }
+
+    /// Whether some settings meet the participants; where none do, the first reason that is true of them. `whole` says
+    /// that they are all that a decision has, so that an image's format, modifier and colour space must each be named by
+    /// some of them. The platform is the one that it was made for. It takes no memory.
+    pub fn ask(&self, platform: &Platform, whole: bool) -> Result<(), Reason>
+        ensures met { (ps : List Participant) → SumsUp self.now platform.now ps
+            → OnOk result (IsMet whole platform.now ps) }
+        ensures none { (ps : List Participant) → SumsUp self.now platform.now ps
+            → IfErr result (λ _. IsUnmet whole platform.now ps) }
+        ensures reason { (ps : List Participant) → SumsUp self.now platform.now ps
+            → IfErr result (IsFirstReason whole platform.now ps) }
+    {
+        match self.best_settings(platform, whole) {
+            Ok(_) => Ok(()),
+            Err(reason) => Err(reason),
+        }
+    }
+}
