@@ -37,3 +37,7 @@ pub mod Settling
 pub mod ToldMembers
 pub mod Marking
 pub mod Decisions
+pub mod GroupWalks
+pub mod Shares
+pub mod ChoiceLaws
+pub mod Answering
