@@ -4,3 +4,9 @@ pub mod CallerLemmas
 pub mod Answering
 pub mod Cutting
 pub mod Splitting
+pub mod Naming
+pub mod Refuting
+pub mod Conflicts
+pub mod Fixing
+pub mod Exact
+pub mod Saying

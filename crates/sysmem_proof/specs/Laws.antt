@@ -6,8 +6,13 @@ use Rattle.sysmem_tree.specs.Forest.{Forest, choices, settled}
 use Rattle.sysmem_tree.specs.Selection.{after, IsSelection, IsEarlierSelection}
 use Rattle.sysmem_tree.specs.Shape.{Member}
 use Rattle.sysmem_proof.specs.declared.verdict.Verdict.{Verdict}
+use Rattle.sysmem_proof.specs.declared.verdict.Verdict.TheVariants as verdicts
 use Rattle.sysmem_proof.specs.Base.{Terms}
-use Rattle.sysmem_proof.specs.Verdict.{IsUnmet, MeetsFor, MeetsLooselyFor, IsOptimalFor, IsSameAnswer}
+use Rattle.sysmem_proof.specs.Certificate.{Item, CertificateFacts, IsCertificate, IsRefutation}
+use Rattle.sysmem_proof.specs.Check.{ChoicePasses, RefutationPasses}
+use Rattle.sysmem_proof.specs.Chosen.{ChosenFacts}
+use Rattle.sysmem_proof.specs.Conflict.{ConflictFacts, IsConflictFor}
+use Rattle.sysmem_proof.specs.Verdict.{IsUnmet, MeetsFor, MeetsLooselyFor, MeetsSettled, IsOptimalFor, IsSameAnswer}
 
 -- two optimal verdicts of one domain on the same terms are equal in kind, selection and settings
 abbrev pub OneAnswer : Type 0
@@ -54,3 +59,21 @@ pub record GoesBy (d : Forest Member) (other selection : List ℕ) (f : Forest M
 abbrev pub EarlierGoesBy : Type 0
 EarlierGoesBy = (d e f : Forest Member) (selection other : List ℕ)
     → IsSelection d selection e → IsSelection d other f → IsEarlierSelection other selection → GoesBy d other selection f
+
+-- a conflict is true: no settings meet a selection that goes on from where it stands, nor what is settled there
+pub record IsTrueConflict (platform : PlatformFacts) (terms : Option Terms) (d : Forest Member) : Type 0 where
+  pub unmet : IsUnmet (MeetsFor platform terms) d
+  pub none : (t : Settings) → ¬ (MeetsSettled platform terms d t)
+
+abbrev pub ConflictsAreTrue : Type 0
+ConflictsAreTrue = (platform : PlatformFacts) (terms : Option Terms) (d : Forest Member) (c : ConflictFacts) → IsConflictFor platform terms d c → IsTrueConflict platform terms d
+
+-- what is tested of a choice, and of a refutation, holds exactly where the verdict is optimal and proved by it
+pub record AreExactTests (platform : PlatformFacts) (terms : Option Terms) (d : Forest Member) : Type 0 where
+  pub chosen : (chosen : ChosenFacts) (certificate : CertificateFacts) → ChoicePasses platform terms d chosen.selection chosen.settings certificate
+      ↔ (IsOptimalFor platform terms d (verdicts.Chosen chosen) × IsCertificate platform terms d chosen.selection chosen.settings certificate)
+  pub empty : (items : List Item) → RefutationPasses platform terms d items
+      ↔ (IsOptimalFor platform terms d verdicts.IntersectionEmpty × IsRefutation platform terms d items)
+
+abbrev pub TestsAreExact : Type 0
+TestsAreExact = (platform : PlatformFacts) (terms : Option Terms) (d : Forest Member) → AreExactTests platform terms d

@@ -3,3 +3,9 @@ pub mod Base
 pub mod Chosen
 pub mod Verdict
 pub mod Laws
+pub mod Naming
+pub mod Failing
+pub mod Conflict
+pub mod Certificate
+pub mod Check
+pub mod Cannot

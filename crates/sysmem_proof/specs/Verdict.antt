@@ -1,12 +1,12 @@
 -- Verdicts, and when they are optimal.
-use Rattle.std.specs.Prelude.{◌≡◌, ◌<◌, ◌≤◌, ℕ, true, List, ◌++◌, Option, Some, None, All, option_map}
+use Rattle.std.specs.Prelude.{◌≡◌, ◌<◌, ◌≤◌, ℕ, true, List, ◌++◌, Option, Some, None, All, is_none, option_map}
 use Rattle.sysmem_counts.specs.Counts.{IsCounted}
 use Rattle.sysmem_merge.specs.declared.settings.Settings.{Settings}
 use Rattle.sysmem_merge.specs.Best.{IsBest}
 use Rattle.sysmem_merge.specs.Demands.{counts_asked}
-use Rattle.sysmem_merge.specs.Settings.{CoversOn, Meets, MeetsLoosely}
+use Rattle.sysmem_merge.specs.Settings.{CoversOn, Meets, MeetsLoosely, MeetsAs}
 use Rattle.sysmem_sanitise.specs.Platform.{PlatformFacts}
-use Rattle.sysmem_tree.specs.Forest.{Forest, settled, count}
+use Rattle.sysmem_tree.specs.Forest.{Forest, choices, settled, count}
 use Rattle.sysmem_tree.specs.Node.{NodeFacts}
 use Rattle.sysmem_tree.specs.Selection.{IsSelection, IsEarlierSelection}
 use Rattle.sysmem_tree.specs.Shape.{Member, shape_of}
@@ -87,6 +87,12 @@ abbrev pub IsBestFor : PlatformFacts → Option Terms → Meeting
 IsBestFor platform None = IsBestOfAll platform
 IsBestFor platform (Some terms) = MeetsFixed platform terms
 
+-- settings meet what choices have settled: with the names of the image where no group is left, else but for them
+abbrev pub MeetsSettled : PlatformFacts → Option Terms → Forest Member → Settings → Type 0
+MeetsSettled platform None d t = MeetsAs (is_none (choices d)) platform (participants (settled d)) t
+MeetsSettled platform (Some terms) d t = MeetsFixed platform terms (settled d) t
+
+-- optimal, whichever kind of domain it is
 abbrev pub IsOptimalFor : PlatformFacts → Option Terms → Forest Member → Verdict → Type 0
 IsOptimalFor platform terms = IsRight (MeetsFor platform terms) (IsBestFor platform terms)
 
