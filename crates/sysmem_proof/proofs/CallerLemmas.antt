@@ -10,6 +10,8 @@ use Rattle.sysmem_tree.specs.Shape.{Member}
 use Rattle.sysmem_proof.specs.Verdict.{Meeting, IsUnmet, IsUnmetBefore, IsChosen}
 use Rattle.sysmem_proof.proofs.Walks.{after_choice, whole_alone, begins, joins, goes_on}
 
+pub use Rattle.sysmem_proof.proofs.Finding.{splits_refute, earlier_grows}
+
 module _ (Met : Meeting) where
   -- the first c choices for the first group can't be met, however one goes on
   abbrev pub AreUnmet : List (Forest Member) → ℕ → Type 0

@@ -36,7 +36,7 @@ greatest_up_to f [] n all = omega arith
 greatest_up_to f (p ∷ ps) n all = omega (arith, All-head (λ p. f p ≤ n) p ps all, greatest_up_to f ps n (All-tail (λ p. f p ≤ n) p ps all))
 
 -- a count that a line refuses doesn't suit
-count_clash : (field : Field) (ps : List CountConstraints) (count : ℕ) → IsFixedCountLine count field ps → ¬ (IsCounted ps count)
+pub count_clash : (field : Field) (ps : List CountConstraints) (count : ℕ) → IsFixedCountLine count field ps → ¬ (IsCounted ps count)
 count_clash MinBufferCount ps count line c = omega (arith, line, c.some, c.together, greatest_up_to (λ p. p.min_buffer_count) ps count c.minimum)
 count_clash MaxBufferCount ps count line c =
     Any-not_All (λ p. p.max_buffer_count < count) (λ p. count ≤ p.max_buffer_count) ps (λ p low high. omega (arith, low, high)) line c.maximum
@@ -61,7 +61,7 @@ fails_clash MinSizeBytes heap s p fails c = omega (arith, fails, c.min_size)
 fails_clash MaxSizeBytes heap s p fails c = omega (arith, fails, c.max_size)
 fails_clash field heap s p fails c = bounds_or_place field heap s p fails c
 
-fails_on_clash : (field : Field) (platform : PlatformFacts) (s : Settings) (p : Participant) → FailsOn field platform s p → CoversOn platform s p → ⊥
+pub fails_on_clash : (field : Field) (platform : PlatformFacts) (s : Settings) (p : Participant) → FailsOn field platform s p → CoversOn platform s p → ⊥
 fails_on_clash field platform s p f c = fails_clash field f.heap s p f.fails (subst (λ h. Covers h s p) (same_Some c.heap f.heap (sym c.has ∙ f.has)) c.covers)
 
 -- a conflict of some members of an attached domain leaves none to more

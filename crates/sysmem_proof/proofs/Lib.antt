@@ -10,3 +10,5 @@ pub mod Conflicts
 pub mod Fixing
 pub mod Exact
 pub mod Saying
+pub mod Finding
+pub mod CountNodes

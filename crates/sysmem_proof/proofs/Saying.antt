@@ -20,6 +20,7 @@ use Rattle.sysmem_merge.specs.Reasons.{IsOfferLine, IsUnnamedLine}
 use Rattle.sysmem_merge.specs.Settings.{IsSound}
 use Rattle.sysmem_sanitise.specs.Platform.{PlatformFacts}
 use Rattle.sysmem_proof.specs.Cannot.{ObeysLine, LinesSay}
+use Rattle.sysmem_proof.proofs.Fixing.{count_clash, fails_on_clash}
 
 -- what the bounds that each participant asks have, all bounds that are asked have
 entry_all : (P : ImageBounds → Type 0) (o : Option ImageBounds) (d : OfferDemand) (ds : List OfferDemand) → (at : Offer) → entry_bounds at d ≡ o → IfSome o P → All P (bounds_asked at ds) → All P (bounds_asked at (d ∷ ds))
@@ -73,4 +74,6 @@ lines_say = record {
       (λ q yes' no'. cc (yes', no')) line (All-map (λ (q : PlaceDemand). refuses_by field q.memory q.usage heap t.place.coherency ≡ false) place_demand ps allow);
   count = λ field ps line. line_sound field (counts_asked ps) line;
   unnamed = λ field o ps line named. unnamed_says field o (offer_demands ps) line named;
+  fixed_count = λ field count ps line. count_clash field (counts_asked ps) count line;
+  fixed_field = λ field platform t p fails. fails_on_clash field platform t p fails;
 }

@@ -1,5 +1,5 @@
 -- Selections by their choices.
-use Rattle.std.proofs.Common.{◌≡◌, inl, inr, [], ◌∷◌, ◌++◌, Some, slice_get, refl, sym, ◌∙◌, ap, subst}
+use Rattle.std.proofs.Common.{◌≡◌, inl, inr, ℕ, List, [], ◌∷◌, ◌++◌, Some, slice_get, refl, sym, ◌∙◌, ap, subst}
 use Rattle.std.proofs.lemmas.Option.{same_Some}
 use Rattle.sysmem_tree.specs.Forest.{choices}
 use Rattle.sysmem_tree.specs.Selection.{IsSelection}
@@ -11,6 +11,9 @@ selections_split d = record {
   whole = λ none cs f. (λ s. whole_alone d f cs none s, λ is. rw is.0 (record { leads = ap (λ x. Some x) is.1; whole = sym (ap choices is.1) ∙ none }));
   split = λ es open' cs f. (λ s. begins d f es cs open' s, λ b. rw b.is (joins d b.left f es b.choice b.rest open' b.here b.goes_on));
 }
+
+both : (i c : ℕ) (xs ys : List ℕ) → i ≡ c → xs ≡ ys → c ∷ xs ≡ i ∷ ys
+both i c xs ys a b = cc (a, b)
 
 pub earlier_goes_by : EarlierGoesBy
 earlier_goes_by d e f selection [] a b earlier = absurd earlier
@@ -39,8 +42,8 @@ earlier_goes_by d e f (c ∷ selection) (i ∷ other) a b (inr later) =
       higher = inner.higher;
       rest = inner.rest;
       more = inner.more;
-      this = ap (λ l. i ∷ l) inner.this;
-      that = ap (λ k. k ∷ selection) (sym later.0) ∙ ap (λ l. i ∷ l) inner.that;
+      this = both i i other (inner.same ++ inner.lower ∷ inner.rest) refl inner.this;
+      that = both i c selection (inner.same ++ inner.higher ∷ inner.more) later.0 inner.that;
       less = inner.less;
       passed = inner.passed;
       leads = after_choice d x inner.passed es i (inner.same ++ inner.lower ∷ []) open' here ∙ inner.leads;

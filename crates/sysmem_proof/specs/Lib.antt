@@ -9,3 +9,4 @@ pub mod Conflict
 pub mod Certificate
 pub mod Check
 pub mod Cannot
+pub mod Finder

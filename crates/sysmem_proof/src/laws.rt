@@ -1,6 +1,7 @@
 //! What is true of verdicts and of their certificates, whoever works them out.
 
 ghost use Rattle.sysmem_proof.specs.Cannot.{LinesSay};
+ghost use Rattle.sysmem_proof.specs.Finder.{SomeAreNamed, CountsAreOfSome, BoundsAreOfSome, ReasonsAreConflicts};
 ghost use Rattle.sysmem_proof.specs.Laws.{OneAnswer, CutsLoseNothing, SelectionsSplit, EarlierGoesBy, ConflictsAreTrue, TestsAreExact};
 
 use sysmem_merge::laws::{
@@ -56,4 +57,17 @@ pub fn tests_are_exact()
 /// A true line leaves no settings that are as the participants ask in what the line reads.
 pub fn lines_say()
     ensures { LinesSay }
+{}
+
+/// Who has a count field makes a count line true, and who has an entry for an offer a line of its bounds; and settled participants are
+/// named by their paths.
+pub fn some_are_named()
+    ensures counts { CountsAreOfSome }
+    ensures bounds { BoundsAreOfSome }
+    ensures named { SomeAreNamed }
+{}
+
+/// A reason why no settings meet all settled participants is a conflict of an initial domain, by lines that name all of them.
+pub fn reasons_are_conflicts()
+    ensures { ReasonsAreConflicts }
 {}
