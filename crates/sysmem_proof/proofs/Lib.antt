@@ -1,0 +1,14 @@
+pub mod Walks
+pub mod Growing
+pub mod CallerLemmas
+pub mod Answering
+pub mod Cutting
+pub mod Splitting
+pub mod Naming
+pub mod Refuting
+pub mod Conflicts
+pub mod Fixing
+pub mod Exact
+pub mod Saying
+pub mod Finding
+pub mod CountNodes

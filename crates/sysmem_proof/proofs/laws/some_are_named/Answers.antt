@@ -1,0 +1,12 @@
+use Rattle.sysmem_proof.proofs.CountNodes.{counts_are_of_some}
+use Rattle.sysmem_proof.proofs.Finding.{bounds_are_of_some, some_are_named}
+use Rattle.sysmem_proof.proofs.laws.some_are_named.Goals as goal
+
+pub returns-clause-counts : goal.returns-clause-counts
+returns-clause-counts c = counts_are_of_some
+
+pub returns-clause-bounds : goal.returns-clause-bounds
+returns-clause-bounds c = bounds_are_of_some
+
+pub returns-clause-named : goal.returns-clause-named
+returns-clause-named c = some_are_named

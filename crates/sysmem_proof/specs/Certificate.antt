@@ -1,0 +1,78 @@
+-- What proves that a verdict is optimal.
+use Rattle.std.specs.Prelude.{◌≡◌, ℕ, true, List, [], ◌∷◌, ◌++◌, Option, Some, None, length, take, IsSomeAnd, slice_get}
+use Rattle.std.specs.List.{AllZip}
+use Rattle.sysmem_memory.specs.Listed.{HeapPlace, places_of}
+use Rattle.sysmem_merge.specs.declared.settings.Settings.{Settings}
+use Rattle.sysmem_sanitise.specs.Platform.{PlatformFacts, offers_of}
+use Rattle.sysmem_tree.specs.Forest.{Forest, choices, settled}
+use Rattle.sysmem_tree.specs.Selection.{IsSelection}
+use Rattle.sysmem_tree.specs.Shape.{Member}
+use Rattle.sysmem_proof.specs.Base.{Terms}
+use Rattle.sysmem_proof.specs.Conflict.{LineFacts, ConflictFacts, RefusesPlace, RefusesOffer, IsConflictFor}
+
+-- a refutation's items in pre-order: a split on the first group, with a refutation of each choice behind it, or a conflict
+pub data Item : Type 0 where
+  Split : (children : ℕ) → Item
+  Leaf : (conflict : ConflictFacts) → Item
+
+-- what shows that a selection is the first and its settings the best: for each group refutations of the choices before the chosen one, and
+-- for each offer and place before the chosen one a line that refuses it
+pub record CertificateFacts : Type 0 where
+  pub earlier : List (List (List Item))
+  pub offers : List LineFacts
+  pub places : List LineFacts
+
+-- what the conflicts of a forest are differs between initial and attached domains
+abbrev pub Conflicts : Type 1
+Conflicts = Forest Member → ConflictFacts → Type 0
+
+-- the items refute each of these forests in turn
+abbrev pub Refutes : Conflicts → List Item → List (Forest Member) → Type 0
+Refutes L [] [] = Unit {0}
+Refutes L [] (d ∷ ds) = ⊥
+Refutes L (item ∷ items) [] = ⊥
+Refutes L (Leaf conflict ∷ items) (d ∷ ds) = L d conflict × Refutes L items ds
+Refutes L (Split n ∷ items) (d ∷ ds) = IsSomeAnd (choices d) (λ es. (length es ≡ n) × Refutes L items (es ++ ds))
+
+-- for each of the choices in turn, refutations of the choices before it
+abbrev pub RefutesEarlier : Conflicts → Forest Member → List ℕ → List (List (List Item)) → Type 0
+RefutesEarlier L d [] [] = Unit {0}
+RefutesEarlier L d [] (rs ∷ rss) = ⊥
+RefutesEarlier L d (c ∷ cs) [] = ⊥
+RefutesEarlier L d (c ∷ cs) (rs ∷ rss) = IsSomeAnd (choices d) (λ es.
+    AllZip (λ e items. Refutes L items (e ∷ [])) (take c es) rs × IsSomeAnd (slice_get es c) (λ e. RefutesEarlier L e cs rss))
+
+-- R holds of a line for each of xs before x
+pub record HoldBefore {X : Type 0} (R : X → LineFacts → Type 0) (xs : List X) (x : X) (lines : List LineFacts) : Type 0 where
+  pub before : List X
+  pub behind : List X
+  pub there : xs ≡ before ++ x ∷ behind
+  pub each : AllZip R before lines
+
+-- each offer and each place before that of the settings is refused to the members by its line
+pub record RefuseBefore (platform : PlatformFacts) (ms : List Member) (s : Settings) (certificate : CertificateFacts) : Type 0 where
+  pub offers : HoldBefore (RefusesOffer true ms) (offers_of platform) s.offer certificate.offers
+  pub at : HeapPlace
+  pub same : at.place ≡ s.place
+  pub places : HoldBefore (RefusesPlace ms) (places_of platform.heaps) at certificate.places
+
+-- the settings of an attached domain are given, so that it has no lines
+pub record HasNoLines (certificate : CertificateFacts) : Type 0 where
+  pub offers : certificate.offers ≡ []
+  pub places : certificate.places ≡ []
+
+-- of both kinds of domain
+abbrev pub RefuseBeforeFor : PlatformFacts → Option Terms → List Member → Settings → CertificateFacts → Type 0
+RefuseBeforeFor platform None ms s certificate = RefuseBefore platform ms s certificate
+RefuseBeforeFor platform (Some terms) ms s certificate = HasNoLines certificate
+
+-- the choices are a selection, all before it is refuted, and so is each offer and place before those of the settings
+pub record IsCertificate (platform : PlatformFacts) (terms : Option Terms) (d : Forest Member) (selection : List ℕ) (s : Settings) (certificate : CertificateFacts) : Type 0 where
+  pub members : Forest Member
+  pub selects : IsSelection d selection members
+  pub earlier : RefutesEarlier (IsConflictFor platform terms) d selection certificate.earlier
+  pub before : RefuseBeforeFor platform terms (settled members) s certificate
+
+-- the items refute a domain's forest
+abbrev pub IsRefutation : PlatformFacts → Option Terms → Forest Member → List Item → Type 0
+IsRefutation platform terms d items = Refutes (IsConflictFor platform terms) items (d ∷ [])

@@ -1,0 +1,39 @@
+-- What a checker tests of a verdict and its certificate.
+use Rattle.std.specs.Prelude.{◌≡◌, ℕ, ◌≤◌, List, Option, Some, None}
+use Rattle.sysmem_merge.specs.declared.settings.Settings.{Settings}
+use Rattle.sysmem_merge.specs.Best.{IsNoBetter}
+use Rattle.sysmem_merge.specs.Settings.{Meets}
+use Rattle.sysmem_sanitise.specs.Participant.{Participant}
+use Rattle.sysmem_sanitise.specs.Platform.{PlatformFacts}
+use Rattle.sysmem_tree.specs.Forest.{Forest, settled, count}
+use Rattle.sysmem_tree.specs.Selection.{IsSelection}
+use Rattle.sysmem_tree.specs.Shape.{Member}
+use Rattle.sysmem_proof.specs.Base.{Terms}
+use Rattle.sysmem_proof.specs.Certificate.{Item, CertificateFacts, IsCertificate, IsRefutation}
+use Rattle.sysmem_proof.specs.Members.{participants}
+use Rattle.sysmem_proof.specs.Verdict.{Meeting, MeetsFixed, most_selections}
+
+-- settings that meet participants, and than which no others that do, of the same offer in the same place, are better
+pub record IsLeastAt (platform : PlatformFacts) (ps : List Participant) (s : Settings) : Type 0 where
+  pub meets : Meets platform ps s
+  pub least : (t : Settings) → t.offer ≡ s.offer → t.place ≡ s.place → Meets platform ps t → IsNoBetter platform t s
+
+-- of an attached domain: settings that meet its members
+abbrev pub IsLeastFor : PlatformFacts → Option Terms → Meeting
+IsLeastFor platform None ms s = IsLeastAt platform (participants ms) s
+IsLeastFor platform (Some terms) ms s = MeetsFixed platform terms ms s
+
+-- the choices are a selection, for whose members the settings are the least
+pub record IsFit (platform : PlatformFacts) (terms : Option Terms) (d : Forest Member) (selection : List ℕ) (s : Settings) : Type 0 where
+  pub members : Forest Member
+  pub selects : IsSelection d selection members
+  pub least : IsLeastFor platform terms (settled members) s
+
+-- a choice passes: there are few enough selections, its settings are the least, and its certificate is one
+abbrev pub ChoicePasses : PlatformFacts → Option Terms → Forest Member → List ℕ → Settings → CertificateFacts → Type 0
+ChoicePasses platform terms d selection s certificate =
+    (count d ≤ most_selections) × IsFit platform terms d selection s × IsCertificate platform terms d selection s certificate
+
+-- that nothing is met passes: there are few enough selections, and the items refute the forest
+abbrev pub RefutationPasses : PlatformFacts → Option Terms → Forest Member → List Item → Type 0
+RefutationPasses platform terms d items = (count d ≤ most_selections) × IsRefutation platform terms d items

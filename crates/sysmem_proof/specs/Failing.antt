@@ -1,0 +1,27 @@
+-- In which field settings fail a participant.
+use Rattle.std.specs.Prelude.{◌≡◌, ◌⊎◌, ◌<◌, true, false, Some, IsSomeAnd, slice_get}
+use Rattle.sysmem_counts.specs.declared.field.Field.{Field}
+use Rattle.sysmem_counts.specs.declared.field.Field.TheVariants.{PixelFormat, ColorSpaces, MinSizeBytes, MaxSizeBytes}
+use Rattle.sysmem_image.specs.Bounds.{KeepsField}
+use Rattle.sysmem_memory.specs.Heap.{HeapFacts}
+use Rattle.sysmem_memory.specs.PlaceTable.{refuses_by}
+use Rattle.sysmem_merge.specs.declared.settings.Settings.{Settings}
+use Rattle.sysmem_merge.specs.Demands.{offer_demand}
+use Rattle.sysmem_merge.specs.Offers.{has_format, has_colour, entry_bounds}
+use Rattle.sysmem_sanitise.specs.Participant.{Participant}
+use Rattle.sysmem_sanitise.specs.Platform.{PlatformFacts}
+
+-- the settings fail the participant in the field: in the offer, a size, a bound of its entry for the offer, or the place
+abbrev pub FailsIn : Field → HeapFacts → Settings → Participant → Type 0
+FailsIn PixelFormat heap s p = has_format s.offer (offer_demand p) ≡ false
+FailsIn ColorSpaces heap s p = has_colour s.offer (offer_demand p) ≡ false
+FailsIn MinSizeBytes heap s p = s.size_bytes < p.memory.min_size_bytes
+FailsIn MaxSizeBytes heap s p = p.memory.max_size_bytes < s.size_bytes
+FailsIn field heap s p = IsSomeAnd (entry_bounds s.offer (offer_demand p)) (λ b. ¬ KeepsField field s.bounds b)
+    ⊎ (refuses_by field p.memory p.usage heap s.place.coherency ≡ true)
+
+-- the settings fail the participant in the field, in their heap of the platform
+pub record FailsOn (field : Field) (platform : PlatformFacts) (s : Settings) (p : Participant) : Type 0 where
+  pub heap : HeapFacts
+  pub has : slice_get platform.heaps s.place.heap ≡ Some heap
+  pub fails : FailsIn field heap s p

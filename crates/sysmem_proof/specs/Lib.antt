@@ -1,0 +1,12 @@
+pub mod Members
+pub mod Base
+pub mod Chosen
+pub mod Verdict
+pub mod Laws
+pub mod Naming
+pub mod Failing
+pub mod Conflict
+pub mod Certificate
+pub mod Check
+pub mod Cannot
+pub mod Finder

@@ -1,0 +1,73 @@
+//! What is true of verdicts and of their certificates, whoever works them out.
+
+ghost use Rattle.sysmem_proof.specs.Cannot.{LinesSay};
+ghost use Rattle.sysmem_proof.specs.Finder.{SomeAreNamed, CountsAreOfSome, BoundsAreOfSome, ReasonsAreConflicts};
+ghost use Rattle.sysmem_proof.specs.Laws.{OneAnswer, CutsLoseNothing, SelectionsSplit, EarlierGoesBy, ConflictsAreTrue, TestsAreExact};
+
+use sysmem_merge::laws::{
+    count_line_leaves_none, offer_line_leaves_none, one_best, place_line_leaves_none, some_are_met,
+    unnamed_line_leaves_none,
+};
+
+/// Two optimal verdicts of one domain, initial or attached on the same base, are equal in kind, selection and settings.
+pub fn one_answer()
+    ensures { OneAnswer }
+{
+    one_best();
+}
+
+/// Where nothing meets the participants that are settled, but for the names of an image, nothing meets a selection that goes on from
+/// there.
+pub fn cuts_lose_nothing()
+    ensures { CutsLoseNothing }
+{
+    some_are_met();
+}
+
+/// The selections of a forest are those of its choices for the first group.
+pub fn selections_split()
+    ensures { SelectionsSplit }
+{}
+
+/// What is earlier than a selection takes a smaller child somewhere, where it chose as the selection before.
+pub fn earlier_goes_by()
+    ensures { EarlierGoesBy }
+{}
+
+/// A conflict leaves no settings to what is settled, nor to any selection that goes on from there.
+pub fn conflicts_are_true()
+    ensures { ConflictsAreTrue }
+{
+    offer_line_leaves_none();
+    place_line_leaves_none();
+    count_line_leaves_none();
+    unnamed_line_leaves_none();
+}
+
+/// What is tested of a verdict and its certificate is exactly that the verdict is optimal and the certificate one.
+pub fn tests_are_exact()
+    ensures { TestsAreExact }
+{
+    offer_line_leaves_none();
+    place_line_leaves_none();
+    count_line_leaves_none();
+    unnamed_line_leaves_none();
+}
+
+/// A true line leaves no settings that are as the participants ask in what the line reads.
+pub fn lines_say()
+    ensures { LinesSay }
+{}
+
+/// Who has a count field makes a count line true, and who has an entry for an offer a line of its bounds; and settled participants are
+/// named by their paths.
+pub fn some_are_named()
+    ensures counts { CountsAreOfSome }
+    ensures bounds { BoundsAreOfSome }
+    ensures named { SomeAreNamed }
+{}
+
+/// A reason why no settings meet all settled participants is a conflict of an initial domain, by lines that name all of them.
+pub fn reasons_are_conflicts()
+    ensures { ReasonsAreConflicts }
+{}
