@@ -1,4 +1,4 @@
-use Rattle.record_laws.proofs.each_is_stated.Goals as goal
+use Rattle.record_laws.proofs.laws.each_is_stated.Goals as goal
 use Rattle.record_laws.proofs.Participants.{participant_stated}
 use Rattle.record_laws.proofs.Platforms.{platform_stated}
 

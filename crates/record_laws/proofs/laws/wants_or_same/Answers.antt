@@ -1,4 +1,4 @@
-use Rattle.record_laws.proofs.wants_or_same.Goals as goal
+use Rattle.record_laws.proofs.laws.wants_or_same.Goals as goal
 use Rattle.record_laws.proofs.Wants.{participant_or_wants, platform_or_wants}
 
 pub returns-clause-participants : goal.returns-clause-participants
