@@ -1,6 +1,6 @@
 //! What the participants of one choice ask for, made once for a search.
 
-ghost use Rattle.std.specs.Prelude.{◌≡◌, ◌<◌, ◌++◌, List, [], ◌∷◌, IfOk};
+ghost use Rattle.std.specs.Prelude.{◌≡◌, ◌+◌, ◌<◌, ◌++◌, List, [], ◌∷◌, IfOk};
 ghost use Rattle.sysmem_merge.specs.Share.{IsShareOf};
 ghost use Rattle.sysmem_sanitise.specs.Participant.{Participant};
 
@@ -35,8 +35,9 @@ impl Share {
     /// Adds one more participant, where fewer than 1,024 were added. The platform is that of `new`. It takes no memory.
     pub fn add(&mut self, platform: &Platform, asked: &Constraints)
         requires { self.old.sum.added < 1024 }
-        ensures { (ps : List Participant) → IsShareOf self.old platform.now ps
+        ensures asks { (ps : List Participant) → IsShareOf self.old platform.now ps
             → IsShareOf self.new platform.now (ps ++ asked.now ∷ []) }
+        ensures grows { self.new.sum.added ≡ self.old.sum.added + 1 }
     {
         self.sum.add(platform, asked);
     }

@@ -69,8 +69,9 @@ impl Sum {
     /// Adds one more participant, where fewer than 1,024 were added.
     pub(crate) fn add(&mut self, platform: &Platform, asked: &Constraints)
         requires { self.old.added < 1024 }
-        ensures { (ps : List Participant) → SumsUp self.old platform.now ps
+        ensures sums { (ps : List Participant) → SumsUp self.old platform.now ps
             → SumsUp self.new platform.now (ps ++ asked.now ∷ []) }
+        ensures grows { self.new.added ≡ self.old.added + 1 }
     {
         let memory = asked.memory();
         self.counts.add(asked.counts());
@@ -85,9 +86,10 @@ impl Sum {
     /// this platform, and the participants are at most 1,024. It takes no memory.
     pub fn join_of(&mut self, platform: &Platform, above: &Sum, share: &Share)
         requires { above.now.added + share.now.sum.added ≤ 1024 }
-        ensures { (others ps qs : List Participant) → SumsUp self.old platform.now others
+        ensures sums { (others ps qs : List Participant) → SumsUp self.old platform.now others
             → SumsUp above.now platform.now ps → IsShareOf share.now platform.now qs
             → SumsUp self.new platform.now (ps ++ qs) }
+        ensures grows { self.new.added ≡ above.now.added + share.now.sum.added }
     {
         let more = share.sum();
         self.counts = above.counts;

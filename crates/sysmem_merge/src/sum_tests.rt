@@ -1,5 +1,7 @@
 // Sums of prefixes on the platform of the worked scripts, with what those scripts' decisions say of them.
 
+ghost use Rattle.std.specs.Prelude.{◌≡◌, IfOk};
+
 use crate::{Aggregate, Reason, Share, Sum};
 use serde_json::Value;
 use std::alloc::Global;
@@ -37,7 +39,9 @@ fn asked(alloc: Global, text: &str) -> Result<Constraints, Fail> {
     Ok(read_constraints(alloc, &value)?)
 }
 
-fn share_of(alloc: Global, platform: &Platform, text: &str) -> Result<Share, Fail> {
+fn share_of(alloc: Global, platform: &Platform, text: &str) -> Result<Share, Fail>
+    ensures { IfOk result (λ share. share.sum.added ≡ 1) }
+{
     let mut share = Share::new(alloc, platform)?;
     share.add(platform, &asked(alloc, text)?);
     Ok(share)

@@ -7,8 +7,8 @@ use Rattle.sysmem_sanitise.specs.Platform.{offers_of}
 use Rattle.sysmem_merge.proofs.Adding.{all_written, stands_push}
 use Rattle.sysmem_merge.proofs.sum.Sum.add.Goals as goal
 
-pub returns : goal.returns
-returns c ps sums =
+pub returns-clause-sums : goal.returns-clause-sums
+returns-clause-sums c ps sums =
     let platform = c.args.platform.now in
     let kept = subst (λ (s : SumFacts). SumsUp s platform ps) (sym c.self.view_is) sums in
     let wishes = c.memory.view_is ∙ c.memory-memory.ensures.memory in

@@ -7,8 +7,8 @@ use Rattle.sysmem_merge.proofs.Adding.{all_written}
 use Rattle.sysmem_merge.proofs.Summing.{sums_both}
 use Rattle.sysmem_merge.proofs.sum.Sum.join_of.Goals as goal
 
-pub returns : goal.returns
-returns c others ps qs was above share =
+pub returns-clause-sums : goal.returns-clause-sums
+returns-clause-sums c others ps qs was above share =
     let platform = c.args.platform.now in
     let os = offers_of platform in
     let old = subst (λ (s : SumFacts). SumsUp s platform others) (sym c.self.view_is) was in
