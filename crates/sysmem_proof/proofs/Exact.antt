@@ -73,8 +73,8 @@ module _ (laws : LineLaws) (platform : PlatformFacts) where
   no_place ms s c refuse t met earlier =
       let m : MeetsLoosely platform (participants ms) t = met.loosely in
       let p : HeapPlace = record { place = t.place; heap = m.heap } in
-      let line = zip_has (RefusesPlace ms) refuse.places.before c.places p refuse.places.each
-      (stands_before platform.heaps t.place m.heap refuse.places.before refuse.places.behind refuse.at m.sound.place refuse.places.there (rw refuse.same earlier)) in
+      let line = zip_has (RefusesPlace ms) refuse.places.each.before c.places p refuse.places.each.each
+      (stands_before platform.heaps t.place m.heap refuse.places.each.before refuse.places.each.behind refuse.places.at m.sound.place refuse.places.each.there (rw refuse.places.same earlier)) in
       place_refused laws platform true ms ms p line.0 t (sub_itself ms) m.sound.place refl line.1 met
 
   -- the least settings of their offer in their place are the best, where all offers and places before are refused

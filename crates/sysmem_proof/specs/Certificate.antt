@@ -1,5 +1,5 @@
 -- What proves that a verdict is optimal.
-use Rattle.std.specs.Prelude.{◌≡◌, ℕ, true, List, [], ◌∷◌, ◌++◌, Option, Some, None, length, take, IsSomeAnd, slice_get}
+use Rattle.std.specs.Prelude.{◌≡◌, ◌≢◌, ℕ, true, All, List, [], ◌∷◌, ◌++◌, Option, Some, None, length, take, IsSomeAnd, slice_get}
 use Rattle.std.specs.List.{AllZip}
 use Rattle.sysmem_memory.specs.Listed.{HeapPlace, places_of}
 use Rattle.sysmem_merge.specs.declared.settings.Settings.{Settings}
@@ -42,19 +42,24 @@ RefutesEarlier L d (c ∷ cs) [] = ⊥
 RefutesEarlier L d (c ∷ cs) (rs ∷ rss) = IsSomeAnd (choices d) (λ es.
     AllZip (λ e items. Refutes L items (e ∷ [])) (take c es) rs × IsSomeAnd (slice_get es c) (λ e. RefutesEarlier L e cs rss))
 
--- R holds of a line for each of xs before x
+-- R holds of a line for each of xs before the first x
 pub record HoldBefore {X : Type 0} (R : X → LineFacts → Type 0) (xs : List X) (x : X) (lines : List LineFacts) : Type 0 where
   pub before : List X
   pub behind : List X
   pub there : xs ≡ before ++ x ∷ behind
+  pub first : All (λ y. y ≢ x) before
   pub each : AllZip R before lines
 
--- each offer and each place before that of the settings is refused to the members by its line
-pub record RefuseBefore (platform : PlatformFacts) (ms : List Member) (s : Settings) (certificate : CertificateFacts) : Type 0 where
-  pub offers : HoldBefore (RefusesOffer true ms) (offers_of platform) s.offer certificate.offers
+-- each place before that of the settings is refused to the members by its line
+pub record RefusePlacesBefore (platform : PlatformFacts) (ms : List Member) (s : Settings) (lines : List LineFacts) : Type 0 where
   pub at : HeapPlace
   pub same : at.place ≡ s.place
-  pub places : HoldBefore (RefusesPlace ms) (places_of platform.heaps) at certificate.places
+  pub each : HoldBefore (RefusesPlace ms) (places_of platform.heaps) at lines
+
+-- each offer and each place is
+pub record RefuseBefore (platform : PlatformFacts) (ms : List Member) (s : Settings) (certificate : CertificateFacts) : Type 0 where
+  pub offers : HoldBefore (RefusesOffer true ms) (offers_of platform) s.offer certificate.offers
+  pub places : RefusePlacesBefore platform ms s certificate.places
 
 -- the settings of an attached domain are given, so that it has no lines
 pub record HasNoLines (certificate : CertificateFacts) : Type 0 where

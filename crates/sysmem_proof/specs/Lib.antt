@@ -10,3 +10,4 @@ pub mod Certificate
 pub mod Check
 pub mod Cannot
 pub mod Finder
+pub mod Fault

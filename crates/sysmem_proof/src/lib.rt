@@ -7,7 +7,9 @@
 
 mod base;
 pub mod laws;
+mod no;
 mod verdict;
 
 pub use base::Base;
+pub use no::No;
 pub use verdict::{Chosen, Verdict};
