@@ -13,3 +13,4 @@ pub mod Reasons
 pub mod Sizes
 pub mod SomeMet
 pub mod Together
+pub mod Uncovered

@@ -1,6 +1,7 @@
 pub mod Aggregate
 pub mod Best
 pub mod Demands
+pub mod Failing
 pub mod Fit
 pub mod Kept
 pub mod Laws

@@ -9,6 +9,7 @@
 #![tactic(auto)]
 
 mod aggregate;
+mod failing;
 mod fit;
 mod kept;
 pub mod laws;
@@ -21,6 +22,7 @@ mod tests;
 mod walk;
 
 pub use aggregate::Aggregate;
+pub use failing::{fails_in, first_uncovered};
 pub use fit::Fit;
 pub use meets::meets_one;
 pub use reason::Reason;

@@ -1,6 +1,6 @@
 // What no clause shows: settings and reasons as they were worked out by hand, on a platform of one heap and two formats.
 
-use crate::{Aggregate, Reason, Settings, meets_one};
+use crate::{Aggregate, Reason, Settings, fails_in, meets_one};
 use serde_json::Value;
 use std::alloc::Global;
 use std::test::Fail;
@@ -151,5 +151,38 @@ fn accepts_alone(rt: HostRuntime) -> Result<(), Fail> {
     assert!(rt; meets_one(&platform, &image, &camera));
     image.place.coherency = CoherencyDomain::Ram;
     assert!(rt; !meets_one(&platform, &image, &camera));
+    Ok(())
+}
+
+// A participant of R8 images, whose usage doesn't mind where they lie, doesn't take buffers without an image.
+#[test]
+fn fails_without_image(rt: HostRuntime) -> Result<(), Fail> {
+    let platform = platform(rt.alloc())?;
+    let viewer = asked(
+        rt.alloc(),
+        r#"{"usage":["video"],"image_format_constraints":[{"pixel_format":"R8","color_spaces":["SRGB"]}]}"#,
+    )?;
+    let plain = cached(8, 1);
+    assert!(rt; fails_in(Field::PixelFormat, &platform, &plain, &viewer));
+    assert!(rt; !fails_in(Field::ColorSpaces, &platform, &plain, &viewer));
+    Ok(())
+}
+
+// A least size and a coherency domain that isn't supported, beside a divisor of 64.
+#[test]
+fn fails_in_some(rt: HostRuntime) -> Result<(), Fail> {
+    let platform = platform(rt.alloc())?;
+    let camera = asked(
+        rt.alloc(),
+        r#"{"usage":["cpu"],"buffer_memory_constraints":{"min_size_bytes":4096},"image_format_constraints":[{"pixel_format":"R8","color_spaces":["SRGB"],"bytes_per_row_divisor":64}]}"#,
+    )?;
+    let mut image = cached(1, 1);
+    image.offer = linear(PixelFormat::R8);
+    image.place.coherency = CoherencyDomain::Ram;
+    assert!(rt; fails_in(Field::MinSizeBytes, &platform, &image, &camera));
+    image.bounds.bytes_per_row_divisor = 64;
+    image.size_bytes = 4096;
+    assert!(rt; fails_in(Field::RamDomainSupported, &platform, &image, &camera));
+    assert!(rt; !fails_in(Field::MinSizeBytes, &platform, &image, &camera));
     Ok(())
 }
