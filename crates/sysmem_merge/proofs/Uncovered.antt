@@ -10,18 +10,17 @@ use Rattle.std.proofs.lemmas.Option.{IfSome_then, slice_get_read}
 use Rattle.sysmem_counts.specs.declared.field.Field.{Field}
 use Rattle.sysmem_counts.specs.declared.field.Field.TheVariants.{PixelFormat, ColorSpaces, MinSizeBytes, MaxSizeBytes, PermittedHeaps, PhysicallyContiguousRequired, SecureRequired, CpuDomainSupported, RamDomainSupported, InaccessibleDomainSupported, Usage}
 use Rattle.sysmem_counts.specs.declared.field.Field.TheVariants as field
-use Rattle.sysmem_formats.specs.declared.offer.Offer.{Offer}
 use Rattle.sysmem_image.proofs.CallerLemmas.{keeps_named}
 use Rattle.sysmem_image.specs.declared.bounds.ImageBounds.{ImageBounds}
 use Rattle.sysmem_image.specs.declared.entry.Entry.{Entry}
-use Rattle.sysmem_image.specs.Bounds.{KeepsField, IsFirstFailing, IsTighter}
+use Rattle.sysmem_image.specs.Bounds.{KeepsField, IsFirstFailing}
 use Rattle.sysmem_image.specs.Entries.{effective, first_match, takes_colour}
 use Rattle.sysmem_image.specs.Fields.{Bound, MinSize, MaxSize, SizeAlignment, MinBytesPerRow, MaxBytesPerRow, BytesPerRowDivisor, StartOffsetDivisor, DisplayRectAlignment, RequiredMinSize, RequiredMaxSize, MaxWidthTimesHeight, all_bounds, field_of, number_of, fields_before, KeepsIn, KeepsEach}
 use Rattle.sysmem_memory.specs.Heap.{HeapFacts}
 use Rattle.sysmem_memory.specs.PlaceTable.{refuses_by, place_fields, first_refusing}
 use Rattle.sysmem_merge.specs.declared.settings.Settings.{Settings}
 use Rattle.sysmem_merge.specs.Demands.{offer_demand}
-use Rattle.sysmem_merge.specs.Failing.{FailsIn, IsFirstFailingOf, IsFirstUncovered, offer_fields, size_fields, failing_fields}
+use Rattle.sysmem_merge.specs.Failing.{FailsIn, IsFirstFailingOf, IsFirstUncovered, offer_fields, size_fields}
 use Rattle.sysmem_merge.specs.Offers.{has_format, has_colour, entry_bounds, AcceptsOffer}
 use Rattle.sysmem_merge.specs.Settings.{CoversOn}
 use Rattle.sysmem_merge.proofs.Accepting.{covers_when}
@@ -298,7 +297,7 @@ first_bound heap s p entry field found takes first = subst (λ f. IsFirstFailing
   colour = ap (λ x. option_map_or (takes_colour s.offer) x true) (sym found) ∙ takes
 
 -- what is known where an option is none
-none_of : {X : Type 0} (r : Option X) (P : Type 0) → is_some r ≡ false → IfNone r P → P
+pub none_of : {X : Type 0} (r : Option X) (P : Type 0) → is_some r ≡ false → IfNone r P → P
 none_of None P is p = p
 none_of (Some x) P is p = cc
 

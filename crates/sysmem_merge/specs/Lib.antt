@@ -5,6 +5,8 @@ pub mod Failing
 pub mod Fit
 pub mod Kept
 pub mod Laws
+pub mod OfferRead
 pub mod Offers
 pub mod Reasons
 pub mod Settings
+pub mod Sound

@@ -27,7 +27,8 @@ pub fn first_uncovered(
     asked: &Constraints,
 ) -> Option<Field>
     requires { settings.now.place.heap < length platform.now.heaps }
-    ensures first { IfSome result (λ field. IsFirstUncovered field platform.now settings.now asked.now) }
+    ensures first { IfSome result
+        (λ field. IsFirstUncovered field platform.now settings.now asked.now) }
     ensures none { IfNone result (CoversOn platform.now settings.now asked.now) }
 {
     let heap = &platform.heaps()[settings.place.heap];
@@ -76,14 +77,16 @@ fn fails_in_heap(field: Field, heap: &HeapInfo, settings: &Settings, asked: &Con
 
 /// Whether a participant with these entries takes the settings' offer.
 fn has_format(settings: &Settings, entries: &[Entry]) -> bool
-    ensures { (d : OfferDemand) → d.entries ≡ entries.now → result ≡ has_format settings.now.offer d }
+    ensures { (d : OfferDemand) → d.entries ≡ entries.now
+        → result ≡ has_format settings.now.offer d }
 {
     entries.is_empty() || entry_for(entries, &settings.offer).is_some()
 }
 
 /// Whether the participant's entry for the settings' offer, if it has one, takes the offer's colour space.
 fn has_colour(settings: &Settings, entries: &[Entry]) -> bool
-    ensures { (d : OfferDemand) → d.entries ≡ entries.now → result ≡ has_colour settings.now.offer d }
+    ensures { (d : OfferDemand) → d.entries ≡ entries.now
+        → result ≡ has_colour settings.now.offer d }
 {
     match entry_for(entries, &settings.offer) {
         Some(entry) => takes_colour(entry, &settings.offer),
@@ -94,7 +97,8 @@ fn has_colour(settings: &Settings, entries: &[Entry]) -> bool
 /// Whether the settings fail the participant's entry for their offer, if it has one, in the bound of this name.
 fn fails_bound_of(field: Field, settings: &Settings, entries: &[Entry]) -> bool
     ensures { (d : OfferDemand) → d.entries ≡ entries.now
-        → IsTrue result ↔ IsSomeAnd (entry_bounds settings.now.offer d) (λ b. ¬ KeepsField field settings.now.bounds b) }
+        → IsTrue result ↔ IsSomeAnd (entry_bounds settings.now.offer d)
+        (λ b. ¬ KeepsField field settings.now.bounds b) }
 {
     match entry_for(entries, &settings.offer) {
         Some(entry) => !keeps_field(field, &settings.bounds, entry, &settings.offer),
@@ -106,7 +110,8 @@ fn fails_bound_of(field: Field, settings: &Settings, entries: &[Entry]) -> bool
 fn failing_offer(settings: &Settings, entries: &[Entry]) -> Option<Field>
     ensures first { (heap : HeapFacts) (p : Participant) → p.entries ≡ entries.now
         → IfSome result (λ field. IsFirstFailingOf offer_fields field heap settings.now p) }
-    ensures none { (d : OfferDemand) → d.entries ≡ entries.now → IfNone result (AcceptsOffer settings.now.offer settings.now.bounds d) }
+    ensures none { (d : OfferDemand) → d.entries ≡ entries.now
+        → IfNone result (AcceptsOffer settings.now.offer settings.now.bounds d) }
 {
     match entry_for(entries, &settings.offer) {
         Some(entry) if takes_colour(entry, &settings.offer) => {
@@ -120,9 +125,11 @@ fn failing_offer(settings: &Settings, entries: &[Entry]) -> Option<Field>
 
 /// The first of the two sizes that the participant takes which the size isn't within.
 fn failing_size(size_bytes: u64, memory: &MemoryConstraints) -> Option<Field>
-    ensures first { (heap : HeapFacts) (s : Settled) (p : Participant) → s.size_bytes ≡ size_bytes → p.memory ≡ memory.now
+    ensures first { (heap : HeapFacts) (s : Settled) (p : Participant)
+        → s.size_bytes ≡ size_bytes → p.memory ≡ memory.now
         → IfSome result (λ field. IsFirstFailingOf size_fields field heap s p) }
-    ensures none { IfNone result ((memory.now.min_size_bytes ≤ size_bytes) × (size_bytes ≤ memory.now.max_size_bytes)) }
+    ensures none { IfNone result
+        ((memory.now.min_size_bytes ≤ size_bytes) × (size_bytes ≤ memory.now.max_size_bytes)) }
 {
     if size_bytes < memory.min_size_bytes {
         Some(Field::MinSizeBytes)

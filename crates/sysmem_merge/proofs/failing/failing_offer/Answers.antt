@@ -1,4 +1,4 @@
-use Rattle.std.proofs.Common.{sym, refl, ap, ◌∙◌, subst, length, ◌==◌, false, Some, None, ◌≡◌}
+use Rattle.std.proofs.Common.{sym, ap, ◌∙◌, length, ◌==◌, Some, ◌≡◌}
 use Rattle.std.proofs.lemmas.Option.{IfSome_then}
 use Rattle.sysmem_image.specs.Entries.{first_match}
 use Rattle.sysmem_merge.proofs.Uncovered.{first_format, first_colour, first_bound}
