@@ -6,13 +6,13 @@ use Rattle.list_lemmas.proofs.CallerLemmas.{All-some, Any-not_All, sum_some}
 use Rattle.std.proofs.lemmas.Bool.{cases_lt}
 use Rattle.std.proofs.lemmas.List.Elements.{All-push, All-append}
 use Rattle.std.proofs.lemmas.List.Sums.{sum_by_push, sum_by-append}
-use Rattle.sysmem_counts.specs.Bounds.{StandsFor, tally}
-use Rattle.sysmem_counts.specs.Counts.{own_buffers, needed, IsCounted, IsLeastCount, HasNoCount, IsCountLine}
-use Rattle.sysmem_counts.specs.Laws.{CountSuitsSome, CountLineLeavesNone, OneLeastCount}
+use Rattle.sysmem_counts.specs.Bounds.{StandsFor, tally, least as least_of}
+use Rattle.sysmem_counts.specs.Counts.{own_buffers, needed, IsCounted, IsLeastCount, HasNoCount, IsCountLine, IsFixedCountLine}
+use Rattle.sysmem_counts.specs.Laws.{CountSuitsSome, OneLeastCount, CountLineLeavesNoCount, FixedCountLineHolds, UnsuitedCountHasLine}
 use Rattle.sysmem_counts.specs.Tally.{Tally}
 use Rattle.sysmem_counts.specs.declared.constraints.CountConstraints.{CountConstraints}
 use Rattle.sysmem_counts.specs.declared.field.Field.{Field}
-use Rattle.sysmem_counts.specs.declared.field.Field.TheVariants.{MaxBufferCount, BufferCountLimit}
+use Rattle.sysmem_counts.specs.declared.field.Field.TheVariants.{MaxBufferCount, BufferCountLimit, MinBufferCount}
 use Rattle.sysmem_counts.proofs.Lists.{greatest-push, least-push, greatest-append, least-append, greatest_within, within_greatest, above_least, one_below, one_below_any, greatest_in_order, least_in_order, greatest_some}
 
 -- no number below what is needed suits
@@ -51,8 +51,39 @@ counted_some some all count among c = record {
 }
 
 -- and so a true line of some leaves no count for all
-pub line_of_some : CountLineLeavesNone
+pub line_of_some : CountLineLeavesNoCount
 line_of_some field some all among line count c = line_sound field some line count (counted_some some all count among c)
+
+-- a line of a fixed count that is true of participants
+fixed_line_sound : (count : ℕ) (field : Field) (ps : List CountConstraints) → IsFixedCountLine count field ps → ¬ IsCounted ps count
+fixed_line_sound count MinBufferCount ps line c = omega (arith, line, needed_le ps count c)
+fixed_line_sound count MaxBufferCount ps line c =
+    Any-not_All (λ p. p.max_buffer_count < count) (λ p. count ≤ p.max_buffer_count) ps (λ p low high. omega (arith, low, high)) line c.maximum
+fixed_line_sound count _ ps line c = absurd line
+
+-- and of some of them
+pub fixed_line_of_some : FixedCountLineHolds
+fixed_line_of_some count field some all among line c = fixed_line_sound count field some line (counted_some some all count among c)
+
+-- a count that is enough, and not above the least maximum and the limit, suits
+enough : (count : ℕ) (ps : List CountConstraints) → needed ps ≤ count → All (λ p. count ≤ p.max_buffer_count) ps → count ≤ 128 → IsCounted ps count
+enough count ps least most limit = record {
+  some = omega (arith, least);
+  together = omega (arith, least);
+  minimum = within_greatest (λ p. p.min_buffer_count) count ps (omega (arith, least));
+  maximum = most;
+  limit = limit;
+}
+
+-- a count that doesn't suit is below what is needed, or above a maximum
+pub unsuited_line : UnsuitedCountHasLine
+unsuited_line count ps limit unsuited = elim (cases_lt count (needed ps)) as (λ _. (field : Field) × IsFixedCountLine count field ps) [
+  | inl below ↦ (MinBufferCount, below)
+  | inr least ↦ elim (cases_lt (least_of (λ p. p.max_buffer_count) ps) count) as (λ _. (field : Field) × IsFixedCountLine count field ps) [
+    | inl above ↦ (MaxBufferCount, one_below (λ p. p.max_buffer_count) count ps (omega (arith, limit)) above)
+    | inr within ↦ absurd (unsuited (enough count ps (omega (arith, least)) (above_least (λ p. p.max_buffer_count) count ps (omega (arith, within))) limit))
+  ]
+]
 
 -- what is kept of participants is kept of them in another order
 pub tally_in_order : (ps qs : List CountConstraints) → IsPermutation ps qs → tally ps ≡ tally qs

@@ -1,19 +1,28 @@
 -- What callers need of bounds, corners and lines: the laws as lemmas, and a few more.
 pub use Rattle.sysmem_image.proofs.Joined.{own_adds_nothing, steady_first, steady_second}
-use Rattle.std.proofs.Common.{◌↔◌, List, []}
+use Rattle.std.proofs.Common.{◌↔◌, ◌≤◌, ℕ, List, []}
 use Rattle.sysmem_counts.specs.declared.field.Field.{Field}
 use Rattle.sysmem_formats.specs.declared.offer.Offer.{Offer}
 use Rattle.sysmem_image.specs.declared.bounds.ImageBounds.{ImageBounds}
-use Rattle.sysmem_image.specs.Bounds.{IsTighter, KeepsField, IsOwn, IsFirstFailing}
+use Rattle.sysmem_image.specs.Bounds.{IsTighter, KeepsField, IsInRange, IsOwn, IsFirstFailing}
+use Rattle.sysmem_image.specs.Size.{IsSizeInRange}
 use Rattle.sysmem_image.specs.Fields.{Bound, KeepsIn, KeepsEach, field_of}
 use Rattle.sysmem_image.specs.Merged.{MergedOf}
 use Rattle.sysmem_image.specs.Laws.{MergedIsExact, MergedSuits, TighterIsReflexive, TighterBothWays, LooserAdmits, LinesHold, SteadyLines, SoundFits, MergedReads}
+use Rattle.sysmem_formats.specs.Layout.{image_bytes_of}
+use Rattle.sysmem_image.proofs.Layouts as layouts
 use Rattle.sysmem_image.proofs.Meets as meets
 use Rattle.sysmem_image.proofs.Rows as rows
 use Rattle.sysmem_image.proofs.Exact as exact
 use Rattle.sysmem_image.proofs.Sound as sound
 use Rattle.sysmem_image.proofs.Steps as steps
 use Rattle.sysmem_image.proofs.Readings as readings
+
+-- bounds whose numbers are within their types are in range
+pub in_range_by : (b : ImageBounds) → IsSizeInRange b.min_size → IsSizeInRange b.max_size → IsSizeInRange b.size_alignment → b.min_bytes_per_row ≤ 4294967295 → b.max_bytes_per_row ≤ 4294967295
+    → b.bytes_per_row_divisor ≤ 4294967295 → b.start_offset_divisor ≤ 4294967295 → IsSizeInRange b.display_rect_alignment → IsSizeInRange b.required_min_size → IsSizeInRange b.required_max_size
+    → b.max_width_times_height ≤ 18446744073709551615 → IsInRange b
+in_range_by = meets.in_range_by
 
 -- bounds keep to themselves
 pub tighter_refl : TighterIsReflexive
@@ -66,3 +75,7 @@ fits_image = sound.fits_image
 -- what a corner reads of merged bounds is what it reads of the list
 pub merged_reads : MergedReads
 merged_reads = readings.merged_reads
+
+-- an image of longer rows and more of them has no fewer bytes
+pub image_bytes_mono : (o : Offer) (r q h g : ℕ) → r ≤ q → h ≤ g → image_bytes_of o r h ≤ image_bytes_of o q g
+image_bytes_mono = layouts.image_bytes_mono

@@ -13,3 +13,4 @@ pub mod Pixels
 pub mod KeptBounds
 pub mod KeptLines
 pub mod CallerLemmas
+pub mod KeptMerged

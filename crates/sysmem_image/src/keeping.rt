@@ -49,7 +49,8 @@ macro_rules! keeps_field {
 /// asks for, or `None` where they keep to all of it.
 pub fn first_failing(bounds: &ImageBounds, entry: &Entry, offer: &Offer) -> Option<Field>
     ensures kept { IfNone result (IsTighter bounds.now (effective offer.now entry.now)) }
-    ensures failing { IfSome result (λ field. IsFirstFailing field bounds.now (effective offer.now entry.now)) }
+    ensures failing { IfSome result
+        (λ field. IsFirstFailing field bounds.now (effective offer.now entry.now)) }
 {
     let asked = effective(entry, offer);
     failing_field(bounds, &asked)

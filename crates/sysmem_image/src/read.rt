@@ -2,11 +2,13 @@
 
 ghost use Rattle.std.specs.Prelude.{◌≡◌, ◌↔◌, ◌≤◌, ◌<◌, ◌^◌, ℕ, List, [], ◌∷◌, ◌++◌, IsTrue, IfSome, IfNone};
 ghost use Rattle.std.proofs.Props.{props};
+ghost use Rattle.sysmem_counts.specs.declared.field.Field.{Field};
 ghost use Rattle.sysmem_counts.specs.declared.field.Field.TheVariants.{MaxSize, MaxWidthTimesHeight, MaxBytesPerRow};
 ghost use Rattle.sysmem_image.specs.declared.bounds.ImageBounds.{ImageBounds};
 ghost use Rattle.sysmem_formats.specs.declared.offer.Offer.{Offer};
 ghost use Rattle.sysmem_image.specs.Corners.{IsLeastAbove};
 ghost use Rattle.sysmem_image.specs.Entries.{effective};
+ghost use Rattle.sysmem_image.specs.Merged.{MergedOf};
 ghost use Rattle.sysmem_image.specs.Lines.{AlignmentsMeet, DivisorsMeet, IsBoundsLine};
 ghost use Rattle.sysmem_image.specs.Size.{IsSizeInRange, most_number};
 ghost use Rattle.sysmem_image.specs.Multiples.{IsJoined, IsSizeJoined};
@@ -39,6 +41,9 @@ pub struct BoundsRead {
     required_min_size: Size,
     required_max_size: Size,
     max_width_times_height: u64,
+    ghost min_width_some: { 1 ≤ min_size.width },
+    ghost min_height_some: { 1 ≤ min_size.height },
+    ghost min_row_some: { 1 ≤ min_bytes_per_row },
     ghost width_alignment_some: { IfSome size_alignment (λ s. 1 ≤ s.width) } by { Prim.hlevel props },
     ghost height_alignment_some: { IfSome size_alignment (λ s. 1 ≤ s.height) } by { Prim.hlevel props },
     ghost row_divisor_some: { IfSome bytes_per_row_divisor (λ n. 1 ≤ n) } by { Prim.hlevel props },
@@ -73,6 +78,18 @@ macro_rules! more_field {
     (size greatest $a:expr, $b:expr) => { greatest_size($a, $b) };
     (size least $a:expr, $b:expr) => { least_size($a, $b) };
     (size multiple $a:expr, $b:expr) => { joined_size($a, $b) };
+}
+
+macro_rules! merged_bounds {
+    (($kept:expr) $($name:ident: $shape:ident $rule:ident $field:ident $absent:ident $range:ident,)*) => {{
+        $(let $name = merged_field!($rule $kept.$name);)*
+        Some(ImageBounds { $($name,)* })
+    }};
+}
+
+macro_rules! merged_field {
+    (multiple $kept:expr) => { $kept? };
+    ($rule:ident $kept:expr) => { $kept };
 }
 
 impl BoundsRead {
@@ -112,6 +129,17 @@ impl BoundsRead {
             Field::MaxBytesPerRow => self.is_too_long(offer),
             _ => false,
         }
+    }
+
+    /// The bounds that stand for the offer's own and those of the entries. `None` where an alignment or a
+    /// divisor has no common multiple up to 4,294,967,295, so that its line is true.
+    pub fn merged(&self) -> Option<ImageBounds>
+        ensures merged { (o : Offer) (es : List ImageBounds) → AreRead o es self.now →
+            IfSome result (MergedOf o es) }
+        ensures none { (o : Offer) (es : List ImageBounds) → AreRead o es self.now →
+            IfNone result ((field : Field) × IsBoundsLine field o es) }
+    {
+        bounds_table!(merged_bounds!(self))
     }
 
     /// The least width and the least height that the entries allow, in pixels, below 2^33 each. `None`

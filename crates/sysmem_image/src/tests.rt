@@ -407,6 +407,31 @@ fn true_lines(rt: HostRuntime) {
     assert!(rt; !read(&linear, &[large]).is_line(&linear, Field::RequiredMinSize));
 }
 
+/// The bounds of two entries together, where both have a row divisor in common.
+#[test]
+fn merged_read(rt: HostRuntime) {
+    let linear = offer(PixelFormat::R8, Modifier::Linear);
+    let mut first = entry(PixelFormat::R8);
+    first.bounds.asked.bytes_per_row_divisor = 64;
+    first.bounds.asked.min_bytes_per_row = 100;
+    let mut second = entry(PixelFormat::R8);
+    second.bounds.asked.bytes_per_row_divisor = 48;
+    second.bounds.asked.max_bytes_per_row = 500;
+    let merged = read(&linear, &[first, second]).merged();
+    assert_eq!(rt;
+        merged.map(|bounds| bounds.bytes_per_row_divisor),
+        Some(192)
+    );
+    assert_eq!(rt; merged.map(|bounds| bounds.min_bytes_per_row), Some(100));
+    assert_eq!(rt; merged.map(|bounds| bounds.max_bytes_per_row), Some(500));
+    assert_eq!(rt; read(&linear, &[]).merged(), Some(ImageBounds::of(&linear)));
+    first.bounds.asked.bytes_per_row_divisor = 65521;
+    second.bounds.asked.bytes_per_row_divisor = 65519;
+    let mut third = entry(PixelFormat::R8);
+    third.bounds.asked.bytes_per_row_divisor = 2;
+    assert_eq!(rt; read(&linear, &[first, second, third]).merged(), None);
+}
+
 /// The lines that the smallest image heads: its sides, its pixels and its row.
 #[test]
 fn true_corner_lines(rt: HostRuntime) {

@@ -91,7 +91,7 @@ first_from whole os ds k fit within best named before =
       offered = contained_at os k fit.offer here;
       best = best fit.offer here;
       named = named fit.offer here;
-      first = λ o earlier. before earlier.place o (earlier.before k here) earlier.here;
+      first = λ o earlier. before earlier.index o (earlier.before k here) earlier.here;
     }
 
 -- the offer that is read at a place is the platform's offer there

@@ -127,7 +127,7 @@ kept_without o ds d (Merged b) found none are = (
 )
 
 -- whether one of a list passes a test, with one more
-named_push : (f : OfferDemand → Bool) (ds : List OfferDemand) (d : OfferDemand) (before : Bool) → before ≡ list_any f ds → (before || f d) ≡ list_any f (ds ++ d ∷ [])
+pub named_push : (f : OfferDemand → Bool) (ds : List OfferDemand) (d : OfferDemand) (before : Bool) → before ≡ list_any f ds → (before || f d) ≡ list_any f (ds ++ d ∷ [])
 named_push f ds d before is = ap (λ b. b || f d) is ∙ (ap (λ b. list_any f ds || b) (sym (or-false (f d))) ∙ sym (list_any-append f ds (d ∷ [])))
 
 -- what is kept of the offer with one more participant, part by part

@@ -8,10 +8,13 @@ pub mod Joining
 pub mod Keeping
 pub mod Lines
 pub mod Many
+pub mod OfferReading
 pub mod OneBest
 pub mod OneLine
 pub mod Reasons
 pub mod Sizes
 pub mod SomeMet
 pub mod Summing
+pub mod SoundSettings
 pub mod Together
+pub mod Uncovered

@@ -84,9 +84,9 @@ same_offer os a b has_a has_b not_before not_behind =
     let at_a = first_at os a of_a.0 of_a.2 in
     let at_b = first_at os b of_b.0 of_b.2 in
     elim (cases_lt at_a.0 at_b.0) as (λ _. a ≡ b) [
-      | inl before ↦ absurd (not_before (record { place = at_a.0; here = at_a.1.here; before = λ k there. omega (arith, at_b.1.first k there) }))
+      | inl before ↦ absurd (not_before (record { index = at_a.0; here = at_a.1.here; before = λ k there. omega (arith, at_b.1.first k there) }))
       | inr not ↦ elim (cases_lt at_b.0 at_a.0) as (λ _. a ≡ b) [
-        | inl behind ↦ absurd (not_behind (record { place = at_b.0; here = at_b.1.here; before = λ k there. omega (arith, at_a.1.first k there) }))
+        | inl behind ↦ absurd (not_behind (record { index = at_b.0; here = at_b.1.here; before = λ k there. omega (arith, at_a.1.first k there) }))
         | inr neither ↦
             let same : at_a.0 ≡ at_b.0 = omega arith in
             same_Some a b (sym at_a.1.here ∙ (ap (λ k. slice_get os k) same ∙ at_b.1.here))
@@ -99,7 +99,7 @@ same_sizes a b wide high =
     ap (λ w. record { width = w; height = a.height }) wide ∙ ap (λ h. record { width = b.width; height = h }) high
 
 -- bounds that keep to each other are one
-same_bounds : (a b : ImageBounds) → IsTighter a b → IsTighter b a → a ≡ b
+pub same_bounds : (a b : ImageBounds) → IsTighter a b → IsTighter b a → a ≡ b
 same_bounds a b up down =
     let same = tighter_both a b up down in
     let min_size = same_sizes a.min_size b.min_size (same MinSize Width) (same MinSize Height) in

@@ -10,9 +10,9 @@ use Rattle.sysmem_sanitise.specs.Platform.{PlatformFacts, offers_of}
 
 -- the list has a before each place where it has b
 pub record IsEarlierOffer (offers : List Offer) (a b : Offer) : Type 0 where
-  pub place : ℕ
-  pub here : slice_get offers place ≡ Some a
-  pub before : (k : ℕ) → slice_get offers k ≡ Some b → place < k
+  pub index : ℕ
+  pub here : slice_get offers index ≡ Some a
+  pub before : (k : ℕ) → slice_get offers k ≡ Some b → index < k
 
 -- t is no better than s: no earlier offer, with the same offer no earlier place, no smaller count, and with the same offer in the
 -- same place no smaller size and no bounds that ask for less

@@ -1,11 +1,14 @@
 pub mod Aggregate
 pub mod Best
 pub mod Demands
+pub mod Failing
 pub mod Fit
 pub mod Kept
 pub mod Laws
+pub mod OfferRead
 pub mod Offers
 pub mod Reasons
 pub mod Settings
 pub mod Share
 pub mod Sum
+pub mod Sound

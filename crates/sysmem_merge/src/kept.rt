@@ -122,7 +122,7 @@ impl KeptBounds {
 }
 
 /// Whether the entry names the offer's colour space itself.
-fn names_colour(offer: &Offer, entry: &Entry) -> bool
+pub(crate) fn names_colour(offer: &Offer, entry: &Entry) -> bool
     ensures { result ≡ names_colour offer.now (Some entry.now) }
 {
     match offer {

@@ -9,11 +9,13 @@
 #![tactic(auto)]
 
 mod aggregate;
+mod failing;
 mod fit;
 mod joined;
 mod kept;
 pub mod laws;
 mod meets;
+mod offer_read;
 mod offers;
 mod reason;
 mod settings;
@@ -21,14 +23,18 @@ mod share;
 mod sum;
 #[cfg(test)]
 mod sum_tests;
+mod sound;
 #[cfg(test)]
 mod tests;
 mod walk;
 
 pub use aggregate::Aggregate;
+pub use failing::{fails_in, first_uncovered};
 pub use fit::Fit;
 pub use meets::meets_one;
+pub use offer_read::OfferRead;
 pub use reason::Reason;
 pub use settings::Settings;
 pub use share::Share;
 pub use sum::Sum;
+pub use sound::is_sound;

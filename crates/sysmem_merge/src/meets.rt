@@ -28,7 +28,8 @@ pub fn meets_one(platform: &Platform, settings: &Settings, asked: &Constraints) 
 
 /// Whether nothing that the participant says of memory, nor its usage, refuses the settings' coherency domain of the heap.
 fn accepts_place(settings: &Settings, heap: &HeapInfo, asked: &Constraints) -> bool
-    ensures { IsTrue result ↔ AllowsPlace asked.now.memory asked.now.usage heap.now settings.now.place.coherency }
+    ensures { IsTrue result
+        ↔ AllowsPlace asked.now.memory asked.now.usage heap.now settings.now.place.coherency }
 {
     let domain = settings.place.coherency;
     refuses(asked.memory(), asked.usage(), heap, domain).is_none()
@@ -36,14 +37,16 @@ fn accepts_place(settings: &Settings, heap: &HeapInfo, asked: &Constraints) -> b
 
 /// Whether the size is from the least to the greatest that the participant takes.
 fn accepts_size(size_bytes: u64, memory: &MemoryConstraints) -> bool
-    ensures { IsTrue result ↔ ((memory.now.min_size_bytes ≤ size_bytes) × (size_bytes ≤ memory.now.max_size_bytes)) }
+    ensures { IsTrue result
+        ↔ ((memory.now.min_size_bytes ≤ size_bytes) × (size_bytes ≤ memory.now.max_size_bytes)) }
 {
     memory.min_size_bytes <= size_bytes && size_bytes <= memory.max_size_bytes
 }
 
 /// Whether the participant's entries take the settings' offer, with its colour space, and their bounds.
 fn accepts_offer(settings: &Settings, entries: &[Entry]) -> bool
-    ensures { (d : OfferDemand) → d.entries ≡ entries.now → IsTrue result ↔ AcceptsOffer settings.now.offer settings.now.bounds d }
+    ensures { (d : OfferDemand) → d.entries ≡ entries.now
+        → IsTrue result ↔ AcceptsOffer settings.now.offer settings.now.bounds d }
 {
     match entry_for(entries, &settings.offer) {
         Some(entry) => {

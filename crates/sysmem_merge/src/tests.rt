@@ -1,6 +1,8 @@
 // What no clause shows: settings and reasons as they were worked out by hand, on a platform of one heap and two formats.
 
-use crate::{Aggregate, Reason, Settings, meets_one};
+mod lines;
+
+use crate::{Aggregate, Reason, Settings, fails_in, first_uncovered, is_sound, meets_one};
 use serde_json::Value;
 use std::alloc::Global;
 use std::test::Fail;
@@ -151,5 +153,76 @@ fn accepts_alone(rt: HostRuntime) -> Result<(), Fail> {
     assert!(rt; meets_one(&platform, &image, &camera));
     image.place.coherency = CoherencyDomain::Ram;
     assert!(rt; !meets_one(&platform, &image, &camera));
+    Ok(())
+}
+
+// A participant of R8 images, whose usage doesn't mind where they lie, doesn't take buffers without an image.
+#[test]
+fn fails_without_image(rt: HostRuntime) -> Result<(), Fail> {
+    let platform = platform(rt.alloc())?;
+    let viewer = asked(
+        rt.alloc(),
+        r#"{"usage":["video"],"image_format_constraints":[{"pixel_format":"R8","color_spaces":["SRGB"]}]}"#,
+    )?;
+    let plain = cached(8, 1);
+    assert!(rt; fails_in(Field::PixelFormat, &platform, &plain, &viewer));
+    assert!(rt; !fails_in(Field::ColorSpaces, &platform, &plain, &viewer));
+    Ok(())
+}
+
+// A least size and a coherency domain that isn't supported, beside a divisor of 64.
+#[test]
+fn fails_in_some(rt: HostRuntime) -> Result<(), Fail> {
+    let platform = platform(rt.alloc())?;
+    let camera = asked(
+        rt.alloc(),
+        r#"{"usage":["cpu"],"buffer_memory_constraints":{"min_size_bytes":4096},"image_format_constraints":[{"pixel_format":"R8","color_spaces":["SRGB"],"bytes_per_row_divisor":64}]}"#,
+    )?;
+    let mut image = cached(1, 1);
+    image.offer = linear(PixelFormat::R8);
+    image.place.coherency = CoherencyDomain::Ram;
+    let first = |settings: &Settings| first_uncovered(&platform, settings, &camera);
+    assert!(rt; fails_in(Field::MinSizeBytes, &platform, &image, &camera));
+    assert_eq!(rt; first(&image), Some(Field::BytesPerRowDivisor));
+    image.bounds.bytes_per_row_divisor = 64;
+    assert_eq!(rt; first(&image), Some(Field::MinSizeBytes));
+    image.size_bytes = 4096;
+    assert!(rt; fails_in(Field::RamDomainSupported, &platform, &image, &camera));
+    assert!(rt; !fails_in(Field::MinSizeBytes, &platform, &image, &camera));
+    assert_eq!(rt; first(&image), Some(Field::RamDomainSupported));
+    image.place.coherency = CoherencyDomain::Cpu;
+    assert_eq!(rt; first(&image), None);
+    Ok(())
+}
+
+// NV12 has two rows and columns at least, of 6 bytes; the platform has one heap, which isn't inaccessible.
+#[test]
+fn sound_settings(rt: HostRuntime) -> Result<(), Fail> {
+    let platform = platform(rt.alloc())?;
+    let plain = cached(1, 1);
+    assert!(rt; is_sound(&platform, &plain));
+    assert!(rt; !is_sound(&platform, &cached(1, 0)));
+    let mut bounded = plain;
+    bounded.bounds.max_size.width = 4096;
+    assert!(rt; !is_sound(&platform, &bounded));
+    let mut hidden = plain;
+    hidden.place.coherency = CoherencyDomain::Inaccessible;
+    assert!(rt; !is_sound(&platform, &hidden));
+    hidden.place = Place {
+        heap: 1,
+        coherency: CoherencyDomain::Cpu,
+    };
+    assert!(rt; !is_sound(&platform, &hidden));
+    let mut image = cached(1, 6);
+    image.offer = linear(PixelFormat::NV12);
+    assert!(rt; !is_sound(&platform, &image));
+    image.bounds = ImageBounds::of(&image.offer);
+    assert!(rt; is_sound(&platform, &image));
+    image.bounds.min_size.height = 3;
+    assert!(rt; !is_sound(&platform, &image));
+    image.size_bytes = 12;
+    assert!(rt; is_sound(&platform, &image));
+    image.offer = linear(PixelFormat::I420);
+    assert!(rt; !is_sound(&platform, &image));
     Ok(())
 }
