@@ -8,11 +8,9 @@ use Rattle.sysmem_image.specs.declared.size.Size.{Size}
 use Rattle.sysmem_image.specs.Bounds.{IsInRange}
 use Rattle.sysmem_image.specs.Fields as bound
 use Rattle.sysmem_image.specs.Fields.{Width, Height}
-use Rattle.sysmem_sanitise.specs.declared.fault.Code.TheVariants as code
-use Rattle.sysmem_sanitise.specs.Faults.{wrong}
 use Rattle.sysmem_sanitise.specs.Participant.{IsEntry, most_multiple}
 use Rattle.sysmem_sanitise.specs.Reading.Bounds.{most, any_number, some_number, is_multiple, multiple, large_number, size_to, any_size, some_sides, some_size, multiple_size, stated_bounds, stated_by, bounds_of}
-use Rattle.sysmem_sanitise.specs.Reading.Fields.{passing, number_of}
+use Rattle.sysmem_sanitise.specs.Reading.Fields.{number_of}
 use Rattle.sysmem_sanitise.proofs.CallerLemmas.{bounds_by_numbers}
 use Rattle.record_laws.specs.Ranges.{most_large}
 use Rattle.record_laws.specs.Records.{natural, size_record, entry_record}

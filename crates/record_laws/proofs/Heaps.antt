@@ -1,5 +1,5 @@
 -- The records of heaps state them.
-use Rattle.std.proofs.Common.{◌≡◌, ℕ, ◌≤◌, ◌==◌, Bool, true, false, ◌||◌, List, [], ◌∷◌, ◌++◌, length, None, Ok, refl, arith}
+use Rattle.std.proofs.Common.{◌≡◌, ℕ, ◌≤◌, ◌==◌, Bool, true, false, ◌||◌, List, [], ◌∷◌, ◌++◌, length, None, Ok, refl}
 use Rattle.std.specs.Prelude.{All, AllPairs, nat_le, nat_lt, not}
 use Rattle.serde_json.specs.Data.{string, array, no_items}
 use Rattle.sysmem_counts.specs.declared.field.Field.TheVariants as field
@@ -9,8 +9,8 @@ use Rattle.sysmem_memory.specs.Heap.{HeapName, HeapFacts, same_heap}
 use Rattle.sysmem_sanitise.specs.declared.fault.Code.TheVariants as code
 use Rattle.sysmem_sanitise.specs.Faults.{wrong}
 use Rattle.sysmem_sanitise.specs.Platform.{IsHeap}
-use Rattle.sysmem_sanitise.specs.Reading.Fields.{is_key_of, required, number_or, kept, passing, read_each}
-use Rattle.sysmem_sanitise.specs.Reading.Heaps.{IsHeapName, is_heap_type, heap_type_of, heap_name_of, has_domains, domains_of, heap_of, has_heap, with_heap, heaps_of, permitted_heap, has_permitted, with_permitted, permitted_of}
+use Rattle.sysmem_sanitise.specs.Reading.Fields.{is_key_of, required, kept, passing, read_each}
+use Rattle.sysmem_sanitise.specs.Reading.Heaps.{IsHeapName, is_heap_type, heap_type_of, heap_name_of, domains_of, heap_of, has_heap, with_heap, heaps_of, permitted_heap, has_permitted, with_permitted, permitted_of}
 use Rattle.sysmem_sanitise.specs.Reading.Names.{domain_named}
 use Rattle.record_laws.specs.Ranges.{most_large, IsHeapId}
 use Rattle.record_laws.specs.Records.{list, item_if, heap_name_record, heap_record}

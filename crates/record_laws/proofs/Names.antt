@@ -1,5 +1,5 @@
 -- Each name names what it is the name of.
-use Rattle.std.proofs.Common.{◌≡◌, ℕ, List, Option, Some, None, Result, Ok, refl, ap}
+use Rattle.std.proofs.Common.{◌≡◌, ℕ, List, Option, Some, None, Ok, refl, ap}
 use Rattle.std.specs.Prelude.{ok_or}
 use Rattle.serde_json.specs.Data.{string}
 use Rattle.sysmem_counts.specs.declared.field.Field.{Field}

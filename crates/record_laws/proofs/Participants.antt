@@ -1,8 +1,7 @@
 -- The record of a participant states it.
-use Rattle.std.proofs.Common.{◌≡◌, ◌≢◌, ℕ, ◌+◌, ◌<◌, ◌≤◌, ◌-◌, ◌^◌, ◌==◌, ◌&&◌, ◌||◌, Bool, true, false, not, List, [], ◌∷◌, ◌++◌, length, Option, Some, None, Ok, refl, ap, sym, ◌∙◌, subst, arith, rules, tests, length-append, Decides}
-use Rattle.std.specs.Prelude.{All, AllPairs, nat_lt, nat_le}
+use Rattle.std.proofs.Common.{◌≡◌, ℕ, ◌+◌, ◌≤◌, ◌-◌, ◌^◌, ◌&&◌, ◌||◌, Bool, true, false, not, List, [], ◌∷◌, ◌++◌, length, Option, Some, None, Ok, refl, ap, rules, tests, Decides}
+use Rattle.std.specs.Prelude.{All, AllPairs, nat_lt}
 use Rattle.serde_json.specs.Data.{array}
-use Rattle.sysmem_counts.specs.declared.constraints.CountConstraints.{CountConstraints}
 use Rattle.sysmem_counts.specs.declared.field.Field.TheVariants as field
 use Rattle.sysmem_formats.specs.declared.modifier.Modifier.{Modifier}
 use Rattle.sysmem_formats.specs.declared.offer.Pair.{Pair}
@@ -23,8 +22,8 @@ use Rattle.sysmem_sanitise.specs.Reading.Fields.{is_key_of, passing, named, numb
 use Rattle.sysmem_sanitise.specs.Reading.Heaps.{IsHeapName, permitted_of}
 use Rattle.sysmem_sanitise.specs.Reading.Names.{format_named, modifier_named, choice_named}
 use Rattle.record_laws.specs.Laws.{EachParticipantIsStated}
-use Rattle.record_laws.specs.Ranges.{most_large, AreCounts, AreWishes}
-use Rattle.record_laws.specs.Records.{natural, choice, colour_items, list, usage_record, heap_name_record, memory_record, entry_record, fields, count_fields, participant_record}
+use Rattle.record_laws.specs.Ranges.{AreCounts, AreWishes}
+use Rattle.record_laws.specs.Records.{natural, choice, colour_items, list, usage_record, heap_name_record, memory_record, entry_record, participant_record}
 use Rattle.record_laws.proofs.Bounds.{number_stated, bounds_stated}
 use Rattle.record_laws.proofs.Colours.{colour_set_stated}
 use Rattle.record_laws.proofs.Each.{passes, next, each_stated, item_has, has_room, none_before, refused_not}

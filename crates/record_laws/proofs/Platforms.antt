@@ -1,16 +1,15 @@
 -- The record of a platform states it.
-use Rattle.std.proofs.Common.{◌≡◌, ◌≢◌, ℕ, ◌≤◌, ◌==◌, Bool, true, false, not, List, [], ◌∷◌, ◌++◌, length, None, Ok, refl, rules, tests, Decides}
+use Rattle.std.proofs.Common.{◌≡◌, ◌≢◌, ◌≤◌, ◌==◌, Bool, true, false, not, List, [], ◌∷◌, ◌++◌, length, None, Ok, refl, rules, tests, Decides}
 use Rattle.std.specs.Prelude.{All, AllPairs}
 use Rattle.sysmem_counts.specs.declared.field.Field.TheVariants as field
 use Rattle.sysmem_formats.specs.declared.colour_space.ColourSpace.{ColourSpace}
-use Rattle.sysmem_formats.specs.declared.colour_space.ColourSpace.TheVariants.{Srgb, Rec601Ntsc, Rec601NtscFullRange, Rec601Pal, Rec601PalFullRange, Rec709, Rec2020, Rec2100}
 use Rattle.sysmem_formats.specs.declared.offer.Pair.{Pair}
 use Rattle.sysmem_formats.specs.Layout.{IsTiledMisfit}
 use Rattle.sysmem_formats.specs.Names.{format_name, modifier_name, colour_name}
 use Rattle.serde_json.specs.Data.{string}
 use Rattle.sysmem_sanitise.specs.declared.fault.Code.TheVariants as code
 use Rattle.sysmem_sanitise.specs.Faults.{wrong}
-use Rattle.sysmem_sanitise.specs.Reading.Fields.{is_key_of, required, named, passing, read_each}
+use Rattle.sysmem_sanitise.specs.Reading.Fields.{is_key_of, named, passing, read_each}
 use Rattle.sysmem_sanitise.specs.Reading.Heaps.{heaps_of}
 use Rattle.sysmem_sanitise.specs.Reading.Names.{format_named, modifier_named, colour_named}
 use Rattle.sysmem_sanitise.specs.Reading.Pairs.{same_pair, has_pair, same_colour, has_colour, is_misfit}

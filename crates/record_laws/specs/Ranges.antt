@@ -1,10 +1,9 @@
 -- Participants and platforms whose numbers are of their types: the facts' numbers are bare, and a record states none beyond these.
-use Rattle.std.specs.Prelude.{ℕ, ◌≤◌, ◌-◌, ◌^◌, List, All}
+use Rattle.std.specs.Prelude.{ℕ, ◌≤◌, ◌-◌, ◌^◌, All}
 use Rattle.sysmem_counts.specs.declared.constraints.CountConstraints.{CountConstraints}
-use Rattle.sysmem_image.specs.declared.entry.Entry.{Entry}
 use Rattle.sysmem_image.specs.Bounds.{IsInRange}
 use Rattle.sysmem_image.specs.Size.{most_number}
-use Rattle.sysmem_memory.specs.Heap.{HeapName, HeapFacts}
+use Rattle.sysmem_memory.specs.Heap.{HeapName}
 use Rattle.sysmem_memory.specs.Wishes.{MemoryWishes}
 use Rattle.sysmem_sanitise.specs.Participant.{Participant}
 use Rattle.sysmem_sanitise.specs.Platform.{PlatformFacts}

@@ -1,5 +1,5 @@
-//! Rows of records: what the readers of `sysmem_sanitise` say of each. It is a crate of tests alone, so that the readers are proved once and not
-//! again with their tests.
+//! Records that are taken, what they state, and which are equal. It is a crate of tests alone, so that the readers of
+//! `sysmem_sanitise` are proved once and not again with their tests.
 #![tactic(auto)]
 
 #[cfg(test)]
