@@ -11,7 +11,12 @@ use std::alloc::Global;
 use sysmem_tree::{DomainId, NodeKind, Prefix, Tree};
 
 /// The group that is next after a prefix, and how many children it has.
-pub fn next_group(alloc: Global, tree: &Tree, domain: DomainId, prefix: &Prefix) -> Result<String>
+pub(crate) fn next_group(
+    alloc: Global,
+    tree: &Tree,
+    domain: DomainId,
+    prefix: &Prefix,
+) -> Result<String>
     requires domain { HasDomain tree.now.nodes domain }
     requires prefix { IsPrefix (forest_of by_number tree.now.nodes domain []) prefix.now }
 {
@@ -31,7 +36,12 @@ pub fn next_group(alloc: Global, tree: &Tree, domain: DomainId, prefix: &Prefix)
 }
 
 /// The nodes with constraints that a prefix settles.
-pub fn settled(alloc: Global, tree: &Tree, domain: DomainId, prefix: &Prefix) -> Result<String>
+pub(crate) fn settled(
+    alloc: Global,
+    tree: &Tree,
+    domain: DomainId,
+    prefix: &Prefix,
+) -> Result<String>
     requires domain { HasDomain tree.now.nodes domain }
     requires prefix { IsPrefix (forest_of by_number tree.now.nodes domain []) prefix.now }
 {
@@ -50,7 +60,7 @@ pub fn settled(alloc: Global, tree: &Tree, domain: DomainId, prefix: &Prefix) ->
 }
 
 /// The nodes of a domain, with their kinds and whether they set constraints, as a copy of the tree has them.
-pub fn shape(alloc: Global, tree: &Tree, domain: DomainId) -> Result<String> {
+pub(crate) fn shape(alloc: Global, tree: &Tree, domain: DomainId) -> Result<String> {
     let tree = tree.copy()?;
     let mut text = String::new(alloc);
     text.push_str("shape")?;

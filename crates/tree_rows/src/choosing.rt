@@ -12,7 +12,8 @@ use sysmem_tree::{DomainId, Fate, Prefix, Tree};
 fn choose(tree: &Tree, domain: DomainId, prefix: Prefix, choice: u8) -> Option<Prefix>
     requires domain { HasDomain tree.now.nodes domain }
     requires prefix { IsPrefix (forest_of by_number tree.now.nodes domain []) prefix }
-    ensures { IfSome result (λ longer. IsPrefix (forest_of by_number tree.now.nodes domain []) longer) }
+    ensures { IfSome result
+        (λ longer. IsPrefix (forest_of by_number tree.now.nodes domain []) longer) }
 {
     let mut prefix = prefix;
     let Some((_, children)) = tree.next_group(domain, &prefix) else {
@@ -26,9 +27,10 @@ fn choose(tree: &Tree, domain: DomainId, prefix: Prefix, choice: u8) -> Option<P
 }
 
 /// The prefix of a text such as `-` or `0.2`; `None` where the domain has no such prefix.
-pub fn prefix_of(tree: &Tree, domain: DomainId, text: &str) -> Result<Option<Prefix>>
+pub(crate) fn prefix_of(tree: &Tree, domain: DomainId, text: &str) -> Result<Option<Prefix>>
     requires { HasDomain tree.now.nodes domain }
-    ensures { IfOk result (λ found. IfSome found (λ prefix. IsPrefix (forest_of by_number tree.now.nodes domain []) prefix)) }
+    ensures { IfOk result (λ found. IfSome found
+        (λ prefix. IsPrefix (forest_of by_number tree.now.nodes domain []) prefix)) }
 {
     let mut prefix = Prefix::new();
     if text == "-" {
@@ -44,9 +46,14 @@ pub fn prefix_of(tree: &Tree, domain: DomainId, text: &str) -> Result<Option<Pre
 }
 
 /// Decides a domain for a selection, or for none; says why not where it can't be decided so.
-pub fn decide(tree: &mut Tree, domain: DomainId, selection: Option<Prefix>) -> Option<&'static str>
+pub(crate) fn decide(
+    tree: &mut Tree,
+    domain: DomainId,
+    selection: Option<Prefix>,
+) -> Option<&'static str>
     requires there { HasDomain tree.old.nodes domain }
-    requires prefix { IfSome selection (λ prefix. IsPrefix (forest_of by_number tree.old.nodes domain []) prefix) }
+    requires prefix { IfSome selection
+        (λ prefix. IsPrefix (forest_of by_number tree.old.nodes domain []) prefix) }
 {
     if !tree.ready(domain) {
         return Some("not ready");

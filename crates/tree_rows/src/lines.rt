@@ -11,7 +11,7 @@ use std::alloc::Global;
 use sysmem_tree::{Event, NodeId, Tree};
 
 /// Plays a line and says what is answered.
-pub fn answer(alloc: Global, tree: &mut Tree, line: &str) -> Result<String> {
+pub(crate) fn answer(alloc: Global, tree: &mut Tree, line: &str) -> Result<String> {
     let Some((path, words)) = line.split_once(' ') else {
         bail!("{line:?} has no word behind a path");
     };

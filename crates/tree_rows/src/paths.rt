@@ -8,7 +8,7 @@ use std::alloc::Global;
 use sysmem_tree::{MOST_NODES, NodeId, Path, Tree};
 
 /// The node at a path such as `/` or `/0/2`; `None` where the tree has none there.
-pub fn node_at(alloc: Global, tree: &Tree, text: &str) -> Result<Option<NodeId>>
+pub(crate) fn node_at(alloc: Global, tree: &Tree, text: &str) -> Result<Option<NodeId>>
     ensures { IfOk result (λ found. IfSome found (HasNode tree.now.nodes)) }
 {
     let Some(steps) = text.strip_prefix("/") else {
@@ -24,7 +24,7 @@ pub fn node_at(alloc: Global, tree: &Tree, text: &str) -> Result<Option<NodeId>>
 }
 
 /// The paths of all nodes, the shorter first.
-pub fn all_paths(alloc: Global, tree: &Tree) -> Result<Vec<Path>> {
+pub(crate) fn all_paths(alloc: Global, tree: &Tree) -> Result<Vec<Path>> {
     let mut paths = Vec::new(alloc);
     paths.push(Path::new(Vec::new(alloc)))?;
     for at in 0..MOST_NODES {
@@ -44,7 +44,7 @@ pub fn all_paths(alloc: Global, tree: &Tree) -> Result<Vec<Path>> {
 }
 
 /// Writes a path behind a text.
-pub fn push_path(text: &mut String, path: &Path) -> Result<()> {
+pub(crate) fn push_path(text: &mut String, path: &Path) -> Result<()> {
     if path.ordinals().is_empty() {
         text.push('/')?;
     }
