@@ -28,7 +28,9 @@ built-test:
 	tests/run_command
 	tests/want_of_memory
 
-# Times the proved program beside the reading of the same bytes as a JSON value.
+# Times the proved program beside the reading of the same bytes as a JSON value, and calls on small and large trees.
 bench: proved
 	cd crates/value_reader && rt run -- one_participant.json
 	bench/run
+	cd crates/tree_rows && rt run < /dev/null
+	bench/trees

@@ -43,6 +43,3 @@ pub use prefix::Prefix;
 pub use refusal::Refusal;
 pub use state::{NodeKind, NodeState};
 pub use tree::{MOST_NODES, Tree};
-
-#[cfg(test)]
-mod tests;

@@ -5,7 +5,7 @@ use Rattle.sysmem_tree.specs.Forest.{first_group}
 use Rattle.sysmem_tree.specs.Selection.{after, IsPrefix}
 use Rattle.sysmem_tree.specs.Shape.{by_number, forest_of}
 use Rattle.sysmem_tree.proofs.CallerLemmas.{prefix_push}
-use Rattle.sysmem_tree.proofs.tests.selecting.choose.Goals as goal
+use Rattle.tree_rows.proofs.choosing.choose.Goals as goal
 
 pub returns : goal.returns
 returns c =

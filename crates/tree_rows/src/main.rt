@@ -1,0 +1,45 @@
+//! Plays actions and decisions on trees, one a line of standard input, and prints what each is answered and how the tree's domains
+//! stand after it.
+//!
+//! | Line | What it does | What is printed |
+//! |---|---|---|
+//! | `tree WORDS` | begins a new tree | the line |
+//! | `PATH ACTION` | makes an action, as `duplicate` or `bind`, on the node at a path, as `/` or `/0/2` | `ok`, or the refusal, and the domains |
+//! | `PATH chosen PREFIX` | decides the node's domain for a selection, as `-` or `0.2` | `ok` and the domains, or why not |
+//! | `PATH none` | decides the node's domain for none | `ok` and the domains, or why not |
+//! | `PATH selections` | | how many selections the node's domain has |
+//! | `PATH next PREFIX` | | the path of the group that is next and how many children it has, or `none` |
+//! | `PATH settled PREFIX` | | the paths of the nodes with constraints that the prefix settles, in the order in which they were made |
+//! | `PATH shape` | | the nodes of the domain in the order of their paths, a group with `g`, a token with `t`, a collection with `c`, and `+` behind one that set constraints |
+//!
+//! Domains are printed as one letter each, in the order in which their roots were made: `u` neither ready nor decided, `r` ready, `c` decided
+//! for a selection, `n` for none, `f` failed.
+#![tactic(auto)]
+
+mod actions;
+mod asking;
+mod choosing;
+mod lines;
+mod paths;
+
+use anyhow::Result;
+use lines::answer;
+use std::io::{self, BufRead, BufReader, BufWriter, Write};
+use sysmem_tree::Tree;
+
+fn main(rt: HostRuntime) -> Result<()> {
+    let mut tree = Tree::new(rt.alloc())?;
+    let mut out = BufWriter::new(rt.alloc(), io::writer(&rt))?;
+    for line in BufReader::new(rt.alloc(), rt.reader())?.lines(rt.alloc()) {
+        let line = line?;
+        if line.starts_with("tree ") {
+            tree = Tree::new(rt.alloc())?;
+            writeln!(out, "{line}")?;
+        } else {
+            let answer = answer(rt.alloc(), &mut tree, &line)?;
+            writeln!(out, "{answer}")?;
+        }
+    }
+    out.flush()?;
+    Ok(())
+}
