@@ -6,6 +6,7 @@ use crate::actions::{action_of, push_domains};
 use crate::asking::{next_group, settled, shape};
 use crate::choosing::{decide, prefix_of};
 use crate::paths::node_at;
+use crate::walking::walk;
 use anyhow::{Result, bail};
 use std::alloc::Global;
 use sysmem_tree::{Event, NodeId, Tree};
@@ -35,6 +36,7 @@ fn chosen(alloc: Global, tree: &mut Tree, node: NodeId, word: &str, choices: &st
     match word {
         "next" => next_group(alloc, tree, domain, &prefix),
         "settled" => settled(alloc, tree, domain, &prefix),
+        "walk" => walk(alloc, tree, domain, &prefix),
         "chosen" => {
             let refusal = decide(tree, domain, Some(prefix));
             told(alloc, tree, refusal)
