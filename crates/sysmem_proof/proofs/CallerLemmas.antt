@@ -9,7 +9,6 @@ use Rattle.sysmem_merge.specs.declared.settings.Settings.{Settings}
 use Rattle.sysmem_tree.specs.Shape.{Member}
 use Rattle.sysmem_proof.specs.Verdict.{Meeting, IsUnmet, IsUnmetBefore, IsChosen}
 use Rattle.sysmem_proof.proofs.Walks.{after_choice, whole_alone, begins, joins, goes_on}
-
 pub use Rattle.sysmem_proof.proofs.Finding.{splits_refute, earlier_grows}
 
 module _ (Met : Meeting) where

@@ -12,3 +12,4 @@ pub mod Exact
 pub mod Saying
 pub mod Finding
 pub mod CountNodes
+pub mod Faulting

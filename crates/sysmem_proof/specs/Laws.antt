@@ -12,6 +12,8 @@ use Rattle.sysmem_proof.specs.Certificate.{Item, CertificateFacts, IsCertificate
 use Rattle.sysmem_proof.specs.Check.{ChoicePasses, RefutationPasses}
 use Rattle.sysmem_proof.specs.Chosen.{ChosenFacts}
 use Rattle.sysmem_proof.specs.Conflict.{ConflictFacts, IsConflictFor}
+use Rattle.sysmem_proof.specs.declared.no.No.{No}
+use Rattle.sysmem_proof.specs.Fault.{ChoiceFaults, EmptyFaults}
 use Rattle.sysmem_proof.specs.Verdict.{IsUnmet, MeetsFor, MeetsLooselyFor, MeetsSettled, IsOptimalFor, IsSameAnswer}
 
 -- two optimal verdicts of one domain on the same terms are equal in kind, selection and settings
@@ -77,3 +79,15 @@ pub record AreExactTests (platform : PlatformFacts) (terms : Option Terms) (d : 
 
 abbrev pub TestsAreExact : Type 0
 TestsAreExact = (platform : PlatformFacts) (terms : Option Terms) (d : Forest Member) → AreExactTests platform terms d
+
+-- what fails a test of a choice doesn't pass, and the first test that it fails is one; the same of a refutation
+pub record HaveFirstFault (platform : PlatformFacts) (terms : Option Terms) (d : Forest Member) : Type 0 where
+  pub choice : (selection : List ℕ) (s : Settings) (certificate : CertificateFacts) (why : No) → ChoiceFaults platform terms d selection s certificate why
+      → ¬ (ChoicePasses platform terms d selection s certificate)
+  pub one_of_choice : (selection : List ℕ) (s : Settings) (certificate : CertificateFacts) (a b : No)
+      → ChoiceFaults platform terms d selection s certificate a → ChoiceFaults platform terms d selection s certificate b → a ≡ b
+  pub empty : (items : List Item) (why : No) → EmptyFaults platform terms d items why → ¬ (RefutationPasses platform terms d items)
+  pub one_of_empty : (items : List Item) (a b : No) → EmptyFaults platform terms d items a → EmptyFaults platform terms d items b → a ≡ b
+
+abbrev pub FaultsAreFirst : Type 0
+FaultsAreFirst = (platform : PlatformFacts) (terms : Option Terms) (d : Forest Member) → HaveFirstFault platform terms d

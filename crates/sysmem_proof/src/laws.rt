@@ -2,7 +2,7 @@
 
 ghost use Rattle.sysmem_proof.specs.Cannot.{LinesSay};
 ghost use Rattle.sysmem_proof.specs.Finder.{SomeAreNamed, CountsAreOfSome, BoundsAreOfSome, ReasonsAreConflicts};
-ghost use Rattle.sysmem_proof.specs.Laws.{OneAnswer, CutsLoseNothing, SelectionsSplit, EarlierGoesBy, ConflictsAreTrue, TestsAreExact};
+ghost use Rattle.sysmem_proof.specs.Laws.{OneAnswer, CutsLoseNothing, SelectionsSplit, EarlierGoesBy, ConflictsAreTrue, TestsAreExact, FaultsAreFirst};
 
 use sysmem_merge::laws::{
     count_line_leaves_none, offer_line_leaves_none, one_best, place_line_leaves_none, some_are_met,
@@ -70,4 +70,9 @@ pub fn some_are_named()
 /// A reason why no settings meet all settled participants is a conflict of an initial domain, by lines that name all of them.
 pub fn reasons_are_conflicts()
     ensures { ReasonsAreConflicts }
+{}
+
+/// What fails a test doesn't pass, and there is one number of the first test that is failed.
+pub fn faults_are_first()
+    ensures { FaultsAreFirst }
 {}
