@@ -24,7 +24,7 @@ use Rattle.sysmem_tree.specs.Shape.{Member}
 use Rattle.sysmem_tree.specs.Sublist.{IsSublist}
 use Rattle.sysmem_proof.specs.Base.{Terms}
 use Rattle.sysmem_proof.specs.Conflict.{ConflictFacts, Count, Places, Offers, Fixed, IsFixedConflict}
-use Rattle.sysmem_proof.specs.Failing.{FailsIn, FailsOn}
+use Rattle.sysmem_merge.specs.Failing.{FailsIn, FailsOn}
 use Rattle.sysmem_proof.specs.Members.{participants}
 use Rattle.sysmem_proof.specs.Verdict.{IsUnmet, MeetsFixed}
 use Rattle.sysmem_proof.proofs.Growing.{settled_grows, sub_itself, sub_both}

@@ -14,7 +14,7 @@ use Rattle.sysmem_merge.specs.Reasons.{IsOfferLine, IsUnnamedLine}
 use Rattle.sysmem_merge.specs.Settings.{CoversOn, IsSound, IsNamed}
 use Rattle.sysmem_sanitise.specs.Participant.{Participant}
 use Rattle.sysmem_sanitise.specs.Platform.{PlatformFacts}
-use Rattle.sysmem_proof.specs.Failing.{FailsOn}
+use Rattle.sysmem_merge.specs.Failing.{FailsOn}
 
 -- settings are as one participant asks in what the line of the field reads
 abbrev pub ObeysLine : Field → Settings → OfferDemand → Type 0

@@ -12,7 +12,7 @@ use Rattle.sysmem_sanitise.specs.Platform.{PlatformFacts, offers_of}
 use Rattle.sysmem_tree.specs.Forest.{Forest, choices, settled}
 use Rattle.sysmem_tree.specs.Shape.{Member}
 use Rattle.sysmem_proof.specs.Base.{Terms}
-use Rattle.sysmem_proof.specs.Failing.{FailsOn}
+use Rattle.sysmem_merge.specs.Failing.{FailsOn}
 use Rattle.sysmem_proof.specs.Members.{participants}
 use Rattle.sysmem_proof.specs.Naming.{IsTrueOf}
 

@@ -4,7 +4,6 @@ pub mod Chosen
 pub mod Verdict
 pub mod Laws
 pub mod Naming
-pub mod Failing
 pub mod Conflict
 pub mod Certificate
 pub mod Check
