@@ -20,6 +20,7 @@ mod layout;
 mod members;
 mod next_group;
 mod node;
+mod numbered;
 mod path;
 mod paths;
 mod prefix;
