@@ -1,0 +1,56 @@
+-- What is true of verdicts, whoever works them out.
+use Rattle.std.specs.Prelude.{◌≡◌, ◌↔◌, ◌<◌, ◌++◌, ℕ, List, [], ◌∷◌, Option, Some, None, slice_get}
+use Rattle.sysmem_merge.specs.declared.settings.Settings.{Settings}
+use Rattle.sysmem_sanitise.specs.Platform.{PlatformFacts}
+use Rattle.sysmem_tree.specs.Forest.{Forest, choices, settled}
+use Rattle.sysmem_tree.specs.Selection.{after, IsSelection, IsEarlierSelection}
+use Rattle.sysmem_tree.specs.Shape.{Member}
+use Rattle.sysmem_proof.specs.declared.verdict.Verdict.{Verdict}
+use Rattle.sysmem_proof.specs.Base.{Terms}
+use Rattle.sysmem_proof.specs.Verdict.{IsUnmet, MeetsFor, MeetsLooselyFor, IsOptimalFor, IsSameAnswer}
+
+-- two optimal verdicts of one domain on the same terms are equal in kind, selection and settings
+abbrev pub OneAnswer : Type 0
+OneAnswer = (platform : PlatformFacts) (terms : Option Terms) (d : Forest Member) (v w : Verdict)
+    → IsOptimalFor platform terms d v → IsOptimalFor platform terms d w → IsSameAnswer v w
+
+-- cuts lose nothing: where nothing meets what is settled, but for the names of an image, nothing meets a selection that goes on from there
+abbrev pub CutsLoseNothing : Type 0
+CutsLoseNothing = (platform : PlatformFacts) (terms : Option Terms) (d : Forest Member)
+    → ((t : Settings) → ¬ (MeetsLooselyFor platform terms (settled d) t)) → IsUnmet (MeetsFor platform terms) d
+
+-- choices that lead to f begin with one of these, and go on from there as a selection
+pub record BeginsWith {A : Type 0} (es : List (Forest A)) (cs : List ℕ) (f : Forest A) : Type 0 where
+  pub choice : ℕ
+  pub rest : List ℕ
+  pub is : cs ≡ choice ∷ rest
+  pub left : Forest A
+  pub here : slice_get es choice ≡ Some left
+  pub goes_on : IsSelection left rest f
+
+-- the selections of a forest: of no choices where it has no group, else those of its choices for the first group
+pub record SelectionsOf (d : Forest Member) : Type 0 where
+  pub whole : choices d ≡ None → (cs : List ℕ) (f : Forest Member) → IsSelection d cs f ↔ ((cs ≡ []) × (d ≡ f))
+  pub split : (es : List (Forest Member)) → choices d ≡ Some es → (cs : List ℕ) (f : Forest Member) → IsSelection d cs f ↔ BeginsWith es cs f
+
+abbrev pub SelectionsSplit : Type 0
+SelectionsSplit = (d : Forest Member) → SelectionsOf d
+
+-- up to a group the choices are those of a selection, and there they take a smaller child, to a forest that the selection passes over
+pub record GoesBy (d : Forest Member) (other selection : List ℕ) (f : Forest Member) : Type 0 where
+  pub same : List ℕ
+  pub lower : ℕ
+  pub higher : ℕ
+  pub rest : List ℕ
+  pub more : List ℕ
+  pub this : other ≡ same ++ lower ∷ rest
+  pub that : selection ≡ same ++ higher ∷ more
+  pub less : lower < higher
+  pub passed : Forest Member
+  pub leads : after d (same ++ lower ∷ []) ≡ Some passed
+  pub goes_on : IsSelection passed rest f
+
+-- what is earlier than a selection goes by a forest that the selection passes over
+abbrev pub EarlierGoesBy : Type 0
+EarlierGoesBy = (d e f : Forest Member) (selection other : List ℕ)
+    → IsSelection d selection e → IsSelection d other f → IsEarlierSelection other selection → GoesBy d other selection f

@@ -1,0 +1,5 @@
+pub mod Members
+pub mod Base
+pub mod Chosen
+pub mod Verdict
+pub mod Laws
