@@ -4,3 +4,8 @@ pub mod Trees
 pub mod Advance
 pub mod Relabelled
 pub mod Stepping
+pub mod Setting
+pub mod Choosing
+pub mod Counting
+pub mod Marking
+pub mod Entering

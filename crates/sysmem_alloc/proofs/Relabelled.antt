@@ -1,8 +1,9 @@
 -- A selection of a domain's shape is one of its forest of numbers.
-use Rattle.std.proofs.Common.{◌≡◌, ℕ, zero, suc, List, [], ◌∷◌, Option, Some, None, slice_get, refl, sym, ◌∙◌, ap, subst}
+use Rattle.std.proofs.Common.{◌≡◌, ℕ, zero, suc, List, [], ◌∷◌, ◌++◌, Option, Some, None, slice_get, refl, sym, ◌∙◌, ap, subst}
 use Rattle.std.specs.Prelude.{map, option_map, option_and_then}
+use Rattle.std.proofs.lemmas.List.{map-append}
 use Rattle.std.proofs.lemmas.Option.{same_Some}
-use Rattle.sysmem_tree.specs.Forest.{Forest, Empty, Plain, Group, each, kids_else_rest, choices, relabel}
+use Rattle.sysmem_tree.specs.Forest.{Forest, Empty, Plain, Group, each, kids_else_rest, choices, settled, relabel}
 use Rattle.sysmem_tree.specs.Laws.{by_both, AreOneForest}
 use Rattle.sysmem_tree.specs.Node.{NodeFacts}
 use Rattle.sysmem_tree.specs.Path.{path_of}
@@ -50,6 +51,11 @@ module _ {A B : Type 0} (f : A → B) where
             → option_and_then (λ e. after e cs) (option_map (relabel f) o) ≡ option_map (relabel f) (option_and_then (λ e. after e cs) o)
         by None ih = refl
         by (Some e) ih = ih e
+
+  pub settled_relabel : (d : Forest A) → settled (relabel f d) ≡ map f (settled d)
+  settled_relabel Empty = refl
+  settled_relabel (Plain n kids rest) = rw (settled_relabel kids, settled_relabel rest) (ap (λ xs. f n ∷ xs) (sym (map-append f (settled kids) (settled rest))))
+  settled_relabel (Group n kids rest) = ap (λ xs. f n ∷ xs) (settled_relabel rest)
 
   none_there : (o : Option (List (Forest A))) → option_map (map (relabel f)) o ≡ None → o ≡ None
   none_there None e = refl

@@ -35,9 +35,13 @@ deed_with set kinds.AttachToken = attaches_token
 deed_with set kinds.Release = releases
 deed_with set kinds.Close = closes
 
+-- the constraints of a node; none where it set none
+abbrev pub constraints_at : List NodeFacts → ℕ → Option Participant
+constraints_at nodes i = option_and_then (λ n. n.constraints) (slice_get nodes i)
+
 -- an entry as it is kept, without the constraints that it set: the tree has them at its node
 abbrev pub entry_in : List NodeFacts → Entry → BookEntry
-entry_in nodes (entries.Acted i kind) = Acted i (deed_with (option_and_then (λ n. n.constraints) (slice_get nodes i)) kind)
+entry_in nodes (entries.Acted i kind) = Acted i (deed_with (constraints_at nodes i) kind)
 entry_in nodes (entries.Decided r verdict) = Decided (record { domain = r; verdict = option_map (λ shared. arc_value shared) verdict })
 
 -- the decision that it is, if it is one

@@ -12,7 +12,12 @@ use Rattle.sysmem_tree.specs.History.{log_at}
 use Rattle.sysmem_alloc.specs.Decision.{Decision, decision_for}
 use Rattle.sysmem_alloc.specs.Entry.{BookEntry, Acted, tree_entry}
 use Rattle.sysmem_alloc.specs.History.{Allows, after_entry, IsLegal, NoEarlyClose, SameCalls, replay}
+use Rattle.sysmem_alloc.specs.Sound.{IsSoundState}
 use Rattle.sysmem_alloc.specs.State.{State, next_ready, base_of}
+
+-- the state of each legal history is sound
+abbrev pub LegalIsSound : Type 0
+LegalIsSound = (platform : PlatformFacts) (es : List BookEntry) → IsLegal platform es → IsSoundState (replay es)
 
 -- a history has at most 639 entries: 127 nodes are made, each of the 128 has at most three further actions, and as many domains are decided
 abbrev pub FewEntries : Type 0

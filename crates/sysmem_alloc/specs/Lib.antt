@@ -4,4 +4,5 @@ pub mod State
 pub mod History
 pub mod Book
 pub mod Sound
+pub mod Marks
 pub mod Laws

@@ -1,24 +1,35 @@
 //! The book of a collection.
 
-ghost use Rattle.std.specs.Prelude.{◌≡◌, ◌≤◌, ℕ, [], ◌∷◌, ◌++◌, Some, None, Ok, Err, length, map, slice_get, option_map, IfOk, IfErr, IfSome, OnErr, OnOk};
+ghost use Rattle.std.specs.Prelude.{◌≡◌, Some, Ok, Err, map, option_map, is_some, IfOk, IfErr, IfSome, OnErr, OnOk};
 ghost use Rattle.std.specs.Arc.{arc_value};
-ghost use Rattle.sysmem_alloc.specs.Book.{IsBook};
-ghost use Rattle.sysmem_alloc.specs.Entry.{Acted, Decided};
-ghost use Rattle.sysmem_alloc.specs.History.{after_entry};
-ghost use Rattle.sysmem_alloc.specs.State.{first_state, next_ready, verdict_of};
+ghost use Rattle.sysmem_alloc.specs.Book.{entered, new_book};
+ghost use Rattle.sysmem_alloc.specs.Entry.{Acted, Decided, entry_in};
+ghost use Rattle.sysmem_alloc.specs.State.{base_of, next_ready, verdict_of};
+ghost use Rattle.sysmem_proof.specs.Verdict.{IsOptimalIn};
 ghost use Rattle.sysmem_tree.specs.ActionKind.{deed_of};
+ghost use Rattle.sysmem_tree.specs.Domain.{HasDomain};
 ghost use Rattle.sysmem_tree.specs.Tree.{applied};
 
 use crate::entry::Entry;
+use crate::laws::{few_entries, legal_is_sound};
+use crate::ready::{add_ready, open_nodes, ready_domains};
+use crate::verdicts::{choices_of, entered_for};
 use std::alloc::{AllocError, Global};
 use std::marker::Model;
+use std::sync::Arc;
+use sysmem_proof::Verdict;
 use sysmem_sanitise::Platform;
-use sysmem_tree::{DomainId, NodeId, Tree};
+use sysmem_tree::laws::{forest_stays, one_forest};
+use sysmem_tree::{DomainId, Event, Fate, MOST_NODES, NodeId, Refusal, Tree};
 
-/// The greatest number of entries for which a book has room; no history has more than 639.
+/// The number of entries for which a book has room; no history has more than 639.
 const ROOM: usize = 1024;
 
-/// The collection's tree and history, and how it stands with its domains.
+const FAILED: Verdict = Verdict::Failed;
+
+const NO_MEMORY: Verdict = Verdict::NoMemory;
+
+/// A collection's tree, its history, and the domains that wait for a decision.
 #[derive(Debug, Drop)]
 pub struct Book {
     platform: Platform,
@@ -31,36 +42,16 @@ pub struct Book {
 }
 
 impl Model for Book {
-    ghost use Rattle.std.specs.Prelude.{◌≤◌, map, filter, filter_map, get_or, false};
+    ghost use Rattle.std.specs.Prelude.{◌≤◌};
     ghost use Rattle.std.specs.Vec.{vec_capacity};
-    ghost use Rattle.sysmem_alloc.specs.Book.{BookFacts, IsBook};
-    ghost use Rattle.sysmem_alloc.specs.Entry.{entry_in, decision_in};
-    ghost use Rattle.sysmem_alloc.specs.State.{chosen_in};
+    ghost use Rattle.sysmem_alloc.specs.Book.{BookFacts, IsBook, kept_book};
 
     ghost Value = { BookFacts };
 
-    ghost view = { λ b. record {
-      platform = b.platform;
-      history = map (entry_in b.tree.nodes) b.history.items;
-      state = record {
-        tree = b.tree;
-        decisions = filter_map decision_in b.history.items;
-        waiting = b.waiting.items;
-        accepted = filter (λ i. get_or b.were_open i false) (chosen_in b.tree.nodes (filter_map decision_in b.history.items));
-      };
-    } };
+    ghost view = { λ b. kept_book b.platform b.tree b.history.items b.waiting.items b.were_open };
 
-    ghost invariant = { λ b. IsBook (record {
-        platform = b.platform;
-        history = map (entry_in b.tree.nodes) b.history.items;
-        state = record {
-          tree = b.tree;
-          decisions = filter_map decision_in b.history.items;
-          waiting = b.waiting.items;
-          accepted = filter (λ i. get_or b.were_open i false) (chosen_in b.tree.nodes (filter_map decision_in b.history.items));
-        };
-      })
-      × (1024 ≤ vec_capacity b.history) × (128 ≤ vec_capacity b.waiting) };
+    ghost invariant = { λ b. IsBook (kept_book b.platform b.tree b.history.items b.waiting.items b.were_open)
+        × (1024 ≤ vec_capacity b.history) × (128 ≤ vec_capacity b.waiting) };
 }
 
 /// An accepted action.
@@ -70,4 +61,112 @@ pub struct Done {
     pub node: NodeId,
     /// Whether a domain waits for a decision now.
     pub ready: bool,
+}
+
+impl Book {
+    /// The book of a root token, with an empty history, that decides for this platform. It reserves all the memory that its other
+    /// calls need. `AllocError` where memory is refused.
+    pub fn new(alloc: Global, platform: Platform) -> Result<Book, AllocError>
+        ensures { IfOk result (λ book. book ≡ new_book platform) }
+    {
+        let tree = Tree::new(alloc)?;
+        let history = Vec::with_capacity(alloc, ROOM)?;
+        let waiting = Vec::with_capacity(alloc, MOST_NODES)?;
+        Ok(Book {
+            platform,
+            tree,
+            history,
+            waiting,
+            were_open: [false; 128],
+        })
+    }
+
+    /// The tree.
+    pub fn tree(&self) -> &Tree
+        ensures { result.now ≡ self.now.state.tree }
+    {
+        &self.tree
+    }
+
+    /// All that was entered, the oldest first.
+    pub fn history(&self) -> &[Entry]
+        ensures { map (entry_in self.now.state.tree.nodes) result.now ≡ self.now.history }
+    {
+        &self.history
+    }
+
+    /// The domain that is to be decided next: the first of those that are ready and undecided, in the order in which they became
+    /// ready, those of one event in order of creation of their roots.
+    pub fn next_ready(&self) -> Option<DomainId>
+        ensures { result ≡ next_ready self.now.state }
+    {
+        self.waiting.first().copied()
+    }
+
+    /// The verdict of a domain of the tree; `None` where it has none yet.
+    pub fn verdict_of(&self, domain: DomainId) -> Option<&Verdict>
+        requires { HasDomain self.now.state.tree.nodes domain }
+        ensures { option_map (λ verdict. verdict.now) result ≡ verdict_of self.now.state domain }
+    {
+        if self.tree.fate(domain) == Fate::Failed {
+            return Some(&FAILED);
+        }
+        match entered_for(&self.history, domain)? {
+            Some(verdict) => Some(verdict),
+            None => Some(&NO_MEMORY),
+        }
+    }
+
+    /// Makes an action on a node, enters it, and answers the node that was made, or else the node itself, and whether a domain waits
+    /// for a decision now; or the tree's first refusal, and then nothing has changed. It takes no memory.
+    pub fn apply(&mut self, event: Event) -> Result<Done, Refusal>
+        ensures accepted { IfOk result (λ done.
+            applied self.old.state.tree event.node (deed_of event.action)
+            ≡ Ok (record { tree = self.new.state.tree; node = done.node })) }
+        ensures entered { OnOk result (self.new
+            ≡ entered self.old (Acted event.node (deed_of event.action))) }
+        ensures ready { IfOk result (λ done. done.ready ≡ is_some (next_ready self.new.state)) }
+        ensures refused { IfErr result (λ refusal.
+            applied self.old.state.tree event.node (deed_of event.action) ≡ Err refusal) }
+        ensures unchanged { OnErr result (self.new ≡ self.old) }
+    {
+        legal_is_sound();
+        few_entries();
+        forest_stays();
+        one_forest();
+        let acted = Entry::Acted(event.node, event.action.kind());
+        let were_ready = ready_domains(&self.tree);
+        let node = self.tree.apply(event)?;
+        if self.waiting.is_empty() {
+            self.were_open = open_nodes(&self.tree);
+        }
+        self.history.push_reserved(acted);
+        add_ready(&self.tree, &were_ready, &mut self.waiting);
+        Ok(Done {
+            node,
+            ready: !self.waiting.is_empty(),
+        })
+    }
+
+    /// Enters the decision of the domain that is to be decided next: a verdict that is optimal for it, or `None` where memory was
+    /// refused to it. It takes no memory.
+    pub fn decide(&mut self, domain: DomainId, verdict: Option<Arc<Verdict>>)
+        requires next { next_ready self.old.state ≡ Some domain }
+        requires optimal { IfSome verdict (λ shared.
+            IsOptimalIn self.old.platform self.old.state.tree.nodes domain
+            (base_of self.old.state domain) (arc_value shared)) }
+        ensures { self.new ≡ entered self.old (Decided (record {
+            domain = domain;
+            verdict = option_map (λ shared. arc_value shared) verdict.entry })) }
+    {
+        legal_is_sound();
+        few_entries();
+        one_forest();
+        let were_ready = ready_domains(&self.tree);
+        self.tree.decided(domain, choices_of(&verdict));
+        self.were_open = open_nodes(&self.tree);
+        self.history.push_reserved(Entry::Decided(domain, verdict));
+        self.waiting.remove(0);
+        add_ready(&self.tree, &were_ready, &mut self.waiting);
+    }
 }
