@@ -1,6 +1,6 @@
 -- What stands for a book after one more entry.
 use Rattle.std.proofs.Common.{◌≡◌, ◌≢◌, ◌≤◌, ℕ, suc, ◌+◌, Bool, false, not, ◌&&◌, List, [], ◌∷◌, ◌++◌, length, drop, Option, Some, None, Result, Ok, Err, get_or, slice_get, refl, sym, ◌∙◌, ap, subst, arith, append-nil, length-append}
-use Rattle.std.specs.Prelude.{IsOk, IfSome, filter, map}
+use Rattle.std.specs.Prelude.{IsOk, filter, map, option_map, unwrap_or}
 use Rattle.std.specs.List.{filter_map}
 use Rattle.std.proofs.lemmas.List.{map-append}
 use Rattle.std.proofs.lemmas.List.Elements.{filter_map-append}
@@ -19,7 +19,7 @@ use Rattle.sysmem_alloc.specs.Decision.{Decision, choices_of}
 use Rattle.sysmem_alloc.specs.Entry.{BookEntry, Acted, Decided, entry_in, decision_in}
 use Rattle.sysmem_alloc.specs.History.{after_answer, after_entry, replay_from, replay, Allows, AreAllowed, IsLegal}
 use Rattle.sysmem_alloc.specs.Laws.{LegalIsSound}
-use Rattle.sysmem_alloc.specs.Marks.{ready_unmarked}
+use Rattle.sysmem_alloc.specs.Marks.{ready_at, ready_unmarked}
 use Rattle.sysmem_alloc.specs.Sound.{AllOf, IsOfReady, IsSoundState, roots_of}
 use Rattle.sysmem_alloc.specs.State.{State, first_state, newly_ready, is_open, chosen_in, open_in, kept_for, after_action, after_decision, next_ready}
 use Rattle.sysmem_alloc.proofs.Accepting.{accepted}
@@ -138,14 +138,14 @@ decided_kept platform t raw waiting later marks now x d is decides read grown ta
     ∙ same_filter (λ k. get_or now k false) (is_open u.nodes) (chosen_in u.nodes (ds ++ d ∷ [])) (all_each (λ k. get_or now k false ≡ is_open u.nodes k) (chosen_in u.nodes (ds ++ d ∷ [])) taken)))
 
 -- who is newly ready, by marks of those who were
-marked_at : (t : TreeFacts) (marks : List Bool) → ((k : ℕ) → IfSome (slice_get (roots_of t) k) (λ r. get_or marks k false ≡ is_ready t r)) → (j r : ℕ) → slice_get (roots_of t) j ≡ Some r
+marked_at : (t : TreeFacts) (marks : List Bool) → ((k : ℕ) → get_or marks k false ≡ ready_at t k) → (j r : ℕ) → slice_get (roots_of t) j ≡ Some r
     → get_or marks (0 + j) false ≡ is_ready t r
 marked_at t marks all j r here =
     let z : j ≡ 0 + j = omega arith in
-    subst (λ k. get_or marks k false ≡ is_ready t r) z (subst (λ o. IfSome o (λ r. get_or marks j false ≡ is_ready t r)) here (all j))
+    subst (λ k. get_or marks k false ≡ is_ready t r) z (all j ∙ ap (λ o. unwrap_or (option_map (is_ready t) o) false) here)
 
 pub acted_newly : (t : TreeFacts) (i : ℕ) (deed : Deed) (made : Applied) (marks : List Bool) → applied t i deed ≡ Ok made
-    → ((k : ℕ) → IfSome (slice_get (roots_of t) k) (λ r. get_or marks k false ≡ is_ready t r)) → newly_ready t made.tree ≡ ready_unmarked made.tree marks 0 (roots_of made.tree)
+    → ((k : ℕ) → get_or marks k false ≡ ready_at t k) → newly_ready t made.tree ≡ ready_unmarked made.tree marks 0 (roots_of made.tree)
 acted_newly t i deed made marks ok all =
     let (n, fine) = accepted t i deed made ok in
     let more : List ℕ = added (kind_of deed) (length t.nodes) in
@@ -154,7 +154,7 @@ acted_newly t i deed made marks ok all =
     ∙ (newly_unmarked made.tree (is_ready t) marks 0 (roots_of t) more (marked_at t marks all)
     (subst (λ (u : TreeFacts). AllOf (λ r. is_ready u r ≡ false) more) fine.tree (added_unready t i n deed)) ∙ ap (ready_unmarked made.tree marks 0) (sym roots))
 
-pub decided_newly : (t : TreeFacts) (r : ℕ) (choices : Option (List ℕ)) (marks : List Bool) → ((k : ℕ) → IfSome (slice_get (roots_of t) k) (λ r. get_or marks k false ≡ is_ready t r))
+pub decided_newly : (t : TreeFacts) (r : ℕ) (choices : Option (List ℕ)) (marks : List Bool) → ((k : ℕ) → get_or marks k false ≡ ready_at t k)
     → newly_ready t (decided t r choices) ≡ ready_unmarked (decided t r choices) marks 0 (roots_of (decided t r choices))
 decided_newly t r choices marks all =
     let u : TreeFacts = decided t r choices in

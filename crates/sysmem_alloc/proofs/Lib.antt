@@ -8,4 +8,5 @@ pub mod Setting
 pub mod Choosing
 pub mod Counting
 pub mod Marking
+pub mod Marked
 pub mod Entering

@@ -25,10 +25,6 @@ use sysmem_tree::{DomainId, Event, Fate, MOST_NODES, NodeId, Refusal, Tree};
 /// The number of entries for which a book has room; no history has more than 639.
 const ROOM: usize = 1024;
 
-const FAILED: Verdict = Verdict::Failed;
-
-const NO_MEMORY: Verdict = Verdict::NoMemory;
-
 /// A collection's tree, its history, and the domains that wait for a decision.
 #[derive(Debug, Drop)]
 pub struct Book {
@@ -39,19 +35,25 @@ pub struct Book {
     waiting: Vec<DomainId>,
     /// The nodes that were open when the accepted participants were taken, marked by their numbers.
     were_open: [bool; 128],
+    /// What `verdict_of` lends for a domain that failed.
+    failed: Verdict,
+    /// What it lends for one whose decision wanted memory.
+    no_memory: Verdict,
 }
 
 impl Model for Book {
-    ghost use Rattle.std.specs.Prelude.{◌≤◌};
+    ghost use Rattle.std.specs.Prelude.{◌≡◌, ◌≤◌};
     ghost use Rattle.std.specs.Vec.{vec_capacity};
     ghost use Rattle.sysmem_alloc.specs.Book.{BookFacts, IsBook, kept_book};
+    ghost use Rattle.sysmem_proof.specs.declared.verdict.Verdict.TheVariants as verdicts;
 
     ghost Value = { BookFacts };
 
     ghost view = { λ b. kept_book b.platform b.tree b.history.items b.waiting.items b.were_open };
 
     ghost invariant = { λ b. IsBook (kept_book b.platform b.tree b.history.items b.waiting.items b.were_open)
-        × (1024 ≤ vec_capacity b.history) × (128 ≤ vec_capacity b.waiting) };
+        × (1024 ≤ vec_capacity b.history) × (128 ≤ vec_capacity b.waiting)
+        × (b.failed ≡ verdicts.Failed) × (b.no_memory ≡ verdicts.NoMemory) };
 }
 
 /// An accepted action.
@@ -78,6 +80,8 @@ impl Book {
             history,
             waiting,
             were_open: [false; 128],
+            failed: Verdict::Failed,
+            no_memory: Verdict::NoMemory,
         })
     }
 
@@ -109,11 +113,11 @@ impl Book {
         ensures { option_map (λ verdict. verdict.now) result ≡ verdict_of self.now.state domain }
     {
         if self.tree.fate(domain) == Fate::Failed {
-            return Some(&FAILED);
+            return Some(&self.failed);
         }
         match entered_for(&self.history, domain)? {
             Some(verdict) => Some(verdict),
-            None => Some(&NO_MEMORY),
+            None => Some(&self.no_memory),
         }
     }
 

@@ -17,3 +17,6 @@ mod verdicts;
 
 pub use book::{Book, Done};
 pub use entry::Entry;
+
+#[cfg(test)]
+mod tests;
