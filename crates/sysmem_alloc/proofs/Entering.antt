@@ -8,6 +8,7 @@ use Rattle.sysmem_alloc.specs.declared.entry.Entry.{Entry}
 use Rattle.sysmem_alloc.specs.declared.entry.Entry.TheVariants as entries
 use Rattle.sysmem_sanitise.specs.Participant.{Participant}
 use Rattle.sysmem_sanitise.specs.Platform.{PlatformFacts}
+use Rattle.sysmem_tree.specs.declared.action.ActionKind.{ActionKind}
 use Rattle.sysmem_tree.specs.ActionKind.{Deed, kind_of}
 use Rattle.sysmem_tree.specs.Domain.{TreeFacts, is_ready}
 use Rattle.sysmem_tree.specs.History as trees
@@ -161,3 +162,60 @@ decided_newly t r choices marks all =
     let roots : roots_of u ≡ roots_of t ++ [] = decided_roots t r choices ∙ sym (append-nil (roots_of t)) in
     ap (filter (λ k. is_ready u k && not (is_ready t k))) roots
     ∙ (newly_unmarked u (is_ready t) marks 0 (roots_of t) [] (marked_at t marks all) tt ∙ ap (ready_unmarked u marks 0) (sym roots))
+
+-- all that is to be shown of a book after an action
+pub record Shows (b c : BookFacts) : Type 0 where
+  pub book : IsBook c
+  pub is : c ≡ b
+
+pub acted_room : LegalIsSound → (platform : PlatformFacts) (t : TreeFacts) (raw : List Entry) (waiting : List ℕ) (marks were : List Bool) (i : ℕ) (deed : Deed) (made : Applied)
+    → IsBook (kept_book platform t raw waiting marks) → applied t i deed ≡ Ok made → ((k : ℕ) → get_or were k false ≡ ready_at t k)
+    → length waiting + length (ready_unmarked made.tree were 0 (roots_of made.tree)) ≤ 128
+acted_room sound platform t raw waiting marks were i deed made is ok marked =
+    let b : BookFacts = kept_book platform t raw waiting marks in
+    let room : length (waiting ++ newly_ready t made.tree) ≤ 128 = subst (λ o. length (after_answer b.state o).waiting ≤ 128) ok (room_after sound b (Acted i deed) is (subst IsOk (sym ok) refl)) in
+    let same : length (newly_ready t made.tree) ≡ length (ready_unmarked made.tree were 0 (roots_of made.tree)) = ap length (acted_newly t i deed made were ok marked) in
+    omega (arith, room, same, length-append waiting (newly_ready t made.tree))
+
+pub acted_shows : LegalIsSound → ForestStays → OneForest → (platform : PlatformFacts) (t : TreeFacts) (raw new : List Entry) (waiting later : List ℕ) (marks now were : List Bool) (i : ℕ) (kind : ActionKind) (deed : Deed)
+    (made : Applied) → IsBook (kept_book platform t raw waiting marks) → applied t i deed ≡ Ok made → kind ≡ kind_of deed → new ≡ raw ++ entries.Acted i kind ∷ []
+    → ((k : ℕ) → get_or were k false ≡ ready_at t k) → later ≡ waiting ++ ready_unmarked made.tree were 0 (roots_of made.tree)
+    → (waiting ≡ [] → (k : ℕ) → get_or now k false ≡ is_open made.tree.nodes k) → (waiting ≢ [] → now ≡ marks)
+    → Shows (entered (kept_book platform t raw waiting marks) (Acted i deed)) (kept_book platform made.tree new later now)
+acted_shows sound stays one platform t raw new waiting later marks now were i kind deed made is ok same_kind pushed marked grown taken kept =
+    let b : BookFacts = kept_book platform t raw waiting marks in
+    let raws : new ≡ raw ++ entries.Acted i (kind_of deed) ∷ [] = pushed ∙ ap (λ k. raw ++ entries.Acted i k ∷ []) same_kind in
+    let laters : later ≡ waiting ++ newly_ready t made.tree = grown ∙ ap (λ ys. waiting ++ ys) (sym (acted_newly t i deed made were ok marked)) in
+    let same : kept_book platform made.tree new later now ≡ entered b (Acted i deed) =
+        ap (λ es. kept_book platform made.tree es later now) raws ∙ acted_kept sound stays one platform t raw waiting later marks now i deed made is ok laters taken kept in
+    record { book = subst IsBook (sym same) (book_push b (Acted i deed) is (subst IsOk (sym ok) refl)); is = same }
+
+-- and after a decision
+pub decided_room : LegalIsSound → (platform : PlatformFacts) (t : TreeFacts) (raw : List Entry) (waiting : List ℕ) (marks were : List Bool) (d : Decision)
+    → (is : IsBook (kept_book platform t raw waiting marks)) → Allows platform (kept_book platform t raw waiting marks).state (Decided d) → ((k : ℕ) → get_or were k false ≡ ready_at t k)
+    → length (drop 1 waiting) + length (ready_unmarked (decided t d.domain (choices_of d.verdict)) were 0 (roots_of (decided t d.domain (choices_of d.verdict)))) ≤ 128
+decided_room sound platform t raw waiting marks were d is ok marked =
+    let b : BookFacts = kept_book platform t raw waiting marks in
+    let u : TreeFacts = decided t d.domain (choices_of d.verdict) in
+    let room : length (drop 1 waiting ++ newly_ready t u) ≤ 128 = room_after sound b (Decided d) is ok in
+    let same : length (newly_ready t u) ≡ length (ready_unmarked u were 0 (roots_of u)) = ap length (decided_newly t d.domain (choices_of d.verdict) were marked) in
+    omega (arith, room, same, length-append (drop 1 waiting) (newly_ready t u))
+
+pub decided_shows : (platform : PlatformFacts) (t u : TreeFacts) (raw new : List Entry) (waiting later : List ℕ) (marks now were : List Bool) (x : Entry) (d : Decision)
+    → IsBook (kept_book platform t raw waiting marks) → Allows platform (kept_book platform t raw waiting marks).state (Decided d)
+    → decision_in x ≡ Some d → ((nodes : List NodeFacts) → entry_in nodes x ≡ Decided d) → u ≡ decided t d.domain (choices_of d.verdict) → new ≡ raw ++ x ∷ []
+    → ((k : ℕ) → get_or were k false ≡ ready_at t k) → later ≡ drop 1 waiting ++ ready_unmarked u were 0 (roots_of u) → ((k : ℕ) → get_or now k false ≡ is_open u.nodes k)
+    → Shows (entered (kept_book platform t raw waiting marks) (Decided d)) (kept_book platform u new later now)
+decided_shows platform t u raw new waiting later marks now were x d is ok decides read tree pushed marked grown taken =
+    let b : BookFacts = kept_book platform t raw waiting marks in
+    let v : TreeFacts = decided t d.domain (choices_of d.verdict) in
+    let grown' : later ≡ drop 1 waiting ++ ready_unmarked v were 0 (roots_of v) = subst (λ (w : TreeFacts). later ≡ drop 1 waiting ++ ready_unmarked w were 0 (roots_of w)) tree grown in
+    let laters : later ≡ drop 1 waiting ++ newly_ready t v = grown' ∙ ap (λ ys. drop 1 waiting ++ ys) (sym (decided_newly t d.domain (choices_of d.verdict) were marked)) in
+    let opens : (k : ℕ) → get_or now k false ≡ is_open v.nodes k = subst (λ (w : TreeFacts). (k : ℕ) → get_or now k false ≡ is_open w.nodes k) tree taken in
+    let same : kept_book platform u new later now ≡ entered b (Decided d) =
+        ap (λ w. kept_book platform w new later now) tree ∙ (ap (λ es. kept_book platform v es later now) pushed ∙ decided_kept platform t raw waiting later marks now x d is decides read laters opens) in
+    record { book = subst IsBook (sym same) (book_push b (Decided d) is ok); is = same }
+
+-- a decision may be entered in the tree
+pub may_enter : LegalIsSound → OneForest → (b : BookFacts) (d : Decision) → IsBook b → Allows b.platform b.state (Decided d) → trees.IsDecidable b.state.tree d.domain (choices_of d.verdict)
+may_enter sound one b d is ok = accepts one b.platform b.state (Decided d) (state_sound sound b is) ok

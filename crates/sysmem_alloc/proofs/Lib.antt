@@ -10,3 +10,5 @@ pub mod Counting
 pub mod Marking
 pub mod Marked
 pub mod Entering
+pub mod Fates
+pub mod Confluent

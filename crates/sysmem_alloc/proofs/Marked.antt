@@ -72,7 +72,10 @@ root_at t k = by t.domains k where
 at_place : (xs : List ℕ) (k : ℕ) → k < length xs → (x : ℕ) × (slice_get xs k ≡ Some x) × (drop k xs ≡ x ∷ drop (k + 1) xs)
 at_place [] k less = absurd (omega (arith, less))
 at_place (x ∷ xs) zero less = (x, refl, refl)
-at_place (x ∷ xs) (suc k) less = at_place xs k (omega (arith, less))
+at_place (x ∷ xs) (suc k) less =
+    let (y, here, rest) = at_place xs k (omega (arith, less)) in
+    let z : suc (k + 1) ≡ suc k + 1 = omega arith in
+    (y, here, rest ∙ ap (λ (j : ℕ). y ∷ drop j (x ∷ xs)) z)
 
 chosen : (t : TreeFacts) (marks : List Bool) (k r : ℕ) (rs : List ℕ) (o : Option ℕ) → if_unmarked t (get_or marks k false) r ≡ o
     → ready_unmarked t marks k (r ∷ rs) ≡ ifs o (ready_unmarked t marks (k + 1) rs)

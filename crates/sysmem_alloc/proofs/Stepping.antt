@@ -145,7 +145,7 @@ module _ (sound_stays : SoundStays) (ready_stays : ReadyStays) where
   sound_from one platform s (e ∷ es) sound all = sound_from one platform (after_entry s e) es (sound_step one platform s e sound all.0) all.1
 
 -- the state of a root token is sound
-sound_first : MapsOfLogs → IsSoundState first_state
+pub sound_first : MapsOfLogs → IsSoundState first_state
 sound_first made = record { tree = (made [] tt).sound; waiting = tt; once = tt; decided = tt; count = refl }
 
 pub sound_replay : SoundStays → ReadyStays → OneForest → MapsOfLogs → (platform : PlatformFacts) (es : List BookEntry) → IsLegal platform es → IsSoundState (replay es)

@@ -39,15 +39,3 @@ pub record AreConfluent (es fs : List BookEntry) : Type 0 where
 abbrev pub Confluence : Type 0
 Confluence = (platform : PlatformFacts) (es fs : List BookEntry) → IsLegal platform es → IsLegal platform fs → SameCalls es fs → NoEarlyClose es → NoEarlyClose fs
     → AreConfluent es fs
-
--- the domain that is to be decided next stays so, with its forest and what it is decided on
-pub record StaysNext (old new : State) (r : ℕ) : Type 0 where
-  pub next : next_ready new ≡ Some r
-  pub domain : IsSameDomain old.tree.nodes new.tree.nodes r
-  pub base : base_of new r ≡ base_of old r
-  pub terms : (base : BaseFacts) → base_of old r ≡ Some base → terms_of new.tree.nodes base ≡ terms_of old.tree.nodes base
-
--- no action changes the domain that is to be decided next, nor what it is decided on
-abbrev pub NextStays : Type 0
-NextStays = (platform : PlatformFacts) (es : List BookEntry) (i : ℕ) (deed : Deed) (r : ℕ) → IsLegal platform es → Allows platform (replay es) (Acted i deed)
-    → next_ready (replay es) ≡ Some r → StaysNext (replay es) (after_entry (replay es) (Acted i deed)) r

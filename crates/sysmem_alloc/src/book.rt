@@ -10,17 +10,17 @@ ghost use Rattle.sysmem_tree.specs.ActionKind.{deed_of};
 ghost use Rattle.sysmem_tree.specs.Domain.{HasDomain};
 ghost use Rattle.sysmem_tree.specs.Tree.{applied};
 
-use crate::entry::Entry;
+use crate::entry::{Entry, enter_action};
 use crate::laws::{few_entries, legal_is_sound};
-use crate::ready::{add_ready, open_nodes, ready_domains};
-use crate::verdicts::{choices_of, entered_for};
+use crate::ready::{add_ready, open_nodes, open_or_kept, ready_domains};
+use crate::verdicts::{choices_of, entered_for, has_failed};
 use std::alloc::{AllocError, Global};
 use std::marker::Model;
 use std::sync::Arc;
 use sysmem_proof::Verdict;
 use sysmem_sanitise::Platform;
 use sysmem_tree::laws::{forest_stays, one_forest};
-use sysmem_tree::{DomainId, Event, Fate, MOST_NODES, NodeId, Refusal, Tree};
+use sysmem_tree::{DomainId, Event, MOST_NODES, NodeId, Refusal, Tree};
 
 /// The number of entries for which a book has room; no history has more than 639.
 const ROOM: usize = 1024;
@@ -112,7 +112,7 @@ impl Book {
         requires { HasDomain self.now.state.tree.nodes domain }
         ensures { option_map (λ verdict. verdict.now) result ≡ verdict_of self.now.state domain }
     {
-        if self.tree.fate(domain) == Fate::Failed {
+        if has_failed(self.tree.fate(domain)) {
             return Some(&self.failed);
         }
         match entered_for(&self.history, domain)? {
@@ -138,18 +138,15 @@ impl Book {
         few_entries();
         forest_stays();
         one_forest();
-        let acted = Entry::Acted(event.node, event.action.kind());
+        let acted = event.node;
+        let kind = event.action.kind();
         let were_ready = ready_domains(&self.tree);
         let node = self.tree.apply(event)?;
-        if self.waiting.is_empty() {
-            self.were_open = open_nodes(&self.tree);
-        }
-        self.history.push_reserved(acted);
+        self.were_open = open_or_kept(&self.tree, &self.waiting, self.were_open);
+        enter_action(&mut self.history, acted, kind);
         add_ready(&self.tree, &were_ready, &mut self.waiting);
-        Ok(Done {
-            node,
-            ready: !self.waiting.is_empty(),
-        })
+        let ready = self.next_ready().is_some();
+        Ok(Done { node, ready })
     }
 
     /// Enters the decision of the domain that is to be decided next: a verdict that is optimal for it, or `None` where memory was
@@ -161,7 +158,7 @@ impl Book {
             (base_of self.old.state domain) (arc_value shared)) }
         ensures { self.new ≡ entered self.old (Decided (record {
             domain = domain;
-            verdict = option_map (λ shared. arc_value shared) verdict.entry })) }
+            verdict = option_map (λ shared. arc_value shared) verdict })) }
     {
         legal_is_sound();
         few_entries();

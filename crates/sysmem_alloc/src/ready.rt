@@ -1,6 +1,6 @@
 //! Which domains an event made ready, and which nodes are open.
 
-ghost use Rattle.std.specs.Prelude.{◌≡◌, ◌≤◌, ◌<◌, ◌+◌, ◌++◌, ℕ, false, length, get_or};
+ghost use Rattle.std.specs.Prelude.{◌≡◌, ◌≢◌, ◌≤◌, ◌<◌, ◌+◌, ◌++◌, ℕ, [], false, length, get_or};
 ghost use Rattle.std.specs.Vec.{vec_capacity};
 ghost use Rattle.sysmem_alloc.specs.Marks.{ready_at, ready_unmarked, unmarked_at};
 ghost use Rattle.sysmem_alloc.specs.Sound.{roots_of};
@@ -78,4 +78,16 @@ pub(crate) fn open_nodes(tree: &Tree) -> [bool; 128]
         marks[number as usize] = is_open_at(tree, number);
     }
     marks
+}
+
+/// The nodes that are open, or as long as a domain waits those that were.
+pub(crate) fn open_or_kept(tree: &Tree, waiting: &[DomainId], were_open: [bool; 128]) -> [bool; 128]
+    ensures open { waiting.now ≡ [] → (k : ℕ) → get_or result k false ≡ is_open tree.now.nodes k }
+    ensures kept { waiting.now ≢ [] → result ≡ were_open }
+{
+    if waiting.is_empty() {
+        open_nodes(tree)
+    } else {
+        were_open
+    }
 }

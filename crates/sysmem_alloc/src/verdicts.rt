@@ -1,15 +1,24 @@
 //! The verdicts that a history has.
 
-ghost use Rattle.std.specs.Prelude.{◌≡◌, option_map};
+ghost use Rattle.std.specs.Prelude.{◌≡◌, ◌≢◌, true, false, option_map};
 ghost use Rattle.std.specs.Arc.{arc_value};
 ghost use Rattle.std.specs.List.{filter_map};
 ghost use Rattle.sysmem_alloc.specs.Decision.{choices_of, decision_for};
 ghost use Rattle.sysmem_alloc.specs.Entry.{decision_in};
+ghost use Rattle.sysmem_tree.specs.declared.fate.Fate.TheVariants as fates;
 
 use crate::entry::Entry;
 use std::sync::Arc;
 use sysmem_proof::Verdict;
-use sysmem_tree::DomainId;
+use sysmem_tree::{DomainId, Fate};
+
+/// Whether what became of a domain is that it failed.
+pub(crate) fn has_failed(fate: Fate) -> bool
+    ensures failed { result ≡ true → fate ≡ fates.Failed }
+    ensures other { result ≡ false → fate ≢ fates.Failed }
+{
+    matches!(fate, Fate::Failed)
+}
 
 /// The choices of a verdict that chose.
 pub(crate) fn choices_of(verdict: &Option<Arc<Verdict>>) -> Option<&[u8]>
