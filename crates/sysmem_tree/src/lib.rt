@@ -21,6 +21,7 @@ pub mod layout_laws;
 mod members;
 mod next_group;
 mod node;
+mod numbered;
 mod open_groups;
 mod path;
 mod paths;

@@ -1,0 +1,14 @@
+pub mod Accepting
+pub mod Lists
+pub mod Trees
+pub mod Advance
+pub mod Relabelled
+pub mod Stepping
+pub mod Setting
+pub mod Choosing
+pub mod Counting
+pub mod Marking
+pub mod Marked
+pub mod Entering
+pub mod Fates
+pub mod Confluent

@@ -1,0 +1,203 @@
+-- What an action and a decision leave of the nodes and domains of a tree.
+use Rattle.std.proofs.Common.{◌≡◌, ◌≢◌, ◌≤◌, ◌<◌, ℕ, zero, suc, ◌+◌, ◌==◌, Bool, true, false, not, ◌&&◌, ◌||◌, List, [], ◌∷◌, ◌++◌, length, Option, Some, None, slice_get, slice_set, refl, sym, ◌∙◌, ap, subst, arith, rules, tests, append-nil}
+use Rattle.std.specs.Prelude.{IsSomeAnd, map, if◌then◌else◌}
+use Rattle.std.proofs.lemmas.Bool.{ne_eqb}
+use Rattle.std.proofs.lemmas.List.{length-set, map-append}
+use Rattle.std.proofs.lemmas.Option.{same_Some}
+use Rattle.sysmem_tree.specs.declared.action.ActionKind.{ActionKind}
+use Rattle.sysmem_tree.specs.declared.action.ActionKind.TheVariants.{Duplicate, CreateGroup, Bind, CreateChild, AllChildrenPresent, SetConstraints, AttachToken, Release, Close}
+use Rattle.sysmem_tree.specs.declared.domain.Decision.{Decision}
+use Rattle.sysmem_tree.specs.declared.domain.Decision.TheVariants.{Undecided, Chosen, NoneChosen}
+use Rattle.sysmem_tree.specs.declared.domain.Domain.{Domain}
+use Rattle.sysmem_tree.specs.declared.state.NodeKind.TheVariants.{Token}
+use Rattle.sysmem_tree.specs.ActionKind.{Deed, kind_of, duplicates, creates_group, binds, creates_child, has_all_children, sets, attaches_token, releases, closes}
+use Rattle.sysmem_tree.specs.Domain.{TreeFacts, HasDomain, IsSoundTree, decision_of, has_failed, host_node, is_complete, is_host_selected, is_ready, roots_from}
+use Rattle.sysmem_tree.specs.Node.{NodeFacts, fresh, is_awaited}
+use Rattle.sysmem_tree.specs.Shape.{members_of}
+use Rattle.sysmem_tree.specs.Table.{makes, makes_root}
+use Rattle.sysmem_tree.specs.Tree.{new_domain, node_after, new_node, nodes_made, nodes_after, closed_early, domains_after, tree_after, decided_domain, left_out_but, decided}
+use Rattle.sysmem_alloc.specs.Sound.{AllOf, AreApart, roots_of}
+use Rattle.sysmem_alloc.proofs.Lists.{all_weaken}
+
+-- node k is of domain d
+abbrev pub IsAt : List NodeFacts → ℕ → ℕ → Type 0
+IsAt nodes k d = IsSomeAnd (slice_get nodes k) (λ n. n.domain ≡ d)
+
+at_set : (xs : List NodeFacts) (i k d : ℕ) (n m : NodeFacts) → slice_get xs i ≡ Some n → m.domain ≡ n.domain → IsAt xs k d → IsAt (slice_set xs i m) k d
+at_set [] i k d n m here same h = h
+at_set (x ∷ xs) zero zero d n m here same h = same ∙ (sym (ap (λ (z : NodeFacts). z.domain) (same_Some x n here)) ∙ h)
+at_set (x ∷ xs) zero (suc k) d n m here same h = h
+at_set (x ∷ xs) (suc i) zero d n m here same h = h
+at_set (x ∷ xs) (suc i) (suc k) d n m here same h = at_set xs i k d n m here same h
+
+at_append : (xs ys : List NodeFacts) (k d : ℕ) → IsAt xs k d → IsAt (xs ++ ys) k d
+at_append [] ys k d h = absurd h
+at_append (x ∷ xs) ys zero d h = h
+at_append (x ∷ xs) ys (suc k) d h = at_append xs ys k d h
+
+at_left : (ms : List ℕ) (r i : ℕ) (xs : List NodeFacts) (k d : ℕ) → IsAt xs k d → IsAt (left_out_but ms r i xs) k d
+at_left ms r i [] k d h = h
+at_left ms r i (x ∷ xs) zero d h = h
+at_left ms r i (x ∷ xs) (suc k) d h = at_left ms r (i + 1) xs k d h
+
+-- a domain's root stays one
+pub acted_there : (t : TreeFacts) (i : ℕ) (n : NodeFacts) (deed : Deed) (r : ℕ) → slice_get t.nodes i ≡ Some n → HasDomain t.nodes r → HasDomain (tree_after t i n deed).nodes r
+acted_there t i n deed r here h =
+    at_append (slice_set t.nodes i (node_after deed n)) (nodes_made (length t.nodes) i n (kind_of deed) (makes (kind_of deed))) r r (at_set t.nodes i r r n (node_after deed n) here refl h)
+
+pub decided_there : (t : TreeFacts) (d : ℕ) (choices : Option (List ℕ)) (r : ℕ) → HasDomain t.nodes r → HasDomain (decided t d choices).nodes r
+decided_there t d None r h = h
+decided_there t d (Some cs) r h = at_left (members_of t.nodes d cs) d 0 t.nodes r r h
+
+-- decisions
+pushed : (ds : List Domain) (k r : ℕ) → decision_of (ds ++ new_domain k ∷ []) r ≡ decision_of ds r
+pushed [] k r = at (k == r) where
+  at : (b : Bool) → (if b then Undecided else Undecided) ≡ Undecided
+  at true = refl
+  at false = refl
+pushed (d ∷ ds) k r = ap (λ x. if d.root == r then d.decision else x) (pushed ds k r)
+
+closed : (e : ℕ) (ds : List Domain) (r : ℕ) → decision_of (map (closed_early e) ds) r ≡ decision_of ds r
+closed e [] r = refl
+closed e (d ∷ ds) r = ap (λ x. if d.root == r then d.decision else x) (closed e ds r)
+
+-- an action changes none
+pub acted_decision : (t : TreeFacts) (n : NodeFacts) (kind : ActionKind) (r : ℕ) → decision_of (domains_after t n kind) r ≡ decision_of t.domains r
+acted_decision t n AttachToken r = pushed t.domains (length t.nodes) r
+acted_decision t n Close r = at (is_ready t n.domain) where
+  at : (b : Bool) → decision_of (if b then t.domains else map (closed_early n.domain) t.domains) r ≡ decision_of t.domains r
+  at true = refl
+  at false = closed n.domain t.domains r
+acted_decision t n Duplicate r = refl
+acted_decision t n CreateGroup r = refl
+acted_decision t n Bind r = refl
+acted_decision t n CreateChild r = refl
+acted_decision t n AllChildrenPresent r = refl
+acted_decision t n SetConstraints r = refl
+acted_decision t n Release r = refl
+
+others : (d : ℕ) (x : Decision) (ds : List Domain) (r : ℕ) → r ≢ d → decision_of (map (decided_domain d x) ds) r ≡ decision_of ds r
+others d x [] r other = refl
+others d x (e ∷ ds) r other = at (others d x ds r other) (e.root == d) refl where
+  at : decision_of (map (decided_domain d x) ds) r ≡ decision_of ds r → (b : Bool) → (e.root == d) ≡ b
+      → (if (if b then record e { decision = x } else e).root == r then (if b then record e { decision = x } else e).decision else decision_of (map (decided_domain d x) ds) r)
+      ≡ (if e.root == r then e.decision else decision_of ds r)
+  at rest false is = ap (λ y. if e.root == r then e.decision else y) rest
+  at rest true is =
+      let own : e.root ≡ d = search (rules, tests, is) in
+      let apart : (e.root == r) ≡ false = ne_eqb e.root r (λ same. other (sym same ∙ own)) in
+      ap (λ b. if b then x else decision_of (map (decided_domain d x) ds) r) apart ∙ (rest ∙ sym (ap (λ b. if b then e.decision else decision_of ds r) apart))
+
+-- a decision changes its own alone
+pub decided_decision : (t : TreeFacts) (d : ℕ) (choices : Option (List ℕ)) (r : ℕ) → r ≢ d → decision_of (decided t d choices).domains r ≡ decision_of t.domains r
+decided_decision t d None r other = others d NoneChosen t.domains r other
+decided_decision t d (Some cs) r other = others d Chosen t.domains r other
+
+-- the root that an action adds
+abbrev pub added : ActionKind → ℕ → List ℕ
+added AttachToken k = k ∷ []
+added _ k = []
+
+abbrev root_of : Domain → ℕ
+root_of d = d.root
+
+closed_roots : (e : ℕ) (ds : List Domain) → map root_of (map (closed_early e) ds) ≡ map root_of ds
+closed_roots e [] = refl
+closed_roots e (d ∷ ds) = ap (λ ys. d.root ∷ ys) (closed_roots e ds)
+
+if_roots : (b : Bool) (e : ℕ) (ds : List Domain) → map root_of (if b then ds else map (closed_early e) ds) ≡ map root_of ds ++ []
+if_roots true e ds = sym (append-nil (map root_of ds))
+if_roots false e ds = closed_roots e ds ∙ sym (append-nil (map root_of ds))
+
+pub acted_roots : (t : TreeFacts) (n : NodeFacts) (kind : ActionKind) → map root_of (domains_after t n kind) ≡ roots_of t ++ added kind (length t.nodes)
+acted_roots t n AttachToken = map-append root_of t.domains (new_domain (length t.nodes) ∷ [])
+acted_roots t n Close = if_roots (is_ready t n.domain) n.domain t.domains
+acted_roots t n Duplicate = sym (append-nil (roots_of t))
+acted_roots t n CreateGroup = sym (append-nil (roots_of t))
+acted_roots t n Bind = sym (append-nil (roots_of t))
+acted_roots t n CreateChild = sym (append-nil (roots_of t))
+acted_roots t n AllChildrenPresent = sym (append-nil (roots_of t))
+acted_roots t n SetConstraints = sym (append-nil (roots_of t))
+acted_roots t n Release = sym (append-nil (roots_of t))
+
+root_kept : (r : ℕ) (x : Decision) (d : Domain) (b : Bool) → (d.root == r) ≡ b → (decided_domain r x d).root ≡ d.root
+root_kept r x d true e = rw e refl
+root_kept r x d false e = rw e refl
+
+kept_roots : (r : ℕ) (x : Decision) (ds : List Domain) → map root_of (map (decided_domain r x) ds) ≡ map root_of ds
+kept_roots r x [] = refl
+kept_roots r x (d ∷ ds) = ap (λ k. k ∷ map root_of (map (decided_domain r x) ds)) (root_kept r x d _ refl) ∙ ap (λ ys. d.root ∷ ys) (kept_roots r x ds)
+
+pub decided_roots : (t : TreeFacts) (d : ℕ) (choices : Option (List ℕ)) → roots_of (decided t d choices) ≡ roots_of t
+decided_roots t d None = kept_roots d NoneChosen t.domains
+decided_roots t d (Some cs) = kept_roots d Chosen t.domains
+
+-- a domain whose newest node is awaited isn't complete
+awaited_last : (xs : List NodeFacts) (n : NodeFacts) (r : ℕ) → n.domain ≡ r → is_awaited n.state ≡ true → is_complete (xs ++ n ∷ []) r ≡ false
+awaited_last [] n r own waits = search (rules, tests, own, waits)
+awaited_last (x ∷ xs) n r own waits = at (not ((x.domain == r) && is_awaited x.state)) (awaited_last xs n r own waits) where
+  at : (b : Bool) → is_complete (xs ++ n ∷ []) r ≡ false → (b && is_complete (xs ++ n ∷ []) r) ≡ false
+  at true ih = ih
+  at false ih = refl
+
+unready : (t : TreeFacts) (r : ℕ) → is_complete t.nodes r ≡ false → is_ready t r ≡ false
+unready t r e = ap (λ b. b && (not (has_failed t r) && is_host_selected t.domains (host_node t.nodes r))) e
+
+-- the root that an action adds isn't ready
+pub added_unready : (t : TreeFacts) (i : ℕ) (n : NodeFacts) (deed : Deed) → AllOf (λ r. is_ready (tree_after t i n deed) r ≡ false) (added (kind_of deed) (length t.nodes))
+added_unready t i n attaches_token =
+    (unready (tree_after t i n attaches_token) (length t.nodes) (awaited_last (slice_set t.nodes i (node_after attaches_token n)) (new_node (length t.nodes) i n AttachToken (fresh Token)) (length t.nodes) refl refl), tt)
+added_unready t i n duplicates = tt
+added_unready t i n creates_group = tt
+added_unready t i n binds = tt
+added_unready t i n creates_child = tt
+added_unready t i n has_all_children = tt
+added_unready t i n (sets asked) = tt
+added_unready t i n releases = tt
+added_unready t i n closes = tt
+
+-- the domains are roots of the tree's, each once
+roots_there : (all : List NodeFacts) (i : ℕ) (nodes : List NodeFacts) → ((m : ℕ) (n : NodeFacts) → slice_get nodes m ≡ Some n → slice_get all (i + m) ≡ Some n) → AllOf (HasDomain all) (roots_from i nodes)
+roots_there all i [] front = tt
+roots_there all i (n ∷ nodes) front =
+    at (roots_there all (i + 1) nodes (λ m x here. let shift : i + suc m ≡ (i + 1) + m = omega arith in subst (λ k. slice_get all k ≡ Some x) shift (front (suc m) x here))) (n.domain == i) refl where
+  zeroed : i + 0 ≡ i
+  zeroed = omega arith
+
+  at : AllOf (HasDomain all) (roots_from (i + 1) nodes) → (b : Bool) → (n.domain == i) ≡ b → AllOf (HasDomain all) (if b then i ∷ roots_from (i + 1) nodes else roots_from (i + 1) nodes)
+  at on false is = on
+  at on true is =
+      let own : n.domain ≡ i = search (rules, tests, is) in
+      let here : slice_get all i ≡ Some n = subst (λ k. slice_get all k ≡ Some n) zeroed (front 0 n refl) in
+      (subst (λ o. IsSomeAnd o (λ (x : NodeFacts). x.domain ≡ i)) (sym here) own, on)
+
+late : (i : ℕ) (nodes : List NodeFacts) → AllOf (λ r. i ≤ r) (roots_from i nodes)
+late i [] = tt
+late i (n ∷ nodes) = at (n.domain == i) (all_weaken (λ r. i + 1 ≤ r) (λ r. i ≤ r) (roots_from (i + 1) nodes) (λ r less. omega (arith, less)) (late (i + 1) nodes)) where
+  at : (b : Bool) → AllOf (λ r. i ≤ r) (roots_from (i + 1) nodes) → AllOf (λ r. i ≤ r) (if b then i ∷ roots_from (i + 1) nodes else roots_from (i + 1) nodes)
+  at true rest = (omega arith, rest)
+  at false rest = rest
+
+apart_from : (i : ℕ) (nodes : List NodeFacts) → AreApart (roots_from i nodes)
+apart_from i [] = tt
+apart_from i (n ∷ nodes) = at (n.domain == i) (apart_from (i + 1) nodes) where
+  at : (b : Bool) → AreApart (roots_from (i + 1) nodes) → AreApart (if b then i ∷ roots_from (i + 1) nodes else roots_from (i + 1) nodes)
+  at true rest = (all_weaken (λ r. i + 1 ≤ r) (λ r. i ≢ r) (roots_from (i + 1) nodes) (λ r less same. omega (arith, less, same)) (late (i + 1) nodes), rest)
+  at false rest = rest
+
+pub domains_there : (t : TreeFacts) → IsSoundTree t → AllOf (HasDomain t.nodes) (roots_of t)
+domains_there t sound = subst (AllOf (HasDomain t.nodes)) (sym sound.domains) (roots_there t.nodes 0 t.nodes (λ m n here. let z : m ≡ 0 + m = omega arith in subst (λ k. slice_get t.nodes k ≡ Some n) z here))
+
+pub domains_apart : (t : TreeFacts) → IsSoundTree t → AreApart (roots_of t)
+domains_apart t sound = subst AreApart (sym sound.domains) (apart_from 0 t.nodes)
+
+few_from : (i : ℕ) (nodes : List NodeFacts) → length (roots_from i nodes) ≤ length nodes
+few_from i [] = omega arith
+few_from i (n ∷ nodes) = at (n.domain == i) (few_from (i + 1) nodes) where
+  at : (b : Bool) → length (roots_from (i + 1) nodes) ≤ length nodes → length (if b then i ∷ roots_from (i + 1) nodes else roots_from (i + 1) nodes) ≤ suc (length nodes)
+  at true few = omega (arith, few)
+  at false few = omega (arith, few)
+
+-- at most 128
+pub few_domains : (t : TreeFacts) → IsSoundTree t → length (roots_of t) ≤ 128
+few_domains t sound = omega (arith, ap length sound.domains, few_from 0 t.nodes, sound.tree.few)

@@ -1,0 +1,31 @@
+-- See Fates.antt.
+use Rattle.std.proofs.Common.{◌≡◌, Some, None, refl, sym, ◌∙◌, ap, subst}
+use Rattle.sysmem_alloc.specs.Book.{kept_book}
+use Rattle.sysmem_alloc.specs.State.{verdict_of}
+use Rattle.sysmem_tree.specs.Domain.{fate_of}
+use Rattle.sysmem_alloc.proofs.Fates.{failed_verdict, entered_verdict}
+use Rattle.sysmem_alloc.proofs.book.Book.verdict_of.Goals as goal
+
+pub returns-then-has_failed : goal.returns-then-has_failed
+returns-then-has_failed c =
+    let state = (kept_book c.self.inside.platform c.self.inside.tree c.self.inside.history.items c.self.inside.waiting.items c.self.inside.were_open).state in
+    ap Some c.self.invariant.3
+    ∙ (sym (failed_verdict state c.args.domain (sym c.fate.ensures ∙ c.has_failed.ensures.failed c.if-has_failed.true)) ∙ ap (λ b. verdict_of b.state c.args.domain) c.self.view_is)
+
+pub returns-in_err-verdict : goal.returns-in_err-verdict
+returns-in_err-verdict c =
+    let state = (kept_book c.self.inside.platform c.self.inside.tree c.self.inside.history.items c.self.inside.waiting.items c.self.inside.were_open).state in
+    rw c.from_residual.ensures
+    (entered_verdict state c.args.domain None (rw c.deref.ensures.value at c.in_err-verdict.ensures) (λ e. c.has_failed.ensures.other c.if-has_failed.false (c.fate.ensures ∙ e)) ∙ ap (λ b. verdict_of b.state c.args.domain) c.self.view_is)
+
+pub returns-in-Some : goal.returns-in-Some
+returns-in-Some c =
+    let state = (kept_book c.self.inside.platform c.self.inside.tree c.self.inside.history.items c.self.inside.waiting.items c.self.inside.were_open).state in
+    ap Some c.deref-in-Some.ensures
+    ∙ (entered_verdict state c.args.domain _ (rw c.in-Some.is at (rw c.deref.ensures.value at c.in_ok-verdict.ensures)) (λ e. c.has_failed.ensures.other c.if-has_failed.false (c.fate.ensures ∙ e)) ∙ ap (λ b. verdict_of b.state c.args.domain) c.self.view_is)
+
+pub returns-in-None : goal.returns-in-None
+returns-in-None c =
+    let state = (kept_book c.self.inside.platform c.self.inside.tree c.self.inside.history.items c.self.inside.waiting.items c.self.inside.were_open).state in
+    ap Some c.self.invariant.4
+    ∙ (entered_verdict state c.args.domain (Some None) (rw c.in-None.is at (rw c.deref.ensures.value at c.in_ok-verdict.ensures)) (λ e. c.has_failed.ensures.other c.if-has_failed.false (c.fate.ensures ∙ e)) ∙ ap (λ b. verdict_of b.state c.args.domain) c.self.view_is)

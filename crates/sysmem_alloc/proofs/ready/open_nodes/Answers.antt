@@ -1,0 +1,12 @@
+-- One mark after the other.
+use Rattle.std.proofs.Common.{◌≡◌, refl, arith}
+use Rattle.sysmem_alloc.specs.State.{is_open}
+use Rattle.sysmem_alloc.proofs.Marked.{set_none, none_of, set_more, set_all, open_past}
+use Rattle.sysmem_alloc.proofs.ready.open_nodes.Goals as goal
+
+pub loop-number-init : goal.loop-number-init
+loop-number-init c = set_none (is_open c.args.tree.now.nodes) _ refl none_of
+
+pub returns : goal.returns
+returns c = set_all (is_open c.args.tree.now.nodes) c.loop-number.marks c.loop-number.number
+    (λ k more. open_past c.args.tree.now.nodes c.loop-number.number k (omega (arith, c.loop-number-test.false, c.nodes-number-end.ensures.number)) more) c.loop-number.invariant

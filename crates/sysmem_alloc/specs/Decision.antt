@@ -1,0 +1,29 @@
+-- Decisions as a book enters them, and what they gave.
+use Rattle.std.specs.Prelude.{◌==◌, ℕ, List, [], ◌∷◌, Option, Some, None, option_and_then, if◌then◌else◌}
+use Rattle.sysmem_merge.specs.declared.settings.Settings.{Settings}
+use Rattle.sysmem_proof.specs.declared.verdict.Verdict.{Verdict}
+use Rattle.sysmem_proof.specs.declared.verdict.Verdict.TheVariants as verdicts
+
+-- the decision of the domain that this node roots: its verdict, or none where memory was wanted
+pub record Decision : Type 0 where
+  pub domain : ℕ
+  pub verdict : Option Verdict
+
+-- the choices of a verdict that chose
+abbrev pub choices_of : Option Verdict → Option (List ℕ)
+choices_of (Some (verdicts.Chosen chosen)) = Some chosen.selection
+choices_of _ = None
+
+-- its settings
+abbrev pub settings_of : Option Verdict → Option Settings
+settings_of (Some (verdicts.Chosen chosen)) = Some chosen.settings
+settings_of _ = None
+
+-- the decision of a domain
+abbrev pub decision_for : List Decision → ℕ → Option Decision
+decision_for [] r = None
+decision_for (d ∷ ds) r = if d.domain == r then Some d else decision_for ds r
+
+-- the settings that were chosen for a domain
+abbrev pub settings_for : List Decision → ℕ → Option Settings
+settings_for ds r = option_and_then (λ d. settings_of d.verdict) (decision_for ds r)

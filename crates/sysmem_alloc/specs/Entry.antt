@@ -1,0 +1,50 @@
+-- What a book enters.
+use Rattle.std.specs.Prelude.{ℕ, Option, Some, None, option_and_then, option_map, slice_get, List}
+use Rattle.std.specs.Arc.{arc_value}
+use Rattle.sysmem_alloc.specs.declared.entry.Entry.{Entry}
+use Rattle.sysmem_alloc.specs.declared.entry.Entry.TheVariants as entries
+use Rattle.sysmem_alloc.specs.Decision.{Decision, choices_of}
+use Rattle.sysmem_proof.specs.declared.verdict.Verdict.{Verdict}
+use Rattle.sysmem_sanitise.specs.Participant.{Participant}
+use Rattle.sysmem_tree.specs.declared.action.ActionKind.{ActionKind}
+use Rattle.sysmem_tree.specs.declared.action.ActionKind.TheVariants as kinds
+use Rattle.sysmem_tree.specs.ActionKind.{Deed, duplicates, creates_group, binds, creates_child, has_all_children, sets, attaches_token, releases, closes}
+use Rattle.sysmem_tree.specs.History.{HistoryEntry}
+use Rattle.sysmem_tree.specs.History as trees
+use Rattle.sysmem_tree.specs.Node.{NodeFacts}
+
+-- an accepted action on a node, or the decision of a domain
+pub data BookEntry : Type 0 where
+  Acted : ℕ → Deed → BookEntry
+  Decided : Decision → BookEntry
+
+-- what is in it for the tree
+abbrev pub tree_entry : BookEntry → HistoryEntry
+tree_entry (Acted i deed) = trees.Acted i deed
+tree_entry (Decided d) = trees.Decided d.domain (choices_of d.verdict)
+
+-- an action of this kind, where the node has these constraints afterwards
+abbrev pub deed_with : Option Participant → ActionKind → Deed
+deed_with set kinds.Duplicate = duplicates
+deed_with set kinds.CreateGroup = creates_group
+deed_with set kinds.Bind = binds
+deed_with set kinds.CreateChild = creates_child
+deed_with set kinds.AllChildrenPresent = has_all_children
+deed_with set kinds.SetConstraints = sets set
+deed_with set kinds.AttachToken = attaches_token
+deed_with set kinds.Release = releases
+deed_with set kinds.Close = closes
+
+-- the constraints of a node; none where it set none
+abbrev pub constraints_at : List NodeFacts → ℕ → Option Participant
+constraints_at nodes i = option_and_then (λ n. n.constraints) (slice_get nodes i)
+
+-- an entry as it is kept, without the constraints that it set: the tree has them at its node
+abbrev pub entry_in : List NodeFacts → Entry → BookEntry
+entry_in nodes (entries.Acted i kind) = Acted i (deed_with (constraints_at nodes i) kind)
+entry_in nodes (entries.Decided r verdict) = Decided (record { domain = r; verdict = option_map (λ shared. arc_value shared) verdict })
+
+-- the decision that it is, if it is one
+abbrev pub decision_in : Entry → Option Decision
+decision_in (entries.Acted i kind) = None
+decision_in (entries.Decided r verdict) = Some (record { domain = r; verdict = option_map (λ shared. arc_value shared) verdict })

@@ -1,0 +1,61 @@
+-- Histories of a book: the states that they lead to, and which are legal.
+use Rattle.std.specs.Prelude.{◌≡◌, ℕ, List, [], ◌∷◌, Option, Some, None, Result, Ok, Err, IsOk, IfSome, map}
+use Rattle.sysmem_proof.specs.Verdict.{IsOptimalIn}
+use Rattle.sysmem_sanitise.specs.Platform.{PlatformFacts}
+use Rattle.sysmem_tree.specs.declared.refusal.Refusal.{Refusal}
+use Rattle.sysmem_tree.specs.Domain.{newly_failed}
+use Rattle.sysmem_tree.specs.History as trees
+use Rattle.sysmem_tree.specs.Tree.{Applied, applied, decided}
+use Rattle.sysmem_alloc.specs.Decision.{Decision, choices_of}
+use Rattle.sysmem_alloc.specs.Entry.{BookEntry, Acted, Decided, tree_entry}
+use Rattle.sysmem_alloc.specs.State.{State, first_state, next_ready, after_action, after_decision, base_of}
+
+-- after the tree's answer to an action; a refusal leaves the state
+abbrev pub after_answer : State → Result Applied Refusal → State
+after_answer s (Ok made) = after_action s made.tree
+after_answer s (Err refusal) = s
+
+-- the state after an entry
+abbrev pub after_entry : State → BookEntry → State
+after_entry s (Acted i deed) = after_answer s (applied s.tree i deed)
+after_entry s (Decided d) = after_decision s d (decided s.tree d.domain (choices_of d.verdict))
+
+-- after entries, the oldest first
+abbrev pub replay_from : State → List BookEntry → State
+replay_from s [] = s
+replay_from s (e ∷ es) = replay_from (after_entry s e) es
+
+-- the state that a history makes of a root token
+abbrev pub replay : List BookEntry → State
+replay es = replay_from first_state es
+
+-- an action may be entered that the tree accepts; a decision, where it is of the first domain that waits, with a verdict that is optimal for
+-- it on what it is decided on, or with none, for want of memory
+abbrev pub Allows : PlatformFacts → State → BookEntry → Type 0
+Allows platform s (Acted i deed) = IsOk (applied s.tree i deed)
+Allows platform s (Decided d) = (next_ready s ≡ Some d.domain) × IfSome d.verdict (IsOptimalIn platform s.tree.nodes d.domain (base_of s d.domain))
+
+-- each step enters what the state before it allows
+pub record IsStep (platform : PlatformFacts) (old : State) (e : BookEntry) (new : State) : Type 0 where
+  pub allowed : Allows platform old e
+  pub leads : new ≡ after_entry old e
+
+-- each entry is allowed by the state before it
+abbrev pub AreAllowed : PlatformFacts → State → List BookEntry → Type 0
+AreAllowed platform s [] = Unit {0}
+AreAllowed platform s (e ∷ es) = Allows platform s e × AreAllowed platform (after_entry s e) es
+
+abbrev pub IsLegal : PlatformFacts → List BookEntry → Type 0
+IsLegal platform es = AreAllowed platform first_state es
+
+-- histories with the same actions at each path, constraints included
+abbrev pub SameCalls : List BookEntry → List BookEntry → Type 0
+SameCalls es fs = trees.SameCalls (map tree_entry es) (map tree_entry fs)
+
+-- no node is closed before the initial domain's decision
+abbrev pub NoEarlyClose : List BookEntry → Type 0
+NoEarlyClose es = trees.NoEarlyClose (map tree_entry es)
+
+-- the domains that an entry makes fail, in order of creation of their roots
+abbrev pub failed_by : State → BookEntry → List ℕ
+failed_by s e = newly_failed s.tree (after_entry s e).tree

@@ -1,0 +1,41 @@
+-- What is true of legal histories.
+use Rattle.std.specs.Prelude.{◌≡◌, ◌≤◌, ℕ, List, [], ◌∷◌, ◌++◌, length, Some, map}
+use Rattle.sysmem_proof.specs.declared.verdict.Verdict.{Verdict}
+use Rattle.sysmem_proof.specs.Base.{BaseFacts, terms_of}
+use Rattle.sysmem_proof.specs.Verdict.{IsSameAnswer}
+use Rattle.sysmem_sanitise.specs.Platform.{PlatformFacts}
+use Rattle.sysmem_tree.specs.Laws.{SameInitial, SameReady, IsSameDomain}
+use Rattle.sysmem_tree.specs.Path.{at_path}
+use Rattle.sysmem_tree.specs.Step.{IsInitial}
+use Rattle.sysmem_tree.specs.ActionKind.{Deed}
+use Rattle.sysmem_tree.specs.History.{log_at}
+use Rattle.sysmem_alloc.specs.Decision.{Decision, decision_for}
+use Rattle.sysmem_alloc.specs.Entry.{BookEntry, Acted, tree_entry}
+use Rattle.sysmem_alloc.specs.History.{Allows, after_entry, IsLegal, NoEarlyClose, SameCalls, replay}
+use Rattle.sysmem_alloc.specs.Sound.{IsSoundState}
+use Rattle.sysmem_alloc.specs.State.{State, next_ready, base_of}
+
+-- the state of each legal history is sound
+abbrev pub LegalIsSound : Type 0
+LegalIsSound = (platform : PlatformFacts) (es : List BookEntry) → IsLegal platform es → IsSoundState (replay es)
+
+-- a history has at most 639 entries: 127 nodes are made, each of the 128 has at most three further actions, and as many domains are decided
+abbrev pub FewEntries : Type 0
+FewEntries = (platform : PlatformFacts) (es : List BookEntry) → IsLegal platform es → length es ≤ 639
+
+-- the initial domain's shape, and whether its nodes are complete, are one function of the actions at its own paths
+abbrev pub InitialShape : Type 0
+InitialShape = (platform : PlatformFacts) (es fs : List BookEntry) → IsLegal platform es → IsLegal platform fs
+    → ((q : List ℕ) → IsInitial (at_path (replay es).tree.nodes) q → log_at (map tree_entry es) q ≡ log_at (map tree_entry fs) q)
+    → SameInitial (replay es).tree (replay fs).tree
+
+-- two histories end with the initial domain ready in both or in neither, and of one shape; where both decided it with a verdict, the answer is
+-- the same
+pub record AreConfluent (es fs : List BookEntry) : Type 0 where
+  pub ready : SameReady (replay es).tree (replay fs).tree
+  pub answer : (d e : Decision) (v w : Verdict) → decision_for (replay es).decisions 0 ≡ Some d → decision_for (replay fs).decisions 0 ≡ Some e
+      → d.verdict ≡ Some v → e.verdict ≡ Some w → IsSameAnswer v w
+
+abbrev pub Confluence : Type 0
+Confluence = (platform : PlatformFacts) (es fs : List BookEntry) → IsLegal platform es → IsLegal platform fs → SameCalls es fs → NoEarlyClose es → NoEarlyClose fs
+    → AreConfluent es fs

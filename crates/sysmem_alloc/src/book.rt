@@ -1,0 +1,173 @@
+//! The book of a collection.
+
+ghost use Rattle.std.specs.Prelude.{◌≡◌, Some, Ok, Err, map, option_map, is_some, IfOk, IfErr, IfSome, OnErr, OnOk};
+ghost use Rattle.std.specs.Arc.{arc_value};
+ghost use Rattle.sysmem_alloc.specs.Book.{entered, new_book};
+ghost use Rattle.sysmem_alloc.specs.Entry.{Acted, Decided, entry_in};
+ghost use Rattle.sysmem_alloc.specs.State.{base_of, next_ready, verdict_of};
+ghost use Rattle.sysmem_proof.specs.Verdict.{IsOptimalIn};
+ghost use Rattle.sysmem_tree.specs.ActionKind.{deed_of};
+ghost use Rattle.sysmem_tree.specs.Domain.{HasDomain};
+ghost use Rattle.sysmem_tree.specs.Tree.{applied};
+
+use crate::entry::{Entry, enter_action};
+use crate::laws::{few_entries, legal_is_sound};
+use crate::ready::{add_ready, open_nodes, open_or_kept, ready_domains};
+use crate::verdicts::{choices_of, entered_for, has_failed};
+use std::alloc::{AllocError, Global};
+use std::marker::Model;
+use std::sync::Arc;
+use sysmem_proof::Verdict;
+use sysmem_sanitise::Platform;
+use sysmem_tree::laws::{forest_stays, one_forest};
+use sysmem_tree::{DomainId, Event, MOST_NODES, NodeId, Refusal, Tree};
+
+/// The number of entries for which a book has room; no history has more than 639.
+const ROOM: usize = 1024;
+
+/// A collection's tree, its history, and the domains that wait for a decision.
+#[derive(Debug, Drop)]
+pub struct Book {
+    platform: Platform,
+    tree: Tree,
+    history: Vec<Entry>,
+    /// The domains that wait for a decision, in the order in which they became ready.
+    waiting: Vec<DomainId>,
+    /// The nodes that were open when the accepted participants were taken, marked by their numbers.
+    were_open: [bool; 128],
+    /// What `verdict_of` lends for a domain that failed.
+    failed: Verdict,
+    /// What it lends for one whose decision wanted memory.
+    no_memory: Verdict,
+}
+
+impl Model for Book {
+    ghost use Rattle.std.specs.Prelude.{◌≡◌, ◌≤◌};
+    ghost use Rattle.std.specs.Vec.{vec_capacity};
+    ghost use Rattle.sysmem_alloc.specs.Book.{BookFacts, IsBook, kept_book};
+    ghost use Rattle.sysmem_proof.specs.declared.verdict.Verdict.TheVariants as verdicts;
+
+    ghost Value = { BookFacts };
+
+    ghost view = { λ b. kept_book b.platform b.tree b.history.items b.waiting.items b.were_open };
+
+    ghost invariant = { λ b. IsBook (kept_book b.platform b.tree b.history.items b.waiting.items b.were_open)
+        × (1024 ≤ vec_capacity b.history) × (128 ≤ vec_capacity b.waiting)
+        × (b.failed ≡ verdicts.Failed) × (b.no_memory ≡ verdicts.NoMemory) };
+}
+
+/// An accepted action.
+#[derive(Clone, Copy, Debug, PartialEq, Eq)]
+pub struct Done {
+    /// The node that was made, or else the node acted on.
+    pub node: NodeId,
+    /// Whether a domain waits for a decision now.
+    pub ready: bool,
+}
+
+impl Book {
+    /// The book of a root token, with an empty history, that decides for this platform. It reserves all the memory that its other
+    /// calls need. `AllocError` where memory is refused.
+    pub fn new(alloc: Global, platform: Platform) -> Result<Book, AllocError>
+        ensures { IfOk result (λ book. book ≡ new_book platform) }
+    {
+        let tree = Tree::new(alloc)?;
+        let history = Vec::with_capacity(alloc, ROOM)?;
+        let waiting = Vec::with_capacity(alloc, MOST_NODES)?;
+        Ok(Book {
+            platform,
+            tree,
+            history,
+            waiting,
+            were_open: [false; 128],
+            failed: Verdict::Failed,
+            no_memory: Verdict::NoMemory,
+        })
+    }
+
+    /// The tree.
+    pub fn tree(&self) -> &Tree
+        ensures { result.now ≡ self.now.state.tree }
+    {
+        &self.tree
+    }
+
+    /// All that was entered, the oldest first.
+    pub fn history(&self) -> &[Entry]
+        ensures { map (entry_in self.now.state.tree.nodes) result.now ≡ self.now.history }
+    {
+        &self.history
+    }
+
+    /// The domain that is to be decided next: the first of those that are ready and undecided, in the order in which they became
+    /// ready, those of one event in order of creation of their roots.
+    pub fn next_ready(&self) -> Option<DomainId>
+        ensures { result ≡ next_ready self.now.state }
+    {
+        self.waiting.first().copied()
+    }
+
+    /// The verdict of a domain of the tree; `None` where it has none yet.
+    pub fn verdict_of(&self, domain: DomainId) -> Option<&Verdict>
+        requires { HasDomain self.now.state.tree.nodes domain }
+        ensures { option_map (λ verdict. verdict.now) result ≡ verdict_of self.now.state domain }
+    {
+        if has_failed(self.tree.fate(domain)) {
+            return Some(&self.failed);
+        }
+        match entered_for(&self.history, domain)? {
+            Some(verdict) => Some(verdict),
+            None => Some(&self.no_memory),
+        }
+    }
+
+    /// Makes an action on a node, enters it, and answers the node that was made, or else the node itself, and whether a domain waits
+    /// for a decision now; or the tree's first refusal, and then nothing has changed. It takes no memory.
+    pub fn apply(&mut self, event: Event) -> Result<Done, Refusal>
+        ensures accepted { IfOk result (λ done.
+            applied self.old.state.tree event.node (deed_of event.action)
+            ≡ Ok (record { tree = self.new.state.tree; node = done.node })) }
+        ensures entered { OnOk result (self.new
+            ≡ entered self.old (Acted event.node (deed_of event.action))) }
+        ensures ready { IfOk result (λ done. done.ready ≡ is_some (next_ready self.new.state)) }
+        ensures refused { IfErr result (λ refusal.
+            applied self.old.state.tree event.node (deed_of event.action) ≡ Err refusal) }
+        ensures unchanged { OnErr result (self.new ≡ self.old) }
+    {
+        legal_is_sound();
+        few_entries();
+        forest_stays();
+        one_forest();
+        let acted = event.node;
+        let kind = event.action.kind();
+        let were_ready = ready_domains(&self.tree);
+        let node = self.tree.apply(event)?;
+        self.were_open = open_or_kept(&self.tree, &self.waiting, self.were_open);
+        enter_action(&mut self.history, acted, kind);
+        add_ready(&self.tree, &were_ready, &mut self.waiting);
+        let ready = self.next_ready().is_some();
+        Ok(Done { node, ready })
+    }
+
+    /// Enters the decision of the domain that is to be decided next: a verdict that is optimal for it, or `None` where memory was
+    /// refused to it. It takes no memory.
+    pub fn decide(&mut self, domain: DomainId, verdict: Option<Arc<Verdict>>)
+        requires next { next_ready self.old.state ≡ Some domain }
+        requires optimal { IfSome verdict (λ shared.
+            IsOptimalIn self.old.platform self.old.state.tree.nodes domain
+            (base_of self.old.state domain) (arc_value shared)) }
+        ensures { self.new ≡ entered self.old (Decided (record {
+            domain = domain;
+            verdict = option_map (λ shared. arc_value shared) verdict })) }
+    {
+        legal_is_sound();
+        few_entries();
+        one_forest();
+        let were_ready = ready_domains(&self.tree);
+        self.tree.decided(domain, choices_of(&verdict));
+        self.were_open = open_nodes(&self.tree);
+        self.history.push_reserved(Entry::Decided(domain, verdict));
+        self.waiting.remove(0);
+        add_ready(&self.tree, &were_ready, &mut self.waiting);
+    }
+}

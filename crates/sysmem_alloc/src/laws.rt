@@ -1,0 +1,51 @@
+//! What is true of the histories of books, whoever keeps them.
+
+ghost use Rattle.sysmem_alloc.specs.Laws.{LegalIsSound, FewEntries, InitialShape, Confluence};
+
+use sysmem_proof::laws::one_answer;
+use sysmem_tree::laws::{forest_stays, maps_of_logs, one_forest, ready_stays, sound_stays};
+use sysmem_tree::laws;
+
+/// The state of each legal history: its tree is sound, each domain that waits is ready, undecided and there once, and what was decided is
+/// ready.
+pub fn legal_is_sound()
+    ensures { LegalIsSound }
+{
+    sound_stays();
+    ready_stays();
+    one_forest();
+    maps_of_logs();
+}
+
+/// A legal history has at most 639 entries.
+pub fn few_entries()
+    ensures { FewEntries }
+{
+    legal_is_sound();
+}
+
+/// The initial domain's shape, and whether its nodes are complete, depend on nothing but the actions at its own paths.
+pub fn initial_shape()
+    ensures { InitialShape }
+{
+    sound_stays();
+    ready_stays();
+    forest_stays();
+    one_forest();
+    maps_of_logs();
+    laws::initial_shape();
+}
+
+/// Histories with the same actions at each path, in which no node is closed before the initial domain's decision, leave it ready both or
+/// neither, and of one shape; and where both decide it, with memory, they give it one answer.
+pub fn confluence()
+    ensures { Confluence }
+{
+    sound_stays();
+    ready_stays();
+    forest_stays();
+    one_forest();
+    maps_of_logs();
+    laws::confluence();
+    one_answer();
+}

@@ -1,0 +1,50 @@
+//! The verdicts that a history has.
+
+ghost use Rattle.std.specs.Prelude.{◌≡◌, ◌≢◌, true, false, option_map};
+ghost use Rattle.std.specs.Arc.{arc_value};
+ghost use Rattle.std.specs.List.{filter_map};
+ghost use Rattle.sysmem_alloc.specs.Decision.{choices_of, decision_for};
+ghost use Rattle.sysmem_alloc.specs.Entry.{decision_in};
+ghost use Rattle.sysmem_tree.specs.declared.fate.Fate.TheVariants as fates;
+
+use crate::entry::Entry;
+use std::sync::Arc;
+use sysmem_proof::Verdict;
+use sysmem_tree::{DomainId, Fate};
+
+/// Whether what became of a domain is that it failed.
+pub(crate) fn has_failed(fate: Fate) -> bool
+    ensures failed { result ≡ true → fate ≡ fates.Failed }
+    ensures other { result ≡ false → fate ≢ fates.Failed }
+{
+    matches!(fate, Fate::Failed)
+}
+
+/// The choices of a verdict that chose.
+pub(crate) fn choices_of(verdict: &Option<Arc<Verdict>>) -> Option<&[u8]>
+    ensures { option_map (λ choices. choices.now) result
+        ≡ choices_of (option_map (λ shared. arc_value shared) verdict.now) }
+{
+    match verdict {
+        Some(shared) => match &**shared {
+            Verdict::Chosen(chosen) => Some(chosen.selection().choices()),
+            _ => None,
+        },
+        None => None,
+    }
+}
+
+/// The verdict that was entered for a domain, if any was.
+pub(crate) fn entered_for(history: &[Entry], domain: DomainId) -> Option<&Option<Arc<Verdict>>>
+    ensures { option_map (λ verdict. option_map (λ shared. arc_value shared) verdict.now) result
+        ≡ option_map (λ d. d.verdict) (decision_for (filter_map decision_in history.now) domain) }
+{
+    for entry in history {
+        if let Entry::Decided(decided, verdict) = entry {
+            if *decided == domain {
+                return Some(verdict);
+            }
+        }
+    }
+    None
+}

@@ -1,0 +1,21 @@
+//! Nodes by their numbers.
+
+ghost use Rattle.std.specs.Prelude.{◌≡◌, ◌<◌, IfSome, IsSome, length};
+ghost use Rattle.sysmem_tree.specs.Nodes.{HasNode};
+
+use crate::id::NodeId;
+use crate::tree::Tree;
+
+impl Tree {
+    /// The node of this number, in the order in which nodes were made; `None` from `nodes()` on.
+    pub fn node(&self, number: u32) -> Option<NodeId>
+        ensures number { IfSome result (λ node. node ≡ number) }
+        ensures some { number < length self.now.nodes → IsSome result }
+        ensures there { IfSome result (HasNode self.now.nodes) }
+    {
+        if number as usize >= self.nodes.len() {
+            return None;
+        }
+        Some(NodeId(number as usize))
+    }
+}
