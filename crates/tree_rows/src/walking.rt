@@ -17,6 +17,7 @@ pub(crate) fn walk(alloc: Global, tree: &Tree, domain: DomainId, prefix: &Prefix
 {
     let layout = tree.layout(domain);
     let mut text = String::new(alloc);
+    text.push_str("settled")?;
     push_nodes(&mut text, tree, &layout, layout.settled_first())?;
     let mut open = layout.first_open();
     for choice in prefix.choices() {

@@ -29,5 +29,5 @@ decided-requires-2 c =
       undecided = undecided_by_fate c.args.tree.now c.args.domain (sym c.fate.ensures ∙ c.in-Undecided.is);
       selects = subst (λ cs. (e : Forest ℕ) × IsSelection d cs e) (sym c.choices.ensures)
           (is_selection d c.in-Some.prefix (subst (λ o. IfSome o (λ p. IsPrefix d p)) c.in-Some.is c.requires.prefix)
-          (subst (λ o. IfSome (after d c.in-Some.prefix) (λ e. o ≡ first_group e)) (none_of c.next_group.result c.if-is_some.ensures) c.next_group.ensures));
+          (subst (λ o. IfSome (after d c.in-Some.prefix) (λ e. o ≡ first_group e)) (none_of c.next_group.result c.if-is_some.ensures) c.next_group.ensures.group));
     }

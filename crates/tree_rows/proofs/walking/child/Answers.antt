@@ -12,4 +12,4 @@ child_at-requires c =
 pub returns-clause-child : goal.returns-clause-child
 returns-clause-child c = λ d cs h.
     c.child_at.ensures.child d cs h
-      (prefix_push d cs c.args.choice _ _ (subst IsSome (sym h.leaves.leads) refl) (c.group_at-children.ensures.group d cs h) (omega (arith, c.if-from-children.false, c.from.ensures)))
+    (prefix_push d cs c.args.choice _ _ (subst IsSome (sym h.leaves.leads) refl) (c.group_at-children.ensures.group d cs h) (omega (arith, c.if-from-children.false, c.from.ensures)))
