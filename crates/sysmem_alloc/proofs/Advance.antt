@@ -1,9 +1,9 @@
 -- From one tree to the next: which domains wait then, and how many are ready.
-use Rattle.std.proofs.Common.{◌≡◌, ◌≢◌, ℕ, ◌+◌, Bool, true, false, not, ◌&&◌, List, [], ◌∷◌, ◌++◌, length, refl, sym, ◌∙◌, ap, subst, arith, append-nil, length-append}
+use Rattle.std.proofs.Common.{◌≡◌, ◌≢◌, ℕ, ◌+◌, Bool, true, false, not, ◌&&◌, List, ◌++◌, length, refl, sym, ◌∙◌, ap, subst, append-nil}
 use Rattle.std.specs.Prelude.{filter}
 use Rattle.std.proofs.lemmas.List.Elements.{filter-append}
 use Rattle.list_lemmas.proofs.CallerLemmas.{and_parts}
-use Rattle.sysmem_tree.specs.Domain.{TreeFacts, HasDomain, IsSoundTree, DecidedAreReady, decision_of, is_ready, is_undecided}
+use Rattle.sysmem_tree.specs.Domain.{TreeFacts, HasDomain, IsSoundTree, decision_of, is_ready, is_undecided}
 use Rattle.sysmem_alloc.specs.Sound.{AllOf, AreApart, MayWait, roots_of}
 use Rattle.sysmem_alloc.specs.State.{newly_ready}
 use Rattle.sysmem_alloc.proofs.Lists.{all_append, all_weaken, all_filter, none_pass, apart_append, apart_filter, pass_more}
@@ -38,14 +38,16 @@ newly : (old new : TreeFacts) (r : ℕ) → IsSoundTree old → ((r : ℕ) → i
     → HasDomain new.nodes r → (is_ready new r && not (is_ready old r)) ≡ true → MayWait new r × (is_ready old r ≡ false)
 newly old new r sound same has is =
     let (now, before) = and_parts (is_ready new r) (not (is_ready old r)) is in
-    let unready : is_ready old r ≡ false = not_true (is_ready old r) before in
-    (record {
-      there = has;
-      ready = now;
-      undecided = undecided_if (is_undecided (decision_of new.domains r)) (λ e.
-          let ready : is_ready old r ≡ true = (sound.decided r (ap is_undecided (sym (same r unready)) ∙ e)).ready in
-          absurd (cc));
-    }, unready)
+    let unready : is_ready old r ≡ false = not_true (is_ready old r) before in (
+      record {
+        there = has;
+        ready = now;
+        undecided = undecided_if (is_undecided (decision_of new.domains r)) (λ e.
+            let ready : is_ready old r ≡ true = (sound.decided r (ap is_undecided (sym (same r unready)) ∙ e)).ready in
+            absurd (cc));
+      },
+      unready,
+    )
 
 still : (old new : TreeFacts) (r : ℕ) → ((r : ℕ) → HasDomain old.nodes r → HasDomain new.nodes r) → ((r : ℕ) → HasDomain old.nodes r → is_ready old r ≡ true → is_ready new r ≡ true)
     → MayWait old r × (decision_of new.domains r ≡ decision_of old.domains r) → MayWait new r

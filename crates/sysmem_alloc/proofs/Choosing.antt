@@ -1,23 +1,20 @@
 -- The participants of what was decided stay.
-use Rattle.std.proofs.Common.{◌≡◌, ℕ, zero, suc, ◌+◌, Bool, true, false, List, [], ◌∷◌, ◌++◌, Option, Some, None, slice_get, refl, sym, ◌∙◌, ap, subst, arith}
-use Rattle.std.specs.Prelude.{IfSome, filter, map, flat_map, is_some, option_map, option_and_then, unwrap_or, if◌then◌else◌}
+use Rattle.std.proofs.Common.{◌≡◌, ℕ, zero, suc, ◌+◌, Bool, List, [], ◌∷◌, ◌++◌, Option, Some, None, slice_get, refl, sym, ◌∙◌, ap, subst, arith}
+use Rattle.std.specs.Prelude.{IfSome, filter, map, is_some, option_map, option_and_then, unwrap_or, if◌then◌else◌}
 use Rattle.std.proofs.lemmas.List.Concat.{flat_map-cons}
 use Rattle.std.proofs.lemmas.Option.{same_Some, option_and_then_some}
-use Rattle.sysmem_sanitise.specs.Participant.{Participant}
 use Rattle.sysmem_tree.specs.declared.state.NodeKind.{NodeKind}
 use Rattle.sysmem_tree.specs.declared.state.NodeKind.TheVariants as kinds
-use Rattle.sysmem_tree.specs.Domain.{TreeFacts, HasDomain, IsSoundTree, is_ready}
 use Rattle.sysmem_tree.specs.Forest.{Forest, Empty, Plain, Group, each, kids_else_rest, choices, settled, relabel}
 use Rattle.sysmem_tree.specs.Laws.{by_both, AreOneForest, IsSameDomain}
 use Rattle.sysmem_tree.specs.Node.{NodeFacts}
 use Rattle.sysmem_tree.specs.Path.{path_of}
 use Rattle.sysmem_tree.specs.Selection.{after, settled_by}
-use Rattle.sysmem_tree.specs.Shape.{Member, kid_of, before, tree_of, kids_from, rooted, by_path, by_number, forest_of, members_of, participants_of}
+use Rattle.sysmem_tree.specs.Shape.{Member, kid_of, before, tree_of, kids_from, rooted, forest_of, members_of, participants_of}
 use Rattle.sysmem_alloc.specs.Decision.{Decision, choices_of}
 use Rattle.sysmem_alloc.specs.Entry.{constraints_at}
-use Rattle.sysmem_alloc.specs.Sound.{AllOf, IsOfReady}
+use Rattle.sysmem_alloc.specs.Sound.{AllOf}
 use Rattle.sysmem_alloc.specs.State.{chosen_by, chosen_in}
-use Rattle.sysmem_alloc.proofs.Lists.{all_weaken}
 use Rattle.sysmem_alloc.proofs.Relabelled.{after_relabel, settled_relabel}
 
 all_mapped : {X Y : Type 0} (P : X → Type 0) (Q : Y → Type 0) (f : X → Y) (xs : List X) → ((x : X) → P x → Q (f x)) → AllOf P xs → AllOf Q (map f xs)

@@ -1,11 +1,11 @@
 -- Histories with the same calls give the initial domain one answer.
-use Rattle.std.proofs.Common.{◌≡◌, ◌≢◌, ◌⊎◌, ℕ, ◌==◌, Bool, true, false, List, [], ◌∷◌, ◌++◌, Option, Some, None, Result, Ok, Err, slice_get, refl, sym, ◌∙◌, ap, subst, rules, tests, inl, inr}
-use Rattle.std.specs.Prelude.{IsOk, IfSome, IsSomeAnd, map, option_map, option_and_then, if◌then◌else◌}
+use Rattle.std.proofs.Common.{◌≡◌, ◌⊎◌, ℕ, ◌==◌, Bool, true, false, List, [], ◌∷◌, ◌++◌, Option, Some, None, Result, Ok, Err, slice_get, refl, sym, ◌∙◌, ap, subst, rules, tests, inl, inr}
+use Rattle.std.specs.Prelude.{IfSome, IsSomeAnd, map, option_map, option_and_then, if◌then◌else◌}
 use Rattle.std.proofs.lemmas.Option.{same_Some}
 use Rattle.sysmem_proof.specs.declared.verdict.Verdict.{Verdict}
-use Rattle.sysmem_proof.specs.Base.{BaseFacts, terms_of}
+use Rattle.sysmem_proof.specs.Base.{terms_of}
 use Rattle.sysmem_proof.specs.Laws.{OneAnswer}
-use Rattle.sysmem_proof.specs.Verdict.{IsOptimalFor, IsOptimalIn, IsSameAnswer}
+use Rattle.sysmem_proof.specs.Verdict.{IsOptimalFor, IsOptimalIn}
 use Rattle.sysmem_sanitise.specs.Platform.{PlatformFacts}
 use Rattle.sysmem_tree.specs.declared.refusal.Refusal.{Refusal}
 use Rattle.sysmem_tree.specs.Domain.{TreeFacts, HasDomain, host_node, is_ready}
@@ -16,11 +16,11 @@ use Rattle.sysmem_tree.specs.Node.{NodeFacts}
 use Rattle.sysmem_tree.specs.Path.{at_path}
 use Rattle.sysmem_tree.specs.Shape.{shape_of}
 use Rattle.sysmem_tree.specs.Step.{IsInitial}
-use Rattle.sysmem_tree.specs.Tree.{Applied, applied, first_tree}
-use Rattle.sysmem_alloc.specs.Decision.{Decision, choices_of, decision_for, settings_for}
+use Rattle.sysmem_tree.specs.Tree.{Applied, applied}
+use Rattle.sysmem_alloc.specs.Decision.{Decision, decision_for, settings_for}
 use Rattle.sysmem_alloc.specs.Entry.{BookEntry, Acted, Decided, tree_entry}
-use Rattle.sysmem_alloc.specs.History.{after_answer, after_entry, replay_from, replay, Allows, AreAllowed, IsLegal, SameCalls, NoEarlyClose}
-use Rattle.sysmem_alloc.specs.Laws.{AreConfluent, InitialShape, Confluence}
+use Rattle.sysmem_alloc.specs.History.{after_answer, after_entry, replay_from, replay, Allows, AreAllowed, IsLegal}
+use Rattle.sysmem_alloc.specs.Laws.{InitialShape, Confluence}
 use Rattle.sysmem_alloc.specs.Sound.{AllOf, IsOfReady, IsSoundState}
 use Rattle.sysmem_alloc.specs.State.{State, first_state, base_of}
 use Rattle.sysmem_alloc.proofs.Stepping.{accepts, tree_of_entry, sound_step, sound_first}
@@ -136,7 +136,7 @@ module _ (sound_stays : SoundStays) (ready_stays : ReadyStays) (stays : ForestSt
       let ends_fs = ends_first made platform fs b in
       let both = law (map tree_entry es) (map tree_entry fs) ends_es.accepted ends_fs.accepted calls early late in
       let ready : SameReady (replay es).tree (replay fs).tree = subst (λ t. SameReady t (replay fs).tree) (sym (tree_of_replay first_state es))
-          (subst (λ u. SameReady (trees.replay (map tree_entry es)) u) (sym (tree_of_replay first_state fs)) both) in
+      (subst (λ u. SameReady (trees.replay (map tree_entry es)) u) (sym (tree_of_replay first_state fs)) both) in
       record {
         ready = ready;
         answer = λ d e v w has_d has_e is_v is_w. answer platform None (shape_of (replay fs).tree.nodes 0) v w

@@ -1,5 +1,5 @@
 -- What stands for a book after one more entry.
-use Rattle.std.proofs.Common.{◌≡◌, ◌≢◌, ◌≤◌, ℕ, suc, ◌+◌, Bool, false, not, ◌&&◌, List, [], ◌∷◌, ◌++◌, length, drop, Option, Some, None, Result, Ok, Err, get_or, slice_get, refl, sym, ◌∙◌, ap, subst, arith, append-nil, length-append}
+use Rattle.std.proofs.Common.{◌≡◌, ◌≢◌, ◌≤◌, ℕ, ◌+◌, Bool, false, not, ◌&&◌, List, [], ◌∷◌, ◌++◌, length, drop, Option, Some, None, Ok, get_or, slice_get, refl, sym, ◌∙◌, ap, subst, arith, append-nil, length-append}
 use Rattle.std.specs.Prelude.{IsOk, filter, map, option_map, unwrap_or}
 use Rattle.std.specs.List.{filter_map}
 use Rattle.std.proofs.lemmas.List.{map-append}
@@ -18,11 +18,11 @@ use Rattle.sysmem_tree.specs.Tree.{Applied, applied, decided}
 use Rattle.sysmem_alloc.specs.Book.{BookFacts, IsBook, entered, kept_book}
 use Rattle.sysmem_alloc.specs.Decision.{Decision, choices_of}
 use Rattle.sysmem_alloc.specs.Entry.{BookEntry, Acted, Decided, entry_in, decision_in}
-use Rattle.sysmem_alloc.specs.History.{after_answer, after_entry, replay_from, replay, Allows, AreAllowed, IsLegal}
+use Rattle.sysmem_alloc.specs.History.{after_answer, after_entry, replay_from, Allows, AreAllowed}
 use Rattle.sysmem_alloc.specs.Laws.{LegalIsSound}
 use Rattle.sysmem_alloc.specs.Marks.{ready_at, ready_unmarked}
 use Rattle.sysmem_alloc.specs.Sound.{AllOf, IsOfReady, IsSoundState, roots_of}
-use Rattle.sysmem_alloc.specs.State.{State, first_state, newly_ready, is_open, chosen_in, open_in, kept_for, after_action, after_decision, next_ready}
+use Rattle.sysmem_alloc.specs.State.{State, first_state, newly_ready, is_open, chosen_in, open_in, kept_for}
 use Rattle.sysmem_alloc.proofs.Accepting.{accepted}
 use Rattle.sysmem_alloc.proofs.Choosing.{same_chosen, same_filter}
 use Rattle.sysmem_alloc.proofs.Counting.{few_waiting}
@@ -108,8 +108,8 @@ module _ (sound : LegalIsSound) (stays : ForestStays) (one : OneForest) where
       let state = state_sound sound b is in
       let let_in : IsOk (applied t i deed) = subst IsOk (sym ok) refl in
       let chosen : chosen_in made.tree.nodes ds ≡ chosen_in t.nodes ds = same_chosen t.nodes made.tree.nodes ds (one t.nodes)
-          (all_weaken (IsOfReady t) (λ (d : Decision). IsSameDomain t.nodes made.tree.nodes d.domain) ds
-          (λ d r. subst (λ o. IsSameDomain t.nodes (trees.after_answer t o).nodes d.domain) ok (stays t (trees.Acted i deed) d.domain state.tree.tree let_in r.there r.ready)) state.decided) in
+      (all_weaken (IsOfReady t) (λ (d : Decision). IsSameDomain t.nodes made.tree.nodes d.domain) ds
+      (λ d r. subst (λ o. IsSameDomain t.nodes (trees.after_answer t o).nodes d.domain) ok (stays t (trees.Acted i deed) d.domain state.tree.tree let_in r.there r.ready)) state.decided) in
       let none : filter_map decision_in (raw ++ x ∷ []) ≡ ds = no_decision raw x refl in
       same_book platform (map (entry_in made.tree.nodes) (raw ++ x ∷ [])) (map (entry_in t.nodes) raw ++ Acted i deed ∷ [])
       (kept_book platform made.tree (raw ++ x ∷ []) later now).state (after_entry b.state (Acted i deed))
@@ -187,7 +187,7 @@ acted_shows sound stays one platform t raw new waiting later marks now were i ki
     let raws : new ≡ raw ++ entries.Acted i (kind_of deed) ∷ [] = pushed ∙ ap (λ k. raw ++ entries.Acted i k ∷ []) same_kind in
     let laters : later ≡ waiting ++ newly_ready t made.tree = grown ∙ ap (λ ys. waiting ++ ys) (sym (acted_newly t i deed made were ok marked)) in
     let same : kept_book platform made.tree new later now ≡ entered b (Acted i deed) =
-        ap (λ es. kept_book platform made.tree es later now) raws ∙ acted_kept sound stays one platform t raw waiting later marks now i deed made is ok laters taken kept in
+    ap (λ es. kept_book platform made.tree es later now) raws ∙ acted_kept sound stays one platform t raw waiting later marks now i deed made is ok laters taken kept in
     record { book = subst IsBook (sym same) (book_push b (Acted i deed) is (subst IsOk (sym ok) refl)); is = same }
 
 -- and after a decision
@@ -213,7 +213,7 @@ decided_shows platform t u raw new waiting later marks now were x d is ok decide
     let laters : later ≡ drop 1 waiting ++ newly_ready t v = grown' ∙ ap (λ ys. drop 1 waiting ++ ys) (sym (decided_newly t d.domain (choices_of d.verdict) were marked)) in
     let opens : (k : ℕ) → get_or now k false ≡ is_open v.nodes k = subst (λ (w : TreeFacts). (k : ℕ) → get_or now k false ≡ is_open w.nodes k) tree taken in
     let same : kept_book platform u new later now ≡ entered b (Decided d) =
-        ap (λ w. kept_book platform w new later now) tree ∙ (ap (λ es. kept_book platform v es later now) pushed ∙ decided_kept platform t raw waiting later marks now x d is decides read laters opens) in
+    ap (λ w. kept_book platform w new later now) tree ∙ (ap (λ es. kept_book platform v es later now) pushed ∙ decided_kept platform t raw waiting later marks now x d is decides read laters opens) in
     record { book = subst IsBook (sym same) (book_push b (Decided d) is ok); is = same }
 
 -- a decision may be entered in the tree

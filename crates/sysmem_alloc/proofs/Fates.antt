@@ -5,9 +5,8 @@ use Rattle.sysmem_proof.specs.declared.verdict.Verdict.{Verdict}
 use Rattle.sysmem_proof.specs.declared.verdict.Verdict.TheVariants as verdicts
 use Rattle.sysmem_tree.specs.declared.domain.Decision.{Decision as Standing}
 use Rattle.sysmem_tree.specs.declared.domain.Decision.TheVariants.{Undecided, Chosen, NoneChosen}
-use Rattle.sysmem_tree.specs.declared.fate.Fate.{Fate}
 use Rattle.sysmem_tree.specs.declared.fate.Fate.TheVariants as fates
-use Rattle.sysmem_tree.specs.Domain.{TreeFacts, decision_of, fate_by, fate_of, has_failed}
+use Rattle.sysmem_tree.specs.Domain.{decision_of, fate_by, fate_of, has_failed}
 use Rattle.sysmem_alloc.specs.Decision.{Decision, decision_for}
 use Rattle.sysmem_alloc.specs.State.{State, verdict_of}
 

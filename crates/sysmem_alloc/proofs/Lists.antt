@@ -1,7 +1,6 @@
 -- Lists of which all elements have something, and lists without a repeat.
-use Rattle.std.proofs.Common.{◌≡◌, ◌≢◌, ℕ, zero, suc, ◌+◌, ◌≤◌, Bool, true, false, not, ◌&&◌, List, [], ◌∷◌, ◌++◌, length, Some, None, slice_get, refl, sym, ◌∙◌, ap, subst, arith}
-use Rattle.std.specs.Prelude.{filter, map, if◌then◌else◌}
-use Rattle.std.proofs.lemmas.Option.{same_Some}
+use Rattle.std.proofs.Common.{◌≡◌, ◌≢◌, ℕ, ◌+◌, Bool, true, false, not, ◌&&◌, List, [], ◌∷◌, ◌++◌, length, refl, ◌∙◌, ap, arith}
+use Rattle.std.specs.Prelude.{filter, if◌then◌else◌}
 use Rattle.sysmem_alloc.specs.Sound.{AllOf, AreApart}
 
 module _ {X : Type 0} where
@@ -29,7 +28,6 @@ module _ {X : Type 0} where
   pub none_pass : (p : X → Bool) (xs : List X) → AllOf (λ x. p x ≡ false) xs → filter p xs ≡ []
   none_pass p [] a = refl
   none_pass p (x ∷ xs) a = ap (λ b. if b then x ∷ filter p xs else filter p xs) a.0 ∙ none_pass p xs a.1
-
 
 pub apart_append : (xs ys : List ℕ) → AreApart xs → AreApart ys → AllOf (λ x. AllOf (λ y. x ≢ y) ys) xs → AreApart (xs ++ ys)
 apart_append [] ys a b c = b

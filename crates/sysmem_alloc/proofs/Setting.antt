@@ -19,11 +19,11 @@ use Rattle.sysmem_tree.specs.Node.{NodeFacts}
 use Rattle.sysmem_tree.specs.Shape.{members_of}
 use Rattle.sysmem_tree.specs.Table.{allows, suits_node, makes}
 use Rattle.sysmem_tree.specs.Tree.{Applied, applied, tree_after, node_after, nodes_made, left_out_but, decided}
-use Rattle.sysmem_alloc.specs.Decision.{Decision, choices_of}
+use Rattle.sysmem_alloc.specs.Decision.{choices_of}
 use Rattle.sysmem_alloc.specs.Entry.{BookEntry, Acted, Decided, constraints_at, entry_in, deed_with}
 use Rattle.sysmem_alloc.specs.History.{after_answer, after_entry, replay_from, Allows, AreAllowed}
 use Rattle.sysmem_alloc.specs.Sound.{AllOf}
-use Rattle.sysmem_alloc.specs.State.{State, after_action}
+use Rattle.sysmem_alloc.specs.State.{State}
 use Rattle.sysmem_alloc.proofs.Accepting.{accepted}
 
 -- node i is set, to these constraints

@@ -1,6 +1,6 @@
 -- The state of a legal history is sound.
-use Rattle.std.proofs.Common.{◌≡◌, ◌≢◌, ℕ, ◌+◌, Bool, true, false, List, [], ◌∷◌, ◌++◌, length, drop, Option, Some, None, Result, Ok, Err, slice_get, refl, sym, ◌∙◌, ap, subst, arith, length-append, append-nil}
-use Rattle.std.specs.Prelude.{IsOk, IfSome, filter, map}
+use Rattle.std.proofs.Common.{◌≡◌, ◌≢◌, ℕ, Bool, true, false, List, [], ◌∷◌, ◌++◌, length, drop, Option, Some, None, Result, Ok, Err, slice_get, refl, sym, ◌∙◌, ap, subst, arith, length-append, append-nil}
+use Rattle.std.specs.Prelude.{IsOk, IfSome}
 use Rattle.std.proofs.lemmas.Option.{same_Some}
 use Rattle.sysmem_proof.specs.declared.verdict.Verdict.{Verdict}
 use Rattle.sysmem_proof.specs.declared.verdict.Verdict.TheVariants as verdicts
@@ -16,14 +16,14 @@ use Rattle.sysmem_tree.specs.Laws.{SoundStays, ReadyStays, OneForest, MapsOfLogs
 use Rattle.sysmem_tree.specs.Node.{NodeFacts}
 use Rattle.sysmem_tree.specs.Selection.{IsSelection}
 use Rattle.sysmem_tree.specs.Shape.{by_number, forest_of}
-use Rattle.sysmem_tree.specs.Tree.{Applied, applied, tree_after, decided, first_tree}
+use Rattle.sysmem_tree.specs.Tree.{Applied, applied, decided}
 use Rattle.sysmem_alloc.specs.Decision.{Decision, choices_of}
 use Rattle.sysmem_alloc.specs.Entry.{BookEntry, Acted, Decided, tree_entry}
 use Rattle.sysmem_alloc.specs.History.{after_answer, after_entry, replay_from, replay, Allows, AreAllowed, IsLegal}
 use Rattle.sysmem_alloc.specs.Sound.{AllOf, AreApart, IsOfReady, IsSoundState, MayWait, roots_of}
-use Rattle.sysmem_alloc.specs.State.{State, first_state, next_ready, newly_ready, after_action, after_decision, open_in, base_of}
+use Rattle.sysmem_alloc.specs.State.{State, first_state, newly_ready, after_action, open_in, base_of}
 use Rattle.sysmem_alloc.proofs.Accepting.{accepted, IsAccepted}
-use Rattle.sysmem_alloc.proofs.Advance.{Follows, Advances, advance}
+use Rattle.sysmem_alloc.proofs.Advance.{Follows, advance}
 use Rattle.sysmem_alloc.proofs.Lists.{all_append, all_weaken}
 use Rattle.sysmem_alloc.proofs.Relabelled.{by_numbers}
 use Rattle.sysmem_alloc.proofs.Trees.{acted_there, decided_there, acted_decision, decided_decision, added, acted_roots, decided_roots, added_unready}
@@ -80,9 +80,9 @@ module _ (sound_stays : SoundStays) (ready_stays : ReadyStays) where
       let (n, ok) = accepted s.tree i deed made is in
       let f = acted_follows s.tree i deed made n sound.tree is ok in
       let same : (r : ℕ) → decision_of made.tree.domains r ≡ decision_of s.tree.domains r
-          = λ r. subst (λ (x : TreeFacts). decision_of x.domains r ≡ decision_of s.tree.domains r) ok.tree (acted_decision s.tree n (kind_of deed) r) in
+      = λ r. subst (λ (x : TreeFacts). decision_of x.domains r ≡ decision_of s.tree.domains r) ok.tree (acted_decision s.tree n (kind_of deed) r) in
       let on = advance s.tree made.tree (added (kind_of deed) (length s.tree.nodes)) s.waiting f
-          (all_weaken (MayWait s.tree) (λ r. MayWait s.tree r × (decision_of made.tree.domains r ≡ decision_of s.tree.domains r)) s.waiting (λ r w. (w, same r)) sound.waiting) sound.once in
+      (all_weaken (MayWait s.tree) (λ r. MayWait s.tree r × (decision_of made.tree.domains r ≡ decision_of s.tree.domains r)) s.waiting (λ r w. (w, same r)) sound.waiting) sound.once in
       record {
         tree = f.after;
         waiting = on.waits;

@@ -1,8 +1,8 @@
 -- What an action and a decision leave of the nodes and domains of a tree.
-use Rattle.std.proofs.Common.{◌≡◌, ◌≢◌, ◌≤◌, ◌<◌, ℕ, zero, suc, ◌+◌, ◌==◌, Bool, true, false, not, ◌&&◌, ◌||◌, List, [], ◌∷◌, ◌++◌, length, Option, Some, None, slice_get, slice_set, refl, sym, ◌∙◌, ap, subst, arith, rules, tests, append-nil}
+use Rattle.std.proofs.Common.{◌≡◌, ◌≢◌, ◌≤◌, ℕ, zero, suc, ◌+◌, ◌==◌, Bool, true, false, not, ◌&&◌, List, [], ◌∷◌, ◌++◌, length, Option, Some, None, slice_get, slice_set, refl, sym, ◌∙◌, ap, subst, arith, rules, tests, append-nil}
 use Rattle.std.specs.Prelude.{IsSomeAnd, map, if◌then◌else◌}
 use Rattle.std.proofs.lemmas.Bool.{ne_eqb}
-use Rattle.std.proofs.lemmas.List.{length-set, map-append}
+use Rattle.std.proofs.lemmas.List.{map-append}
 use Rattle.std.proofs.lemmas.Option.{same_Some}
 use Rattle.sysmem_tree.specs.declared.action.ActionKind.{ActionKind}
 use Rattle.sysmem_tree.specs.declared.action.ActionKind.TheVariants.{Duplicate, CreateGroup, Bind, CreateChild, AllChildrenPresent, SetConstraints, AttachToken, Release, Close}
@@ -14,8 +14,8 @@ use Rattle.sysmem_tree.specs.ActionKind.{Deed, kind_of, duplicates, creates_grou
 use Rattle.sysmem_tree.specs.Domain.{TreeFacts, HasDomain, IsSoundTree, decision_of, has_failed, host_node, is_complete, is_host_selected, is_ready, roots_from}
 use Rattle.sysmem_tree.specs.Node.{NodeFacts, fresh, is_awaited}
 use Rattle.sysmem_tree.specs.Shape.{members_of}
-use Rattle.sysmem_tree.specs.Table.{makes, makes_root}
-use Rattle.sysmem_tree.specs.Tree.{new_domain, node_after, new_node, nodes_made, nodes_after, closed_early, domains_after, tree_after, decided_domain, left_out_but, decided}
+use Rattle.sysmem_tree.specs.Table.{makes}
+use Rattle.sysmem_tree.specs.Tree.{new_domain, node_after, new_node, nodes_made, closed_early, domains_after, tree_after, decided_domain, left_out_but, decided}
 use Rattle.sysmem_alloc.specs.Sound.{AllOf, AreApart, roots_of}
 use Rattle.sysmem_alloc.proofs.Lists.{all_weaken}
 
@@ -161,15 +161,15 @@ roots_there : (all : List NodeFacts) (i : ℕ) (nodes : List NodeFacts) → ((m 
 roots_there all i [] front = tt
 roots_there all i (n ∷ nodes) front =
     at (roots_there all (i + 1) nodes (λ m x here. let shift : i + suc m ≡ (i + 1) + m = omega arith in subst (λ k. slice_get all k ≡ Some x) shift (front (suc m) x here))) (n.domain == i) refl where
-  zeroed : i + 0 ≡ i
-  zeroed = omega arith
+      zeroed : i + 0 ≡ i
+      zeroed = omega arith
 
-  at : AllOf (HasDomain all) (roots_from (i + 1) nodes) → (b : Bool) → (n.domain == i) ≡ b → AllOf (HasDomain all) (if b then i ∷ roots_from (i + 1) nodes else roots_from (i + 1) nodes)
-  at on false is = on
-  at on true is =
-      let own : n.domain ≡ i = search (rules, tests, is) in
-      let here : slice_get all i ≡ Some n = subst (λ k. slice_get all k ≡ Some n) zeroed (front 0 n refl) in
-      (subst (λ o. IsSomeAnd o (λ (x : NodeFacts). x.domain ≡ i)) (sym here) own, on)
+      at : AllOf (HasDomain all) (roots_from (i + 1) nodes) → (b : Bool) → (n.domain == i) ≡ b → AllOf (HasDomain all) (if b then i ∷ roots_from (i + 1) nodes else roots_from (i + 1) nodes)
+      at on false is = on
+      at on true is =
+          let own : n.domain ≡ i = search (rules, tests, is) in
+          let here : slice_get all i ≡ Some n = subst (λ k. slice_get all k ≡ Some n) zeroed (front 0 n refl) in
+          (subst (λ o. IsSomeAnd o (λ (x : NodeFacts). x.domain ≡ i)) (sym here) own, on)
 
 late : (i : ℕ) (nodes : List NodeFacts) → AllOf (λ r. i ≤ r) (roots_from i nodes)
 late i [] = tt

@@ -1,12 +1,12 @@
 -- Histories of a book: the states that they lead to, and which are legal.
-use Rattle.std.specs.Prelude.{◌≡◌, ℕ, List, [], ◌∷◌, Option, Some, None, Result, Ok, Err, IsOk, IfSome, map}
+use Rattle.std.specs.Prelude.{◌≡◌, ℕ, List, [], ◌∷◌, Some, Result, Ok, Err, IsOk, IfSome, map}
 use Rattle.sysmem_proof.specs.Verdict.{IsOptimalIn}
 use Rattle.sysmem_sanitise.specs.Platform.{PlatformFacts}
 use Rattle.sysmem_tree.specs.declared.refusal.Refusal.{Refusal}
 use Rattle.sysmem_tree.specs.Domain.{newly_failed}
 use Rattle.sysmem_tree.specs.History as trees
 use Rattle.sysmem_tree.specs.Tree.{Applied, applied, decided}
-use Rattle.sysmem_alloc.specs.Decision.{Decision, choices_of}
+use Rattle.sysmem_alloc.specs.Decision.{choices_of}
 use Rattle.sysmem_alloc.specs.Entry.{BookEntry, Acted, Decided, tree_entry}
 use Rattle.sysmem_alloc.specs.State.{State, first_state, next_ready, after_action, after_decision, base_of}
 

@@ -1,19 +1,16 @@
 -- What is true of legal histories.
-use Rattle.std.specs.Prelude.{◌≡◌, ◌≤◌, ℕ, List, [], ◌∷◌, ◌++◌, length, Some, map}
+use Rattle.std.specs.Prelude.{◌≡◌, ◌≤◌, ℕ, List, length, Some, map}
 use Rattle.sysmem_proof.specs.declared.verdict.Verdict.{Verdict}
-use Rattle.sysmem_proof.specs.Base.{BaseFacts, terms_of}
 use Rattle.sysmem_proof.specs.Verdict.{IsSameAnswer}
 use Rattle.sysmem_sanitise.specs.Platform.{PlatformFacts}
-use Rattle.sysmem_tree.specs.Laws.{SameInitial, SameReady, IsSameDomain}
+use Rattle.sysmem_tree.specs.Laws.{SameInitial, SameReady}
 use Rattle.sysmem_tree.specs.Path.{at_path}
 use Rattle.sysmem_tree.specs.Step.{IsInitial}
-use Rattle.sysmem_tree.specs.ActionKind.{Deed}
 use Rattle.sysmem_tree.specs.History.{log_at}
 use Rattle.sysmem_alloc.specs.Decision.{Decision, decision_for}
-use Rattle.sysmem_alloc.specs.Entry.{BookEntry, Acted, tree_entry}
-use Rattle.sysmem_alloc.specs.History.{Allows, after_entry, IsLegal, NoEarlyClose, SameCalls, replay}
+use Rattle.sysmem_alloc.specs.Entry.{BookEntry, tree_entry}
+use Rattle.sysmem_alloc.specs.History.{IsLegal, NoEarlyClose, SameCalls, replay}
 use Rattle.sysmem_alloc.specs.Sound.{IsSoundState}
-use Rattle.sysmem_alloc.specs.State.{State, next_ready, base_of}
 
 -- the state of each legal history is sound
 abbrev pub LegalIsSound : Type 0

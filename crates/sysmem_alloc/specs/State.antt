@@ -1,12 +1,12 @@
 -- How a collection stands with its domains, and what actions and decisions make of it.
-use Rattle.std.specs.Prelude.{ℕ, ◌++◌, Bool, false, ◌&&◌, not, List, [], ◌∷◌, Option, Some, None, map, filter, flat_map, is_some, IsSome, option_map, option_and_then, unwrap_or, slice_get, drop, if◌then◌else◌}
+use Rattle.std.specs.Prelude.{ℕ, ◌++◌, Bool, false, ◌&&◌, not, List, [], ◌∷◌, Option, Some, map, filter, flat_map, option_map, option_and_then, unwrap_or, slice_get, drop, if◌then◌else◌}
 use Rattle.sysmem_proof.specs.declared.verdict.Verdict.{Verdict}
 use Rattle.sysmem_proof.specs.declared.verdict.Verdict.TheVariants as verdicts
 use Rattle.sysmem_proof.specs.Base.{BaseFacts}
 use Rattle.sysmem_tree.specs.Domain.{TreeFacts, has_failed, host_node, is_ready}
 use Rattle.sysmem_tree.specs.Node.{NodeFacts}
 use Rattle.sysmem_tree.specs.Shape.{participants_of}
-use Rattle.sysmem_tree.specs.Tree.{first_tree, decided}
+use Rattle.sysmem_tree.specs.Tree.{first_tree}
 use Rattle.sysmem_alloc.specs.Decision.{Decision, choices_of, decision_for, settings_for}
 
 -- the tree; the decisions in their order; the domains that wait for one, in the order in which they became ready; and the participants that

@@ -157,8 +157,9 @@ impl Book {
             IsOptimalIn self.old.platform self.old.state.tree.nodes domain
             (base_of self.old.state domain) (arc_value shared)) }
         ensures { self.new ≡ entered self.old (Decided (record {
-            domain = domain;
-            verdict = option_map (λ shared. arc_value shared) verdict })) }
+          domain = domain;
+          verdict = option_map (λ shared. arc_value shared) verdict;
+        })) }
     {
         legal_is_sound();
         few_entries();

@@ -3,8 +3,8 @@
 ghost use Rattle.sysmem_alloc.specs.Laws.{LegalIsSound, FewEntries, InitialShape, Confluence};
 
 use sysmem_proof::laws::one_answer;
-use sysmem_tree::laws::{forest_stays, maps_of_logs, one_forest, ready_stays, sound_stays};
 use sysmem_tree::laws;
+use sysmem_tree::laws::{forest_stays, maps_of_logs, one_forest, ready_stays, sound_stays};
 
 /// The state of each legal history: its tree is sound, each domain that waits is ready, undecided and there once, and what was decided is
 /// ready.

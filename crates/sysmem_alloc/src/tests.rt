@@ -13,7 +13,8 @@ use sysmem_proof::Verdict;
 use sysmem_sanitise::{Constraints, Platform, read_constraints, read_platform};
 use sysmem_tree::{Action, ActionKind, Event, NodeId, Path, Refusal};
 
-const PLATFORM: &str = r#"{"heaps":[{"heap_type":"ram","domains":["cpu","ram"]}],"pairs":[{"pixel_format":"R8"}],"color_spaces":["SRGB"]}"#;
+const PLATFORM: &str =
+    r#"{"heaps":[{"heap_type":"ram","domains":["cpu","ram"]}],"pairs":[{"pixel_format":"R8"}],"color_spaces":["SRGB"]}"#;
 
 // What a step does; constraints are those of a participant with the usage cpu.
 #[derive(Clone, Copy)]

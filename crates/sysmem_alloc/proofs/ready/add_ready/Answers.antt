@@ -1,7 +1,6 @@
 -- One domain after the other.
-use Rattle.std.proofs.Common.{◌≡◌, ◌<◌, ◌≤◌, ◌+◌, ◌++◌, ℕ, List, [], ◌∷◌, Some, None, length, drop, refl, sym, ◌∙◌, ap, subst, arith, length-append}
-use Rattle.std.specs.Vec.{vec_len, vec_capacity}
-use Rattle.sysmem_alloc.specs.Marks.{ready_unmarked, unmarked_at}
+use Rattle.std.proofs.Common.{◌<◌, ◌+◌, ◌++◌, ℕ, List, Some, None, length, drop, sym, ◌∙◌, ap, arith, length-append}
+use Rattle.sysmem_alloc.specs.Marks.{ready_unmarked}
 use Rattle.sysmem_alloc.specs.Sound.{roots_of}
 use Rattle.sysmem_alloc.proofs.Marked.{many_roots, unmarked_next, goes_over}
 use Rattle.sysmem_alloc.proofs.ready.add_ready.Goals as goal
@@ -18,9 +17,16 @@ push_reserved-requires c =
     let next = unmarked_next c.args.tree.now c.args.marks.now c.loop-index.index (Some c.in-Some.domain) less (sym c.newly_ready_at.ensures ∙ c.in-Some.is) in
     let all = ap length c.loop-index.invariant.all in
     let left = ap length next in
-    omega (arith, all, left, c.requires, c.loop-index.invariant.reserved, c.loop-index.waiting.ok,
-        length-append c.loop-index.waiting.items (ready_unmarked c.args.tree.now c.args.marks.now c.loop-index.index (drop c.loop-index.index (roots_of c.args.tree.now))),
-        length-append c.args.waiting.now.items (ready_unmarked c.args.tree.now c.args.marks.now 0 (roots_of c.args.tree.now)))
+    omega (
+      arith,
+      all,
+      left,
+      c.requires,
+      c.loop-index.invariant.reserved,
+      c.loop-index.waiting.ok,
+      length-append c.loop-index.waiting.items (ready_unmarked c.args.tree.now c.args.marks.now c.loop-index.index (drop c.loop-index.index (roots_of c.args.tree.now))),
+      length-append c.args.waiting.now.items (ready_unmarked c.args.tree.now c.args.marks.now 0 (roots_of c.args.tree.now)),
+    )
 
 pub loop-index-preserved : goal.loop-index-preserved
 loop-index-preserved c =

@@ -1,7 +1,7 @@
 -- One mark after the other.
-use Rattle.std.proofs.Common.{◌≡◌, refl, arith}
+use Rattle.std.proofs.Common.{refl, arith}
 use Rattle.sysmem_alloc.specs.State.{is_open}
-use Rattle.sysmem_alloc.proofs.Marked.{set_none, none_of, set_more, set_all, open_past}
+use Rattle.sysmem_alloc.proofs.Marked.{set_none, none_of, set_all, open_past}
 use Rattle.sysmem_alloc.proofs.ready.open_nodes.Goals as goal
 
 pub loop-number-init : goal.loop-number-init

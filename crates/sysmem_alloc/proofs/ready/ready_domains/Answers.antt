@@ -1,5 +1,5 @@
 -- One mark after the other.
-use Rattle.std.proofs.Common.{◌≡◌, refl, arith}
+use Rattle.std.proofs.Common.{refl, arith}
 use Rattle.sysmem_alloc.specs.Marks.{ready_at}
 use Rattle.sysmem_alloc.proofs.Marked.{set_none, none_of, set_more, set_all, ready_past}
 use Rattle.sysmem_alloc.proofs.ready.ready_domains.Goals as goal

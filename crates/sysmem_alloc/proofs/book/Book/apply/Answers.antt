@@ -1,7 +1,6 @@
 -- See Entering.antt.
-use Rattle.std.proofs.Common.{◌≡◌, refl, sym, ◌∙◌, ap, subst, arith}
+use Rattle.std.proofs.Common.{sym, ◌∙◌, ap, subst, arith}
 use Rattle.std.specs.Prelude.{Ok, Err, Result, OnErr}
-use Rattle.std.specs.Vec.{vec_capacity}
 use Rattle.sysmem_alloc.specs.Book.{IsBook, entered, kept_book}
 use Rattle.sysmem_alloc.specs.Entry.{Acted}
 use Rattle.sysmem_tree.specs.ActionKind.{deed_of}
@@ -24,21 +23,21 @@ returns-in_err-node-clause-unchanged c =
 pub add_ready-requires : goal.add_ready-requires
 add_ready-requires c =
     let room = acted_room c.legal_is_sound.ensures c.self.inside.platform c.self.inside.tree c.self.inside.history.items c.self.inside.waiting.items c.self.inside.were_open c.ready_domains-were_ready.result
-        c.args.event.node (deed_of c.args.event.action) _ c.self.invariant.0 c.in_ok-node.ensures.accepted c.ready_domains-were_ready.ensures in
+    c.args.event.node (deed_of c.args.event.action) _ c.self.invariant.0 c.in_ok-node.ensures.accepted c.ready_domains-were_ready.ensures in
     omega (arith, room, c.self.invariant.2)
 
 pub invariant_of-self-2 : goal.invariant_of-self-2
 invariant_of-self-2 c =
     let shown = acted_shows c.legal_is_sound.ensures c.forest_stays.ensures c.one_forest.ensures c.self.inside.platform c.self.inside.tree c.self.inside.history.items c.enter_action.new.history.items
-        c.self.inside.waiting.items c.add_ready.new.waiting.items c.self.inside.were_open c.open_or_kept-self-inside.result c.ready_domains-were_ready.result c.args.event.node c.kind-kind.result (deed_of c.args.event.action) _
-        c.self.invariant.0 c.in_ok-node.ensures.accepted c.kind-kind.ensures c.enter_action.ensures.items c.ready_domains-were_ready.ensures c.add_ready.ensures.items
-        (λ e. c.open_or_kept-self-inside.ensures.open (c.deref.ensures.value ∙ e)) (λ n. c.open_or_kept-self-inside.ensures.kept (λ e. n (sym c.deref.ensures.value ∙ e))) in
+    c.self.inside.waiting.items c.add_ready.new.waiting.items c.self.inside.were_open c.open_or_kept-self-inside.result c.ready_domains-were_ready.result c.args.event.node c.kind-kind.result (deed_of c.args.event.action) _
+    c.self.invariant.0 c.in_ok-node.ensures.accepted c.kind-kind.ensures c.enter_action.ensures.items c.ready_domains-were_ready.ensures c.add_ready.ensures.items
+    (λ e. c.open_or_kept-self-inside.ensures.open (c.deref.ensures.value ∙ e)) (λ n. c.open_or_kept-self-inside.ensures.kept (λ e. n (sym c.deref.ensures.value ∙ e))) in
     (shown.book, omega (arith, c.self.invariant.1, c.enter_action.ensures.capacity), omega (arith, c.self.invariant.2, c.add_ready.ensures.reserved), c.self.invariant.3, c.self.invariant.4)
 
 pub returns-clause-entered : goal.returns-clause-entered
 returns-clause-entered c =
     let shown = acted_shows c.legal_is_sound.ensures c.forest_stays.ensures c.one_forest.ensures c.self.inside.platform c.self.inside.tree c.self.inside.history.items c.enter_action.new.history.items
-        c.self.inside.waiting.items c.add_ready.new.waiting.items c.self.inside.were_open c.open_or_kept-self-inside.result c.ready_domains-were_ready.result c.args.event.node c.kind-kind.result (deed_of c.args.event.action) _
-        c.self.invariant.0 c.in_ok-node.ensures.accepted c.kind-kind.ensures c.enter_action.ensures.items c.ready_domains-were_ready.ensures c.add_ready.ensures.items
-        (λ e. c.open_or_kept-self-inside.ensures.open (c.deref.ensures.value ∙ e)) (λ n. c.open_or_kept-self-inside.ensures.kept (λ e. n (sym c.deref.ensures.value ∙ e))) in
+    c.self.inside.waiting.items c.add_ready.new.waiting.items c.self.inside.were_open c.open_or_kept-self-inside.result c.ready_domains-were_ready.result c.args.event.node c.kind-kind.result (deed_of c.args.event.action) _
+    c.self.invariant.0 c.in_ok-node.ensures.accepted c.kind-kind.ensures c.enter_action.ensures.items c.ready_domains-were_ready.ensures c.add_ready.ensures.items
+    (λ e. c.open_or_kept-self-inside.ensures.open (c.deref.ensures.value ∙ e)) (λ n. c.open_or_kept-self-inside.ensures.kept (λ e. n (sym c.deref.ensures.value ∙ e))) in
     shown.is ∙ ap (λ b. entered b (Acted c.args.event.node (deed_of c.args.event.action))) c.self.view_is

@@ -6,7 +6,8 @@ use Rattle.std.specs.Prelude.{IfSome, option_map}
 use Rattle.sysmem_alloc.specs.declared.entry.Entry.TheVariants as entries
 use Rattle.sysmem_tree.specs.History.{IsDecidable}
 use Rattle.sysmem_tree.specs.Tree.{decided}
-use Rattle.sysmem_alloc.specs.Book.{entered, kept_book}
+use Rattle.sysmem_alloc.specs.Book.{entered}
+use Rattle.sysmem_alloc.specs.Decision.{Decision}
 use Rattle.sysmem_alloc.specs.Entry.{Decided}
 use Rattle.sysmem_alloc.specs.History.{Allows}
 use Rattle.sysmem_alloc.specs.Marks.{ready_unmarked}
@@ -24,41 +25,41 @@ removed (x ∷ xs) = refl
 
 pub decided-requires : goal.decided-requires
 decided-requires c =
-    let d = record { domain = c.args.domain; verdict = option_map (λ shared. arc_value shared) c.args.verdict } in
+    let d : Decision = record { domain = c.args.domain; verdict = option_map (λ shared. arc_value shared) c.args.verdict } in
     let ok = subst (λ b. Allows b.platform b.state (Decided d)) (sym c.self.view_is) (c.requires.next, if_map (λ shared. arc_value shared) _ c.args.verdict c.requires.optimal) in
     subst (IsDecidable c.self.inside.tree c.args.domain) (sym c.choices_of.ensures) (may_enter c.legal_is_sound.ensures c.one_forest.ensures _ d c.self.invariant.0 ok)
 
 pub add_ready-requires : goal.add_ready-requires
 add_ready-requires c =
-    let d = record { domain = c.args.domain; verdict = option_map (λ shared. arc_value shared) c.args.verdict } in
+    let d : Decision = record { domain = c.args.domain; verdict = option_map (λ shared. arc_value shared) c.args.verdict } in
     let ok = subst (λ b. Allows b.platform b.state (Decided d)) (sym c.self.view_is) (c.requires.next, if_map (λ shared. arc_value shared) _ c.args.verdict c.requires.optimal) in
     let tree = c.decided.ensures ∙ ap (decided c.self.inside.tree c.args.domain) c.choices_of.ensures in
     let room = subst (λ u. length (drop 1 c.self.inside.waiting.items) + length (ready_unmarked u c.ready_domains-were_ready.result 0 (roots_of u)) ≤ 128) (sym tree)
-        (decided_room c.legal_is_sound.ensures c.self.inside.platform c.self.inside.tree c.self.inside.history.items c.self.inside.waiting.items c.self.inside.were_open c.ready_domains-were_ready.result d
-        c.self.invariant.0 ok c.ready_domains-were_ready.ensures) in
+    (decided_room c.legal_is_sound.ensures c.self.inside.platform c.self.inside.tree c.self.inside.history.items c.self.inside.waiting.items c.self.inside.were_open c.ready_domains-were_ready.result d
+    c.self.invariant.0 ok c.ready_domains-were_ready.ensures) in
     let long = ap length (c.remove.ensures.items ∙ removed c.self.inside.waiting.items) in
     omega (arith, room, long, c.self.invariant.2, c.remove.ensures.capacity)
 
 pub invariant_of-self : goal.invariant_of-self
 invariant_of-self c =
-    let d = record { domain = c.args.domain; verdict = option_map (λ shared. arc_value shared) c.args.verdict } in
+    let d : Decision = record { domain = c.args.domain; verdict = option_map (λ shared. arc_value shared) c.args.verdict } in
     let ok = subst (λ b. Allows b.platform b.state (Decided d)) (sym c.self.view_is) (c.requires.next, if_map (λ shared. arc_value shared) _ c.args.verdict c.requires.optimal) in
     let tree = c.decided.ensures ∙ ap (decided c.self.inside.tree c.args.domain) c.choices_of.ensures in
     let grown = c.add_ready.ensures.items
-        ∙ ap (λ ys. ys ++ ready_unmarked c.decided.new.self c.ready_domains-were_ready.result 0 (roots_of c.decided.new.self)) (c.remove.ensures.items ∙ removed c.self.inside.waiting.items) in
+    ∙ ap (λ ys. ys ++ ready_unmarked c.decided.new.self c.ready_domains-were_ready.result 0 (roots_of c.decided.new.self)) (c.remove.ensures.items ∙ removed c.self.inside.waiting.items) in
     let shown = decided_shows c.self.inside.platform c.self.inside.tree c.decided.new.self c.self.inside.history.items c.push_reserved.new.self.items c.self.inside.waiting.items c.add_ready.new.waiting.items
-        c.self.inside.were_open c.open_nodes-self-inside.result c.ready_domains-were_ready.result (entries.Decided c.args.domain c.args.verdict) d c.self.invariant.0 ok refl (λ nodes. refl) tree
-        c.push_reserved.ensures.items c.ready_domains-were_ready.ensures grown c.open_nodes-self-inside.ensures in
+    c.self.inside.were_open c.open_nodes-self-inside.result c.ready_domains-were_ready.result (entries.Decided c.args.domain c.args.verdict) d c.self.invariant.0 ok refl (λ nodes. refl) tree
+    c.push_reserved.ensures.items c.ready_domains-were_ready.ensures grown c.open_nodes-self-inside.ensures in
     (shown.book, omega (arith, c.self.invariant.1, c.push_reserved.ensures.capacity), omega (arith, c.self.invariant.2, c.remove.ensures.capacity, c.add_ready.ensures.reserved), c.self.invariant.3, c.self.invariant.4)
 
 pub returns : goal.returns
 returns c =
-    let d = record { domain = c.args.domain; verdict = option_map (λ shared. arc_value shared) c.args.verdict } in
+    let d : Decision = record { domain = c.args.domain; verdict = option_map (λ shared. arc_value shared) c.args.verdict } in
     let ok = subst (λ b. Allows b.platform b.state (Decided d)) (sym c.self.view_is) (c.requires.next, if_map (λ shared. arc_value shared) _ c.args.verdict c.requires.optimal) in
     let tree = c.decided.ensures ∙ ap (decided c.self.inside.tree c.args.domain) c.choices_of.ensures in
     let grown = c.add_ready.ensures.items
-        ∙ ap (λ ys. ys ++ ready_unmarked c.decided.new.self c.ready_domains-were_ready.result 0 (roots_of c.decided.new.self)) (c.remove.ensures.items ∙ removed c.self.inside.waiting.items) in
+    ∙ ap (λ ys. ys ++ ready_unmarked c.decided.new.self c.ready_domains-were_ready.result 0 (roots_of c.decided.new.self)) (c.remove.ensures.items ∙ removed c.self.inside.waiting.items) in
     let shown = decided_shows c.self.inside.platform c.self.inside.tree c.decided.new.self c.self.inside.history.items c.push_reserved.new.self.items c.self.inside.waiting.items c.add_ready.new.waiting.items
-        c.self.inside.were_open c.open_nodes-self-inside.result c.ready_domains-were_ready.result (entries.Decided c.args.domain c.args.verdict) d c.self.invariant.0 ok refl (λ nodes. refl) tree
-        c.push_reserved.ensures.items c.ready_domains-were_ready.ensures grown c.open_nodes-self-inside.ensures in
+    c.self.inside.were_open c.open_nodes-self-inside.result c.ready_domains-were_ready.result (entries.Decided c.args.domain c.args.verdict) d c.self.invariant.0 ok refl (λ nodes. refl) tree
+    c.push_reserved.ensures.items c.ready_domains-were_ready.ensures grown c.open_nodes-self-inside.ensures in
     shown.is ∙ ap (λ b. entered b (Decided d)) c.self.view_is

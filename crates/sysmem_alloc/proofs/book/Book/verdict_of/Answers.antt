@@ -1,8 +1,7 @@
 -- See Fates.antt.
-use Rattle.std.proofs.Common.{◌≡◌, Some, None, refl, sym, ◌∙◌, ap, subst}
+use Rattle.std.proofs.Common.{Some, None, sym, ◌∙◌, ap}
 use Rattle.sysmem_alloc.specs.Book.{kept_book}
 use Rattle.sysmem_alloc.specs.State.{verdict_of}
-use Rattle.sysmem_tree.specs.Domain.{fate_of}
 use Rattle.sysmem_alloc.proofs.Fates.{failed_verdict, entered_verdict}
 use Rattle.sysmem_alloc.proofs.book.Book.verdict_of.Goals as goal
 
