@@ -9,7 +9,9 @@ ghost use Rattle.sysmem_tree.specs.OpenGroups.{HasChild, HasLeft, HoldsNodes, Is
 use crate::paths::push_path;
 use anyhow::{Result, bail};
 use std::alloc::Global;
-use sysmem_tree::{ChildPlace, DomainId, GroupPlace, Layout, Prefix, SettledNodes, Tree};
+use sysmem_tree::{
+    ChildPlace, DomainId, GroupPlace, Layout, MOST_NODES, Prefix, SettledNodes, Tree,
+};
 
 /// What no choice settles, and then what each choice of the prefix does, in pre-order; behind each the group that is open then.
 pub(crate) fn walk(alloc: Global, tree: &Tree, domain: DomainId, prefix: &Prefix) -> Result<String>
@@ -42,7 +44,10 @@ fn push_nodes(text: &mut String, tree: &Tree, layout: &Layout, walk: SettledNode
     requires nodes { HoldsNodes layout.now tree.now.nodes }
 {
     let mut walk = walk;
-    while let Some(node) = layout.next_settled(&mut walk) {
+    for _ in 0..MOST_NODES {
+        let Some(node) = layout.next_settled(&mut walk) else {
+            break;
+        };
         text.push(' ')?;
         push_path(text, &tree.path_of(node)?)?;
     }
