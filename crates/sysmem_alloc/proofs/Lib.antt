@@ -12,3 +12,4 @@ pub mod Marked
 pub mod Entering
 pub mod Fates
 pub mod Confluent
+pub mod Next
