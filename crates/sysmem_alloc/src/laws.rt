@@ -50,8 +50,8 @@ pub fn confluence()
     one_answer();
 }
 
-/// The domain that is to be decided next stays so until it is: no action changes its forest, what was decided before, or which
-/// participants are accepted for it.
+/// The domain that is to be decided next stays so until it is: no action changes its forest, or the settings and the accepted nodes that
+/// it is decided on.
 pub fn next_stays()
     ensures { NextStays }
 {
