@@ -185,7 +185,8 @@ fn a_domain_without_memory_is_decided_once(rt: HostRuntime) -> Result<(), Fail> 
     let Some(domain) = book.next_ready() else {
         panic!(&rt; "the initial domain is ready");
     };
-    assert!(&rt; domain == book.tree().domain_of(root));
+    let tree = book.tree();
+    assert!(&rt; domain == tree.domain_of(tree.root()));
     book.decide(domain, None);
     standings(
         &rt,
