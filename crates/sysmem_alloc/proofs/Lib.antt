@@ -12,3 +12,5 @@ pub mod Marked
 pub mod Entering
 pub mod Fates
 pub mod Confluent
+pub mod Hosts
+pub mod Next

@@ -3,14 +3,16 @@ use Rattle.std.specs.Prelude.{◌≡◌, ◌≤◌, ℕ, List, length, Some, map
 use Rattle.sysmem_proof.specs.declared.verdict.Verdict.{Verdict}
 use Rattle.sysmem_proof.specs.Verdict.{IsSameAnswer}
 use Rattle.sysmem_sanitise.specs.Platform.{PlatformFacts}
-use Rattle.sysmem_tree.specs.Laws.{SameInitial, SameReady}
+use Rattle.sysmem_tree.specs.ActionKind.{Deed}
+use Rattle.sysmem_tree.specs.Laws.{SameInitial, SameReady, IsSameDomain}
 use Rattle.sysmem_tree.specs.Path.{at_path}
 use Rattle.sysmem_tree.specs.Step.{IsInitial}
 use Rattle.sysmem_tree.specs.History.{log_at}
 use Rattle.sysmem_alloc.specs.Decision.{Decision, decision_for}
-use Rattle.sysmem_alloc.specs.Entry.{BookEntry, tree_entry}
-use Rattle.sysmem_alloc.specs.History.{IsLegal, NoEarlyClose, SameCalls, replay}
+use Rattle.sysmem_alloc.specs.Entry.{BookEntry, Acted, tree_entry}
+use Rattle.sysmem_alloc.specs.History.{Allows, after_entry, IsLegal, NoEarlyClose, SameCalls, replay}
 use Rattle.sysmem_alloc.specs.Sound.{IsSoundState}
+use Rattle.sysmem_alloc.specs.State.{State, next_ready, base_of}
 
 -- the state of each legal history is sound
 abbrev pub LegalIsSound : Type 0
@@ -36,3 +38,14 @@ pub record AreConfluent (es fs : List BookEntry) : Type 0 where
 abbrev pub Confluence : Type 0
 Confluence = (platform : PlatformFacts) (es fs : List BookEntry) → IsLegal platform es → IsLegal platform fs → SameCalls es fs → NoEarlyClose es → NoEarlyClose fs
     → AreConfluent es fs
+
+-- the domain that is to be decided next stays so, with its forest and what it is decided on
+pub record StaysNext (old new : State) (r : ℕ) : Type 0 where
+  pub next : next_ready new ≡ Some r
+  pub domain : IsSameDomain old.tree.nodes new.tree.nodes r
+  pub base : base_of new r ≡ base_of old r
+
+-- no action changes the domain that is to be decided next, its forest, or what it is decided on
+abbrev pub NextStays : Type 0
+NextStays = (platform : PlatformFacts) (es : List BookEntry) (i : ℕ) (deed : Deed) (r : ℕ) → IsLegal platform es → Allows platform (replay es) (Acted i deed)
+    → next_ready (replay es) ≡ Some r → StaysNext (replay es) (after_entry (replay es) (Acted i deed)) r

@@ -1,6 +1,6 @@
 //! What is true of the histories of books, whoever keeps them.
 
-ghost use Rattle.sysmem_alloc.specs.Laws.{LegalIsSound, FewEntries, InitialShape, Confluence};
+ghost use Rattle.sysmem_alloc.specs.Laws.{LegalIsSound, FewEntries, NextStays, InitialShape, Confluence};
 
 use sysmem_proof::laws::one_answer;
 use sysmem_tree::laws;
@@ -48,4 +48,13 @@ pub fn confluence()
     maps_of_logs();
     laws::confluence();
     one_answer();
+}
+
+/// The domain that is to be decided next stays so until it is: no action changes its forest, or the settings and the accepted nodes that
+/// it is decided on.
+pub fn next_stays()
+    ensures { NextStays }
+{
+    legal_is_sound();
+    forest_stays();
 }
