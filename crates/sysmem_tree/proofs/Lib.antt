@@ -37,3 +37,5 @@ pub mod Settling
 pub mod ToldMembers
 pub mod Marking
 pub mod Decisions
+pub mod GroupWalks
+pub mod Shares

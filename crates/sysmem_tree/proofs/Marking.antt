@@ -35,7 +35,7 @@ marked_on marks n s rest k less same = elim (cases_eq k n) [
 ]
 
 -- one step of a walk that marks
-pub mark_next : (ps : List Place) (to at after : ℕ) (d : Place) (marks : List Bool) (ss : List Spot) (all : ℕ → Bool) → length marks ≡ 128 → HoldNumbers ps → at < to → Meets ps to at ss
+pub mark_next : (ps : List Place) (to at after : ℕ) (d : Place) (marks : List Bool) (ss : List Spot) (all : ℕ → Bool) → length marks ≡ 128 → HoldNumbers 128 ps → at < to → Meets ps to at ss
     → after ≡ past (get_or ps at d) at → ((k : ℕ) → (get_or marks k false || list_any (is_at k) ss) ≡ all k)
     → (rest : List Spot) × Meets ps to after rest × ((k : ℕ) → (get_or (slice_set marks (get_or ps at d).node true) k false || list_any (is_at k) rest) ≡ all k)
 mark_next ps to at after d marks ss all long hold less m is so_far =
@@ -49,18 +49,18 @@ mark_next ps to at after d marks ss all long hold less m is so_far =
     )
 
 -- a written place names a node too
-pub hold_written : (ps : List Place) (i : ℕ) (q : Place) → HoldNumbers ps → q.node < 128 → HoldNumbers (slice_set ps i q)
-hold_written [] i q all less k p is = absurd (cc)
-hold_written (x ∷ ps) zero q all less zero p is = subst (λ (y : Place). y.node < 128) (same_Some q p is) less
-hold_written (x ∷ ps) zero q all less (suc k) p is = all (suc k) p is
-hold_written (x ∷ ps) (suc i) q all less zero p is = all zero p is
-hold_written (x ∷ ps) (suc i) q all less (suc k) p is = hold_written ps i q (λ j. all (suc j)) less k p is
+pub hold_written : (many : ℕ) (ps : List Place) (i : ℕ) (q : Place) → HoldNumbers many ps → q.node < many → HoldNumbers many (slice_set ps i q)
+hold_written many [] i q all less k p is = absurd (cc)
+hold_written many (x ∷ ps) zero q all less zero p is = subst (λ (y : Place). y.node < many) (same_Some q p is) less
+hold_written many (x ∷ ps) zero q all less (suc k) p is = all (suc k) p is
+hold_written many (x ∷ ps) (suc i) q all less zero p is = all zero p is
+hold_written many (x ∷ ps) (suc i) q all less (suc k) p is = hold_written many ps i q (λ j. all (suc j)) less k p is
 
--- at first none does, and none is marked
-pub hold_first : (many : ℕ) → HoldNumbers (replicate many nowhere)
-hold_first zero k p is = absurd (cc)
-hold_first (suc many) zero p is = subst (λ (y : Place). y.node < 128) (same_Some nowhere p is) (omega arith)
-hold_first (suc many) (suc k) p is = hold_first many k p is
+-- at first none but the first does, and none is marked
+pub hold_first : (many : ℕ) → 0 < many → (long : ℕ) → HoldNumbers many (replicate long nowhere)
+hold_first many some zero k p is = absurd (cc)
+hold_first many some (suc long) zero p is = subst (λ (y : Place). y.node < many) (same_Some nowhere p is) some
+hold_first many some (suc long) (suc k) p is = hold_first many some long k p is
 
 pub none_marked : (many k : ℕ) → get_or (replicate many false) k false ≡ false
 none_marked zero k = refl

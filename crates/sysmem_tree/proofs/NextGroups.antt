@@ -45,7 +45,7 @@ abbrev ShownAt : List Place → Forest Spot → ℕ → Type 0
 ShownAt ps e i = (d : Place) → first_group (relabel node_of e) ≡ Some ((get_or ps i d).node, (get_or ps i d).children)
 
 -- the place of the next group has its node and its number of children
-shown_at : (ps : List Place) (e : Forest Spot) (i : ℕ) → Told ps (Some i) e
+pub shown_at : (ps : List Place) (e : Forest Spot) (i : ℕ) → Told ps (Some i) e
     → (i < 128) × ShownAt ps e i
 shown_at ps e i told = by (next_alternatives e) refl (stands ps e None told.1) where
   by : (o : Option (Alternatives Spot)) → next_alternatives e ≡ o → IfSome o (Stands ps) → (i < 128) × ShownAt ps e i

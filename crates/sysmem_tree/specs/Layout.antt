@@ -63,9 +63,9 @@ AreLaid alternatives places (forest.Group s kids rest) to next =
     IsPlace places s true kids (start rest to) (Some s.place)
     × AreLaid true places kids (start rest to) (behind alternatives rest next) × AreLaid alternatives places rest to next
 
--- the places name no nodes past the last that there may be
-abbrev pub HoldNumbers : List Place → Type 0
-HoldNumbers places = (k : ℕ) (p : Place) → slice_get places k ≡ Some p → p.node < 128
+-- the places name no nodes but the first so many
+abbrev pub HoldNumbers : ℕ → List Place → Type 0
+HoldNumbers many places = (k : ℕ) (p : Place) → slice_get places k ≡ Some p → p.node < many
 
 -- the forest of these numbers of nodes was laid out before `to`
 pub record Lays (alternatives : Bool) (places : List Place) (d : Forest ℕ) (laid : Laid) (to : ℕ) (next : Option ℕ) : Type 0 where

@@ -15,3 +15,5 @@ pub mod Laws
 pub mod Sublist
 pub mod Layout
 pub mod Prefix
+pub mod OpenGroups
+pub mod LayoutLaws

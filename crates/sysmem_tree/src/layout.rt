@@ -92,10 +92,14 @@ fn lay_from(
     requires few { length nodes.now ≤ 128 }
     requires from { from ≤ length nodes.now }
     requires end { what.end ≤ 128 }
-    requires room { size (kids_from by_number domain from (drop from nodes.now) what.parent []) ≤ what.end }
-    ensures laid { Lays what.is_group places.new (kids_from by_number domain from (drop from nodes.now) what.parent []) result what.end what.next }
+    requires room { size (kids_from by_number domain from (drop from nodes.now) what.parent [])
+        ≤ what.end }
+    ensures laid { Lays what.is_group places.new
+        (kids_from by_number domain from (drop from nodes.now) what.parent []) result what.end
+        what.next }
     ensures kept { (k : ℕ) → what.end ≤ k → slice_get places.new k ≡ slice_get places.old k }
-    ensures numbers { HoldNumbers places.old → HoldNumbers places.new }
+    ensures numbers { HoldNumbers (length nodes.now) places.old
+        → HoldNumbers (length nodes.now) places.new }
 {
     if from == nodes.len() {
         return Laid {
@@ -133,7 +137,11 @@ fn lay_from(
     }
 }
 
-/// The forest of a domain: its nodes in pre-order, in the last of 128 places.
+/// The forest of a domain: its nodes in pre-order, in the last of 128 places. `Tree::layout` makes it
+/// once, without memory; a search asks it for the first open group, for the place of each of its
+/// children, for the nodes that the choice of that child settles, and for the group that is open then.
+/// Each of these costs what it answers, and nothing else of the domain is looked at. It stands for the
+/// tree as it was: later actions and decisions don't reach it.
 #[derive(Clone, Copy, Debug)]
 pub struct Layout {
     pub(crate) places: [Place; 128],
@@ -154,7 +162,7 @@ impl Layout {
         requires tree { IsTree nodes.now }
         requires there { root < length nodes.now }
         ensures layout { IsLayout result (forest_of by_number nodes.now root []) }
-        ensures numbers { HoldNumbers result.places }
+        ensures numbers { HoldNumbers (length nodes.now) result.places }
     {
         let is_group = has_alternatives(&nodes[root]);
         let below = Children {
@@ -179,8 +187,10 @@ impl Layout {
 
     /// The place of this child of a group.
     pub(crate) fn child(&self, group: usize, choice: u8) -> usize
-        requires { (kids : Forest Spot) × AreAlternatives self.now.places (group + 1) kids × (choice < length (each kids)) }
-        ensures place { (kids kid : Forest Spot) → AreAlternatives self.now.places (group + 1) kids → slice_get (each kids) choice ≡ Some kid → start kid 0 ≡ result }
+        requires { (kids : Forest Spot) × AreAlternatives self.now.places (group + 1) kids
+            × (choice < length (each kids)) }
+        ensures place { (kids kid : Forest Spot) → AreAlternatives self.now.places (group + 1) kids
+            → slice_get (each kids) choice ≡ Some kid → start kid 0 ≡ result }
         ensures within { result < 128 }
     {
         let mut at = group + 1;
@@ -194,8 +204,11 @@ impl Layout {
 
     /// The place of the group that is next after these choices.
     pub(crate) fn group_after(&self, choices: &[u8]) -> Option<usize>
-        requires { (d : Forest ℕ) × (laid : IsLayout self.now d) × IsPrefix laid.spots choices.now }
-        ensures { (d : Forest ℕ) → (laid : IsLayout self.now d) → IfSome (after laid.spots choices.now) (λ e. (result ≡ first_place e) × AreOpen self.now.places e None) }
+        requires { (d : Forest ℕ) × (laid : IsLayout self.now d)
+            × IsPrefix laid.spots choices.now }
+        ensures { (d : Forest ℕ) → (laid : IsLayout self.now d)
+            → IfSome (after laid.spots choices.now)
+            (λ e. (result ≡ first_place e) × AreOpen self.now.places e None) }
     {
         let mut group = self.places[self.start].next;
         for choice in choices {

@@ -4,12 +4,15 @@ ghost use Rattle.std.specs.Prelude.{◌≡◌, ◌==◌, ◌^◌, ◌-◌, [], m
 ghost use Rattle.std.specs.List.{list_any};
 ghost use Rattle.sysmem_tree.specs.Domain.{HasDomain};
 ghost use Rattle.sysmem_tree.specs.Forest.{count as count_of, first_group};
+ghost use Rattle.sysmem_tree.specs.Layout.{IsLayout};
 ghost use Rattle.sysmem_tree.specs.Nodes.{HasNode};
+ghost use Rattle.sysmem_tree.specs.OpenGroups.{HoldsNodes};
 ghost use Rattle.sysmem_tree.specs.Selection.{IsPrefix, after};
 ghost use Rattle.sysmem_tree.specs.Shape.{by_number, forest_of, participants_of};
 
 use crate::count::count_selections;
 use crate::id::{DomainId, NodeId};
+use crate::layout::Layout;
 use crate::next_group::next_group;
 use crate::prefix::Prefix;
 use crate::settled::is_settled;
@@ -24,11 +27,24 @@ impl Tree {
         count_selections(&self.nodes, domain.0)
     }
 
-    /// The group that is next in a domain of the tree after these choices, with its number of children; `None` where they are a selection.
+    /// The layout of a domain of the tree, over which a search walks by one choice after the other. It
+    /// takes no memory, and the time of one pass over the nodes for each node of the domain.
+    pub fn layout(&self, domain: DomainId) -> Layout
+        requires { HasDomain self.now.nodes domain }
+        ensures lays { IsLayout result (forest_of by_number self.now.nodes domain []) }
+        ensures nodes { HoldsNodes result self.now.nodes }
+    {
+        Layout::new(&self.nodes, domain.0)
+    }
+
+    /// The group that is next in a domain of the tree after these choices, with its number of children;
+    /// `None` where they are a selection.
     pub fn next_group(&self, domain: DomainId, prefix: &Prefix) -> Option<(NodeId, u32)>
         requires domain { HasDomain self.now.nodes domain }
         requires prefix { IsPrefix (forest_of by_number self.now.nodes domain []) prefix.now }
-        ensures { IfSome (after (forest_of by_number self.now.nodes domain []) prefix.now) (λ d. result ≡ first_group d) }
+        ensures group { IfSome (after (forest_of by_number self.now.nodes domain []) prefix.now)
+            (λ d. result ≡ first_group d) }
+        ensures there { IfSome result (λ g. HasNode self.now.nodes g.0) }
     {
         next_group(&self.nodes, domain.0, prefix)
     }

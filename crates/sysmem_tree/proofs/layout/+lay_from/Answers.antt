@@ -50,4 +50,4 @@ returns-clause-kept t c = λ k p.
 pub returns-clause-numbers : goal.returns-clause-numbers
 returns-clause-numbers t c = λ all.
     let less : c.args.from < length c.args.nodes.now = omega (arith, c.requires.from, c.if-from-nodes.false) in
-    hold_written c.lay_from-kids.new.places (c.lay_from-kids.result.start - 1) _ (c.lay_from-kids.ensures.numbers (c.lay_from-rest.ensures.numbers all)) (omega (arith, less, c.requires.few))
+    hold_written (length c.args.nodes.now) c.lay_from-kids.new.places (c.lay_from-kids.result.start - 1) _ (c.lay_from-kids.ensures.numbers (c.lay_from-rest.ensures.numbers all)) less

@@ -1,5 +1,5 @@
 -- The domain's root in front of all that is below it.
-use Rattle.std.proofs.Common.{◌≡◌, suc, ◌+◌, ◌-◌, false, [], drop, length, slice_get, Some, None, refl, sym, ap, ◌∙◌, arith}
+use Rattle.std.proofs.Common.{◌≡◌, ◌<◌, suc, ◌+◌, ◌-◌, false, [], drop, length, slice_get, Some, None, refl, sym, ap, ◌∙◌, arith}
 use Rattle.std.proofs.lemmas.List.{length-drop}
 use Rattle.std.proofs.lemmas.Option.{slice_get_read}
 use Rattle.sysmem_tree.specs.Forest.{Empty}
@@ -47,4 +47,5 @@ returns-clause-layout c =
 
 pub returns-clause-numbers : goal.returns-clause-numbers
 returns-clause-numbers c =
-    hold_written c.lay_from-kids.new.places (c.lay_from-kids.result.start - 1) _ (c.lay_from-kids.ensures.numbers (hold_first 128)) (omega (arith, c.requires.there, c.requires.tree.few))
+    let some : 0 < length c.args.nodes.now = omega (arith, c.requires.there) in
+    hold_written (length c.args.nodes.now) c.lay_from-kids.new.places (c.lay_from-kids.result.start - 1) _ (c.lay_from-kids.ensures.numbers (hold_first (length c.args.nodes.now) some 128)) c.requires.there
