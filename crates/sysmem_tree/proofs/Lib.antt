@@ -39,3 +39,5 @@ pub mod Marking
 pub mod Decisions
 pub mod GroupWalks
 pub mod Shares
+pub mod ChoiceLaws
+pub mod Answering

@@ -129,7 +129,8 @@ impl Layout {
     /// node that it gives.
     pub fn next_settled(&self, walk: &mut SettledNodes) -> Option<NodeId>
         requires { (ns : List ℕ) × HasLeft self.now walk.old ns }
-        ensures next { (ns : List ℕ) → HasLeft self.now walk.old ns → MatchOption result (ns ≡ [])
+        ensures next { (ns : List ℕ) → HasLeft self.now walk.old ns
+            → MatchOption result ((ns ≡ []) × HasLeft self.now walk.new [])
             (λ node. (rest : List ℕ) × (ns ≡ node ∷ rest) × HasLeft self.now walk.new rest) }
         ensures there { (nodes : List NodeFacts) → HoldsNodes self.now nodes
             → IfSome result (HasNode nodes) }

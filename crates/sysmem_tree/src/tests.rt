@@ -11,6 +11,7 @@ use std::sync::Arc;
 use std::test::Fail;
 use sysmem_sanitise::{Constraints, read_constraints};
 
+mod open_groups;
 mod selecting;
 
 // What a step does; constraints are those of a participant with the usage cpu.

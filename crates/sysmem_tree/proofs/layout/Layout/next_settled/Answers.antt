@@ -1,11 +1,14 @@
 -- One node of a walk.
-use Rattle.std.proofs.Common.{◌≡◌, ◌<◌, length, arith}
+use Rattle.std.proofs.Common.{◌≡◌, ◌<◌, length, subst, arith}
+use Rattle.sysmem_tree.specs.OpenGroups.{HasLeft}
 use Rattle.sysmem_tree.proofs.GroupWalks.{place_there}
 use Rattle.sysmem_tree.proofs.Shares.{ends, walk_within, walks_on}
 use Rattle.sysmem_tree.proofs.layout.Layout.next_settled.Goals as goal
 
 pub returns-then-walk-clause-next : goal.returns-then-walk-clause-next
-returns-then-walk-clause-next c = λ ns g. ends c.args.self.now.places c.args.walk.now.at c.args.walk.now.end ns (omega (arith, c.if-walk.true)) g
+returns-then-walk-clause-next c = λ ns g.
+    let none = ends c.args.self.now.places c.args.walk.now.at c.args.walk.now.end ns (omega (arith, c.if-walk.true)) g in
+    (none, subst (HasLeft c.args.self.now c.args.walk.now) none g)
 
 pub bounds-self-walk : goal.bounds-self-walk
 bounds-self-walk c = let (ns, g) = c.requires in

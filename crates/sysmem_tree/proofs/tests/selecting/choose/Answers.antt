@@ -12,5 +12,5 @@ returns c =
     let d = forest_of by_number c.args.tree.now.nodes c.args.domain [] in
     subst (IsPrefix d) (sym c.push.ensures)
     (prefix_push d c.args.prefix c.args.choice _ c.in-Some.children c.requires.prefix
-    (subst (λ o. IfSome (after d c.args.prefix) (λ e. o ≡ first_group e)) c.in-Some.is c.next_group.ensures)
+    (subst (λ o. IfSome (after d c.args.prefix) (λ e. o ≡ first_group e)) c.in-Some.is c.next_group.ensures.group)
     (omega (arith, c.if-from-children.false, c.from.ensures)))

@@ -1,0 +1,6 @@
+-- See ChoiceLaws.antt.
+use Rattle.sysmem_tree.proofs.ChoiceLaws.{choices_leave_one_forest as lemma}
+use Rattle.sysmem_tree.proofs.layout_laws.choices_leave_one_forest.Goals as goal
+
+pub returns : goal.returns
+returns c = lemma

@@ -1,0 +1,6 @@
+-- See ChoiceLaws.antt.
+use Rattle.sysmem_tree.proofs.ChoiceLaws.{few_choices as lemma}
+use Rattle.sysmem_tree.proofs.layout_laws.few_choices.Goals as goal
+
+pub returns : goal.returns
+returns c = lemma

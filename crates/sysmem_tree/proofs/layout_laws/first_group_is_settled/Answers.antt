@@ -1,0 +1,6 @@
+-- See ChoiceLaws.antt.
+use Rattle.sysmem_tree.proofs.ChoiceLaws.{first_group_is_settled as lemma}
+use Rattle.sysmem_tree.proofs.layout_laws.first_group_is_settled.Goals as goal
+
+pub returns : goal.returns
+returns c = lemma
