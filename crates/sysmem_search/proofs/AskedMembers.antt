@@ -147,7 +147,7 @@ module _ (nodes : List NodeFacts) (r : ℕ) (cs : List ℕ) (tree : IsTree nodes
         let front = counts_asked (asked_of nodes base.accepted) in
         let same : counts_asked (participants (members_at nodes base.accepted ++ settled d)) ≡ front ++ counts_asked (participants (settled d)) =
         ap counts_asked (filter_map-append asked_by (members_at nodes base.accepted) (settled d)
-            ∙ ap (λ xs. xs ++ participants (settled d)) (accepted_asked nodes base.accepted))
+        ∙ ap (λ xs. xs ++ participants (settled d)) (accepted_asked nodes base.accepted))
         ∙ map-append (λ p. p.counts) (asked_of nodes base.accepted) (participants (settled d)) in
         let mixed = IsPermutation-append_right front (counts_asked (asked_of nodes ns)) (counts_asked (participants (settled d)))
         (IsPermutation-map (λ (p : Participant). p.counts) (asked_of nodes ns) (participants (settled d)) order') in (

@@ -45,7 +45,9 @@ module _ (platform : PlatformFacts) (nodes : List NodeFacts) (domain : ℕ) (bas
   decided_chosen q old new to found s chosen same empty some few h is =
       let f = subst (λ o. IsFoundOf matter (shape_of nodes domain) [] new 0 to o) some (from_none q old new to found same empty h) in
       let all : (count (shape_of nodes domain) ≤ 4096) × IsChosen (Meets matter) (IsBest matter) (shape_of nodes domain) new s
-          × IsRaised (IsLiveUpTo (MeetsSoFar matter) (shape_of nodes domain) new) 0 to =
-      (few, subst (λ xs. IsChosen (Meets matter) (IsBest matter) (shape_of nodes domain) xs s) (sym f.goes_on) f.chosen,
-      subst (λ xs. IsRaised (IsLiveUpTo (MeetsSoFar matter) (shape_of nodes domain) xs) 0 to) (sym f.goes_on) f.visited) in
+      × IsRaised (IsLiveUpTo (MeetsSoFar matter) (shape_of nodes domain) new) 0 to = (
+        few,
+        subst (λ xs. IsChosen (Meets matter) (IsBest matter) (shape_of nodes domain) xs s) (sym f.goes_on) f.chosen,
+        subst (λ xs. IsRaised (IsLiveUpTo (MeetsSoFar matter) (shape_of nodes domain) xs) 0 to) (sym f.goes_on) f.visited,
+      ) in
       subst (λ (c : ChosenFacts). IsOptimalIn platform nodes domain base (verdicts.Chosen c) × AreVisitsIn platform nodes domain base (verdicts.Chosen c) to) (sym is) ((all.0, all.1), all.2)

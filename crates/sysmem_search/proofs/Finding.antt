@@ -126,7 +126,7 @@ front_same (a ∷ xs) (b ∷ ys) x y e = rw (heads a b (xs ++ x ∷ []) (ys ++ y
   tails a b us vs e = cc
 
 module _ (m : Matter) (old pushed : List ℕ) (c n from : ℕ) (prefix : IsPrefix (forest m) old) (less : c < n) (is : pushed ≡ old ++ c ∷ [])
-  (many : IfSome (after (forest m) old) (λ d. option_map length (choices d) ≡ Some n)) where
+    (many : IfSome (after (forest m) old) (λ d. option_map length (choices d) ≡ Some n)) where
   -- the forest after the choices, its alternatives, and the one that is chosen
   record Child : Type 0 where
     forest_here : Forest Member
@@ -185,9 +185,12 @@ module _ (m : Matter) (old pushed : List ℕ) (c n from : ℕ) (prefix : IsPrefi
       -- a child that can't be met is gone through, and the choices are as before
       pub unmet_below : IfSome (after (forest m) pushed) (λ e. IsFoundOf m e pushed new between to None) → IfSome (after (forest m) old) (λ d. GoneThrough m d (c + 1) from to)
       unmet_below found = if_some (λ d. GoneThrough m d (c + 1) from to) (after (forest m) old) (λ d leads.
-          subst (λ x. GoneThrough m x (c + 1) from to) (same_Some child.forest_here d (sym child.leads ∙ leads))
-          (child.alternatives, child.open', one_more (Meets m) (IsBest m) (MeetsSoFar m) child.forest_here child.alternatives child.open' child.child c from between to is_met child.here sofar
-          (nothing found).unmet (nothing found).visited))
+          subst (λ x. GoneThrough m x (c + 1) from to) (same_Some child.forest_here d (sym child.leads ∙ leads)) (
+            child.alternatives,
+            child.open',
+            one_more (Meets m) (IsBest m) (MeetsSoFar m) child.forest_here child.alternatives child.open' child.child c from between to is_met child.here sofar
+                (nothing found).unmet (nothing found).visited,
+          ))
 
       pub same_below : IfSome (after (forest m) pushed) (λ e. IsFoundOf m e pushed new between to None) → new ≡ pushed
       same_below found = (nothing found).same

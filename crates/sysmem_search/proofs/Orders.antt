@@ -24,8 +24,8 @@ module _ {X Y : Type 0} (f : X → Option Y) where
       IsPermutation-trans (cons_option (f x) (cons_option (f y) (filter_map f l))) (cons_option (f y) (cons_option (f x) (filter_map f l))) (cons_option (f g) (cons_option (f y) (filter_map f s)))
       (heads_swap (f x) (f y) (filter_map f l))
       (IsPermutation-trans (cons_option (f y) (cons_option (f x) (filter_map f l))) (cons_option (f y) (cons_option (f g) (filter_map f s))) (cons_option (f g) (cons_option (f y) (filter_map f s)))
-          (cons_same (f y) (cons_option (f x) (filter_map f l)) (cons_option (f g) (filter_map f s)) (front_swap l j x d (omega (arith, less))))
-          (heads_swap (f y) (f g) (filter_map f s)))
+      (cons_same (f y) (cons_option (f x) (filter_map f l)) (cons_option (f g) (filter_map f s)) (front_swap l j x d (omega (arith, less))))
+      (heads_swap (f y) (f g) (filter_map f s)))
 
   swapped : (l : List X) (i j : ℕ) (d : X) → i < length l → j < length l → IsPermutation (filter_map f l) (filter_map f (slice_set (slice_set l i (slice_index_or l j d)) j (slice_index_or l i d)))
   swapped [] i j d a b = absurd (omega (arith, a))

@@ -61,7 +61,7 @@ module _ (nodes : List NodeFacts) where
       (kids_from by_path domain (s + 1) xs p r)
       behind
       (λ o. same_tree x.state.kind s (by_path s (r ++ o ∷ []) x) _ _ _ _ (ap (option_and_then (λ (n : NodeFacts). n.constraints)) here)
-          (same_kids xs domain (s + 1) s (q ++ o ∷ []) (r ++ o ∷ []) rest) behind)
+      (same_kids xs domain (s + 1) s (q ++ o ∷ []) (r ++ o ∷ []) rest) behind)
 
   same_rooted : (r : ℕ) (path : List ℕ) (o : Option NodeFacts) → slice_get nodes r ≡ o
       → relabel (asked_at nodes) (rooted by_number nodes r [] o) ≡ relabel asked_by (rooted by_path nodes r path o)

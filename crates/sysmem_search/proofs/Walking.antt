@@ -1,8 +1,8 @@
 -- What a walk over a layout has yet to give, and what one choice more settles.
-use Rattle.std.proofs.Common.{◌≡◌, ◌≢◌, ◌<◌, ◌≤◌, Bool, true, false, eqb, inl, inr, ℕ, zero, suc, ◌+◌, List, [], ◌∷◌, ◌++◌, Option, Some, None, length, take, drop, get_or, slice_get, refl, sym, ◌∙◌, ap, subst, arith, append_assoc}
+use Rattle.std.proofs.Common.{◌≡◌, ◌≢◌, ◌<◌, ◌≤◌, Bool, true, false, eqb, inl, inr, ℕ, zero, suc, ◌+◌, List, [], ◌∷◌, ◌++◌, Option, Some, None, length, take, drop, get_or, slice_get, refl, sym, ◌∙◌, ap, subst, arith, append_assoc, length-append}
 use Rattle.std.specs.Prelude.{◌||◌, All, AllPairs, IfSome, IsSome, IsSomeAnd, MatchOption, IsPermutation, option_and_then, slice_index_or}
 use Rattle.std.proofs.lemmas.List.{append-nil, take_more, take_all, take-append-drop}
-use Rattle.std.proofs.lemmas.List.Sorted.{IsPermutation-trans, IsPermutation-append_left}
+use Rattle.std.proofs.lemmas.List.Sorted.{IsPermutation-trans, IsPermutation-append_left, length_permutation}
 use Rattle.std.proofs.lemmas.Option.{same_Some, none-some, slice_get_within, option_and_then_some}
 use Rattle.std.specs.List.{AllByRecursion, IsDistinct, list_any}
 use Rattle.std.proofs.lemmas.Bool.{cases_eq, ne_eqb}
@@ -19,18 +19,22 @@ use Rattle.sysmem_tree.specs.LayoutLaws.{Settles, ChoiceSettlesShare, NoneOpenIs
 use Rattle.sysmem_tree.specs.OpenGroups.{Gives, HasLeft, place_after, IsFirstOpen, IsChildPlace, share_of}
 use Rattle.sysmem_tree.specs.Selection.{after, IsPrefix}
 
--- a walk gives no more nodes than places are left
-gives_within : (places : List Place) (at to n : ℕ) (ns : List ℕ) → Gives places at to (n ∷ ns) → at + length (n ∷ ns) ≤ length places
-gives_within places at to n [] g =
+-- a walk gives one list of nodes
+pub gives_same : (places : List Place) (to : ℕ) (ns ms : List ℕ) (at : ℕ) → Gives places at to ns → Gives places at to ms → ns ≡ ms
+gives_same places to [] [] at g h = refl
+gives_same places to [] (m ∷ ms) at g h = absurd (omega (arith, g, h.0))
+gives_same places to (n ∷ ns) [] at g h = absurd (omega (arith, g.0, h))
+gives_same places to (n ∷ ns) (m ∷ ms) at g h =
     let (p, here, node, up, rest) = g.1 in
-    let w = slice_get_within places at p here in omega (arith, w)
-gives_within places at to n (k ∷ ns) g =
-    let (p, here, node, up, rest) = g.1 in
-    let w = gives_within places (place_after p at) to k ns rest in omega (arith, w, up)
+    let (q, here', node', up', rest') = h.1 in
+    let same : q ≡ p = same_Some q p (sym here' ∙ here) in
+    let tails = gives_same places to ns ms (place_after p at) rest (subst (λ (x : Place). Gives places (place_after x at) to ms) same rest') in
+    let heads : n ≡ m = sym node ∙ (ap (λ (x : Place). x.node) (sym same) ∙ node') in
+    ap (λ x. x ∷ ns) heads ∙ ap (λ xs. m ∷ xs) tails
 
-pub gives_few : (places : List Place) (at to : ℕ) (ns : List ℕ) → Gives places at to ns → length ns ≤ length places
-gives_few places at to [] g = omega arith
-gives_few places at to (n ∷ ns) g = let w = gives_within places at to n ns g in omega (arith, w)
+of_some : {X : Type 0} (P : X → Type 0) (o : Option X) (x : X) → o ≡ Some x → IfSome o P → P x
+of_some P None x is h = absurd (cc)
+of_some P (Some y) x is h = subst P (same_Some y x is) h
 
 -- what is left of a walk after so many steps, beside what was taken
 pub record IsTaken (layout : Layout) (old now : List ℕ) (walk : SettledNodes) (steps : ℕ) (ns : List ℕ) : Type 0 where
@@ -39,17 +43,11 @@ pub record IsTaken (layout : Layout) (old now : List ℕ) (walk : SettledNodes) 
   pub left : HasLeft layout walk rest
   pub few : steps + length rest ≤ 128
 
-pub take_none : (layout : Layout) (old now : List ℕ) (walk walk' : SettledNodes) (o : Option ℕ) (steps : ℕ) (ns : List ℕ) → IsTaken layout old now walk steps ns
-    → ((rest : List ℕ) → HasLeft layout walk rest → MatchOption o (rest ≡ []) (λ node. (more : List ℕ) × (rest ≡ node ∷ more) × HasLeft layout walk' more)) → o ≡ None → now ≡ old ++ ns
-take_none layout old now walk walk' o steps ns t next none =
-    let empty : t.rest ≡ [] = subst (λ x. MatchOption x (t.rest ≡ []) (λ node. (more : List ℕ) × (t.rest ≡ node ∷ more) × HasLeft layout walk' more)) none (next t.rest t.left) in
-    sym (append-nil now) ∙ (ap (λ xs. now ++ xs) (sym empty) ∙ sym t.same)
-
 pub take_one : (layout : Layout) (old now : List ℕ) (walk walk' : SettledNodes) (o : Option ℕ) (node steps : ℕ) (ns : List ℕ) → IsTaken layout old now walk steps ns
-    → ((rest : List ℕ) → HasLeft layout walk rest → MatchOption o (rest ≡ []) (λ node. (more : List ℕ) × (rest ≡ node ∷ more) × HasLeft layout walk' more)) → o ≡ Some node
+    → ((rest : List ℕ) → HasLeft layout walk rest → MatchOption o ((rest ≡ []) × (walk'.at ≡ walk'.end)) (λ node. (more : List ℕ) × (rest ≡ node ∷ more) × HasLeft layout walk' more)) → o ≡ Some node
     → IsTaken layout old (now ++ node ∷ []) walk' (steps + 1) ns
 take_one layout old now walk walk' o node steps ns t next one =
-    let (more, is, left) = subst (λ x. MatchOption x (t.rest ≡ []) (λ node. (more : List ℕ) × (t.rest ≡ node ∷ more) × HasLeft layout walk' more)) one (next t.rest t.left) in
+    let (more, is, left) = subst (λ x. MatchOption x ((t.rest ≡ []) × (walk'.at ≡ walk'.end)) (λ node. (more : List ℕ) × (t.rest ≡ node ∷ more) × HasLeft layout walk' more)) one (next t.rest t.left) in
     let long = ap length is in
     record {
       rest = more;
@@ -112,10 +110,16 @@ module _ (layout : Layout) (d : Forest ℕ) (cs : List ℕ) (k c : ℕ) (prefixe
             (IsPermutation-append_left (share_of layout at) nodes (settled g.left) g.order)
             (of_some (λ e. IsPermutation (settled e ++ share_of layout at) (settled s.left)) (after d (take k cs)) g.left g.leads s.adds));
         open' = subst (λ xs. IsFirstOpen layout d xs group') (sym more) open';
-      } where
-        of_some : {X : Type 0} (P : X → Type 0) (o : Option X) (x : X) → o ≡ Some x → IfSome o P → P x
-        of_some P None x is h = absurd (cc)
-        of_some P (Some y) x is h = subst P (same_Some y x is) h
+      }
+
+  -- and has at most 128 nodes
+  pub share_few : (nodes : List ℕ) (group : Option ℕ) (at : ℕ) → ChoiceSettlesShare → IsGathered layout d cs k nodes group → IsChildPlace layout d (take k cs) c at
+      → ((xs : List ℕ) (e : Forest ℕ) → after d xs ≡ Some e → length (settled e) ≤ 128) → length (share_of layout at) ≤ 128
+  share_few nodes group at law g child few =
+      let s = law layout d (take k cs) c at child in
+      let long = length_permutation (settled g.left ++ share_of layout at) (settled s.left)
+      (of_some (λ e. IsPermutation (settled e ++ share_of layout at) (settled s.left)) (after d (take k cs)) g.left g.leads s.adds) in
+      let f = few (take k cs ++ c ∷ []) s.left s.leads in omega (arith, long, length-append (settled g.left) (share_of layout at), f)
 
 -- after all choices
 pub gathered_all : (layout : Layout) (d : Forest ℕ) (cs : List ℕ) (k : ℕ) (nodes : List ℕ) (group : Option ℕ) → length cs ≤ k → IsGathered layout d cs k nodes group

@@ -22,10 +22,7 @@ use sysmem_sanitise::{Constraints, Platform};
 use sysmem_tree::{NodeId, Tree};
 
 /// Adds what is asked, if anything is.
-fn add_asked(
-    aggregate: &mut Aggregate<'_>,
-    asked: Option<&Constraints>,
-) -> Result<(), AllocError>
+fn add_asked(aggregate: &mut Aggregate<'_>, asked: Option<&Constraints>) -> Result<(), AllocError>
     requires { aggregate.old.added < 1024 }
     ensures added { (platform : PlatformFacts) (ps : List Participant)
         → StandsFor aggregate.old platform ps → OnOk result (StandsFor aggregate.new platform
@@ -110,12 +107,7 @@ fn add_counts(tree: &Tree, nodes: &[NodeId], counts: &mut CountBounds)
 }
 
 /// Whether a base's settings are accepted by each participant among these nodes, and their count suits those and the accepted ones together.
-pub(crate) fn suits_base(
-    platform: &Platform,
-    tree: &Tree,
-    base: &Base,
-    nodes: &[NodeId],
-) -> bool
+pub(crate) fn suits_base(platform: &Platform, tree: &Tree, base: &Base, nodes: &[NodeId]) -> bool
     requires there { All (HasNode tree.now.nodes) nodes.now }
     requires few { length nodes.now ≤ 128 }
     requires accepted { All (HasNode tree.now.nodes) base.now.accepted }

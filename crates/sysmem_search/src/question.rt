@@ -92,7 +92,14 @@ impl<'a> Question<'a> {
         match self.base {
             None => can_be_met(self.alloc, self.platform, self.tree, self.domain, prefix),
             Some(base) => {
-                base_meets(self.alloc, self.platform, self.tree, self.domain, base, prefix)
+                base_meets(
+                    self.alloc,
+                    self.platform,
+                    self.tree,
+                    self.domain,
+                    base,
+                    prefix,
+                )
             }
         }
     }
@@ -108,7 +115,14 @@ impl<'a> Question<'a> {
         let Some(base) = self.base else {
             return best_for(self.alloc, self.platform, self.tree, self.domain, prefix);
         };
-        if base_meets(self.alloc, self.platform, self.tree, self.domain, base, prefix)? {
+        if base_meets(
+            self.alloc,
+            self.platform,
+            self.tree,
+            self.domain,
+            base,
+            prefix,
+        )? {
             return Ok(Some(base.settings()));
         }
         Ok(None)

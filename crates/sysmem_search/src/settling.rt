@@ -1,6 +1,6 @@
 //! The nodes that choices settle.
 
-ghost use Rattle.std.specs.Prelude.{◌≡◌, ◌++◌, ℕ, List, [], All, IfOk, IfSome, IsPermutation, OnOk};
+ghost use Rattle.std.specs.Prelude.{◌≡◌, ◌≤◌, ◌++◌, ℕ, List, [], length, All, IfOk, IfSome, IsPermutation, OnOk};
 ghost use Rattle.sysmem_tree.specs.Domain.{HasDomain};
 ghost use Rattle.sysmem_tree.specs.Forest.{settled};
 ghost use Rattle.sysmem_tree.specs.Node.{NodeFacts};
@@ -15,12 +15,8 @@ use sysmem_tree::layout_laws::{choice_settles_share, none_open_is_selection};
 use sysmem_tree::{DomainId, Layout, MOST_NODES, NodeId, Prefix, SettledNodes, Tree};
 
 /// Adds the nodes that a walk over the layout gives.
-fn push_walk(
-    layout: &Layout,
-    walk: SettledNodes,
-    nodes: &mut Vec<NodeId>,
-) -> Result<(), AllocError>
-    requires { (ns : List ℕ) × HasLeft layout.now walk ns }
+fn push_walk(layout: &Layout, walk: SettledNodes, nodes: &mut Vec<NodeId>) -> Result<(), AllocError>
+    requires { (ns : List ℕ) × HasLeft layout.now walk ns × (length ns ≤ 128) }
     ensures nodes { OnOk result ((ns : List ℕ) → HasLeft layout.now walk ns
         → nodes.new.items ≡ nodes.old.items ++ ns) }
     ensures there { OnOk result ((all : List NodeFacts) → HoldsNodes layout.now all
@@ -50,6 +46,7 @@ pub(crate) fn settled_nodes(
         (λ e. IsPermutation nodes.items (settled e))) }
     ensures there { IfOk result (λ nodes. All (HasNode tree.now.nodes) nodes.items) }
 {
+    tree.nodes();
     choice_settles_share();
     none_open_is_selection();
     prefix_of_prefix();

@@ -26,9 +26,15 @@ enum Deed {
     Release,
 }
 
-const PLATFORM: &str = r#"{"heaps":[{"heap_type":"ram","domains":["cpu","ram"]},{"heap_type":"cma","contiguous":true,"domains":["cpu","ram"]},{"heap_type":"vault","contiguous":true,"secure":true,"domains":["inaccessible"]}],"pairs":[{"pixel_format":"B8G8R8A8"},{"pixel_format":"B8G8R8A8","pixel_format_modifier":"INTEL_I915_X_TILED"},{"pixel_format":"NV12"},{"pixel_format":"R8"},{"pixel_format":"R8G8B8A8"}],"color_spaces":["SRGB","REC709"]}"#;
-const ANY: &str = r#"{"usage":["video"],"image_format_constraints":[{"pixel_format":"DO_NOT_CARE","color_spaces":["DO_NOT_CARE"]}]}"#;
-const NV12: &str = r#"{"usage":["video"],"image_format_constraints":[{"pixel_format":"NV12","color_spaces":["SRGB"]}]}"#;
+const PLATFORM: &str =
+    r#"{"heaps":[{"heap_type":"ram","domains":["cpu","ram"]},{"heap_type":"cma","contiguous":true,"domains":["cpu","ram"]},{"heap_type":"vault","contiguous":true,"secure":true,"domains":["inaccessible"]}],"pairs":[{"pixel_format":"B8G8R8A8"},{"pixel_format":"B8G8R8A8","pixel_format_modifier":"INTEL_I915_X_TILED"},{"pixel_format":"NV12"},{"pixel_format":"R8"},{"pixel_format":"R8G8B8A8"}],"color_spaces":["SRGB","REC709"]}"#;
+
+const ANY: &str =
+    r#"{"usage":["video"],"image_format_constraints":[{"pixel_format":"DO_NOT_CARE","color_spaces":["DO_NOT_CARE"]}]}"#;
+
+const NV12: &str =
+    r#"{"usage":["video"],"image_format_constraints":[{"pixel_format":"NV12","color_spaces":["SRGB"]}]}"#;
+
 const NEVER: &str = r#"{"usage":["cpu"],"min_buffer_count":2,"max_buffer_count":1}"#;
 
 fn platform(alloc: Global) -> Result<Platform, Fail> {

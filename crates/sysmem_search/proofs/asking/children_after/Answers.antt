@@ -11,8 +11,8 @@ pub returns-in-None-clause-number : goal.returns-in-None-clause-number
 returns-in-None-clause-number c = children_told c.args.tree.now.nodes c.args.domain c.args.prefix.now c.nodes.ensures.sound.tree (root_there c.args.tree.now.nodes c.args.domain c.requires.domain) c.requires.prefix
     None c.in-None.ensures.group
 
-pub overflow_cast-children : goal.overflow_cast-children
-overflow_cast-children c =
+pub overflow_cast-result : goal.overflow_cast-result
+overflow_cast-result c =
     let few = few_told c.args.tree.now.nodes c.args.domain c.args.prefix.now c.nodes.ensures.sound.tree (root_there c.args.tree.now.nodes c.args.domain c.requires.domain) c.requires.prefix _ _ c.in-Some.ensures.group in
     omega (arith, few.1)
 

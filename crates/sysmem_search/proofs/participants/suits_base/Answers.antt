@@ -15,4 +15,4 @@ returns-then-all_accept c =
     let test = c.suits.ensures _ (c.add_counts-2.ensures.added _ (c.add_counts.ensures.added [] c.new-bounds.ensures.stands)) in
     subst (λ (s : Settings). IsTrue c.suits.result ↔ (All (CoversOn c.args.platform.now s) here × IsCounted (counts_asked (asked_of c.args.tree.now.nodes c.args.base.now.accepted) ++ counts_asked here) s.count)) c.settings-settings.ensures
     (subst (λ xs. IsTrue c.suits.result ↔ (All (CoversOn c.args.platform.now c.settings-settings.result) here × IsCounted (counts_asked (asked_of c.args.tree.now.nodes xs) ++ counts_asked here) c.settings-settings.result.count)) c.accepted.ensures
-        (both_told c.suits.result c.all_accept.result c.if-all_accept.true c.all_accept.ensures test))
+    (both_told c.suits.result c.all_accept.result c.if-all_accept.true c.all_accept.ensures test))

@@ -23,12 +23,19 @@ loop-choice-init g t c = record {
 pub search_from-requires : goal.search_from-requires
 search_from-requires g t c = λ κs out.
     let is = c.push.ensures ∙ ap (λ xs. xs ++ c.loop-choice.choice ∷ []) c.loop-choice.invariant.same in
-    let long = long_push c.args.prefix.now c.push.new.self c.loop-choice.choice is in
-    (omega (arith, c.decreases, long, c.in-Some.ensures.room),
-    (out,
-    (pushed_prefix c.args.question.now c.args.prefix.now c.push.new.self c.loop-choice.choice c.in-Some.children 0 c.requires.prefix c.loop-choice-test.true is c.in-Some.ensures.number,
-    (c.requires.base,
-    omega (arith, long, c.in-Some.ensures.room)))))
+    let long = long_push c.args.prefix.now c.push.new.self c.loop-choice.choice is in (
+      omega (arith, c.decreases, long, c.in-Some.ensures.room),
+      (
+        out,
+        (
+          pushed_prefix c.args.question.now c.args.prefix.now c.push.new.self c.loop-choice.choice c.in-Some.children 0 c.requires.prefix c.loop-choice-test.true is c.in-Some.ensures.number,
+          (
+            c.requires.base,
+            omega (arith, long, c.in-Some.ensures.room),
+          ),
+        ),
+      ),
+    )
 
 pub returns-in-Some-2 : goal.returns-in-Some-2
 returns-in-Some-2 g t c =

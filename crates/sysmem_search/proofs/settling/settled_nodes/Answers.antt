@@ -2,7 +2,9 @@
 use Rattle.std.proofs.Common.{◌≡◌, ◌<◌, ◌≤◌, ℕ, [], ◌∷◌, ◌++◌, None, Some, length, take, refl, sym, ◌∙◌, ap, subst, arith}
 use Rattle.std.specs.Prelude.{All, IsPermutation, slice_index_or}
 use Rattle.std.proofs.lemmas.List.Sorted.{IsPermutation-refl}
-use Rattle.sysmem_search.proofs.Walking.{at_choice, one_prefix, some_open, gathered_more, gathered_all}
+use Rattle.sysmem_search.proofs.Walking.{at_choice, share_few, one_prefix, some_open, gathered_more, gathered_all}
+use Rattle.sysmem_search.proofs.AskedMembers.{root_there}
+use Rattle.sysmem_search.proofs.Shapes.{few_settled}
 use Rattle.sysmem_tree.specs.Forest.{settled}
 use Rattle.sysmem_tree.specs.Nodes.{HasNode}
 use Rattle.sysmem_tree.specs.OpenGroups.{IsFirstOpen, share_of}
@@ -11,7 +13,11 @@ use Rattle.sysmem_search.proofs.settling.settled_nodes.Goals as goal
 
 pub push_walk-requires : goal.push_walk-requires
 push_walk-requires c =
-    let d = forest_of by_number c.args.tree.now.nodes c.args.domain [] in (settled d, c.settled_first.ensures d c.layout-layout.ensures.lays)
+    let d = forest_of by_number c.args.tree.now.nodes c.args.domain [] in (
+      settled d,
+      c.settled_first.ensures d c.layout-layout.ensures.lays,
+      few_settled c.args.tree.now.nodes c.args.domain [] d c.nodes.ensures.sound.tree (root_there c.args.tree.now.nodes c.args.domain c.requires.domain) refl,
+    )
 
 pub loop-choice-init : goal.loop-choice-init
 loop-choice-init c =
@@ -38,7 +44,7 @@ returns-in_default-clause-nodes c =
     let is = at_choice items cs k c.choices-choice-items.ensures c.loop-choice-test.true in
     let prefix = one_prefix c.layout-layout.result d cs k chosen c.prefix_of_prefix.ensures c.requires.prefix less is in
     absurd (some_open c.layout-layout.result d cs k chosen c.prefix_of_prefix.ensures c.requires.prefix less is c.none_open_is_selection.ensures
-        (subst (IsFirstOpen c.layout-layout.result d (take k cs)) c.in_default.is c.loop-choice.invariant.gathered.open'))
+    (subst (IsFirstOpen c.layout-layout.result d (take k cs)) c.in_default.is c.loop-choice.invariant.gathered.open'))
 
 pub child_at-child-requires : goal.child_at-child-requires
 child_at-child-requires c =
@@ -52,6 +58,24 @@ child_at-child-requires c =
     let prefix = one_prefix c.layout-layout.result d cs k chosen c.prefix_of_prefix.ensures c.requires.prefix less is in
     let first = subst (IsFirstOpen c.layout-layout.result d (take k cs)) c.in-Some.is c.loop-choice.invariant.gathered.open' in
     (d, take k cs, first, prefix)
+
+pub push_walk-requires-in-loop-choice : goal.push_walk-requires-in-loop-choice
+push_walk-requires-in-loop-choice c =
+    let d = forest_of by_number c.args.tree.now.nodes c.args.domain [] in
+    let cs = c.args.prefix.now in
+    let k = c.loop-choice.choice-index in
+    let items = c.choices-choice-items.result.now in
+    let less = subst (λ xs. k < length xs) c.choices-choice-items.ensures c.loop-choice-test.true in
+    let chosen = slice_index_or items k 0 in
+    let is = at_choice items cs k c.choices-choice-items.ensures c.loop-choice-test.true in
+    let prefix = one_prefix c.layout-layout.result d cs k chosen c.prefix_of_prefix.ensures c.requires.prefix less is in
+    let first = subst (IsFirstOpen c.layout-layout.result d (take k cs)) c.in-Some.is c.loop-choice.invariant.gathered.open' in
+    let child = c.child_at-child.ensures.child d (take k cs) first prefix in (
+      share_of c.layout-layout.result c.child_at-child.result,
+      c.settled_with.ensures,
+      share_few c.layout-layout.result d cs k chosen c.prefix_of_prefix.ensures c.requires.prefix less is _ _ c.child_at-child.result c.choice_settles_share.ensures c.loop-choice.invariant.gathered child
+          (λ xs e leads. few_settled c.args.tree.now.nodes c.args.domain xs e c.nodes.ensures.sound.tree (root_there c.args.tree.now.nodes c.args.domain c.requires.domain) leads),
+    )
 
 pub open_after-group-requires : goal.open_after-group-requires
 open_after-group-requires c =

@@ -13,8 +13,8 @@ base_meets-requires-clause-prefix c = subst (λ m. IsPrefix (forest m) c.args.pr
 
 pub returns-then-branch : goal.returns-then-branch
 returns-then-branch c = subst (λ m. IfSome (after (forest m) c.args.prefix.now) (λ d. IsBest m (settled d) c.settings.result)) c.self.view_is
-    (attached_best _ c.in-Some.base.now c.args.prefix.now c.in_ok-base_meets.field-0 c.settings.result (ap (option_map (λ b. b.now)) c.in-Some.is) c.if-branch.true c.settings.ensures c.in_ok-base_meets.ensures)
+    (attached_best (record { platform = c.self.inside.platform.now; nodes = c.self.inside.tree.now.nodes; domain = c.self.inside.domain; base = option_map (λ b. b.now) c.self.inside.base }) c.in-Some.base.now c.args.prefix.now c.in_ok-base_meets.field-0 c.settings.result (ap (option_map (λ b. b.now)) c.in-Some.is) c.if-branch.true c.settings.ensures c.in_ok-base_meets.ensures)
 
 pub returns : goal.returns
 returns c = subst (λ m. IfSome (after (forest m) c.args.prefix.now) (λ d. (t : Settings) → ¬ (Meets m (settled d) t))) c.self.view_is
-    (attached_none _ c.in-Some.base.now c.args.prefix.now c.in_ok-base_meets.field-0 (ap (option_map (λ b. b.now)) c.in-Some.is) c.if-branch.false c.in_ok-base_meets.ensures)
+    (attached_none (record { platform = c.self.inside.platform.now; nodes = c.self.inside.tree.now.nodes; domain = c.self.inside.domain; base = option_map (λ b. b.now) c.self.inside.base }) c.in-Some.base.now c.args.prefix.now c.in_ok-base_meets.field-0 (ap (option_map (λ b. b.now)) c.in-Some.is) c.if-branch.false c.in_ok-base_meets.ensures)
