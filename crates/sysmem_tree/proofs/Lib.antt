@@ -41,3 +41,4 @@ pub mod GroupWalks
 pub mod Shares
 pub mod ChoiceLaws
 pub mod Answering
+pub mod Onward

@@ -14,11 +14,14 @@ use crate::settled::past;
 
 /// Marks the nodes between two places that no group there has yet to choose.
 fn mark(layout: &Layout, from: usize, to: usize, marks: &mut [bool; 128])
-    requires laid { (w : Forest Spot) × (g : Bool) × (next : Option ℕ) × AreLaid g layout.now.places w to next × (start w to ≡ from) }
+    requires laid { (w : Forest Spot) × (g : Bool) × (next : Option ℕ)
+        × AreLaid g layout.now.places w to next × (start w to ≡ from) }
     requires numbers { HoldNumbers 128 layout.now.places }
     requires to { to ≤ 128 }
-    ensures { (w : Forest Spot) (g : Bool) (next : Option ℕ) → AreLaid g layout.now.places w to next → start w to ≡ from
-        → (k : ℕ) → get_or marks.new k false ≡ (get_or marks.old k false || list_any (λ s. s.node == k) (settled w)) }
+    ensures { (w : Forest Spot) (g : Bool) (next : Option ℕ)
+        → AreLaid g layout.now.places w to next → start w to ≡ from → (k : ℕ)
+        → get_or marks.new k false
+        ≡ (get_or marks.old k false || list_any (λ s. s.node == k) (settled w)) }
 {
     let mut at = from;
     while at < to {
@@ -31,8 +34,10 @@ fn mark(layout: &Layout, from: usize, to: usize, marks: &mut [bool; 128])
 /// The nodes that choices settle, marked by their numbers.
 fn marks_after(layout: &Layout, choices: &[u8]) -> [bool; 128]
     requires numbers { HoldNumbers 128 layout.now.places }
-    requires prefix { (d : Forest ℕ) × (laid : IsLayout layout.now d) × IsPrefix laid.spots choices.now }
-    ensures { (d : Forest ℕ) → (laid : IsLayout layout.now d) → (k : ℕ) → IfSome (after laid.spots choices.now)
+    requires prefix { (d : Forest ℕ) × (laid : IsLayout layout.now d)
+        × IsPrefix laid.spots choices.now }
+    ensures { (d : Forest ℕ) → (laid : IsLayout layout.now d) → (k : ℕ)
+        → IfSome (after laid.spots choices.now)
         (λ e. get_or result k false ≡ list_any (λ s. s.node == k) (settled e)) }
 {
     let mut marks = [false; 128];
@@ -54,7 +59,8 @@ pub(crate) fn members(nodes: &[Node], root: usize, choices: &[u8]) -> [bool; 128
     requires tree { IsTree nodes.now }
     requires there { root < length nodes.now }
     requires prefix { IsPrefix (forest_of by_number nodes.now root []) choices.now }
-    ensures { (k : ℕ) → get_or result k false ≡ list_any (λ m. m == k) (members_of nodes.now root choices.now) }
+    ensures { (k : ℕ) → get_or result k false
+        ≡ list_any (λ m. m == k) (members_of nodes.now root choices.now) }
 {
     marks_after(&Layout::new(nodes, root), choices)
 }

@@ -22,7 +22,8 @@ impl Tree {
     /// How many selections a domain of the tree has; `u64::MAX` where it has more.
     pub fn count_selections(&self, domain: DomainId) -> u64
         requires { HasDomain self.now.nodes domain }
-        ensures { result ≡ min (count_of (forest_of by_number self.now.nodes domain [])) (2 ^ 64 - 1) }
+        ensures { result
+            ≡ min (count_of (forest_of by_number self.now.nodes domain [])) (2 ^ 64 - 1) }
     {
         count_selections(&self.nodes, domain.0)
     }
@@ -54,7 +55,8 @@ impl Tree {
         requires domain { HasDomain self.now.nodes domain }
         requires node { HasNode self.now.nodes node }
         requires prefix { IsPrefix (forest_of by_number self.now.nodes domain []) prefix.now }
-        ensures { result ≡ list_any (λ i. i == node) (participants_of self.now.nodes domain prefix.now) }
+        ensures { result
+            ≡ list_any (λ i. i == node) (participants_of self.now.nodes domain prefix.now) }
     {
         self.constraints_of(node).is_some() && is_settled(&self.nodes, domain.0, prefix, node.0)
     }

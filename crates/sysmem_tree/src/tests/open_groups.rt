@@ -15,9 +15,8 @@ fn gives(layout: &Layout, walk: SettledNodes, wanted: &[NodeId]) -> bool
 {
     let mut walk = walk;
     for node in wanted {
-        match layout.next_settled(&mut walk) {
-            Some(given) if given == *node => {}
-            _ => return false,
+        if layout.next_settled(&mut walk) != Some(*node) {
+            return false;
         }
     }
     layout.next_settled(&mut walk).is_none()
