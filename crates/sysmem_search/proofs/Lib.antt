@@ -1,0 +1,9 @@
+pub mod Orders
+pub mod Raising
+pub mod Shapes
+pub mod Sofar
+pub mod Finding
+pub mod AskedMembers
+pub mod Decided
+pub mod Walking
+pub mod Taking

@@ -1,0 +1,169 @@
+-- What a walk over a layout has yet to give, and what one choice more settles.
+use Rattle.std.proofs.Common.{◌≡◌, ◌≢◌, ◌<◌, ◌≤◌, Bool, true, false, eqb, inl, inr, ℕ, zero, suc, ◌+◌, List, [], ◌∷◌, ◌++◌, Option, Some, None, length, take, drop, get_or, slice_get, refl, sym, ◌∙◌, ap, subst, arith, append_assoc, length-append}
+use Rattle.std.specs.Prelude.{◌||◌, All, AllPairs, IfSome, IsSome, IsSomeAnd, MatchOption, IsPermutation, option_and_then, slice_index_or}
+use Rattle.std.proofs.lemmas.List.{append-nil, take_more, take_all, take-append-drop}
+use Rattle.std.proofs.lemmas.List.Sorted.{IsPermutation-trans, IsPermutation-append_left, length_permutation}
+use Rattle.std.proofs.lemmas.Option.{same_Some, none-some, slice_get_within, option_and_then_some}
+use Rattle.std.specs.List.{AllByRecursion, IsDistinct, list_any}
+use Rattle.std.proofs.lemmas.Bool.{cases_eq, ne_eqb}
+use Rattle.std.proofs.lemmas.Map.Steps.{length-le_from_distinct_below}
+use Rattle.sysmem_proof.specs.Base.{IsElsewhere}
+use Rattle.sysmem_tree.specs.Node.{NodeFacts}
+use Rattle.sysmem_tree.specs.Nodes.{HasNode}
+use Rattle.sysmem_tree.specs.declared.layout.Layout.{Layout}
+use Rattle.sysmem_tree.specs.declared.layout.Place.{Place}
+use Rattle.sysmem_tree.specs.declared.open_groups.SettledNodes.{SettledNodes}
+use Rattle.sysmem_tree.specs.Forest.{Forest, choices, settled}
+use Rattle.sysmem_tree.specs.Laws.{PrefixOfPrefix}
+use Rattle.sysmem_tree.specs.LayoutLaws.{Settles, ChoiceSettlesShare, NoneOpenIsSelection}
+use Rattle.sysmem_tree.specs.OpenGroups.{Gives, HasLeft, place_after, IsFirstOpen, IsChildPlace, share_of}
+use Rattle.sysmem_tree.specs.Selection.{after, IsPrefix}
+
+-- a walk gives one list of nodes
+pub gives_same : (places : List Place) (to : ℕ) (ns ms : List ℕ) (at : ℕ) → Gives places at to ns → Gives places at to ms → ns ≡ ms
+gives_same places to [] [] at g h = refl
+gives_same places to [] (m ∷ ms) at g h = absurd (omega (arith, g, h.0))
+gives_same places to (n ∷ ns) [] at g h = absurd (omega (arith, g.0, h))
+gives_same places to (n ∷ ns) (m ∷ ms) at g h =
+    let (p, here, node, up, rest) = g.1 in
+    let (q, here', node', up', rest') = h.1 in
+    let same : q ≡ p = same_Some q p (sym here' ∙ here) in
+    let tails = gives_same places to ns ms (place_after p at) rest (subst (λ (x : Place). Gives places (place_after x at) to ms) same rest') in
+    let heads : n ≡ m = sym node ∙ (ap (λ (x : Place). x.node) (sym same) ∙ node') in
+    ap (λ x. x ∷ ns) heads ∙ ap (λ xs. m ∷ xs) tails
+
+of_some : {X : Type 0} (P : X → Type 0) (o : Option X) (x : X) → o ≡ Some x → IfSome o P → P x
+of_some P None x is h = absurd (cc)
+of_some P (Some y) x is h = subst P (same_Some y x is) h
+
+-- what is left of a walk after so many steps, beside what was taken
+pub record IsTaken (layout : Layout) (old now : List ℕ) (walk : SettledNodes) (steps : ℕ) (ns : List ℕ) : Type 0 where
+  pub rest : List ℕ
+  pub same : old ++ ns ≡ now ++ rest
+  pub left : HasLeft layout walk rest
+  pub few : steps + length rest ≤ 128
+
+pub take_one : (layout : Layout) (old now : List ℕ) (walk walk' : SettledNodes) (o : Option ℕ) (node steps : ℕ) (ns : List ℕ) → IsTaken layout old now walk steps ns
+    → ((rest : List ℕ) → HasLeft layout walk rest → MatchOption o ((rest ≡ []) × (walk'.at ≡ walk'.end)) (λ node. (more : List ℕ) × (rest ≡ node ∷ more) × HasLeft layout walk' more)) → o ≡ Some node
+    → IsTaken layout old (now ++ node ∷ []) walk' (steps + 1) ns
+take_one layout old now walk walk' o node steps ns t next one =
+    let (more, is, left) = subst (λ x. MatchOption x ((t.rest ≡ []) × (walk'.at ≡ walk'.end)) (λ node. (more : List ℕ) × (t.rest ≡ node ∷ more) × HasLeft layout walk' more)) one (next t.rest t.left) in
+    let long = ap length is in
+    record {
+      rest = more;
+      same = t.same ∙ (ap (λ xs. now ++ xs) is ∙ sym (append_assoc now (node ∷ []) more));
+      left = left;
+      few = omega (arith, long, t.few);
+    }
+
+pub took_all : (layout : Layout) (old now : List ℕ) (walk : SettledNodes) (steps : ℕ) (ns : List ℕ) → IsTaken layout old now walk steps ns → 128 ≤ steps → now ≡ old ++ ns
+took_all layout old now walk steps ns t over = by t.rest t.same t.few where
+  by : (rest : List ℕ) → old ++ ns ≡ now ++ rest → steps + length rest ≤ 128 → now ≡ old ++ ns
+  by [] same few = sym (append-nil now) ∙ sym same
+  by (x ∷ rest) same few = absurd (omega (arith, few, over))
+
+-- one node more of the tree
+pub all_push : {X : Type 0} (P : X → Type 0) (xs : List X) (x : X) → All P xs → P x → All P (xs ++ x ∷ [])
+all_push P [] x all p zero d less = p
+all_push P [] x all p (suc k) d less = absurd (omega (arith, less))
+all_push P (y ∷ xs) x all p zero d less = all zero d (omega arith)
+all_push P (y ∷ xs) x all p (suc k) d less = all_push P xs x (λ j d' w. all (suc j) d' (omega (arith, w))) p k d (omega (arith, less))
+
+-- the nodes that the first choices settle, and the group that is open then
+pub record IsGathered (layout : Layout) (d : Forest ℕ) (cs : List ℕ) (k : ℕ) (nodes : List ℕ) (group : Option ℕ) : Type 0 where
+  pub left : Forest ℕ
+  pub leads : after d (take k cs) ≡ Some left
+  pub order : IsPermutation nodes (settled left)
+  pub open' : IsFirstOpen layout d (take k cs) group
+
+module _ (layout : Layout) (d : Forest ℕ) (cs : List ℕ) (k c : ℕ) (prefixes : PrefixOfPrefix) (prefix : IsPrefix d cs) (less : k < length cs) (is : c ≡ get_or cs k c) where
+  more : take (k + 1) cs ≡ take k cs ++ c ∷ []
+  more = take_more cs k c less ∙ ap (λ x. take k cs ++ x ∷ []) (sym is)
+
+  pub one_prefix : IsPrefix d (take k cs ++ c ∷ [])
+  one_prefix = prefixes d (take k cs ++ c ∷ []) (drop (k + 1) cs) (subst (IsPrefix d) (sym (ap (λ xs. xs ++ drop (k + 1) cs) (sym more) ∙ take-append-drop (k + 1) cs)) prefix)
+
+  after_one : (xs : List ℕ) (f e : Forest ℕ) → after f xs ≡ Some e → after f (xs ++ c ∷ []) ≡ after e (c ∷ [])
+  after_one [] f e leads = ap (λ x. after x (c ∷ [])) (same_Some f e leads)
+  after_one (x ∷ xs) f e leads = option_and_then_some (λ y. after y xs) (option_and_then (λ es. slice_get es x) (choices f)) e leads
+      (λ y one on. ap (option_and_then (λ z. after z (xs ++ c ∷ []))) one ∙ after_one xs y e on)
+
+  -- a group is open, since a choice is left
+  pub some_open : NoneOpenIsSelection → IsFirstOpen layout d (take k cs) None → ⊥
+  some_open law open' =
+      let w = law layout d (take k cs) None open' in
+      let none : after w.left (c ∷ []) ≡ None = ap (λ o. option_and_then (λ e. after e []) (option_and_then (λ es. slice_get es c) o)) (w.whole.0 refl) in
+      by (after d (take k cs ++ c ∷ [])) one_prefix (after_one (take k cs) d w.left w.leads ∙ none) where
+        by : (o : Option (Forest ℕ)) → IsSome o → o ≡ None → ⊥
+        by None h e = absurd (cc)
+        by (Some x) h e = absurd (cc)
+
+  -- the share of the chosen child is settled too
+  pub gathered_more : (nodes nodes' : List ℕ) (group group' : Option ℕ) (at : ℕ) → ChoiceSettlesShare → IsGathered layout d cs k nodes group → IsChildPlace layout d (take k cs) c at
+      → nodes' ≡ nodes ++ share_of layout at → IsFirstOpen layout d (take k cs ++ c ∷ []) group' → IsGathered layout d cs (k + 1) nodes' group'
+  gathered_more nodes nodes' group group' at law g child pushed open' =
+      let s = law layout d (take k cs) c at child in
+      record {
+        left = s.left;
+        leads = ap (after d) more ∙ s.leads;
+        order = subst (λ xs. IsPermutation xs (settled s.left)) (sym pushed) (IsPermutation-trans (nodes ++ share_of layout at) (settled g.left ++ share_of layout at) (settled s.left)
+            (IsPermutation-append_left (share_of layout at) nodes (settled g.left) g.order)
+            (of_some (λ e. IsPermutation (settled e ++ share_of layout at) (settled s.left)) (after d (take k cs)) g.left g.leads s.adds));
+        open' = subst (λ xs. IsFirstOpen layout d xs group') (sym more) open';
+      }
+
+  -- and has at most 128 nodes
+  pub share_few : (nodes : List ℕ) (group : Option ℕ) (at : ℕ) → ChoiceSettlesShare → IsGathered layout d cs k nodes group → IsChildPlace layout d (take k cs) c at
+      → ((xs : List ℕ) (e : Forest ℕ) → after d xs ≡ Some e → length (settled e) ≤ 128) → length (share_of layout at) ≤ 128
+  share_few nodes group at law g child few =
+      let s = law layout d (take k cs) c at child in
+      let long = length_permutation (settled g.left ++ share_of layout at) (settled s.left)
+      (of_some (λ e. IsPermutation (settled e ++ share_of layout at) (settled s.left)) (after d (take k cs)) g.left g.leads s.adds) in
+      let f = few (take k cs ++ c ∷ []) s.left s.leads in omega (arith, long, length-append (settled g.left) (share_of layout at), f)
+
+-- after all choices
+pub gathered_all : (layout : Layout) (d : Forest ℕ) (cs : List ℕ) (k : ℕ) (nodes : List ℕ) (group : Option ℕ) → length cs ≤ k → IsGathered layout d cs k nodes group
+    → IfSome (after d cs) (λ e. IsPermutation nodes (settled e))
+gathered_all layout d cs k nodes group over g = by (after d cs) (ap (after d) (sym (take_all k cs over)) ∙ g.leads) where
+  by : (o : Option (Forest ℕ)) → o ≡ Some g.left → IfSome o (λ e. IsPermutation nodes (settled e))
+  by None is = tt
+  by (Some e) is = subst (λ x. IsPermutation nodes (settled x)) (sym (same_Some e g.left is)) g.order
+
+-- what a base names is there
+pub elsewhere_there : (nodes : List NodeFacts) (domain : ℕ) (ns : List ℕ) → All (IsElsewhere nodes domain) ns → All (HasNode nodes) ns
+elsewhere_there nodes domain ns all k d less = by (slice_index_or ns k d) (slice_get nodes (slice_index_or ns k d)) refl (all k d less) where
+  by : (i : ℕ) (o : Option NodeFacts) → slice_get nodes i ≡ o → IsSomeAnd o (λ n. n.domain ≢ domain) → i < length nodes
+  by i None is h = absurd h
+  by i (Some n) is h = slice_get_within nodes i n is
+
+-- different numbers below one are no more than it
+other_heads : (x : ℕ) (ys : List ℕ) → ((k d : ℕ) → k < length ys → x ≢ slice_index_or ys k d) → AllByRecursion (λ y. eqb x y ≡ false) ys
+other_heads x [] h = tt
+other_heads x (y ∷ ys) h = (ne_eqb x y (h 0 0 (omega arith)), other_heads x ys (λ k d less. h (suc k) d (omega (arith, less))))
+
+distinct_of : (xs : List ℕ) → AllPairs (λ i j. i ≢ j) xs → IsDistinct eqb xs
+unfolding IsDistinct
+distinct_of [] h = tt
+distinct_of (x ∷ xs) h = (
+  other_heads x xs (λ k d less. h 0 (suc k) d (omega arith) (omega (arith, less))),
+  distinct_of xs (λ i j d less within. h (suc i) (suc j) d (omega (arith, less)) (omega (arith, within))),
+)
+
+below_all : (n : ℕ) (xs : List ℕ) → All (λ x. x < n) xs → (q : ℕ) → list_any (eqb q) xs ≡ true → q < n
+below_all n [] all q h = absurd (cc)
+below_all n (x ∷ xs) all q h = elim (cases_eq q x) [
+  | inl same ↦ subst (λ y. y < n) (sym same) (all 0 0 (omega arith))
+  | inr other ↦ below_all n xs (λ k d less. all (suc k) d (omega (arith, less))) q (sym (ap (λ b. b || list_any (eqb q) xs) (ne_eqb q x other)) ∙ h)
+]
+
+pub few_different : (xs : List ℕ) (n : ℕ) → AllPairs (λ i j. i ≢ j) xs → All (λ x. x < n) xs → length xs ≤ n
+few_different xs n differ below = length-le_from_distinct_below xs n (distinct_of xs differ) (below_all n xs below)
+
+-- an element within a list, whatever stands for those past its end
+same_get : (xs : List ℕ) (k a b : ℕ) → k < length xs → slice_index_or xs k a ≡ slice_index_or xs k b
+same_get [] k a b less = absurd (omega (arith, less))
+same_get (x ∷ xs) zero a b less = refl
+same_get (x ∷ xs) (suc k) a b less = same_get xs k a b (omega (arith, less))
+
+pub at_choice : (items cs : List ℕ) (k : ℕ) → items ≡ cs → k < length items → slice_index_or items k 0 ≡ get_or cs k (slice_index_or items k 0)
+at_choice items cs k is less = same_get items k 0 (slice_index_or items k 0) less ∙ ap (λ xs. get_or xs k (slice_index_or items k 0)) is

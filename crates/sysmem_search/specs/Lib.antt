@@ -1,0 +1,4 @@
+pub mod Live
+pub mod Visits
+pub mod Question
+pub mod Searching

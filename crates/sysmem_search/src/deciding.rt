@@ -1,0 +1,71 @@
+//! The decision of a domain.
+
+ghost use Rattle.std.specs.Prelude.{◌≡◌, true, option_map, IfOk};
+ghost use Rattle.sysmem_proof.specs.Base.{IsGivenBase};
+ghost use Rattle.sysmem_proof.specs.Verdict.{IsOptimalIn};
+ghost use Rattle.sysmem_search.specs.Visits.{AreVisitsIn};
+ghost use Rattle.sysmem_tree.specs.Domain.{HasDomain, is_ready};
+
+use crate::gate::Gate;
+use crate::question::Question;
+use crate::searching::search_from;
+use std::alloc::{AllocError, Global};
+use sysmem_proof::{Base, Chosen, Verdict};
+use sysmem_sanitise::Platform;
+use sysmem_tree::{DomainId, Prefix, Tree};
+
+/// The most selections that a decision goes through.
+pub const MOST_SELECTIONS: u64 = 4096;
+
+/// What a search found.
+#[derive(Debug, Drop)]
+pub struct Found {
+    /// `Chosen`, `IntersectionEmpty` or `TooMany`.
+    pub verdict: Verdict,
+    /// How many prefixes were visited, the empty one included; at most `u64::MAX`.
+    pub visits: u64,
+}
+
+/// Decides a domain of the tree that is ready, for an attached one on the base that is given: the first selection that any settings meet,
+/// with the best settings for it. Where there are more than 4,096 selections it answers `TooMany`, and visits none. It goes through
+/// prefixes of choices, the first child first, and not beyond one of which nothing meets the settled participants; that
+/// nobody names an image's format, modifier or colour space is asked of whole selections alone. The gate is told of each visit.
+/// `AllocError` where memory is refused.
+pub fn search<G: Gate>(
+    alloc: Global,
+    platform: &Platform,
+    tree: &Tree,
+    domain: DomainId,
+    base: Option<&Base>,
+    gate: &G,
+) -> Result<Found, AllocError>
+    requires domain { HasDomain tree.now.nodes domain }
+    requires ready { is_ready tree.now domain ≡ true }
+    requires base { IsGivenBase platform.now tree.now.nodes domain
+        (option_map (λ b. b.now) base) }
+    ensures optimal { IfOk result (λ found.
+        IsOptimalIn platform.now tree.now.nodes domain (option_map (λ b. b.now) base.entry) found.verdict) }
+    ensures visits { IfOk result (λ found.
+        AreVisitsIn platform.now tree.now.nodes domain (option_map (λ b. b.now) base.entry) found.verdict
+        found.visits) }
+{
+    if tree.count_selections(domain) > MOST_SELECTIONS {
+        return Ok(Found {
+            verdict: Verdict::TooMany,
+            visits: 0,
+        });
+    }
+    let question = Question::new(alloc, platform, tree, domain, base);
+    let mut prefix = Prefix::new();
+    let mut visits = 0;
+    let Some(settings) = search_from(&question, gate, &mut prefix, &mut visits)? else {
+        return Ok(Found {
+            verdict: Verdict::IntersectionEmpty,
+            visits,
+        });
+    };
+    Ok(Found {
+        verdict: Verdict::Chosen(Chosen::new(prefix, settings)),
+        visits,
+    })
+}

@@ -1,0 +1,20 @@
+//! The decision of a domain: the first selection of children that any settings can meet.
+//!
+//! ```
+//! let found = search(rt.alloc(), &platform, &tree, domain, None, &NoGate)?;
+//! ```
+#![tactic(auto)]
+
+mod asking;
+mod deciding;
+mod gate;
+mod participants;
+mod question;
+mod searching;
+mod settling;
+
+pub use deciding::{Found, MOST_SELECTIONS, search};
+pub use gate::{Gate, NoGate};
+
+#[cfg(test)]
+mod tests;

@@ -1,0 +1,194 @@
+//! Decisions of small trees: verdicts, and how many prefixes are visited.
+
+ghost use Rattle.std.specs.Prelude.{IfOk, IfSome};
+ghost use Rattle.sysmem_tree.specs.Domain.{HasDomain};
+ghost use Rattle.sysmem_tree.specs.Nodes.{HasNode};
+
+use crate::{Found, NoGate, search};
+use serde_json::Value;
+use std::alloc::Global;
+use std::process::Abort;
+use std::sync::Arc;
+use std::test::Fail;
+use sysmem_proof::Verdict;
+use sysmem_sanitise::{Platform, read_constraints, read_platform};
+use sysmem_tree::{Action, DomainId, Event, NodeId, Path, Tree};
+
+// What a step does; constraints are given as JSON.
+#[derive(Clone, Copy)]
+enum Deed {
+    Duplicate,
+    CreateGroup,
+    Bind,
+    CreateChild,
+    AllChildrenPresent,
+    Set(&'static str),
+    Release,
+}
+
+const PLATFORM: &str =
+    r#"{"heaps":[{"heap_type":"ram","domains":["cpu","ram"]},{"heap_type":"cma","contiguous":true,"domains":["cpu","ram"]},{"heap_type":"vault","contiguous":true,"secure":true,"domains":["inaccessible"]}],"pairs":[{"pixel_format":"B8G8R8A8"},{"pixel_format":"B8G8R8A8","pixel_format_modifier":"INTEL_I915_X_TILED"},{"pixel_format":"NV12"},{"pixel_format":"R8"},{"pixel_format":"R8G8B8A8"}],"color_spaces":["SRGB","REC709"]}"#;
+
+const ANY: &str =
+    r#"{"usage":["video"],"image_format_constraints":[{"pixel_format":"DO_NOT_CARE","color_spaces":["DO_NOT_CARE"]}]}"#;
+
+const NV12: &str =
+    r#"{"usage":["video"],"image_format_constraints":[{"pixel_format":"NV12","color_spaces":["SRGB"]}]}"#;
+
+const NEVER: &str = r#"{"usage":["cpu"],"min_buffer_count":2,"max_buffer_count":1}"#;
+
+fn platform(alloc: Global) -> Result<Platform, Fail> {
+    let record: Value = serde_json::from_str(alloc, PLATFORM)?;
+    Ok(read_platform(alloc, &record)?)
+}
+
+fn action(alloc: Global, deed: Deed) -> Result<Action, Fail> {
+    Ok(match deed {
+        Deed::Duplicate => Action::Duplicate,
+        Deed::CreateGroup => Action::CreateGroup,
+        Deed::Bind => Action::Bind,
+        Deed::CreateChild => Action::CreateChild,
+        Deed::AllChildrenPresent => Action::AllChildrenPresent,
+        Deed::Set(text) => {
+            let record: Value = serde_json::from_str(alloc, text)?;
+            let constraints = read_constraints(alloc, &record)?;
+            Action::SetConstraints(Some(Arc::new(alloc, constraints)?))
+        }
+        Deed::Release => Action::Release,
+    })
+}
+
+// The node at a path that is there.
+fn at(alloc: Global, tree: &Tree, path: &[u32]) -> Result<NodeId, Fail>
+    ensures { IfOk result (λ node. HasNode tree.now.nodes node) }
+{
+    let mut ordinals = Vec::new(alloc);
+    ordinals.extend_from_slice(path)?;
+    match tree.node_at(&Path::new(ordinals)) {
+        Some(node) => Ok(node),
+        None => Err(Fail::new("no node at this path")),
+    }
+}
+
+// Makes each step at its path; each has to be accepted.
+fn play(alloc: Global, tree: &mut Tree, steps: &[(&[u32], Deed)]) -> Result<(), Fail> {
+    for (path, deed) in steps {
+        let node = at(alloc, tree, path)?;
+        let action = action(alloc, *deed)?;
+        if tree.apply(Event { node, action }).is_err() {
+            return Err(Fail::new("refused"));
+        }
+    }
+    Ok(())
+}
+
+// Groups of two released children each, below the root, but that the first child of the first group can't be met; then the root's release.
+fn groups_of_two(alloc: Global, tree: &mut Tree, many: u32) -> Result<(), Fail> {
+    for group in 0..many {
+        play(
+            alloc,
+            tree,
+            &[
+                (&[], Deed::CreateGroup),
+                (&[group], Deed::CreateChild),
+                (&[group], Deed::CreateChild),
+                (&[group], Deed::AllChildrenPresent),
+                (&[group, 1], Deed::Release),
+            ],
+        )?;
+        if group > 0 {
+            play(alloc, tree, &[(&[group, 0], Deed::Release)])?;
+        }
+    }
+    play(
+        alloc,
+        tree,
+        &[
+            (&[0, 0], Deed::Bind),
+            (&[0, 0], Deed::Set(NEVER)),
+            (&[], Deed::Release),
+        ],
+    )
+}
+
+// Decides the initial domain, which has to be ready.
+fn decide(alloc: Global, tree: &Tree) -> Result<Found, Fail> {
+    let domain = tree.domain_of(tree.root());
+    if !tree.ready(domain) || tree.host_of(domain).is_some() {
+        return Err(Fail::new("not ready"));
+    }
+    Ok(search(alloc, &platform(alloc)?, tree, domain, None, &NoGate)?)
+}
+
+// Whether these choices were chosen.
+fn chose(found: &Found, choices: &[u8]) -> bool {
+    match &found.verdict {
+        Verdict::Chosen(chosen) => chosen.selection().choices() == choices,
+        _ => false,
+    }
+}
+
+// Two groups below a bound root, with two children and one; the second group's child sets these constraints.
+fn two_groups(alloc: Global, last: &'static str) -> Result<Tree, Fail> {
+    let mut tree = Tree::new(alloc)?;
+    play(
+        alloc,
+        &mut tree,
+        &[
+            (&[], Deed::CreateGroup),
+            (&[0], Deed::CreateChild),
+            (&[0], Deed::CreateChild),
+            (&[0], Deed::AllChildrenPresent),
+            (&[], Deed::CreateGroup),
+            (&[1], Deed::CreateChild),
+            (&[1], Deed::AllChildrenPresent),
+            (&[], Deed::Bind),
+            (&[], Deed::Set(ANY)),
+            (&[0, 0], Deed::Bind),
+            (&[0, 0], Deed::Set(ANY)),
+            (&[0, 1], Deed::Bind),
+            (&[0, 1], Deed::Set(ANY)),
+            (&[1, 0], Deed::Bind),
+            (&[1, 0], Deed::Set(last)),
+        ],
+    )?;
+    Ok(tree)
+}
+
+#[test]
+fn a_later_group_names_the_format(rt: HostRuntime) -> Result<(), Fail> {
+    let tree = two_groups(rt.alloc(), NV12)?;
+    let found = decide(rt.alloc(), &tree)?;
+    assert_eq!(&rt; found.visits, 3);
+    assert!(&rt; chose(&found, &[0, 0]));
+    Ok(())
+}
+
+#[test]
+fn nothing_named(rt: HostRuntime) -> Result<(), Fail> {
+    let tree = two_groups(rt.alloc(), ANY)?;
+    let found = decide(rt.alloc(), &tree)?;
+    assert_eq!(&rt; found.visits, 5);
+    assert!(&rt; matches!(found.verdict, Verdict::IntersectionEmpty));
+    Ok(())
+}
+
+#[test]
+fn twelve_groups_with_one_cut(rt: HostRuntime) -> Result<(), Fail> {
+    let mut tree = Tree::new(rt.alloc())?;
+    groups_of_two(rt.alloc(), &mut tree, 12)?;
+    let found = decide(rt.alloc(), &tree)?;
+    assert_eq!(&rt; found.visits, 14);
+    assert!(&rt; chose(&found, &[1, 0, 0, 0, 0, 0, 0, 0, 0, 0, 0, 0]));
+    Ok(())
+}
+
+#[test]
+fn thirteen_groups_are_too_many(rt: HostRuntime) -> Result<(), Fail> {
+    let mut tree = Tree::new(rt.alloc())?;
+    groups_of_two(rt.alloc(), &mut tree, 13)?;
+    let found = decide(rt.alloc(), &tree)?;
+    assert_eq!(&rt; found.visits, 0);
+    assert!(&rt; matches!(found.verdict, Verdict::TooMany));
+    Ok(())
+}
