@@ -123,12 +123,12 @@ module _ (sound_stays : SoundStays) (ready_stays : ReadyStays) (stays : ForestSt
   ends_first made platform es legal = ends platform first_state es (sound_first made) legal (λ d v has is. absurd (cc))
 
   pub initial_shape : MapsOfLogs → laws.InitialShape → InitialShape
-  initial_shape made law platform es fs a b same =
+  initial_shape made law p q es fs a b same =
       let same_es = tree_of_replay first_state es in
       let same_fs = tree_of_replay first_state fs in
       subst (λ t. SameInitial t (replay fs).tree) (sym same_es) (subst (λ u. SameInitial (trees.replay (map tree_entry es)) u) (sym same_fs)
-      (law (map tree_entry es) (map tree_entry fs) (ends_first made platform es a).accepted (ends_first made platform fs b).accepted
-      (λ q initial. same q (subst (λ (t : TreeFacts). IsInitial (at_path t.nodes) q) (sym same_es) initial))))
+      (law (map tree_entry es) (map tree_entry fs) (ends_first made p es a).accepted (ends_first made q fs b).accepted
+      (λ path initial. same path (subst (λ (t : TreeFacts). IsInitial (at_path t.nodes) path) (sym same_es) initial))))
 
   pub confluent : MapsOfLogs → laws.Confluence → OneAnswer → Confluence
   confluent made law answer platform es fs a b calls early late =

@@ -22,10 +22,11 @@ LegalIsSound = (platform : PlatformFacts) (es : List BookEntry) → IsLegal plat
 abbrev pub FewEntries : Type 0
 FewEntries = (platform : PlatformFacts) (es : List BookEntry) → IsLegal platform es → length es ≤ 639
 
--- the initial domain's shape, and whether its nodes are complete, are one function of the actions at its own paths
+-- the initial domain's shape, and whether its nodes are complete, are one function of the actions at its own paths, whatever
+-- the platforms are
 abbrev pub InitialShape : Type 0
-InitialShape = (platform : PlatformFacts) (es fs : List BookEntry) → IsLegal platform es → IsLegal platform fs
-    → ((q : List ℕ) → IsInitial (at_path (replay es).tree.nodes) q → log_at (map tree_entry es) q ≡ log_at (map tree_entry fs) q)
+InitialShape = (p q : PlatformFacts) (es fs : List BookEntry) → IsLegal p es → IsLegal q fs
+    → ((path : List ℕ) → IsInitial (at_path (replay es).tree.nodes) path → log_at (map tree_entry es) path ≡ log_at (map tree_entry fs) path)
     → SameInitial (replay es).tree (replay fs).tree
 
 -- two histories end with the initial domain ready in both or in neither, and of one shape; where both decided it with a verdict, the answer is

@@ -72,7 +72,7 @@ after_decision s d t = record {
   accepted = open_in t.nodes (s.decisions ++ d ∷ []);
 }
 
--- what a domain that waits is decided on: an attached one on the settings of its host's domain and the accepted participants
+-- what the first domain that waits is decided on: an attached one on the settings of its host's domain and the accepted participants
 abbrev pub base_of : State → ℕ → Option BaseFacts
 base_of s r = option_and_then
     (λ host. option_map (λ settings. record { settings = settings; accepted = s.accepted }) (settings_for s.decisions host.domain))

@@ -2,7 +2,7 @@
 
 ghost use Rattle.std.specs.Prelude.{◌≡◌, Some, Ok, Err, map, option_map, is_some, IfOk, IfErr, IfSome, OnErr, OnOk};
 ghost use Rattle.std.specs.Arc.{arc_value};
-ghost use Rattle.sysmem_alloc.specs.Book.{entered, new_book};
+ghost use Rattle.sysmem_alloc.specs.Book.{IsBook, entered, new_book};
 ghost use Rattle.sysmem_alloc.specs.Entry.{Acted, Decided, entry_in};
 ghost use Rattle.sysmem_alloc.specs.State.{base_of, next_ready, verdict_of};
 ghost use Rattle.sysmem_proof.specs.Verdict.{IsOptimalIn};
@@ -83,6 +83,14 @@ impl Book {
             failed: Verdict::Failed,
             no_memory: Verdict::NoMemory,
         })
+    }
+
+    /// The platform for which it decides.
+    pub fn platform(&self) -> &Platform
+        ensures platform { result.now ≡ self.now.platform }
+        ensures book { IsBook self.now }
+    {
+        &self.platform
     }
 
     /// The tree.

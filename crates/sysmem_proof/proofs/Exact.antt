@@ -41,8 +41,8 @@ contains_at xs k x here = (k, slice_get_within xs k x here, get_or_from_slice_ge
 -- an offer that comes before the marked one stands before it
 offer_before : (os before behind : List Offer) (a b : Offer) → os ≡ before ++ b ∷ behind → IsEarlierOffer os a b → Contains before a
 offer_before os before behind a b there earlier =
-    let below : earlier.place < length before = earlier.before (length before) (ap (λ xs. slice_get xs (length before)) there ∙ get_marked before behind b) in
-    contains_at before earlier.place a (get_front before behind b a earlier.place below (ap (λ xs. slice_get xs earlier.place) (sym there) ∙ earlier.here))
+    let below : earlier.index < length before = earlier.before (length before) (ap (λ xs. slice_get xs (length before)) there ∙ get_marked before behind b) in
+    contains_at before earlier.index a (get_front before behind b a earlier.index below (ap (λ xs. slice_get xs earlier.index) (sym there) ∙ earlier.here))
 
 -- settings with another count, that suits too
 with_count : Settings → ℕ → Settings

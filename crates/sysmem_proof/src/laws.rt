@@ -67,7 +67,7 @@ pub fn some_are_named()
     ensures named { SomeAreNamed }
 {}
 
-/// A reason why no settings meet all settled participants is a conflict of an initial domain, by lines that name all of them.
+/// Where there is a reason why no settings meet the settled participants of an initial domain, some conflict is true of them.
 pub fn reasons_are_conflicts()
     ensures { ReasonsAreConflicts }
 {}

@@ -14,10 +14,7 @@ use Rattle.sysmem_tree.specs.Nodes.{IsTree}
 use Rattle.sysmem_tree.specs.Path.{path_of}
 use Rattle.sysmem_tree.specs.Selection.{after, IsPrefix}
 use Rattle.sysmem_tree.specs.Shape.{Member, tree_of, kid_of, before, kids_from, rooted, forest_of, by_number, by_path, shape_of}
-use Rattle.sysmem_tree.proofs.Few.{few_numbers, forest_here}
-use Rattle.sysmem_tree.proofs.Layouts.{size_tree}
-use Rattle.sysmem_tree.proofs.Numbers.{numbers, front}
-use Rattle.sysmem_tree.proofs.Selections.{AllOf, IfAny, all_mapped, all_at, settled_relabel, choices_relabel, after_relabel, first_many}
+use Rattle.sysmem_tree.proofs.CallerLemmas.{few_numbers, forest_here, size_tree, numbers, front, AllOf, IfAny, all_mapped, all_at, settled_relabel, choices_relabel, after_relabel, first_many}
 
 -- what a member asks
 abbrev pub asked_by : Member → Option Participant

@@ -1,4 +1,8 @@
--- What callers need of histories, of decisions and of prefixes.
+-- What callers need of histories, of decisions, of prefixes and of forests.
+pub use Rattle.sysmem_tree.proofs.Few.{few_numbers, forest_here}
+pub use Rattle.sysmem_tree.proofs.Layouts.{size_tree}
+pub use Rattle.sysmem_tree.proofs.Numbers.{numbers, front}
+pub use Rattle.sysmem_tree.proofs.Selections.{AllOf, IfAny, all_mapped, all_at, settled_relabel, choices_relabel, after_relabel, first_many}
 use Rattle.std.proofs.Common.{◌≡◌, ◌<◌, ℕ, Bool, true, false, List, [], ◌∷◌, ◌++◌, Option, Some, None, length, slice_get, refl, sym, ◌∙◌, ap, subst, arith}
 use Rattle.std.specs.Prelude.{option_map, option_and_then, IsSome, IfSome, if◌then◌else◌}
 use Rattle.std.proofs.lemmas.Option.{same_Some}
@@ -9,8 +13,7 @@ use Rattle.sysmem_tree.specs.Domain.{TreeFacts, decision_of, fate_by, fate_of, h
 use Rattle.sysmem_tree.specs.Forest.{Forest, choices, first_group}
 use Rattle.sysmem_tree.specs.History.{HistoryEntry, Accepts, after_entry, replay_from, AreAccepted}
 use Rattle.sysmem_tree.specs.Selection.{after, IsPrefix, IsSelection}
-use Rattle.sysmem_tree.proofs.Numbers.{front}
-use Rattle.sysmem_tree.proofs.Selections.{after_more, first_many}
+use Rattle.sysmem_tree.proofs.Selections.{after_more}
 
 -- a history with one more entry leads to the tree after that entry
 pub replay_push : (t : TreeFacts) (es : List HistoryEntry) (e : HistoryEntry) → replay_from t (es ++ e ∷ []) ≡ after_entry (replay_from t es) e
