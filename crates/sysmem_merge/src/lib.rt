@@ -20,10 +20,10 @@ mod offers;
 mod reason;
 mod settings;
 mod share;
+mod sound;
 mod sum;
 #[cfg(test)]
 mod sum_tests;
-mod sound;
 #[cfg(test)]
 mod tests;
 mod walk;
@@ -36,5 +36,5 @@ pub use offer_read::OfferRead;
 pub use reason::Reason;
 pub use settings::Settings;
 pub use share::Share;
-pub use sum::Sum;
 pub use sound::is_sound;
+pub use sum::Sum;
