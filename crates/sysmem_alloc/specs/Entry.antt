@@ -45,5 +45,5 @@ entry_in nodes (entries.Decided r verdict) = Decided (record { domain = r; verdi
 
 -- the decision that it is, if it is one
 abbrev pub decision_in : Entry → Option Decision
-decision_in (entries.Acted i kind) = None
+decision_in (entries.Acted i _) = None
 decision_in (entries.Decided r verdict) = Some (record { domain = r; verdict = option_map (λ shared. arc_value shared) verdict })
