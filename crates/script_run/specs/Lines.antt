@@ -19,7 +19,7 @@ use Rattle.script_run.specs.declared.reply.Reply.{Reply}
 use Rattle.script_run.specs.declared.reply.Reply.TheVariants.{Accepted, Refused, Misread, Skipped}
 use Rattle.script_run.specs.declared.verdict.Verdict.{Verdict}
 use Rattle.script_run.specs.declared.verdict.Verdict.TheVariants.{Chosen, Empty, NoMemory}
-use Rattle.script_reading.specs.Call.{ActFacts, duplicates, binds, states, releases, checks}
+use Rattle.script_reading.specs.Call.{ActFacts, duplicates, binds, states, creates_group, creates_child, has_all_children, attaches_token, releases, closes, checks, waits, name_made}
 use Rattle.script_reading.specs.Script.{CallFacts}
 
 abbrev pub refusal_text : Refusal → List ℕ
@@ -41,13 +41,23 @@ abbrev pub act_name : ActFacts → List ℕ
 act_name (duplicates name) = codes "duplicate"
 act_name binds = codes "bind"
 act_name (states constraints) = codes "set_constraints"
+act_name (creates_group name) = codes "create_group"
+act_name (creates_child name) = codes "create_child"
+act_name has_all_children = codes "all_children_present"
+act_name (attaches_token name) = codes "attach_token"
 act_name releases = codes "release"
+act_name closes = codes "close"
 act_name checks = codes "check"
+act_name waits = codes "wait"
 
--- the name that the call gives, behind a space
+-- a name, if there is one, behind a space
+abbrev pub spaced : Option (List ℕ) → List ℕ
+spaced (Some name) = codes " " ++ name
+spaced None = []
+
+-- the name that the call makes, if it makes one, behind a space
 abbrev pub new_name : ActFacts → List ℕ
-new_name (duplicates name) = codes " " ++ name
-new_name _ = []
+new_name act = spaced (name_made act)
 
 -- `7 duplicate root a ok`
 abbrev pub call_line : ℕ → CallFacts → Reply → List ℕ

@@ -64,8 +64,14 @@ fn act_name(act: &Act<'_>) -> &'static str
         Act::Duplicate(_) => "duplicate",
         Act::Bind => "bind",
         Act::SetConstraints(_) => "set_constraints",
+        Act::CreateGroup(_) => "create_group",
+        Act::CreateChild(_) => "create_child",
+        Act::AllChildrenPresent => "all_children_present",
+        Act::AttachToken(_) => "attach_token",
         Act::Release => "release",
+        Act::Close => "close",
         Act::Check => "check",
+        Act::Wait => "wait",
     }
 }
 
@@ -80,9 +86,9 @@ fn put_head(text: &mut String, number: usize, act: &Act<'_>, on: &str) -> Result
 fn put_new_name(text: &mut String, act: &Act<'_>) -> Result<(), AllocError>
     ensures { Puts result text.old text.new (new_name (act_seen act.now)) }
 {
-    match act {
-        Act::Duplicate(name) => put_name(text, name),
-        _ => Ok(()),
+    match act.name_made() {
+        Some(name) => put_name(text, name),
+        None => Ok(()),
     }
 }
 

@@ -151,7 +151,11 @@ impl Runner {
             Act::Bind => self.act(call, node, Action::Bind),
             Act::SetConstraints(stated) => self.set_constraints(alloc, call, node, stated),
             Act::Release => self.act(call, node, Action::Release),
-            Act::Check => Ok(self.checked(node)),
+            Act::Check | Act::Wait => Ok(self.checked(node)),
+            _ => {
+                self.keep_name(&call.act, None)?;
+                Ok(Reply::Refused(Refusal::WrongState))
+            }
         }
     }
 
@@ -309,12 +313,12 @@ impl Runner {
           names = (state_of self.old).names ++ named (act_seen act.now) node;
         }) }
     {
-        match act {
-            Act::Duplicate(_) => {
+        match act.name_made() {
+            Some(_) => {
                 self.names.push(node)?;
                 Ok(())
             }
-            _ => Ok(()),
+            None => Ok(()),
         }
     }
 }
