@@ -7,7 +7,7 @@ ghost use Rattle.sysmem_sanitise.specs.Reading.Entries.{asked_by, same_format, s
 ghost use Rattle.sysmem_sanitise.specs.Reading.Fields.{Reads, read_each, seen_by};
 
 use super::field::{add, expect_object, list_of, stated};
-use super::name::{format_choice_of, modifier_choice_of};
+use super::name::choice_of;
 use crate::fault::{Code, Fault, FaultPlace};
 use serde_json::Value;
 use std::alloc::Global;
@@ -26,7 +26,7 @@ fn modifier_beside(format: Option<PixelFormat>, object: &Value) -> Result<Option
     ensures { result ≡ modifier_beside format (view object.now) }
 {
     match object.get(Field::PixelFormatModifier.name()) {
-        Some(value) => modifier_choice_of(value, Field::PixelFormatModifier),
+        Some(value) => choice_of(value, Field::PixelFormatModifier),
         None => match format {
             Some(_) => Ok(Some(Modifier::Linear)),
             None => Ok(None),
@@ -38,7 +38,7 @@ fn asked_of(object: &Value) -> Result<AskedPair, Fault>
     ensures { result ≡ asked_of (view object.now) }
 {
     let value = stated(object, Code::WrongKind, Field::PixelFormat)?;
-    let format = format_choice_of(value, Field::PixelFormat)?;
+    let format = choice_of(value, Field::PixelFormat)?;
     let modifier = modifier_beside(format, object)?;
     Ok(AskedPair { format, modifier })
 }

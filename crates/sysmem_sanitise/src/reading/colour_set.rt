@@ -7,7 +7,7 @@ ghost use Rattle.sysmem_sanitise.specs.Reading.Entries.{listed, with_listed, col
 ghost use Rattle.sysmem_sanitise.specs.Reading.Fields.{read_each};
 
 use super::field::list_of;
-use super::name::colour_choice_of;
+use super::name::choice_of;
 use crate::fault::{Code, Fault};
 use serde_json::Value;
 use sysmem_counts::Field;
@@ -27,7 +27,7 @@ fn listed(mut set: ColourSet, colour: Option<ColourSpace>) -> ColourSet
 fn with_listed(set: ColourSet, value: &Value) -> Result<ColourSet, Fault>
     ensures { result ≡ with_listed set (view value.now) }
 {
-    Ok(listed(set, colour_choice_of(value, Field::ColorSpaces)?))
+    Ok(listed(set, choice_of(value, Field::ColorSpaces)?))
 }
 
 fn listed_in(list: &[Value]) -> Result<ColourSet, Fault>

@@ -7,7 +7,7 @@ ghost use Rattle.sysmem_sanitise.specs.Reading.Heaps.{no_domains, with_domain, w
 
 use super::field::{add, expect_object, flag_or, list_of, stated};
 use super::heap::heap_name_of;
-use super::name::domain_of;
+use super::name::name_of;
 use crate::fault::{Code, Fault, FaultPlace};
 use serde_json::Value;
 use std::alloc::Global;
@@ -28,7 +28,7 @@ fn with_domain(mut domains: CoherencyDomains, domain: CoherencyDomain) -> Cohere
 fn with_named(domains: CoherencyDomains, value: &Value) -> Result<CoherencyDomains, Fault>
     ensures { result ≡ with_named domains (view value.now) }
 {
-    let domain = domain_of(value, Field::Domains)?;
+    let domain = name_of(value, Field::Domains)?;
     if domains.has(domain) {
         return Err(Fault::of(Code::BadPlatformList, Field::Domains));
     }

@@ -10,7 +10,7 @@ ghost use Rattle.sysmem_sanitise.specs.Reading.Pairs.{same_pair, has_pair, has_c
 ghost use Rattle.sysmem_sanitise.specs.Reading.Platform.{pair_of, with_pair, pairs_of, with_colour, colours_of};
 
 use super::field::{add, expect_object, list_of, stated};
-use super::name::{colour_of, format_of, modifier_of};
+use super::name::name_of;
 use crate::fault::{Code, Fault, FaultPlace};
 use serde_json::Value;
 use std::alloc::Global;
@@ -24,7 +24,7 @@ fn modifier_in(object: &Value) -> Result<Modifier, Fault>
 {
     match object.get(Field::PixelFormatModifier.name()) {
         None => Ok(Modifier::Linear),
-        Some(value) => modifier_of(value, Field::PixelFormatModifier),
+        Some(value) => name_of(value, Field::PixelFormatModifier),
     }
 }
 
@@ -38,7 +38,7 @@ fn pair_of(object: &Value) -> Result<Pair, Fault>
     )?;
     let format = stated(object, Code::WrongKind, Field::PixelFormat)?;
     Ok(Pair {
-        format: format_of(format, Field::PixelFormat)?,
+        format: name_of(format, Field::PixelFormat)?,
         modifier: modifier_in(object)?,
     })
 }
@@ -108,7 +108,7 @@ fn add_colour(colours: &mut Vec<ColourSpace>, value: &Value) -> Result<(), Fault
     ensures { Reads (λ lack. with_colour lack colours.old.items (view value.now))
         (seen_by (λ _. colours.new.items) result) }
 {
-    let colour = colour_of(value, Field::ColorSpaces)?;
+    let colour = name_of(value, Field::ColorSpaces)?;
     if has_colour(colours, colour) {
         return Err(Fault::of(Code::BadPlatformList, Field::ColorSpaces));
     }
