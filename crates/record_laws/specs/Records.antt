@@ -1,5 +1,5 @@
 -- The record of a participant and of a platform: the value that states it, with each field that it can have.
-use Rattle.std.specs.Prelude.{ℕ, Bool, true, false, List, [], ◌∷◌, ◌++◌, map, ◌==◌, Option, Some, None, codes}
+use Rattle.std.specs.Prelude.{ℕ, Bool, true, false, List, [], ◌∷◌, ◌++◌, map, ◌==◌, Option, Some, None, codes, if◌then◌else◌}
 use Rattle.std.specs.Int.RustNames.{bit_and}
 use Rattle.serde_json.specs.Data.{Data, unsigned, boolean, number, string, array, object, Items, no_items, item, Members, no_members, put}
 use Rattle.serde_json.specs.View.{items_of}
@@ -14,10 +14,12 @@ use Rattle.sysmem_formats.specs.declared.colour_space.ColourSpace.{ColourSpace}
 use Rattle.sysmem_formats.specs.declared.colour_space.ColourSpace.TheVariants.{Srgb, Rec601Ntsc, Rec601NtscFullRange, Rec601Pal, Rec601PalFullRange, Rec709, Rec2020, Rec2100}
 use Rattle.sysmem_formats.specs.declared.offer.Pair.{Pair}
 use Rattle.sysmem_formats.specs.Names.{format_name, modifier_name, colour_name}
+use Rattle.sysmem_image.specs.declared.bounds.ImageBounds.{ImageBounds}
 use Rattle.sysmem_image.specs.declared.colours.ColourSet.{ColourSet}
 use Rattle.sysmem_image.specs.declared.entry.Entry.{Entry}
 use Rattle.sysmem_image.specs.declared.entry.EntryBounds.{EntryBounds}
 use Rattle.sysmem_image.specs.declared.size.Size.{Size}
+use Rattle.sysmem_image.specs.Fields.{Bound, Width, Height, all_bounds, field_of, is_size, value}
 use Rattle.sysmem_memory.specs.declared.domain.CoherencyDomain.TheVariants.{Cpu, Ram, Inaccessible}
 use Rattle.sysmem_memory.specs.declared.domain.CoherencyDomains.{CoherencyDomains}
 use Rattle.sysmem_memory.specs.Domain.{domain_name}
@@ -113,21 +115,12 @@ colour_items set =
 abbrev pub size_record : Size → Data
 size_record size = object (put (codes "width") (natural size.width) (put (codes "height") (natural size.height) no_members))
 
+-- the value of a bound: a size, or a number
+abbrev pub bound_record : ImageBounds → Bound → Data
+bound_record b f = if is_size f then size_record (record { width = value f Width b; height = value f Height b }) else natural (value f Width b)
+
 abbrev pub bounds_fields : EntryBounds → List (Field × Data)
-bounds_fields b =
-    (field.MinSize, size_record b.asked.min_size)
-    ∷ (field.MaxSize, size_record b.asked.max_size)
-    ∷ (field.SizeAlignment, size_record b.asked.size_alignment)
-    ∷ (field.MinBytesPerRow, natural b.asked.min_bytes_per_row)
-    ∷ (field.MaxBytesPerRow, natural b.asked.max_bytes_per_row)
-    ∷ (field.BytesPerRowDivisor, natural b.asked.bytes_per_row_divisor)
-    ∷ (field.StartOffsetDivisor, natural b.asked.start_offset_divisor)
-    ∷ (field.DisplayRectAlignment, size_record b.asked.display_rect_alignment)
-    ∷ (field.RequiredMinSize, size_record b.asked.required_min_size)
-    ∷ (field.RequiredMaxSize, size_record b.asked.required_max_size)
-    ∷ (field.MaxWidthTimesHeight, natural b.asked.max_width_times_height)
-    ∷ (field.RequireBytesPerRowAtPixelBoundary, boolean b.at_pixel_boundary)
-    ∷ []
+bounds_fields b = map (λ f. (field_of f, bound_record b.asked f)) all_bounds ++ (field.RequireBytesPerRowAtPixelBoundary, boolean b.at_pixel_boundary) ∷ []
 
 -- an image entry, with no further pairs
 abbrev pub entry_record : Entry → Data

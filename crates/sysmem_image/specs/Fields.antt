@@ -1,5 +1,5 @@
 -- The table of image bounds: its fields, and in a column each what it says of them.
-use Rattle.std.specs.Prelude.{ℕ, ◌≤◌, List, [], ◌∷◌, nat_lt}
+use Rattle.std.specs.Prelude.{ℕ, ◌≤◌, Bool, true, false, List, [], ◌∷◌, nat_lt}
 use Rattle.std.specs.Int.{◌∣◌}
 use Rattle.std.specs.List.{filter}
 use Rattle.sysmem_counts.specs.declared.field.Field.{Field}
@@ -100,6 +100,21 @@ rule_of DisplayRectAlignment = Multiple
 rule_of RequiredMinSize = Least
 rule_of RequiredMaxSize = Greatest
 rule_of MaxWidthTimesHeight = Least
+
+-- a common multiple, which there may not be up to the limit
+abbrev pub wants_multiple : Rule → Bool
+wants_multiple Multiple = true
+wants_multiple _ = false
+
+-- a size, and not one number
+abbrev pub is_size : Bound → Bool
+is_size MinSize = true
+is_size MaxSize = true
+is_size SizeAlignment = true
+is_size DisplayRectAlignment = true
+is_size RequiredMinSize = true
+is_size RequiredMaxSize = true
+is_size _ = false
 
 -- its greatest value
 abbrev pub most : Bound → ℕ

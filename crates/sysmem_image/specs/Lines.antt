@@ -1,13 +1,14 @@
 -- The lines of the conflict table that speak of bounds, read from a list of them in exact arithmetic.
-use Rattle.std.specs.Prelude.{ℕ, ◌*◌, ◌≤◌, ◌⊎◌, List, [], ◌∷◌, All}
+use Rattle.std.specs.Prelude.{ℕ, ◌*◌, ◌≤◌, ◌⊎◌, List, [], ◌∷◌, ◌++◌, map, All}
 use Rattle.std.specs.Int.{◌∣◌}
+use Rattle.std.specs.List.{filter}
 use Rattle.sysmem_counts.specs.declared.field.Field.{Field}
-use Rattle.sysmem_counts.specs.declared.field.Field.TheVariants.{SizeAlignment, BytesPerRowDivisor, StartOffsetDivisor, DisplayRectAlignment, RequiredMinSize, MaxSize, MaxWidthTimesHeight, MaxBytesPerRow}
+use Rattle.sysmem_counts.specs.declared.field.Field.TheVariants as field
 use Rattle.sysmem_formats.specs.declared.offer.Offer.{Offer}
 use Rattle.sysmem_formats.specs.Layout.{width_alignment_of, height_alignment_of, row_divisor_of, row_bytes_of}
 use Rattle.sysmem_image.specs.declared.bounds.ImageBounds.{ImageBounds}
 use Rattle.sysmem_image.specs.Fields as bound
-use Rattle.sysmem_image.specs.Fields.{Bound, Side, value, own_value, KeepsEach}
+use Rattle.sysmem_image.specs.Fields.{Bound, Side, all_bounds, field_of, rule_of, wants_multiple, value, own_value, KeepsEach}
 use Rattle.sysmem_image.specs.Size.{most_number}
 
 -- n is a common multiple, up to the limit, of the own number and those of a list
@@ -80,47 +81,51 @@ RowAbove o es = (w r : ℕ) → r ≤ most_number → FitsWidth o es w → FitsR
 
 -- the line of the conflict table that the field heads is true of the bounds of a list, in exact arithmetic
 abbrev pub IsBoundsLine : Field → Offer → List ImageBounds → Type 0
-IsBoundsLine SizeAlignment o es = ¬ MeetsIn bound.SizeAlignment o es
-IsBoundsLine BytesPerRowDivisor o es = ¬ MeetsIn bound.BytesPerRowDivisor o es
-IsBoundsLine StartOffsetDivisor o es = ¬ MeetsIn bound.StartOffsetDivisor o es
-IsBoundsLine DisplayRectAlignment o es = ¬ MeetsIn bound.DisplayRectAlignment o es
-IsBoundsLine RequiredMinSize o es = MinAboveRequired (λ e. e.min_size.width) (λ e. e.required_min_size.width) es ⊎ MinAboveRequired (λ e. e.min_size.height) (λ e. e.required_min_size.height) es
-IsBoundsLine MaxSize o es = AlignmentsMeet o es × (WidthAbove o es ⊎ HeightAbove o es)
-IsBoundsLine MaxWidthTimesHeight o es = AlignmentsMeet o es × AreaAbove o es
-IsBoundsLine MaxBytesPerRow o es = AlignmentsMeet o es × DivisorsMeet o es × RowAbove o es
+IsBoundsLine field.SizeAlignment o es = ¬ MeetsIn bound.SizeAlignment o es
+IsBoundsLine field.BytesPerRowDivisor o es = ¬ MeetsIn bound.BytesPerRowDivisor o es
+IsBoundsLine field.StartOffsetDivisor o es = ¬ MeetsIn bound.StartOffsetDivisor o es
+IsBoundsLine field.DisplayRectAlignment o es = ¬ MeetsIn bound.DisplayRectAlignment o es
+IsBoundsLine field.RequiredMinSize o es = MinAboveRequired (λ e. e.min_size.width) (λ e. e.required_min_size.width) es ⊎ MinAboveRequired (λ e. e.min_size.height) (λ e. e.required_min_size.height) es
+IsBoundsLine field.MaxSize o es = AlignmentsMeet o es × (WidthAbove o es ⊎ HeightAbove o es)
+IsBoundsLine field.MaxWidthTimesHeight o es = AlignmentsMeet o es × AreaAbove o es
+IsBoundsLine field.MaxBytesPerRow o es = AlignmentsMeet o es × DivisorsMeet o es × RowAbove o es
 IsBoundsLine _ o es = ⊥
 
--- the lines about common multiples, in the table's order
+-- the lines about common multiples, in the table's order: one for each field that is merged so
 abbrev pub multiple_lines : List Field
-multiple_lines = SizeAlignment ∷ BytesPerRowDivisor ∷ StartOffsetDivisor ∷ DisplayRectAlignment ∷ []
+multiple_lines = map field_of (filter (λ f. wants_multiple (rule_of f)) all_bounds)
+
+-- the lines of bounds, in the order of the conflict table
+abbrev pub bounds_lines : List Field
+bounds_lines = multiple_lines ++ field.RequiredMinSize ∷ field.MaxSize ∷ field.MaxWidthTimesHeight ∷ field.MaxBytesPerRow ∷ []
 
 -- the lines of bounds that stand before that of the field in the conflict table
 abbrev pub lines_before : Field → List Field
-lines_before BytesPerRowDivisor = SizeAlignment ∷ []
-lines_before StartOffsetDivisor = SizeAlignment ∷ BytesPerRowDivisor ∷ []
-lines_before DisplayRectAlignment = SizeAlignment ∷ BytesPerRowDivisor ∷ StartOffsetDivisor ∷ []
-lines_before RequiredMinSize = multiple_lines
-lines_before MaxSize = RequiredMinSize ∷ multiple_lines
-lines_before MaxWidthTimesHeight = MaxSize ∷ RequiredMinSize ∷ multiple_lines
-lines_before MaxBytesPerRow = MaxWidthTimesHeight ∷ MaxSize ∷ RequiredMinSize ∷ multiple_lines
+lines_before field.BytesPerRowDivisor = field.SizeAlignment ∷ []
+lines_before field.StartOffsetDivisor = field.SizeAlignment ∷ field.BytesPerRowDivisor ∷ []
+lines_before field.DisplayRectAlignment = field.SizeAlignment ∷ field.BytesPerRowDivisor ∷ field.StartOffsetDivisor ∷ []
+lines_before field.RequiredMinSize = multiple_lines
+lines_before field.MaxSize = field.RequiredMinSize ∷ multiple_lines
+lines_before field.MaxWidthTimesHeight = field.MaxSize ∷ field.RequiredMinSize ∷ multiple_lines
+lines_before field.MaxBytesPerRow = field.MaxWidthTimesHeight ∷ field.MaxSize ∷ field.RequiredMinSize ∷ multiple_lines
 lines_before _ = []
 
 -- none of these lines is true
 abbrev pub NoLines : List Field → Offer → List ImageBounds → Type 0
 NoLines [] o es = Unit {0}
-NoLines (field ∷ fields) o es = (¬ IsBoundsLine field o es) × NoLines fields o es
+NoLines (f ∷ fs) o es = (¬ IsBoundsLine f o es) × NoLines fs o es
 
 -- the first line of bounds that is true, in the order of the conflict table
-pub record IsFirstLine (field : Field) (o : Offer) (es : List ImageBounds) : Type 0 where
-  pub line : IsBoundsLine field o es
-  pub before : NoLines (lines_before field) o es
+pub record IsFirstLine (f : Field) (o : Offer) (es : List ImageBounds) : Type 0 where
+  pub line : IsBoundsLine f o es
+  pub before : NoLines (lines_before f) o es
 
 -- a line about a common multiple: once true of a list, it is true of each longer one
 abbrev pub IsSteady : Field → Type 0
-IsSteady SizeAlignment = Unit {0}
-IsSteady BytesPerRowDivisor = Unit {0}
-IsSteady StartOffsetDivisor = Unit {0}
-IsSteady DisplayRectAlignment = Unit {0}
+IsSteady field.SizeAlignment = Unit {0}
+IsSteady field.BytesPerRowDivisor = Unit {0}
+IsSteady field.StartOffsetDivisor = Unit {0}
+IsSteady field.DisplayRectAlignment = Unit {0}
 IsSteady _ = ⊥
 
 -- the fields that the corner reads
@@ -129,14 +134,14 @@ corner_reads = bound.MinSize ∷ bound.SizeAlignment ∷ bound.MinBytesPerRow �
 
 -- the fields that a line reads; that an entry's rows end at a pixel is read as its row divisor
 abbrev pub reads : Field → List Bound
-reads SizeAlignment = bound.SizeAlignment ∷ []
-reads BytesPerRowDivisor = bound.BytesPerRowDivisor ∷ []
-reads StartOffsetDivisor = bound.StartOffsetDivisor ∷ []
-reads DisplayRectAlignment = bound.DisplayRectAlignment ∷ []
-reads RequiredMinSize = bound.MinSize ∷ bound.RequiredMinSize ∷ []
-reads MaxSize = bound.MinSize ∷ bound.MaxSize ∷ bound.SizeAlignment ∷ bound.RequiredMaxSize ∷ []
-reads MaxWidthTimesHeight = bound.MinSize ∷ bound.SizeAlignment ∷ bound.RequiredMaxSize ∷ bound.MaxWidthTimesHeight ∷ []
-reads MaxBytesPerRow = bound.MaxBytesPerRow ∷ corner_reads
+reads field.SizeAlignment = bound.SizeAlignment ∷ []
+reads field.BytesPerRowDivisor = bound.BytesPerRowDivisor ∷ []
+reads field.StartOffsetDivisor = bound.StartOffsetDivisor ∷ []
+reads field.DisplayRectAlignment = bound.DisplayRectAlignment ∷ []
+reads field.RequiredMinSize = bound.MinSize ∷ bound.RequiredMinSize ∷ []
+reads field.MaxSize = bound.MinSize ∷ bound.MaxSize ∷ bound.SizeAlignment ∷ bound.RequiredMaxSize ∷ []
+reads field.MaxWidthTimesHeight = bound.MinSize ∷ bound.SizeAlignment ∷ bound.RequiredMaxSize ∷ bound.MaxWidthTimesHeight ∷ []
+reads field.MaxBytesPerRow = bound.MaxBytesPerRow ∷ corner_reads
 reads _ = []
 
 -- the bounds a keep to b in the fields that the corner reads

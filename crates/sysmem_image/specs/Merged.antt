@@ -1,7 +1,7 @@
 -- What merged bounds stand for.
 use Rattle.std.specs.Prelude.{◌≡◌, ℕ, ◌↔◌, max, min, List, All}
 use Rattle.sysmem_counts.specs.declared.field.Field.{Field}
-use Rattle.sysmem_counts.specs.declared.field.Field.TheVariants.{SizeAlignment, BytesPerRowDivisor, StartOffsetDivisor, DisplayRectAlignment}
+use Rattle.sysmem_counts.specs.declared.field.Field.TheVariants as field
 use Rattle.sysmem_formats.specs.declared.offer.Offer.{Offer}
 use Rattle.sysmem_image.specs.declared.bounds.ImageBounds.{ImageBounds}
 use Rattle.sysmem_image.specs.Fields.{Bound, Side, Rule, Greatest, Least, Multiple, Keeps, rule_of, value, own_value}
@@ -35,8 +35,8 @@ IsMerged a b m = (f : Bound) (side : Side) → IsMergedBy (rule_of f) (value f s
 
 -- the common multiple of a's and b's field is above the limit, and those of earlier fields are not
 abbrev pub IsFirstAbove : Field → ImageBounds → ImageBounds → Type 0
-IsFirstAbove SizeAlignment a b = IsSizeAboveLimit a.size_alignment b.size_alignment
-IsFirstAbove BytesPerRowDivisor a b = HasSizeMultiple a.size_alignment b.size_alignment × IsAboveLimit a.bytes_per_row_divisor b.bytes_per_row_divisor
-IsFirstAbove StartOffsetDivisor a b = HasSizeMultiple a.size_alignment b.size_alignment × HasMultiple a.bytes_per_row_divisor b.bytes_per_row_divisor × IsAboveLimit a.start_offset_divisor b.start_offset_divisor
-IsFirstAbove DisplayRectAlignment a b = HasSizeMultiple a.size_alignment b.size_alignment × HasMultiple a.bytes_per_row_divisor b.bytes_per_row_divisor × HasMultiple a.start_offset_divisor b.start_offset_divisor × IsSizeAboveLimit a.display_rect_alignment b.display_rect_alignment
+IsFirstAbove field.SizeAlignment a b = IsSizeAboveLimit a.size_alignment b.size_alignment
+IsFirstAbove field.BytesPerRowDivisor a b = HasSizeMultiple a.size_alignment b.size_alignment × IsAboveLimit a.bytes_per_row_divisor b.bytes_per_row_divisor
+IsFirstAbove field.StartOffsetDivisor a b = HasSizeMultiple a.size_alignment b.size_alignment × HasMultiple a.bytes_per_row_divisor b.bytes_per_row_divisor × IsAboveLimit a.start_offset_divisor b.start_offset_divisor
+IsFirstAbove field.DisplayRectAlignment a b = HasSizeMultiple a.size_alignment b.size_alignment × HasMultiple a.bytes_per_row_divisor b.bytes_per_row_divisor × HasMultiple a.start_offset_divisor b.start_offset_divisor × IsSizeAboveLimit a.display_rect_alignment b.display_rect_alignment
 IsFirstAbove _ a b = ⊥

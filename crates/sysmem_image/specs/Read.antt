@@ -5,7 +5,8 @@ use Rattle.sysmem_formats.specs.declared.offer.Offer.{Offer}
 use Rattle.sysmem_image.specs.declared.bounds.ImageBounds.{ImageBounds}
 use Rattle.sysmem_image.specs.declared.read.BoundsRead.{BoundsRead}
 use Rattle.sysmem_image.specs.declared.size.Size.{Size}
-use Rattle.sysmem_image.specs.Fields.{Bound, MinSize, MaxSize, SizeAlignment, MinBytesPerRow, MaxBytesPerRow, BytesPerRowDivisor, StartOffsetDivisor, DisplayRectAlignment, RequiredMinSize, RequiredMaxSize, MaxWidthTimesHeight, Side, Width, Height, Keeps, rule_of, most, value, own_value}
+use Rattle.sysmem_image.specs.Fields as bound
+use Rattle.sysmem_image.specs.Fields.{Bound, Side, Width, Height, Keeps, rule_of, most, value, own_value}
 use Rattle.sysmem_image.specs.Lines.{MeetsIn, FitsWidth, FitsHeight, FitsRow}
 use Rattle.sysmem_image.specs.Merged.{IsMergeOf}
 
@@ -20,17 +21,17 @@ number_in n _ = n
 
 -- what is kept of a field, in each dimension; nothing where its common multiples are above the limit
 abbrev pub kept_of : Bound → BoundsRead → Option (Side → ℕ)
-kept_of MinSize k = Some (size_in k.min_size)
-kept_of MaxSize k = Some (size_in k.max_size)
-kept_of SizeAlignment k = option_map size_in k.size_alignment
-kept_of MinBytesPerRow k = Some (number_in k.min_bytes_per_row)
-kept_of MaxBytesPerRow k = Some (number_in k.max_bytes_per_row)
-kept_of BytesPerRowDivisor k = option_map number_in k.bytes_per_row_divisor
-kept_of StartOffsetDivisor k = option_map number_in k.start_offset_divisor
-kept_of DisplayRectAlignment k = option_map size_in k.display_rect_alignment
-kept_of RequiredMinSize k = Some (size_in k.required_min_size)
-kept_of RequiredMaxSize k = Some (size_in k.required_max_size)
-kept_of MaxWidthTimesHeight k = Some (number_in k.max_width_times_height)
+kept_of bound.MinSize k = Some (size_in k.min_size)
+kept_of bound.MaxSize k = Some (size_in k.max_size)
+kept_of bound.SizeAlignment k = option_map size_in k.size_alignment
+kept_of bound.MinBytesPerRow k = Some (number_in k.min_bytes_per_row)
+kept_of bound.MaxBytesPerRow k = Some (number_in k.max_bytes_per_row)
+kept_of bound.BytesPerRowDivisor k = option_map number_in k.bytes_per_row_divisor
+kept_of bound.StartOffsetDivisor k = option_map number_in k.start_offset_divisor
+kept_of bound.DisplayRectAlignment k = option_map size_in k.display_rect_alignment
+kept_of bound.RequiredMinSize k = Some (size_in k.required_min_size)
+kept_of bound.RequiredMaxSize k = Some (size_in k.required_max_size)
+kept_of bound.MaxWidthTimesHeight k = Some (number_in k.max_width_times_height)
 
 -- the numbers stand for the offer's own of a field and those of a list; without any, there are no
 -- common multiples up to the limit

@@ -38,3 +38,20 @@ macro_rules! absent_bound {
     (large most) => { u64::MAX };
     (number $one:ident) => { 1 };
 }
+
+/// The fields that head lines of bounds in the conflict table, in its order: those of common multiples, from
+/// the table above, and then the limits.
+///
+/// `bounds_table!(bounds_lines!(callback))` expands to `callback! { Field Field .. }`.
+#[macro_export]
+macro_rules! bounds_lines {
+    (($do:ident $($line:ident)*) $name:ident: $shape:ident multiple $field:ident $absent:ident $range:ident, $($rows:tt)*) => {
+        $crate::bounds_lines! { ($do $($line)* $field) $($rows)* }
+    };
+    (($do:ident $($line:ident)*) $name:ident: $shape:ident $rule:ident $field:ident $absent:ident $range:ident, $($rows:tt)*) => {
+        $crate::bounds_lines! { ($do $($line)*) $($rows)* }
+    };
+    (($do:ident $($line:ident)*)) => {
+        $do! { $($line)* RequiredMinSize MaxSize MaxWidthTimesHeight MaxBytesPerRow }
+    };
+}

@@ -1,9 +1,10 @@
 -- What is read of an offer, and the lines of the conflict table about it in their order.
-use Rattle.std.specs.Prelude.{◌≡◌, ◌⊎◌, ◌<◌, ℕ, not, Bool, true, List, [], ◌∷◌, Some, slice_get}
+use Rattle.std.specs.Prelude.{◌≡◌, ◌⊎◌, ◌<◌, ℕ, not, Bool, true, List, [], ◌∷◌, ◌++◌, Some, slice_get}
 use Rattle.std.specs.List.{list_any}
 use Rattle.sysmem_counts.specs.declared.field.Field.{Field}
-use Rattle.sysmem_counts.specs.declared.field.Field.TheVariants.{PixelFormat, ColorSpaces, SizeAlignment, BytesPerRowDivisor, StartOffsetDivisor, DisplayRectAlignment, RequiredMinSize, MaxSize, MaxWidthTimesHeight, MaxBytesPerRow, MaxSizeBytes, UnnamedPixelFormat, UnnamedPixelFormatModifier, UnnamedColorSpace}
+use Rattle.sysmem_counts.specs.declared.field.Field.TheVariants.{PixelFormat, ColorSpaces, MaxSizeBytes, UnnamedPixelFormat, UnnamedPixelFormatModifier, UnnamedColorSpace}
 use Rattle.sysmem_formats.specs.declared.offer.Offer.{Offer}
+use Rattle.sysmem_image.specs.Lines.{bounds_lines}
 use Rattle.sysmem_image.specs.Read.{AreRead}
 use Rattle.sysmem_merge.specs.declared.offer_read.OfferRead.{OfferRead}
 use Rattle.sysmem_merge.specs.Aggregate.{AreSizes}
@@ -24,9 +25,7 @@ pub record IsOfferRead (o : Offer) (ds : List OfferDemand) (read : OfferRead) : 
 
 -- the lines of the conflict table about an offer, in its order
 abbrev pub offer_lines : List Field
-offer_lines = PixelFormat ∷ ColorSpaces ∷ SizeAlignment ∷ BytesPerRowDivisor ∷ StartOffsetDivisor ∷ DisplayRectAlignment
-    ∷ RequiredMinSize ∷ MaxSize ∷ MaxWidthTimesHeight ∷ MaxBytesPerRow ∷ MaxSizeBytes
-    ∷ UnnamedPixelFormat ∷ UnnamedPixelFormatModifier ∷ UnnamedColorSpace ∷ []
+offer_lines = PixelFormat ∷ ColorSpaces ∷ (bounds_lines ++ MaxSizeBytes ∷ UnnamedPixelFormat ∷ UnnamedPixelFormatModifier ∷ UnnamedColorSpace ∷ [])
 
 -- the line is true of the participants for the offer; an unnamed one counts where they are all that a decision has
 abbrev pub IsRefusingLine : Bool → Offer → List OfferDemand → Field → Type 0

@@ -18,26 +18,22 @@ use crate::fit::{Fit, best_fit};
 use crate::kept::{KeptBounds, names_colour};
 use sysmem_counts::Field;
 use sysmem_formats::{Offer, wide_image_bytes};
-use sysmem_image::{BoundsRead, Entry, entry_for, takes_colour};
+use sysmem_image::{BoundsRead, Entry, bounds_lines, bounds_table, entry_for, takes_colour};
 use sysmem_sanitise::Constraints;
 
-/// The fields that head the lines of the conflict table about an offer, in the table's order.
-const OFFER_LINES: [Field; 14] = [
-    Field::PixelFormat,
-    Field::ColorSpaces,
-    Field::SizeAlignment,
-    Field::BytesPerRowDivisor,
-    Field::StartOffsetDivisor,
-    Field::DisplayRectAlignment,
-    Field::RequiredMinSize,
-    Field::MaxSize,
-    Field::MaxWidthTimesHeight,
-    Field::MaxBytesPerRow,
-    Field::MaxSizeBytes,
-    Field::UnnamedPixelFormat,
-    Field::UnnamedPixelFormatModifier,
-    Field::UnnamedColorSpace,
-];
+macro_rules! offer_lines {
+    ($($line:ident)*) => {
+        [
+            Field::PixelFormat,
+            Field::ColorSpaces,
+            $(Field::$line,)*
+            Field::MaxSizeBytes,
+            Field::UnnamedPixelFormat,
+            Field::UnnamedPixelFormatModifier,
+            Field::UnnamedColorSpace,
+        ]
+    };
+}
 
 /// What participants ask of one offer, of which each line of the conflict table can be asked: also the lines
 /// behind the first that is true, as a certificate may give any of them.
@@ -135,7 +131,8 @@ impl OfferRead {
         if self.least_fit().is_some() && (!whole || self.is_named()) {
             return None;
         }
-        self.first_of(&OFFER_LINES, whole)
+        let lines = bounds_table!(bounds_lines!(offer_lines));
+        self.first_of(&lines, whole)
     }
 
     /// The least size, and the least bounds, of the offer that suit the participants, but for the names of
