@@ -38,15 +38,18 @@ macro_rules! merged_field {
 
 /// Merges what an entry asks for into bounds of an offer, so that they admit what both admit.
 ///
-/// Refuses with the first field whose common multiple is above 32 bits; the bounds are unchanged then.
+/// Refuses with the first field whose common multiple is above 32 bits; the bounds are unchanged
+/// then.
 pub fn merge_into(bounds: &mut ImageBounds, entry: &Entry, offer: &Offer) -> Result<(), Field>
     ensures ok { OnOk result ((s : ImageBounds) →
-        IsTighter s bounds.new ↔ (IsTighter s bounds.old × IsTighter s (effective offer.now entry.now))) }
+        IsTighter s bounds.new ↔
+        (IsTighter s bounds.old × IsTighter s (effective offer.now entry.now))) }
     ensures merged { (es : List ImageBounds) → MergedOf offer.now es bounds.old →
         OnOk result (MergedOf offer.now (es ++ effective offer.now entry.now ∷ []) bounds.new) }
     ensures unchanged { OnErr result (bounds.new ≡ bounds.old) }
     ensures line { (es : List ImageBounds) → MergedOf offer.now es bounds.old →
-        IfErr result (λ field. IsFirstLine field offer.now (es ++ effective offer.now entry.now ∷ [])) }
+        IfErr result
+        (λ field. IsFirstLine field offer.now (es ++ effective offer.now entry.now ∷ [])) }
     ensures steady { IfErr result IsSteady }
     ensures none { (es : List ImageBounds) → MergedOf offer.now es bounds.old →
         OnErr result (NoneMerge offer.now (es ++ effective offer.now entry.now ∷ [])) }
@@ -56,16 +59,20 @@ pub fn merge_into(bounds: &mut ImageBounds, entry: &Entry, offer: &Offer) -> Res
     Ok(())
 }
 
-/// Merges more bounds of an offer into bounds of it: where both were merged of lists, they are those of both lists.
+/// Merges more bounds of an offer into bounds of it: where both were merged of lists, they are
+/// those of both lists.
 ///
-/// Refuses with the first field whose common multiple is above 32 bits; the bounds are unchanged then.
+/// Refuses with the first field whose common multiple is above 32 bits; the bounds are unchanged
+/// then.
 pub fn merge_bounds(bounds: &mut ImageBounds, more: &ImageBounds) -> Result<(), Field>
     ensures ok { OnOk result ((s : ImageBounds) →
         IsTighter s bounds.new ↔ (IsTighter s bounds.old × IsTighter s more.now)) }
-    ensures merged { (o : Offer) (es fs : List ImageBounds) → MergedOf o es bounds.old → MergedOf o fs more.now →
+    ensures merged { (o : Offer) (es fs : List ImageBounds) →
+        MergedOf o es bounds.old → MergedOf o fs more.now →
         OnOk result (MergedOf o (es ++ fs) bounds.new) }
     ensures unchanged { OnErr result (bounds.new ≡ bounds.old) }
-    ensures line { (o : Offer) (es fs : List ImageBounds) → MergedOf o es bounds.old → MergedOf o fs more.now →
+    ensures line { (o : Offer) (es fs : List ImageBounds) →
+        MergedOf o es bounds.old → MergedOf o fs more.now →
         IfErr result (λ field. IsFirstLine field o (es ++ fs)) }
     ensures steady { IfErr result IsSteady }
 {

@@ -1,7 +1,7 @@
 -- A domain has no more nodes than there are.
 use Rattle.std.proofs.Common.{◌≡◌, ◌≢◌, ◌≤◌, ◌<◌, ℕ, zero, suc, ◌+◌, ◌==◌, Bool, true, false, List, [], ◌∷◌, Option, Some, None, length, drop, slice_get, refl, sym, ◌∙◌, ap, subst, arith, inl, inr}
 use Rattle.std.specs.Prelude.{is_some, IsSomeAnd, if◌then◌else◌}
-use Rattle.std.proofs.lemmas.Bool.{cases_Bool, cases_eq, ne_eqb}
+use Rattle.std.proofs.lemmas.Bool.{cases_Bool, cases_eq, cases_lt, ne_eqb}
 use Rattle.std.proofs.lemmas.Option.{same_Some}
 use Rattle.sysmem_tree.specs.declared.node.Birth.{Birth}
 use Rattle.sysmem_tree.specs.Layout.{size}
@@ -111,16 +111,25 @@ module _ (nodes : List NodeFacts) (tree : IsTree nodes) (r : ℕ) where
     root (Some m) e h = ap (λ (x : NodeFacts). x.birth) (sym (same_Some m n e)) ∙ h.0
   no_kid (suc k) n less at = older n.birth k (tree.child k n at) (omega (arith, less))
 
-  pub kids_later : (j : ℕ) → j ≤ suc r → r < length nodes → numbers r 0 nodes r ≡ numbers r j (drop j nodes) r
-  kids_later zero small there = refl
-  kids_later (suc j) small there =
+  -- so a child of it comes behind it
+  pub kid_is_later : (domain k : ℕ) (n : NodeFacts) → slice_get nodes k ≡ Some n → is_some (kid_of domain r n) ≡ true → r < k
+  kid_is_later domain k n at kid = elim (cases_lt r k) [
+    | inl less ↦ less
+    | inr small ↦ absurd (contradicts (sym kid ∙ not_kid domain r n (no_kid k n small at)))
+  ] where
+    contradicts : true ≡ false → ⊥
+    contradicts e = absurd (cc)
+
+  pub kids_later : (domain j : ℕ) → j ≤ suc r → r < length nodes → numbers domain 0 nodes r ≡ numbers domain j (drop j nodes) r
+  kids_later domain zero small there = refl
+  kids_later domain (suc j) small there =
       let (n, at, is) = front nodes j (omega (arith, small, there)) in
       let z : j + 1 ≡ suc j = omega arith in
-      kids_later j (omega (arith, small)) there
-      ∙ (ap (λ xs. numbers r j xs r) is
-      ∙ (numbers_other r j r n (drop (suc j) nodes) (not_kid r r n (no_kid j n (omega (arith, small)) at))
-      ∙ ap (λ i. numbers r i (drop (suc j) nodes) r) z))
+      kids_later domain j (omega (arith, small)) there
+      ∙ (ap (λ xs. numbers domain j xs r) is
+      ∙ (numbers_other domain j r n (drop (suc j) nodes) (not_kid domain r n (no_kid j n (omega (arith, small)) at))
+      ∙ ap (λ i. numbers domain i (drop (suc j) nodes) r) z))
 
   -- the domain's root, and below it what was made later
   pub forest_here : (n : NodeFacts) → r < length nodes → slice_get nodes r ≡ Some n → forest_of by_number nodes r [] ≡ tree_of n.state.kind r (numbers r (r + 1) (drop (r + 1) nodes) r) Empty
-  forest_here n there at = ap (rooted by_number nodes r []) at ∙ ap (λ x. tree_of n.state.kind r x Empty) (kids_later (r + 1) (omega arith) there)
+  forest_here n there at = ap (rooted by_number nodes r []) at ∙ ap (λ x. tree_of n.state.kind r x Empty) (kids_later r (r + 1) (omega arith) there)

@@ -1,8 +1,8 @@
 -- From one open group to the next, over a layout.
-use Rattle.std.proofs.Common.{◌≡◌, ◌≤◌, ◌<◌, ℕ, zero, suc, ◌+◌, ◌++◌, Bool, true, false, List, [], ◌∷◌, Option, Some, None, length, get_or, slice_get, refl, sym, ◌∙◌, ap, subst, arith}
-use Rattle.std.specs.Prelude.{IsSome, IfSome, IsSomeAnd, map, option_map, option_and_then}
+use Rattle.std.proofs.Common.{◌≡◌, ◌<◌, ℕ, ◌+◌, ◌++◌, List, [], ◌∷◌, Option, Some, None, length, get_or, slice_get, refl, sym, ◌∙◌, ap, subst, arith}
+use Rattle.std.specs.Prelude.{IsSome, IfSome, IsSomeAnd, option_map, option_and_then}
 use Rattle.std.specs.Option.{option_or}
-use Rattle.std.proofs.lemmas.Option.{same_Some, none-some, slice_get_within, get_or_from_slice_get}
+use Rattle.std.proofs.lemmas.Option.{same_Some, slice_get_within, get_or_from_slice_get}
 use Rattle.sysmem_tree.specs.declared.layout.Layout.{Layout}
 use Rattle.sysmem_tree.specs.declared.layout.Place.{Place}
 use Rattle.sysmem_tree.specs.Forest.{Forest, Empty, Plain, Group, each, choices, relabel, first_group}
@@ -14,7 +14,7 @@ use Rattle.sysmem_tree.proofs.Chosen.{chosen, Steps, steps, all_open}
 use Rattle.sysmem_tree.proofs.NextGroups.{shown_at}
 use Rattle.sysmem_tree.proofs.Numbers.{front}
 use Rattle.sysmem_tree.proofs.Selections.{after_more, after_relabel, first_many}
-use Rattle.sysmem_tree.proofs.Walks.{Stands, stands, no_first, first_is, begins, walk_on, first_within, next_there}
+use Rattle.sysmem_tree.proofs.Walks.{Stands, stands, first_is, begins, walk_on, next_there}
 
 -- the first group in the words of alternatives
 module _ {A : Type 0} where

@@ -1,5 +1,5 @@
 -- Forests laid out in places.
-use Rattle.std.proofs.Common.{◌≡◌, ◌≤◌, ◌<◌, ℕ, zero, suc, ◌+◌, Bool, true, false, List, [], ◌∷◌, Option, Some, None, length, slice_get, slice_set, refl, sym, ◌∙◌, ap, subst, arith}
+use Rattle.std.proofs.Common.{◌≡◌, ◌≢◌, ◌≤◌, ◌<◌, ℕ, zero, suc, ◌+◌, Bool, true, false, List, [], ◌∷◌, Option, Some, None, length, slice_get, slice_set, refl, sym, ◌∙◌, ap, subst, arith}
 use Rattle.std.specs.Prelude.{if◌then◌else◌}
 use Rattle.std.specs.Option.{option_or}
 use Rattle.sysmem_tree.specs.declared.layout.Laid.{Laid}
@@ -22,6 +22,13 @@ set_above [] i y k less = refl
 set_above (x ∷ xs) i y zero less = absurd (omega (arith, less))
 set_above (x ∷ xs) zero y (suc k) less = refl
 set_above (x ∷ xs) (suc i) y (suc k) less = set_above xs i y k (omega (arith, less))
+
+pub set_other : {X : Type 0} (xs : List X) (i : ℕ) (y : X) (k : ℕ) → k ≢ i → slice_get (slice_set xs i y) k ≡ slice_get xs k
+set_other [] i y k other = refl
+set_other (x ∷ xs) zero y zero other = absurd (other refl)
+set_other (x ∷ xs) zero y (suc k) other = refl
+set_other (x ∷ xs) (suc i) y zero other = refl
+set_other (x ∷ xs) (suc i) y (suc k) other = set_other xs i y k (λ e. other (ap suc e))
 
 -- a layout starts before its end
 pub starts_before : (g : Bool) (ps : List Place) (w : Forest Spot) (to : ℕ) (next : Option ℕ) → AreLaid g ps w to next → start w to ≤ to

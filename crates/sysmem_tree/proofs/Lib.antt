@@ -30,6 +30,7 @@ pub mod CallerLemmas
 pub mod Numbers
 pub mod Layouts
 pub mod Few
+pub mod Linking
 pub mod Chosen
 pub mod Walks
 pub mod NextGroups

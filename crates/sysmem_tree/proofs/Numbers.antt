@@ -1,14 +1,13 @@
 -- The forest of a domain by the numbers of its nodes, in steps along the nodes.
 use Rattle.std.proofs.Common.{◌≡◌, ◌≤◌, ◌<◌, ℕ, zero, suc, ◌+◌, ◌*◌, ◌++◌, Bool, true, false, List, [], ◌∷◌, Option, Some, None, min, length, drop, get_or, slice_get, refl, sym, ◌∙◌, ap, subst, arith, inl, inr}
 use Rattle.std.specs.Prelude.{◌⊎◌, is_some}
-use Rattle.std.proofs.lemmas.Bool.{cases_Bool, cases_lt}
+use Rattle.std.proofs.lemmas.Bool.{cases_lt}
 use Rattle.std.proofs.lemmas.List.{drop_more}
 use Rattle.std.proofs.Math.Nat.{le_trans, le-mul_of_pos_right, mul_comm}
 use Rattle.sysmem_tree.specs.declared.state.NodeKind.{NodeKind}
 use Rattle.sysmem_tree.specs.declared.state.NodeKind.TheVariants as kinds
 use Rattle.sysmem_tree.specs.Forest.{Forest}
-use Rattle.sysmem_tree.specs.Layout.{is_group, count_as, size}
-use Rattle.sysmem_tree.proofs.Layouts.{size_tree}
+use Rattle.sysmem_tree.specs.Layout.{is_group, count_as}
 use Rattle.sysmem_tree.specs.Node.{NodeFacts}
 use Rattle.sysmem_tree.specs.Shape.{tree_of, kid_of, before, kids_from, by_number}
 
@@ -101,7 +100,7 @@ count_plain kinds.Group i a b = refl
 count_plain kinds.Collection i a b = refl
 
 -- a node in front of the others
-drop_here : (nodes : List NodeFacts) (i : ℕ) (n : NodeFacts) → i < length nodes → n ≡ get_or nodes i n → drop i nodes ≡ n ∷ drop (i + 1) nodes
+pub drop_here : (nodes : List NodeFacts) (i : ℕ) (n : NodeFacts) → i < length nodes → n ≡ get_or nodes i n → drop i nodes ≡ n ∷ drop (i + 1) nodes
 drop_here nodes i n less is = drop_more nodes i n less ∙ ap (λ x. x ∷ drop (i + 1) nodes) (sym is)
 
 -- a child in the middle of the nodes
@@ -109,64 +108,35 @@ pub numbers_here : (nodes : List NodeFacts) (domain i p : ℕ) (n : NodeFacts) �
     → numbers domain i (drop i nodes) p ≡ tree_of n.state.kind i (numbers domain (i + 1) (drop (i + 1) nodes) i) (numbers domain (i + 1) (drop (i + 1) nodes) p)
 numbers_here nodes domain i p n less is there = ap (λ xs. numbers domain i xs p) (drop_here nodes i n less is) ∙ numbers_kid domain i p n (drop (i + 1) nodes) there
 
-module _ (nodes : List NodeFacts) (domain i p : ℕ) (n : NodeFacts) (own rest : ℕ) (less : i < length nodes) (is : n ≡ get_or nodes i n) (there : is_some (kid_of domain p n) ≡ true)
-    (here : own ≡ min (count_as (is_group n.state.kind) (numbers domain (i + 1) (drop (i + 1) nodes) i)) most) where
-  abbrev kids : Forest ℕ
-  kids = numbers domain (i + 1) (drop (i + 1) nodes) i
-
-  abbrev others : Forest ℕ
-  others = numbers domain (i + 1) (drop (i + 1) nodes) p
-
+module _ (k : NodeKind) (i : ℕ) (kids others d : Forest ℕ) (own rest : ℕ) (is : d ≡ tree_of k i kids others) (here : own ≡ min (count_as (is_group k) kids) most) where
   -- counts of alternatives are added
-  pub counted_alternatives : rest ≡ min (count_as true others) most → min (own + rest) most ≡ min (count_as true (numbers domain i (drop i nodes) p)) most
+  counted_alternatives : rest ≡ min (count_as true others) most → min (own + rest) most ≡ min (count_as true d) most
   counted_alternatives behind =
       ap (λ x. min (x + rest) most) here
-      ∙ (ap (λ x. min (min (count_as (is_group n.state.kind) kids) most + x) most) behind
-      ∙ (add_cut (count_as (is_group n.state.kind) kids) (count_as true others)
-      ∙ ap (λ x. min x most) (sym (ap (count_as true) (numbers_here nodes domain i p n less is there) ∙ count_alternative n.state.kind i kids others))))
+      ∙ (ap (λ x. min (min (count_as (is_group k) kids) most + x) most) behind
+      ∙ (add_cut (count_as (is_group k) kids) (count_as true others)
+      ∙ ap (λ x. min x most) (sym (ap (count_as true) is ∙ count_alternative k i kids others))))
 
   -- those of nodes that are all there are multiplied
-  pub counted_plain : rest ≡ min (count_as false others) most → min (own * rest) most ≡ min (count_as false (numbers domain i (drop i nodes) p)) most
+  counted_plain : rest ≡ min (count_as false others) most → min (own * rest) most ≡ min (count_as false d) most
   counted_plain behind =
       ap (λ x. min (x * rest) most) here
-      ∙ (ap (λ x. min (min (count_as (is_group n.state.kind) kids) most * x) most) behind
-      ∙ (mul_cut (count_as (is_group n.state.kind) kids) (count_as false others)
-      ∙ ap (λ x. min x most) (sym (ap (count_as false) (numbers_here nodes domain i p n less is there) ∙ count_plain n.state.kind i kids others))))
+      ∙ (ap (λ x. min (min (count_as (is_group k) kids) most * x) most) behind
+      ∙ (mul_cut (count_as (is_group k) kids) (count_as false others)
+      ∙ ap (λ x. min x most) (sym (ap (count_as false) is ∙ count_plain k i kids others))))
 
   -- in one word, by what the parent's children are
   pub counted_as_alternatives : (alternatives : Bool) → alternatives ≡ true → rest ≡ min (count_as alternatives others) most
-      → min (own + rest) most ≡ min (count_as alternatives (numbers domain i (drop i nodes) p)) most
+      → min (own + rest) most ≡ min (count_as alternatives d) most
   counted_as_alternatives true e behind = counted_alternatives behind
   counted_as_alternatives false e behind = absurd (cc)
 
   pub counted_as_plain : (alternatives : Bool) → alternatives ≡ false → rest ≡ min (count_as alternatives others) most
-      → min (own * rest) most ≡ min (count_as alternatives (numbers domain i (drop i nodes) p)) most
+      → min (own * rest) most ≡ min (count_as alternatives d) most
   counted_as_plain true e behind = absurd (cc)
   counted_as_plain false e behind = counted_plain behind
-
--- how many nodes there are below a child and behind it
-pub size_here : (nodes : List NodeFacts) (domain i p : ℕ) (n : NodeFacts) → i < length nodes → n ≡ get_or nodes i n → is_some (kid_of domain p n) ≡ true
-    → size (numbers domain i (drop i nodes) p) ≡ suc (size (numbers domain (i + 1) (drop (i + 1) nodes) i) + size (numbers domain (i + 1) (drop (i + 1) nodes) p))
-size_here nodes domain i p n less is there = ap size (numbers_here nodes domain i p n less is there)
-    ∙ size_tree n.state.kind i (numbers domain (i + 1) (drop (i + 1) nodes) i) (numbers domain (i + 1) (drop (i + 1) nodes) p)
-
-size_front : (domain i p : ℕ) (n : NodeFacts) (nodes : List NodeFacts) → size (numbers domain (i + 1) nodes p) ≤ size (numbers domain i (n ∷ nodes) p)
-size_front domain i p n nodes = elim (cases_Bool (is_some (kid_of domain p n))) [
-  | inl kid ↦
-      let e : size (numbers domain i (n ∷ nodes) p) ≡ suc (size (numbers domain (i + 1) nodes i) + size (numbers domain (i + 1) nodes p)) =
-      ap size (numbers_kid domain i p n nodes kid) ∙ size_tree n.state.kind i (numbers domain (i + 1) nodes i) (numbers domain (i + 1) nodes p) in
-      omega (arith, e)
-  | inr other ↦ let e : size (numbers domain i (n ∷ nodes) p) ≡ size (numbers domain (i + 1) nodes p) = ap size (numbers_other domain i p n nodes other) in omega (arith, e)
-]
 
 pub front : {X : Type 0} (xs : List X) (i : ℕ) → i < length xs → (x : X) × (slice_get xs i ≡ Some x) × (drop i xs ≡ x ∷ drop (suc i) xs)
 front [] i less = absurd (omega (arith, less))
 front (x ∷ xs) zero less = (x, refl, refl)
 front (x ∷ xs) (suc i) less = front xs i (omega (arith, less))
-
--- from a later node on there are not more
-pub size_falls : (nodes : List NodeFacts) (domain i p : ℕ) → i < length nodes → size (numbers domain (i + 1) (drop (i + 1) nodes) p) ≤ size (numbers domain i (drop i nodes) p)
-size_falls nodes domain i p less =
-    let (n, _, is) = front nodes i less in
-    let z : suc i ≡ i + 1 = omega arith in
-    subst (λ xs. size (numbers domain (i + 1) (drop (i + 1) nodes) p) ≤ size (numbers domain i xs p)) (sym (is ∙ ap (λ j. n ∷ drop j nodes) z)) (size_front domain i p n (drop (i + 1) nodes))

@@ -1,6 +1,6 @@
 -- In a domain that is ready each group has a child, so each prefix leads on to a selection.
 use Rattle.std.proofs.Common.{◌≡◌, ◌≤◌, ◌<◌, ℕ, zero, suc, ◌+◌, ◌-◌, ◌==◌, ◌++◌, Bool, true, false, not, ◌&&◌, List, [], ◌∷◌, Option, Some, None, length, drop, slice_get, refl, sym, ◌∙◌, ap, subst, arith, rules, tests, inl, inr}
-use Rattle.std.specs.Prelude.{IsSome, is_some, IsSomeAnd, map, option_and_then}
+use Rattle.std.specs.Prelude.{IsSome, is_some, option_and_then}
 use Rattle.std.proofs.lemmas.Bool.{cases_Bool, cases_eq, cases_lt}
 use Rattle.std.proofs.lemmas.List.{length-map}
 use Rattle.std.proofs.lemmas.Option.{same_Some, slice_get_within, option_and_then_some}

@@ -17,7 +17,7 @@ use Rattle.sysmem_tree.proofs.Places.{there}
 abbrev is_child : ℕ → ℕ → NodeFacts → Bool
 is_child parent ordinal n = is_born parent ordinal n.birth
 
-eq-nat : (a b : ℕ) → (a == b) ≡ true → a ≡ b
+pub eq-nat : (a b : ℕ) → (a == b) ≡ true → a ≡ b
 eq-nat a b h = search (rules, tests)
 
 eq-self : (a : ℕ) → (a == a) ≡ true

@@ -14,6 +14,7 @@ pub mod History
 pub mod Laws
 pub mod Sublist
 pub mod Layout
+pub mod Links
 pub mod Prefix
 pub mod OpenGroups
 pub mod LayoutLaws

@@ -1,5 +1,5 @@
 -- Paths: the ordinals of children, from the root to a node; and the tree as a map from paths to nodes.
-use Rattle.std.specs.Prelude.{◌≡◌, ℕ, zero, suc, Bool, false, ◌&&◌, ◌==◌, ◌++◌, List, [], ◌∷◌, Option, Some, None, option_map, option_and_then, IsSomeAnd, position, slice_get, unwrap_or}
+use Rattle.std.specs.Prelude.{ℕ, zero, suc, Bool, false, ◌&&◌, ◌==◌, ◌++◌, List, [], ◌∷◌, Option, Some, None, option_map, option_and_then, position, slice_get, unwrap_or}
 use Rattle.sysmem_sanitise.specs.Participant.{Participant}
 use Rattle.sysmem_tree.specs.declared.node.Birth.{Birth}
 use Rattle.sysmem_tree.specs.declared.state.NodeState.{NodeState}

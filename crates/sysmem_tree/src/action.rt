@@ -20,9 +20,11 @@ pub enum Action {
     CreateChild,
     /// An open group that isn't complete, with a child, is complete.
     AllChildrenPresent,
-    /// An open collection that isn't set yet is set, with these constraints or, by `None`, without any.
+    /// An open collection that isn't set yet is set, with these constraints or, by `None`, without
+    /// any.
     SetConstraints(Option<Arc<Constraints>>),
-    /// An open collection makes an open token, its last child, that is the root of a domain of its own.
+    /// An open collection makes an open token, its last child, that is the root of a domain of its
+    /// own.
     AttachToken,
     /// An open token, collection or complete group is gone.
     Release,

@@ -1,28 +1,30 @@
 //! How many selections there are.
 
-ghost use Rattle.std.specs.Prelude.{◌≡◌, ◌≤◌, ◌<◌, ◌^◌, ◌-◌, [], drop, length, min};
-ghost use Rattle.sysmem_tree.specs.Shape.{kids_from, by_number, forest_of};
+ghost use Rattle.std.specs.Prelude.{◌≡◌, ◌<◌, ◌^◌, ◌-◌, ◌+◌, ℕ, [], IfSome, length, min};
+ghost use Rattle.sysmem_tree.specs.Shape.{by_number, forest_of};
 ghost use Rattle.sysmem_tree.specs.Layout.{count_as};
+ghost use Rattle.sysmem_tree.specs.Links.{AreLinks, IsBelow, siblings_from};
 ghost use Rattle.sysmem_tree.specs.Forest.{count as count_of};
 ghost use Rattle.sysmem_tree.specs.Nodes.{IsTree};
 
-use crate::layout::{has_alternatives, is_kid};
+use crate::layout::has_alternatives;
+use crate::links::Links;
 use crate::node::Node;
 
-/// How many selections the children of a parent have, those among the nodes from number `from` on; at most `u64::MAX`.
-fn count_children(nodes: &[Node], domain: usize, parent: usize, is_group: bool, from: usize) -> u64
-    requires { from ≤ length nodes.now }
-    ensures { result ≡ min (count_as is_group (kids_from by_number domain from (drop from nodes.now) parent [])) (2 ^ 64 - 1) }
+/// How many selections there are of children of a node, from the first of them on; at most
+/// `u64::MAX`.
+fn count_children(nodes: &[Node], links: &Links, first: Option<usize>, is_group: bool) -> u64
+    requires tree { IsTree nodes.now }
+    requires links { (root : ℕ) × AreLinks nodes.now root (root + 1) links.now
+        × IfSome first (IsBelow nodes.now root) }
+    ensures { result ≡ min (count_as is_group (siblings_from nodes.now first)) (2 ^ 64 - 1) }
 {
-    if from == nodes.len() {
+    let Some(number) = first else {
         return if is_group { 0 } else { 1 };
-    }
-    let rest = count_children(nodes, domain, parent, is_group, from + 1);
-    let node = &nodes[from];
-    if !is_kid(node, domain, parent) {
-        return rest;
-    }
-    let own = count_children(nodes, domain, from, has_alternatives(node), from + 1);
+    };
+    let rest = count_children(nodes, links, links.next[number], is_group);
+    let is_alternatives = has_alternatives(&nodes[number]);
+    let own = count_children(nodes, links, links.first[number], is_alternatives);
     if is_group {
         own.saturating_add(rest)
     } else {
@@ -36,5 +38,11 @@ pub(crate) fn count_selections(nodes: &[Node], root: usize) -> u64
     requires there { root < length nodes.now }
     ensures { result ≡ min (count_of (forest_of by_number nodes.now root [])) (2 ^ 64 - 1) }
 {
-    count_children(nodes, root, root, has_alternatives(&nodes[root]), root + 1)
+    let links = Links::new(nodes, root);
+    count_children(
+        nodes,
+        &links,
+        links.first[root],
+        has_alternatives(&nodes[root]),
+    )
 }

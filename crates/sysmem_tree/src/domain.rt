@@ -31,7 +31,8 @@ impl Decision {
     }
 }
 
-/// A domain: the node that is its root, with what was made below it, but for attached tokens and what is below them.
+/// A domain: the node that is its root, with what was made below it, but for attached tokens and
+/// what is below them.
 #[derive(Clone, Copy, Debug, PartialEq, Eq)]
 pub(crate) struct Domain {
     pub(crate) root: usize,

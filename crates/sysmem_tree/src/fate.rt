@@ -5,8 +5,8 @@
 pub enum Fate {
     /// No decision was taken.
     Undecided,
-    /// It has no decision: a node was closed before the domain was ready, or the collection to which its root was attached isn't given
-    /// the settings of its own domain.
+    /// It has no decision: a node was closed before the domain was ready, or the collection to
+    /// which its root was attached isn't given the settings of its own domain.
     Failed,
     /// It was decided, and settings were chosen.
     Chosen,

@@ -2,8 +2,8 @@
 
 use std::marker::Model;
 
-/// A node of a tree, by its number in the order in which nodes were made; the root's is 0. A tree doesn't know the numbers of
-/// another one.
+/// A node of a tree, by its number in the order in which nodes were made; the root's is 0. A tree
+/// doesn't know the numbers of another one.
 #[derive(Clone, Copy, Debug, PartialEq, Eq)]
 pub struct NodeId(pub(crate) usize);
 

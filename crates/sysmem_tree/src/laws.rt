@@ -7,8 +7,8 @@ pub fn one_path()
     ensures { OnePath }
 {}
 
-/// Seen as a map from paths to nodes: an accepted action changes its own node, puts the node that it makes behind the children so
-/// far, and leaves what is at each other path.
+/// Seen as a map from paths to nodes: an accepted action changes its own node, puts the node that
+/// it makes behind the children so far, and leaves what is at each other path.
 pub fn action_is_step()
     ensures { ActionIsStep }
 {}
@@ -33,7 +33,8 @@ pub fn ready_stays()
     ensures { ReadyStays }
 {}
 
-/// From ready on neither an action nor a decision changes a domain's forest, and so its shape and the members of its selections.
+/// From ready on neither an action nor a decision changes a domain's forest, and so its shape and
+/// the members of its selections.
 pub fn forest_stays()
     ensures { ForestStays }
 {}
@@ -53,7 +54,8 @@ pub fn settled_grows()
     ensures { SettledGrows }
 {}
 
-/// There is one selection where there is no group, else as many as the choices for the first group have together.
+/// There is one selection where there is no group, else as many as the choices for the first group
+/// have together.
 pub fn counts()
     ensures { Counts }
 {}
@@ -93,13 +95,14 @@ pub fn maps_of_logs()
     ensures { MapsOfLogs }
 {}
 
-/// The initial domain's shape, and whether its nodes are complete, depend on nothing but the actions at its own paths.
+/// The initial domain's shape, and whether its nodes are complete, depend on nothing but the
+/// actions at its own paths.
 pub fn initial_shape()
     ensures { InitialShape }
 {}
 
-/// Histories with the same actions at each path, in which no node is closed before the initial domain's decision, leave it ready both
-/// or neither, and of one shape.
+/// Histories with the same actions at each path, in which no node is closed before the initial
+/// domain's decision, leave it ready both or neither, and of one shape.
 pub fn confluence()
     ensures { Confluence }
 {}

@@ -1,16 +1,20 @@
 //! The forest of a domain in a flat layout, in pre-order.
 
 ghost use Rattle.std.specs.Prelude.{◌≡◌, ◌≤◌, ◌<◌, ◌+◌, ℕ, Some, None, IfSome, [], drop, length, is_some, slice_get, if◌then◌else◌};
-ghost use Rattle.sysmem_tree.specs.Shape.{kids_from, by_number, kid_of};
+ghost use Rattle.sysmem_tree.specs.Nodes.{IsTree};
+ghost use Rattle.sysmem_tree.specs.Shape.{by_number};
 ghost use Rattle.sysmem_tree.specs.Layout.{is_group, size, HoldNumbers, Lays};
+ghost use Rattle.sysmem_tree.specs.Links.{AreLinks, IsBelow, siblings_from};
 
+use crate::links::Links;
 use crate::node::Node;
 use crate::state::NodeKind;
 
 /// How many places there are: as many as nodes.
 pub(crate) const PLACES: usize = 128;
 
-/// The place of a node in a domain's layout. Places are in pre-order, so that what is below a node comes just behind it.
+/// The place of a node in a domain's layout. Places are in pre-order, so that what is below a node
+/// comes just behind it.
 #[derive(Clone, Copy, Debug, PartialEq, Eq)]
 pub struct Place {
     /// The number of the node.
@@ -21,7 +25,8 @@ pub struct Place {
     pub(crate) children: u32,
     /// The place behind all that is below it.
     pub(crate) end: usize,
-    /// The first group from here on, as long as the groups around it choose the way to it: itself, one below it or one behind it.
+    /// The first group from here on, as long as the groups around it choose the way to it: itself,
+    /// one below it or one behind it.
     pub(crate) next: Option<usize>,
 }
 
@@ -36,8 +41,8 @@ const NO_PLACE: Place = Place {
 /// What is laid out: children of a node, with all that is below them.
 #[derive(Clone, Copy)]
 pub(crate) struct Children {
-    /// The number of the node whose children they are.
-    pub(crate) parent: usize,
+    /// The number of the first of them; `None` where there are none.
+    pub(crate) first: Option<usize>,
     /// Whether they are alternatives.
     pub(crate) is_group: bool,
     /// The place before which they end.
@@ -53,18 +58,9 @@ pub(crate) struct Laid {
     pub(crate) start: usize,
     /// How many they are.
     pub(crate) children: u32,
-    /// The first group behind what comes before them: among them, unless they are alternatives, or else behind them.
+    /// The first group behind what comes before them: among them, unless they are alternatives, or
+    /// else behind them.
     pub(crate) next: Option<usize>,
-}
-
-/// Whether a node is a child of another one, in the domain.
-pub(crate) fn is_kid(node: &Node, domain: usize, parent: usize) -> bool
-    ensures { result ≡ is_some (kid_of domain parent node.now) }
-{
-    match node.birth {
-        Some(birth) => node.domain == domain && birth.parent == parent,
-        None => false,
-    }
 }
 
 /// Whether a node's children are alternatives.
@@ -81,50 +77,43 @@ fn either(test: bool, yes: Option<usize>, no: Option<usize>) -> Option<usize>
     if test { yes } else { no }
 }
 
-/// Lays out those children of a node that are among the nodes from number `from` on, the last one first.
-fn lay_from(
-    nodes: &[Node],
-    domain: usize,
-    from: usize,
-    what: Children,
-    places: &mut [Place; 128],
-) -> Laid
-    requires few { length nodes.now ≤ 128 }
-    requires from { from ≤ length nodes.now }
+/// Lays out children of a node, the last one first.
+fn lay(nodes: &[Node], links: &Links, what: Children, places: &mut [Place; 128]) -> Laid
+    requires tree { IsTree nodes.now }
+    requires links { (root : ℕ) × AreLinks nodes.now root (root + 1) links.now
+        × IfSome what.first (IsBelow nodes.now root) }
     requires end { what.end ≤ 128 }
-    requires room { size (kids_from by_number domain from (drop from nodes.now) what.parent [])
-        ≤ what.end }
-    ensures laid { Lays what.is_group places.new
-        (kids_from by_number domain from (drop from nodes.now) what.parent []) result what.end
-        what.next }
+    requires room { size (siblings_from nodes.now what.first) ≤ what.end }
+    ensures laid { Lays what.is_group places.new (siblings_from nodes.now what.first) result
+        what.end what.next }
     ensures kept { (k : ℕ) → what.end ≤ k → slice_get places.new k ≡ slice_get places.old k }
     ensures numbers { HoldNumbers (length nodes.now) places.old
         → HoldNumbers (length nodes.now) places.new }
 {
-    if from == nodes.len() {
+    let Some(number) = what.first else {
         return Laid {
             start: what.end,
             children: 0,
             next: what.next,
         };
-    }
-    let rest = lay_from(nodes, domain, from + 1, what, places);
-    let node = &nodes[from];
-    if !is_kid(node, domain, what.parent) {
-        return rest;
-    }
-    let is_group = has_alternatives(node);
+    };
+    let others = Children {
+        first: links.next[number],
+        ..what
+    };
+    let rest = lay(nodes, links, others, places);
+    let is_group = has_alternatives(&nodes[number]);
     let below = Children {
-        parent: from,
+        first: links.first[number],
         is_group,
         end: rest.start,
         next: rest.next,
     };
-    let kids = lay_from(nodes, domain, from + 1, below, places);
+    let kids = lay(nodes, links, below, places);
     let start = kids.start - 1;
     let next = either(is_group, Some(start), kids.next);
     places[start] = Place {
-        node: from,
+        node: number,
         is_group,
         children: kids.children,
         end: rest.start,
@@ -137,11 +126,11 @@ fn lay_from(
     }
 }
 
-/// The forest of a domain: its nodes in pre-order, in the last of 128 places. `Tree::layout` makes it
-/// once, without memory; a search asks it for the first open group, for the place of each of its
-/// children, for the nodes that the choice of that child settles, and for the group that is open then.
-/// Each of these costs what it answers, and nothing else of the domain is looked at. It stands for the
-/// tree as it was: later actions and decisions don't reach it.
+/// The forest of a domain: its nodes in pre-order, in the last of 128 places. `Tree::layout` makes
+/// it once, without memory; a search asks it for the first open group, for the place of each of its
+/// children, for the nodes that the choice of that child settles, and for the group that is open
+/// then. Each of these costs what it answers, and nothing else of the domain is looked at. It
+/// stands for the tree as it was: later actions and decisions don't reach it.
 #[derive(Clone, Copy, Debug)]
 pub struct Layout {
     pub(crate) places: [Place; 128],
@@ -150,7 +139,6 @@ pub struct Layout {
 }
 
 impl Layout {
-    ghost use Rattle.sysmem_tree.specs.Nodes.{IsTree};
     ghost use Rattle.sysmem_tree.specs.Shape.{forest_of};
     ghost use Rattle.sysmem_tree.specs.Forest.{Forest, each};
     ghost use Rattle.sysmem_tree.specs.Layout.{IsLayout, Spot, start, first_place};
@@ -165,14 +153,15 @@ impl Layout {
         ensures numbers { HoldNumbers (length nodes.now) result.places }
     {
         let is_group = has_alternatives(&nodes[root]);
+        let links = Links::new(nodes, root);
         let below = Children {
-            parent: root,
+            first: links.first[root],
             is_group,
             end: 128,
             next: None,
         };
         let mut places = [NO_PLACE; 128];
-        let kids = lay_from(nodes, root, root + 1, below, &mut places);
+        let kids = lay(nodes, &links, below, &mut places);
         let start = kids.start - 1;
         let next = either(is_group, Some(start), kids.next);
         places[start] = Place {

@@ -8,8 +8,8 @@ pub fn choice_settles_share()
     ensures { ChoiceSettlesShare }
 {}
 
-/// Choices after which a layout tells the first open group are a prefix, and a selection exactly where
-/// it tells none.
+/// Choices after which a layout tells the first open group are a prefix, and a selection exactly
+/// where it tells none.
 pub fn none_open_is_selection()
     ensures { NoneOpenIsSelection }
 {}
@@ -29,8 +29,8 @@ pub fn few_choices()
     ensures { FewChoices }
 {}
 
-/// Choices lead to one forest by the numbers of a domain's nodes and by its shape, under two kinds of
-/// labels; so what is settled, and the first group, are the same nodes.
+/// Choices lead to one forest by the numbers of a domain's nodes and by its shape, under two kinds
+/// of labels; so what is settled, and the first group, are the same nodes.
 pub fn choices_leave_one_forest()
     ensures { ChoicesLeaveOneForest }
 {}
@@ -40,7 +40,8 @@ pub fn prefixes_lead_on()
     ensures { PrefixesLeadOn }
 {}
 
-/// An accepted action answers the child that it made, behind the children so far, or else its own node.
+/// An accepted action answers the child that it made, behind the children so far, or else its own
+/// node.
 pub fn action_answers()
     ensures { ActionAnswers }
 {}

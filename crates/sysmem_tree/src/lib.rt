@@ -1,4 +1,5 @@
-//! The tree of a collection: its nodes, what their actions make of it, and when its domains are ready for a decision.
+//! The tree of a collection: its nodes, what their actions make of it, and when its domains are
+//! ready for a decision.
 //!
 //! ```
 //! let mut tree = Tree::new(rt.alloc())?;
@@ -18,6 +19,7 @@ mod id;
 pub mod laws;
 mod layout;
 pub mod layout_laws;
+mod links;
 mod members;
 mod next_group;
 mod node;

@@ -54,7 +54,8 @@ fn marks_after(layout: &Layout, choices: &[u8]) -> [bool; 128]
     marks
 }
 
-/// The members of the selection that the choices make in the domain of this root, marked by their numbers.
+/// The members of the selection that the choices make in the domain of this root, marked by their
+/// numbers.
 pub(crate) fn members(nodes: &[Node], root: usize, choices: &[u8]) -> [bool; 128]
     requires tree { IsTree nodes.now }
     requires there { root < length nodes.now }

@@ -11,8 +11,8 @@ use crate::layout::Layout;
 use crate::node::Node;
 use crate::prefix::Prefix;
 
-/// The group that is next in the domain of this root after the choices, with its number of children;
-/// `None` where they are a selection.
+/// The group that is next in the domain of this root after the choices, with its number of
+/// children; `None` where they are a selection.
 pub(crate) fn next_group(nodes: &[Node], root: usize, prefix: &Prefix) -> Option<(NodeId, u32)>
     requires tree { IsTree nodes.now }
     requires there { root < length nodes.now }

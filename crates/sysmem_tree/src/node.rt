@@ -12,7 +12,8 @@ use std::marker::Model;
 use std::sync::Arc;
 use sysmem_sanitise::Constraints;
 
-/// Which child of which node a node is: both by number, children from 0 in the order in which they were made.
+/// Which child of which node a node is: both by number, children from 0 in the order in which they
+/// were made.
 #[derive(Clone, Copy, Debug, PartialEq, Eq)]
 pub(crate) struct Birth {
     pub(crate) parent: usize,
@@ -61,7 +62,8 @@ impl Node {
         }
     }
 
-    /// The node that the action makes, if any, where this one has the number `own` and the one that is made `made`.
+    /// The node that the action makes, if any, where this one has the number `own` and the one that
+    /// is made `made`.
     pub(crate) fn next_child(&self, own: usize, made: usize, kind: ActionKind) -> Option<Node>
         ensures { result ≡ option_map (new_node made own self.now kind) (makes kind) }
     {
@@ -127,9 +129,12 @@ impl Node {
             self.constraints = constraints;
         }
     }
-    /// What a decision of the domain of this root makes of it: left out, if it is of the domain and no member.
+    /// What a decision of the domain of this root makes of it: left out, if it is of the domain and
+    /// no member.
     pub(crate) fn leave_out(&mut self, root: usize, is_member: bool)
-        ensures { self.new ≡ record self.old { is_left_out = self.old.is_left_out || ((self.old.domain == root) && not is_member) } }
+        ensures { self.new ≡ record self.old {
+          is_left_out = self.old.is_left_out || ((self.old.domain == root) && not is_member);
+        } }
     {
         if self.domain == root && !is_member {
             self.is_left_out = true;

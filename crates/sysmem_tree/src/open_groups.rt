@@ -27,7 +27,8 @@ impl Model for GroupPlace {
     ghost inverse = { λ number. record { 0 = number } };
 }
 
-/// A child of a group, by its place in a layout. What the choice of it settles is the same whatever was chosen elsewhere.
+/// A child of a group, by its place in a layout. What the choice of it settles is the same whatever
+/// was chosen elsewhere.
 #[derive(Clone, Copy, Debug, PartialEq, Eq)]
 pub struct ChildPlace(pub(crate) usize);
 
@@ -58,8 +59,8 @@ pub struct SettledNodes {
 }
 
 impl Layout {
-    /// The first group of the domain, which is open as long as nothing is chosen; `None` where it has
-    /// no group.
+    /// The first group of the domain, which is open as long as nothing is chosen; `None` where it
+    /// has no group.
     pub fn first_open(&self) -> Option<GroupPlace>
         requires { (d : Forest ℕ) × IsLayout self.now d }
         ensures { (d : Forest ℕ) → IsLayout self.now d → IsFirstOpen self.now d [] result }
@@ -67,8 +68,8 @@ impl Layout {
         Some(GroupPlace(self.places[self.start].next?))
     }
 
-    /// Which node a group is that is the first open one after some choices, and how many children it
-    /// has.
+    /// Which node a group is that is the first open one after some choices, and how many children
+    /// it has.
     pub fn group_at(&self, group: GroupPlace) -> (NodeId, u32)
         requires { (d : Forest ℕ) × (cs : List ℕ) × IsFirstOpen self.now d cs (Some group) }
         ensures group { (d : Forest ℕ) (cs : List ℕ) → IsFirstOpen self.now d cs (Some group)
@@ -80,8 +81,9 @@ impl Layout {
         (NodeId(place.node), place.children)
     }
 
-    /// The child of this number, from 0 on, of a group that is the first open one after some choices.
-    /// The time goes by the number; the children before it are passed over, not what is below them.
+    /// The child of this number, from 0 on, of a group that is the first open one after some
+    /// choices. The time goes by the number; the children before it are passed over, not what is
+    /// below them.
     pub fn child_at(&self, group: GroupPlace, choice: u8) -> ChildPlace
         requires { (d : Forest ℕ) × (cs : List ℕ) × IsFirstOpen self.now d cs (Some group)
             × IsPrefix d (cs ++ choice ∷ []) }
@@ -93,8 +95,8 @@ impl Layout {
         ChildPlace(self.child(group.0, choice))
     }
 
-    /// The group that is the first open one once this child was chosen, too; `None` where no group is
-    /// left, so that the choices are a selection.
+    /// The group that is the first open one once this child was chosen, too; `None` where no group
+    /// is left, so that the choices are a selection.
     pub fn open_after(&self, child: ChildPlace) -> Option<GroupPlace>
         requires { (d : Forest ℕ) × (cs : List ℕ) × (k : ℕ) × IsChildPlace self.now d cs k child }
         ensures { (d : Forest ℕ) (cs : List ℕ) (k : ℕ) → IsChildPlace self.now d cs k child

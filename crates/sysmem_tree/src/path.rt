@@ -4,8 +4,8 @@ ghost use Rattle.std.specs.Prelude.{◌≡◌};
 
 use std::marker::Model;
 
-/// The way from the root to a node: at each step which child, counted from 0 in the order in which children were made.
-/// The root's path is empty.
+/// The way from the root to a node: at each step which child, counted from 0 in the order in which
+/// children were made. The root's path is empty.
 #[derive(Debug, Drop)]
 pub struct Path {
     ordinals: Vec<u32>,
@@ -20,7 +20,8 @@ impl Model for Path {
 }
 
 impl Path {
-    /// The path of these ordinals, from the root on. Any list is a path; whether a node is there is the tree's matter.
+    /// The path of these ordinals, from the root on. Any list is a path; whether a node is there is
+    /// the tree's matter.
     pub fn new(ordinals: Vec<u32>) -> Path
         ensures { result ≡ ordinals.items }
     {

@@ -4,7 +4,8 @@ ghost use Rattle.std.specs.Prelude.{◌≡◌, ◌≤◌, ◌<◌, ◌++◌, [],
 
 use std::marker::Model;
 
-/// The choices for the first groups in effect of a domain, at most 128: for each the number of the chosen child.
+/// The choices for the first groups in effect of a domain, at most 128: for each the number of the
+/// chosen child.
 #[derive(Debug, Drop)]
 pub struct Prefix {
     choices: [u8; 128],
@@ -57,7 +58,8 @@ impl Prefix {
 
     /// Takes the last choice back.
     pub fn pop(&mut self) -> Option<u8>
-        ensures { MatchOption result ((self.old ≡ []) × (self.new ≡ [])) (λ choice. self.old ≡ self.new ++ choice ∷ []) }
+        ensures { MatchOption result ((self.old ≡ []) × (self.new ≡ []))
+            (λ choice. self.old ≡ self.new ++ choice ∷ []) }
     {
         if self.many == 0 {
             return None;

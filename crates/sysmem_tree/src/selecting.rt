@@ -28,8 +28,8 @@ impl Tree {
         count_selections(&self.nodes, domain.0)
     }
 
-    /// The layout of a domain of the tree, over which a search walks by one choice after the other. It
-    /// takes no memory, and the time of one pass over the nodes for each node of the domain.
+    /// The layout of a domain of the tree, over which a search walks by one choice after the other.
+    /// It takes no memory, and one pass over the nodes.
     pub fn layout(&self, domain: DomainId) -> Layout
         requires { HasDomain self.now.nodes domain }
         ensures lays { IsLayout result (forest_of by_number self.now.nodes domain []) }
@@ -38,8 +38,8 @@ impl Tree {
         Layout::new(&self.nodes, domain.0)
     }
 
-    /// The group that is next in a domain of the tree after these choices, with its number of children;
-    /// `None` where they are a selection.
+    /// The group that is next in a domain of the tree after these choices, with its number of
+    /// children; `None` where they are a selection.
     pub fn next_group(&self, domain: DomainId, prefix: &Prefix) -> Option<(NodeId, u32)>
         requires domain { HasDomain self.now.nodes domain }
         requires prefix { IsPrefix (forest_of by_number self.now.nodes domain []) prefix.now }
@@ -50,7 +50,8 @@ impl Tree {
         next_group(&self.nodes, domain.0, prefix)
     }
 
-    /// Whether a node of the tree has constraints and is settled in the domain by these choices: the groups above it are all chosen, on the way to it.
+    /// Whether a node of the tree has constraints and is settled in the domain by these choices:
+    /// the groups above it are all chosen, on the way to it.
     pub fn settled(&self, domain: DomainId, prefix: &Prefix, node: NodeId) -> bool
         requires domain { HasDomain self.now.nodes domain }
         requires node { HasNode self.now.nodes node }

@@ -22,9 +22,12 @@ pub(crate) fn past(place: &Place, at: usize) -> usize
 
 /// Whether the node is among those between two places that no group there has yet to choose.
 fn settles(layout: &Layout, from: usize, to: usize, node: usize) -> bool
-    requires laid { (w : Forest Spot) × (g : Bool) × (next : Option ℕ) × AreLaid g layout.now.places w to next × (start w to ≡ from) }
+    requires laid { (w : Forest Spot) × (g : Bool) × (next : Option ℕ)
+        × AreLaid g layout.now.places w to next × (start w to ≡ from) }
     requires to { to ≤ 128 }
-    ensures { (w : Forest Spot) (g : Bool) (next : Option ℕ) → AreLaid g layout.now.places w to next → start w to ≡ from → result ≡ list_any (λ s. s.node == node) (settled_of w) }
+    ensures { (w : Forest Spot) (g : Bool) (next : Option ℕ)
+        → AreLaid g layout.now.places w to next → start w to ≡ from
+        → result ≡ list_any (λ s. s.node == node) (settled_of w) }
 {
     let mut at = from;
     while at < to {
@@ -37,10 +40,13 @@ fn settles(layout: &Layout, from: usize, to: usize, node: usize) -> bool
     false
 }
 
-/// Whether the node is settled by the choices: whether the groups above it are all chosen, on the way to it.
+/// Whether the node is settled by the choices: whether the groups above it are all chosen, on the
+/// way to it.
 fn settles_after(layout: &Layout, choices: &[u8], node: usize) -> bool
     requires { (d : Forest ℕ) × (laid : IsLayout layout.now d) × IsPrefix laid.spots choices.now }
-    ensures { (d : Forest ℕ) → (laid : IsLayout layout.now d) → IfSome (after laid.spots choices.now) (λ e. result ≡ list_any (λ s. s.node == node) (settled_of e)) }
+    ensures { (d : Forest ℕ) → (laid : IsLayout layout.now d)
+        → IfSome (after laid.spots choices.now)
+        (λ e. result ≡ list_any (λ s. s.node == node) (settled_of e)) }
 {
     let mut is_settled = settles(layout, layout.start, 128, node);
     let mut group = layout.places[layout.start].next;

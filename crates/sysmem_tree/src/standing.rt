@@ -92,7 +92,8 @@ fn is_complete(nodes: &[Node], root: usize) -> bool
     nodes.iter().all(|node| !(node.domain() == root && node.state().is_awaited()))
 }
 
-/// Whether a domain is ready: its nodes are complete, it hasn't failed, and its host, where it has one, is selected.
+/// Whether a domain is ready: its nodes are complete, it hasn't failed, and its host, where it has
+/// one, is selected.
 pub(crate) fn is_ready(nodes: &[Node], domains: &[Domain], root: usize) -> bool
     ensures { result ≡ domain.is_ready (record { nodes = nodes.now; domains = domains.now }) root }
 {
@@ -122,10 +123,12 @@ pub(crate) fn decide(domains: &mut [Domain], root: usize, decision: Decision)
     }
 }
 
-/// Leaves all nodes of the domain of this root out, but its members; each node is marked by its number.
+/// Leaves all nodes of the domain of this root out, but its members; each node is marked by its
+/// number.
 pub(crate) fn leave_out(nodes: &mut [Node], root: usize, members: &[bool; MOST_NODES])
     requires { length nodes.old ≤ 128 }
-    ensures { (numbers : List ℕ) → ((k : ℕ) → get_or members.now k false ≡ list_any (λ m. m == k) numbers)
+    ensures { (numbers : List ℕ)
+        → ((k : ℕ) → get_or members.now k false ≡ list_any (λ m. m == k) numbers)
         → nodes.new ≡ left_out_but numbers root 0 nodes.old }
 {
     for (number, node) in nodes.iter_mut().enumerate() {

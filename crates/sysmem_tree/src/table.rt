@@ -1,4 +1,5 @@
-//! The table of actions: which states of a node allow each, what it makes of its node, and which node it makes below it.
+//! The table of actions: which states of a node allow each, what it makes of its node, and which
+//! node it makes below it.
 
 ghost use Rattle.std.specs.Prelude.{◌≡◌, ◌<◌};
 ghost use Rattle.sysmem_tree.specs.Node as node;

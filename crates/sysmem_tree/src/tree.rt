@@ -44,13 +44,14 @@ impl Model for Tree {
 
     ghost view = { λ t. record { nodes = t.nodes.items; domains = t.domains.items } };
 
-    ghost invariant = { λ t. IsSoundTree (record { nodes = t.nodes.items; domains = t.domains.items })
+    ghost invariant = { λ t.
+        IsSoundTree (record { nodes = t.nodes.items; domains = t.domains.items })
         × (128 ≤ vec_capacity t.nodes) × (128 ≤ vec_capacity t.domains) };
 }
 
 impl Tree {
-    /// The tree of an open root token, undecided. It reserves room for 128 nodes and domains, so that no action takes memory. Where
-    /// memory is refused it answers `AllocError`.
+    /// The tree of an open root token, undecided. It reserves room for 128 nodes and domains, so
+    /// that no action takes memory. Where memory is refused it answers `AllocError`.
     pub fn new(alloc: Global) -> Result<Tree, AllocError>
         ensures { IfOk result (λ tree. tree ≡ first_tree) }
     {
@@ -61,8 +62,8 @@ impl Tree {
         Ok(Tree { nodes, domains })
     }
 
-    /// A copy that is equal to this tree, in memory of the same allocator, with room for 128 nodes and domains; it shares the
-    /// constraints. `AllocError` where memory is refused.
+    /// A copy that is equal to this tree, in memory of the same allocator, with room for 128 nodes
+    /// and domains; it shares the constraints. `AllocError` where memory is refused.
     pub fn copy(&self) -> Result<Tree, AllocError>
         ensures { IfOk result (λ copy. copy ≡ self.now) }
     {
@@ -99,12 +100,14 @@ impl Tree {
         Some(NodeId(number))
     }
 
-    /// The path of a node of the tree, in memory of the tree's allocator; `AllocError` where that is refused.
+    /// The path of a node of the tree, in memory of the tree's allocator; `AllocError` where that
+    /// is refused.
     pub fn path_of(&self, node: NodeId) -> Result<Path, AllocError>
         requires { HasNode self.now.nodes node }
         ensures path { IfOk result (λ path. path ≡ path_of self.now.nodes node) }
         ensures leads { IfOk result (λ path. node_at self.now.nodes path ≡ Some node) }
-        ensures only { IfOk result (λ path. (other : List ℕ) → node_at self.now.nodes other ≡ Some node → other ≡ path) }
+        ensures only { IfOk result
+            (λ path. (other : List ℕ) → node_at self.now.nodes other ≡ Some node → other ≡ path) }
     {
         let ordinals = path_to(*self.nodes.allocator(), &self.nodes, node.0)?;
         Ok(Path::new(ordinals))
@@ -134,7 +137,8 @@ impl Tree {
         self.nodes[node.0].state().is_open
     }
 
-    /// The constraints that a node of the tree set; `None` where it set none or isn't set. A node that is gone keeps them.
+    /// The constraints that a node of the tree set; `None` where it set none or isn't set. A node
+    /// that is gone keeps them.
     pub fn constraints_of(&self, node: NodeId) -> Option<&Constraints>
         requires { HasNode self.now.nodes node }
         ensures { IfSome (slice_get self.now.nodes node)
@@ -155,10 +159,12 @@ impl Tree {
         DomainId(self.nodes[node.0].domain())
     }
 
-    /// Whether the domain of a node of the tree was decided, settings were chosen, and the node is a member of the selection.
+    /// Whether the domain of a node of the tree was decided, settings were chosen, and the node is
+    /// a member of the selection.
     pub fn is_selected(&self, node: NodeId) -> bool
         requires { HasNode self.now.nodes node }
-        ensures { IfSome (slice_get self.now.nodes node) (λ n. result ≡ is_selected self.now.domains n) }
+        ensures { IfSome (slice_get self.now.nodes node)
+            (λ n. result ≡ is_selected self.now.domains n) }
     {
         is_selected(&self.domains, &self.nodes[node.0])
     }
@@ -172,7 +178,8 @@ impl Tree {
         self.domains.len() as u32
     }
 
-    /// The domain of this index, in the order in which their roots were made; `None` from `domains()` on.
+    /// The domain of this index, in the order in which their roots were made; `None` from
+    /// `domains()` on.
     pub fn domain_at(&self, index: u32) -> Option<DomainId>
         ensures domain { result ≡ option_map (λ one. one.root) (slice_get self.now.domains index) }
         ensures there { IfSome result (HasDomain self.now.nodes) }
@@ -191,7 +198,8 @@ impl Tree {
         NodeId(domain.0)
     }
 
-    /// The host of a domain of the tree: the collection to which its root was attached. The initial domain has none.
+    /// The host of a domain of the tree: the collection to which its root was attached. The initial
+    /// domain has none.
     pub fn host_of(&self, domain: DomainId) -> Option<NodeId>
         requires { HasDomain self.now.nodes domain }
         ensures node { result ≡ host_number self.now.nodes domain }
@@ -201,8 +209,9 @@ impl Tree {
         Some(NodeId(birth.parent))
     }
 
-    /// Whether a domain of the tree is ready for a decision: nothing more waits on any of its nodes, it hasn't failed, and, where its root
-    /// was attached, the collection to which it was is selected. A domain that is ready stays so, whatever is decided.
+    /// Whether a domain of the tree is ready for a decision: nothing more waits on any of its
+    /// nodes, it hasn't failed, and, where its root was attached, the collection to which it was is
+    /// selected. A domain that is ready stays so, whatever is decided.
     pub fn ready(&self, domain: DomainId) -> bool
         requires { HasDomain self.now.nodes domain }
         ensures { result ≡ is_ready self.now domain }
@@ -225,12 +234,14 @@ impl Tree {
         }
     }
 
-    /// Makes an action on a node, and answers the node that was made, or else the node itself; or the first refusal, in the order of
-    /// `DomainFailed`, `NotSelected`, `WrongState`, `NoChildren`, `TooManyNodes`, and then nothing has changed. It takes no memory.
+    /// Makes an action on a node, and answers the node that was made, or else the node itself; or
+    /// the first refusal, in the order of `DomainFailed`, `NotSelected`, `WrongState`,
+    /// `NoChildren`, `TooManyNodes`, and then nothing has changed. It takes no memory.
     pub fn apply(&mut self, event: Event) -> Result<NodeId, Refusal>
         ensures accepted { IfOk result (λ node. applied self.old event.node (deed_of event.action)
             ≡ Ok (record { tree = self.new; node = node })) }
-        ensures refused { IfErr result (λ refusal. applied self.old event.node (deed_of event.action) ≡ Err refusal) }
+        ensures refused { IfErr result
+            (λ refusal. applied self.old event.node (deed_of event.action) ≡ Err refusal) }
         ensures unchanged { OnErr result (self.new ≡ self.old) }
         ensures there { IfOk result (HasNode self.new.nodes) }
         ensures grows { length self.old.nodes ≤ length self.new.nodes }
@@ -279,20 +290,23 @@ impl Tree {
     /// Makes an action that is not refused.
     fn enter(&mut self, number: usize, action: Action) -> NodeId
         requires { result_err (applied self.old number (deed_of action)) ≡ None }
-        ensures { applied self.old number (deed_of action) ≡ Ok (record { tree = self.new; node = result }) }
+        ensures { applied self.old number (deed_of action)
+            ≡ Ok (record { tree = self.new; node = result }) }
     {
         note(&self.nodes, &mut self.domains, number, action.kind());
         NodeId(act(&mut self.nodes, number, action))
     }
 }
 
-/// Notes an action on one of the nodes with the domains: an attached token has one of its own, and a close fails one that isn't ready.
+/// Notes an action on one of the nodes with the domains: an attached token has one of its own, and
+/// a close fails one that isn't ready.
 fn note(nodes: &[Node], domains: &mut Vec<Domain>, number: usize, kind: ActionKind)
     requires there { number < length nodes.now }
     requires reserved { 128 ≤ vec_capacity domains.old }
     requires room { makes_root kind ≡ true → length domains.old.items < 128 }
     ensures domains { IfSome (slice_get nodes.now number)
-        (λ n. domains.new.items ≡ domains_after (record { nodes = nodes.now; domains = domains.old.items }) n kind) }
+        (λ n. domains.new.items
+        ≡ domains_after (record { nodes = nodes.now; domains = domains.old.items }) n kind) }
     ensures reserved { 128 ≤ vec_capacity domains.new }
 {
     let root = nodes[number].domain();
@@ -303,13 +317,15 @@ fn note(nodes: &[Node], domains: &mut Vec<Domain>, number: usize, kind: ActionKi
     }
 }
 
-/// Makes an action that one of the nodes allows, and answers which node was made, or else the node itself.
+/// Makes an action that one of the nodes allows, and answers which node was made, or else the node
+/// itself.
 fn act(nodes: &mut Vec<Node>, number: usize, action: Action) -> usize
     requires tree { IsTree nodes.old.items }
     requires reserved { 128 ≤ vec_capacity nodes.old }
     requires there { number < length nodes.old.items }
     requires room { has_room nodes.old.items (kind_of (deed_of action)) ≡ true }
-    ensures nodes { IfSome (slice_get nodes.old.items number) (λ n. nodes.new.items ≡ nodes_after nodes.old.items number n (deed_of action)) }
+    ensures nodes { IfSome (slice_get nodes.old.items number)
+        (λ n. nodes.new.items ≡ nodes_after nodes.old.items number n (deed_of action)) }
     ensures node { result ≡ number_after nodes.old.items number (kind_of (deed_of action)) }
     ensures reserved { 128 ≤ vec_capacity nodes.new }
 {

@@ -1,18 +1,24 @@
 -- The root's own children are all that is counted.
-use Rattle.std.proofs.Common.{◌≡◌, ◌+◌, length, drop, min, Some, slice_get, refl, sym, ◌∙◌, ap}
+use Rattle.std.proofs.Common.{min, None, sym, ◌∙◌, ap}
 use Rattle.std.proofs.Math.Nat.{mul-one}
-use Rattle.std.proofs.lemmas.Option.{slice_get_read}
+use Rattle.std.specs.Prelude.{slice_index_or}
 use Rattle.sysmem_tree.specs.Forest.{Empty, count}
 use Rattle.sysmem_tree.specs.Layout.{count_as}
+use Rattle.sysmem_tree.specs.Links.{siblings_from}
 use Rattle.sysmem_tree.proofs.count.count_selections.Goals as goal
-use Rattle.sysmem_tree.proofs.Few.{forest_here}
-use Rattle.sysmem_tree.proofs.Numbers.{numbers, count_plain}
+use Rattle.sysmem_tree.proofs.Linking.{starts_at}
+use Rattle.sysmem_tree.proofs.Numbers.{count_plain}
+
+pub count_children-requires-clause-links : goal.count_children-requires-clause-links
+count_children-requires-clause-links c =
+    let at = starts_at c.args.nodes.now c.new-links.result c.args.root c.requires.tree c.requires.there c.new-links.ensures in
+    (c.args.root, c.new-links.ensures, at.below)
 
 pub returns : goal.returns
 returns c =
-    let there : slice_get c.args.nodes.now c.args.root ≡ Some c.index-nodes-root.result = slice_get_read c.args.nodes.now (length c.args.nodes.now) c.args.root c.index-nodes-root.result refl c.requires.there c.index-nodes-root.is in
-    let kids = numbers c.args.root (c.args.root + 1) (drop (c.args.root + 1) c.args.nodes.now) c.args.root in
+    let at = starts_at c.args.nodes.now c.new-links.result c.args.root c.requires.tree c.requires.there c.new-links.ensures in
+    let kids = siblings_from c.args.nodes.now (slice_index_or c.new-links.result.first c.args.root None) in
     c.count_children.ensures
     ∙ (ap (λ g. min (count_as g kids) 18446744073709551615) c.has_alternatives.ensures
-    ∙ ap (λ x. min x 18446744073709551615) (sym (ap count (forest_here c.args.nodes.now c.requires.tree c.args.root c.index-nodes-root.result c.requires.there there)
+    ∙ ap (λ x. min x 18446744073709551615) (sym (ap count (at.tree c.index-nodes-root.result c.index-nodes-root.is)
     ∙ (count_plain c.index-nodes-root.result.state.kind c.args.root kids Empty ∙ mul-one _))))

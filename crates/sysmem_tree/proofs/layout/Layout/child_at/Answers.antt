@@ -1,5 +1,5 @@
 -- The child that the choice takes.
-use Rattle.std.proofs.Common.{◌≡◌, ◌+◌, Some, sym, subst}
+use Rattle.std.proofs.Common.{Some, sym, subst}
 use Rattle.std.proofs.lemmas.Option.{slice_get_within}
 use Rattle.sysmem_tree.specs.Forest.{each}
 use Rattle.sysmem_tree.specs.OpenGroups.{IsFirstOpen}

@@ -1,5 +1,5 @@
 -- One node of a walk.
-use Rattle.std.proofs.Common.{◌≡◌, ◌<◌, length, subst, arith}
+use Rattle.std.proofs.Common.{subst, arith}
 use Rattle.sysmem_tree.specs.OpenGroups.{HasLeft}
 use Rattle.sysmem_tree.proofs.GroupWalks.{place_there}
 use Rattle.sysmem_tree.proofs.Shares.{ends, walk_within, walks_on}

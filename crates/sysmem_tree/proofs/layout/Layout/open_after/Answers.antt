@@ -1,5 +1,5 @@
 -- The place of a child tells the group that is open once it was chosen.
-use Rattle.std.proofs.Common.{◌≡◌, ◌<◌, ◌++◌, [], ◌∷◌, length, None, Some, sym, subst, arith}
+use Rattle.std.proofs.Common.{◌++◌, [], ◌∷◌, None, Some, sym, subst, arith}
 use Rattle.sysmem_tree.specs.OpenGroups.{IsChildPlace, IsFirstOpen}
 use Rattle.sysmem_tree.proofs.GroupWalks.{child_there, opens_after}
 use Rattle.sysmem_tree.proofs.Shares.{child_within}

@@ -1,6 +1,5 @@
 -- The walk over the child's tree.
-use Rattle.std.proofs.Common.{◌≡◌, ◌<◌, length, get_or, sym, subst, arith}
-use Rattle.sysmem_tree.specs.OpenGroups.{HasChild, Gives, share_of}
+use Rattle.std.proofs.Common.{arith}
 use Rattle.sysmem_tree.proofs.Shares.{child_within, gives_share_as}
 use Rattle.sysmem_tree.proofs.layout.Layout.settled_with.Goals as goal
 
