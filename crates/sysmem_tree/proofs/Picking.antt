@@ -9,12 +9,16 @@ use Rattle.sysmem_tree.specs.Domain.{HasDomain}
 use Rattle.sysmem_tree.specs.Forest.{Forest, Empty, Plain, Group, relabel}
 use Rattle.sysmem_tree.specs.Laws.{labels}
 use Rattle.sysmem_tree.specs.Layout.{Spot, start, behind, AreLaid, IsLayout}
-use Rattle.sysmem_tree.specs.Members.{is_marked, nodes_from}
+use Rattle.sysmem_tree.specs.Members.{is_marked}
 use Rattle.sysmem_tree.specs.Node.{NodeFacts}
 use Rattle.sysmem_tree.specs.Nodes.{IsTree}
 use Rattle.sysmem_tree.specs.Shape.{by_number, forest_of, members_of, participants_of}
 use Rattle.sysmem_tree.proofs.Numbers.{front}
 use Rattle.sysmem_tree.proofs.Once.{labels_relabel, filter_both, members_picked}
+
+-- the nodes that stand from a place on
+abbrev pub nodes_from : List Place → ℕ → List ℕ
+nodes_from places at = map (λ p. p.node) (drop at places)
 
 -- from a place on: its node, and those behind it
 drop_at : {X : Type 0} (xs : List X) (i : ℕ) (x : X) → slice_get xs i ≡ Some x → drop i xs ≡ x ∷ drop (i + 1) xs
@@ -29,7 +33,6 @@ node_at s = s.node
 
 -- a part of a layout holds the nodes of what is laid out there
 module _ (ps : List Place) where
-  stand : (g : Bool) (w : Forest Spot) (to : ℕ) (next : Option ℕ) → AreLaid g ps w to next → nodes_from ps (start w to) ≡ labels (relabel node_at w) ++ nodes_from ps to
   stand_at : (s : Spot) (p : Place) (kids rest : Forest Spot) (to : ℕ) → slice_get ps s.place ≡ Some p → p.node ≡ s.node → start kids (start rest to) ≡ s.place + 1
       → nodes_from ps (start kids (start rest to)) ≡ labels (relabel node_at kids) ++ nodes_from ps (start rest to) → nodes_from ps (start rest to) ≡ labels (relabel node_at rest) ++ nodes_from ps to
       → nodes_from ps s.place ≡ s.node ∷ ((labels (relabel node_at kids) ++ labels (relabel node_at rest)) ++ nodes_from ps to)
@@ -37,12 +40,15 @@ module _ (ps : List Place) where
       ap (map (λ (q : Place). q.node)) (drop_at ps s.place p here)
       ∙ (ap (λ (n : ℕ). n ∷ nodes_from ps (s.place + 1)) node
       ∙ ap (λ ns. s.node ∷ ns) (ap (nodes_from ps) (sym next) ∙ (below ∙ (ap (λ ns. labels (relabel node_at kids) ++ ns) behind' ∙ sym (append_assoc (labels (relabel node_at kids)) (labels (relabel node_at rest)) (nodes_from ps to))))))
+
+  stand : (g : Bool) (w : Forest Spot) (to : ℕ) (next : Option ℕ) → AreLaid g ps w to next → nodes_from ps (start w to) ≡ labels (relabel node_at w) ++ nodes_from ps to
   stand g Empty to next l = refl
   stand g (Plain s kids rest) to next l = stand_at s _ kids rest to l.0.here refl l.0.kids_here (stand false kids (start rest to) (behind g rest next) l.1) (stand g rest to next l.2)
   stand g (Group s kids rest) to next l = stand_at s _ kids rest to l.0.here refl l.0.kids_here (stand true kids (start rest to) (behind g rest next) l.1) (stand g rest to next l.2)
 
 past_end : {X : Type 0} (xs : List X) (k : ℕ) → length xs ≤ k → drop k xs ≡ []
-past_end [] k more = refl
+past_end [] zero more = refl
+past_end [] (suc k) more = refl
 past_end (x ∷ xs) zero more = absurd (omega (arith, more))
 past_end (x ∷ xs) (suc k) more = past_end xs k (omega (arith, more))
 
@@ -67,6 +73,7 @@ marked_participants nodes r cs marks tree has marked =
 
 -- a pass: what is kept so far, and those that will be kept of what is left
 pub record IsOnTheWay (test : ℕ → Bool) (places : List Place) (from at : ℕ) (kept : List ℕ) : Type 0 where
+  pub long : length places ≡ 128
   pub all : kept ++ filter test (nodes_from places at) ≡ filter test (nodes_from places from)
 
 step : (test : ℕ → Bool) (places : List Place) (at : ℕ) (d : Place) → at < length places
@@ -80,23 +87,24 @@ step test places at d less =
 -- one node is kept
 pub kept_on : (test : ℕ → Bool) (places : List Place) (from at : ℕ) (kept : List ℕ) (d : Place) (n : ℕ) → at < length places → n ≡ (get_or places at d).node → test n ≡ true → IsOnTheWay test places from at kept
     → IsOnTheWay test places from (at + 1) (kept ++ n ∷ [])
-kept_on test places from at kept d n less is yes way = record {
+kept_on test places from at kept d n less is passes way = record {
+  long = way.long;
   all = append_assoc kept (n ∷ []) (filter test (nodes_from places (at + 1)))
       ∙ (ap (λ xs. kept ++ xs) (sym (step test places at d less ∙ by)) ∙ way.all);
 } where
   by : (if test (get_or places at d).node then (get_or places at d).node ∷ filter test (nodes_from places (at + 1)) else filter test (nodes_from places (at + 1))) ≡ n ∷ filter test (nodes_from places (at + 1))
   by = subst (λ (k : ℕ). (if test k then k ∷ filter test (nodes_from places (at + 1)) else filter test (nodes_from places (at + 1))) ≡ n ∷ filter test (nodes_from places (at + 1))) is
-      (ap (λ b. if b then n ∷ filter test (nodes_from places (at + 1)) else filter test (nodes_from places (at + 1))) yes)
+      (ap (λ b. if b then n ∷ filter test (nodes_from places (at + 1)) else filter test (nodes_from places (at + 1))) passes)
 
 -- or passed over
 pub passed_on : (test : ℕ → Bool) (places : List Place) (from at : ℕ) (kept : List ℕ) (d : Place) (n : ℕ) → at < length places → n ≡ (get_or places at d).node → test n ≡ false → IsOnTheWay test places from at kept
     → IsOnTheWay test places from (at + 1) kept
-passed_on test places from at kept d n less is not way = record { all = ap (λ xs. kept ++ xs) (sym (step test places at d less ∙ by)) ∙ way.all } where
+passed_on test places from at kept d n less is fails way = record { long = way.long; all = ap (λ xs. kept ++ xs) (sym (step test places at d less ∙ by)) ∙ way.all } where
   by : (if test (get_or places at d).node then (get_or places at d).node ∷ filter test (nodes_from places (at + 1)) else filter test (nodes_from places (at + 1))) ≡ filter test (nodes_from places (at + 1))
   by = subst (λ (k : ℕ). (if test k then k ∷ filter test (nodes_from places (at + 1)) else filter test (nodes_from places (at + 1))) ≡ filter test (nodes_from places (at + 1))) is
-      (ap (λ b. if b then n ∷ filter test (nodes_from places (at + 1)) else filter test (nodes_from places (at + 1))) not)
+      (ap (λ b. if b then n ∷ filter test (nodes_from places (at + 1)) else filter test (nodes_from places (at + 1))) fails)
 
 -- at the end all is kept
-pub all_kept : (test : ℕ → Bool) (places : List Place) (from at : ℕ) (kept : List ℕ) → length places ≤ at → IsOnTheWay test places from at kept → kept ≡ filter test (nodes_from places from)
+pub all_kept : (test : ℕ → Bool) (places : List Place) (from at : ℕ) (kept : List ℕ) → 128 ≤ at → IsOnTheWay test places from at kept → kept ≡ filter test (nodes_from places from)
 all_kept test places from at kept more way =
-    sym (append-nil kept) ∙ (ap (λ (qs : List Place). kept ++ filter test (map (λ (q : Place). q.node) qs)) (sym (past_end places at more)) ∙ way.all)
+    sym (append-nil kept) ∙ (ap (λ (qs : List Place). kept ++ filter test (map (λ (q : Place). q.node) qs)) (sym (past_end places at (omega (arith, more, way.long)))) ∙ way.all)

@@ -1,6 +1,5 @@
--- The members of a selection as nodes of the tree, and a pass over a layout that finds them.
-use Rattle.std.specs.Prelude.{◌≡◌, ◌≢◌, ◌&&◌, ℕ, Bool, false, List, All, AllPairs, IsSomeAnd, map, drop, get_or, is_some, option_and_then, slice_get}
-use Rattle.sysmem_tree.specs.declared.layout.Place.{Place}
+-- The members of a selection as nodes of the tree, and those that are marked.
+use Rattle.std.specs.Prelude.{◌≡◌, ◌≢◌, ◌&&◌, ℕ, Bool, false, List, All, AllPairs, IsSomeAnd, get_or, is_some, option_and_then, slice_get}
 use Rattle.sysmem_tree.specs.Domain.{HasDomain}
 use Rattle.sysmem_tree.specs.Node.{NodeFacts}
 use Rattle.sysmem_tree.specs.Nodes.{IsTree}
@@ -18,7 +17,3 @@ MembersStandOnce = (nodes : List NodeFacts) (r : ℕ) (cs : List ℕ) → IsTree
 -- whether a node is marked and has constraints
 abbrev pub is_marked : List NodeFacts → List Bool → ℕ → Bool
 is_marked nodes marks i = get_or marks i false && is_some (option_and_then (λ n. n.constraints) (slice_get nodes i))
-
--- the nodes that stand from a place on
-abbrev pub nodes_from : List Place → ℕ → List ℕ
-nodes_from places at = map (λ p. p.node) (drop at places)
