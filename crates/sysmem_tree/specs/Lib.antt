@@ -18,3 +18,4 @@ pub mod Links
 pub mod Prefix
 pub mod OpenGroups
 pub mod LayoutLaws
+pub mod Members
