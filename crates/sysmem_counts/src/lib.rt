@@ -17,6 +17,3 @@ pub use bounds::{BUFFER_COUNT_LIMIT, CountBounds};
 pub use constraints::CountConstraints;
 pub use field::Field;
 pub use usage::Usage;
-
-#[cfg(test)]
-mod tests;
