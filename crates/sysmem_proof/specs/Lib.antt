@@ -4,7 +4,9 @@ pub mod Chosen
 pub mod Verdict
 pub mod Laws
 pub mod Naming
+pub mod Line
 pub mod Conflict
+pub mod CertificateFacts
 pub mod Certificate
 pub mod Check
 pub mod Cannot
