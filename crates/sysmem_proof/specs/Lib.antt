@@ -11,4 +11,5 @@ pub mod Certificate
 pub mod Check
 pub mod Cannot
 pub mod Finder
+pub mod Roll
 pub mod Fault

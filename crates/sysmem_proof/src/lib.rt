@@ -10,8 +10,10 @@ mod certificate;
 mod conflict;
 pub mod laws;
 mod line;
+mod names;
 mod no;
 mod refutation;
+mod roll;
 mod verdict;
 
 pub use base::Base;
