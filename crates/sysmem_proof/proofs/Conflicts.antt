@@ -15,7 +15,10 @@ use Rattle.sysmem_tree.specs.Forest.{Forest, choices, settled}
 use Rattle.sysmem_tree.specs.Selection.{IsSelection}
 use Rattle.sysmem_tree.specs.Shape.{Member}
 use Rattle.sysmem_tree.specs.Sublist.{IsSublist}
-use Rattle.sysmem_proof.specs.Conflict.{LineFacts, ConflictFacts, Count, Places, Offers, Fixed, RefusesPlace, RefusesOffer, IsConflict}
+use Rattle.sysmem_proof.specs.Line.{LineFacts}
+use Rattle.sysmem_proof.specs.declared.conflict.Conflict.{Conflict}
+use Rattle.sysmem_proof.specs.declared.conflict.Conflict.TheVariants.{Count, Places, Offers, Fixed}
+use Rattle.sysmem_proof.specs.Conflict.{RefusesPlace, RefusesOffer, IsConflict}
 use Rattle.sysmem_proof.specs.Members.{participants}
 use Rattle.sysmem_proof.specs.Verdict.{IsUnmet, MeetsAll}
 use Rattle.sysmem_proof.proofs.Growing.{settled_grows, sub_itself}
@@ -70,7 +73,7 @@ module _ (laws : LineLaws) (platform : PlatformFacts) where
       laws.place strict platform refuses.0 (participants all) line.field p.heap t these here (rw (sym same) refuses.2) met
 
   -- a conflict of some members leaves none to more
-  conflict_clash : (d : Forest Member) (c : ConflictFacts) → IsConflict platform d c → (strict : Bool) (all : List Member) (t : Settings) → IsSublist (settled d) all
+  conflict_clash : (d : Forest Member) (c : Conflict) → IsConflict platform d c → (strict : Bool) (all : List Member) (t : Settings) → IsSublist (settled d) all
       → (is_none (choices d) ≡ true → (settled d ≡ all) × (strict ≡ true)) → ¬ (MeetsAs strict platform (participants all) t)
   conflict_clash d (Count line) conflict strict all t among same met =
       laws.count strict platform conflict.0 (participants all) line.field (named_of (settled d) all line.nodes conflict.0 among conflict.1) conflict.2 t met
@@ -93,10 +96,10 @@ module _ (laws : LineLaws) (platform : PlatformFacts) where
     by (Some es) is none = absurd (cc (none))
 
   -- a conflict of an initial domain is true
-  pub conflict_unmet : (d : Forest Member) (c : ConflictFacts) → IsConflict platform d c → IsUnmet (MeetsAll platform) d
+  pub conflict_unmet : (d : Forest Member) (c : Conflict) → IsConflict platform d c → IsUnmet (MeetsAll platform) d
   conflict_unmet d c conflict sel e t s =
       conflict_clash d c conflict true (settled e) t (settled_grows sel d e s.leads) (λ whole. (same_end d e sel s whole, refl))
 
   -- and it leaves none to what is settled
-  pub conflict_leaves_none : (d : Forest Member) (c : ConflictFacts) → IsConflict platform d c → (t : Settings) → ¬ (MeetsAs (is_none (choices d)) platform (participants (settled d)) t)
+  pub conflict_leaves_none : (d : Forest Member) (c : Conflict) → IsConflict platform d c → (t : Settings) → ¬ (MeetsAs (is_none (choices d)) platform (participants (settled d)) t)
   conflict_leaves_none d c conflict t = conflict_clash d c conflict (is_none (choices d)) (settled d) t (sub_itself (settled d)) (λ whole. (refl, whole))

@@ -14,9 +14,11 @@ use Rattle.sysmem_tree.specs.Forest.{Forest, settled}
 use Rattle.sysmem_tree.specs.Selection.{IsSelection}
 use Rattle.sysmem_tree.specs.Shape.{Member}
 use Rattle.sysmem_proof.specs.Base.{Terms}
-use Rattle.sysmem_proof.specs.Certificate.{CertificateFacts, RefuseBefore, RefuseBeforeFor}
+use Rattle.sysmem_proof.specs.CertificateFacts.{CertificateFacts}
+use Rattle.sysmem_proof.specs.Certificate.{RefuseBefore, RefuseBeforeFor}
 use Rattle.sysmem_proof.specs.Check.{IsLeastAt, IsLeastFor}
-use Rattle.sysmem_proof.specs.Conflict.{ConflictFacts, RefusesPlace, RefusesOffer, IsConflictFor}
+use Rattle.sysmem_proof.specs.declared.conflict.Conflict.{Conflict}
+use Rattle.sysmem_proof.specs.Conflict.{RefusesPlace, RefusesOffer, IsConflictFor}
 use Rattle.sysmem_proof.specs.Laws.{ConflictsAreTrue, TestsAreExact}
 use Rattle.sysmem_proof.specs.Members.{participants}
 use Rattle.sysmem_proof.specs.Verdict.{IsUnmet, MeetsFor, IsBestFor}
@@ -101,7 +103,7 @@ module _ (laws : LineLaws) (platform : PlatformFacts) where
   least_for (Some terms) ms s best = best
 
   -- a conflict is true
-  pub unmet_for : (terms : Option Terms) (d : Forest Member) (c : ConflictFacts) → IsConflictFor platform terms d c → IsUnmet (MeetsFor platform terms) d
+  pub unmet_for : (terms : Option Terms) (d : Forest Member) (c : Conflict) → IsConflictFor platform terms d c → IsUnmet (MeetsFor platform terms) d
   unmet_for None d c conflict = conflict_unmet laws platform d c conflict
   unmet_for (Some terms) d c conflict = fixed_conflict_unmet platform terms d c conflict
 

@@ -15,10 +15,16 @@ use Rattle.sysmem_tree.specs.Shape.{Member}
 use Rattle.sysmem_proof.specs.declared.no.No.{No}
 use Rattle.sysmem_proof.specs.declared.no.No.TheVariants.{WrongShape, NotMet, NotLeast}
 use Rattle.sysmem_proof.specs.Base.{Terms}
-use Rattle.sysmem_proof.specs.Certificate.{Item, Split, Leaf, CertificateFacts, Refutes, RefutesEarlier, HoldBefore, RefusePlacesBefore, RefuseBeforeFor}
+use Rattle.sysmem_proof.specs.declared.refutation.Item.{Item}
+use Rattle.sysmem_proof.specs.declared.refutation.Item.TheVariants.{Split, Leaf}
+use Rattle.sysmem_proof.specs.CertificateFacts.{CertificateFacts}
+use Rattle.sysmem_proof.specs.Certificate.{Refutes, RefutesEarlier, HoldBefore, RefusePlacesBefore, RefuseBeforeFor}
 use Rattle.sysmem_proof.specs.Check.{IsLeastAt, IsLeastFor, ChoicePasses, RefutationPasses}
 use Rattle.sysmem_proof.specs.Members.{participants}
-use Rattle.sysmem_proof.specs.Conflict.{LineFacts, ConflictFacts, Count, Places, Offers, Fixed, RefusesPlace, RefusesOffer, IsConflictFor}
+use Rattle.sysmem_proof.specs.Line.{LineFacts}
+use Rattle.sysmem_proof.specs.declared.conflict.Conflict.{Conflict}
+use Rattle.sysmem_proof.specs.declared.conflict.Conflict.TheVariants.{Count, Places, Offers, Fixed}
+use Rattle.sysmem_proof.specs.Conflict.{RefusesPlace, RefusesOffer, IsConflictFor}
 use Rattle.sysmem_proof.specs.Fault.{Faults, First, Fails, AreNamed, LineFaults, lines_of, HasEachLine, namable, ConflictFaults, RefutationFaults, EachFaults, EarlierFaults, LinesFault, PlacesFault, LinesFaults, HasFittingLines, SettingsFaults, MembersFault, IsSelected, AreFew, ChoiceFaults, EmptyFaults}
 use Rattle.sysmem_proof.specs.Laws.{FaultsAreFirst}
 use Rattle.sysmem_proof.specs.Verdict.{MeetsFor}
@@ -80,7 +86,7 @@ each_first R faults one (x ∷ xs) (y ∷ ys) = in_turn (R x y) (AllZip R xs ys)
 
 -- a conflict has the lines that it should have, and they name participants
 module _ (platform : PlatformFacts) where
-  each_line : (terms : Option Terms) (d : Forest Member) (c : ConflictFacts) → IsConflictFor platform terms d c → HasEachLine platform c
+  each_line : (terms : Option Terms) (d : Forest Member) (c : Conflict) → IsConflictFor platform terms d c → HasEachLine platform c
   each_line terms d (Count line) is = tt
   each_line terms d (Fixed field node) is = tt
   each_line None d (Places lines) is = zip_long (RefusesPlace (settled d)) (places_of platform.heaps) lines is
@@ -88,7 +94,7 @@ module _ (platform : PlatformFacts) where
   each_line (Some terms) d (Places lines) is = absurd is
   each_line (Some terms) d (Offers lines) is = absurd is
 
-  all_named : (terms : Option Terms) (d : Forest Member) (c : ConflictFacts) → IsConflictFor platform terms d c → All (λ line. AreNamed (namable terms (settled d) c) line.nodes) (lines_of c)
+  all_named : (terms : Option Terms) (d : Forest Member) (c : Conflict) → IsConflictFor platform terms d c → All (λ line. AreNamed (namable terms (settled d) c) line.nodes) (lines_of c)
   all_named None d (Count line) is = All-cons (λ l. AreNamed (settled d) l.nodes) line [] (is.0, is.1) (All-nil (λ l. AreNamed (settled d) l.nodes))
   all_named (Some terms) d (Count line) is = All-cons (λ l. AreNamed (terms.accepted ++ settled d) l.nodes) line [] (is.0, is.1) (All-nil (λ l. AreNamed (terms.accepted ++ settled d) l.nodes))
   all_named None d (Fixed field node) is = absurd is
@@ -99,7 +105,7 @@ module _ (platform : PlatformFacts) where
   all_named (Some terms) d (Places lines) is = absurd is
   all_named (Some terms) d (Offers lines) is = absurd is
 
-  conflict_first : (terms : Option Terms) (d : Forest Member) (c : ConflictFacts) → AreFirst (IsConflictFor platform terms d c) (ConflictFaults platform terms d c)
+  conflict_first : (terms : Option Terms) (d : Forest Member) (c : Conflict) → AreFirst (IsConflictFor platform terms d c) (ConflictFaults platform terms d c)
   conflict_first terms d c =
       let Named : Type 0 = All (λ line. AreNamed (namable terms (settled d) c) line.nodes) (lines_of c) in
       weaker (HasEachLine platform c × (Named × IsConflictFor platform terms d c)) (IsConflictFor platform terms d c) (ConflictFaults platform terms d c)
@@ -110,7 +116,7 @@ module _ (platform : PlatformFacts) where
 
   -- refutations
   module _ (terms : Option Terms) where
-    abbrev L : Forest Member → ConflictFacts → Type 0
+    abbrev L : Forest Member → Conflict → Type 0
     L = IsConflictFor platform terms
 
     one_number : (number : No) → One (λ why. why ≡ number)

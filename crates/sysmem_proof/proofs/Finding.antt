@@ -19,8 +19,12 @@ use Rattle.sysmem_tree.specs.Forest.{Forest, choices, settled}
 use Rattle.sysmem_tree.specs.Laws.{PathsDiffer}
 use Rattle.sysmem_tree.specs.Shape.{Member}
 use Rattle.sysmem_tree.specs.Sublist.{IsSublist, ended, taken, left_out}
-use Rattle.sysmem_proof.specs.Certificate.{Item, Split, Leaf, Conflicts, Refutes, RefutesEarlier}
-use Rattle.sysmem_proof.specs.Conflict.{LineFacts, Count, Places, Offers, RefusesPlace, RefusesOffer}
+use Rattle.sysmem_proof.specs.declared.refutation.Item.{Item}
+use Rattle.sysmem_proof.specs.declared.refutation.Item.TheVariants.{Split, Leaf}
+use Rattle.sysmem_proof.specs.Certificate.{Conflicts, Refutes, RefutesEarlier}
+use Rattle.sysmem_proof.specs.Line.{LineFacts}
+use Rattle.sysmem_proof.specs.declared.conflict.Conflict.TheVariants.{Count, Places, Offers}
+use Rattle.sysmem_proof.specs.Conflict.{RefusesPlace, RefusesOffer}
 use Rattle.sysmem_proof.specs.Finder.{SomeAreNamed, has_entry, BoundsAreOfSome, ReasonsAreConflicts, SplitsRefute, EarlierGrows}
 use Rattle.sysmem_proof.specs.Members.{participants}
 use Rattle.sysmem_proof.specs.Naming.{same_path, asked_at}

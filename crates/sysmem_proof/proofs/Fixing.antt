@@ -23,7 +23,9 @@ use Rattle.sysmem_tree.specs.Forest.{Forest, settled}
 use Rattle.sysmem_tree.specs.Shape.{Member}
 use Rattle.sysmem_tree.specs.Sublist.{IsSublist}
 use Rattle.sysmem_proof.specs.Base.{Terms}
-use Rattle.sysmem_proof.specs.Conflict.{ConflictFacts, Count, Places, Offers, Fixed, IsFixedConflict}
+use Rattle.sysmem_proof.specs.declared.conflict.Conflict.{Conflict}
+use Rattle.sysmem_proof.specs.declared.conflict.Conflict.TheVariants.{Count, Places, Offers, Fixed}
+use Rattle.sysmem_proof.specs.Conflict.{IsFixedConflict}
 use Rattle.sysmem_merge.specs.Failing.{FailsIn, FailsOn}
 use Rattle.sysmem_proof.specs.Members.{participants}
 use Rattle.sysmem_proof.specs.Verdict.{IsUnmet, MeetsFixed}
@@ -65,7 +67,7 @@ pub fails_on_clash : (field : Field) (platform : PlatformFacts) (s : Settings) (
 fails_on_clash field platform s p f c = fails_clash field f.heap s p f.fails (subst (λ h. Covers h s p) (same_Some c.heap f.heap (sym c.has ∙ f.has)) c.covers)
 
 -- a conflict of some members of an attached domain leaves none to more
-fixed_clash : (platform : PlatformFacts) (terms : Terms) (d : Forest Member) (c : ConflictFacts) (all : List Member) (t : Settings) → IsFixedConflict platform terms d c → IsSublist (settled d) all → ¬ (MeetsFixed platform terms all t)
+fixed_clash : (platform : PlatformFacts) (terms : Terms) (d : Forest Member) (c : Conflict) (all : List Member) (t : Settings) → IsFixedConflict platform terms d c → IsSublist (settled d) all → ¬ (MeetsFixed platform terms all t)
 fixed_clash platform terms d (Count line) all t conflict among met =
     let these = named_of (terms.accepted ++ settled d) (terms.accepted ++ all) line.nodes conflict.0
     (sub_both terms.accepted terms.accepted (settled d) all (sub_itself terms.accepted) among) conflict.1 in
@@ -82,9 +84,9 @@ fixed_clash platform terms d (Places lines) all t conflict among met = conflict
 fixed_clash platform terms d (Offers lines) all t conflict among met = conflict
 
 -- a conflict of an attached domain is true
-pub fixed_conflict_unmet : (platform : PlatformFacts) (terms : Terms) (d : Forest Member) (c : ConflictFacts) → IsFixedConflict platform terms d c → IsUnmet (MeetsFixed platform terms) d
+pub fixed_conflict_unmet : (platform : PlatformFacts) (terms : Terms) (d : Forest Member) (c : Conflict) → IsFixedConflict platform terms d c → IsUnmet (MeetsFixed platform terms) d
 fixed_conflict_unmet platform terms d c conflict sel e t s = fixed_clash platform terms d c (settled e) t conflict (settled_grows sel d e s.leads)
 
 -- and it leaves none to what is settled
-pub fixed_conflict_leaves_none : (platform : PlatformFacts) (terms : Terms) (d : Forest Member) (c : ConflictFacts) → IsFixedConflict platform terms d c → (t : Settings) → ¬ (MeetsFixed platform terms (settled d) t)
+pub fixed_conflict_leaves_none : (platform : PlatformFacts) (terms : Terms) (d : Forest Member) (c : Conflict) → IsFixedConflict platform terms d c → (t : Settings) → ¬ (MeetsFixed platform terms (settled d) t)
 fixed_conflict_leaves_none platform terms d c conflict t = fixed_clash platform terms d c (settled d) t conflict (sub_itself (settled d))

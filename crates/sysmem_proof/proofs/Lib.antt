@@ -13,3 +13,5 @@ pub mod Saying
 pub mod Finding
 pub mod CountNodes
 pub mod Faulting
+pub mod Labels
+pub mod Rolls

@@ -16,7 +16,7 @@ use Rattle.sysmem_proof.specs.Naming.{same_path, asked_at, Names}
 use Rattle.sysmem_proof.proofs.Cutting.{participants_among}
 
 -- paths
-one_path : (a b : List ℕ) → same_path a b ≡ true → a ≡ b
+pub one_path : (a b : List ℕ) → same_path a b ≡ true → a ≡ b
 one_path a b same = same_text a b (sym same)
 
 pub path_itself : (a : List ℕ) → same_path a a ≡ true

@@ -6,8 +6,10 @@ use Rattle.sysmem_merge.specs.declared.settings.Settings.{Settings}
 use Rattle.sysmem_tree.specs.Forest.{Forest, choices, settled}
 use Rattle.sysmem_tree.specs.Selection.{IsSelection, IsEarlierSelection}
 use Rattle.sysmem_tree.specs.Shape.{Member}
-use Rattle.sysmem_proof.specs.Certificate.{Item, Split, Leaf, Conflicts, Refutes, RefutesEarlier}
-use Rattle.sysmem_proof.specs.Conflict.{ConflictFacts}
+use Rattle.sysmem_proof.specs.declared.refutation.Item.{Item}
+use Rattle.sysmem_proof.specs.declared.refutation.Item.TheVariants.{Split, Leaf}
+use Rattle.sysmem_proof.specs.Certificate.{Conflicts, Refutes, RefutesEarlier}
+use Rattle.sysmem_proof.specs.declared.conflict.Conflict.{Conflict}
 use Rattle.sysmem_proof.specs.Verdict.{Meeting, IsUnmet}
 use Rattle.sysmem_proof.proofs.Growing.{all_at}
 use Rattle.sysmem_proof.proofs.Walks.{goes_on}
@@ -18,7 +20,7 @@ all_left P [] ys all = (tt, all)
 all_left P (x ∷ xs) ys all = let rest = all_left P xs ys all.1 in ((all.0, rest.0), rest.1)
 
 -- all that is asked of settings and conflicts here: a conflict leaves a forest no settings
-module _ (Met : Meeting) (L : Conflicts) (sound : (d : Forest Member) (c : ConflictFacts) → L d c → IsUnmet Met d) where
+module _ (Met : Meeting) (L : Conflicts) (sound : (d : Forest Member) (c : Conflict) → L d c → IsUnmet Met d) where
   -- where no choice for the first group can be met, nothing can
   split_unmet : (d : Forest Member) (es : List (Forest Member)) → choices d ≡ Some es → AllByRecursion (IsUnmet Met) es → IsUnmet Met d
   split_unmet d es h all [] e t s met = let same : d ≡ e = same_Some d e s.leads in none-some es (sym s.whole ∙ (ap choices (sym same) ∙ h))

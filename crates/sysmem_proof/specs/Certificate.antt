@@ -7,24 +7,17 @@ use Rattle.sysmem_sanitise.specs.Platform.{PlatformFacts, offers_of}
 use Rattle.sysmem_tree.specs.Forest.{Forest, choices, settled}
 use Rattle.sysmem_tree.specs.Selection.{IsSelection}
 use Rattle.sysmem_tree.specs.Shape.{Member}
+use Rattle.sysmem_proof.specs.declared.refutation.Item.{Item}
+use Rattle.sysmem_proof.specs.declared.refutation.Item.TheVariants.{Split, Leaf}
 use Rattle.sysmem_proof.specs.Base.{Terms}
-use Rattle.sysmem_proof.specs.Conflict.{LineFacts, ConflictFacts, RefusesPlace, RefusesOffer, IsConflictFor}
-
--- a refutation's items in pre-order: a split on the first group, with a refutation of each choice behind it, or a conflict
-pub data Item : Type 0 where
-  Split : (children : ℕ) → Item
-  Leaf : (conflict : ConflictFacts) → Item
-
--- what shows that a selection is the first and its settings the best: for each group refutations of the choices before the chosen one, and
--- for each offer and place before the chosen one a line that refuses it
-pub record CertificateFacts : Type 0 where
-  pub earlier : List (List (List Item))
-  pub offers : List LineFacts
-  pub places : List LineFacts
+use Rattle.sysmem_proof.specs.CertificateFacts.{CertificateFacts}
+use Rattle.sysmem_proof.specs.Line.{LineFacts}
+use Rattle.sysmem_proof.specs.declared.conflict.Conflict.{Conflict}
+use Rattle.sysmem_proof.specs.Conflict.{RefusesPlace, RefusesOffer, IsConflictFor}
 
 -- what the conflicts of a forest are differs between initial and attached domains
 abbrev pub Conflicts : Type 1
-Conflicts = Forest Member → ConflictFacts → Type 0
+Conflicts = Forest Member → Conflict → Type 0
 
 -- the items refute each of these forests in turn
 abbrev pub Refutes : Conflicts → List Item → List (Forest Member) → Type 0

@@ -9,7 +9,9 @@ use Rattle.sysmem_tree.specs.Forest.{Forest, settled, count}
 use Rattle.sysmem_tree.specs.Selection.{IsSelection}
 use Rattle.sysmem_tree.specs.Shape.{Member}
 use Rattle.sysmem_proof.specs.Base.{Terms}
-use Rattle.sysmem_proof.specs.Certificate.{Item, CertificateFacts, IsCertificate, IsRefutation}
+use Rattle.sysmem_proof.specs.declared.refutation.Item.{Item}
+use Rattle.sysmem_proof.specs.CertificateFacts.{CertificateFacts}
+use Rattle.sysmem_proof.specs.Certificate.{IsCertificate, IsRefutation}
 use Rattle.sysmem_proof.specs.Members.{participants}
 use Rattle.sysmem_proof.specs.Verdict.{Meeting, MeetsFixed, most_selections}
 

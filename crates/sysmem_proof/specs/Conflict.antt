@@ -11,22 +11,13 @@ use Rattle.sysmem_merge.specs.Reasons.{IsOfferLine, IsUnnamedLine}
 use Rattle.sysmem_sanitise.specs.Platform.{PlatformFacts, offers_of}
 use Rattle.sysmem_tree.specs.Forest.{Forest, choices, settled}
 use Rattle.sysmem_tree.specs.Shape.{Member}
+use Rattle.sysmem_proof.specs.declared.conflict.Conflict.{Conflict}
+use Rattle.sysmem_proof.specs.declared.conflict.Conflict.TheVariants.{Count, Places, Offers, Fixed}
 use Rattle.sysmem_proof.specs.Base.{Terms}
+use Rattle.sysmem_proof.specs.Line.{LineFacts}
 use Rattle.sysmem_merge.specs.Failing.{FailsOn}
 use Rattle.sysmem_proof.specs.Members.{participants}
 use Rattle.sysmem_proof.specs.Naming.{IsTrueOf}
-
--- a field that fails for the participants at some paths
-pub record LineFacts : Type 0 where
-  pub field : Field
-  pub nodes : List (List ℕ)
-
--- a count line; a line for each place; a line for each offer; or a field in which the terms' settings fail one participant
-pub data ConflictFacts : Type 0 where
-  Count : (line : LineFacts) → ConflictFacts
-  Places : (lines : List LineFacts) → ConflictFacts
-  Offers : (lines : List LineFacts) → ConflictFacts
-  Fixed : (field : Field) (node : List ℕ) → ConflictFacts
 
 -- the line refuses the place
 abbrev pub RefusesPlace : List Member → HeapPlace → LineFacts → Type 0
@@ -38,14 +29,14 @@ RefusesOffer whole ms o line = IsTrueOf ms line.nodes (λ ps. IsOfferLine line.f
     ⊎ ((whole ≡ true) × IsUnnamedLine line.field o (offer_demands (participants ms))))
 
 -- of an initial domain: a conflict of what is settled, in each place, or for each offer
-abbrev pub IsConflict : PlatformFacts → Forest Member → ConflictFacts → Type 0
+abbrev pub IsConflict : PlatformFacts → Forest Member → Conflict → Type 0
 IsConflict platform d (Count line) = IsTrueOf (settled d) line.nodes (λ ps. IsCountLine line.field (counts_asked ps))
 IsConflict platform d (Places lines) = AllZip (RefusesPlace (settled d)) (places_of platform.heaps) lines
 IsConflict platform d (Offers lines) = AllZip (RefusesOffer (is_none (choices d)) (settled d)) (offers_of platform) lines
 IsConflict platform d (Fixed field node) = ⊥
 
 -- of an attached domain: the terms' count doesn't suit, where those accepted before may take part; or one participant fails
-abbrev pub IsFixedConflict : PlatformFacts → Terms → Forest Member → ConflictFacts → Type 0
+abbrev pub IsFixedConflict : PlatformFacts → Terms → Forest Member → Conflict → Type 0
 IsFixedConflict platform terms d (Count line) =
     IsTrueOf (terms.accepted ++ settled d) line.nodes (λ ps. IsFixedCountLine terms.settings.count line.field (counts_asked ps))
 IsFixedConflict platform terms d (Fixed field node) = IsTrueOf (settled d) (node ∷ []) (λ ps. Any (FailsOn field platform terms.settings) ps)
@@ -53,6 +44,6 @@ IsFixedConflict platform terms d (Places lines) = ⊥
 IsFixedConflict platform terms d (Offers lines) = ⊥
 
 -- of both kinds of domain
-abbrev pub IsConflictFor : PlatformFacts → Option Terms → Forest Member → ConflictFacts → Type 0
+abbrev pub IsConflictFor : PlatformFacts → Option Terms → Forest Member → Conflict → Type 0
 IsConflictFor platform None = IsConflict platform
 IsConflictFor platform (Some terms) = IsFixedConflict platform terms

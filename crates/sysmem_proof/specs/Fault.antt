@@ -11,9 +11,15 @@ use Rattle.sysmem_tree.specs.Shape.{Member}
 use Rattle.sysmem_proof.specs.declared.no.No.{No}
 use Rattle.sysmem_proof.specs.declared.no.No.TheVariants.{WrongShape, WrongNode, NoConflict, NotMet, Missing, NotLeast}
 use Rattle.sysmem_proof.specs.Base.{Terms}
-use Rattle.sysmem_proof.specs.Certificate.{Item, Split, Leaf, CertificateFacts, Refutes, RefutesEarlier, HoldBefore, HasNoLines}
+use Rattle.sysmem_proof.specs.declared.refutation.Item.{Item}
+use Rattle.sysmem_proof.specs.declared.refutation.Item.TheVariants.{Split, Leaf}
+use Rattle.sysmem_proof.specs.CertificateFacts.{CertificateFacts}
+use Rattle.sysmem_proof.specs.Certificate.{Refutes, RefutesEarlier, HoldBefore, HasNoLines}
 use Rattle.sysmem_proof.specs.Check.{IsLeastAt}
-use Rattle.sysmem_proof.specs.Conflict.{LineFacts, ConflictFacts, Count, Places, Offers, Fixed, RefusesPlace, RefusesOffer, IsConflictFor}
+use Rattle.sysmem_proof.specs.Line.{LineFacts}
+use Rattle.sysmem_proof.specs.declared.conflict.Conflict.{Conflict}
+use Rattle.sysmem_proof.specs.declared.conflict.Conflict.TheVariants.{Count, Places, Offers, Fixed}
+use Rattle.sysmem_proof.specs.Conflict.{RefusesPlace, RefusesOffer, IsConflictFor}
 use Rattle.sysmem_proof.specs.Members.{participants}
 use Rattle.sysmem_proof.specs.Naming.{Names}
 use Rattle.sysmem_proof.specs.Verdict.{MeetsFor, most_selections}
@@ -43,25 +49,25 @@ abbrev pub LineFaults : List Member → Type 0 → LineFacts → Faults
 LineFaults ms True line = First (AreNamed ms line.nodes) (Fails (AreNamed ms line.nodes) WrongNode) (Fails True NoConflict)
 
 -- the lines of a conflict
-abbrev pub lines_of : ConflictFacts → List LineFacts
+abbrev pub lines_of : Conflict → List LineFacts
 lines_of (Count line) = line ∷ []
 lines_of (Places lines) = lines
 lines_of (Offers lines) = lines
 lines_of (Fixed field node) = record { field = field; nodes = node ∷ [] } ∷ []
 
 -- it has a line for each place, or for each offer
-abbrev pub HasEachLine : PlatformFacts → ConflictFacts → Type 0
+abbrev pub HasEachLine : PlatformFacts → Conflict → Type 0
 HasEachLine platform (Places lines) = length lines ≡ length (places_of platform.heaps)
 HasEachLine platform (Offers lines) = length lines ≡ length (offers_of platform)
 HasEachLine platform c = Unit {0}
 
 -- whom a conflict may name: what is settled, and for a count of an attached domain those accepted before
-abbrev pub namable : Option Terms → List Member → ConflictFacts → List Member
+abbrev pub namable : Option Terms → List Member → Conflict → List Member
 namable (Some terms) ms (Count line) = terms.accepted ++ ms
 namable terms ms c = ms
 
 -- a conflict as one item: its form, then all whom it names, then whether it is true
-abbrev pub ConflictFaults : PlatformFacts → Option Terms → Forest Member → ConflictFacts → Faults
+abbrev pub ConflictFaults : PlatformFacts → Option Terms → Forest Member → Conflict → Faults
 ConflictFaults platform terms d c =
     First (HasEachLine platform c) (Fails (HasEachLine platform c) WrongShape)
     (First (All (λ line. AreNamed (namable terms (settled d) c) line.nodes) (lines_of c)) (Fails (All (λ line. AreNamed (namable terms (settled d) c) line.nodes) (lines_of c)) WrongNode)

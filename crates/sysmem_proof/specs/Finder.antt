@@ -15,8 +15,11 @@ use Rattle.sysmem_tree.specs.Forest.{Forest, choices, settled}
 use Rattle.sysmem_tree.specs.Laws.{PathsDiffer}
 use Rattle.sysmem_tree.specs.Shape.{Member}
 use Rattle.sysmem_tree.specs.Sublist.{IsSublist}
-use Rattle.sysmem_proof.specs.Certificate.{Item, Split, Conflicts, Refutes, RefutesEarlier}
-use Rattle.sysmem_proof.specs.Conflict.{ConflictFacts, IsConflict}
+use Rattle.sysmem_proof.specs.declared.refutation.Item.{Item}
+use Rattle.sysmem_proof.specs.declared.refutation.Item.TheVariants.{Split}
+use Rattle.sysmem_proof.specs.Certificate.{Conflicts, Refutes, RefutesEarlier}
+use Rattle.sysmem_proof.specs.declared.conflict.Conflict.{Conflict}
+use Rattle.sysmem_proof.specs.Conflict.{IsConflict}
 use Rattle.sysmem_proof.specs.Members.{participants}
 use Rattle.sysmem_proof.specs.Naming.{Names}
 
@@ -45,7 +48,7 @@ BoundsAreOfSome = (o : Offer) (ds : List OfferDemand) → bounds_asked o (filter
 -- a reason that is true of all that is settled, whom these paths name, is a conflict of an initial domain
 abbrev pub ReasonsAreConflicts : Type 0
 ReasonsAreConflicts = (platform : PlatformFacts) (d : Forest Member) (paths : List (List ℕ)) → Names (settled d) paths (participants (settled d))
-    → (reason : Reason) → IsReason (is_none (choices d)) platform (participants (settled d)) reason → (c : ConflictFacts) × IsConflict platform d c
+    → (reason : Reason) → IsReason (is_none (choices d)) platform (participants (settled d)) reason → (c : Conflict) × IsConflict platform d c
 
 -- a split and behind it refutations of each choice refute a forest
 abbrev pub SplitsRefute : Type 1

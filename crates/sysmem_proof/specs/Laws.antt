@@ -8,10 +8,13 @@ use Rattle.sysmem_tree.specs.Shape.{Member}
 use Rattle.sysmem_proof.specs.declared.verdict.Verdict.{Verdict}
 use Rattle.sysmem_proof.specs.declared.verdict.Verdict.TheVariants as verdicts
 use Rattle.sysmem_proof.specs.Base.{Terms}
-use Rattle.sysmem_proof.specs.Certificate.{Item, CertificateFacts, IsCertificate, IsRefutation}
+use Rattle.sysmem_proof.specs.declared.refutation.Item.{Item}
+use Rattle.sysmem_proof.specs.CertificateFacts.{CertificateFacts}
+use Rattle.sysmem_proof.specs.Certificate.{IsCertificate, IsRefutation}
 use Rattle.sysmem_proof.specs.Check.{ChoicePasses, RefutationPasses}
 use Rattle.sysmem_proof.specs.Chosen.{ChosenFacts}
-use Rattle.sysmem_proof.specs.Conflict.{ConflictFacts, IsConflictFor}
+use Rattle.sysmem_proof.specs.declared.conflict.Conflict.{Conflict}
+use Rattle.sysmem_proof.specs.Conflict.{IsConflictFor}
 use Rattle.sysmem_proof.specs.declared.no.No.{No}
 use Rattle.sysmem_proof.specs.Fault.{ChoiceFaults, EmptyFaults}
 use Rattle.sysmem_proof.specs.Verdict.{IsUnmet, MeetsFor, MeetsLooselyFor, MeetsSettled, IsOptimalFor, IsSameAnswer}
@@ -68,7 +71,7 @@ pub record IsTrueConflict (platform : PlatformFacts) (terms : Option Terms) (d :
   pub none : (t : Settings) → ¬ (MeetsSettled platform terms d t)
 
 abbrev pub ConflictsAreTrue : Type 0
-ConflictsAreTrue = (platform : PlatformFacts) (terms : Option Terms) (d : Forest Member) (c : ConflictFacts) → IsConflictFor platform terms d c → IsTrueConflict platform terms d
+ConflictsAreTrue = (platform : PlatformFacts) (terms : Option Terms) (d : Forest Member) (c : Conflict) → IsConflictFor platform terms d c → IsTrueConflict platform terms d
 
 -- what is tested of a choice, and of a refutation, holds exactly where the verdict is optimal and proved by it
 pub record AreExactTests (platform : PlatformFacts) (terms : Option Terms) (d : Forest Member) : Type 0 where

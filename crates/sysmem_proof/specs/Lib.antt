@@ -4,9 +4,12 @@ pub mod Chosen
 pub mod Verdict
 pub mod Laws
 pub mod Naming
+pub mod Line
 pub mod Conflict
+pub mod CertificateFacts
 pub mod Certificate
 pub mod Check
 pub mod Cannot
 pub mod Finder
+pub mod Roll
 pub mod Fault

@@ -6,10 +6,20 @@
 #![tactic(auto)]
 
 mod base;
+mod certificate;
+mod conflict;
 pub mod laws;
+mod line;
+mod names;
 mod no;
+mod refutation;
+mod roll;
 mod verdict;
 
 pub use base::Base;
+pub use certificate::{Certificate, EarlierChoices};
+pub use conflict::Conflict;
+pub use line::{Line, Lines};
 pub use no::No;
+pub use refutation::{Item, Refutation};
 pub use verdict::{Chosen, Verdict};

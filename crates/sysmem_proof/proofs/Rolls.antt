@@ -1,0 +1,229 @@
+-- Whom a path names of a roll.
+use Rattle.std.proofs.Common.{rules, tests, ◌≡◌, ◌≢◌, ◌<◌, ℕ, zero, suc, Bool, true, false, List, [], ◌∷◌, ◌++◌, Option, Some, None, length, map, slice_get, refl, sym, ◌∙◌, ap, subst, arith, inl, inr}
+use Rattle.std.specs.Prelude.{◌==◌, ◌||◌, All, filter, is_some, not, option_map, option_and_then, unwrap_or, IfSome, IsSome, IsSomeAnd, if◌then◌else◌}
+use Rattle.std.specs.List.{filter_map, cons_option, list_any}
+use Rattle.std.proofs.lemmas.Bool.{cases_eq}
+use Rattle.std.proofs.lemmas.List.{map-append}
+use Rattle.std.proofs.lemmas.Option.{same_Some, slice_get_within}
+use Rattle.list_lemmas.proofs.CallerLemmas.{slice_get_some}
+use Rattle.sysmem_sanitise.specs.Participant.{Participant}
+use Rattle.sysmem_tree.specs.Domain.{HasDomain}
+use Rattle.sysmem_tree.specs.Forest.{Forest, settled, relabel}
+use Rattle.sysmem_tree.specs.Laws.{by_both, AreOneForest, OnePath}
+use Rattle.sysmem_tree.specs.LayoutLaws.{Both, LeaveOneForest}
+use Rattle.sysmem_tree.specs.Node.{NodeFacts}
+use Rattle.sysmem_tree.specs.Nodes.{IsTree}
+use Rattle.sysmem_tree.specs.Path.{node_at, path_of}
+use Rattle.sysmem_tree.specs.Selection.{after, settled_by, IsPrefix}
+use Rattle.sysmem_tree.specs.Shape.{Member, by_number, by_path, forest_of, shape_of, members_of, participants_of}
+use Rattle.sysmem_tree.proofs.CallerLemmas.{AllOf, settled_relabel, after_relabel}
+use Rattle.sysmem_proof.specs.Members.{member_at, members_at}
+use Rattle.sysmem_proof.specs.Naming.{same_path, asked_at}
+use Rattle.sysmem_proof.specs.Roll.{RollFacts, listed}
+use Rattle.sysmem_proof.proofs.Labels.{IsLabel, node_asks, both_all, in_settled_by, labels_are}
+use Rattle.sysmem_proof.proofs.Naming.{asked_here, asked_later, one_path, path_itself}
+
+abbrev number : ℕ × Member → ℕ
+number l = l.0
+
+abbrev member : ℕ × Member → Member
+member l = l.1
+
+-- what is found of the participant with the number i, where it may be there
+abbrev pub told_of : List NodeFacts → List ℕ → ℕ → Option Participant
+told_of nodes ns i = if list_any (λ j. j == i) ns then node_asks nodes i else None
+
+module _ (nodes : List NodeFacts) (tree : IsTree nodes) (law : OnePath) where
+  within : (i : ℕ) (path : List ℕ) → i < length nodes → node_at nodes path ≡ Some i → path ≡ path_of nodes i
+  within i path less leads = (law nodes i tree less).only path leads
+
+  -- at the path of a node the members tell what it asks, where its number is among them
+  at_node : (path : List ℕ) (i : ℕ) → i < length nodes → node_at nodes path ≡ Some i → (ls : List (ℕ × Member)) → AllOf (IsLabel nodes) ls
+      → asked_at (map member ls) path ≡ told_of nodes (map number ls) i
+  at_node path i less leads [] all = refl
+  at_node path i less leads (l ∷ ls) all = by (at_node path i less leads ls all.1) (same_path l.1.path path) refl where
+    put : (t : Bool) → (l.0 == i) ≡ t → told_of nodes (map number (l ∷ ls)) i ≡ (if t || list_any (λ j. j == i) (map number ls) then node_asks nodes i else None)
+    put t is = rw is refl
+
+    by : asked_at (map member ls) path ≡ told_of nodes (map number ls) i → (t : Bool) → same_path l.1.path path ≡ t → asked_at (map member (l ∷ ls)) path ≡ told_of nodes (map number (l ∷ ls)) i
+    by rest true same =
+        let paths : l.1.path ≡ path = one_path l.1.path path same in
+        let is : l.0 ≡ i = same_Some l.0 i (sym all.0.leads ∙ (ap (node_at nodes) paths ∙ leads)) in
+        let yes' : (l.0 == i) ≡ true = search (rules, tests, is) in
+        asked_here l.1 (map member ls) path same ∙ (sym all.0.asks ∙ (ap (node_asks nodes) is ∙ sym (put true yes')))
+    by rest false other = elim (cases_eq l.0 i) [
+      | inl is ↦
+          let one = within i l.1.path less (all.0.leads ∙ ap (λ j. Some j) is) in
+          let two = within i path less leads in
+          absurd (differ l.1.path path other (one ∙ sym two))
+      | inr differs ↦ (let no' : (l.0 == i) ≡ false = search (rules, tests, differs) in
+          asked_later l.1 (map member ls) path other ∙ (rest ∙ sym (put false no')))
+    ] where
+      differ : (a b : List ℕ) → same_path a b ≡ false → a ≢ b
+      differ a b is same = let yes' : same_path a b ≡ true = subst (λ c. same_path a c ≡ true) same (path_itself a) in absurd (cc)
+
+  -- where no node is, they tell nothing
+  at_nowhere : (path : List ℕ) → node_at nodes path ≡ None → (ls : List (ℕ × Member)) → AllOf (IsLabel nodes) ls → asked_at (map member ls) path ≡ None
+  at_nowhere path none [] all = refl
+  at_nowhere path none (l ∷ ls) all = by (at_nowhere path none ls all.1) (same_path l.1.path path) refl where
+    by : asked_at (map member ls) path ≡ None → (t : Bool) → same_path l.1.path path ≡ t → asked_at (map member (l ∷ ls)) path ≡ None
+    by rest true same = let leads = all.0.leads in let e = sym leads ∙ (ap (node_at nodes) (one_path l.1.path path same) ∙ none) in absurd (cc)
+    by rest false other = asked_later l.1 (map member ls) path other ∙ rest
+
+  -- nodes that are there as labels
+  abbrev label_at : (i : ℕ) → Option NodeFacts → List (ℕ × Member)
+  label_at i None = []
+  label_at i (Some n) = by_both i (path_of nodes i) n ∷ []
+
+  abbrev labels_at : List ℕ → List (ℕ × Member)
+  labels_at [] = []
+  labels_at (i ∷ is) = label_at i (slice_get nodes i) ++ labels_at is
+
+  members_labelled : (is : List ℕ) → map member (labels_at is) ≡ members_at nodes is
+  members_labelled [] = refl
+  members_labelled (i ∷ is) = by (slice_get nodes i) (members_labelled is) where
+    by : (o : Option NodeFacts) → map member (labels_at is) ≡ members_at nodes is
+        → map member (label_at i o ++ labels_at is) ≡ cons_option (option_map (by_path i (path_of nodes i)) o) (members_at nodes is)
+    by None h = h
+    by (Some n) h = ap (λ ms. by_path i (path_of nodes i) n ∷ ms) h
+
+  numbers_labelled : (is : List ℕ) → All (λ i. i < length nodes) is → map number (labels_at is) ≡ is
+  numbers_labelled [] all = refl
+  numbers_labelled (i ∷ is) all = by (slice_get nodes i) (slice_get_some nodes i (all 0 i (omega arith))).1 (numbers_labelled is (λ k d less. all (suc k) d (omega (arith, less)))) where
+    by : (o : Option NodeFacts) → o ≡ Some (slice_get_some nodes i (all 0 i (omega arith))).0 → map number (labels_at is) ≡ is → map number (label_at i o ++ labels_at is) ≡ i ∷ is
+    by None e h = absurd (cc)
+    by (Some n) e h = ap (λ js. i ∷ js) h
+
+  all_labelled : (is : List ℕ) → All (λ i. i < length nodes) is → AllOf (IsLabel nodes) (labels_at is)
+  all_labelled [] all = tt
+  all_labelled (i ∷ is) all = by (slice_get nodes i) refl (all_labelled is (λ k d less. all (suc k) d (omega (arith, less)))) where
+    by : (o : Option NodeFacts) → slice_get nodes i ≡ o → AllOf (IsLabel nodes) (labels_at is) → AllOf (IsLabel nodes) (label_at i o ++ labels_at is)
+    by None e h = h
+    by (Some n) e h = (record { leads = (law nodes i tree (all 0 i (omega arith))).leads; asks = ap (option_and_then (λ (x : NodeFacts). x.constraints)) e }, h)
+
+  module _ (r : ℕ) (there : r < length nodes) (one : AreOneForest nodes r) (cs : List ℕ) where
+    abbrev both : Forest (ℕ × Member)
+    both = forest_of by_both nodes r (path_of nodes r)
+
+    abbrev settled_both : List (ℕ × Member)
+    settled_both = unwrap_or (settled_by both cs) []
+
+    mapped : {B : Type 0} (f : ℕ × Member → B) → unwrap_or (settled_by (relabel f both) cs) [] ≡ map f settled_both
+    mapped f = ap (λ o. unwrap_or (option_map settled o) []) (after_relabel f cs both) ∙ by (after both cs) where
+      by : (o : Option (Forest (ℕ × Member))) → unwrap_or (option_map settled (option_map (relabel f) o)) [] ≡ map f (unwrap_or (option_map settled o) [])
+      by None = refl
+      by (Some e) = settled_relabel f e
+
+    numbers_settled : members_of nodes r cs ≡ map number settled_both
+    numbers_settled = ap (λ d. unwrap_or (settled_by d cs) []) (sym one.numbers) ∙ mapped number
+
+    members_settled : unwrap_or (settled_by (shape_of nodes r) cs) [] ≡ map member settled_both
+    members_settled = ap (λ d. unwrap_or (settled_by d cs) []) (sym one.members) ∙ mapped member
+
+    all_settled : AllOf (IsLabel nodes) settled_both
+    all_settled = in_settled_by (IsLabel nodes) both cs (labels_are nodes r (path_of nodes r) tree (law nodes r tree there).leads)
+
+    module _ (accepted : List ℕ) (inside : All (λ i. i < length nodes) accepted) where
+      abbrev roll : RollFacts
+      roll = record { nodes = nodes; domain = r; choices = cs; accepted = accepted }
+
+      abbrev ls : List (ℕ × Member)
+      ls = labels_at accepted ++ settled_both
+
+      all_ls : AllOf (IsLabel nodes) ls
+      all_ls = both_all (IsLabel nodes) (labels_at accepted) settled_both (all_labelled accepted inside) all_settled
+
+      listed_ls : map member ls ≡ listed roll
+      listed_ls = map-append member (labels_at accepted) settled_both ∙ (ap (λ ms. ms ++ map member settled_both) (members_labelled accepted) ∙ ap (λ ms. members_at nodes accepted ++ ms) (sym members_settled))
+
+      numbers_ls : map number ls ≡ accepted ++ members_of nodes r cs
+      numbers_ls = map-append number (labels_at accepted) settled_both ∙ (ap (λ ms. ms ++ map number settled_both) (numbers_labelled accepted inside) ∙ ap (λ ms. accepted ++ ms) (sym numbers_settled))
+
+      -- where no node is at a path, it names nobody
+      pub names_nobody : (path : List ℕ) → node_at nodes path ≡ None → asked_at (listed roll) path ≡ None
+      names_nobody path none = ap (λ ms. asked_at ms path) (sym listed_ls) ∙ at_nowhere path none ls all_ls
+
+      -- a node that is there is named where it is one of the roll, with what it asks
+      pub names_node : (path : List ℕ) (i : ℕ) → i < length nodes → node_at nodes path ≡ Some i → asked_at (listed roll) path ≡ told_of nodes (accepted ++ members_of nodes r cs) i
+      names_node path i less leads = ap (λ ms. asked_at ms path) (sym listed_ls) ∙ (at_node path i less leads ls all_ls ∙ ap (λ ns. told_of nodes ns i) numbers_ls)
+
+-- with constraints or without
+has_asks : List NodeFacts → ℕ → Bool
+has_asks nodes i = is_some (node_asks nodes i)
+
+kept_with : (nodes : List NodeFacts) (i : ℕ) (ns : List ℕ) → is_some (node_asks nodes i) ≡ true
+    → list_any (λ j. j == i) (filter (λ j. is_some (node_asks nodes j)) ns) ≡ list_any (λ j. j == i) ns
+kept_with nodes i [] has = refl
+kept_with nodes i (n ∷ ns) has = by (is_some (node_asks nodes n)) refl (kept_with nodes i ns has) where
+  by : (t : Bool) → is_some (node_asks nodes n) ≡ t → list_any (λ j. j == i) (filter (λ j. is_some (node_asks nodes j)) ns) ≡ list_any (λ j. j == i) ns
+      → list_any (λ j. j == i) (filter (λ j. is_some (node_asks nodes j)) (n ∷ ns)) ≡ list_any (λ j. j == i) (n ∷ ns)
+  by true is h = rw is (ap (λ t. (n == i) || t) h)
+  by false is h = elim (cases_eq n i) [
+    | inl same ↦ (let e : is_some (node_asks nodes n) ≡ true = ap (λ j. is_some (node_asks nodes j)) same ∙ has in absurd (cc))
+    | inr other ↦ (let no' : (n == i) ≡ false = search (rules, tests, other) in rw (is, no') h)
+  ]
+
+any_append : (i : ℕ) (xs ys : List ℕ) → list_any (λ j. j == i) (xs ++ ys) ≡ (list_any (λ j. j == i) xs || list_any (λ j. j == i) ys)
+any_append i [] ys = refl
+any_append i (x ∷ xs) ys = by (x == i) (any_append i xs ys) where
+  by : (t : Bool) → list_any (λ j. j == i) (xs ++ ys) ≡ (list_any (λ j. j == i) xs || list_any (λ j. j == i) ys)
+      → (t || list_any (λ j. j == i) (xs ++ ys)) ≡ ((t || list_any (λ j. j == i) xs) || list_any (λ j. j == i) ys)
+  by true h = refl
+  by false h = h
+
+-- what is told of a node, by whether it is a participant of the roll
+pub told_by : (nodes : List NodeFacts) (r : ℕ) (cs accepted : List ℕ) (i : ℕ) (found : Bool) → found ≡ list_any (λ j. j == i) (accepted ++ participants_of nodes r cs)
+    → (if found then node_asks nodes i else None) ≡ told_of nodes (accepted ++ members_of nodes r cs) i
+told_by nodes r cs accepted i found is = by (node_asks nodes i) refl where
+  same : is_some (node_asks nodes i) ≡ true → list_any (λ j. j == i) (accepted ++ members_of nodes r cs) ≡ found
+  same has = any_append i accepted (members_of nodes r cs) ∙ (ap (λ t. list_any (λ j. j == i) accepted || t) (sym (kept_with nodes i (members_of nodes r cs) has))
+      ∙ (sym (any_append i accepted (participants_of nodes r cs)) ∙ sym is))
+
+  nothing : (t : Bool) → ◌≡◌ {A = Option Participant} None (if t then None else None)
+  nothing true = refl
+  nothing false = refl
+
+  by : (o : Option Participant) → node_asks nodes i ≡ o → (if found then node_asks nodes i else None) ≡ told_of nodes (accepted ++ members_of nodes r cs) i
+  by None empty = ap (λ o. if found then o else None) empty ∙ (sym (nothing found) ∙ (nothing (list_any (λ j. j == i) (accepted ++ members_of nodes r cs))
+      ∙ ap (λ o. if list_any (λ j. j == i) (accepted ++ members_of nodes r cs) then o else None) (sym empty)))
+  by (Some p) here = ap (λ t. if t then node_asks nodes i else None) (sym (same (ap is_some here)))
+
+-- the root of a domain is one of the nodes
+pub root_within : (nodes : List NodeFacts) (r : ℕ) → HasDomain nodes r → r < length nodes
+root_within nodes r h = by (slice_get nodes r) refl h where
+  by : (o : Option NodeFacts) → slice_get nodes r ≡ o → IsSomeAnd o (λ n. n.domain ≡ r) → r < length nodes
+  by None is h = absurd h
+  by (Some n) is h = slice_get_within nodes r n is
+
+-- choices for a domain's shape are choices for its numbers
+pub prefix_numbers : (nodes : List NodeFacts) (r : ℕ) (cs : List ℕ) → LeaveOneForest nodes r cs → IsPrefix (shape_of nodes r) cs → IsPrefix (forest_of by_number nodes r []) cs
+prefix_numbers nodes r cs one prefix = subst IsSome (sym one.numbers) (by one.left (subst IsSome one.members prefix)) where
+  by : (o : Option (Forest Both)) → IsSome (option_map (relabel member) o) → IsSome (option_map (relabel number) o)
+  by None h = absurd (cc)
+  by (Some e) h = refl
+
+module _ (nodes : List NodeFacts) (tree : IsTree nodes) (law : OnePath) (r : ℕ) (has : HasDomain nodes r) (one : AreOneForest nodes r) (cs accepted : List ℕ)
+    (inside : All (λ i. i < length nodes) accepted) (path : List ℕ) where
+  abbrev these : RollFacts
+  these = record { nodes = nodes; domain = r; choices = cs; accepted = accepted }
+
+  -- nobody is told where no node is at the path
+  pub told_nowhere : node_at nodes path ≡ None → None ≡ asked_at (listed these) path
+  told_nowhere none = sym (names_nobody nodes tree law r (root_within nodes r has) one cs accepted inside path none)
+
+  module _ (i : ℕ) (less : i < length nodes) (leads : node_at nodes path ≡ Some i) (found : Bool) (is : found ≡ list_any (λ j. j == i) (accepted ++ participants_of nodes r cs)) where
+    told_found : (if found then node_asks nodes i else None) ≡ asked_at (listed these) path
+    told_found = told_by nodes r cs accepted i found is ∙ sym (names_node nodes tree law r (root_within nodes r has) one cs accepted inside path i less leads)
+
+    -- nor where the node there isn't one of the roll
+    pub told_others : found ≡ false → None ≡ asked_at (listed these) path
+    told_others no' = ap (λ t. if t then node_asks nodes i else None) (sym no') ∙ told_found
+
+    -- a participant that is one is told
+    pub told_here : (o : Option Participant) → IfSome (slice_get nodes i) (λ n. o ≡ n.constraints) → found ≡ true → o ≡ asked_at (listed these) path
+    told_here o asks yes' = by (slice_get nodes i) refl asks ∙ (ap (λ t. if t then node_asks nodes i else None) (sym yes') ∙ told_found) where
+      by : (u : Option NodeFacts) → slice_get nodes i ≡ u → IfSome u (λ n. o ≡ n.constraints) → o ≡ node_asks nodes i
+      by None at h = let (n, here) = slice_get_some nodes i less in absurd (clash (sym here ∙ at)) where
+        clash : {n : NodeFacts} → Some n ≡ None → ⊥
+        clash e = absurd (cc)
+      by (Some n) at h = h ∙ sym (ap (option_and_then (λ (x : NodeFacts). x.constraints)) at)

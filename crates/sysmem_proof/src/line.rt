@@ -1,0 +1,79 @@
+//! Lines of the conflict table: a field, and for whom it fails.
+
+ghost use Rattle.std.specs.Prelude.{◌≡◌};
+
+use std::marker::Model;
+use sysmem_counts::Field;
+use sysmem_tree::Path;
+
+/// A field that fails for the participants at some paths, in any order.
+#[derive(Debug, Drop)]
+pub struct Line {
+    field: Field,
+    nodes: Vec<Path>,
+}
+
+impl Model for Line {
+    ghost use Rattle.sysmem_proof.specs.Line.{LineFacts};
+
+    ghost Value = { LineFacts };
+
+    ghost view = { λ l. record {
+      field = l.field;
+      nodes = l.nodes.items;
+    } };
+}
+
+impl Line {
+    /// This field, for the participants at these paths. Any are a line; whether it is true is a checker's matter.
+    pub fn new(field: Field, nodes: Vec<Path>) -> Line
+        ensures { result ≡ record { field = field; nodes = nodes.items } }
+    {
+        Line { field, nodes }
+    }
+
+    /// The field that heads the line.
+    pub fn field(&self) -> Field
+        ensures { result ≡ self.now.field }
+    {
+        self.field
+    }
+
+    /// The paths of the participants for whom it fails.
+    pub fn nodes(&self) -> &[Path]
+        ensures { result.now ≡ self.now.nodes }
+    {
+        &self.nodes
+    }
+}
+
+/// Lines for some places or offers of a platform, one for each, in their order.
+#[derive(Debug, Drop)]
+pub struct Lines {
+    lines: Vec<Line>,
+}
+
+impl Model for Lines {
+    ghost use Rattle.std.specs.Prelude.{List};
+    ghost use Rattle.sysmem_proof.specs.Line.{LineFacts};
+
+    ghost Value = { List LineFacts };
+
+    ghost view = { λ l. l.lines.items };
+}
+
+impl Lines {
+    /// These lines.
+    pub fn new(lines: Vec<Line>) -> Lines
+        ensures { result ≡ lines.items }
+    {
+        Lines { lines }
+    }
+
+    /// The lines, that for the first place or offer first.
+    pub fn as_slice(&self) -> &[Line]
+        ensures { result.now ≡ self.now }
+    {
+        &self.lines
+    }
+}
