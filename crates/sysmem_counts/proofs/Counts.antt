@@ -6,7 +6,7 @@ use Rattle.list_lemmas.proofs.CallerLemmas.{All-some, Any-not_All, sum_some}
 use Rattle.std.proofs.lemmas.Bool.{cases_lt}
 use Rattle.std.proofs.lemmas.List.Elements.{All-push, All-append}
 use Rattle.std.proofs.lemmas.List.Sums.{sum_by_push, sum_by-append}
-use Rattle.sysmem_counts.specs.Bounds.{StandsFor, tally, least as least_of}
+use Rattle.sysmem_counts.specs.Bounds.{IsTallyOf, tally, least as least_of}
 use Rattle.sysmem_counts.specs.Counts.{own_buffers, needed, IsCounted, IsLeastCount, HasNoCount, IsCountLine, IsFixedCountLine}
 use Rattle.sysmem_counts.specs.Laws.{CountSuitsSome, OneLeastCount, CountLineLeavesNoCount, FixedCountLineHolds, UnsuitedCountHasLine}
 use Rattle.sysmem_counts.specs.Tally.{Tally}
@@ -99,16 +99,16 @@ pub one_least : OneLeastCount
 one_least ps a b p q = omega (arith, p.least b q.counted, q.least a p.counted)
 
 -- what is kept, added up, is what is needed
-pub needed-tally : (kept : Tally) (ps : List CountConstraints) → StandsFor kept ps → max 1 (max (kept.own + kept.shared) kept.minimum) ≡ needed ps
+pub needed-tally : (kept : Tally) (ps : List CountConstraints) → IsTallyOf kept ps → max 1 (max (kept.own + kept.shared) kept.minimum) ≡ needed ps
 needed-tally kept ps stands = ap (λ t. max 1 (max (t.own + t.shared) t.minimum)) stands.tallied
 
 -- no maximum is below what the least maximum reaches
-pub within_maximums : (kept : Tally) (ps : List CountConstraints) (n : ℕ) → StandsFor kept ps → n ≤ kept.maximum → All (λ p. n ≤ p.max_buffer_count) ps
+pub within_maximums : (kept : Tally) (ps : List CountConstraints) (n : ℕ) → IsTallyOf kept ps → n ≤ kept.maximum → All (λ p. n ≤ p.max_buffer_count) ps
 within_maximums kept ps n stands within =
     above_least (λ p. p.max_buffer_count) n ps (omega (arith, within, ap (λ t. t.maximum) stands.tallied))
 
 -- above one of the maximums is above the least of them
-one_above : (kept : Tally) (ps : List CountConstraints) (n : ℕ) → StandsFor kept ps → Any (λ p. p.max_buffer_count < n) ps → kept.maximum < n
+one_above : (kept : Tally) (ps : List CountConstraints) (n : ℕ) → IsTallyOf kept ps → Any (λ p. p.max_buffer_count < n) ps → kept.maximum < n
 one_above kept ps n stands one = elim (cases_lt kept.maximum n) as (λ _. kept.maximum < n) [
   | inl above ↦ above
   | inr not ↦ absurd (Any-not_All (λ p. p.max_buffer_count < n) (λ p. n ≤ p.max_buffer_count) ps (λ p low high. omega (arith, low, high)) one
@@ -116,14 +116,14 @@ one_above kept ps n stands one = elim (cases_lt kept.maximum n) as (λ _. kept.m
 ]
 
 -- a number of 32 bits is above the least maximum exactly where it is above one of them
-pub above_maximum : (kept : Tally) (ps : List CountConstraints) (n : ℕ) → StandsFor kept ps → n < 2 ^ 32 → (kept.maximum < n) ↔ Any (λ p. p.max_buffer_count < n) ps
+pub above_maximum : (kept : Tally) (ps : List CountConstraints) (n : ℕ) → IsTallyOf kept ps → n < 2 ^ 32 → (kept.maximum < n) ↔ Any (λ p. p.max_buffer_count < n) ps
 above_maximum kept ps n stands small = (
   λ above. one_below (λ p. p.max_buffer_count) n ps small (omega (arith, above, ap (λ t. t.maximum) stands.tallied)),
   one_above kept ps n stands,
 )
 
 -- they need more than the least maximum exactly where they need more than one of their maximums
-pub needs_above : (kept : Tally) (ps : List CountConstraints) → StandsFor kept ps → (kept.maximum < needed ps) ↔ IsCountLine MaxBufferCount ps
+pub needs_above : (kept : Tally) (ps : List CountConstraints) → IsTallyOf kept ps → (kept.maximum < needed ps) ↔ IsCountLine MaxBufferCount ps
 needs_above kept [] stands = (λ above. absurd (omega (arith, above, ap (λ t. t.maximum) stands.tallied)), one_above kept [] 1 stands)
 needs_above kept (p ∷ ps) stands = (
   λ above. one_below_any (λ p. p.max_buffer_count) (needed (p ∷ ps)) p ps stands.fits (omega (arith, above, ap (λ t. t.maximum) stands.tallied)),
@@ -131,7 +131,7 @@ needs_above kept (p ∷ ps) stands = (
 )
 
 -- a number suits participants exactly where it is from what they need to the least maximum and the limit
-pub suits_between : (kept : Tally) (ps : List CountConstraints) (count : ℕ) → StandsFor kept ps → needed ps ≤ count → count ≤ kept.maximum → count ≤ 128 → IsCounted ps count
+pub suits_between : (kept : Tally) (ps : List CountConstraints) (count : ℕ) → IsTallyOf kept ps → needed ps ≤ count → count ≤ kept.maximum → count ≤ 128 → IsCounted ps count
 suits_between kept ps count stands enough within limit = record {
   some = omega (arith, enough);
   together = omega (arith, enough);
@@ -141,7 +141,7 @@ suits_between kept ps count stands enough within limit = record {
 }
 
 -- what suits participants isn't above the least maximum
-pub suits_within : (kept : Tally) (ps : List CountConstraints) (count : ℕ) → StandsFor kept ps → IsCounted ps count → count ≤ kept.maximum
+pub suits_within : (kept : Tally) (ps : List CountConstraints) (count : ℕ) → IsTallyOf kept ps → IsCounted ps count → count ≤ kept.maximum
 suits_within kept ps count stands c = elim (cases_lt kept.maximum count) as (λ _. count ≤ kept.maximum) [
   | inl above ↦ absurd (Any-not_All (λ p. p.max_buffer_count < count) (λ p. count ≤ p.max_buffer_count) ps (λ p low high. omega (arith, low, high))
       ((above_maximum kept ps count stands (omega (arith, c.limit))).0 above) c.maximum)
@@ -158,7 +158,7 @@ tally_with kept p = record {
 }
 
 -- it stands for the list with this participant
-pub stands_push : (kept : Tally) (ps : List CountConstraints) (p : CountConstraints) → p.max_buffer_count < 2 ^ 32 → StandsFor kept ps → StandsFor (tally_with kept p) (ps ++ p ∷ [])
+pub stands_push : (kept : Tally) (ps : List CountConstraints) (p : CountConstraints) → p.max_buffer_count < 2 ^ 32 → IsTallyOf kept ps → IsTallyOf (tally_with kept p) (ps ++ p ∷ [])
 stands_push kept ps p small stands = record {
   tallied = rw (
     stands.tallied,
@@ -180,7 +180,7 @@ tally_both kept more = record {
 }
 
 -- it stands for both lists together
-pub stands_append : (kept more : Tally) (ps qs : List CountConstraints) → StandsFor kept ps → StandsFor more qs → StandsFor (tally_both kept more) (ps ++ qs)
+pub stands_append : (kept more : Tally) (ps qs : List CountConstraints) → IsTallyOf kept ps → IsTallyOf more qs → IsTallyOf (tally_both kept more) (ps ++ qs)
 stands_append kept more ps qs stands others = record {
   tallied = rw (
     stands.tallied,

@@ -19,6 +19,6 @@ tally ps = record {
 }
 
 -- what is kept stands for these participants, whose maximums are of 32 bits
-pub record StandsFor (kept : Tally) (ps : List CountConstraints) : Type 0 where
+pub record IsTallyOf (kept : Tally) (ps : List CountConstraints) : Type 0 where
   pub tallied : kept ≡ tally ps
   pub fits : All (λ p. p.max_buffer_count < 2 ^ 32) ps

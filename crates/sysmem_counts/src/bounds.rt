@@ -1,7 +1,7 @@
 // What participants together need of the number of buffers.
 
 ghost use Rattle.std.specs.Prelude.{◌≡◌, ◌↔◌, ◌+◌, ◌<◌, ◌^◌, ◌++◌, [], ◌∷◌, List, IfErr, IsTrue, MatchResult};
-ghost use Rattle.sysmem_counts.specs.Bounds.{StandsFor};
+ghost use Rattle.sysmem_counts.specs.Bounds.{IsTallyOf};
 ghost use Rattle.sysmem_counts.specs.Counts.{HasNoCount, IsCountFault, IsCountLine, IsCounted, IsFixedCountLine};
 ghost use Rattle.sysmem_counts.specs.Counts.{IsLeastCount, needed};
 ghost use Rattle.sysmem_counts.specs.Tally.{sum_of};
@@ -39,7 +39,7 @@ impl Model for CountBounds {
 impl CountBounds {
     /// The bounds of no participant at all.
     pub fn new() -> CountBounds
-        ensures stands { StandsFor result [] }
+        ensures stands { IsTallyOf result [] }
         ensures nothing { sum_of result ≡ 0 }
     {
         CountBounds {
@@ -54,8 +54,8 @@ impl CountBounds {
     /// one participant raises it by less than 2^33.
     pub fn add(&mut self, asked: &CountConstraints)
         requires { sum_of self.old < 2 ^ 62 }
-        ensures added { (ps : List Asked) → StandsFor self.old ps
-            → StandsFor self.new (ps ++ asked.now ∷ []) }
+        ensures added { (ps : List Asked) → IsTallyOf self.old ps
+            → IsTallyOf self.new (ps ++ asked.now ∷ []) }
         ensures grows { sum_of self.new < sum_of self.old + 2 ^ 33 }
     {
         self.own += u64::from(asked.min_buffer_count_for_camping)
@@ -69,8 +69,8 @@ impl CountBounds {
     /// slack must be below 2^62 together.
     pub fn join(&mut self, more: &CountBounds)
         requires { sum_of self.old + sum_of more.now < 2 ^ 62 }
-        ensures joined { (ps qs : List Asked) → StandsFor self.old ps → StandsFor more.now qs
-            → StandsFor self.new (ps ++ qs) }
+        ensures joined { (ps qs : List Asked) → IsTallyOf self.old ps → IsTallyOf more.now qs
+            → IsTallyOf self.new (ps ++ qs) }
         ensures sum { sum_of self.new ≡ sum_of self.old + sum_of more.now }
     {
         self.own += more.own;
@@ -82,11 +82,11 @@ impl CountBounds {
     /// The least number of buffers, 1 to 128, that suits all participants. Where none does, the field that
     /// says so: `MaxBufferCount` if they need more than one of their maximums, else `BufferCountLimit`.
     pub fn least_count(&self) -> Result<u32, Field>
-        ensures cases { (ps : List Asked) → StandsFor self.now ps
+        ensures cases { (ps : List Asked) → IsTallyOf self.now ps
             → MatchResult result (IsLeastCount ps) (IsCountFault ps) }
-        ensures line { (ps : List Asked) → StandsFor self.now ps
+        ensures line { (ps : List Asked) → IsTallyOf self.now ps
             → IfErr result (λ field. IsCountLine field ps) }
-        ensures none { (ps : List Asked) → StandsFor self.now ps
+        ensures none { (ps : List Asked) → IsTallyOf self.now ps
             → IfErr result (λ _. HasNoCount ps) }
     {
         let needed = self.needed();
@@ -102,7 +102,7 @@ impl CountBounds {
     /// Whether a count line is true of the participants: `MaxBufferCount` where they need more than one
     /// of their maximums, `BufferCountLimit` where they need more than 128; no other field is one.
     pub fn is_line(&self, field: Field) -> bool
-        ensures { (ps : List Asked) → StandsFor self.now ps → IsTrue result ↔ IsCountLine field ps }
+        ensures { (ps : List Asked) → IsTallyOf self.now ps → IsTrue result ↔ IsCountLine field ps }
     {
         match field {
             Field::MaxBufferCount => u64::from(self.maximum) < self.needed(),
@@ -114,7 +114,7 @@ impl CountBounds {
     /// Whether a line is true of the participants where the count is fixed: `MinBufferCount` where they need
     /// more, `MaxBufferCount` where one of their maximums is below it; no other field is one.
     pub fn is_fixed_line(&self, count: u32, field: Field) -> bool
-        ensures { (ps : List Asked) → StandsFor self.now ps → IsTrue result
+        ensures { (ps : List Asked) → IsTallyOf self.now ps → IsTrue result
             ↔ IsFixedCountLine count field ps }
     {
         match field {
@@ -126,7 +126,7 @@ impl CountBounds {
 
     /// Whether a number of buffers suits all participants; none above 128 does.
     pub fn suits(&self, count: u32) -> bool
-        ensures { (ps : List Asked) → StandsFor self.now ps → IsTrue result ↔ IsCounted ps count }
+        ensures { (ps : List Asked) → IsTallyOf self.now ps → IsTrue result ↔ IsCounted ps count }
     {
         let most = self.maximum.min(BUFFER_COUNT_LIMIT);
         self.needed() <= u64::from(count) && count <= most
@@ -134,7 +134,7 @@ impl CountBounds {
 
     /// How many buffers the participants need, whatever their maximums and the limit are.
     fn needed(&self) -> u64
-        ensures { (ps : List Asked) → StandsFor self.now ps → result ≡ needed ps }
+        ensures { (ps : List Asked) → IsTallyOf self.now ps → result ≡ needed ps }
     {
         let together = self.own + u64::from(self.shared);
         together.max(u64::from(self.minimum)).max(1)

@@ -8,7 +8,7 @@ use Rattle.sysmem_memory.specs.declared.domain.CoherencyDomains.{CoherencyDomain
 use Rattle.sysmem_memory.specs.Domain.{has_domain}
 use Rattle.sysmem_memory.specs.Heap.{HeapFacts}
 use Rattle.sysmem_memory.specs.PlaceTable.{PlaceDemand, first_refusing}
-use Rattle.sysmem_memory.specs.Place.{is_left, StandsFor}
+use Rattle.sysmem_memory.specs.Place.{is_left, AreDomainsLeft}
 use Rattle.list_lemmas.proofs.CallerLemmas.{slice_get_some, slice_get-set_same, slice_get-set_other}
 
 -- the set has the domains that both have
@@ -45,9 +45,9 @@ joined_more old more left i x w y within both done rest =
     ∙ ap (λ t. has_domain t d && has_domain (get_or more i w) d) was ∙ ap (λ u. has_domain t d && has_domain u d) with)
 
 -- when each heap is joined, what is left stands for both lists together
-pub stands_for_both : (old more left : List CoherencyDomains) (heaps : List HeapFacts) (ps qs : List PlaceDemand) → length heaps ≤ length old → length heaps ≤ length more
-    → ((k : ℕ) → k < length heaps → JoinedAt old more left k) → StandsFor old heaps ps → StandsFor more heaps qs → StandsFor left heaps (ps ++ qs)
-stands_for_both old more left heaps ps qs room more_room joined stands others = record {
+pub left_by_both : (old more left : List CoherencyDomains) (heaps : List HeapFacts) (ps qs : List PlaceDemand) → length heaps ≤ length old → length heaps ≤ length more
+    → ((k : ℕ) → k < length heaps → JoinedAt old more left k) → AreDomainsLeft old heaps ps → AreDomainsLeft more heaps qs → AreDomainsLeft left heaps (ps ++ qs)
+left_by_both old more left heaps ps qs room more_room joined stands others = record {
   limit = stands.limit;
   exactly = λ k h s d at_heap at_left.
       let within = slice_get_within heaps k h at_heap in

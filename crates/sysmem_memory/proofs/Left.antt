@@ -15,7 +15,7 @@ use Rattle.sysmem_memory.specs.Domain.{has_domain, IsFirstDomain}
 use Rattle.sysmem_memory.specs.Heap.{HeapFacts}
 use Rattle.sysmem_memory.specs.Wishes.{MemoryWishes}
 use Rattle.sysmem_memory.specs.PlaceTable.{refuses_by, heap_fields, domain_fields, place_fields, first_refusing, AllowsPlace, PlaceDemand}
-use Rattle.sysmem_memory.specs.Place.{IsPlace, IsRefused, IsFirstPlace, HasNoPlace, is_left, StandsFor}
+use Rattle.sysmem_memory.specs.Place.{IsPlace, IsRefused, IsFirstPlace, HasNoPlace, is_left, AreDomainsLeft}
 use Rattle.list_lemmas.proofs.CallerLemmas.{find_front, find_rest, find_passes, slice_get_some, slice_get-set_same, slice_get-set_other, any_fails, and_parts}
 
 -- somebody for whom some field is the first that refuses is refused by a field
@@ -52,8 +52,8 @@ left_more h ps p d =
     and_assoc (has_domain h.domains d) (list_all allow ps) (allow p) ∙ ap (λ b. has_domain h.domains d && b) (ap (λ b. list_all allow ps && b) (sym (and-true (allow p))) ∙ sym (list_all-append allow ps (p ∷ [])))
 
 -- bounds to which nobody was added leave each domain of each heap
-pub stands_for_none : (left : List CoherencyDomains) (heaps : List HeapFacts) → length heaps ≤ 64 → ((k : ℕ) (h : HeapFacts) (s : CoherencyDomains) → k < length heaps → slice_get heaps k ≡ Some h → slice_get left k ≡ Some s → h.domains ≡ s) → StandsFor left heaps []
-stands_for_none left heaps limit kept = record {
+pub left_by_none : (left : List CoherencyDomains) (heaps : List HeapFacts) → length heaps ≤ 64 → ((k : ℕ) (h : HeapFacts) (s : CoherencyDomains) → k < length heaps → slice_get heaps k ≡ Some h → slice_get left k ≡ Some s → h.domains ≡ s) → AreDomainsLeft left heaps []
+left_by_none left heaps limit kept = record {
   limit = limit;
   exactly = λ k h s d at_heap at_left. ap (λ t. has_domain t d) (sym (kept k h s (slice_get_within heaps k h at_heap) at_heap at_left)) ∙ sym (and-true (has_domain h.domains d));
 }
@@ -77,8 +77,8 @@ rest_less old left i y rest k s above at_left =
     rest k s (omega (arith, above)) (slice_get-set_other left i k y s (λ e. omega (arith, e, above)) at_left)
 
 -- bounds in which each heap lost what a participant refuses stand for one participant more
-pub stands_for_more : (old left : List CoherencyDomains) (heaps : List HeapFacts) (ps : List PlaceDemand) (p : PlaceDemand) → length heaps ≤ length old → ((k : ℕ) → k < length heaps → LostAt p.memory p.usage heaps old left k) → StandsFor old heaps ps → StandsFor left heaps (ps ++ p ∷ [])
-stands_for_more old left heaps ps p room lost stands = record {
+pub left_by_more : (old left : List CoherencyDomains) (heaps : List HeapFacts) (ps : List PlaceDemand) (p : PlaceDemand) → length heaps ≤ length old → ((k : ℕ) → k < length heaps → LostAt p.memory p.usage heaps old left k) → AreDomainsLeft old heaps ps → AreDomainsLeft left heaps (ps ++ p ∷ [])
+left_by_more old left heaps ps p room lost stands = record {
   limit = stands.limit;
   exactly = λ k h s d at_heap at_left.
       let within = slice_get_within heaps k h at_heap in
@@ -87,19 +87,19 @@ stands_for_more old left heaps ps p room lost stands = record {
 }
 
 -- a place whose domain isn't left is refused
-refused_at : (left : List CoherencyDomains) (heaps : List HeapFacts) (ps : List PlaceDemand) (q : Place) (h : HeapFacts) (t : CoherencyDomains) → StandsFor left heaps ps → IsPlace heaps q h → slice_get left q.heap ≡ Some t → has_domain t q.coherency ≡ false → IsRefused h q.coherency ps
+refused_at : (left : List CoherencyDomains) (heaps : List HeapFacts) (ps : List PlaceDemand) (q : Place) (h : HeapFacts) (t : CoherencyDomains) → AreDomainsLeft left heaps ps → IsPlace heaps q h → slice_get left q.heap ≡ Some t → has_domain t q.coherency ≡ false → IsRefused h q.coherency ps
 refused_at left heaps ps q h t stands place at_left gone =
     refused_when_gone h q.coherency ps place.domain (sym (stands.exactly q.heap h t q.coherency place.heap at_left) ∙ gone)
 
 -- where no heap has a domain left, no place is left
-pub no_place_left : (left : List CoherencyDomains) (heaps : List HeapFacts) (ps : List PlaceDemand) → length heaps ≤ length left → ((k : ℕ) (t : CoherencyDomains) → k < length heaps → slice_get left k ≡ Some t → (e : CoherencyDomain) → has_domain t e ≡ false) → StandsFor left heaps ps → HasNoPlace heaps ps
+pub no_place_left : (left : List CoherencyDomains) (heaps : List HeapFacts) (ps : List PlaceDemand) → length heaps ≤ length left → ((k : ℕ) (t : CoherencyDomains) → k < length heaps → slice_get left k ≡ Some t → (e : CoherencyDomain) → has_domain t e ≡ false) → AreDomainsLeft left heaps ps → HasNoPlace heaps ps
 no_place_left left heaps ps room passed stands q h place =
     let within = slice_get_within heaps q.heap h place.heap in
     let kept = slice_get_some left q.heap (omega (arith, within, room)) in
     refused_at left heaps ps q h kept.0 stands place kept.1 (passed q.heap kept.0 within kept.1 q.coherency)
 
 -- the first domain of the first heap that has one left is the first place
-pub first_place_left : (left : List CoherencyDomains) (heaps : List HeapFacts) (ps : List PlaceDemand) (n : ℕ) (s : CoherencyDomains) (d : CoherencyDomain) → length heaps ≤ length left → n < length heaps → slice_get left n ≡ Some s → IsFirstDomain s d → ((k : ℕ) (t : CoherencyDomains) → k < n → slice_get left k ≡ Some t → (e : CoherencyDomain) → has_domain t e ≡ false) → StandsFor left heaps ps → IsFirstPlace heaps ps (record { heap = n; coherency = d })
+pub first_place_left : (left : List CoherencyDomains) (heaps : List HeapFacts) (ps : List PlaceDemand) (n : ℕ) (s : CoherencyDomains) (d : CoherencyDomain) → length heaps ≤ length left → n < length heaps → slice_get left n ≡ Some s → IsFirstDomain s d → ((k : ℕ) (t : CoherencyDomains) → k < n → slice_get left k ≡ Some t → (e : CoherencyDomain) → has_domain t e ≡ false) → AreDomainsLeft left heaps ps → IsFirstPlace heaps ps (record { heap = n; coherency = d })
 first_place_left left heaps ps n s d room within at_left first passed stands =
     let info = slice_get_some heaps n within in
     let allowed = allowed_when_left info.0 d ps (sym (stands.exactly n info.0 s d info.1 at_left) ∙ first.has) in

@@ -36,12 +36,12 @@ impl Model for MemoryBounds {
 impl MemoryBounds {
     ghost use Rattle.std.specs.Prelude.{◌≤◌, List, [], ◌∷◌, ◌++◌, length, IfSome, IfNone};
     ghost use Rattle.sysmem_memory.specs.PlaceTable.{PlaceDemand};
-    ghost use Rattle.sysmem_memory.specs.Place.{StandsFor, IsFirstPlace, HasNoPlace};
+    ghost use Rattle.sysmem_memory.specs.Place.{AreDomainsLeft, IsFirstPlace, HasNoPlace};
 
     /// The bounds to which nobody was added: each domain of each heap is left.
     pub fn new(heaps: &[HeapInfo]) -> MemoryBounds
         requires { length heaps.now ≤ 64 }
-        ensures { StandsFor result heaps.now [] }
+        ensures { AreDomainsLeft result heaps.now [] }
     {
         let mut left = [CoherencyDomains::NONE; 64];
         for (index, heap) in heaps.iter().enumerate() {
@@ -53,8 +53,8 @@ impl MemoryBounds {
     /// Adds a participant: what it refuses is no longer left. The heaps are those that `new` was given.
     pub fn add(&mut self, heaps: &[HeapInfo], memory: &MemoryConstraints, usage: Usage)
         requires { length heaps.now ≤ 64 }
-        ensures { (ps : List PlaceDemand) → StandsFor self.old heaps.now ps
-            → StandsFor self.new heaps.now (ps ++ record { memory = memory.now; usage = usage } ∷ []) }
+        ensures { (ps : List PlaceDemand) → AreDomainsLeft self.old heaps.now ps
+            → AreDomainsLeft self.new heaps.now (ps ++ record { memory = memory.now; usage = usage } ∷ []) }
     {
         for (index, heap) in heaps.iter().enumerate() {
             self.left[index] = still_left(self.left[index], heap, memory, usage);
@@ -65,8 +65,8 @@ impl MemoryBounds {
     /// was given, of both.
     pub fn join(&mut self, heaps: &[HeapInfo], more: &MemoryBounds)
         requires { length heaps.now ≤ 64 }
-        ensures { (ps qs : List PlaceDemand) → StandsFor self.old heaps.now ps
-            → StandsFor more.now heaps.now qs → StandsFor self.new heaps.now (ps ++ qs) }
+        ensures { (ps qs : List PlaceDemand) → AreDomainsLeft self.old heaps.now ps
+            → AreDomainsLeft more.now heaps.now qs → AreDomainsLeft self.new heaps.now (ps ++ qs) }
     {
         for index in 0..heaps.len() {
             self.left[index] = left_by_both(self.left[index], more.left[index]);
@@ -77,9 +77,9 @@ impl MemoryBounds {
     /// The heaps are those that `new` was given.
     pub fn first_place(&self, heaps: &[HeapInfo]) -> Option<Place>
         requires { length heaps.now ≤ 64 }
-        ensures first { (ps : List PlaceDemand) → StandsFor self.now heaps.now ps
+        ensures first { (ps : List PlaceDemand) → AreDomainsLeft self.now heaps.now ps
             → IfSome result (IsFirstPlace heaps.now ps) }
-        ensures none { (ps : List PlaceDemand) → StandsFor self.now heaps.now ps
+        ensures none { (ps : List PlaceDemand) → AreDomainsLeft self.now heaps.now ps
             → IfNone result (HasNoPlace heaps.now ps) }
     {
         for heap in 0..heaps.len() {

@@ -24,16 +24,16 @@ all_written many old new is = ap (λ n. take n (new ++ drop (length new) old)) i
 
 -- each part stands for one more, so the whole does
 pub stands_push : (kept new : Kept) (platform : PlatformFacts) (ps : List Participant) (p : Participant) → StandsFor kept platform ps → new.platform ≡ kept.platform
-    → ((asked : List CountConstraints) → counts.StandsFor kept.counts asked → counts.StandsFor new.counts (asked ++ p.counts ∷ []))
-    → ((demands : List PlaceDemand) → places.StandsFor kept.places kept.platform.heaps demands → places.StandsFor new.places kept.platform.heaps (demands ++ place_demand p ∷ []))
+    → ((asked : List CountConstraints) → counts.IsTallyOf kept.counts asked → counts.IsTallyOf new.counts (asked ++ p.counts ∷ []))
+    → ((demands : List PlaceDemand) → places.AreDomainsLeft kept.places kept.platform.heaps demands → places.AreDomainsLeft new.places kept.platform.heaps (demands ++ place_demand p ∷ []))
     → ((ds : List OfferDemand) → AreKept (offers_of kept.platform) ds kept.offers → AreKept (offers_of kept.platform) (ds ++ offer_demand p ∷ []) new.offers)
     → new.least_size ≡ max kept.least_size p.memory.min_size_bytes → new.greatest_size ≡ min kept.greatest_size p.memory.max_size_bytes → new.added ≡ kept.added + 1
     → StandsFor new platform (ps ++ p ∷ [])
 stands_push kept new platform ps p stands same counted placed offered least greatest many = record {
   on = same ∙ stands.on;
   counts = rw map_push (counted (counts_asked ps) stands.counts);
-  places = subst (λ (f : PlatformFacts). places.StandsFor new.places f.heaps (place_demands (ps ++ p ∷ []))) stands.on
-      (rw map_push (placed (place_demands ps) (subst (λ (f : PlatformFacts). places.StandsFor kept.places f.heaps (place_demands ps)) (sym stands.on) stands.places)));
+  places = subst (λ (f : PlatformFacts). places.AreDomainsLeft new.places f.heaps (place_demands (ps ++ p ∷ []))) stands.on
+      (rw map_push (placed (place_demands ps) (subst (λ (f : PlatformFacts). places.AreDomainsLeft kept.places f.heaps (place_demands ps)) (sym stands.on) stands.places)));
   offers = subst (λ (f : PlatformFacts). AreKept (offers_of f) (offer_demands (ps ++ p ∷ [])) new.offers) stands.on
       (rw map_push (offered (offer_demands ps) (subst (λ (f : PlatformFacts). AreKept (offers_of f) (offer_demands ps) kept.offers) (sym stands.on) stands.offers)));
   sizes = rw (map_push, least, greatest) (sizes_push (offer_demands ps) (offer_demand p) kept.least_size kept.greatest_size stands.sizes);
@@ -47,6 +47,6 @@ heaps_read kept platform ps heaps stands read = read ∙ ap (λ (f : PlatformFac
 
 -- what is kept of the places, for the heaps of the platform as they are read
 pub places_kept : (kept : Kept) (platform : PlatformFacts) (ps : List Participant) (heaps : List HeapFacts) → StandsFor kept platform ps
-    → heaps ≡ kept.platform.heaps → places.StandsFor kept.places heaps (place_demands ps)
+    → heaps ≡ kept.platform.heaps → places.AreDomainsLeft kept.places heaps (place_demands ps)
 places_kept kept platform ps heaps stands read =
-    subst (λ hs. places.StandsFor kept.places hs (place_demands ps)) (sym (heaps_read kept platform ps heaps stands read)) stands.places
+    subst (λ hs. places.AreDomainsLeft kept.places hs (place_demands ps)) (sym (heaps_read kept platform ps heaps stands read)) stands.places

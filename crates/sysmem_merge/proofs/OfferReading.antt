@@ -1,13 +1,13 @@
 -- What is read of an offer with one more participant, and the lines that are read from it.
-use Rattle.std.proofs.Common.{◌≡◌, ◌≢◌, ◌↔◌, ◌||◌, ◌&&◌, ◌==◌, ◌⊎◌, inl, inr, arith, rules, ℕ, ◌≤◌, ◌<◌, ◌^◌, Bool, true, false, not, IsTrue, List, [], ◌∷◌, ◌++◌, length, Option, Some, None, All, Any, max, min, IfSome, IfNone, slice_get, refl, sym, ap, ◌∙◌, subst, nat_lt}
+use Rattle.std.proofs.Common.{◌≡◌, ◌≢◌, ◌↔◌, ◌||◌, ◌&&◌, ◌==◌, ◌⊎◌, inl, inr, arith, rules, ℕ, ◌≤◌, ◌<◌, ◌^◌, Bool, true, false, not, IsTrue, List, [], ◌∷◌, ◌++◌, length, Option, Some, None, All, Any, max, min, IfSome, IfNone, slice_get, get_or, take, drop, suc, length-take, drop-cons, refl, sym, ap, ◌∙◌, subst, nat_lt}
 use Rattle.std.specs.Prelude.{is_some}
 use Rattle.std.specs.List.{list_any, cons_option}
 use Rattle.std.specs.Option.{option_map, option_map_or}
 use Rattle.std.proofs.Math.Bool.{or-false, or-true}
 use Rattle.std.proofs.lemmas.Bool.{cases_lt}
-use Rattle.std.proofs.lemmas.List.{append-nil}
+use Rattle.std.proofs.lemmas.List.{append-nil, take-append-drop, get_or-take}
 use Rattle.std.proofs.lemmas.List.Elements.{All-nil, All-cons}
-use Rattle.std.proofs.lemmas.Option.{get_or_from_slice_get, slice_get_within}
+use Rattle.std.proofs.lemmas.Option.{get_or_from_slice_get, slice_get_within, slice_get-get_or}
 use Rattle.std.proofs.lemmas.List.Folds.{Any-from_list_any, list_any-from_Any}
 use Rattle.sysmem_counts.specs.declared.field.Field.{Field}
 use Rattle.sysmem_counts.specs.declared.field.Field.TheVariants.{PixelFormat, ColorSpaces, SizeAlignment, BytesPerRowDivisor, StartOffsetDivisor, DisplayRectAlignment, RequiredMinSize, MaxSize, MaxWidthTimesHeight, MaxBytesPerRow, MaxSizeBytes, UnnamedPixelFormat, UnnamedPixelFormatModifier, UnnamedColorSpace}
@@ -25,6 +25,7 @@ use Rattle.sysmem_image.proofs.CallerLemmas.{image_bytes_mono}
 use Rattle.sysmem_merge.specs.declared.offer_read.OfferRead.{OfferRead}
 use Rattle.sysmem_merge.specs.Aggregate.{AreSizes, IsListed}
 use Rattle.sysmem_merge.specs.Demands.{OfferDemand}
+use Rattle.sysmem_merge.specs.First.{IsFirstOf}
 use Rattle.sysmem_merge.specs.OfferRead.{IsOfferRead, IsRefusingLine, offer_lines}
 use Rattle.sysmem_merge.specs.Offers.{has_format, has_colour, bounds_asked, names_format, names_modifier, names_colour, format_named, modifier_named, colour_named, is_named}
 use Rattle.sysmem_merge.specs.Reasons.{IsOfferLine, IsUnnamedLine}
@@ -272,3 +273,18 @@ some_of (Some x) P is p = (x, p)
 pub none_clash : {X : Type 0} (r : Option X) (P Q : Type 0) → IfNone r P → (P → ⊥) → IfNone r Q
 none_clash None P Q p never = absurd (never p)
 none_clash (Some x) P Q p never = tt
+
+-- a field of a list that has the property, where those before it have not, is the first
+pub first_at : (P : Field → Type 0) (xs : List Field) (i : ℕ) (x : Field) → slice_get xs i ≡ Some x → P x → ((k : ℕ) (y : Field) → k < i → slice_get xs k ≡ Some y → ¬ P y) → IsFirstOf P xs x
+first_at P xs i x here holds before =
+    let within : i < length xs = slice_get_within xs i x here in
+    let cell : get_or xs i x ≡ x = get_or_from_slice_get xs i x x here in
+    record {
+      earlier = take i xs;
+      later = drop (suc i) xs;
+      listed = sym (take-append-drop i xs) ∙ ap (λ zs. take i xs ++ zs) (drop-cons xs i x within ∙ ap (λ z. z ∷ drop (suc i) xs) cell);
+      holds = holds;
+      before = λ k d below.
+          let small : k < i = omega (arith, length-take i xs, below) in
+          subst (λ y. ¬ P y) (sym (get_or-take i xs k d small)) (before k (get_or xs k d) small (slice_get-get_or xs k d (omega (arith, small, within))));
+    }

@@ -1,40 +1,18 @@
 -- The parts of sound settings, as they are tested.
-use Rattle.std.proofs.Common.{rules, arith, ◌≡◌, ◌↔◌, ◌&&◌, ◌⊎◌, inl, inr, Bool, true, false, zero, suc, IsTrue, List, [], ◌∷◌, map, Contains, Decides, refl, sym, ap, ◌∙◌, subst}
-use Rattle.std.proofs.lemmas.Bool.Decides.{Decides-and, Decides-like, Decides-eqb}
+use Rattle.std.proofs.Common.{arith, ◌≡◌, ◌↔◌, ◌&&◌, ◌⊎◌, inl, inr, Bool, true, false, zero, suc, IsTrue, List, [], ◌∷◌, map, Contains, Decides, refl, sym, ap, ◌∙◌, subst}
 use Rattle.std.proofs.lemmas.List.Elements.{Contains-append_left, Contains-append_right, Contains-append_cases}
-use Rattle.sysmem_formats.specs.contracts.colour_space.ColourSpacePartialEq.TheImpl as colour
-use Rattle.sysmem_formats.specs.contracts.offer.PairPartialEq.TheImpl as pair
 use Rattle.sysmem_formats.specs.declared.colour_space.ColourSpace.{ColourSpace}
 use Rattle.sysmem_formats.specs.declared.offer.Offer.{Offer}
 use Rattle.sysmem_formats.specs.declared.offer.Offer.TheVariants.{NoImage, Image}
 use Rattle.sysmem_formats.specs.declared.offer.Pair.{Pair}
 use Rattle.sysmem_formats.specs.Offers.{offers, images}
-use Rattle.sysmem_image.specs.contracts.bounds.ImageBounds.{the_type as bounds_type}
-use Rattle.sysmem_image.specs.contracts.bounds.ImageBoundsPartialEq.TheImpl as bounds
-use Rattle.sysmem_image.specs.contracts.size.SizePartialEq.TheImpl as size
 use Rattle.sysmem_image.specs.declared.bounds.ImageBounds.{ImageBounds}
-use Rattle.sysmem_image.specs.declared.size.Size.{Size}
 use Rattle.sysmem_image.specs.Bounds.{IsOwn, IsTighter}
 use Rattle.sysmem_image.specs.Fields.{Bound, Side, Keeps, rule_of, value}
 use Rattle.sysmem_image.proofs.CallerLemmas.{tighter_refl}
 use Rattle.sysmem_merge.specs.Settings.{OwnWithoutImage}
 use Rattle.sysmem_merge.proofs.OneBest.{same_bounds}
 use Rattle.sysmem_sanitise.specs.Platform.{PlatformFacts, offers_of}
-
--- what `==` calls equal is equal
-pub equal_pairs : (a b : Pair) → Decides (pair.ghosts.eq a b) (a ≡ b)
-equal_pairs a b = search rules
-
-pub equal_colours : (a b : ColourSpace) → Decides (colour.ghosts.eq a b) (a ≡ b)
-equal_colours a b = search rules
-
-equal_sizes : (a b : Size) → Decides (size.ghosts.eq a b) (a ≡ b)
-equal_sizes a b = search rules
-
-pub equal_bounds : (a b : ImageBounds) → Decides (bounds.ghosts.eq a b) (a ≡ b)
-equal_bounds a b =
-    let parts = Decides-and _ _ (equal_sizes a.min_size b.min_size) (Decides-and _ _ (equal_sizes a.max_size b.max_size) (Decides-and _ _ (equal_sizes a.size_alignment b.size_alignment) (Decides-and _ _ (Decides-eqb a.min_bytes_per_row b.min_bytes_per_row) (Decides-and _ _ (Decides-eqb a.max_bytes_per_row b.max_bytes_per_row) (Decides-and _ _ (Decides-eqb a.bytes_per_row_divisor b.bytes_per_row_divisor) (Decides-and _ _ (Decides-eqb a.start_offset_divisor b.start_offset_divisor) (Decides-and _ _ (equal_sizes a.display_rect_alignment b.display_rect_alignment) (Decides-and _ _ (equal_sizes a.required_min_size b.required_min_size) (Decides-and _ _ (equal_sizes a.required_max_size b.required_max_size) (Decides-eqb a.max_width_times_height b.max_width_times_height)))))))))) in
-    Decides-like (bounds.ghosts.eq a b) (λ p. bounds_type.to_one a b (cc)) (λ e. (ap (λ (x : ImageBounds). x.min_size) e, (ap (λ (x : ImageBounds). x.max_size) e, (ap (λ (x : ImageBounds). x.size_alignment) e, (ap (λ (x : ImageBounds). x.min_bytes_per_row) e, (ap (λ (x : ImageBounds). x.max_bytes_per_row) e, (ap (λ (x : ImageBounds). x.bytes_per_row_divisor) e, (ap (λ (x : ImageBounds). x.start_offset_divisor) e, (ap (λ (x : ImageBounds). x.display_rect_alignment) e, (ap (λ (x : ImageBounds). x.required_min_size) e, (ap (λ (x : ImageBounds). x.required_max_size) e, ap (λ (x : ImageBounds). x.max_width_times_height) e))))))))))) parts
 
 -- bounds with the same numbers keep to each other
 tighter : (a b : ImageBounds) → ((f : Bound) (side : Side) → value f side a ≡ value f side b) → IsTighter a b

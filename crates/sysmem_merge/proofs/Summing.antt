@@ -32,7 +32,7 @@ sizes_both ds es least greatest more_least more_greatest first second = record {
 
 -- each part stands for both lists, so the whole does
 pub sums_both : (above more new : SumFacts) (platform : PlatformFacts) (ps qs : List Participant) → SumsUp above platform ps → SumsUp more platform qs
-    → counts.StandsFor new.counts (counts_asked ps ++ counts_asked qs) → places.StandsFor new.places platform.heaps (place_demands ps ++ place_demands qs)
+    → counts.IsTallyOf new.counts (counts_asked ps ++ counts_asked qs) → places.AreDomainsLeft new.places platform.heaps (place_demands ps ++ place_demands qs)
     → AreKept (offers_of platform) (offer_demands ps ++ offer_demands qs) new.offers
     → new.least_size ≡ max above.least_size more.least_size → new.greatest_size ≡ min above.greatest_size more.greatest_size → new.added ≡ above.added + more.added
     → SumsUp new platform (ps ++ qs)

@@ -20,7 +20,8 @@ use Rattle.sysmem_memory.specs.Heap.{HeapFacts}
 use Rattle.sysmem_memory.specs.PlaceTable.{refuses_by, place_fields, first_refusing}
 use Rattle.sysmem_merge.specs.declared.settings.Settings.{Settings}
 use Rattle.sysmem_merge.specs.Demands.{offer_demand}
-use Rattle.sysmem_merge.specs.Failing.{FailsIn, IsFirstFailingOf, IsFirstUncovered, offer_fields, size_fields}
+use Rattle.sysmem_merge.specs.Failing.{FailsIn, IsFirstUncovered, offer_fields, size_fields}
+use Rattle.sysmem_merge.specs.First.{IsFirstOf}
 use Rattle.sysmem_merge.specs.Offers.{has_format, has_colour, entry_bounds, AcceptsOffer}
 use Rattle.sysmem_merge.specs.Settings.{CoversOn}
 use Rattle.sysmem_merge.proofs.Accepting.{covers_when}
@@ -124,29 +125,29 @@ each_kept (f ∷ fs) heap s p b is kept =
     All-cons (λ f. ¬ FailsIn f heap s p) (field_of f) (map field_of fs) (bound_kept f heap s p (subst (λ o. IfSome o (KeepsIn f s.bounds)) (sym is) kept.0)) (each_kept fs heap s p b is kept.1)
 
 -- the first of a list is the first of a longer one
-pub first_ahead : (xs ys : List Field) (field : Field) (heap : HeapFacts) (s : Settings) (p : Participant) → IsFirstFailingOf xs field heap s p → IsFirstFailingOf (xs ++ ys) field heap s p
+pub first_ahead : (xs ys : List Field) (field : Field) (heap : HeapFacts) (s : Settings) (p : Participant) → IsFirstOf (λ f. FailsIn f heap s p) xs field → IsFirstOf (λ f. FailsIn f heap s p) (xs ++ ys) field
 first_ahead xs ys field heap s p first = record {
   earlier = first.earlier;
   later = first.later ++ ys;
   listed = ap (λ zs. zs ++ ys) first.listed ∙ append_assoc first.earlier (field ∷ first.later) ys;
-  fails = first.fails;
+  holds = first.holds;
   before = first.before;
 }
 
 -- behind fields that don't fail too
-pub first_behind : (xs ys : List Field) (field : Field) (heap : HeapFacts) (s : Settings) (p : Participant) → All (λ f. ¬ FailsIn f heap s p) xs → IsFirstFailingOf ys field heap s p
-    → IsFirstFailingOf (xs ++ ys) field heap s p
+pub first_behind : (xs ys : List Field) (field : Field) (heap : HeapFacts) (s : Settings) (p : Participant) → All (λ f. ¬ FailsIn f heap s p) xs → IsFirstOf (λ f. FailsIn f heap s p) ys field
+    → IsFirstOf (λ f. FailsIn f heap s p) (xs ++ ys) field
 first_behind xs ys field heap s p none first = record {
   earlier = xs ++ first.earlier;
   later = first.later;
   listed = ap (λ zs. xs ++ zs) first.listed ∙ sym (append_assoc xs first.earlier (field ∷ first.later));
-  fails = first.fails;
+  holds = first.holds;
   before = All-append (λ f. ¬ FailsIn f heap s p) xs first.earlier none first.before;
 }
 
 -- where a test of each field of a list is exact, the first that passes it is the first that fails the participant
 found_first : (test : Field → Bool) (fields : List Field) (heap : HeapFacts) (s : Settings) (p : Participant) → All (λ f. FailsIn f heap s p ↔ (test f ≡ true)) fields
-    → IfSome (find test fields) (λ field. IsFirstFailingOf fields field heap s p)
+    → IfSome (find test fields) (λ field. IsFirstOf (λ f. FailsIn f heap s p) fields field)
 found_first test [] heap s p exact = tt
 found_first test (x ∷ xs) heap s p exact =
     at (test x) refl (found_first test xs heap s p (All-tail (λ f. FailsIn f heap s p ↔ (test f ≡ true)) x xs exact)) where
@@ -156,8 +157,8 @@ found_first test (x ∷ xs) heap s p exact =
       here : Fails x ↔ (test x ≡ true)
       here = All-head (λ f. FailsIn f heap s p ↔ (test f ≡ true)) x xs exact
 
-      at : (b : Bool) → test x ≡ b → IfSome (find test xs) (λ field. IsFirstFailingOf xs field heap s p) → IfSome (cond b (Some x) (find test xs)) (λ field. IsFirstFailingOf (x ∷ xs) field heap s p)
-      at true is rest = record { earlier = []; later = xs; listed = refl; fails = here.1 is; before = All-nil (λ f. ¬ FailsIn f heap s p) }
+      at : (b : Bool) → test x ≡ b → IfSome (find test xs) (λ field. IsFirstOf (λ f. FailsIn f heap s p) xs field) → IfSome (cond b (Some x) (find test xs)) (λ field. IsFirstOf (λ f. FailsIn f heap s p) (x ∷ xs) field)
+      at true is rest = record { earlier = []; later = xs; listed = refl; holds = here.1 is; before = All-nil (λ f. ¬ FailsIn f heap s p) }
       at false is rest = IfSome_then (find test xs) rest (λ field first. first_behind (x ∷ []) xs field heap s p
           (All-cons (λ f. ¬ FailsIn f heap s p) x [] (λ fails. cc (is, here.0 fails)) (All-nil (λ f. ¬ FailsIn f heap s p))) first)
 
@@ -208,8 +209,8 @@ place_exact field heap s p none = (
 
 -- the first field that refuses the place is the first of its fields that fails
 pub first_of_place : (heap : HeapFacts) (s : Settings) (p : Participant) (r : Option Field) → r ≡ first_refusing p.memory p.usage heap s.place.coherency
-    → IfSome r (λ field. IsFirstFailingOf place_fields field heap s p)
-first_of_place heap s p r is = subst (λ o. IfSome o (λ field. IsFirstFailingOf place_fields field heap s p)) (sym is)
+    → IfSome r (λ field. IsFirstOf (λ f. FailsIn f heap s p) place_fields field)
+first_of_place heap s p r is = subst (λ o. IfSome o (λ field. IsFirstOf (λ f. FailsIn f heap s p) place_fields field)) (sym is)
     (found_first (λ f. refuses_by f p.memory p.usage heap s.place.coherency) place_fields heap s p
     (All-from_recursion (λ f. FailsIn f heap s p ↔ (refuses_by f p.memory p.usage heap s.place.coherency ≡ true)) place_fields (
       place_exact PermittedHeaps heap s p refl,
@@ -240,26 +241,26 @@ pub size_kept : (heap : HeapFacts) (s : Settings) (p : Participant) → p.memory
 size_kept heap s p least most = All-from_recursion (λ f. ¬ FailsIn f heap s p) size_fields (λ fails. omega (arith, fails, least), (λ fails. omega (arith, fails, most), tt))
 
 -- a size below the least that a participant takes fails first in it
-pub first_least : (heap : HeapFacts) (s : Settings) (p : Participant) → s.size_bytes < p.memory.min_size_bytes → IsFirstFailingOf size_fields MinSizeBytes heap s p
-first_least heap s p below = record { earlier = []; later = MaxSizeBytes ∷ []; listed = refl; fails = below; before = All-nil (λ f. ¬ FailsIn f heap s p) }
+pub first_least : (heap : HeapFacts) (s : Settings) (p : Participant) → s.size_bytes < p.memory.min_size_bytes → IsFirstOf (λ f. FailsIn f heap s p) size_fields MinSizeBytes
+first_least heap s p below = record { earlier = []; later = MaxSizeBytes ∷ []; listed = refl; holds = below; before = All-nil (λ f. ¬ FailsIn f heap s p) }
 
 -- a size above the greatest, and not below the least, fails first in that
-pub first_most : (heap : HeapFacts) (s : Settings) (p : Participant) → p.memory.min_size_bytes ≤ s.size_bytes → p.memory.max_size_bytes < s.size_bytes → IsFirstFailingOf size_fields MaxSizeBytes heap s p
+pub first_most : (heap : HeapFacts) (s : Settings) (p : Participant) → p.memory.min_size_bytes ≤ s.size_bytes → p.memory.max_size_bytes < s.size_bytes → IsFirstOf (λ f. FailsIn f heap s p) size_fields MaxSizeBytes
 first_most heap s p least above = record {
   earlier = MinSizeBytes ∷ [];
   later = [];
   listed = refl;
-  fails = above;
+  holds = above;
   before = All-cons (λ f. ¬ FailsIn f heap s p) MinSizeBytes [] (λ fails. omega (arith, fails, least)) (All-nil (λ f. ¬ FailsIn f heap s p));
 }
 
 -- an offer for which a participant with entries has none fails first
-pub first_format : (heap : HeapFacts) (s : Settings) (p : Participant) → (length p.entries == 0) ≡ false → first_match s.offer p.entries ≡ None → IsFirstFailingOf offer_fields PixelFormat heap s p
+pub first_format : (heap : HeapFacts) (s : Settings) (p : Participant) → (length p.entries == 0) ≡ false → first_match s.offer p.entries ≡ None → IsFirstOf (λ f. FailsIn f heap s p) offer_fields PixelFormat
 first_format heap s p some none = record {
   earlier = [];
   later = ColorSpaces ∷ map field_of all_bounds;
   listed = refl;
-  fails = ap (λ x. length p.entries == 0 || is_some x) none ∙ ap (λ x. x || false) some;
+  holds = ap (λ x. length p.entries == 0 || is_some x) none ∙ ap (λ x. x || false) some;
   before = All-nil (λ f. ¬ FailsIn f heap s p);
 }
 
@@ -269,23 +270,23 @@ format_kept heap s p entry found fails = cc (fails, ap (λ x. length p.entries =
 
 -- an entry that lacks the colour space fails first
 pub first_colour : (heap : HeapFacts) (s : Settings) (p : Participant) (entry : Entry) → Some entry ≡ first_match s.offer p.entries → takes_colour s.offer entry ≡ false
-    → IsFirstFailingOf offer_fields ColorSpaces heap s p
+    → IsFirstOf (λ f. FailsIn f heap s p) offer_fields ColorSpaces
 first_colour heap s p entry found lacks = record {
   earlier = PixelFormat ∷ [];
   later = map field_of all_bounds;
   listed = refl;
-  fails = ap (λ x. option_map_or (takes_colour s.offer) x true) (sym found) ∙ lacks;
+  holds = ap (λ x. option_map_or (takes_colour s.offer) x true) (sym found) ∙ lacks;
   before = All-cons (λ f. ¬ FailsIn f heap s p) PixelFormat [] (format_kept heap s p entry found) (All-nil (λ f. ¬ FailsIn f heap s p));
 }
 
 -- where the entry takes the colour space, the first of its bounds that fails is the first field
 pub first_bound : (heap : HeapFacts) (s : Settings) (p : Participant) (entry : Entry) (field : Field) → Some entry ≡ first_match s.offer p.entries → takes_colour s.offer entry ≡ true
-    → IsFirstFailing field s.bounds (effective s.offer entry) → IsFirstFailingOf offer_fields field heap s p
-first_bound heap s p entry field found takes first = subst (λ f. IsFirstFailingOf offer_fields f heap s p) (sym first.named) (record {
+    → IsFirstFailing field s.bounds (effective s.offer entry) → IsFirstOf (λ f. FailsIn f heap s p) offer_fields field
+first_bound heap s p entry field found takes first = subst (λ f. IsFirstOf (λ f. FailsIn f heap s p) offer_fields f) (sym first.named) (record {
   earlier = PixelFormat ∷ ColorSpaces ∷ map field_of (fields_before first.bound);
   later = map field_of (fields_after first.bound);
   listed = ap (λ zs. PixelFormat ∷ ColorSpaces ∷ zs) (table_at first.bound);
-  fails = else_bound first.bound heap s p (inl (subst (λ o. IsSomeAnd o (λ b. ¬ KeepsField (field_of first.bound) s.bounds b)) (sym asked) (λ keeps. first.fails ((keeps_named first.bound s.bounds (effective s.offer entry)).1 keeps))));
+  holds = else_bound first.bound heap s p (inl (subst (λ o. IsSomeAnd o (λ b. ¬ KeepsField (field_of first.bound) s.bounds b)) (sym asked) (λ keeps. first.fails ((keeps_named first.bound s.bounds (effective s.offer entry)).1 keeps))));
   before = All-append (λ f. ¬ FailsIn f heap s p) (PixelFormat ∷ ColorSpaces ∷ []) (map field_of (fields_before first.bound))
       (All-from_recursion (λ f. ¬ FailsIn f heap s p) (PixelFormat ∷ ColorSpaces ∷ []) (format_kept heap s p entry found, (λ fails. cc (fails, colour), tt)))
       (each_kept (fields_before first.bound) heap s p (effective s.offer entry) asked first.before);
@@ -308,14 +309,14 @@ there read heaps index heap same below is =
 
 -- the first that fails among the offer's fields is the first of all
 pub offer_uncovered : (platform : PlatformFacts) (s : Settings) (p : Participant) (heap : HeapFacts) (r : Option Field) → slice_get platform.heaps s.place.heap ≡ Some heap
-    → IfSome r (λ field. IsFirstFailingOf offer_fields field heap s p) → IfSome r (λ field. IsFirstUncovered field platform s p)
+    → IfSome r (λ field. IsFirstOf (λ f. FailsIn f heap s p) offer_fields field) → IfSome r (λ field. IsFirstUncovered field platform s p)
 offer_uncovered platform s p heap r here first =
     IfSome_then r first (λ field x. record { heap = heap; has = here; first = first_ahead offer_fields (size_fields ++ place_fields) field heap s p x })
 
 -- among the size's it is where the offer's don't fail
 pub size_uncovered : (platform : PlatformFacts) (s : Settings) (p : Participant) (heap : HeapFacts) (offer size : Option Field) → slice_get platform.heaps s.place.heap ≡ Some heap
     → is_some offer ≡ false → IfNone offer (AcceptsOffer s.offer s.bounds (offer_demand p))
-    → IfSome size (λ field. IsFirstFailingOf size_fields field heap s p) → IfSome size (λ field. IsFirstUncovered field platform s p)
+    → IfSome size (λ field. IsFirstOf (λ f. FailsIn f heap s p) size_fields field) → IfSome size (λ field. IsFirstUncovered field platform s p)
 size_uncovered platform s p heap offer size here none kept first = IfSome_then size first (λ field x. record {
   heap = heap;
   has = here;

@@ -53,8 +53,8 @@ pub record AreKept (os : List Offer) (ds : List OfferDemand) (kept : List KeptOf
 -- what is kept stands for these participants on the platform, part by part
 pub record StandsFor (kept : Kept) (platform : PlatformFacts) (ps : List Participant) : Type 0 where
   pub on : kept.platform ≡ platform
-  pub counts : counts.StandsFor kept.counts (counts_asked ps)
-  pub places : places.StandsFor kept.places platform.heaps (place_demands ps)
+  pub counts : counts.IsTallyOf kept.counts (counts_asked ps)
+  pub places : places.AreDomainsLeft kept.places platform.heaps (place_demands ps)
   pub offers : AreKept (offers_of platform) (offer_demands ps) kept.offers
   pub sizes : AreSizes (offer_demands ps) kept.least_size kept.greatest_size
   pub many : kept.added ≡ length ps

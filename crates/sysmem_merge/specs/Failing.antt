@@ -1,5 +1,5 @@
 -- In which field settings fail a participant.
-use Rattle.std.specs.Prelude.{◌≡◌, ◌⊎◌, ◌<◌, true, false, List, [], ◌∷◌, ◌++◌, map, Some, All, IsSomeAnd, slice_get}
+use Rattle.std.specs.Prelude.{◌≡◌, ◌⊎◌, ◌<◌, true, false, List, [], ◌∷◌, ◌++◌, map, Some, IsSomeAnd, slice_get}
 use Rattle.sysmem_counts.specs.declared.field.Field.{Field}
 use Rattle.sysmem_counts.specs.declared.field.Field.TheVariants.{PixelFormat, ColorSpaces, MinSizeBytes, MaxSizeBytes}
 use Rattle.sysmem_image.specs.Bounds.{KeepsField}
@@ -8,6 +8,7 @@ use Rattle.sysmem_memory.specs.Heap.{HeapFacts}
 use Rattle.sysmem_memory.specs.PlaceTable.{refuses_by, place_fields}
 use Rattle.sysmem_merge.specs.declared.settings.Settings.{Settings}
 use Rattle.sysmem_merge.specs.Demands.{offer_demand}
+use Rattle.sysmem_merge.specs.First.{IsFirstOf}
 use Rattle.sysmem_merge.specs.Offers.{has_format, has_colour, entry_bounds}
 use Rattle.sysmem_sanitise.specs.Participant.{Participant}
 use Rattle.sysmem_sanitise.specs.Platform.{PlatformFacts}
@@ -33,14 +34,6 @@ size_fields = MinSizeBytes ∷ MaxSizeBytes ∷ []
 abbrev pub failing_fields : List Field
 failing_fields = offer_fields ++ size_fields ++ place_fields
 
--- the field is the first of a list in which the settings fail the participant
-pub record IsFirstFailingOf (fields : List Field) (field : Field) (heap : HeapFacts) (s : Settings) (p : Participant) : Type 0 where
-  pub earlier : List Field
-  pub later : List Field
-  pub listed : fields ≡ earlier ++ field ∷ later
-  pub fails : FailsIn field heap s p
-  pub before : All (λ f. ¬ FailsIn f heap s p) earlier
-
 -- the settings fail the participant in the field, in their heap of the platform
 pub record FailsOn (field : Field) (platform : PlatformFacts) (s : Settings) (p : Participant) : Type 0 where
   pub heap : HeapFacts
@@ -51,4 +44,4 @@ pub record FailsOn (field : Field) (platform : PlatformFacts) (s : Settings) (p 
 pub record IsFirstUncovered (field : Field) (platform : PlatformFacts) (s : Settings) (p : Participant) : Type 0 where
   pub heap : HeapFacts
   pub has : slice_get platform.heaps s.place.heap ≡ Some heap
-  pub first : IsFirstFailingOf failing_fields field heap s p
+  pub first : IsFirstOf (λ f. FailsIn f heap s p) failing_fields field

@@ -2,6 +2,7 @@ pub mod Aggregate
 pub mod Best
 pub mod Demands
 pub mod Failing
+pub mod First
 pub mod Fit
 pub mod Kept
 pub mod Laws

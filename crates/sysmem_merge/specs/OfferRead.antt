@@ -1,5 +1,5 @@
 -- What is read of an offer, and the lines of the conflict table about it in their order.
-use Rattle.std.specs.Prelude.{◌≡◌, ◌⊎◌, ◌<◌, ℕ, not, Bool, true, List, [], ◌∷◌, ◌++◌, Some, slice_get}
+use Rattle.std.specs.Prelude.{◌≡◌, ◌⊎◌, not, Bool, true, List, [], ◌∷◌, ◌++◌}
 use Rattle.std.specs.List.{list_any}
 use Rattle.sysmem_counts.specs.declared.field.Field.{Field}
 use Rattle.sysmem_counts.specs.declared.field.Field.TheVariants.{PixelFormat, ColorSpaces, MaxSizeBytes, UnnamedPixelFormat, UnnamedPixelFormatModifier, UnnamedColorSpace}
@@ -30,10 +30,3 @@ offer_lines = PixelFormat ∷ ColorSpaces ∷ (bounds_lines ++ MaxSizeBytes ∷ 
 -- the line is true of the participants for the offer; an unnamed one counts where they are all that a decision has
 abbrev pub IsRefusingLine : Bool → Offer → List OfferDemand → Field → Type 0
 IsRefusingLine whole o ds field = IsOfferLine field o ds ⊎ ((whole ≡ true) × IsUnnamedLine field o ds)
-
--- the field is of a list, and is the first of it that has the property
-pub record IsFirstOf (P : Field → Type 0) (fields : List Field) (field : Field) : Type 0 where
-  pub index : ℕ
-  pub here : slice_get fields index ≡ Some field
-  pub holds : P field
-  pub before : (k : ℕ) (other : Field) → k < index → slice_get fields k ≡ Some other → ¬ P other

@@ -5,7 +5,8 @@ ghost use Rattle.sysmem_image.specs.Bounds.{KeepsField};
 ghost use Rattle.sysmem_memory.specs.Heap.{HeapFacts};
 ghost use Rattle.sysmem_merge.specs.declared.settings.Settings.{Settings as Settled};
 ghost use Rattle.sysmem_merge.specs.Demands.{OfferDemand};
-ghost use Rattle.sysmem_merge.specs.Failing.{FailsIn, FailsOn, IsFirstFailingOf, IsFirstUncovered, offer_fields, size_fields};
+ghost use Rattle.sysmem_merge.specs.Failing.{FailsIn, FailsOn, IsFirstUncovered, offer_fields, size_fields};
+ghost use Rattle.sysmem_merge.specs.First.{IsFirstOf};
 ghost use Rattle.sysmem_merge.specs.Offers.{has_format, has_colour, entry_bounds, AcceptsOffer};
 ghost use Rattle.sysmem_merge.specs.Settings.{CoversOn};
 ghost use Rattle.sysmem_sanitise.specs.Participant.{Participant};
@@ -109,7 +110,7 @@ fn fails_bound_of(field: Field, settings: &Settings, entries: &[Entry]) -> bool
 /// The first of the offer's fields and bounds in which the settings fail a participant with these entries.
 fn failing_offer(settings: &Settings, entries: &[Entry]) -> Option<Field>
     ensures first { (heap : HeapFacts) (p : Participant) → p.entries ≡ entries.now
-        → IfSome result (λ field. IsFirstFailingOf offer_fields field heap settings.now p) }
+        → IfSome result (λ field. IsFirstOf (λ f. FailsIn f heap settings.now p) offer_fields field) }
     ensures none { (d : OfferDemand) → d.entries ≡ entries.now
         → IfNone result (AcceptsOffer settings.now.offer settings.now.bounds d) }
 {
@@ -127,7 +128,7 @@ fn failing_offer(settings: &Settings, entries: &[Entry]) -> Option<Field>
 fn failing_size(size_bytes: u64, memory: &MemoryConstraints) -> Option<Field>
     ensures first { (heap : HeapFacts) (s : Settled) (p : Participant)
         → s.size_bytes ≡ size_bytes → p.memory ≡ memory.now
-        → IfSome result (λ field. IsFirstFailingOf size_fields field heap s p) }
+        → IfSome result (λ field. IsFirstOf (λ f. FailsIn f heap s p) size_fields field) }
     ensures none { IfNone result
         ((memory.now.min_size_bytes ≤ size_bytes) × (size_bytes ≤ memory.now.max_size_bytes)) }
 {

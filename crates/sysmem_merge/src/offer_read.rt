@@ -10,7 +10,8 @@ ghost use Rattle.sysmem_image.specs.Read.{AreRead};
 ghost use Rattle.sysmem_merge.specs.declared.fit.Fit.{Fit};
 ghost use Rattle.sysmem_merge.specs.Demands.{OfferDemand, offer_demand};
 ghost use Rattle.sysmem_merge.specs.Fit.{IsBestFit};
-ghost use Rattle.sysmem_merge.specs.OfferRead.{IsRefusingLine, IsFirstOf, offer_lines};
+ghost use Rattle.sysmem_merge.specs.First.{IsFirstOf};
+ghost use Rattle.sysmem_merge.specs.OfferRead.{IsRefusingLine, offer_lines};
 ghost use Rattle.sysmem_merge.specs.Offers.{is_named, names_format, names_modifier, names_colour};
 ghost use Rattle.sysmem_merge.specs.Reasons.{IsOfferLine, IsUnnamedLine};
 

@@ -1,4 +1,5 @@
--- What callers need of the definitions of records.
+-- What callers need of the definitions of records, and that what `==` calls equal is equal.
+pub use Rattle.sysmem_sanitise.proofs.Same.{same_pair, same_colour, same_bounds}
 use Rattle.std.proofs.Common.{◌≡◌}
 use Rattle.sysmem_image.specs.declared.entry.EntryBounds.{EntryBounds}
 use Rattle.sysmem_sanitise.specs.Reading.Bounds.{stated_by, bounds_by}

@@ -82,8 +82,8 @@ fn all_accept(platform: &Platform, tree: &Tree, settings: &Settings, nodes: &[No
 /// Adds what is asked of the number of buffers, if anything is.
 fn count_asked(counts: &mut CountBounds, asked: Option<&Constraints>)
     requires { sum_of counts.old < 2 ^ 62 }
-    ensures added { (ps : List Counted) → tallies.StandsFor counts.old ps
-        → tallies.StandsFor counts.new
+    ensures added { (ps : List Counted) → tallies.IsTallyOf counts.old ps
+        → tallies.IsTallyOf counts.new
         (ps ++ counts_asked (cons_option (option_map (λ one. one.now) asked.entry) [])) }
     ensures grows { sum_of counts.new ≤ sum_of counts.old + 2 ^ 33 }
 {
@@ -97,8 +97,8 @@ fn add_counts(tree: &Tree, nodes: &[NodeId], counts: &mut CountBounds)
     requires there { All (HasNode tree.now.nodes) nodes.now }
     requires few { length nodes.now ≤ 128 }
     requires room { sum_of counts.old ≤ 128 * 2 ^ 33 }
-    ensures added { (ps : List Counted) → tallies.StandsFor counts.old ps
-        → tallies.StandsFor counts.new (ps ++ counts_asked (asked_of tree.now.nodes nodes.now)) }
+    ensures added { (ps : List Counted) → tallies.IsTallyOf counts.old ps
+        → tallies.IsTallyOf counts.new (ps ++ counts_asked (asked_of tree.now.nodes nodes.now)) }
     ensures grows { sum_of counts.new ≤ sum_of counts.old + length nodes.now * 2 ^ 33 }
 {
     for node in nodes {

@@ -1,6 +1,6 @@
 -- One participant more is counted.
 use Rattle.std.proofs.Common.{refl, sym, ◌∙◌, ap, subst, take, ◌+◌, ◌++◌, arith}
-use Rattle.sysmem_counts.specs.Bounds.{StandsFor}
+use Rattle.sysmem_counts.specs.Bounds.{IsTallyOf}
 use Rattle.sysmem_merge.specs.Demands.{counts_asked}
 use Rattle.sysmem_search.specs.Question.{asked_of}
 use Rattle.sysmem_search.proofs.Taking.{asked_more, asked_whole, counted_more}
@@ -8,12 +8,12 @@ use Rattle.sysmem_search.proofs.participants.add_counts.Goals as goal
 
 pub loop-node-preserved : goal.loop-node-preserved
 loop-node-preserved c = record {
-  added = λ ps stands. subst (StandsFor c.count_asked.new.counts)
+  added = λ ps stands. subst (IsTallyOf c.count_asked.new.counts)
       (counted_more ps _ _ _ (asked_more c.args.tree.now.nodes c.args.nodes.now c.loop-node.node-index _ _ c.loop-node-test.true c.requires.there c.node-item.is c.constraints_of.ensures))
       (c.count_asked.ensures.added _ (c.loop-node.invariant.added ps stands));
   grows = omega (arith, c.count_asked.ensures.grows, c.loop-node.invariant.grows);
 }
 
 pub returns-clause-added : goal.returns-clause-added
-returns-clause-added c = λ ps stands. subst (λ xs. StandsFor c.loop-node.counts (ps ++ counts_asked xs))
+returns-clause-added c = λ ps stands. subst (λ xs. IsTallyOf c.loop-node.counts (ps ++ counts_asked xs))
     (asked_whole c.args.tree.now.nodes c.args.nodes.now c.loop-node.node-index (omega (arith, c.loop-node-test.false))) (c.loop-node.invariant.added ps stands)

@@ -1,5 +1,5 @@
 use Rattle.std.proofs.Common.{arith, List, ap}
-use Rattle.sysmem_counts.specs.Bounds.{StandsFor}
+use Rattle.sysmem_counts.specs.Bounds.{IsTallyOf}
 use Rattle.sysmem_counts.specs.Counts.{needed, IsCountLine, IsCountFault}
 use Rattle.sysmem_counts.specs.declared.constraints.CountConstraints.{CountConstraints as Asked}
 use Rattle.sysmem_counts.specs.declared.field.Field.TheVariants.{MaxBufferCount, BufferCountLimit}
@@ -7,12 +7,12 @@ use Rattle.sysmem_counts.proofs.Counts.{least_needed, line_sound, needs_above, w
 use Rattle.sysmem_counts.proofs.bounds.CountBounds.least_count.Goals as goal
 
 -- at the first return they need more than a maximum
-maximum_passed : (c : goal.Then-needed-from) (ps : List Asked) → StandsFor c.args.self.now ps → IsCountLine MaxBufferCount ps
+maximum_passed : (c : goal.Then-needed-from) (ps : List Asked) → IsTallyOf c.args.self.now ps → IsCountLine MaxBufferCount ps
 maximum_passed c ps stands = (needs_above c.args.self.now ps stands).0
     (omega (arith, c.needed-needed.ensures ps stands, ap (λ t. t.maximum) c.self.view_is, c.from.ensures, c.if-needed-from.true))
 
 -- at the second no more than the maximums, and more than the limit
-limit_passed : (c : goal.Then-needed-from-2) (ps : List Asked) → StandsFor c.args.self.now ps → IsCountFault ps BufferCountLimit
+limit_passed : (c : goal.Then-needed-from-2) (ps : List Asked) → IsTallyOf c.args.self.now ps → IsCountFault ps BufferCountLimit
 limit_passed c ps stands = let is = c.needed-needed.ensures ps stands in (
   within_maximums c.args.self.now ps (needed ps) stands (omega (arith, is, c.from.ensures, c.if-needed-from.false, ap (λ t. t.maximum) c.self.view_is)),
   omega (arith, is, c.from-2.ensures, c.if-needed-from-2.true),

@@ -1,8 +1,8 @@
 use Rattle.std.proofs.Common.{List, sym, ◌∙◌, subst, arith}
 use Rattle.std.proofs.lemmas.List.{length-set}
 use Rattle.sysmem_memory.specs.declared.domain.CoherencyDomains.{CoherencyDomains}
-use Rattle.sysmem_memory.specs.Place.{StandsFor}
-use Rattle.sysmem_memory.proofs.Left.{lost_more, rest_less, stands_for_more}
+use Rattle.sysmem_memory.specs.Place.{AreDomainsLeft}
+use Rattle.sysmem_memory.proofs.Left.{lost_more, rest_less, left_by_more}
 use Rattle.sysmem_memory.proofs.bounds.MemoryBounds.add.Goals as goal
 
 pub loop-index-preserved : goal.loop-index-preserved
@@ -14,4 +14,4 @@ loop-index-preserved c = record {
 
 pub returns : goal.returns
 returns c ps stands =
-    stands_for_more c.self.inside.left c.loop-index.self-inside.left c.args.heaps.now ps (record { memory = c.args.memory.now; usage = c.args.usage }) (omega (arith, c.self.invariant)) (λ k within. c.loop-index.invariant.done k (omega (arith, within))) (let P : List CoherencyDomains → _ = λ left. StandsFor left c.args.heaps.now ps in subst P (sym c.self.view_is) stands)
+    left_by_more c.self.inside.left c.loop-index.self-inside.left c.args.heaps.now ps (record { memory = c.args.memory.now; usage = c.args.usage }) (omega (arith, c.self.invariant)) (λ k within. c.loop-index.invariant.done k (omega (arith, within))) (let P : List CoherencyDomains → _ = λ left. AreDomainsLeft left c.args.heaps.now ps in subst P (sym c.self.view_is) stands)

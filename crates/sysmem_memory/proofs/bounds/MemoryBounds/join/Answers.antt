@@ -1,9 +1,9 @@
 use Rattle.std.proofs.Common.{List, sym, ◌∙◌, subst, arith}
 use Rattle.std.proofs.lemmas.List.{length-set}
 use Rattle.sysmem_memory.specs.declared.domain.CoherencyDomains.{CoherencyDomains}
-use Rattle.sysmem_memory.specs.Place.{StandsFor}
+use Rattle.sysmem_memory.specs.Place.{AreDomainsLeft}
 use Rattle.sysmem_memory.proofs.Left.{rest_less}
-use Rattle.sysmem_memory.proofs.Joined.{joined_more, stands_for_both}
+use Rattle.sysmem_memory.proofs.Joined.{joined_more, left_by_both}
 use Rattle.sysmem_memory.proofs.bounds.MemoryBounds.join.Goals as goal
 
 pub loop-index-preserved : goal.loop-index-preserved
@@ -15,8 +15,8 @@ loop-index-preserved c = record {
 
 pub returns : goal.returns
 returns c ps qs stands others =
-    let P : List CoherencyDomains → _ = λ left. StandsFor left c.args.heaps.now ps in
-    let Q : List CoherencyDomains → _ = λ left. StandsFor left c.args.heaps.now qs in
-    stands_for_both c.self.inside.left c.more.inside.left c.loop-index.self-inside.left c.args.heaps.now ps qs
+    let P : List CoherencyDomains → _ = λ left. AreDomainsLeft left c.args.heaps.now ps in
+    let Q : List CoherencyDomains → _ = λ left. AreDomainsLeft left c.args.heaps.now qs in
+    left_by_both c.self.inside.left c.more.inside.left c.loop-index.self-inside.left c.args.heaps.now ps qs
     (omega (arith, c.self.invariant, c.requires)) (omega (arith, c.more.invariant, c.requires))
     (λ k within. c.loop-index.invariant.done k (omega (arith, within))) (subst P (sym c.self.view_is) stands) (subst Q (sym c.more.view_is) others)

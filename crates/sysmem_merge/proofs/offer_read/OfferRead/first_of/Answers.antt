@@ -3,15 +3,13 @@ use Rattle.std.proofs.lemmas.Option.{slice_get-get_or, get_or_from_slice_get}
 use Rattle.sysmem_counts.specs.declared.field.Field.{Field}
 use Rattle.sysmem_counts.specs.declared.field.Field.TheVariants.{Usage}
 use Rattle.sysmem_merge.specs.OfferRead.{IsRefusingLine}
+use Rattle.sysmem_merge.proofs.OfferReading.{first_at}
 use Rattle.sysmem_merge.proofs.offer_read.OfferRead.first_of.Goals as goal
 
 pub returns-then-is_refusing-clause-first : goal.returns-then-is_refusing-clause-first
-returns-then-is_refusing-clause-first c = λ o ds read. record {
-  index = c.loop-field.field-index;
-  here = slice_get-get_or c.args.lines.now c.loop-field.field-index Usage (omega arith);
-  holds = (c.is_refusing.ensures o ds read).0 c.if-is_refusing.true;
-  before = c.loop-field.invariant o ds read;
-}
+returns-then-is_refusing-clause-first c = λ o ds read.
+    first_at (IsRefusingLine c.args.whole o ds) c.args.lines.now c.loop-field.field-index _ (slice_get-get_or c.args.lines.now c.loop-field.field-index Usage (omega arith))
+    ((c.is_refusing.ensures o ds read).0 c.if-is_refusing.true) (c.loop-field.invariant o ds read)
 
 pub loop-field-preserved : goal.loop-field-preserved
 loop-field-preserved c = λ o ds read k other below here.
