@@ -10,13 +10,14 @@ use Rattle.sysmem_tree.specs.Tree.{first_tree, Applied, applied, decided}
 use Rattle.sysmem_tree.proofs.Alike.{decided_tree}
 use Rattle.sysmem_tree.proofs.Growing.{stays_tree}
 use Rattle.sysmem_tree.proofs.Histories.{first_nodes_tree, acted_tree, ok_from, made}
+use Rattle.sysmem_tree.proofs.LeftOut.{acted_left_out, decided_left_out, first_left_out}
 use Rattle.sysmem_tree.proofs.Proper.{stays_proper, decided_proper, first_proper}
 use Rattle.sysmem_tree.proofs.Readiness.{acted_ready, decided_ready, acted_same, decided_forest, acted_decided, decided_decided, first_decided}
 use Rattle.sysmem_tree.proofs.Roots.{acted_domains, decided_domains}
 
 -- of the tree of a root token
 pub first_sound : IsSoundTree first_tree
-first_sound = record { tree = first_nodes_tree; proper = first_proper; domains = refl; decided = first_decided }
+first_sound = record { tree = first_nodes_tree; proper = first_proper; domains = refl; decided = first_decided; left_out = first_left_out }
 
 -- after an accepted action
 pub acted_sound : (t : TreeFacts) (i : ℕ) (deed : Deed) (after : Applied) → IsSoundTree t → applied t i deed ≡ Ok after → IsSoundTree after.tree
@@ -25,6 +26,7 @@ acted_sound t i deed after s is = record {
   proper = stays_proper t i deed after s.proper is;
   domains = acted_domains t i deed after s.tree s.domains is;
   decided = acted_decided t i deed after s.tree s.decided is;
+  left_out = acted_left_out t i deed after s.left_out is;
 }
 
 -- after a decision of a domain that is ready and undecided
@@ -35,6 +37,7 @@ decided_sound t r choices s has ready open' = record {
   proper = decided_proper t r choices s.proper;
   domains = decided_domains t r choices s.domains;
   decided = decided_decided t r choices s.tree s.decided has ready open';
+  left_out = decided_left_out t r s.left_out s.domains has open' choices;
 }
 
 -- by each entry

@@ -21,6 +21,7 @@ pub mod Histories
 pub mod Agreeing
 pub mod Roots
 pub mod Proper
+pub mod LeftOut
 pub mod Listed
 pub mod Readiness
 pub mod Entries

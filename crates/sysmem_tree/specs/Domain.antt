@@ -118,9 +118,15 @@ pub record IsDecidedReady (t : TreeFacts) (r : ℕ) : Type 0 where
 abbrev pub DecidedAreReady : TreeFacts → Type 0
 DecidedAreReady t = (r : ℕ) → is_undecided (decision_of t.domains r) ≡ false → IsDecidedReady t r
 
--- what is true of each tree: its nodes are one, and proper; its domains stand in order of their roots; and what is decided is ready
+-- a node that was left out is one of a domain that was decided Chosen
+abbrev pub LeftOutAreChosen : TreeFacts → Type 0
+LeftOutAreChosen t = (k : ℕ) (n : NodeFacts) → slice_get t.nodes k ≡ Some n → n.is_left_out ≡ true → is_chosen (decision_of t.domains n.domain) ≡ true
+
+-- what is true of each tree: its nodes are one, and proper; its domains stand in order of their roots; what is decided is ready; and none
+-- but a selection leaves a node out
 pub record IsSoundTree (t : TreeFacts) : Type 0 where
   pub tree : IsTree t.nodes
   pub proper : AreProper t.nodes
   pub domains : AreDomains t
   pub decided : DecidedAreReady t
+  pub left_out : LeftOutAreChosen t
