@@ -4,6 +4,7 @@ ghost use Rattle.std.specs.Prelude.{◌≡◌, Some, Ok, Err, map, option_map, i
 ghost use Rattle.std.specs.Arc.{arc_value};
 ghost use Rattle.sysmem_alloc.specs.Book.{IsBook, entered, new_book};
 ghost use Rattle.sysmem_alloc.specs.Entry.{Acted, Decided, entry_in};
+ghost use Rattle.sysmem_alloc.specs.Frozen.{frozen_of};
 ghost use Rattle.sysmem_alloc.specs.Sound.{MayWait};
 ghost use Rattle.sysmem_alloc.specs.State.{base_of, next_ready, verdict_of};
 ghost use Rattle.sysmem_proof.specs.Base.{IsGivenBase};
@@ -14,6 +15,7 @@ ghost use Rattle.sysmem_tree.specs.Tree.{applied};
 
 use crate::bases::{accepted_in, settings_for};
 use crate::entry::{Entry, enter_action};
+use crate::frozen::Frozen;
 use crate::laws::{base_is_given, few_entries, legal_agrees, legal_is_sound};
 use crate::ready::{add_ready, open_nodes, open_or_kept, ready_domains};
 use crate::verdicts::{choices_of, entered_for, has_failed};
@@ -133,6 +135,20 @@ impl Book {
         legal_is_sound();
         base_is_given();
         self.entered_base(domain)
+    }
+
+    /// Copies of the platform and the tree, with the domain that is to be decided next and what it is decided on, in memory of their own;
+    /// `None` exactly where no domain waits. `AllocError` where memory is refused.
+    pub fn frozen(&self) -> Result<Option<Frozen>, AllocError>
+        ensures { IfOk result (λ frozen. frozen ≡ frozen_of self.now) }
+    {
+        let Some(domain) = self.next_ready() else {
+            return Ok(None);
+        };
+        let base = self.base(domain)?;
+        let platform = self.platform.copy()?;
+        let tree = self.tree.copy()?;
+        Ok(Some(Frozen::new(platform, tree, domain, base)))
     }
 
     /// What a domain of the tree would be decided on now, by what was entered.
