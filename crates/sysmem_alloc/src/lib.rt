@@ -9,14 +9,17 @@
 //! ```
 #![tactic(auto)]
 
+mod bases;
 mod book;
 mod entry;
+mod frozen;
 pub mod laws;
 mod ready;
 mod verdicts;
 
 pub use book::{Book, Done};
 pub use entry::Entry;
+pub use frozen::Frozen;
 
 #[cfg(test)]
 mod tests;
