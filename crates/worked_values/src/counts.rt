@@ -1,7 +1,7 @@
-// What no clause shows: the texts themselves, and counts that were worked out by hand.
+//! Counts that were worked out by hand, and the texts of fields and usages.
 
-use crate::{BUFFER_COUNT_LIMIT, CountBounds, CountConstraints, Field, Usage};
 use bitflags::Flags;
+use sysmem_counts::{BUFFER_COUNT_LIMIT, CountBounds, CountConstraints, Field, Usage};
 
 // One participant's camping, dedicated slack, shared slack, minimum and maximum.
 fn asked(

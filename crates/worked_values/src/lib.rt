@@ -1,10 +1,14 @@
-//! Records that are taken, what they state, and which are equal. It is a crate of tests alone, so that the readers of
-//! `sysmem_sanitise` are proved once and not again with their tests.
+//! Values that were worked out by hand or stand in public tables, beside what the calls of the crates below answer. It is a
+//! crate of tests alone, so that none of those crates is proved again with its tests.
 #![tactic(auto)]
 
+#[cfg(test)]
+mod counts;
 #[cfg(test)]
 mod equal;
 #[cfg(test)]
 mod faults;
 #[cfg(test)]
-mod taken;
+mod formats;
+#[cfg(test)]
+mod memory;
