@@ -24,6 +24,3 @@ pub use modifier::Modifier;
 pub use offer::{Offer, Pair};
 pub use order::offer_at;
 pub use pixel_format::PixelFormat;
-
-#[cfg(test)]
-mod tests;

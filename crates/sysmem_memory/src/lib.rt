@@ -14,8 +14,6 @@ mod heap;
 pub mod laws;
 mod place;
 mod refusal;
-#[cfg(test)]
-mod tests;
 
 pub use bounds::MemoryBounds;
 pub use constraints::MemoryConstraints;

@@ -37,8 +37,8 @@ made-same s t x y e = subst (λ (t : StatedBounds). (y : AreSome t) → made s x
 max_one : (n : ℕ) → 1 ≤ n → max n 1 ≡ n
 max_one n h = omega arith
 
-step_same : (n : ℕ) → 1 ≤ n → n ≤ 65536 → row_divisor n ≡ n
-step_same n some small = omega arith
+divisor_same : (n : ℕ) → 1 ≤ n → n ≤ 65536 → row_divisor n ≡ n
+divisor_same n some small = omega arith
 
 sides : (a b c d : ℕ) → a ≡ c → b ≡ d → (let x : Size = record { width = a; height = b } in let y : Size = record { width = c; height = d } in x ≡ y)
 sides a b c d e f = cc
@@ -52,7 +52,7 @@ numbers-same s are =
     let e1 = some_sides-same s.size_alignment are.width_alignment_some are.height_alignment_some in
     let e2 = some_sides-same s.display_rect_alignment are.display_width_some are.display_height_some in
     let f0 = max_one s.min_bytes_per_row are.min_row_some in
-    let f1 = step_same s.bytes_per_row_divisor are.row_divisor_some are.small_divisor in
+    let f1 = divisor_same s.bytes_per_row_divisor are.row_divisor_some are.small_divisor in
     let f2 = max_one s.start_offset_divisor are.start_divisor_some in
     let l : StatedBounds = record { min_size = some_sides s.min_size; max_size = s.max_size; size_alignment = some_sides s.size_alignment; min_bytes_per_row = max s.min_bytes_per_row 1; max_bytes_per_row = s.max_bytes_per_row; bytes_per_row_divisor = row_divisor s.bytes_per_row_divisor; start_offset_divisor = max s.start_offset_divisor 1; display_rect_alignment = some_sides s.display_rect_alignment; required_min_size = s.required_min_size; required_max_size = s.required_max_size; max_width_times_height = s.max_width_times_height; at_pixel_boundary = s.at_pixel_boundary } in
     let r : StatedBounds = record { min_size = s.min_size; max_size = s.max_size; size_alignment = s.size_alignment; min_bytes_per_row = s.min_bytes_per_row; max_bytes_per_row = s.max_bytes_per_row; bytes_per_row_divisor = s.bytes_per_row_divisor; start_offset_divisor = s.start_offset_divisor; display_rect_alignment = s.display_rect_alignment; required_min_size = s.required_min_size; required_max_size = s.required_max_size; max_width_times_height = s.max_width_times_height; at_pixel_boundary = s.at_pixel_boundary } in

@@ -116,17 +116,17 @@ memory_of-permits d m gives =
 pub memory-permits : (d : Data) (m : MemoryWishes) → optional field.BufferMemoryConstraints no_wishes (memory_of None) d ≡ Ok m → ArePermitted m.permitted_heaps
 memory-permits d m gives = optional-keeps (λ (m : MemoryWishes). ArePermitted m.permitted_heaps) field.BufferMemoryConstraints no_wishes (memory_of None) d m no_heaps-are (λ v. memory_of-permits v m) gives
 
--- 1 to the most that a step may be
+-- 1 to the most that an alignment or a divisor may be
 multiple-is : (n : ℕ) → is_multiple n ≡ true → n ≤ most_multiple
 multiple-is n h = search (rules, tests)
 
-multiple-step : (at : Field) (d : Data) (n : ℕ) → multiple at d ≡ Ok n → n ≤ most_multiple
-multiple-step at d n gives =
+multiple-bounded : (at : Field) (d : Data) (n : ℕ) → multiple at d ≡ Ok n → n ≤ most_multiple
+multiple-bounded at d n gives =
     let (read, is, tested) = bind-ok (number_of at (2 ^ 64 - 1) d) _ n gives in
     multiple-is n (passing-ok _ is_multiple read n tested).holds
 
-multiple_size-step : (at : Field) (d : Data) (size : Size) → multiple_size at d ≡ Ok size → HasSidesUpTo most_multiple size
-multiple_size-step at d size gives =
+multiple_size-bounded : (at : Field) (d : Data) (size : Size) → multiple_size at d ≡ Ok size → HasSidesUpTo most_multiple size
+multiple_size-bounded at d size gives =
     let (read, is, tested) = bind-ok (size_to at (2 ^ 64 - 1) d) _ size gives in
     let (wide, high) = and-true _ _ (passing-ok _ (λ size. is_multiple size.width && is_multiple size.height) read size tested).holds in
     (multiple-is size.width wide, multiple-is size.height high)
@@ -145,17 +145,17 @@ record AreAsked (b : EntryBounds) : Type 0 where
   required_min_height : 1 ≤ b.asked.required_min_size.height
   max_width_times_height : 1 ≤ b.asked.max_width_times_height
 
-step-some : (n : ℕ) → n ≤ most_multiple → max n 1 ≤ most_multiple
-step-some n h = omega arith
+multiple-some : (n : ℕ) → n ≤ most_multiple → max n 1 ≤ most_multiple
+multiple-some n h = omega arith
 
 sides-some : (size : Size) → HasSidesUpTo most_multiple size → HasSidesUpTo most_multiple (some_sides size)
-sides-some size h = (step-some size.width h.0, step-some size.height h.1)
+sides-some size h = (multiple-some size.width h.0, multiple-some size.height h.1)
 
-size_step : (at : Field) (d : Data) (size : Size) → size_or multiple_size at 1 d ≡ Ok size → HasSidesUpTo most_multiple (some_sides size)
-size_step at d size gives = sides-some size (optional-keeps (HasSidesUpTo most_multiple) at (record { width = 1; height = 1 }) (multiple_size at) d size (omega arith, omega arith) (λ v. multiple_size-step at v size) gives)
+alignment-bounded : (at : Field) (d : Data) (size : Size) → size_or multiple_size at 1 d ≡ Ok size → HasSidesUpTo most_multiple (some_sides size)
+alignment-bounded at d size gives = sides-some size (optional-keeps (HasSidesUpTo most_multiple) at (record { width = 1; height = 1 }) (multiple_size at) d size (omega arith, omega arith) (λ v. multiple_size-bounded at v size) gives)
 
-step : (at : Field) (d : Data) (n : ℕ) → bound_or multiple at 1 d ≡ Ok n → max n 1 ≤ most_multiple
-step at d n gives = step-some n (optional-keeps (λ n. n ≤ most_multiple) at 1 (multiple at) d n (omega arith) (λ v. multiple-step at v n) gives)
+divisor-bounded : (at : Field) (d : Data) (n : ℕ) → bound_or multiple at 1 d ≡ Ok n → max n 1 ≤ most_multiple
+divisor-bounded at d n gives = multiple-some n (optional-keeps (λ n. n ≤ most_multiple) at 1 (multiple at) d n (omega arith) (λ v. multiple-bounded at v n) gives)
 
 required_sides : (d : Data) (size : Size) → size_or some_size field.RequiredMinSize most d ≡ Ok size → (1 ≤ size.width) × (1 ≤ size.height)
 required_sides d size gives =
@@ -180,17 +180,17 @@ bounds_of-are d b gives =
     bind-then (bound_or some_number field.MinBytesPerRow 1 d) _ s a3 (λ min_row is4 a4.
     bind-then (bound_or any_number field.MaxBytesPerRow most d) _ s a4 (λ max_row is5 a5.
     bind-then (bound_or multiple field.BytesPerRowDivisor 1 d) _ s a5 (λ row_divisor is6 a6.
-    bind-then (bound_or multiple field.StartOffsetDivisor 1 d) _ s a6 (λ start_step is7 a7.
-    bind-then (size_or multiple_size field.DisplayRectAlignment 1 d) _ s a7 (λ display_step is8 a8.
+    bind-then (bound_or multiple field.StartOffsetDivisor 1 d) _ s a6 (λ start_divisor is7 a7.
+    bind-then (size_or multiple_size field.DisplayRectAlignment 1 d) _ s a7 (λ display_alignment is8 a8.
     bind-then (size_or some_size field.RequiredMinSize most d) _ s a8 (λ required_min is9 a9.
     bind-then (size_or any_size field.RequiredMaxSize 0 d) _ s a9 (λ required_max is10 a10.
     bind-then (bound_or large_number field.MaxWidthTimesHeight (2 ^ 64 - 1) d) _ s a10 (λ area is11 a11.
     bind-then (flag_or field.RequireBytesPerRowAtPixelBoundary false d) _ s a11 (λ pixel is12 all.
     let required = required_sides d required_min is9 in
     subst AreAsked (ok-same _ b made) (subst (λ s. AreAsked (bounds_by s)) (ok-same _ s all) (record {
-      size_alignment = size_step field.SizeAlignment d size_alignment is3;
-      start_offset_divisor = step field.StartOffsetDivisor d start_step is7;
-      display_rect_alignment = size_step field.DisplayRectAlignment d display_step is8;
+      size_alignment = alignment-bounded field.SizeAlignment d size_alignment is3;
+      start_offset_divisor = divisor-bounded field.StartOffsetDivisor d start_divisor is7;
+      display_rect_alignment = alignment-bounded field.DisplayRectAlignment d display_alignment is8;
       required_min_width = required.0;
       required_min_height = required.1;
       max_width_times_height = area_some d area is11;

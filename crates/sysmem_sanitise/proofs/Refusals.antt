@@ -1,5 +1,5 @@
 -- What readers answer where memory for one field is refused: what they answer else, or the want of that field.
-use Rattle.std.proofs.Common.{◌≡◌, ℕ, ◌+◌, ◌-◌, ◌^◌, ◌<◌, Bool, true, false, not, ◌||◌, List, [], ◌++◌, length, get_or, drop, Option, Some, None, Result, Ok, Err, ap, sym, ◌∙◌, refl, inl, inr, ◌⊎◌}
+use Rattle.std.proofs.Common.{◌≡◌, ℕ, ◌+◌, ◌-◌, ◌^◌, ◌<◌, Bool, true, false, not, ◌||◌, List, [], ◌++◌, length, get_or, drop, Option, Some, None, Result, Ok, Err, ap, sym, ◌∙◌, refl, inl, inr}
 use Rattle.std.specs.Prelude.{nat_lt, cond, map}
 use Rattle.serde_json.specs.Data.{Data, Items, no_items, item}
 use Rattle.serde_json.specs.declared.value.Value.{Value}
@@ -22,7 +22,7 @@ use Rattle.sysmem_sanitise.specs.declared.fault.Fault.{Fault}
 use Rattle.sysmem_sanitise.specs.declared.fault.FaultPlace.{FaultPlace}
 use Rattle.sysmem_sanitise.specs.declared.fault.FaultPlace.TheVariants.{Whole, At}
 use Rattle.sysmem_sanitise.specs.Faults.{wrong, lack_at, lack_of}
-use Rattle.sysmem_sanitise.specs.Reading.Fields.{◌>>=◌, passing, kept, same_field, object_of, stated, required, optional, read_or, number_or, flag_or, text_of, named, list_of, read_each, Reads}
+use Rattle.sysmem_sanitise.specs.Reading.Fields.{◌>>=◌, passing, kept, same_field, object_of, stated, required, optional, read_or, number_or, flag_or, text_of, named, list_of, read_each, Reads, IsOr, IsSteady}
 use Rattle.sysmem_sanitise.specs.declared.reading.asked.AskedPair.{AskedPair}
 use Rattle.sysmem_sanitise.specs.Platform.{PlatformFacts}
 use Rattle.sysmem_sanitise.specs.Reading.Bounds.{bounds_of}
@@ -34,14 +34,6 @@ use Rattle.sysmem_sanitise.specs.Reading.Pairs.{pair_fields, has_pair, has_colou
 use Rattle.sysmem_sanitise.specs.Reading.Platform.{pair_of, with_pair, pairs_of, with_colour, colours_of, platform_fields, platform_with}
 use Rattle.sysmem_sanitise.proofs.Members.{each_step}
 use Rattle.sysmem_sanitise.proofs.Steps.{bind-ok}
-
--- what is read else is read, or that memory was refused
-abbrev pub IsOr : {A : Type 0} → Fault → A → Result A Fault → Type 0
-IsOr fault a r = (r ≡ Ok a) ⊎ (r ≡ Err fault)
-
--- a reader that reads the same where memory for another field is refused
-pub record IsSteady {A : Type 0} (said : Option Field → Result A Fault) : Type 0 where
-  pub is : (fault : Fault) (a : A) → said None ≡ Ok a → IsOr fault a (said (lack_of fault))
 
 -- a reader that takes no memory
 pub steady-plain : {A : Type 0} (r : Result A Fault) → IsSteady (λ lack. r)

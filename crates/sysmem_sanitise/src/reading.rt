@@ -8,6 +8,7 @@ mod entry;
 mod field;
 mod heap;
 mod heap_info;
+mod list;
 mod memory;
 mod name;
 mod pair;

@@ -1,5 +1,5 @@
 -- Reading one field of a record: the value that it states, or what is wrong with it.
-use Rattle.std.specs.Prelude.{◌≡◌, ℕ, List, [], ◌∷◌, Bool, true, false, Option, Some, None, Result, Ok, Err, nat_le, bytes_eq, ok_or, option_and_then, if◌then◌else◌}
+use Rattle.std.specs.Prelude.{◌≡◌, ℕ, List, [], ◌∷◌, Bool, true, false, Option, Some, None, ◌⊎◌, Result, Ok, Err, nat_le, bytes_eq, ok_or, option_and_then, if◌then◌else◌}
 use Rattle.std.specs.List.{list_all, list_any}
 use Rattle.serde_json.specs.Data.{Data, object, Items, no_items, item, Members, no_members, member}
 use Rattle.serde_json.specs.Find.{get, as_array, as_bool, as_number, as_str, as_u64}
@@ -110,3 +110,15 @@ kept (Some lack) field a = if same_field lack field then Err (wrong WantOfMemory
 abbrev pub Reads : {A : Type 0} → (Option Field → Result A Fault) → Result A Fault → Type 0
 Reads said (Ok a) = said None ≡ Ok a
 Reads said (Err fault) = said (lack_of fault) ≡ Err fault
+
+-- a reader of one more item of a list, while memory for one field, or for none, is refused
+abbrev pub ItemReader : Type 0 → Type 0
+ItemReader A = Option Field → List A → Data → Result (List A) Fault
+
+-- what is read else is read, or that memory was refused
+abbrev pub IsOr : {A : Type 0} → Fault → A → Result A Fault → Type 0
+IsOr fault a r = (r ≡ Ok a) ⊎ (r ≡ Err fault)
+
+-- a reader that reads the same where memory for another field is refused
+pub record IsSteady {A : Type 0} (said : Option Field → Result A Fault) : Type 0 where
+  pub is : (fault : Fault) (a : A) → said None ≡ Ok a → IsOr fault a (said (lack_of fault))

@@ -10,6 +10,7 @@ use super::asked::{AskedPair, asked_pairs};
 use super::bounds::bounds_of;
 use super::colour_set::colour_set_of;
 use super::field::{add, expect_object, list_of, stated};
+use super::list::{Listed, list_in};
 use crate::fault::{Code, Fault, FaultPlace};
 use serde_json::Value;
 use std::alloc::Global;
@@ -71,26 +72,16 @@ fn expect_entry(object: &Value) -> Result<(), Fault>
     )
 }
 
-fn add_entry(alloc: Global, entries: &mut Vec<Entry>, value: &Value) -> Result<(), Fault>
-    ensures { Reads (λ lack. with_entry lack entries.old.items (view value.now))
-        (seen_by (λ _. entries.new.items) result) }
-{
-    expect_entry(value)?;
-    let pairs = asked_pairs(alloc, entries, value)?;
-    let colours = colour_set_of(stated(value, Code::NoColourSpaces, Field::ColorSpaces)?)?;
-    let bounds = bounds_of(value)?;
-    add_entries(entries, colours, bounds, &pairs)
-}
+impl Listed for Entry {
+    ghost added = { with_entry };
 
-fn entries_list(alloc: Global, list: &[Value]) -> Result<Vec<Entry>, Fault>
-    ensures { Reads (λ lack. read_each (with_entry lack) [] (items_view list.now))
-        (seen_by (λ entries. entries.items) result) }
-{
-    let mut entries = Vec::new(alloc);
-    for value in list {
-        add_entry(alloc, &mut entries, value)?;
+    fn add(alloc: Global, entries: &mut Vec<Entry>, value: &Value) -> Result<(), Fault> {
+        expect_entry(value)?;
+        let pairs = asked_pairs(alloc, entries, value)?;
+        let colours = colour_set_of(stated(value, Code::NoColourSpaces, Field::ColorSpaces)?)?;
+        let bounds = bounds_of(value)?;
+        add_entries(entries, colours, bounds, &pairs)
     }
-    Ok(entries)
 }
 
 /// The entries of a participant's record, one for each pair that they give.
@@ -100,6 +91,6 @@ pub(super) fn entries_in(alloc: Global, object: &Value) -> Result<Vec<Entry>, Fa
 {
     match object.get(Field::ImageFormatConstraints.name()) {
         None => Ok(Vec::new(alloc)),
-        Some(value) => entries_list(alloc, list_of(value, Field::ImageFormatConstraints)?),
+        Some(value) => list_in(alloc, list_of(value, Field::ImageFormatConstraints)?),
     }
 }

@@ -7,6 +7,7 @@ ghost use Rattle.sysmem_sanitise.specs.Reading.Fields.{seen_by, read_each, Reads
 ghost use Rattle.sysmem_sanitise.specs.Reading.Heaps.{is_heap_byte, is_heap_type, heap_type_of, heap_name_of, has_permitted, permitted_heap, with_permitted, permitted_of};
 
 use super::field::{add, expect_object, list_of, number_or, stated, text_of};
+use super::list::{Listed, list_in};
 use crate::fault::{Code, Fault, FaultPlace};
 use serde_json::Value;
 use std::alloc::Global;
@@ -68,29 +69,19 @@ fn has_permitted(heaps: &[Heap], new: &Heap) -> bool
     heaps.iter().any(|heap| *heap == *new)
 }
 
-fn add_permitted(alloc: Global, heaps: &mut Vec<Heap>, value: &Value) -> Result<(), Fault>
-    ensures { Reads (λ lack. with_permitted lack heaps.old.items (view value.now))
-        (seen_by (λ _. heaps.new.items) result) }
-{
-    let heap = permitted_heap(alloc, value)?;
-    if 64 <= heaps.len() {
-        return Err(Fault::of(Code::TooMany, Field::PermittedHeaps));
-    }
-    if has_permitted(heaps, &heap) {
-        return Err(Fault::of(Code::RepeatedHeap, Field::PermittedHeaps));
-    }
-    add(heaps, heap, Field::PermittedHeaps)
-}
+impl Listed for Heap {
+    ghost added = { with_permitted };
 
-fn permitted_in(alloc: Global, list: &[Value]) -> Result<Vec<Heap>, Fault>
-    ensures { Reads (λ lack. read_each (with_permitted lack) [] (items_view list.now))
-        (seen_by (λ heaps. heaps.items) result) }
-{
-    let mut heaps = Vec::new(alloc);
-    for value in list {
-        add_permitted(alloc, &mut heaps, value)?;
+    fn add(alloc: Global, heaps: &mut Vec<Heap>, value: &Value) -> Result<(), Fault> {
+        let heap = permitted_heap(alloc, value)?;
+        if 64 <= heaps.len() {
+            return Err(Fault::of(Code::TooMany, Field::PermittedHeaps));
+        }
+        if has_permitted(heaps, &heap) {
+            return Err(Fault::of(Code::RepeatedHeap, Field::PermittedHeaps));
+        }
+        add(heaps, heap, Field::PermittedHeaps)
     }
-    Ok(heaps)
 }
 
 /// A list of at most 64 heaps, no two of one type and id.
@@ -98,5 +89,5 @@ pub(super) fn permitted_of(alloc: Global, value: &Value) -> Result<Vec<Heap>, Fa
     ensures { Reads (λ lack. permitted_of lack (view value.now))
         (seen_by (λ heaps. heaps.items) result) }
 {
-    permitted_in(alloc, list_of(value, Field::PermittedHeaps)?)
+    list_in(alloc, list_of(value, Field::PermittedHeaps)?)
 }

@@ -7,6 +7,7 @@ ghost use Rattle.sysmem_sanitise.specs.Reading.Heaps.{no_domains, with_domain, w
 
 use super::field::{add, expect_object, flag_or, list_of, stated};
 use super::heap::heap_name_of;
+use super::list::{Listed, list_in};
 use super::name::name_of;
 use crate::fault::{Code, Fault, FaultPlace};
 use serde_json::Value;
@@ -91,29 +92,19 @@ fn has_heap(heaps: &[HeapInfo], new: &HeapInfo) -> bool
     heaps.iter().any(|heap| heap.heap == new.heap)
 }
 
-fn add_heap(alloc: Global, heaps: &mut Vec<HeapInfo>, value: &Value) -> Result<(), Fault>
-    ensures { Reads (λ lack. with_heap lack heaps.old.items (view value.now))
-        (seen_by (λ _. heaps.new.items) result) }
-{
-    let heap = heap_of(alloc, value)?;
-    if 64 <= heaps.len() {
-        return Err(Fault::of(Code::TooMany, Field::Heaps));
-    }
-    if has_heap(heaps, &heap) {
-        return Err(Fault::of(Code::BadPlatformList, Field::Heaps));
-    }
-    add(heaps, heap, Field::Heaps)
-}
+impl Listed for HeapInfo {
+    ghost added = { with_heap };
 
-fn heaps_in(alloc: Global, list: &[Value]) -> Result<Vec<HeapInfo>, Fault>
-    ensures { Reads (λ lack. read_each (with_heap lack) [] (items_view list.now))
-        (seen_by (λ heaps. heaps.items) result) }
-{
-    let mut heaps = Vec::new(alloc);
-    for value in list {
-        add_heap(alloc, &mut heaps, value)?;
+    fn add(alloc: Global, heaps: &mut Vec<HeapInfo>, value: &Value) -> Result<(), Fault> {
+        let heap = heap_of(alloc, value)?;
+        if 64 <= heaps.len() {
+            return Err(Fault::of(Code::TooMany, Field::Heaps));
+        }
+        if has_heap(heaps, &heap) {
+            return Err(Fault::of(Code::BadPlatformList, Field::Heaps));
+        }
+        add(heaps, heap, Field::Heaps)
     }
-    Ok(heaps)
 }
 
 /// A list of 1 to 64 heaps, no two of one type and id.
@@ -121,7 +112,7 @@ pub(super) fn heaps_of(alloc: Global, value: &Value) -> Result<Vec<HeapInfo>, Fa
     ensures { Reads (λ lack. heaps_of lack (view value.now))
         (seen_by (λ heaps. heaps.items) result) }
 {
-    let heaps = heaps_in(alloc, list_of(value, Field::Heaps)?)?;
+    let heaps = list_in(alloc, list_of(value, Field::Heaps)?)?;
     if heaps.is_empty() {
         return Err(Fault::of(Code::BadPlatformList, Field::Heaps));
     }

@@ -10,6 +10,7 @@ ghost use Rattle.sysmem_sanitise.specs.Reading.Pairs.{same_pair, has_pair, has_c
 ghost use Rattle.sysmem_sanitise.specs.Reading.Platform.{pair_of, with_pair, pairs_of, with_colour, colours_of};
 
 use super::field::{add, expect_object, list_of, stated};
+use super::list::{Listed, list_in};
 use super::name::name_of;
 use crate::fault::{Code, Fault, FaultPlace};
 use serde_json::Value;
@@ -61,29 +62,19 @@ fn is_misfit(pair: Pair) -> bool
     is_tiled_misfit(pair)
 }
 
-fn add_pair(pairs: &mut Vec<Pair>, value: &Value) -> Result<(), Fault>
-    ensures { Reads (λ lack. with_pair lack pairs.old.items (view value.now))
-        (seen_by (λ _. pairs.new.items) result) }
-{
-    let pair = pair_of(value)?;
-    if is_misfit(pair) {
-        return Err(Fault::of(Code::TiledMisfit, Field::Pairs));
-    }
-    if has_pair(pairs, pair) {
-        return Err(Fault::of(Code::BadPlatformList, Field::Pairs));
-    }
-    add(pairs, pair, Field::Pairs)
-}
+impl Listed for Pair {
+    ghost added = { with_pair };
 
-fn pairs_in(alloc: Global, list: &[Value]) -> Result<Vec<Pair>, Fault>
-    ensures { Reads (λ lack. read_each (with_pair lack) [] (items_view list.now))
-        (seen_by (λ pairs. pairs.items) result) }
-{
-    let mut pairs = Vec::new(alloc);
-    for value in list {
-        add_pair(&mut pairs, value)?;
+    fn add(_: Global, pairs: &mut Vec<Pair>, value: &Value) -> Result<(), Fault> {
+        let pair = pair_of(value)?;
+        if is_misfit(pair) {
+            return Err(Fault::of(Code::TiledMisfit, Field::Pairs));
+        }
+        if has_pair(pairs, pair) {
+            return Err(Fault::of(Code::BadPlatformList, Field::Pairs));
+        }
+        add(pairs, pair, Field::Pairs)
     }
-    Ok(pairs)
 }
 
 /// A list of pairs that isn't empty, no two alike and none a tiled modifier with a format that isn't of 4 bytes.
@@ -91,7 +82,7 @@ pub(super) fn pairs_of(alloc: Global, value: &Value) -> Result<Vec<Pair>, Fault>
     ensures { Reads (λ lack. pairs_of lack (view value.now))
         (seen_by (λ pairs. pairs.items) result) }
 {
-    let pairs = pairs_in(alloc, list_of(value, Field::Pairs)?)?;
+    let pairs = list_in(alloc, list_of(value, Field::Pairs)?)?;
     if pairs.is_empty() {
         return Err(Fault::of(Code::BadPlatformList, Field::Pairs));
     }
@@ -104,26 +95,16 @@ fn has_colour(colours: &[ColourSpace], new: ColourSpace) -> bool
     colours.contains(&new)
 }
 
-fn add_colour(colours: &mut Vec<ColourSpace>, value: &Value) -> Result<(), Fault>
-    ensures { Reads (λ lack. with_colour lack colours.old.items (view value.now))
-        (seen_by (λ _. colours.new.items) result) }
-{
-    let colour = name_of(value, Field::ColorSpaces)?;
-    if has_colour(colours, colour) {
-        return Err(Fault::of(Code::BadPlatformList, Field::ColorSpaces));
-    }
-    add(colours, colour, Field::ColorSpaces)
-}
+impl Listed for ColourSpace {
+    ghost added = { with_colour };
 
-fn colours_in(alloc: Global, list: &[Value]) -> Result<Vec<ColourSpace>, Fault>
-    ensures { Reads (λ lack. read_each (with_colour lack) [] (items_view list.now))
-        (seen_by (λ colours. colours.items) result) }
-{
-    let mut colours = Vec::new(alloc);
-    for value in list {
-        add_colour(&mut colours, value)?;
+    fn add(_: Global, colours: &mut Vec<ColourSpace>, value: &Value) -> Result<(), Fault> {
+        let colour = name_of(value, Field::ColorSpaces)?;
+        if has_colour(colours, colour) {
+            return Err(Fault::of(Code::BadPlatformList, Field::ColorSpaces));
+        }
+        add(colours, colour, Field::ColorSpaces)
     }
-    Ok(colours)
 }
 
 /// A list of colour spaces that isn't empty, no two alike.
@@ -131,7 +112,7 @@ pub(super) fn colours_of(alloc: Global, value: &Value) -> Result<Vec<ColourSpace
     ensures { Reads (λ lack. colours_of lack (view value.now))
         (seen_by (λ colours. colours.items) result) }
 {
-    let colours = colours_in(alloc, list_of(value, Field::ColorSpaces)?)?;
+    let colours = list_in(alloc, list_of(value, Field::ColorSpaces)?)?;
     if colours.is_empty() {
         return Err(Fault::of(Code::BadPlatformList, Field::ColorSpaces));
     }

@@ -1,6 +1,6 @@
 //! Reads a width and a height.
 
-ghost use Rattle.std.specs.Prelude.{◌≡◌, ◌≤◌, IfOk, codes};
+ghost use Rattle.std.specs.Prelude.{◌≡◌, ◌≤◌, IfOk};
 ghost use Rattle.std.specs.List.{list_all};
 ghost use Rattle.serde_json.specs.View.{view, members_view};
 ghost use Rattle.sysmem_sanitise.specs.Reading.Bounds.{is_side, sides_of, side, size_to, any_size, some_size, multiple_size, size_or};
@@ -40,23 +40,13 @@ fn expect_sides(value: &Value, field: Field) -> Result<(), Fault>
     }
 }
 
-fn width_of(value: &Value, field: Field, greatest: u64) -> Result<u64, Fault>
-    ensures read { result ≡ side field greatest (codes "width") (view value.now) }
+fn side_of(value: &Value, key: &str, field: Field, greatest: u64) -> Result<u64, Fault>
+    ensures read { result ≡ side field greatest key.now (view value.now) }
     ensures fits { IfOk result (λ n. n ≤ greatest) }
 {
-    match value.get("width") {
+    match value.get(key) {
         None => Err(Fault::of(Code::WrongKind, field)),
-        Some(width) => number_of(width, field, greatest),
-    }
-}
-
-fn height_of(value: &Value, field: Field, greatest: u64) -> Result<u64, Fault>
-    ensures read { result ≡ side field greatest (codes "height") (view value.now) }
-    ensures fits { IfOk result (λ n. n ≤ greatest) }
-{
-    match value.get("height") {
-        None => Err(Fault::of(Code::WrongKind, field)),
-        Some(height) => number_of(height, field, greatest),
+        Some(side) => number_of(side, field, greatest),
     }
 }
 
@@ -67,8 +57,8 @@ fn size_to(value: &Value, field: Field, greatest: u64) -> Result<(u64, u64), Fau
     ensures fits { IfOk result (λ size. (size.0 ≤ greatest) × (size.1 ≤ greatest)) }
 {
     expect_sides(value, field)?;
-    let width = width_of(value, field, greatest)?;
-    let height = height_of(value, field, greatest)?;
+    let width = side_of(value, "width", field, greatest)?;
+    let height = side_of(value, "height", field, greatest)?;
     Ok((width, height))
 }
 

@@ -1,14 +1,14 @@
-// What no clause shows: the texts themselves, and the places of one platform as they were worked out by hand.
+//! The places of one platform as they were worked out by hand, and the texts of domains.
 
 ghost use Rattle.std.specs.Prelude.{◌≡◌, ◌≤◌, length};
 
-use crate::{
-    CoherencyDomain, CoherencyDomains, Heap, HeapInfo, MemoryBounds, MemoryConstraints, Place,
-    refuses,
-};
 use std::alloc::{AllocError, Global};
 use std::test::Fail;
 use sysmem_counts::{Field, Usage};
+use sysmem_memory::{
+    CoherencyDomain, CoherencyDomains, Heap, HeapInfo, MemoryBounds, MemoryConstraints, Place,
+    refuses,
+};
 
 const CACHED: CoherencyDomains = CoherencyDomains {
     cpu: true,
@@ -244,7 +244,7 @@ fn a_processor_and_a_secure_heap(rt: HostRuntime) -> Result<(), Fail> {
 }
 
 #[test]
-fn names_and_sets(rt: HostRuntime) -> Result<(), Fail> {
+fn names_and_sets(rt: HostRuntime) {
     assert_eq!(rt; CoherencyDomain::Ram.name(), "ram");
     assert_eq!(rt;
         CoherencyDomain::from_name("inaccessible"),
@@ -255,8 +255,13 @@ fn names_and_sets(rt: HostRuntime) -> Result<(), Fail> {
     assert!(rt; !CACHED.has(CoherencyDomain::Inaccessible));
     assert_eq!(rt; HIDDEN.first(), Some(CoherencyDomain::Inaccessible));
     assert_eq!(rt; CoherencyDomains::NONE.first(), None);
-    assert!(rt; named(rt.alloc(), "ram", 1)? == named(rt.alloc(), "ram", 1)?);
-    assert!(rt; named(rt.alloc(), "ram", 1)? != named(rt.alloc(), "ram", 0)?);
-    assert!(rt; named(rt.alloc(), "ram", 1)? != named(rt.alloc(), "cma", 1)?);
+}
+
+#[test]
+fn equal_heaps(rt: HostRuntime) -> Result<(), Fail> {
+    let heap = named(rt.alloc(), "ram", 1)?;
+    for (heap_type, id, is_same) in [("ram", 1, true), ("ram", 0, false), ("cma", 1, false)] {
+        assert_eq!(rt; heap == named(rt.alloc(), heap_type, id)?, is_same);
+    }
     Ok(())
 }

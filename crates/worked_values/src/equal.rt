@@ -1,4 +1,4 @@
-//! Records that are equal, and records that differ in one place.
+//! Records that are equal, a platform and its copy, and records that differ in one place.
 
 use serde_json::Value;
 use std::alloc::Global;
@@ -36,6 +36,7 @@ fn participants(rt: HostRuntime) -> Result<(), Fail> {
 fn platforms(rt: HostRuntime) -> Result<(), Fail> {
     let first = had(rt.alloc(), 1, "\"SRGB\"")?;
     assert!(rt; first == had(rt.alloc(), 1, "\"SRGB\"")?);
+    assert!(rt; first == first.copy()?);
     assert!(rt; first != had(rt.alloc(), 2, "\"SRGB\"")?);
     assert!(rt; first != had(rt.alloc(), 1, "\"SRGB\",\"REC709\"")?);
     Ok(())

@@ -2,7 +2,7 @@ use Rattle.std.proofs.Common.{rules}
 use Rattle.std.proofs.lemmas.Result.{err_from_is_err_and}
 use Rattle.serde_json.specs.View.{view}
 use Rattle.sysmem_sanitise.proofs.Refusals.{later-entry, reads-entry}
-use Rattle.sysmem_sanitise.proofs.reading.entry.add_entry.Goals as goal
+use Rattle.sysmem_sanitise.proofs.reading.entry.EntryListed.add.Goals as goal
 
 pub returns-in_err-colours : goal.returns-in_err-colours
 returns-in_err-colours c =

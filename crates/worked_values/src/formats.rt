@@ -1,6 +1,9 @@
 //! Names, layouts and orders, with values of public tables.
 
-use super::*;
+use sysmem_formats::{
+    ColourSpace, Modifier, Offer, Pair, PixelFormat, bytes_per_pixel, image_bytes, is_tiled_misfit,
+    offer_at, own_alignment, own_row_divisor, row_bytes,
+};
 
 const BGRA: PixelFormat = PixelFormat::B8G8R8A8;
 

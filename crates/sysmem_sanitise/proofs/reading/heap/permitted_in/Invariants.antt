@@ -1,8 +1,0 @@
-use Rattle.std.proofs.Common.{drop, []}
-use Rattle.serde_json.specs.View.{items_view}
-use Rattle.sysmem_sanitise.specs.Reading.Heaps.{with_permitted}
-use Rattle.sysmem_sanitise.proofs.Refusals.{IsRest}
-use Rattle.sysmem_sanitise.proofs.reading.heap.permitted_in.Given as goal
-
-abbrev pub invariant-loop-value : goal.invariant-loop-value
-invariant-loop-value l = IsRest with_permitted [] l.heaps.items (items_view l.list) (items_view (drop l.value-index l.list))
