@@ -15,3 +15,4 @@ pub mod CountNodes
 pub mod Faulting
 pub mod Labels
 pub mod Rolls
+pub mod OnRoll

@@ -22,7 +22,7 @@ pub(crate) fn are_named(roll: &Roll<'_>, paths: &[Path]) -> bool
 {
     for index in 0..paths.len() {
         let path = &paths[index];
-        if roll.at(path).is_none() {
+        if !roll.has(path) {
             return false;
         }
         if is_among(&paths[..index], path) {

@@ -1,6 +1,6 @@
 //! Whom a line may name.
 
-ghost use Rattle.std.specs.Prelude.{◌≡◌, ◌≤◌, ◌==◌, ◌++◌, [], All, length, option_map};
+ghost use Rattle.std.specs.Prelude.{◌≡◌, ◌≤◌, ◌==◌, ◌++◌, [], All, is_some, length, option_map};
 ghost use Rattle.std.specs.List.{list_any};
 ghost use Rattle.sysmem_proof.specs.Naming.{asked_at};
 ghost use Rattle.sysmem_proof.specs.Roll.{listed};
@@ -81,6 +81,20 @@ impl<'a> Roll<'a> {
     {
         named(self.tree, self.domain, self.prefix, self.accepted, path)
     }
+
+    /// Whether the path is that of one of them.
+    pub(crate) fn has(&self, path: &Path) -> bool
+        ensures { result ≡ is_some (asked_at (listed self.now) path.now) }
+    {
+        is_there(self.at(path))
+    }
+}
+
+/// Whether a participant is there.
+fn is_there(asked: Option<&Constraints>) -> bool
+    ensures { result ≡ is_some (option_map (λ one. one.now) asked.entry) }
+{
+    asked.is_some()
 }
 
 /// Whether the node is among these.

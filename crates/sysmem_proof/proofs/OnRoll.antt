@@ -1,0 +1,97 @@
+-- Paths that name participants, each once.
+use Rattle.std.proofs.Common.{◌≡◌, ◌≢◌, ◌<◌, ◌≤◌, ℕ, zero, suc, ◌+◌, Bool, true, false, List, [], ◌∷◌, ◌++◌, Option, Some, None, length, map, take, get_or, refl, sym, ◌∙◌, ap, subst, arith}
+use Rattle.std.specs.Prelude.{◌↔◌, All, AllPairs, Contains, IsTrue, is_some, slice_index_or}
+use Rattle.std.specs.List.{filter_map, cons_option}
+use Rattle.std.proofs.lemmas.List.{map-append, take_more, take_all}
+use Rattle.std.proofs.lemmas.List.Kept.{AllPairs-cons}
+use Rattle.std.proofs.lemmas.Option.{none-some}
+use Rattle.sysmem_sanitise.specs.Participant.{Participant}
+use Rattle.sysmem_tree.specs.Shape.{Member}
+use Rattle.sysmem_proof.specs.Fault.{AreNamed}
+use Rattle.sysmem_proof.specs.Naming.{asked_at, Names}
+use Rattle.sysmem_proof.specs.Roll.{asked_by}
+
+-- an element within a list, whatever stands for those past its end
+same_get : {X : Type 0} (xs : List X) (k : ℕ) (a b : X) → k < length xs → slice_index_or xs k a ≡ slice_index_or xs k b
+same_get [] k a b less = absurd (omega (arith, less))
+same_get (x ∷ xs) zero a b less = refl
+same_get (x ∷ xs) (suc k) a b less = same_get xs k a b (omega (arith, less))
+
+all_push : {X : Type 0} (P : X → Type 0) (xs : List X) (x : X) → All P xs → P x → All P (xs ++ x ∷ [])
+all_push P [] x all p zero d less = p
+all_push P [] x all p (suc k) d less = absurd (omega (arith, less))
+all_push P (y ∷ xs) x all p zero d less = all zero d (omega arith)
+all_push P (y ∷ xs) x all p (suc k) d less = all_push P xs x (λ j e w. all (suc j) e (omega (arith, w))) p k d (omega (arith, less))
+
+pairs_push : {X : Type 0} (R : X → X → Type 0) (xs : List X) (x : X) → AllPairs R xs → All (λ y. R y x) xs → AllPairs R (xs ++ x ∷ [])
+pairs_push R [] x pairs all = AllPairs-cons R x [] (λ k d less. absurd (omega (arith, less))) (λ i j d less within. absurd (omega (arith, within)))
+pairs_push R (y ∷ xs) x pairs all = AllPairs-cons R y (xs ++ x ∷ [])
+    (all_push (R y) xs x (λ k d less. pairs 0 (suc k) d (omega arith) (omega (arith, less))) (all 0 y (omega arith)))
+    (pairs_push R xs x (λ i j d less within. pairs (suc i) (suc j) d (omega (arith, less)) (omega (arith, within))) (λ k d less. all (suc k) d (omega (arith, less))))
+
+-- no paths name nobody
+pub named_none : (ms : List Member) → AreNamed ms []
+named_none ms = ([], record { each = refl; once = λ i j d less within. absurd (omega (arith, within)) })
+
+-- one path more
+named_push : (ms : List Member) (xs : List (List ℕ)) (p : List ℕ) (q : Participant) → AreNamed ms xs → asked_at ms p ≡ Some q → ¬ (Contains xs p) → AreNamed ms (xs ++ p ∷ [])
+named_push ms xs p q named asks new' = (named.0 ++ q ∷ [], record {
+  each = map-append (asked_at ms) xs (p ∷ []) ∙ (ap (λ os. os ++ asked_at ms p ∷ []) named.1.each
+      ∙ (ap (λ o. map (λ x. Some x) named.0 ++ o ∷ []) asks ∙ sym (map-append (λ x. Some x) named.0 (q ∷ []))));
+  once = pairs_push (λ a b. a ≢ b) xs p named.1.once (λ k d less same. new' (k, less, same_get xs k p d less ∙ same));
+})
+
+module _ (ms : List Member) where
+  -- the first k paths, and the one behind them
+  pub named_more : (xs : List (List ℕ)) (k : ℕ) (x : List ℕ) (has : Bool) → k < length xs → x ≡ get_or xs k x → AreNamed ms (take k xs) → has ≡ is_some (asked_at ms x) → has ≡ true
+      → (again : Bool) → again ≡ false → IsTrue again ↔ Contains (take k xs) x → AreNamed ms (take (k + 1) xs)
+  named_more xs k x has less is named asks yes' again no' test =
+      subst (AreNamed ms) (sym (take_more xs k x less ∙ ap (λ y. take k xs ++ y ∷ []) (sym is))) (by (asked_at ms x) refl (sym asks ∙ yes')) where
+        not_again : ¬ (Contains (take k xs) x)
+        not_again c = let t : again ≡ true = test.1 c in absurd (cc)
+
+        by : (o : Option Participant) → asked_at ms x ≡ o → is_some o ≡ true → AreNamed ms (take k xs ++ x ∷ [])
+        by None at some = absurd (cc)
+        by (Some q) at some = named_push ms (take k xs) x q named at not_again
+
+  some_at : (xs : List (List ℕ)) (ps : List Participant) (k : ℕ) (d : List ℕ) → map (asked_at ms) xs ≡ map (λ x. Some x) ps → k < length xs → asked_at ms (slice_index_or xs k d) ≢ None
+  some_at [] ps k d each less e = omega (arith, less)
+  some_at (x ∷ xs) [] k d each less e = absurd (cc (each))
+  some_at (x ∷ xs) (p ∷ ps) zero d each less e = none-some p (sym e ∙ head each) where
+    head : {X : Type 0} {a b : X} {as' bs : List X} → (a ∷ as') ≡ (b ∷ bs) → a ≡ b
+    head e = cc (e)
+  some_at (x ∷ xs) (p ∷ ps) (suc k) d each less e = some_at xs ps k d (tail each) (omega (arith, less)) e where
+    tail : {X : Type 0} {a b : X} {as' bs : List X} → (a ∷ as') ≡ (b ∷ bs) → as' ≡ bs
+    tail e = cc (e)
+
+  -- where one path names nobody, they aren't named
+  pub nobody_named : (xs : List (List ℕ)) (k : ℕ) (x : List ℕ) (has : Bool) → k < length xs → x ≡ get_or xs k x → has ≡ is_some (asked_at ms x) → has ≡ false → ¬ (AreNamed ms xs)
+  nobody_named xs k x has less is asks no' named = by (asked_at ms x) refl (sym asks ∙ no') where
+    by : (o : Option Participant) → asked_at ms x ≡ o → is_some o ≡ false → ⊥
+    by None at none = some_at xs named.0 k x named.1.each less (ap (asked_at ms) (sym is) ∙ at)
+    by (Some q) at none = absurd (cc)
+
+  once_before : (xs : List (List ℕ)) (k : ℕ) (d : List ℕ) → AllPairs (λ a b. a ≢ b) xs → k < length xs → ¬ (Contains (take k xs) (slice_index_or xs k d))
+  once_before [] k d pairs less has = omega (arith, less)
+  once_before (x ∷ xs) zero d pairs less has = omega (arith, has.1)
+  once_before (x ∷ xs) (suc k) d pairs less (zero, inside, same) = pairs 0 (suc k) d (omega arith) less same
+  once_before (x ∷ xs) (suc k) d pairs less (suc j, inside, same) =
+      once_before xs k d (λ i j d less within. pairs (suc i) (suc j) d (omega (arith, less)) (omega (arith, within))) (omega (arith, less)) (j, omega (arith, inside), same)
+
+  -- where one path stands twice, they aren't
+  pub named_twice : (xs : List (List ℕ)) (k : ℕ) (x : List ℕ) (again : Bool) → k < length xs → x ≡ get_or xs k x → again ≡ true → IsTrue again ↔ Contains (take k xs) x → ¬ (AreNamed ms xs)
+  named_twice xs k x again less is yes' test named = once_before xs k x named.1.once less (subst (Contains (take k xs)) is (test.0 yes'))
+
+  -- what those ask who are named
+  pub asked_named : (xs : List (List ℕ)) (ps : List Participant) → Names ms xs ps → asked_by ms xs ≡ ps
+  asked_named [] [] n = refl
+  asked_named [] (p ∷ ps) n = absurd (cc (n.each))
+  asked_named (x ∷ xs) [] n = absurd (cc (n.each))
+  asked_named (x ∷ xs) (p ∷ ps) n =
+      ap (λ o. cons_option o (asked_by ms xs)) (head n.each)
+      ∙ ap (λ qs. p ∷ qs) (asked_named xs ps (record { each = tail n.each; once = λ i j d less within. n.once (suc i) (suc j) d (omega (arith, less)) (omega (arith, within)) })) where
+        head : {X : Type 0} {a b : X} {as' bs : List X} → (a ∷ as') ≡ (b ∷ bs) → a ≡ b
+        head e = cc (e)
+
+        tail : {X : Type 0} {a b : X} {as' bs : List X} → (a ∷ as') ≡ (b ∷ bs) → as' ≡ bs
+        tail e = cc (e)
