@@ -62,11 +62,11 @@ pub fn merge_into(bounds: &mut ImageBounds, entry: &Entry, offer: &Offer) -> Res
 pub fn merge_bounds(bounds: &mut ImageBounds, more: &ImageBounds) -> Result<(), Field>
     ensures ok { OnOk result ((s : ImageBounds) →
         IsTighter s bounds.new ↔ (IsTighter s bounds.old × IsTighter s more.now)) }
-    ensures merged { (o : Offer) (es fs : List ImageBounds) → MergedOf o es bounds.old → MergedOf o fs more.now →
-        OnOk result (MergedOf o (es ++ fs) bounds.new) }
+    ensures merged { (o : Offer) (es fs : List ImageBounds) → MergedOf o es bounds.old →
+        MergedOf o fs more.now → OnOk result (MergedOf o (es ++ fs) bounds.new) }
     ensures unchanged { OnErr result (bounds.new ≡ bounds.old) }
-    ensures line { (o : Offer) (es fs : List ImageBounds) → MergedOf o es bounds.old → MergedOf o fs more.now →
-        IfErr result (λ field. IsFirstLine field o (es ++ fs)) }
+    ensures line { (o : Offer) (es fs : List ImageBounds) → MergedOf o es bounds.old →
+        MergedOf o fs more.now → IfErr result (λ field. IsFirstLine field o (es ++ fs)) }
     ensures steady { IfErr result IsSteady }
 {
     *bounds = merged(bounds, more)?;
