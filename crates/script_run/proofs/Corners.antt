@@ -47,4 +47,4 @@ one_chosen least s t k m e x y =
 pub has_corner : NoCorner → (platform : PlatformFacts) (ps : List Participant) (s : Settings) (field : Field) → IsBest true platform ps s → RefusesCorner field s.offer s.bounds → ⊥
 has_corner none platform ps s field best refused =
     let sound = best.meets.loosely.sound in
-    none field s.offer s.bounds refused sound.image sound.bounds.admitted sound.bounds.large sound.bounds.required
+    none field s.offer s.bounds refused sound.fit.holds.image sound.fit.holds.bounds.admitted sound.fit.holds.bounds.large sound.fit.holds.bounds.required

@@ -46,7 +46,7 @@ pub covers_when : (platform : PlatformFacts) (s : Settings) (p : Participant) (h
 covers_when platform s p heap here place size offer = record {
   heap = heap;
   has = here;
-  covers = record { format = offer.format; colour = offer.colour; bounds = offer.bounds; min_size = size.0; max_size = size.1; place = place };
+  covers = record { fit = record { offer = offer; min_size = size.0; max_size = size.1 }; place = place };
 }
 
 -- and the other way round
@@ -56,7 +56,7 @@ covers_place platform s p heap here on =
     subst (λ h. AllowsPlace p.memory p.usage h s.place.coherency) (same_Some on.heap heap (sym on.has ∙ here)) on.covers.place
 
 pub covers_size : (platform : PlatformFacts) (s : Settings) (p : Participant) → CoversOn platform s p → (p.memory.min_size_bytes ≤ s.size_bytes) × (s.size_bytes ≤ p.memory.max_size_bytes)
-covers_size platform s p on = (on.covers.min_size, on.covers.max_size)
+covers_size platform s p on = (on.covers.fit.min_size, on.covers.fit.max_size)
 
 pub covers_offer : (platform : PlatformFacts) (s : Settings) (p : Participant) → CoversOn platform s p → AcceptsOffer s.offer s.bounds (offer_demand p)
-covers_offer platform s p on = record { format = on.covers.format; colour = on.covers.colour; bounds = on.covers.bounds }
+covers_offer platform s p on = on.covers.fit.offer

@@ -12,7 +12,8 @@ use Rattle.sysmem_merge.specs.declared.fit.Fit.{Fit}
 use Rattle.sysmem_merge.specs.declared.kept.KeptOffer.{KeptOffer}
 use Rattle.sysmem_merge.specs.Aggregate.{IsKept, AreKept, StandsFor}
 use Rattle.sysmem_merge.specs.Demands.{OfferDemand, offer_demands}
-use Rattle.sysmem_merge.specs.Fit.{MeetsFit, IsBestFit, IsFirstFit}
+use Rattle.sysmem_merge.specs.FirstFit.{IsFirstFit}
+use Rattle.sysmem_merge.specs.Fit.{MeetsFit, IsBestFit}
 use Rattle.sysmem_merge.specs.Kept.{Kept}
 use Rattle.sysmem_merge.specs.Offers.{is_named, format_named, modifier_named, colour_named}
 use Rattle.sysmem_merge.specs.Reasons.{IsUnnamedLine, IsOfferRefused}

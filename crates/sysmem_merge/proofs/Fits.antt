@@ -19,10 +19,9 @@ use Rattle.sysmem_image.specs.Size.{IsSizeUpTo}
 use Rattle.sysmem_merge.specs.declared.fit.Fit.{Fit}
 use Rattle.sysmem_merge.specs.Aggregate.{AreSizes, IsListed}
 use Rattle.sysmem_merge.specs.Demands.{OfferDemand}
-use Rattle.sysmem_merge.specs.Fit.{IsSoundFit, CoversFit, MeetsFit, IsNoBetterFit, IsBestFit}
+use Rattle.sysmem_merge.specs.Fit.{OwnWithoutImage, IsSoundFit, CoversFit, MeetsFit, IsNoBetterFit, IsBestFit}
 use Rattle.sysmem_merge.specs.Offers.{bounds_asked}
 use Rattle.sysmem_merge.specs.Reasons.{IsOfferLine}
-use Rattle.sysmem_merge.specs.Settings.{OwnWithoutImage}
 use Rattle.sysmem_merge.proofs.Asked.{asked_each}
 use Rattle.sysmem_merge.proofs.Lines.{tighter_asked}
 
@@ -55,14 +54,14 @@ merged_meets o ds b k least greatest size merged listed sizes corner required ho
         some = some;
         fits = small;
         own = own_without_image o ds b merged;
-        image = image_of k;
-        bounds = record { in_range = merged.in_range; suits = suits; required = required; admitted = corner.admitted; large = corner.large };
-        bytes = omega (arith, corner.bytes, holds);
+        holds = record {
+          image = image_of k;
+          bounds = record { in_range = merged.in_range; suits = suits; required = required; admitted = corner.admitted; large = corner.large };
+          bytes = omega (arith, corner.bytes, holds);
+        };
       };
       covers = λ i d inside. record {
-        format = (listed i d inside).format;
-        colour = (listed i d inside).colour;
-        bounds = bounds i d inside;
+        offer = record { format = (listed i d inside).format; colour = (listed i d inside).colour; bounds = bounds i d inside };
         min_size = mins i d inside;
         max_size = maxs i d inside;
       };
@@ -71,19 +70,19 @@ merged_meets o ds b k least greatest size merged listed sizes corner required ho
 -- the bounds of a fit that meets the participants keep to the merged bounds
 meets_tighter : (ds : List OfferDemand) (b : ImageBounds) (t : Fit) → MergedOf t.offer (bounds_asked t.offer ds) b → MeetsFit ds t → IsTighter t.bounds b
 meets_tighter ds b t merged meets =
-    (merged_exact t.offer (bounds_asked t.offer ds) b merged t.bounds meets.sound.bounds.in_range meets.sound.bounds.suits).1 (tighter_asked t ds meets.covers)
+    (merged_exact t.offer (bounds_asked t.offer ds) b merged t.bounds meets.sound.holds.bounds.in_range meets.sound.holds.bounds.suits).1 (tighter_asked t ds meets.covers)
 
 -- and its size holds their corner
 meets_holds : (b : ImageBounds) (k : Corner) (t : Fit) → IsCorner t.offer b k → IsTighter t.bounds b → IsSoundFit t → k.bytes ≤ t.size_bytes
 meets_holds b k t corner tighter sound =
-    let i = sound.image in
-    let admits = looser_admits t.offer t.bounds b tighter i sound.bounds.admitted sound.bounds.large in
+    let i = sound.holds.image in
+    let admits = looser_admits t.offer t.bounds b tighter i sound.holds.bounds.admitted sound.holds.bounds.large in
     let a = admits.0 in
     let least = corner.least_bytes i.width i.height i.row
     (record { alignment = a.width_alignment; from = a.min_width; required = admits.1.width })
     (record { alignment = a.height_alignment; from = a.min_height; required = admits.1.height })
     (record { divisor = a.row_divisor; from = a.min_row; row_bytes = a.row_bytes }) in
-    omega (arith, least, sound.bytes)
+    omega (arith, least, sound.holds.bytes)
 
 -- no fit that meets the participants has a smaller size, or bounds that ask for less
 none_better : (ds : List OfferDemand) (b : ImageBounds) (k : Corner) (least greatest : ℕ) (t : Fit)

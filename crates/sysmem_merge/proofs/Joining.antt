@@ -1,5 +1,5 @@
 -- What is kept of an offer for the participants of two lists.
-use Rattle.std.proofs.Common.{arith, ℕ, ◌+◌, ◌<◌, ◌≤◌, ◌≡◌, ◌||◌, Bool, false, List, ◌++◌, All, Any, Some, length, slice_get, slice_set, sym, ap, ◌∙◌, subst, below_more}
+use Rattle.std.proofs.Common.{arith, ℕ, ◌+◌, ◌<◌, ◌≤◌, ◌≡◌, ◌||◌, Bool, false, List, ◌++◌, Any, Some, length, slice_get, slice_set, sym, ap, ◌∙◌, subst, below_more}
 use Rattle.std.specs.List.{list_any}
 use Rattle.std.proofs.lemmas.List.{length-set}
 use Rattle.std.proofs.lemmas.List.Elements.{All-append, filter_map-append, Contains-append_left, Contains-append_right}

@@ -20,19 +20,19 @@ use Rattle.sysmem_merge.proofs.Asked.{asked_all}
 -- the bounds of a fit keep to all that the participants whom it covers ask
 pub tighter_asked : (t : Fit) (ds : List OfferDemand) → All (CoversFit t) ds → All (IsTighter t.bounds) (bounds_asked t.offer ds)
 tighter_asked t ds covers =
-    asked_all t.offer (IsTighter t.bounds) ds (All-weaker (CoversFit t) (Asks t.offer (IsTighter t.bounds)) (λ d c. c.bounds) ds covers)
+    asked_all t.offer (IsTighter t.bounds) ds (All-weaker (CoversFit t) (Asks t.offer (IsTighter t.bounds)) (λ d c. c.offer.bounds) ds covers)
 
 -- a true line of bounds leaves no sound fit that covers the participants
 bounds_line_clash : (field : Field) (t : Fit) (ds : List OfferDemand) → IsBoundsLine field t.offer (bounds_asked t.offer ds) → IsSoundFit t → All (CoversFit t) ds → ⊥
 bounds_line_clash field t ds line sound covers =
-    line_holds field t.offer (bounds_asked t.offer ds) line t.bounds sound.image sound.bounds
+    line_holds field t.offer (bounds_asked t.offer ds) line t.bounds sound.holds.image sound.holds.bounds
     (All-weaker (IsTighter t.bounds) (KeepsLine field t.bounds) (λ e. keeps_each (reads field) t.bounds e) (bounds_asked t.offer ds) (tighter_asked t ds covers))
 
 -- the size's line leaves no sound fit whose size suits the participants and whose bounds keep to theirs in the fields that the corner reads
 pub size_line_holds : SizeLineHolds
 size_line_holds t ds line sound keeps mins maxs =
-    let fits : FitsImage t.offer (bounds_asked t.offer ds) sound.image = fits_image t.offer (bounds_asked t.offer ds) t.bounds sound.image sound.bounds keeps in
-    line.2 sound.image.width sound.image.height sound.image.row t.size_bytes fits.width fits.height fits.row sound.bytes sound.some sound.fits mins maxs
+    let fits : FitsImage t.offer (bounds_asked t.offer ds) sound.holds.image = fits_image t.offer (bounds_asked t.offer ds) t.bounds sound.holds.image sound.holds.bounds keeps in
+    line.2 sound.holds.image.width sound.holds.image.height sound.holds.image.row t.size_bytes fits.width fits.height fits.row sound.holds.bytes sound.some sound.fits mins maxs
 
 -- so it leaves none that covers the participants
 size_line_clash : (t : Fit) (ds : List OfferDemand) → IsOfferLine MaxSizeBytes t.offer ds → IsSoundFit t → All (CoversFit t) ds → ⊥
@@ -45,9 +45,9 @@ size_line_clash t ds line sound covers =
 -- nor does any
 line_clash : (field : Field) (t : Fit) (ds : List OfferDemand) → IsOfferLine field t.offer ds → IsSoundFit t → All (CoversFit t) ds → ⊥
 line_clash PixelFormat t ds line sound covers =
-    Any-not_All (λ d. has_format t.offer d ≡ false) (CoversFit t) ds (λ d no c. cc (no, c.format)) line covers
+    Any-not_All (λ d. has_format t.offer d ≡ false) (CoversFit t) ds (λ d no c. cc (no, c.offer.format)) line covers
 line_clash ColorSpaces t ds line sound covers =
-    Any-not_All (λ d. has_colour t.offer d ≡ false) (CoversFit t) ds (λ d no c. cc (no, c.colour)) line covers
+    Any-not_All (λ d. has_colour t.offer d ≡ false) (CoversFit t) ds (λ d no c. cc (no, c.offer.colour)) line covers
 line_clash MaxSizeBytes t ds line sound covers = size_line_clash t ds line sound covers
 line_clash field t ds line sound covers = bounds_line_clash field t ds line sound covers
 

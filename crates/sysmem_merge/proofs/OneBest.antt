@@ -125,6 +125,6 @@ one_best whole platform ps a b of_a of_b =
     let offer = same_offer (offers_of platform) a.offer b.offer met_a.sound.offer met_b.sound.offer up.offer down.offer in
     let place = places_are_in_one_order a.place b.place (up.place offer) (down.place (sym offer)) in
     let count : a.count ≡ b.count = le_antisymm down.count up.count in
-    let size : a.size_bytes ≡ b.size_bytes = le_antisymm (down.size (sym offer) (sym place)) (up.size offer place) in
-    let bounds = same_bounds a.bounds b.bounds (up.bounds offer place) (down.bounds (sym offer) (sym place)) in
+    let size : a.size_bytes ≡ b.size_bytes = le_antisymm (down.fit (sym offer) (sym place)).size (up.fit offer place).size in
+    let bounds = same_bounds a.bounds b.bounds (up.fit offer place).bounds (down.fit (sym offer) (sym place)).bounds in
     settings_type.to_one a b (cc)

@@ -17,7 +17,8 @@ use Rattle.sysmem_merge.specs.Reasons.{IsUnnamedLine}
 use Rattle.sysmem_merge.specs.Settings.{Covers, MeetsLoosely}
 use Rattle.sysmem_merge.proofs.Lines.{line_unmet}
 use Rattle.sysmem_merge.proofs.SomeMet.{some_met, unmet_by_some}
-use Rattle.sysmem_merge.proofs.Together.{loosely, fit_of, fit_met, refused_clash, unmet_by_count}
+use Rattle.sysmem_merge.specs.Fit.{fit_of}
+use Rattle.sysmem_merge.proofs.Together.{loosely, fit_met, refused_clash, unmet_by_count}
 
 -- a line for the settings' offer
 pub offer_line : OfferLineLeavesNone

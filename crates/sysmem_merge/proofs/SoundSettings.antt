@@ -10,7 +10,7 @@ use Rattle.sysmem_image.specs.declared.bounds.ImageBounds.{ImageBounds}
 use Rattle.sysmem_image.specs.Bounds.{IsOwn, IsTighter}
 use Rattle.sysmem_image.specs.Fields.{Bound, Side, Keeps, rule_of, value}
 use Rattle.sysmem_image.proofs.CallerLemmas.{tighter_refl}
-use Rattle.sysmem_merge.specs.Settings.{OwnWithoutImage}
+use Rattle.sysmem_merge.specs.Fit.{OwnWithoutImage}
 use Rattle.sysmem_merge.proofs.OneBest.{same_bounds}
 use Rattle.sysmem_sanitise.specs.Platform.{PlatformFacts, offers_of}
 

@@ -1,11 +1,11 @@
 -- What stands for participants and for more of them stands for both together.
-use Rattle.std.proofs.Common.{arith, ℕ, ◌≡◌, ◌≤◌, ◌+◌, max, min, refl, List, [], ◌∷◌, ◌++◌, All, map, length, length-append}
+use Rattle.std.proofs.Common.{arith, ℕ, ◌≡◌, ◌≤◌, ◌+◌, max, min, refl, List, [], ◌∷◌, ◌++◌, All, length-append}
 use Rattle.std.proofs.lemmas.List.{map-append}
 use Rattle.std.proofs.lemmas.List.Elements.{All-append, All-nil, All-cons, All-head, All-tail}
 use Rattle.sysmem_counts.specs.Bounds as counts
 use Rattle.sysmem_memory.specs.Place as places
-use Rattle.sysmem_merge.specs.Aggregate.{AreSizes, AreKept, StandsFor}
-use Rattle.sysmem_merge.specs.Demands.{OfferDemand, counts_asked, place_demand, place_demands, offer_demand, offer_demands}
+use Rattle.sysmem_merge.specs.Aggregate.{AreSizes, AreKept}
+use Rattle.sysmem_merge.specs.Demands.{OfferDemand, counts_asked, place_demands, offer_demands}
 use Rattle.sysmem_merge.specs.Sum.{SumFacts, SumsUp}
 use Rattle.sysmem_sanitise.specs.Participant.{Participant}
 use Rattle.sysmem_sanitise.specs.Platform.{PlatformFacts, offers_of}

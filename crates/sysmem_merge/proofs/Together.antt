@@ -13,7 +13,8 @@ use Rattle.sysmem_merge.specs.declared.fit.Fit.{Fit}
 use Rattle.sysmem_merge.specs.declared.settings.Settings.{Settings}
 use Rattle.sysmem_merge.specs.Best.{IsBest, IsUnmet}
 use Rattle.sysmem_merge.specs.Demands.{OfferDemand, counts_asked, place_demand, place_demands, offer_demand, offer_demands}
-use Rattle.sysmem_merge.specs.Fit.{CoversFit, MeetsFit, IsFirstFit}
+use Rattle.sysmem_merge.specs.FirstFit.{IsFirstFit}
+use Rattle.sysmem_merge.specs.Fit.{fit_of, CoversFit, MeetsFit}
 use Rattle.sysmem_merge.specs.Reasons.{AreOffersRefused}
 use Rattle.sysmem_merge.specs.Settings.{Covers, IsNamed, MeetsLoosely, MeetsAs}
 use Rattle.sysmem_sanitise.specs.Participant.{Participant}
@@ -34,20 +35,12 @@ pub meets_as : (whole : Bool) (platform : PlatformFacts) (ps : List Participant)
 meets_as true platform ps t meets names = record { loosely = meets; named = names refl }
 meets_as false platform ps t meets names = meets
 
--- what settings say of images
-abbrev pub fit_of : Settings → Fit
-fit_of t = record { offer = t.offer; bounds = t.bounds; size_bytes = t.size_bytes }
-
--- a participant that covers settings covers what they say of images
-pub covers_fit : (h : HeapFacts) (t : Settings) (p : Participant) → Covers h t p → CoversFit (fit_of t) (offer_demand p)
-covers_fit h t p c = record { format = c.format; colour = c.colour; bounds = c.bounds; min_size = c.min_size; max_size = c.max_size }
-
 -- settings that meet participants meet them in what they say of images
 pub fit_met : (platform : PlatformFacts) (ps : List Participant) (t : Settings) → MeetsLoosely platform ps t → MeetsFit (offer_demands ps) (fit_of t)
 fit_met platform ps t m = record {
-  sound = record { some = m.sound.some; fits = m.sound.fits; own = m.sound.own; image = m.sound.image; bounds = m.sound.bounds; bytes = m.sound.bytes };
+  sound = m.sound.fit;
   covers = All-map (CoversFit (fit_of t)) offer_demand ps
-      (All-weaker (Covers m.heap t) (λ p. CoversFit (fit_of t) (offer_demand p)) (covers_fit m.heap t) ps m.covers);
+      (All-weaker (Covers m.heap t) (λ p. CoversFit (fit_of t) (offer_demand p)) (λ p c. c.fit) ps m.covers);
 }
 
 -- a place that somebody refuses isn't one that all allow
@@ -74,7 +67,6 @@ pub best_together : (whole : Bool) (platform : PlatformFacts) (ps : List Partici
     → IsBest whole platform ps (record { offer = fit.offer; place = place; count = count; size_bytes = fit.size_bytes; bounds = fit.bounds })
 best_together whole platform ps fit place count found first least =
     let s : Settings = record { offer = fit.offer; place = place; count = count; size_bytes = fit.size_bytes; bounds = fit.bounds } in
-    let sound = found.best.meets.sound in
     let allowed = All-unmap (λ (q : PlaceDemand). AllowsPlace q.memory q.usage first.info place.coherency) place_demand ps first.allowed in
     let covered = All-unmap (λ (d : OfferDemand). CoversFit fit d) offer_demand ps found.best.meets.covers in
     let met : MeetsLoosely platform ps s = record {
@@ -82,21 +74,9 @@ best_together whole platform ps fit place count found first least =
       sound = record {
         offer = found.offered;
         place = first.place;
-        some = sound.some;
-        fits = sound.fits;
-        own = sound.own;
-        image = sound.image;
-        bounds = sound.bounds;
-        bytes = sound.bytes;
+        fit = found.best.meets.sound;
       };
-      covers = λ k d inside. let fits = covered k d inside in record {
-        format = fits.format;
-        colour = fits.colour;
-        bounds = fits.bounds;
-        min_size = fits.min_size;
-        max_size = fits.max_size;
-        place = allowed k d inside;
-      };
+      covers = λ k d inside. record { fit = covered k d inside; place = allowed k d inside };
       counted = least.counted;
     } in record {
       meets = meets_as whole platform ps s met found.named;
@@ -106,8 +86,7 @@ best_together whole platform ps fit place count found first least =
             offer = λ earlier. refused_unmet whole t.offer (offer_demands ps) (found.first t.offer earlier) (fit_of t) refl suits (named whole platform ps t meets);
             place = λ _ earlier. let at = place_met whole platform ps t meets in at.2 (first.earlier t.place at.0 at.1 earlier);
             count = least.least t.count m.counted;
-            size = λ same _. (found.best.best (fit_of t) same suits).size;
-            bounds = λ same _. (found.best.best (fit_of t) same suits).bounds;
+            fit = λ same _. found.best.best (fit_of t) same suits;
           };
     }
 

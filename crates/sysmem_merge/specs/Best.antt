@@ -1,9 +1,9 @@
 -- Which settings are best for participants.
 use Rattle.std.specs.Prelude.{◌≡◌, ℕ, ◌<◌, ◌≤◌, List, Bool, Some, slice_get}
 use Rattle.sysmem_formats.specs.declared.offer.Offer.{Offer}
-use Rattle.sysmem_image.specs.Bounds.{IsTighter}
 use Rattle.sysmem_memory.specs.Place.{IsEarlier}
 use Rattle.sysmem_merge.specs.declared.settings.Settings.{Settings}
+use Rattle.sysmem_merge.specs.Fit.{fit_of, IsNoBetterFit}
 use Rattle.sysmem_merge.specs.Settings.{MeetsAs}
 use Rattle.sysmem_sanitise.specs.Participant.{Participant}
 use Rattle.sysmem_sanitise.specs.Platform.{PlatformFacts, offers_of}
@@ -20,8 +20,7 @@ pub record IsNoBetter (platform : PlatformFacts) (t s : Settings) : Type 0 where
   pub offer : ¬ (IsEarlierOffer (offers_of platform) t.offer s.offer)
   pub place : t.offer ≡ s.offer → ¬ (IsEarlier t.place s.place)
   pub count : s.count ≤ t.count
-  pub size : t.offer ≡ s.offer → t.place ≡ s.place → s.size_bytes ≤ t.size_bytes
-  pub bounds : t.offer ≡ s.offer → t.place ≡ s.place → IsTighter t.bounds s.bounds
+  pub fit : t.offer ≡ s.offer → t.place ≡ s.place → IsNoBetterFit (fit_of t) (fit_of s)
 
 -- settings that meet these participants, and than which no others that do are better
 pub record IsBest (whole : Bool) (platform : PlatformFacts) (ps : List Participant) (s : Settings) : Type 0 where

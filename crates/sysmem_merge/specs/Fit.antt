@@ -1,30 +1,34 @@
 -- An offer with its bounds and a size, apart from places and counts.
-use Rattle.std.specs.Prelude.{◌≡◌, ◌^◌, ◌<◌, ◌≤◌, List, All, Bool, true, Contains}
+use Rattle.std.specs.Prelude.{◌≡◌, ◌^◌, ◌<◌, ◌≤◌, List, All}
 use Rattle.sysmem_formats.specs.declared.offer.Offer.{Offer}
-use Rattle.sysmem_formats.specs.Layout.{image_bytes_of}
-use Rattle.sysmem_image.specs.Bounds.{IsTighter}
-use Rattle.sysmem_image.specs.Images.{Image, IsSoundBounds}
+use Rattle.sysmem_formats.specs.declared.offer.Offer.TheVariants.{NoImage, Image as image}
+use Rattle.sysmem_image.specs.declared.bounds.ImageBounds.{ImageBounds}
+use Rattle.sysmem_image.specs.Bounds.{IsOwn, IsTighter}
 use Rattle.sysmem_merge.specs.declared.fit.Fit.{Fit}
-use Rattle.sysmem_merge.specs.Best.{IsEarlierOffer}
+use Rattle.sysmem_merge.specs.declared.settings.Settings.{Settings}
 use Rattle.sysmem_merge.specs.Demands.{OfferDemand}
-use Rattle.sysmem_merge.specs.Offers.{has_format, has_colour, Asks, is_named}
-use Rattle.sysmem_merge.specs.Reasons.{IsOfferRefused}
-use Rattle.sysmem_merge.specs.Settings.{OwnWithoutImage}
+use Rattle.sysmem_merge.specs.Offers.{AcceptsOffer}
+use Rattle.sysmem_merge.specs.Sound.{HoldsImage}
 
--- a size that holds an image which the bounds admit and which is as large as they ask for
+-- what settings say of images
+abbrev pub fit_of : Settings → Fit
+fit_of s = record { offer = s.offer; bounds = s.bounds; size_bytes = s.size_bytes }
+
+-- without an image the bounds are those of no entry
+abbrev pub OwnWithoutImage : Offer → ImageBounds → Type 0
+OwnWithoutImage NoImage b = IsOwn NoImage b
+OwnWithoutImage (image pair colour) b = Unit {0}
+
+-- a size of 64 bits that holds an image which the bounds admit and which is as large as they ask for
 pub record IsSoundFit (t : Fit) : Type 0 where
   pub some : 1 ≤ t.size_bytes
   pub fits : t.size_bytes < 2 ^ 64
   pub own : OwnWithoutImage t.offer t.bounds
-  pub image : Image
-  pub bounds : IsSoundBounds t.offer t.bounds image
-  pub bytes : image_bytes_of t.offer image.row image.height ≤ t.size_bytes
+  pub holds : HoldsImage t.offer t.bounds t.size_bytes
 
 -- one participant accepts the offer, the bounds and the size
 pub record CoversFit (t : Fit) (d : OfferDemand) : Type 0 where
-  pub format : has_format t.offer d ≡ true
-  pub colour : has_colour t.offer d ≡ true
-  pub bounds : Asks t.offer (IsTighter t.bounds) d
+  pub offer : AcceptsOffer t.offer t.bounds d
   pub min_size : d.min_size_bytes ≤ t.size_bytes
   pub max_size : t.size_bytes ≤ d.max_size_bytes
 
@@ -43,10 +47,3 @@ pub record IsBestFit (o : Offer) (ds : List OfferDemand) (s : Fit) : Type 0 wher
   pub offer : s.offer ≡ o
   pub meets : MeetsFit ds s
   pub best : (t : Fit) → t.offer ≡ o → MeetsFit ds t → IsNoBetterFit t s
-
--- the first offer of a list that suits these participants, with its least size and bounds; each before it is refused
-pub record IsFirstFit (whole : Bool) (os : List Offer) (ds : List OfferDemand) (s : Fit) : Type 0 where
-  pub offered : Contains os s.offer
-  pub best : IsBestFit s.offer ds s
-  pub named : whole ≡ true → is_named s.offer ds ≡ true
-  pub first : (o : Offer) → IsEarlierOffer os o s.offer → IsOfferRefused whole o ds

@@ -3,6 +3,7 @@ pub mod Best
 pub mod Demands
 pub mod Failing
 pub mod First
+pub mod FirstFit
 pub mod Fit
 pub mod Kept
 pub mod Laws

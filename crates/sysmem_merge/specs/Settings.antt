@@ -1,45 +1,27 @@
 -- When settings meet participants. Settings in a definition are any numbers, so what fits their types is said.
-use Rattle.std.specs.Prelude.{◌≡◌, ◌^◌, ◌<◌, ◌≤◌, List, All, Bool, true, false, Some, Contains, slice_get}
+use Rattle.std.specs.Prelude.{◌≡◌, List, All, Bool, true, false, Some, Contains, slice_get}
 use Rattle.sysmem_counts.specs.Counts.{IsCounted}
 use Rattle.sysmem_formats.specs.declared.offer.Offer.{Offer}
-use Rattle.sysmem_formats.specs.declared.offer.Offer.TheVariants.{NoImage, Image as image}
-use Rattle.sysmem_formats.specs.Layout.{image_bytes_of}
-use Rattle.sysmem_image.specs.declared.bounds.ImageBounds.{ImageBounds}
-use Rattle.sysmem_image.specs.Bounds.{IsOwn, IsTighter}
-use Rattle.sysmem_image.specs.Images.{Image, IsSoundBounds}
 use Rattle.sysmem_memory.specs.Heap.{HeapFacts}
 use Rattle.sysmem_memory.specs.Place.{IsPlace}
 use Rattle.sysmem_memory.specs.PlaceTable.{AllowsPlace}
 use Rattle.sysmem_merge.specs.declared.settings.Settings.{Settings}
 use Rattle.sysmem_merge.specs.Demands.{counts_asked, offer_demand, offer_demands}
-use Rattle.sysmem_merge.specs.Offers.{has_format, has_colour, Asks, is_named}
+use Rattle.sysmem_merge.specs.Fit.{fit_of, IsSoundFit, CoversFit}
+use Rattle.sysmem_merge.specs.Offers.{is_named}
 use Rattle.sysmem_sanitise.specs.Participant.{Participant}
 use Rattle.sysmem_sanitise.specs.Platform.{PlatformFacts, offers_of}
-
--- without an image the bounds are those of no entry
-abbrev pub OwnWithoutImage : Offer → ImageBounds → Type 0
-OwnWithoutImage NoImage b = IsOwn NoImage b
-OwnWithoutImage (image pair colour) b = Unit {0}
 
 -- settings that the platform can provide: its offer, one of its places, in this heap, and a size that holds an image
 -- which the bounds admit and which is as large as they ask for
 pub record IsSound (platform : PlatformFacts) (heap : HeapFacts) (s : Settings) : Type 0 where
   pub offer : Contains (offers_of platform) s.offer
   pub place : IsPlace platform.heaps s.place heap
-  pub some : 1 ≤ s.size_bytes
-  pub fits : s.size_bytes < 2 ^ 64
-  pub own : OwnWithoutImage s.offer s.bounds
-  pub image : Image
-  pub bounds : IsSoundBounds s.offer s.bounds image
-  pub bytes : image_bytes_of s.offer image.row image.height ≤ s.size_bytes
+  pub fit : IsSoundFit (fit_of s)
 
--- settings that one participant accepts, field by field; without image entries it accepts every offer and bounds none
+-- settings that one participant accepts: what they say of images, and their place
 pub record Covers (heap : HeapFacts) (s : Settings) (p : Participant) : Type 0 where
-  pub format : has_format s.offer (offer_demand p) ≡ true
-  pub colour : has_colour s.offer (offer_demand p) ≡ true
-  pub bounds : Asks s.offer (IsTighter s.bounds) (offer_demand p)
-  pub min_size : p.memory.min_size_bytes ≤ s.size_bytes
-  pub max_size : s.size_bytes ≤ p.memory.max_size_bytes
+  pub fit : CoversFit (fit_of s) (offer_demand p)
   pub place : AllowsPlace p.memory p.usage heap s.place.coherency
 
 -- settings that one participant accepts in their heap of the platform

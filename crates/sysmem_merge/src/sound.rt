@@ -4,7 +4,8 @@ ghost use Rattle.std.specs.Prelude.{◌↔◌, IsTrue, Contains};
 ghost use Rattle.sysmem_image.specs.Bounds.{IsInRange};
 ghost use Rattle.sysmem_memory.specs.Heap.{HeapFacts};
 ghost use Rattle.sysmem_memory.specs.Place.{IsPlace};
-ghost use Rattle.sysmem_merge.specs.Settings.{IsSound, OwnWithoutImage};
+ghost use Rattle.sysmem_merge.specs.Fit.{OwnWithoutImage};
+ghost use Rattle.sysmem_merge.specs.Settings.{IsSound};
 ghost use Rattle.sysmem_merge.specs.Sound.{HoldsImage};
 ghost use Rattle.sysmem_sanitise.specs.Platform.{offers_of};
 

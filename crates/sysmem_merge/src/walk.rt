@@ -4,7 +4,8 @@ ghost use Rattle.std.specs.Prelude.{◌≡◌, true, List, Some, slice_get, IfSo
 ghost use Rattle.sysmem_formats.specs.declared.offer.Offer.{Offer};
 ghost use Rattle.sysmem_merge.specs.Aggregate.{AreSizes, IsKept, AreKept};
 ghost use Rattle.sysmem_merge.specs.Demands.{OfferDemand};
-ghost use Rattle.sysmem_merge.specs.Fit.{IsBestFit, IsFirstFit};
+ghost use Rattle.sysmem_merge.specs.FirstFit.{IsFirstFit};
+ghost use Rattle.sysmem_merge.specs.Fit.{IsBestFit};
 ghost use Rattle.sysmem_merge.specs.Offers.{is_named};
 ghost use Rattle.sysmem_merge.specs.Reasons.{IsOfferRefused, AreOffersRefused};
 ghost use Rattle.sysmem_sanitise.specs.Platform.{offers_of};

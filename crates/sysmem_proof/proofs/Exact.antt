@@ -57,8 +57,8 @@ least_count platform ps s t least met =
     (least.least (with_count s t.count) refl refl (record {
       loosely = record {
         heap = mine.heap;
-        sound = record { offer = mine.sound.offer; place = mine.sound.place; some = mine.sound.some; fits = mine.sound.fits; own = mine.sound.own; image = mine.sound.image; bounds = mine.sound.bounds; bytes = mine.sound.bytes };
-        covers = λ k d inside. let c = mine.covers k d inside in record { format = c.format; colour = c.colour; bounds = c.bounds; min_size = c.min_size; max_size = c.max_size; place = c.place };
+        sound = record { offer = mine.sound.offer; place = mine.sound.place; fit = mine.sound.fit };
+        covers = λ k d inside. let c = mine.covers k d inside in record { fit = c.fit; place = c.place };
         counted = met.loosely.counted;
       };
       named = least.meets.named;
@@ -88,8 +88,7 @@ module _ (laws : LineLaws) (platform : PlatformFacts) where
       offer = λ earlier. no_offer ms s c refuse t met earlier;
       place = λ same earlier. no_place ms s c refuse t met earlier;
       count = least_count platform (participants ms) s t least met;
-      size = λ offer place. (least.least t offer place met).size offer place;
-      bounds = λ offer place. (least.least t offer place met).bounds offer place;
+      fit = λ offer place. (least.least t offer place met).fit offer place;
     };
   }
 

@@ -51,16 +51,16 @@ bounds_clash field a (Some b) fails keeps = fails (λ f is. keeps f)
 bounds_or_place : (field : Field) (heap : HeapFacts) (s : Settings) (p : Participant) → IsSomeAnd (entry_bounds s.offer (offer_demand p)) (λ b. ¬ (KeepsField field s.bounds b))
     ⊎ (refuses_by field p.memory p.usage heap s.place.coherency ≡ true) → Covers heap s p → ⊥
 bounds_or_place field heap s p fails c = elim fails as (λ _. ⊥) [
-  | inl bounds ↦ bounds_clash field s.bounds (entry_bounds s.offer (offer_demand p)) bounds c.bounds
+  | inl bounds ↦ bounds_clash field s.bounds (entry_bounds s.offer (offer_demand p)) bounds c.fit.offer.bounds
   | inr refuses ↦ cc (refuses, none_refuses p.memory p.usage heap s.place.coherency c.place field)
 ]
 
 -- settings that fail a participant in some field aren't accepted by it
 fails_clash : (field : Field) (heap : HeapFacts) (s : Settings) (p : Participant) → FailsIn field heap s p → ¬ (Covers heap s p)
-fails_clash PixelFormat heap s p fails c = cc (fails, c.format)
-fails_clash ColorSpaces heap s p fails c = cc (fails, c.colour)
-fails_clash MinSizeBytes heap s p fails c = omega (arith, fails, c.min_size)
-fails_clash MaxSizeBytes heap s p fails c = omega (arith, fails, c.max_size)
+fails_clash PixelFormat heap s p fails c = cc (fails, c.fit.offer.format)
+fails_clash ColorSpaces heap s p fails c = cc (fails, c.fit.offer.colour)
+fails_clash MinSizeBytes heap s p fails c = omega (arith, fails, c.fit.min_size)
+fails_clash MaxSizeBytes heap s p fails c = omega (arith, fails, c.fit.max_size)
 fails_clash field heap s p fails c = bounds_or_place field heap s p fails c
 
 pub fails_on_clash : (field : Field) (platform : PlatformFacts) (s : Settings) (p : Participant) → FailsOn field platform s p → CoversOn platform s p → ⊥

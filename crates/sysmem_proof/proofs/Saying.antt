@@ -33,16 +33,16 @@ asked_all o P (d ∷ ds) all = entry_all P (entry_bounds o d) d ds o refl (All-h
 
 size_says : (platform : PlatformFacts) (heap : HeapFacts) (t : Settings) (ds : List OfferDemand) → IsOfferLine MaxSizeBytes t.offer ds → IsSound platform heap t → ¬ (All (ObeysLine MaxSizeBytes t) ds)
 size_says platform heap t ds line sound obey =
-    let fits : FitsImage t.offer (bounds_asked t.offer ds) sound.image = fits_image t.offer (bounds_asked t.offer ds) t.bounds sound.image sound.bounds
+    let fits : FitsImage t.offer (bounds_asked t.offer ds) sound.fit.holds.image = fits_image t.offer (bounds_asked t.offer ds) t.bounds sound.fit.holds.image sound.fit.holds.bounds
     (asked_all t.offer (KeepsCorner t.bounds) ds (All-weaker (ObeysLine MaxSizeBytes t) (Asks t.offer (KeepsCorner t.bounds)) (λ d o. o.0) ds obey)) in
-    line.2 sound.image.width sound.image.height sound.image.row t.size_bytes fits.width fits.height fits.row sound.bytes sound.some sound.fits
+    line.2 sound.fit.holds.image.width sound.fit.holds.image.height sound.fit.holds.image.row t.size_bytes fits.width fits.height fits.row sound.fit.holds.bytes sound.fit.some sound.fit.fits
     (All-weaker (ObeysLine MaxSizeBytes t) (λ d. d.min_size_bytes ≤ t.size_bytes) (λ d o. o.1) ds obey)
     (All-weaker (ObeysLine MaxSizeBytes t) (λ d. t.size_bytes ≤ d.max_size_bytes) (λ d o. o.2) ds obey)
 
 bounds_say : (field : Field) (platform : PlatformFacts) (heap : HeapFacts) (t : Settings) (ds : List OfferDemand) → IsBoundsLine field t.offer (bounds_asked t.offer ds) → IsSound platform heap t
     → ¬ (All (Asks t.offer (KeepsLine field t.bounds)) ds)
 bounds_say field platform heap t ds line sound obey =
-    line_holds field t.offer (bounds_asked t.offer ds) line t.bounds sound.image sound.bounds (asked_all t.offer (KeepsLine field t.bounds) ds obey)
+    line_holds field t.offer (bounds_asked t.offer ds) line t.bounds sound.fit.holds.image sound.fit.holds.bounds (asked_all t.offer (KeepsLine field t.bounds) ds obey)
 
 offer_says : (field : Field) (platform : PlatformFacts) (heap : HeapFacts) (t : Settings) (ds : List OfferDemand) → IsOfferLine field t.offer ds → IsSound platform heap t → ¬ (All (ObeysLine field t) ds)
 offer_says PixelFormat platform heap t ds line sound obey = Any-not_All (λ d. has_format t.offer d ≡ false) (ObeysLine PixelFormat t) ds (λ d no' o. cc (no', o)) line obey

@@ -3,7 +3,7 @@ use Rattle.sysmem_memory.specs.Heap.{HeapFacts}
 use Rattle.sysmem_memory.specs.Place.{IsFirstPlace, HasNoPlace}
 use Rattle.sysmem_merge.specs.Sum.{SumFacts, SumsUp}
 use Rattle.sysmem_merge.specs.Demands.{counts_asked, place_demands, offer_demands}
-use Rattle.sysmem_merge.specs.Fit.{IsFirstFit}
+use Rattle.sysmem_merge.specs.FirstFit.{IsFirstFit}
 use Rattle.sysmem_merge.specs.Reasons.{AreOffersRefused}
 use Rattle.sysmem_sanitise.specs.Platform.{PlatformFacts, offers_of}
 use Rattle.sysmem_merge.proofs.Adding.{heaps_read, places_kept}
