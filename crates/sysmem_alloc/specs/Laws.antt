@@ -2,7 +2,7 @@
 use Rattle.std.specs.Prelude.{◌≡◌, ◌≤◌, ℕ, List, length, Some, map}
 use Rattle.sysmem_proof.specs.declared.verdict.Verdict.{Verdict}
 use Rattle.sysmem_proof.specs.Base.{IsGivenBase}
-use Rattle.sysmem_proof.specs.Verdict.{IsSameAnswer}
+use Rattle.sysmem_proof.specs.Verdict.{IsOptimalIn, IsSameAnswer}
 use Rattle.sysmem_sanitise.specs.Platform.{PlatformFacts}
 use Rattle.sysmem_tree.specs.ActionKind.{Deed}
 use Rattle.sysmem_tree.specs.Laws.{SameInitial, SameReady, IsSameDomain}
@@ -50,13 +50,14 @@ abbrev pub Confluence : Type 0
 Confluence = (platform : PlatformFacts) (es fs : List BookEntry) → IsLegal platform es → IsLegal platform fs → SameCalls es fs → NoEarlyClose es → NoEarlyClose fs
     → AreConfluent es fs
 
--- the domain that is to be decided next stays so, with its forest and what it is decided on
+-- the domain that is to be decided next stays so, with its forest and what it is decided on, and each verdict that is optimal for it stays so
 pub record StaysNext (old new : State) (r : ℕ) : Type 0 where
   pub next : next_ready new ≡ Some r
   pub domain : IsSameDomain old.tree.nodes new.tree.nodes r
   pub base : base_of new r ≡ base_of old r
+  pub optimal : (platform : PlatformFacts) (v : Verdict) → IsOptimalIn platform old.tree.nodes r (base_of old r) v → IsOptimalIn platform new.tree.nodes r (base_of new r) v
 
--- no action changes the domain that is to be decided next, its forest, or what it is decided on
+-- no action changes the domain that is to be decided next, its forest, what it is decided on, or which verdicts are optimal for it
 abbrev pub NextStays : Type 0
 NextStays = (platform : PlatformFacts) (es : List BookEntry) (i : ℕ) (deed : Deed) (r : ℕ) → IsLegal platform es → Allows platform (replay es) (Acted i deed)
     → next_ready (replay es) ≡ Some r → StaysNext (replay es) (after_entry (replay es) (Acted i deed)) r

@@ -5,7 +5,8 @@ ghost use Rattle.sysmem_alloc.specs.Laws.{LegalIsSound, LegalAgrees, BaseIsGiven
 use sysmem_proof::laws::one_answer;
 use sysmem_tree::laws;
 use sysmem_tree::laws::{
-    forest_stays, maps_of_logs, members_stand_once, one_forest, ready_stays, sound_stays,
+    forest_stays, maps_of_logs, members_stand_once, members_stay, one_forest, ready_stays,
+    sound_stays,
 };
 
 /// The state of each legal history: its tree is sound, each domain that waits is ready, undecided and there once, and what was decided is
@@ -72,10 +73,12 @@ pub fn confluence()
 }
 
 /// The domain that is to be decided next stays so until it is: no action changes its forest, or the settings and the accepted nodes that
-/// it is decided on.
+/// it is decided on; so a verdict that is optimal for it stays so.
 pub fn next_stays()
     ensures { NextStays }
 {
     legal_is_sound();
+    legal_agrees();
     forest_stays();
+    members_stay();
 }
