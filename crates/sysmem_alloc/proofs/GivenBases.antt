@@ -34,7 +34,7 @@ use Rattle.sysmem_alloc.proofs.Agreeing.{none_entered, none_for, settings_fit}
 use Rattle.sysmem_alloc.proofs.Entering.{state_sound}
 use Rattle.sysmem_alloc.proofs.Hosts.{parent_within}
 use Rattle.sysmem_alloc.proofs.Lists.{all_weaken}
-use Rattle.sysmem_alloc.proofs.Next.{first_waits, within}
+use Rattle.sysmem_alloc.proofs.Next.{all_sub, first_waits, within}
 
 -- the first of those who wait may
 pub next_waits : LegalIsSound → (b : BookFacts) → IsBook b → IfSome (next_ready b.state) (MayWait b.state.tree)
@@ -147,12 +147,6 @@ module _ (law : MembersStandOnce) (nodes : List NodeFacts) (tree : IsTree nodes)
         others : (es : List Decision) → AllOf (λ y. d.domain ≢ y) (map (λ (e : Decision). e.domain) es) → AllOf (λ (e : Decision). e.domain ≢ d.domain) es
         others [] a = tt
         others (e ∷ es) a = ((λ same. a.0 (sym same)), others es a.1)
-
--- what all have, some of them have
-all_sub : (P : ℕ → Type 0) (xs ys : List ℕ) → IsSublist xs ys → All P ys → All P xs
-all_sub P _ _ ended all = all
-all_sub P _ _ (taken x xs ys p) all = All-cons P x xs (All-head P x ys all) (all_sub P xs ys p (All-tail P x ys all))
-all_sub P _ _ (left_out x xs ys p) all = all_sub P xs ys p (All-tail P x ys all)
 
 pairs_rest : (x : ℕ) (xs : List ℕ) → AllPairs (λ i j. i ≢ j) (x ∷ xs) → All (λ j. x ≢ j) xs × AllPairs (λ i j. i ≢ j) xs
 pairs_rest x xs all = ((λ k d small. all 0 (suc k) d (omega arith) (omega (arith, small))), (λ i j d less small. all (suc i) (suc j) d (omega (arith, less)) (omega (arith, small))))

@@ -138,10 +138,10 @@ home_root nodes tree (suc bound) k n below here = by (λ j m less at. home_root 
       ]
 
 -- hosts by their numbers
-host_none : (nodes : List NodeFacts) (r : ℕ) (z : NodeFacts) → slice_get nodes r ≡ Some z → z.birth ≡ None → host_node nodes r ≡ None
+pub host_none : (nodes : List NodeFacts) (r : ℕ) (z : NodeFacts) → slice_get nodes r ≡ Some z → z.birth ≡ None → host_node nodes r ≡ None
 host_none nodes r z here e = ap (λ o. option_and_then (λ (x : NodeFacts). option_and_then (λ (b : Birth). slice_get nodes b.parent) x.birth) o) here ∙ ap (λ o. option_and_then (λ (b : Birth). slice_get nodes b.parent) o) e
 
-host_some : (nodes : List NodeFacts) (r : ℕ) (z h : NodeFacts) (b : Birth) → slice_get nodes r ≡ Some z → z.birth ≡ Some b → slice_get nodes b.parent ≡ Some h → host_node nodes r ≡ Some h
+pub host_some : (nodes : List NodeFacts) (r : ℕ) (z h : NodeFacts) (b : Birth) → slice_get nodes r ≡ Some z → z.birth ≡ Some b → slice_get nodes b.parent ≡ Some h → host_node nodes r ≡ Some h
 host_some nodes r z h b here e up =
     ap (λ o. option_and_then (λ (x : NodeFacts). option_and_then (λ (b : Birth). slice_get nodes b.parent) x.birth) o) here ∙ (ap (λ o. option_and_then (λ (b : Birth). slice_get nodes b.parent) o) e ∙ up)
 

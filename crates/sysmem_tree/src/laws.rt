@@ -1,6 +1,6 @@
 //! What is true of trees, whoever makes them.
 
-ghost use Rattle.sysmem_tree.specs.Laws.{OnePath, ActionIsStep, SameMapSameShape, OneForest, SoundStays, ReadyStays, ForestStays, PathsInShapesDiffer, FewGroupsNest, SettledGrows, Counts, FirstGroup, SelectionsAreListed, OneIsEarlier, EarlierIsAnOrder, PrefixOfPrefix, Relabels, MapsOfLogs, InitialShape, Confluence};
+ghost use Rattle.sysmem_tree.specs.Laws.{OnePath, ActionIsStep, SameMapSameShape, OneForest, SoundStays, ReadyStays, FailedStays, ForestStays, PathsInShapesDiffer, FewGroupsNest, SettledGrows, Counts, FirstGroup, SelectionsAreListed, OneIsEarlier, EarlierIsAnOrder, PrefixOfPrefix, Relabels, MapsOfLogs, InitialShape, Confluence};
 ghost use Rattle.sysmem_tree.specs.Members.{MembersStandOnce, MembersStay};
 
 /// Each node has one path.
@@ -32,6 +32,11 @@ pub fn sound_stays()
 /// Once ready a domain stays so, by actions and by decisions.
 pub fn ready_stays()
     ensures { ReadyStays }
+{}
+
+/// Once failed a domain stays so, by actions and by decisions.
+pub fn failed_stays()
+    ensures { FailedStays }
 {}
 
 /// From ready on neither an action nor a decision changes a domain's forest, and so its shape and
