@@ -29,11 +29,21 @@ impl Model for CountBounds {
 
     ghost Value = { Tally };
 
-    ghost view = { λ b. record { own = b.own; shared = b.shared; minimum = b.minimum; maximum = b.maximum } };
+    ghost view = { λ b. record {
+      own = b.own;
+      shared = b.shared;
+      minimum = b.minimum;
+      maximum = b.maximum;
+    } };
 
     ghost invariant = { λ b. b.own < 2 ^ 63 };
 
-    ghost inverse = { λ t. record { own = t.own; shared = t.shared; minimum = t.minimum; maximum = t.maximum } };
+    ghost inverse = { λ t. record {
+      own = t.own;
+      shared = t.shared;
+      minimum = t.minimum;
+      maximum = t.maximum;
+    } };
 }
 
 impl CountBounds {

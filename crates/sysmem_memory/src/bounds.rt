@@ -54,7 +54,8 @@ impl MemoryBounds {
     pub fn add(&mut self, heaps: &[HeapInfo], memory: &MemoryConstraints, usage: Usage)
         requires { length heaps.now ≤ 64 }
         ensures { (ps : List PlaceDemand) → AreDomainsLeft self.old heaps.now ps
-            → AreDomainsLeft self.new heaps.now (ps ++ record { memory = memory.now; usage = usage } ∷ []) }
+            → AreDomainsLeft self.new heaps.now
+            (ps ++ record { memory = memory.now; usage = usage } ∷ []) }
     {
         for (index, heap) in heaps.iter().enumerate() {
             self.left[index] = still_left(self.left[index], heap, memory, usage);

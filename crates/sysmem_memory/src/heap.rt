@@ -47,5 +47,10 @@ impl Model for HeapInfo {
 
     ghost Value = { HeapFacts };
 
-    ghost view = { λ h. record { heap = h.heap; contiguous = h.contiguous; secure = h.secure; domains = h.domains } };
+    ghost view = { λ h. record {
+      heap = h.heap;
+      contiguous = h.contiguous;
+      secure = h.secure;
+      domains = h.domains;
+    } };
 }

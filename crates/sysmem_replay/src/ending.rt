@@ -65,6 +65,3 @@ pub fn refusal_ending(kind: ErrorKind) -> Ending
         },
     }
 }
-
-#[cfg(test)]
-mod tests;

@@ -73,6 +73,3 @@ fn run_command<'a>(alloc: Global) -> Result<Command<'a>, AllocError>
     );
     command.arg(file)
 }
-
-#[cfg(test)]
-mod tests;
