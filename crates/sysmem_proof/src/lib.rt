@@ -5,11 +5,13 @@
 //! ```
 #![tactic(auto)]
 
+mod asked;
 mod base;
 mod certificate;
 mod conflict;
 pub mod laws;
 mod line;
+mod line_tests;
 mod names;
 mod no;
 mod refutation;
