@@ -7,8 +7,8 @@ use Rattle.std.proofs.lemmas.List.Sums.{sum_by-cons}
 use Rattle.list_lemmas.proofs.CallerLemmas.{Any-here, Any-later}
 use Rattle.sysmem_counts.specs.Counts.{greatest, own_buffers, needed}
 use Rattle.sysmem_counts.specs.declared.constraints.CountConstraints.{CountConstraints}
-use Rattle.sysmem_counts.specs.declared.field.Field.TheVariants.{MaxBufferCount, BufferCountLimit}
-use Rattle.sysmem_proof.specs.Finder.{has_count, CountsAreOfSome}
+use Rattle.sysmem_counts.specs.declared.field.Field.TheVariants.{MinBufferCount, MaxBufferCount, BufferCountLimit}
+use Rattle.sysmem_proof.specs.Finder.{has_count, CountsAreOfSome, FixedCountsAreOfSome}
 
 is_zero : (n m : ℕ) → not (n == m) ≡ false → n ≡ m
 is_zero n m e = grind (arith, e)
@@ -102,3 +102,13 @@ counts_are_of_some MaxBufferCount ps small line = subst (λ n. Any (λ p. p.max_
       ]
 counts_are_of_some BufferCountLimit ps small line = omega (arith, line, same_needed ps)
 counts_are_of_some _ ps small line = absurd line
+
+pub fixed_counts_are_of_some : FixedCountsAreOfSome
+fixed_counts_are_of_some count MinBufferCount ps small line = omega (arith, line, same_needed ps)
+fixed_counts_are_of_some count MaxBufferCount ps small line =
+    elim (any_kept (λ p. p.max_buffer_count < count) line.0 ps line.1 (slice_get_read ps (length ps) line.0 line.1 refl line.2 (sym line.3)) line.4)
+    as (λ _. Any (λ p. p.max_buffer_count < count) (filter has_count ps)) [
+      | inl any ↦ any
+      | inr none ↦ absurd (omega (arith, line.4, (absent line.1 none).maximum, small))
+    ]
+fixed_counts_are_of_some count _ ps small line = absurd line

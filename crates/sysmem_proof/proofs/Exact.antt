@@ -1,5 +1,6 @@
 -- A certificate proves that a verdict is optimal.
 use Rattle.std.proofs.Common.{◌≡◌, arith, ℕ, zero, suc, ◌<◌, ◌≤◌, true, List, [], ◌∷◌, ◌++◌, length, Option, Some, None, Contains, slice_get, refl, sym, ◌∙◌, ap, subst}
+use Rattle.std.specs.Prelude.{◌↔◌}
 use Rattle.std.proofs.lemmas.Option.{same_Some, slice_get_within, get_or_from_slice_get}
 use Rattle.sysmem_formats.specs.declared.offer.Offer.{Offer}
 use Rattle.sysmem_memory.proofs.CallerLemmas.{stands_before}
@@ -13,15 +14,21 @@ use Rattle.sysmem_sanitise.specs.Platform.{PlatformFacts, offers_of}
 use Rattle.sysmem_tree.specs.Forest.{Forest, settled}
 use Rattle.sysmem_tree.specs.Selection.{IsSelection}
 use Rattle.sysmem_tree.specs.Shape.{Member}
+use Rattle.sysmem_proof.specs.declared.certificate.Proof.{Proof}
+use Rattle.sysmem_proof.specs.declared.certificate.Proof.TheVariants as proves
+use Rattle.sysmem_proof.specs.declared.refutation.Item.{Item}
+use Rattle.sysmem_proof.specs.declared.verdict.Verdict.{Verdict}
+use Rattle.sysmem_proof.specs.declared.verdict.Verdict.TheVariants as verdicts
 use Rattle.sysmem_proof.specs.Base.{Terms}
+use Rattle.sysmem_proof.specs.Chosen.{ChosenFacts}
 use Rattle.sysmem_proof.specs.CertificateFacts.{CertificateFacts}
-use Rattle.sysmem_proof.specs.Certificate.{RefuseBefore, RefuseBeforeFor}
-use Rattle.sysmem_proof.specs.Check.{IsLeastAt, IsLeastFor}
+use Rattle.sysmem_proof.specs.Certificate.{IsCertificate, IsRefutation, RefuseBefore, RefuseBeforeFor}
+use Rattle.sysmem_proof.specs.Check.{IsLeastAt, IsLeastFor, ChoicePasses, RefutationPasses, VerdictPasses, IsProof}
 use Rattle.sysmem_proof.specs.declared.conflict.Conflict.{Conflict}
 use Rattle.sysmem_proof.specs.Conflict.{RefusesPlace, RefusesOffer, IsConflictFor}
 use Rattle.sysmem_proof.specs.Laws.{ConflictsAreTrue, TestsAreExact}
 use Rattle.sysmem_proof.specs.Members.{participants}
-use Rattle.sysmem_proof.specs.Verdict.{IsUnmet, MeetsFor, IsBestFor}
+use Rattle.sysmem_proof.specs.Verdict.{IsUnmet, IsOptimalFor, MeetsFor, IsBestFor}
 use Rattle.sysmem_proof.proofs.Conflicts.{LineLaws, offer_refused, place_refused, conflict_unmet, conflict_leaves_none, zip_has}
 use Rattle.sysmem_proof.proofs.Fixing.{fixed_conflict_unmet, fixed_conflict_leaves_none}
 use Rattle.sysmem_proof.proofs.Growing.{sub_itself}
@@ -106,8 +113,15 @@ module _ (laws : LineLaws) (platform : PlatformFacts) where
   unmet_for None d c conflict = conflict_unmet laws platform d c conflict
   unmet_for (Some terms) d c conflict = fixed_conflict_unmet platform terms d c conflict
 
-pub tests_are_exact : LineLaws → TestsAreExact
-tests_are_exact laws platform terms d = record {
+-- what is tested of a choice, and of a refutation
+record AreExact (platform : PlatformFacts) (terms : Option Terms) (d : Forest Member) : Type 0 where
+  chosen : (chosen : ChosenFacts) (certificate : CertificateFacts) → ChoicePasses platform terms d chosen.selection chosen.settings certificate
+      ↔ (IsOptimalFor platform terms d (verdicts.Chosen chosen) × IsCertificate platform terms d chosen.selection chosen.settings certificate)
+  empty : (items : List Item) → RefutationPasses platform terms d items
+      ↔ (IsOptimalFor platform terms d verdicts.IntersectionEmpty × IsRefutation platform terms d items)
+
+parts_are_exact : LineLaws → (platform : PlatformFacts) (terms : Option Terms) (d : Forest Member) → AreExact platform terms d
+parts_are_exact laws platform terms d = record {
   chosen = λ chosen c. (
     λ p. (
       (
@@ -131,6 +145,19 @@ tests_are_exact laws platform terms d = record {
 } where
   one_end : (d : Forest Member) (cs : List ℕ) (e f : Forest Member) → IsSelection d cs e → IsSelection d cs f → e ≡ f
   one_end d cs e f a b = same_Some e f (sym a.leads ∙ b.leads)
+
+-- each kind of verdict passes by its own kind of proof
+verdict_exact : (platform : PlatformFacts) (terms : Option Terms) (d : Forest Member) → AreExact platform terms d → (v : Verdict) (proof : Proof)
+    → VerdictPasses platform terms d v proof ↔ (IsOptimalFor platform terms d v × IsProof platform terms d v proof)
+verdict_exact platform terms d parts (verdicts.Chosen chosen) (proves.Choice certificate) = parts.chosen chosen certificate
+verdict_exact platform terms d parts verdicts.IntersectionEmpty (proves.Empty items) = parts.empty items
+verdict_exact platform terms d parts verdicts.TooMany proves.Nothing = (λ many. (many, tt), λ p. p.0)
+verdict_exact platform terms d parts v proof = (λ p. absurd p, λ p. absurd p.1)
+
+pub tests_are_exact : LineLaws → TestsAreExact
+tests_are_exact laws platform terms d =
+    let parts = parts_are_exact laws platform terms d in
+    record { chosen = parts.chosen; empty = parts.empty; verdict = verdict_exact platform terms d parts }
 
 pub conflicts_are_true : LineLaws → ConflictsAreTrue
 conflicts_are_true laws platform None d c conflict = record { unmet = conflict_unmet laws platform d c conflict; none = conflict_leaves_none laws platform d c conflict }

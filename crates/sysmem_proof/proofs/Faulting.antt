@@ -18,14 +18,18 @@ use Rattle.sysmem_proof.specs.Base.{Terms}
 use Rattle.sysmem_proof.specs.declared.refutation.Item.{Item}
 use Rattle.sysmem_proof.specs.declared.refutation.Item.TheVariants.{Split, Leaf}
 use Rattle.sysmem_proof.specs.CertificateFacts.{CertificateFacts}
+use Rattle.sysmem_proof.specs.declared.certificate.Proof.{Proof}
+use Rattle.sysmem_proof.specs.declared.certificate.Proof.TheVariants as proves
+use Rattle.sysmem_proof.specs.declared.verdict.Verdict.{Verdict}
+use Rattle.sysmem_proof.specs.declared.verdict.Verdict.TheVariants as verdicts
 use Rattle.sysmem_proof.specs.Certificate.{Refutes, RefutesEarlier, HoldBefore, RefusePlacesBefore, RefuseBeforeFor}
-use Rattle.sysmem_proof.specs.Check.{IsLeastAt, IsLeastFor, ChoicePasses, RefutationPasses}
+use Rattle.sysmem_proof.specs.Check.{IsLeastAt, IsLeastFor, ChoicePasses, RefutationPasses, VerdictPasses}
 use Rattle.sysmem_proof.specs.Members.{participants}
 use Rattle.sysmem_proof.specs.Line.{LineFacts}
 use Rattle.sysmem_proof.specs.declared.conflict.Conflict.{Conflict}
 use Rattle.sysmem_proof.specs.declared.conflict.Conflict.TheVariants.{Count, Places, Offers, Fixed}
 use Rattle.sysmem_proof.specs.Conflict.{RefusesPlace, RefusesOffer, IsConflictFor}
-use Rattle.sysmem_proof.specs.Fault.{Faults, First, Fails, AreNamed, LineFaults, lines_of, HasEachLine, namable, ConflictFaults, RefutationFaults, EachFaults, EarlierFaults, LinesFault, PlacesFault, LinesFaults, HasFittingLines, SettingsFaults, MembersFault, IsSelected, AreFew, ChoiceFaults, EmptyFaults}
+use Rattle.sysmem_proof.specs.Fault.{Faults, First, Fails, AreNamed, LineFaults, lines_of, HasEachLine, namable, ConflictFaults, RefutationFaults, EachFaults, EarlierFaults, LinesFault, PlacesFault, LinesFaults, HasFittingLines, SettingsFaults, MembersFault, IsSelected, AreFew, ChoiceFaults, EmptyFaults, VerdictFaults}
 use Rattle.sysmem_proof.specs.Laws.{FaultsAreFirst}
 use Rattle.sysmem_proof.specs.Verdict.{MeetsFor}
 
@@ -314,10 +318,25 @@ module _ (platform : PlatformFacts) where
   empty_first terms d items = in_turn (AreFew d) (Refutes (IsConflictFor platform terms) items (d ∷ [])) (Fails (AreFew d) WrongShape) (RefutationFaults platform terms items (d ∷ []))
       (fails_first (AreFew d) WrongShape) (refutation_first platform terms items (d ∷ []))
 
+  -- each kind of verdict fails by its own kind of proof
+  verdict_sound : (terms : Option Terms) (d : Forest Member) (v : Verdict) (proof : Proof) (why : No) → VerdictFaults platform terms d v proof why → ¬ (VerdictPasses platform terms d v proof)
+  verdict_sound terms d (verdicts.Chosen v) (proves.Choice c) why f p = (choice_first terms d v.selection v.settings c).sound why f (chosen terms d v.selection v.settings c p)
+  verdict_sound terms d verdicts.IntersectionEmpty (proves.Empty items) why f p = (empty_first terms d items).sound why f p
+  verdict_sound terms d verdicts.TooMany proves.Nothing why f p = f.0 p
+  verdict_sound terms d v proof why f p = absurd p
+
+  verdict_one : (terms : Option Terms) (d : Forest Member) (v : Verdict) (proof : Proof) (a b : No) → VerdictFaults platform terms d v proof a → VerdictFaults platform terms d v proof b → a ≡ b
+  verdict_one terms d (verdicts.Chosen v) (proves.Choice c) a b f g = (choice_first terms d v.selection v.settings c).one a b f g
+  verdict_one terms d verdicts.IntersectionEmpty (proves.Empty items) a b f g = (empty_first terms d items).one a b f g
+  verdict_one terms d verdicts.TooMany proves.Nothing a b f g = f.1 ∙ sym g.1
+  verdict_one terms d v proof a b f g = f ∙ sym g
+
 pub faults_are_first : FaultsAreFirst
 faults_are_first platform terms d = record {
   choice = λ selection s c why f p. (choice_first platform terms d selection s c).sound why f (chosen platform terms d selection s c p);
   one_of_choice = λ selection s c a b f g. (choice_first platform terms d selection s c).one a b f g;
   empty = λ items why f p. (empty_first platform terms d items).sound why f p;
   one_of_empty = λ items a b f g. (empty_first platform terms d items).one a b f g;
+  verdict = λ v proof why f p. verdict_sound platform terms d v proof why f p;
+  one_of_verdict = λ v proof a b f g. verdict_one platform terms d v proof a b f g;
 }

@@ -1,14 +1,21 @@
 -- Paths that name participants, each once.
-use Rattle.std.proofs.Common.{◌≡◌, ◌≢◌, ◌<◌, ◌≤◌, ℕ, zero, suc, ◌+◌, Bool, true, false, List, [], ◌∷◌, ◌++◌, Option, Some, None, length, map, take, get_or, refl, sym, ◌∙◌, ap, subst, arith}
-use Rattle.std.specs.Prelude.{◌↔◌, All, AllPairs, Contains, IsTrue, is_some, slice_index_or}
+use Rattle.std.proofs.Common.{◌≡◌, ◌≢◌, ◌<◌, ◌≤◌, ℕ, zero, suc, ◌+◌, Bool, true, false, List, [], ◌∷◌, ◌++◌, Option, Some, None, length, map, take, drop, get_or, inl, inr, refl, sym, ◌∙◌, ap, subst, arith}
+use Rattle.std.specs.Prelude.{◌↔◌, ◌⊎◌, All, AllPairs, Any, Contains, IsTrue, is_some, slice_index_or}
 use Rattle.std.specs.List.{filter_map, cons_option}
-use Rattle.std.proofs.lemmas.List.{map-append, take_more, take_all}
+use Rattle.std.proofs.lemmas.List.{map-append, take_more, take_all, take-append-drop}
+use Rattle.std.proofs.lemmas.List.Elements.{filter_map-append}
 use Rattle.std.proofs.lemmas.List.Kept.{AllPairs-cons}
 use Rattle.std.proofs.lemmas.Option.{none-some}
+use Rattle.list_lemmas.proofs.CallerLemmas.{Any-here, Any-later}
+use Rattle.sysmem_counts.specs.declared.field.Field.{Field}
+use Rattle.sysmem_memory.specs.declared.domain.CoherencyDomain.{CoherencyDomain}
+use Rattle.sysmem_memory.specs.Heap.{HeapFacts}
+use Rattle.sysmem_memory.specs.PlaceTable.{refuses_by, IsPlaceLine}
+use Rattle.sysmem_merge.specs.Demands.{counts_asked, offer_demand, offer_demands, place_demand, place_demands}
 use Rattle.sysmem_sanitise.specs.Participant.{Participant}
 use Rattle.sysmem_tree.specs.Shape.{Member}
 use Rattle.sysmem_proof.specs.Fault.{AreNamed}
-use Rattle.sysmem_proof.specs.Naming.{asked_at, Names}
+use Rattle.sysmem_proof.specs.Naming.{asked_at, Names, IsTrueOf}
 use Rattle.sysmem_proof.specs.Roll.{asked_by}
 
 -- an element within a list, whatever stands for those past its end
@@ -40,6 +47,24 @@ named_push ms xs p q named asks new' = (named.0 ++ q ∷ [], record {
       ∙ (ap (λ o. map (λ x. Some x) named.0 ++ o ∷ []) asks ∙ sym (map-append (λ x. Some x) named.0 (q ∷ []))));
   once = pairs_push (λ a b. a ≢ b) xs p named.1.once (λ k d less same. new' (k, less, same_get xs k p d less ∙ same));
 })
+
+-- some of both are some of one or the other
+any_parts : {X : Type 0} (P : X → Type 0) (xs ys : List X) → Any P (xs ++ ys) → Any P xs ⊎ Any P ys
+any_parts P [] ys any = inr any
+any_parts P (x ∷ xs) ys (zero, y, less, same, p) = inl (Any-here P x xs (subst P (sym same) p))
+any_parts P (x ∷ xs) ys (suc k, y, less, same, p) = elim (any_parts P xs ys (k, y, omega (arith, less), same, p)) as (λ _. Any P (x ∷ xs) ⊎ Any P ys) [
+  | inl a ↦ inl (Any-later P x xs a)
+  | inr b ↦ inr b
+]
+
+any_front : {X : Type 0} (P : X → Type 0) (xs ys : List X) → Any P xs → Any P (xs ++ ys)
+any_front P [] ys (k, y, less, same, p) = absurd (omega (arith, less))
+any_front P (x ∷ xs) ys (zero, y, less, same, p) = Any-here P x (xs ++ ys) (subst P (sym same) p)
+any_front P (x ∷ xs) ys (suc k, y, less, same, p) = Any-later P x (xs ++ ys) (any_front P xs ys (k, y, omega (arith, less), same, p))
+
+any_back : {X : Type 0} (P : X → Type 0) (xs ys : List X) → Any P ys → Any P (xs ++ ys)
+any_back P [] ys any = any
+any_back P (x ∷ xs) ys any = Any-later P x (xs ++ ys) (any_back P xs ys any)
 
 module _ (ms : List Member) where
   -- the first k paths, and the one behind them
@@ -95,3 +120,69 @@ module _ (ms : List Member) where
 
         tail : {X : Type 0} {a b : X} {as' bs : List X} → (a ∷ as') ≡ (b ∷ bs) → as' ≡ bs
         tail e = cc (e)
+
+  -- what one more asks
+  pub asked_more : (xs : List (List ℕ)) (k : ℕ) (x : List ℕ) (o : Option Participant) → k < length xs → x ≡ get_or xs k x → o ≡ asked_at ms x
+      → asked_by ms (take (k + 1) xs) ≡ asked_by ms (take k xs) ++ cons_option o []
+  asked_more xs k x o less is asks =
+      ap (asked_by ms) (take_more xs k x less ∙ ap (λ y. take k xs ++ y ∷ []) (sym is))
+      ∙ (filter_map-append (asked_at ms) (take k xs) (x ∷ []) ∙ ap (λ u. asked_by ms (take k xs) ++ cons_option u []) (sym asks))
+
+  -- what they ask of counts, and of an offer
+  pub counts_more : (xs : List (List ℕ)) (k : ℕ) (x : List ℕ) (o : Option Participant) → k < length xs → x ≡ get_or xs k x → o ≡ asked_at ms x
+      → counts_asked (asked_by ms (take k xs)) ++ counts_asked (cons_option o []) ≡ counts_asked (asked_by ms (take (k + 1) xs))
+  counts_more xs k x o less is asks = sym (ap counts_asked (asked_more xs k x o less is asks) ∙ map-append (λ p. p.counts) (asked_by ms (take k xs)) (cons_option o []))
+
+  pub offers_more : (xs : List (List ℕ)) (k : ℕ) (x : List ℕ) (o : Option Participant) → k < length xs → x ≡ get_or xs k x → o ≡ asked_at ms x
+      → offer_demands (asked_by ms (take k xs)) ++ offer_demands (cons_option o []) ≡ offer_demands (asked_by ms (take (k + 1) xs))
+  offers_more xs k x o less is asks = sym (ap offer_demands (asked_more xs k x o less is asks) ∙ map-append offer_demand (asked_by ms (take k xs)) (cons_option o []))
+
+  pub asked_whole : (xs : List (List ℕ)) (k : ℕ) → length xs ≤ k → asked_by ms (take k xs) ≡ asked_by ms xs
+  asked_whole xs k over = ap (asked_by ms) (take_all k xs over)
+
+  module _ (P : Participant → Type 0) where
+    -- none so far and not the one behind them
+    pub none_more : (xs : List (List ℕ)) (k : ℕ) (x : List ℕ) (o : Option Participant) (t : Bool) → k < length xs → x ≡ get_or xs k x → o ≡ asked_at ms x
+        → t ≡ false → IsTrue t ↔ Any P (cons_option o []) → ¬ (Any P (asked_by ms (take k xs))) → ¬ (Any P (asked_by ms (take (k + 1) xs)))
+    none_more xs k x o t less is asks no' test none any =
+        elim (any_parts P (asked_by ms (take k xs)) (cons_option o []) (subst (Any P) (asked_more xs k x o less is asks) any)) as (λ _. ⊥) [
+          | inl front ↦ none front
+          | inr one ↦ (let yes' : t ≡ true = test.1 one in absurd (cc))
+        ]
+
+    -- the one behind them is some of all
+    pub some_more : (xs : List (List ℕ)) (k : ℕ) (x : List ℕ) (o : Option Participant) (t : Bool) → k < length xs → x ≡ get_or xs k x → o ≡ asked_at ms x
+        → t ≡ true → IsTrue t ↔ Any P (cons_option o []) → Any P (asked_by ms xs)
+    some_more xs k x o t less is asks yes' test =
+        subst (Any P) (sym (ap (asked_by ms) (sym (take-append-drop (k + 1) xs)) ∙ filter_map-append (asked_at ms) (take (k + 1) xs) (drop (k + 1) xs)))
+        (any_front P (asked_by ms (take (k + 1) xs)) (asked_by ms (drop (k + 1) xs))
+        (subst (Any P) (sym (asked_more xs k x o less is asks)) (any_back P (asked_by ms (take k xs)) (cons_option o []) (test.0 yes'))))
+
+-- what is tested of those who are named is true of them
+pub true_of : (ms : List Member) (given xs : List (List ℕ)) (field head : Field) (P : Field → List Participant → Type 0) (t : Bool) → given ≡ xs → field ≡ head → AreNamed ms xs
+    → IsTrue t ↔ P field (asked_by ms given) → IsTrue t ↔ IsTrueOf ms xs (P head)
+true_of ms given xs field head P t same one named test = (
+  λ is. (named.0, named.1, subst (P head) (asked_named ms xs named.0 named.1) (here.0 is)),
+  λ w. here.1 (subst (P head) (sym (asked_named ms xs w.0 w.1)) w.2),
+) where
+  here : IsTrue t ↔ P head (asked_by ms xs)
+  here = subst (λ ys. IsTrue t ↔ P head (asked_by ms ys)) same (subst (λ f. IsTrue t ↔ P f (asked_by ms given)) one test)
+
+-- some of what is made of a list
+mapped_any : {X Y : Type 0} (P : Y → Type 0) (f : X → Y) (xs : List X) → Any (λ x. P (f x)) xs → Any P (map f xs)
+mapped_any P f [] (k, x, less, same, p) = absurd (omega (arith, less))
+mapped_any P f (x ∷ xs) (zero, y, less, same, p) = Any-here P (f x) (map f xs) (subst (λ z. P (f z)) (sym same) p)
+mapped_any P f (x ∷ xs) (suc k, y, less, same, p) = Any-later P (f x) (map f xs) (mapped_any P f xs (k, y, omega (arith, less), same, p))
+
+any_mapped : {X Y : Type 0} (P : Y → Type 0) (f : X → Y) (xs : List X) → Any P (map f xs) → Any (λ x. P (f x)) xs
+any_mapped P f [] (k, x, less, same, p) = absurd (omega (arith, less))
+any_mapped P f (x ∷ xs) (zero, y, less, same, p) = Any-here (λ z. P (f z)) x xs (subst P (sym same) p)
+any_mapped P f (x ∷ xs) (suc k, y, less, same, p) = Any-later (λ z. P (f z)) x xs (any_mapped P f xs (k, y, omega (arith, less), same, p))
+
+-- some of them are refused a place
+pub place_told : (heap : HeapFacts) (domain : CoherencyDomain) (field : Field) (ps : List Participant) (t : Bool)
+    → IsTrue t ↔ Any (λ p. refuses_by field p.memory p.usage heap domain ≡ true) ps → IsTrue t ↔ IsPlaceLine field heap domain (place_demands ps)
+place_told heap domain field ps t test = (
+  λ is. mapped_any (λ p. refuses_by field p.memory p.usage heap domain ≡ true) place_demand ps (test.0 is),
+  λ any. test.1 (any_mapped (λ p. refuses_by field p.memory p.usage heap domain ≡ true) place_demand ps any),
+)

@@ -1,10 +1,11 @@
 -- Whom a path names of a roll.
-use Rattle.std.proofs.Common.{rules, tests, ◌≡◌, ◌≢◌, ◌<◌, ℕ, zero, suc, Bool, true, false, List, [], ◌∷◌, ◌++◌, Option, Some, None, length, map, slice_get, refl, sym, ◌∙◌, ap, subst, arith, inl, inr}
-use Rattle.std.specs.Prelude.{◌==◌, ◌||◌, All, filter, is_some, not, option_map, option_and_then, unwrap_or, IfSome, IsSome, IsSomeAnd, if◌then◌else◌}
-use Rattle.std.specs.List.{filter_map, cons_option, list_any}
-use Rattle.std.proofs.lemmas.Bool.{cases_eq}
-use Rattle.std.proofs.lemmas.List.{map-append}
-use Rattle.std.proofs.lemmas.Option.{same_Some, slice_get_within}
+use Rattle.std.proofs.Common.{eqb, ◌≤◌, rules, tests, ◌≡◌, ◌≢◌, ◌<◌, ℕ, zero, suc, Bool, true, false, List, [], ◌∷◌, ◌++◌, Option, Some, None, length, map, slice_get, refl, sym, ◌∙◌, ap, subst, arith, inl, inr}
+use Rattle.std.specs.Prelude.{◌==◌, ◌||◌, All, AllPairs, slice_index_or, filter, is_some, not, option_map, option_and_then, unwrap_or, IfSome, IsSome, IsSomeAnd, if◌then◌else◌}
+use Rattle.std.specs.List.{AllByRecursion, IsDistinct, filter_map, cons_option, list_any}
+use Rattle.std.proofs.lemmas.Bool.{cases_eq, ne_eqb}
+use Rattle.std.proofs.lemmas.Map.Steps.{length-le_from_distinct_below}
+use Rattle.std.proofs.lemmas.List.{length-map, map-append}
+use Rattle.std.proofs.lemmas.Option.{same_Some, none-some, slice_get_within}
 use Rattle.list_lemmas.proofs.CallerLemmas.{slice_get_some}
 use Rattle.sysmem_sanitise.specs.Participant.{Participant}
 use Rattle.sysmem_tree.specs.Domain.{HasDomain}
@@ -16,7 +17,8 @@ use Rattle.sysmem_tree.specs.Nodes.{IsTree}
 use Rattle.sysmem_tree.specs.Path.{node_at, path_of}
 use Rattle.sysmem_tree.specs.Selection.{after, settled_by, IsPrefix}
 use Rattle.sysmem_tree.specs.Shape.{Member, by_number, by_path, forest_of, shape_of, members_of, participants_of}
-use Rattle.sysmem_tree.proofs.CallerLemmas.{AllOf, settled_relabel, after_relabel}
+use Rattle.sysmem_tree.proofs.CallerLemmas.{AllOf, settled_relabel, after_relabel, node_within}
+use Rattle.sysmem_proof.specs.Fault.{AreNamed}
 use Rattle.sysmem_proof.specs.Members.{member_at, members_at}
 use Rattle.sysmem_proof.specs.Naming.{same_path, asked_at}
 use Rattle.sysmem_proof.specs.Roll.{RollFacts, listed}
@@ -227,3 +229,70 @@ module _ (nodes : List NodeFacts) (tree : IsTree nodes) (law : OnePath) (r : ℕ
         clash : {n : NodeFacts} → Some n ≡ None → ⊥
         clash e = absurd (cc)
       by (Some n) at h = h ∙ sym (ap (option_and_then (λ (x : NodeFacts). x.constraints)) at)
+
+  -- a node is where a path names somebody
+  node_named : asked_at (listed these) path ≢ None → (i : ℕ) × (node_at nodes path ≡ Some i) × (i < length nodes)
+  node_named some = by (node_at nodes path) refl where
+    by : (o : Option ℕ) → node_at nodes path ≡ o → (i : ℕ) × (node_at nodes path ≡ Some i) × (i < length nodes)
+    by None at = absurd (some (sym (told_nowhere at)))
+    by (Some i) at = (i, at, node_within nodes tree path i at)
+
+-- the number of the node at a path
+abbrev number_at : List NodeFacts → List ℕ → ℕ
+number_at nodes path = unwrap_or (node_at nodes path) 0
+
+module _ (nodes : List NodeFacts) (tree : IsTree nodes) (law : OnePath) where
+  abbrev IsThere : List ℕ → Type 0
+  IsThere path = (i : ℕ) × (node_at nodes path ≡ Some i) × (i < length nodes)
+
+  below : (path : List ℕ) → IsThere path → number_at nodes path < length nodes
+  below path (i, at, less) = subst (λ o. unwrap_or o 0 < length nodes) (sym at) less
+
+  apart : (a b : List ℕ) → IsThere a → IsThere b → a ≢ b → number_at nodes a ≢ number_at nodes b
+  apart a b (i, at, less) (j, at', less') differ same =
+      let e : i ≡ j = sym (ap (λ o. unwrap_or o 0) at) ∙ (same ∙ ap (λ o. unwrap_or o 0) at') in
+      differ ((law nodes i tree less).only a at ∙ sym ((law nodes i tree less).only b (at' ∙ ap (λ k. Some k) (sym e))))
+
+  heads_apart : (x : List ℕ) (xs : List (List ℕ)) → IsThere x → AllOf IsThere xs → AllOf (λ y. x ≢ y) xs → AllByRecursion (λ n. eqb (number_at nodes x) n ≡ false) (map (number_at nodes) xs)
+  heads_apart x [] here all differ = tt
+  heads_apart x (y ∷ xs) here all differ = (ne_eqb (number_at nodes x) (number_at nodes y) (apart x y here all.0 differ.0), heads_apart x xs here all.1 differ.1)
+
+  all_differ : (x : List ℕ) (xs : List (List ℕ)) → ((k : ℕ) (d : List ℕ) → k < length xs → x ≢ slice_index_or xs k d) → AllOf (λ y. x ≢ y) xs
+  all_differ x [] h = tt
+  all_differ x (y ∷ xs) h = (h 0 y (omega arith), all_differ x xs (λ k d less. h (suc k) d (omega (arith, less))))
+
+  distinct_numbers : (xs : List (List ℕ)) → AllOf IsThere xs → AllPairs (λ a b. a ≢ b) xs → IsDistinct eqb (map (number_at nodes) xs)
+  unfolding IsDistinct
+  distinct_numbers [] all pairs = tt
+  distinct_numbers (x ∷ xs) all pairs = (
+    heads_apart x xs all.0 all.1 (all_differ x xs (λ k d less. pairs 0 (suc k) d (omega arith) (omega (arith, less)))),
+    distinct_numbers xs all.1 (λ i j d less inside. pairs (suc i) (suc j) d (omega (arith, less)) (omega (arith, inside))),
+  )
+
+  numbers_below : (xs : List (List ℕ)) → AllOf IsThere xs → (q : ℕ) → list_any (eqb q) (map (number_at nodes) xs) ≡ true → q < length nodes
+  numbers_below [] all q h = absurd (cc)
+  numbers_below (x ∷ xs) all q h = elim (cases_eq q (number_at nodes x)) [
+    | inl same ↦ subst (λ n. n < length nodes) (sym same) (below x all.0)
+    | inr other ↦ numbers_below xs all.1 q (sym (ap (λ b. b || list_any (eqb q) (map (number_at nodes) xs)) (ne_eqb q (number_at nodes x) other)) ∙ h)
+  ]
+
+  few_there : (xs : List (List ℕ)) → AllOf IsThere xs → AllPairs (λ a b. a ≢ b) xs → length xs ≤ 128
+  few_there xs all pairs =
+      let few = length-le_from_distinct_below (map (number_at nodes) xs) (length nodes) (distinct_numbers xs all pairs) (numbers_below xs all) in
+      let long = length-map xs (number_at nodes) in
+      omega (arith, few, long, tree.few)
+
+  module _ (r : ℕ) (has : HasDomain nodes r) (one : AreOneForest nodes r) (cs accepted : List ℕ) (inside : All (λ i. i < length nodes) accepted) where
+    all_there : (xs : List (List ℕ)) (ps : List Participant) → map (asked_at (listed (these nodes tree law r has one cs accepted inside []))) xs ≡ map (λ p. Some p) ps → AllOf IsThere xs
+    all_there [] ps each = tt
+    all_there (x ∷ xs) [] each = absurd (cc (each))
+    all_there (x ∷ xs) (p ∷ ps) each = (node_named nodes tree law r has one cs accepted inside x (λ e. none-some p (sym e ∙ head each)), all_there xs ps (tail each)) where
+      head : {X : Type 0} {a b : X} {as' bs : List X} → (a ∷ as') ≡ (b ∷ bs) → a ≡ b
+      head e = cc (e)
+
+      tail : {X : Type 0} {a b : X} {as' bs : List X} → (a ∷ as') ≡ (b ∷ bs) → as' ≡ bs
+      tail e = cc (e)
+
+    -- participants that are named, each once, are at most as many as the nodes
+    pub few_named : (xs : List (List ℕ)) → AreNamed (listed (record { nodes = nodes; domain = r; choices = cs; accepted = accepted })) xs → length xs ≤ 128
+    few_named xs named = few_there xs (all_there xs named.0 named.1.each) named.1.once

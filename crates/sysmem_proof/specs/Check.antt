@@ -1,5 +1,5 @@
 -- What a checker tests of a verdict and its certificate.
-use Rattle.std.specs.Prelude.{◌≡◌, ℕ, ◌≤◌, List, Option, Some, None}
+use Rattle.std.specs.Prelude.{◌≡◌, ℕ, ◌<◌, ◌≤◌, List, Option, Some, None}
 use Rattle.sysmem_merge.specs.declared.settings.Settings.{Settings}
 use Rattle.sysmem_merge.specs.Best.{IsNoBetter}
 use Rattle.sysmem_merge.specs.Settings.{Meets}
@@ -8,6 +8,10 @@ use Rattle.sysmem_sanitise.specs.Platform.{PlatformFacts}
 use Rattle.sysmem_tree.specs.Forest.{Forest, settled, count}
 use Rattle.sysmem_tree.specs.Selection.{IsSelection}
 use Rattle.sysmem_tree.specs.Shape.{Member}
+use Rattle.sysmem_proof.specs.declared.certificate.Proof.{Proof}
+use Rattle.sysmem_proof.specs.declared.certificate.Proof.TheVariants as proves
+use Rattle.sysmem_proof.specs.declared.verdict.Verdict.{Verdict}
+use Rattle.sysmem_proof.specs.declared.verdict.Verdict.TheVariants as verdicts
 use Rattle.sysmem_proof.specs.Base.{Terms}
 use Rattle.sysmem_proof.specs.declared.refutation.Item.{Item}
 use Rattle.sysmem_proof.specs.CertificateFacts.{CertificateFacts}
@@ -39,3 +43,17 @@ ChoicePasses platform terms d selection s certificate =
 -- that nothing is met passes: there are few enough selections, and the items refute the forest
 abbrev pub RefutationPasses : PlatformFacts → Option Terms → Forest Member → List Item → Type 0
 RefutationPasses platform terms d items = (count d ≤ most_selections) × IsRefutation platform terms d items
+
+-- a verdict passes with what proves it: more selections than a decision goes through need no proof, and what failed or wanted memory never does
+abbrev pub VerdictPasses : PlatformFacts → Option Terms → Forest Member → Verdict → Proof → Type 0
+VerdictPasses platform terms d (verdicts.Chosen chosen) (proves.Choice certificate) = ChoicePasses platform terms d chosen.selection chosen.settings certificate
+VerdictPasses platform terms d verdicts.IntersectionEmpty (proves.Empty items) = RefutationPasses platform terms d items
+VerdictPasses platform terms d verdicts.TooMany proves.Nothing = most_selections < count d
+VerdictPasses platform terms d v proof = ⊥
+
+-- what proves a verdict of its kind
+abbrev pub IsProof : PlatformFacts → Option Terms → Forest Member → Verdict → Proof → Type 0
+IsProof platform terms d (verdicts.Chosen chosen) (proves.Choice certificate) = IsCertificate platform terms d chosen.selection chosen.settings certificate
+IsProof platform terms d verdicts.IntersectionEmpty (proves.Empty items) = IsRefutation platform terms d items
+IsProof platform terms d verdicts.TooMany proves.Nothing = Unit {0}
+IsProof platform terms d v proof = ⊥

@@ -1,5 +1,5 @@
 -- The first test that a verdict and its certificate fail.
-use Rattle.std.specs.Prelude.{◌≡◌, ◌≢◌, ◌⊎◌, ℕ, zero, suc, ◌≤◌, true, List, [], ◌∷◌, ◌++◌, Option, Some, None, All, MatchOption, length, take, slice_get}
+use Rattle.std.specs.Prelude.{◌≡◌, ◌≢◌, ◌⊎◌, ℕ, zero, suc, ◌<◌, ◌≤◌, true, List, [], ◌∷◌, ◌++◌, Option, Some, None, All, MatchOption, length, take, slice_get}
 use Rattle.std.specs.List.{AllZip}
 use Rattle.sysmem_memory.specs.Listed.{HeapPlace, places_of}
 use Rattle.sysmem_merge.specs.declared.settings.Settings.{Settings}
@@ -10,6 +10,10 @@ use Rattle.sysmem_tree.specs.Selection.{IsSelection}
 use Rattle.sysmem_tree.specs.Shape.{Member}
 use Rattle.sysmem_proof.specs.declared.no.No.{No}
 use Rattle.sysmem_proof.specs.declared.no.No.TheVariants.{WrongShape, WrongNode, NoConflict, NotMet, Missing, NotLeast}
+use Rattle.sysmem_proof.specs.declared.certificate.Proof.{Proof}
+use Rattle.sysmem_proof.specs.declared.certificate.Proof.TheVariants as proves
+use Rattle.sysmem_proof.specs.declared.verdict.Verdict.{Verdict}
+use Rattle.sysmem_proof.specs.declared.verdict.Verdict.TheVariants as verdicts
 use Rattle.sysmem_proof.specs.Base.{Terms}
 use Rattle.sysmem_proof.specs.declared.refutation.Item.{Item}
 use Rattle.sysmem_proof.specs.declared.refutation.Item.TheVariants.{Split, Leaf}
@@ -164,3 +168,14 @@ ChoiceFaults platform terms d selection s certificate =
 -- that nothing is met, with its refutation
 abbrev pub EmptyFaults : PlatformFacts → Option Terms → Forest Member → List Item → Faults
 EmptyFaults platform terms d items = First (AreFew d) (Fails (AreFew d) WrongShape) (RefutationFaults platform terms items (d ∷ []))
+
+-- more selections than a decision goes through
+abbrev pub AreMany : Forest Member → Type 0
+AreMany d = most_selections < count d
+
+-- a verdict with what proves it. One with a proof of another kind has the wrong shape, and so has what failed or wanted memory.
+abbrev pub VerdictFaults : PlatformFacts → Option Terms → Forest Member → Verdict → Proof → Faults
+VerdictFaults platform terms d (verdicts.Chosen chosen) (proves.Choice certificate) why = ChoiceFaults platform terms d chosen.selection chosen.settings certificate why
+VerdictFaults platform terms d verdicts.IntersectionEmpty (proves.Empty items) why = EmptyFaults platform terms d items why
+VerdictFaults platform terms d verdicts.TooMany proves.Nothing why = Fails (AreMany d) WrongShape why
+VerdictFaults platform terms d v proof why = why ≡ WrongShape

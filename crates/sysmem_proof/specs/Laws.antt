@@ -1,5 +1,6 @@
 -- What is true of verdicts, whoever works them out.
-use Rattle.std.specs.Prelude.{◌≡◌, ◌↔◌, ◌<◌, ◌++◌, ℕ, List, [], ◌∷◌, Option, Some, None, slice_get}
+use Rattle.std.specs.Prelude.{◌≡◌, ◌↔◌, ◌<◌, ◌++◌, ℕ, List, [], ◌∷◌, Option, Some, None, length, take, slice_get}
+use Rattle.std.specs.List.{AllZip, flat_map}
 use Rattle.sysmem_merge.specs.declared.settings.Settings.{Settings}
 use Rattle.sysmem_sanitise.specs.Platform.{PlatformFacts}
 use Rattle.sysmem_tree.specs.Forest.{Forest, choices, settled}
@@ -10,13 +11,15 @@ use Rattle.sysmem_proof.specs.declared.verdict.Verdict.TheVariants as verdicts
 use Rattle.sysmem_proof.specs.Base.{Terms}
 use Rattle.sysmem_proof.specs.declared.refutation.Item.{Item}
 use Rattle.sysmem_proof.specs.CertificateFacts.{CertificateFacts}
-use Rattle.sysmem_proof.specs.Certificate.{IsCertificate, IsRefutation}
-use Rattle.sysmem_proof.specs.Check.{ChoicePasses, RefutationPasses}
+use Rattle.sysmem_proof.specs.Certificate.{IsCertificate, IsRefutation, RefutesEarlier}
+use Rattle.sysmem_proof.specs.declared.certificate.Proof.{Proof}
+use Rattle.sysmem_proof.specs.declared.refutation.Item.TheVariants.{Split}
+use Rattle.sysmem_proof.specs.Check.{ChoicePasses, RefutationPasses, VerdictPasses, IsProof}
 use Rattle.sysmem_proof.specs.Chosen.{ChosenFacts}
 use Rattle.sysmem_proof.specs.declared.conflict.Conflict.{Conflict}
 use Rattle.sysmem_proof.specs.Conflict.{IsConflictFor}
 use Rattle.sysmem_proof.specs.declared.no.No.{No}
-use Rattle.sysmem_proof.specs.Fault.{ChoiceFaults, EmptyFaults}
+use Rattle.sysmem_proof.specs.Fault.{ChoiceFaults, EmptyFaults, VerdictFaults}
 use Rattle.sysmem_proof.specs.Verdict.{IsUnmet, MeetsFor, MeetsLooselyFor, MeetsSettled, IsOptimalFor, IsSameAnswer}
 
 -- two optimal verdicts of one domain on the same terms are equal in kind, selection and settings
@@ -79,6 +82,7 @@ pub record AreExactTests (platform : PlatformFacts) (terms : Option Terms) (d : 
       ↔ (IsOptimalFor platform terms d (verdicts.Chosen chosen) × IsCertificate platform terms d chosen.selection chosen.settings certificate)
   pub empty : (items : List Item) → RefutationPasses platform terms d items
       ↔ (IsOptimalFor platform terms d verdicts.IntersectionEmpty × IsRefutation platform terms d items)
+  pub verdict : (v : Verdict) (proof : Proof) → VerdictPasses platform terms d v proof ↔ (IsOptimalFor platform terms d v × IsProof platform terms d v proof)
 
 abbrev pub TestsAreExact : Type 0
 TestsAreExact = (platform : PlatformFacts) (terms : Option Terms) (d : Forest Member) → AreExactTests platform terms d
@@ -91,6 +95,19 @@ pub record HaveFirstFault (platform : PlatformFacts) (terms : Option Terms) (d :
       → ChoiceFaults platform terms d selection s certificate a → ChoiceFaults platform terms d selection s certificate b → a ≡ b
   pub empty : (items : List Item) (why : No) → EmptyFaults platform terms d items why → ¬ (RefutationPasses platform terms d items)
   pub one_of_empty : (items : List Item) (a b : No) → EmptyFaults platform terms d items a → EmptyFaults platform terms d items b → a ≡ b
+  pub verdict : (v : Verdict) (proof : Proof) (why : No) → VerdictFaults platform terms d v proof why → ¬ (VerdictPasses platform terms d v proof)
+  pub one_of_verdict : (v : Verdict) (proof : Proof) (a b : No) → VerdictFaults platform terms d v proof a → VerdictFaults platform terms d v proof b → a ≡ b
 
 abbrev pub FaultsAreFirst : Type 0
 FaultsAreFirst = (platform : PlatformFacts) (terms : Option Terms) (d : Forest Member) → HaveFirstFault platform terms d
+
+-- refutations of each choice, behind a split, refute the forest; and refutations of the choices before one, followed by those of what is
+-- earlier after it, refute what is earlier from here on
+pub record RefutationsGrow (platform : PlatformFacts) (terms : Option Terms) (d : Forest Member) : Type 0 where
+  pub split : (es : List (Forest Member)) (rs : List (List Item)) → choices d ≡ Some es → AllZip (IsRefutation platform terms) es rs
+      → IsRefutation platform terms d (Split (length es) ∷ flat_map (λ items. items) rs)
+  pub earlier : (e : Forest Member) (es : List (Forest Member)) (c : ℕ) (cs : List ℕ) (rs : List (List Item)) (rss : List (List (List Item))) → choices d ≡ Some es → slice_get es c ≡ Some e
+      → AllZip (IsRefutation platform terms) (take c es) rs → RefutesEarlier (IsConflictFor platform terms) e cs rss → RefutesEarlier (IsConflictFor platform terms) d (c ∷ cs) (rs ∷ rss)
+
+abbrev pub AllRefutationsGrow : Type 0
+AllRefutationsGrow = (platform : PlatformFacts) (terms : Option Terms) (d : Forest Member) → RefutationsGrow platform terms d

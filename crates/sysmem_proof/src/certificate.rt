@@ -91,3 +91,14 @@ impl Certificate {
         &self.places
     }
 }
+
+/// What proves a verdict.
+#[derive(Debug, Drop)]
+pub enum Proof {
+    /// That a choice is the first and the best.
+    Choice(Certificate),
+    /// That no settings meet any selection.
+    Empty(Refutation),
+    /// Of more selections than a decision goes through, which need no proof, and of what isn't a decision.
+    Nothing,
+}

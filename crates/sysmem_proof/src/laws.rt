@@ -1,8 +1,8 @@
 //! What is true of verdicts and of their certificates, whoever works them out.
 
 ghost use Rattle.sysmem_proof.specs.Cannot.{LinesSay};
-ghost use Rattle.sysmem_proof.specs.Finder.{SomeAreNamed, CountsAreOfSome, BoundsAreOfSome, ReasonsAreConflicts};
-ghost use Rattle.sysmem_proof.specs.Laws.{OneAnswer, CutsLoseNothing, SelectionsSplit, EarlierGoesBy, ConflictsAreTrue, TestsAreExact, FaultsAreFirst};
+ghost use Rattle.sysmem_proof.specs.Finder.{SomeAreNamed, CountsAreOfSome, FixedCountsAreOfSome, BoundsAreOfSome, ReasonsAreConflicts};
+ghost use Rattle.sysmem_proof.specs.Laws.{OneAnswer, CutsLoseNothing, SelectionsSplit, EarlierGoesBy, ConflictsAreTrue, TestsAreExact, FaultsAreFirst, AllRefutationsGrow};
 
 use sysmem_merge::laws::{
     count_line_leaves_none, offer_line_leaves_none, one_best, place_line_leaves_none, some_are_met,
@@ -59,10 +59,11 @@ pub fn lines_say()
     ensures { LinesSay }
 {}
 
-/// Who has a count field makes a count line true, and who has an entry for an offer a line of its bounds; and settled participants are
+/// Who has a count field makes a count line true, of a fixed count too, and who has an entry for an offer a line of its bounds; and settled participants are
 /// named by their paths.
 pub fn some_are_named()
     ensures counts { CountsAreOfSome }
+    ensures fixed_counts { FixedCountsAreOfSome }
     ensures bounds { BoundsAreOfSome }
     ensures named { SomeAreNamed }
 {}
@@ -75,4 +76,10 @@ pub fn reasons_are_conflicts()
 /// What fails a test doesn't pass, and there is one number of the first test that is failed.
 pub fn faults_are_first()
     ensures { FaultsAreFirst }
+{}
+
+/// Refutations of a group's choices, behind a split on it, refute what it stands in; and what refutes the choices before the chosen one goes in
+/// front of what refutes the earlier ones after it.
+pub fn refutations_grow()
+    ensures { AllRefutationsGrow }
 {}

@@ -5,11 +5,13 @@
 //! ```
 #![tactic(auto)]
 
+mod asked;
 mod base;
 mod certificate;
 mod conflict;
 pub mod laws;
 mod line;
+mod line_tests;
 mod names;
 mod no;
 mod refutation;
@@ -17,7 +19,7 @@ mod roll;
 mod verdict;
 
 pub use base::Base;
-pub use certificate::{Certificate, EarlierChoices};
+pub use certificate::{Certificate, EarlierChoices, Proof};
 pub use conflict::Conflict;
 pub use line::{Line, Lines};
 pub use no::No;

@@ -2,6 +2,7 @@
 
 ghost use Rattle.std.specs.Prelude.{◌≡◌, ◌≤◌, ◌==◌, ◌++◌, [], All, is_some, length, option_map};
 ghost use Rattle.std.specs.List.{list_any};
+ghost use Rattle.sysmem_proof.specs.Fault.{AreNamed};
 ghost use Rattle.sysmem_proof.specs.Naming.{asked_at};
 ghost use Rattle.sysmem_proof.specs.Roll.{listed};
 ghost use Rattle.sysmem_tree.specs.Domain.{HasDomain};
@@ -82,12 +83,43 @@ impl<'a> Roll<'a> {
         named(self.tree, self.domain, self.prefix, self.accepted, path)
     }
 
+    /// Participants that are named, each once, are at most as many as a tree has nodes.
+    pub(crate) fn few_named(&self, paths: &[Path])
+        requires { AreNamed (listed self.now) paths.now }
+        ensures { length paths.now ≤ 128 }
+    {
+        few_paths(self.tree, self.domain, self.prefix, self.accepted, paths);
+    }
+
     /// Whether the path is that of one of them.
     pub(crate) fn has(&self, path: &Path) -> bool
         ensures { result ≡ is_some (asked_at (listed self.now) path.now) }
     {
         is_there(self.at(path))
     }
+}
+
+/// Paths that name participants, each once, are at most as many as a tree has nodes.
+fn few_paths(
+    tree: &Tree,
+    domain: DomainId,
+    prefix: &Prefix,
+    accepted: &[NodeId],
+    paths: &[Path],
+)
+    requires domain { HasDomain tree.now.nodes domain }
+    requires there { All (HasNode tree.now.nodes) accepted.now }
+    requires named { AreNamed (listed (record {
+      nodes = tree.now.nodes;
+      domain = domain;
+      choices = prefix.now;
+      accepted = accepted.now;
+    })) paths.now }
+    ensures { length paths.now ≤ 128 }
+{
+    one_path();
+    one_forest();
+    tree.nodes();
 }
 
 /// Whether a participant is there.

@@ -1,4 +1,4 @@
-use Rattle.sysmem_proof.proofs.CountNodes.{counts_are_of_some}
+use Rattle.sysmem_proof.proofs.CountNodes.{counts_are_of_some, fixed_counts_are_of_some}
 use Rattle.sysmem_proof.proofs.Finding.{bounds_are_of_some, some_are_named}
 use Rattle.sysmem_proof.proofs.laws.some_are_named.Goals as goal
 
@@ -10,3 +10,6 @@ returns-clause-bounds c = bounds_are_of_some
 
 pub returns-clause-named : goal.returns-clause-named
 returns-clause-named c = some_are_named
+
+pub returns-clause-fixed_counts : goal.returns-clause-fixed_counts
+returns-clause-fixed_counts c = fixed_counts_are_of_some

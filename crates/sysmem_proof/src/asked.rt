@@ -1,0 +1,131 @@
+//! What the participants whom paths name ask together.
+
+ghost use Rattle.std.specs.Prelude.{◌≡◌, ◌≤◌, ◌<◌, ◌+◌, ◌^◌, ◌↔◌, ◌++◌, true, List, [], ◌∷◌, Any, IsTrue, length, option_map};
+ghost use Rattle.std.specs.List.{cons_option};
+ghost use Rattle.sysmem_counts.specs.Bounds.{StandsFor};
+ghost use Rattle.sysmem_counts.specs.Tally.{sum_of};
+ghost use Rattle.sysmem_counts.specs.declared.constraints.CountConstraints.{CountConstraints as Counted};
+ghost use Rattle.sysmem_formats.specs.declared.offer.Offer.{Offer as Offered};
+ghost use Rattle.sysmem_memory.specs.PlaceTable.{refuses_by};
+ghost use Rattle.sysmem_merge.specs.Demands.{OfferDemand, counts_asked, offer_demands};
+ghost use Rattle.sysmem_merge.specs.Failing.{FailsOn};
+ghost use Rattle.sysmem_merge.specs.OfferRead.{IsOfferRead};
+ghost use Rattle.sysmem_proof.specs.Roll.{asked_by, listed};
+
+use crate::roll::Roll;
+use sysmem_counts::{CountBounds, Field};
+use sysmem_formats::Offer;
+use sysmem_memory::{CoherencyDomain, HeapInfo, refuses_in};
+use sysmem_merge::{OfferRead, Settings, fails_in};
+use sysmem_sanitise::{Constraints, Platform};
+use sysmem_tree::Path;
+
+/// Adds what one more asks of the number of buffers, if there is one.
+fn add_count(counts: &mut CountBounds, asked: Option<&Constraints>)
+    requires { sum_of counts.old < 2 ^ 62 }
+    ensures added { (ps : List Counted) → StandsFor counts.old ps → StandsFor counts.new
+        (ps ++ counts_asked (cons_option (option_map (λ one. one.now) asked.entry) [])) }
+    ensures grows { sum_of counts.new ≤ sum_of counts.old + 2 ^ 33 }
+{
+    if let Some(one) = asked {
+        counts.add(one.counts());
+    }
+}
+
+/// What they ask of the number of buffers.
+pub(crate) fn counts_of(roll: &Roll<'_>, paths: &[Path]) -> CountBounds
+    requires few { length paths.now ≤ 128 }
+    ensures { StandsFor result (counts_asked (asked_by (listed roll.now) paths.now)) }
+{
+    let mut counts = CountBounds::new();
+    for path in paths {
+        add_count(&mut counts, roll.at(path));
+    }
+    counts
+}
+
+/// Reads what one more asks of an offer, if there is one.
+fn add_read(read: &mut OfferRead, asked: Option<&Constraints>)
+    ensures { (o : Offered) (ds : List OfferDemand) → IsOfferRead o ds read.old → IsOfferRead o
+        (ds ++ offer_demands (cons_option (option_map (λ one. one.now) asked.entry) [])) read.new }
+{
+    if let Some(one) = asked {
+        read.add(one);
+    }
+}
+
+/// What they ask of an offer.
+pub(crate) fn read_of(roll: &Roll<'_>, offer: &Offer, paths: &[Path]) -> OfferRead
+    ensures { IsOfferRead offer.now (offer_demands (asked_by (listed roll.now) paths.now)) result }
+{
+    let mut read = OfferRead::new(offer);
+    for path in paths {
+        add_read(&mut read, roll.at(path));
+    }
+    read
+}
+
+/// Whether the field refuses the coherency domain of the heap to one, if there is one.
+fn is_refused(
+    field: Field,
+    heap: &HeapInfo,
+    domain: CoherencyDomain,
+    asked: Option<&Constraints>,
+) -> bool
+    ensures { IsTrue result ↔ Any (λ p. refuses_by field p.memory p.usage heap.now domain ≡ true)
+        (cons_option (option_map (λ one. one.now) asked.entry) []) }
+{
+    match asked {
+        Some(one) => refuses_in(field, one.memory(), one.usage(), heap, domain),
+        None => false,
+    }
+}
+
+/// Whether the field refuses the coherency domain of the heap to some of them.
+pub(crate) fn refuse_place(
+    roll: &Roll<'_>,
+    field: Field,
+    heap: &HeapInfo,
+    domain: CoherencyDomain,
+    paths: &[Path],
+) -> bool
+    ensures { IsTrue result ↔ Any (λ p. refuses_by field p.memory p.usage heap.now domain ≡ true)
+        (asked_by (listed roll.now) paths.now) }
+{
+    for path in paths {
+        if is_refused(field, heap, domain, roll.at(path)) {
+            return true;
+        }
+    }
+    false
+}
+
+/// Whether the settings fail one in the field, if there is one.
+fn is_failed(
+    field: Field,
+    platform: &Platform,
+    settings: &Settings,
+    asked: Option<&Constraints>,
+) -> bool
+    ensures { IsTrue result ↔ Any (FailsOn field platform.now settings.now)
+        (cons_option (option_map (λ one. one.now) asked.entry) []) }
+{
+    match asked {
+        Some(one) => fails_in(field, platform, settings, one),
+        None => false,
+    }
+}
+
+/// Whether the settings fail the participant at the path in the field.
+pub(crate) fn fail_at(
+    roll: &Roll<'_>,
+    field: Field,
+    platform: &Platform,
+    settings: &Settings,
+    path: &Path,
+) -> bool
+    ensures { IsTrue result ↔ Any (FailsOn field platform.now settings.now)
+        (asked_by (listed roll.now) (path.now ∷ [])) }
+{
+    is_failed(field, platform, settings, roll.at(path))
+}

@@ -1,0 +1,81 @@
+//! Whether a line is true of the participants that it names.
+
+ghost use Rattle.std.specs.Prelude.{◌≡◌, ◌↔◌, ◌≤◌, [], ◌∷◌, Any, IsTrue, length};
+ghost use Rattle.sysmem_counts.specs.Counts.{IsCountLine, IsFixedCountLine};
+ghost use Rattle.sysmem_memory.specs.PlaceTable.{IsPlaceLine};
+ghost use Rattle.sysmem_merge.specs.Demands.{counts_asked, offer_demands, place_demands};
+ghost use Rattle.sysmem_merge.specs.Failing.{FailsOn};
+ghost use Rattle.sysmem_merge.specs.Reasons.{IsOfferLine};
+ghost use Rattle.sysmem_proof.specs.Fault.{AreNamed};
+ghost use Rattle.sysmem_proof.specs.Naming.{IsTrueOf};
+ghost use Rattle.sysmem_proof.specs.Roll.{listed};
+
+use crate::asked::{counts_of, fail_at, read_of, refuse_place};
+use crate::line::Line;
+use crate::roll::Roll;
+use sysmem_counts::Field;
+use sysmem_formats::Offer;
+use sysmem_memory::{CoherencyDomain, HeapInfo};
+use sysmem_merge::Settings;
+use sysmem_sanitise::Platform;
+use sysmem_tree::Path;
+
+/// Whether no count suits the participants whom the line names, by its field.
+pub(crate) fn is_count_line(roll: &Roll<'_>, line: &Line) -> bool
+    requires { AreNamed (listed roll.now) line.now.nodes }
+    ensures { IsTrue result ↔ IsTrueOf (listed roll.now) line.now.nodes
+        (λ ps. IsCountLine line.now.field (counts_asked ps)) }
+{
+    let nodes = line.nodes();
+    roll.few_named(nodes);
+    counts_of(roll, nodes).is_line(line.field())
+}
+
+/// Whether a count that is fixed doesn't suit the participants whom the line names, by its field.
+pub(crate) fn is_fixed_count_line(roll: &Roll<'_>, count: u32, line: &Line) -> bool
+    requires { AreNamed (listed roll.now) line.now.nodes }
+    ensures { IsTrue result ↔ IsTrueOf (listed roll.now) line.now.nodes
+        (λ ps. IsFixedCountLine count line.now.field (counts_asked ps)) }
+{
+    let nodes = line.nodes();
+    roll.few_named(nodes);
+    counts_of(roll, nodes).is_fixed_line(count, line.field())
+}
+
+/// Whether the line's field refuses the coherency domain of the heap to some participant whom it names.
+pub(crate) fn is_place_line(
+    roll: &Roll<'_>,
+    heap: &HeapInfo,
+    domain: CoherencyDomain,
+    line: &Line,
+) -> bool
+    requires { AreNamed (listed roll.now) line.now.nodes }
+    ensures { IsTrue result ↔ IsTrueOf (listed roll.now) line.now.nodes
+        (λ ps. IsPlaceLine line.now.field heap.now domain (place_demands ps)) }
+{
+    refuse_place(roll, line.field(), heap, domain, line.nodes())
+}
+
+/// Whether the offer doesn't suit the participants whom the line names, by its field; whatever is named.
+pub(crate) fn is_offer_line(roll: &Roll<'_>, offer: &Offer, line: &Line) -> bool
+    requires { AreNamed (listed roll.now) line.now.nodes }
+    ensures { IsTrue result ↔ IsTrueOf (listed roll.now) line.now.nodes
+        (λ ps. IsOfferLine line.now.field offer.now (offer_demands ps)) }
+{
+    read_of(roll, offer, line.nodes()).is_line(line.field())
+}
+
+/// Whether the settings fail the participant at the path in the field.
+pub(crate) fn is_failed_at(
+    roll: &Roll<'_>,
+    platform: &Platform,
+    settings: &Settings,
+    field: Field,
+    path: &Path,
+) -> bool
+    requires { AreNamed (listed roll.now) (path.now ∷ []) }
+    ensures { IsTrue result ↔ IsTrueOf (listed roll.now) (path.now ∷ [])
+        (λ ps. Any (FailsOn field platform.now settings.now) ps) }
+{
+    fail_at(roll, field, platform, settings, path)
+}
