@@ -1,6 +1,6 @@
 //! Choices for the first groups of a domain.
 
-ghost use Rattle.std.specs.Prelude.{◌≡◌, ◌≤◌, ◌<◌, ◌++◌, [], ◌∷◌, length, MatchOption, false};
+ghost use Rattle.std.specs.Prelude.{◌≡◌, ◌≤◌, ◌<◌, ◌++◌, [], ◌∷◌, length, MatchOption, true, false};
 
 use std::marker::Model;
 
@@ -42,7 +42,8 @@ impl Prefix {
 
     /// Whether 128 choices are there, so that no further one fits.
     pub fn is_full(&self) -> bool
-        ensures { result ≡ false → length self.now < 128 }
+        ensures room { result ≡ false → length self.now < 128 }
+        ensures full { result ≡ true → length self.now ≡ 128 }
     {
         self.many == 128
     }

@@ -41,6 +41,11 @@ fn chosen(alloc: Global, tree: &mut Tree, node: NodeId, word: &str, choices: &st
             let refusal = decide(tree, domain, Some(prefix));
             told(alloc, tree, refusal)
         }
+        "try" => {
+            let mut copy = tree.copy()?;
+            let refusal = decide(&mut copy, domain, Some(prefix));
+            told(alloc, &copy, refusal)
+        }
         _ => bail!("{word:?} is no word"),
     }
 }

@@ -6,6 +6,7 @@
 //! | `tree WORDS` | begins a new tree | the line |
 //! | `PATH ACTION` | makes an action, as `duplicate` or `bind`, on the node at a path, as `/` or `/0/2` | `ok`, or the refusal, and the domains |
 //! | `PATH chosen PREFIX` | decides the node's domain for a selection, as `-` or `0.2` | `ok` and the domains, or why not |
+//! | `PATH try PREFIX` | decides the node's domain so in a copy of the tree; the tree stays as it is | `ok` and the copy's domains, or why not |
 //! | `PATH none` | decides the node's domain for none | `ok` and the domains, or why not |
 //! | `PATH selections` | | how many selections the node's domain has |
 //! | `PATH next PREFIX` | | the path of the group that is next and how many children it has, or `none` |
