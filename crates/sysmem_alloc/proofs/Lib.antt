@@ -1,4 +1,3 @@
-pub mod Accepting
 pub mod Lists
 pub mod Trees
 pub mod Advance

@@ -28,7 +28,7 @@ use Rattle.sysmem_alloc.specs.History.{after_answer, after_entry, replay, Allows
 use Rattle.sysmem_alloc.specs.Laws.{LegalAgrees, LegalIsSound, NextStays, StaysNext}
 use Rattle.sysmem_alloc.specs.Sound.{AllOf, IsOfReady, IsSoundState, MayWait}
 use Rattle.sysmem_alloc.specs.State.{State, first_state, next_ready, newly_ready, base_of, chosen_by, chosen_in, open_in, kept_for, after_action}
-use Rattle.sysmem_alloc.proofs.Accepting.{accepted}
+use Rattle.sysmem_tree.proofs.CallerLemmas.{accepted}
 use Rattle.sysmem_alloc.proofs.Entering.{allowed_push, replay_push}
 use Rattle.sysmem_alloc.proofs.Hosts.{base_stays}
 

@@ -49,50 +49,6 @@ pub decided_there : (t : TreeFacts) (d : ℕ) (choices : Option (List ℕ)) (r :
 decided_there t d None r h = h
 decided_there t d (Some cs) r h = at_left (members_of t.nodes d cs) d 0 t.nodes r r h
 
--- decisions
-pushed : (ds : List Domain) (k r : ℕ) → decision_of (ds ++ new_domain k ∷ []) r ≡ decision_of ds r
-pushed [] k r = at (k == r) where
-  at : (b : Bool) → (if b then Undecided else Undecided) ≡ Undecided
-  at true = refl
-  at false = refl
-pushed (d ∷ ds) k r = ap (λ x. if d.root == r then d.decision else x) (pushed ds k r)
-
-closed : (e : ℕ) (ds : List Domain) (r : ℕ) → decision_of (map (closed_early e) ds) r ≡ decision_of ds r
-closed e [] r = refl
-closed e (d ∷ ds) r = ap (λ x. if d.root == r then d.decision else x) (closed e ds r)
-
--- an action changes none
-pub acted_decision : (t : TreeFacts) (n : NodeFacts) (kind : ActionKind) (r : ℕ) → decision_of (domains_after t n kind) r ≡ decision_of t.domains r
-acted_decision t n AttachToken r = pushed t.domains (length t.nodes) r
-acted_decision t n Close r = at (is_ready t n.domain) where
-  at : (b : Bool) → decision_of (if b then t.domains else map (closed_early n.domain) t.domains) r ≡ decision_of t.domains r
-  at true = refl
-  at false = closed n.domain t.domains r
-acted_decision t n Duplicate r = refl
-acted_decision t n CreateGroup r = refl
-acted_decision t n Bind r = refl
-acted_decision t n CreateChild r = refl
-acted_decision t n AllChildrenPresent r = refl
-acted_decision t n SetConstraints r = refl
-acted_decision t n Release r = refl
-
-others : (d : ℕ) (x : Decision) (ds : List Domain) (r : ℕ) → r ≢ d → decision_of (map (decided_domain d x) ds) r ≡ decision_of ds r
-others d x [] r other = refl
-others d x (e ∷ ds) r other = at (others d x ds r other) (e.root == d) refl where
-  at : decision_of (map (decided_domain d x) ds) r ≡ decision_of ds r → (b : Bool) → (e.root == d) ≡ b
-      → (if (if b then record e { decision = x } else e).root == r then (if b then record e { decision = x } else e).decision else decision_of (map (decided_domain d x) ds) r)
-      ≡ (if e.root == r then e.decision else decision_of ds r)
-  at rest false is = ap (λ y. if e.root == r then e.decision else y) rest
-  at rest true is =
-      let own : e.root ≡ d = search (rules, tests, is) in
-      let apart : (e.root == r) ≡ false = ne_eqb e.root r (λ same. other (sym same ∙ own)) in
-      ap (λ b. if b then x else decision_of (map (decided_domain d x) ds) r) apart ∙ (rest ∙ sym (ap (λ b. if b then e.decision else decision_of ds r) apart))
-
--- a decision changes its own alone
-pub decided_decision : (t : TreeFacts) (d : ℕ) (choices : Option (List ℕ)) (r : ℕ) → r ≢ d → decision_of (decided t d choices).domains r ≡ decision_of t.domains r
-decided_decision t d None r other = others d NoneChosen t.domains r other
-decided_decision t d (Some cs) r other = others d Chosen t.domains r other
-
 -- the root that an action adds
 abbrev pub added : ActionKind → ℕ → List ℕ
 added AttachToken k = k ∷ []
