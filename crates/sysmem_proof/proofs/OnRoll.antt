@@ -14,7 +14,9 @@ use Rattle.sysmem_memory.specs.PlaceTable.{refuses_by, IsPlaceLine}
 use Rattle.sysmem_merge.specs.Demands.{counts_asked, offer_demand, offer_demands, place_demand, place_demands}
 use Rattle.sysmem_sanitise.specs.Participant.{Participant}
 use Rattle.sysmem_tree.specs.Shape.{Member}
-use Rattle.sysmem_proof.specs.Fault.{AreNamed}
+use Rattle.sysmem_proof.specs.declared.no.No.TheVariants.{NoConflict}
+use Rattle.sysmem_proof.specs.Fault.{AreNamed, LineFaults}
+use Rattle.sysmem_proof.specs.Line.{LineFacts}
 use Rattle.sysmem_proof.specs.Naming.{asked_at, Names, IsTrueOf}
 use Rattle.sysmem_proof.specs.Roll.{asked_by}
 
@@ -186,3 +188,22 @@ place_told heap domain field ps t test = (
   λ is. mapped_any (λ p. refuses_by field p.memory p.usage heap domain ≡ true) place_demand ps (test.0 is),
   λ any. test.1 (any_mapped (λ p. refuses_by field p.memory p.usage heap domain ≡ true) place_demand ps any),
 )
+
+-- one path names a participant
+pub one_named : (ms : List Member) (path : List ℕ) (has : Bool) → has ≡ is_some (asked_at ms path) → IsTrue has ↔ AreNamed ms (path ∷ [])
+one_named ms path has is = (
+  λ yes'. by (asked_at ms path) refl (sym is ∙ yes'),
+  λ named. is ∙ some (asked_at ms path) refl (some_at ms (path ∷ []) named.0 0 path named.1.each (omega arith)),
+) where
+  by : (o : Option Participant) → asked_at ms path ≡ o → is_some o ≡ true → AreNamed ms (path ∷ [])
+  by None at some = absurd (cc)
+  by (Some q) at some = named_push ms [] path q (named_none ms) at (λ has. omega (arith, has.1))
+
+  some : (o : Option Participant) → asked_at ms path ≡ o → asked_at ms path ≢ None → is_some o ≡ true
+  some None at differ = absurd (differ at)
+  some (Some q) at differ = refl
+
+-- named participants of whom a line isn't true
+pub fault_untrue : (ms : List Member) (True : Type 0) (given : List (List ℕ)) (line : LineFacts) (t u : Bool) → given ≡ line.nodes → t ≡ true → IsTrue t ↔ AreNamed ms given → u ≡ false → IsTrue u ↔ True
+    → LineFaults ms True line NoConflict
+fault_untrue ms True given line t u same yes' test no' truth = inr (subst (AreNamed ms) same (test.0 yes'), ((λ is. (let y : u ≡ true = truth.1 is in absurd (cc))), refl))

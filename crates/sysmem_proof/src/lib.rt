@@ -11,6 +11,7 @@ mod certificate;
 mod conflict;
 pub mod laws;
 mod line;
+mod line_faults;
 mod line_tests;
 mod names;
 mod no;

@@ -1,6 +1,6 @@
 //! Whether a line names participants, each once, and what they ask together.
 
-ghost use Rattle.std.specs.Prelude.{◌≡◌, ◌↔◌, Contains, IsTrue};
+ghost use Rattle.std.specs.Prelude.{◌≡◌, ◌↔◌, [], ◌∷◌, Contains, IsTrue};
 ghost use Rattle.sysmem_proof.specs.Fault.{AreNamed};
 ghost use Rattle.sysmem_proof.specs.Roll.{listed};
 
@@ -30,4 +30,11 @@ pub(crate) fn are_named(roll: &Roll<'_>, paths: &[Path]) -> bool
         }
     }
     true
+}
+
+/// Whether the path is that of a participant on the roll.
+pub(crate) fn is_named(roll: &Roll<'_>, path: &Path) -> bool
+    ensures { IsTrue result ↔ AreNamed (listed roll.now) (path.now ∷ []) }
+{
+    roll.has(path)
 }
