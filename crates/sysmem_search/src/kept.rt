@@ -39,7 +39,11 @@ pub(crate) enum Kept {
 
 impl Part {
     /// Of no participant at all.
-    pub(crate) fn new(alloc: Global, platform: &Platform, base: Option<&Base>) -> Result<Part, AllocError>
+    pub(crate) fn new(
+        alloc: Global,
+        platform: &Platform,
+        base: Option<&Base>,
+    ) -> Result<Part, AllocError>
         ensures { IfOk result (λ made.
             IsPart platform.now (option_map (λ b. b.now) base.entry) made []) }
     {
@@ -133,7 +137,11 @@ impl Kept {
             Kept::Sum(sum) => sum.best_settings(platform, true).ok(),
             Kept::OnBase(kept) => {
                 let settings = base?.settings();
-                if kept.suits(&settings) { Some(settings) } else { None }
+                if kept.suits(&settings) {
+                    Some(settings)
+                } else {
+                    None
+                }
             }
         }
     }

@@ -142,8 +142,7 @@ invariant_of-self-2 c =
     let (kept, kept_is) = c.in_ok-keep_part.ensures.there in
     let at = subst (λ k. slice_get c.keep_part.new.parts.items k ≡ Some (Some kept)) (sym c.number.ensures) kept_is in
     let read = at_index c.keep_part.new.parts.items c.number.result c.index-2.result.now c.index-2.ensures (slice_get_within c.keep_part.new.parts.items c.number.result (Some kept) at) in
-    let same : Some kept ≡ c.index-2.result.now = same_Some (Some kept) c.index-2.result.now (sym at ∙ read) in
-    (
+    let same : Some kept ≡ c.index-2.result.now = same_Some (Some kept) c.index-2.result.now (sym at ∙ read) in (
       c.self.invariant.0,
       c.self.invariant.1,
       entered m c.self.inside.layout c.self.inside.parts.items c.keep_part.new.parts.items c.self.inside.levels.items c.reserve_level.new.levels.items c.join_level.new.levels.items cs c.push.new.self
