@@ -7,3 +7,6 @@ pub mod AskedMembers
 pub mod Decided
 pub mod Walking
 pub mod Taking
+pub mod Accepting
+pub mod Keeping
+pub mod Entering

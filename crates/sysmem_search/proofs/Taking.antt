@@ -1,5 +1,5 @@
 -- What the first nodes of a list ask, one by one.
-use Rattle.std.proofs.Common.{◌≡◌, ◌<◌, ◌≤◌, ℕ, zero, suc, ◌+◌, Bool, true, false, List, [], ◌∷◌, ◌++◌, Option, Some, None, length, take, drop, get_or, map, slice_get, refl, sym, ◌∙◌, ap, subst, arith, append_assoc, inl, inr, ◌⊎◌}
+use Rattle.std.proofs.Common.{◌≡◌, ◌<◌, ◌≤◌, ℕ, zero, suc, ◌+◌, Bool, true, false, List, [], ◌∷◌, ◌++◌, Option, Some, None, length, take, drop, get_or, map, slice_get, refl, sym, ◌∙◌, ap, subst, arith, append_assoc, length-append, inl, inr, ◌⊎◌}
 use Rattle.std.specs.Prelude.{◌↔◌, All, IfSome, IsTrue, option_map, option_and_then}
 use Rattle.std.specs.List.{filter_map, cons_option}
 use Rattle.std.proofs.lemmas.List.{append-nil, take_more, take_all, take-append-drop, map-append}
@@ -63,3 +63,16 @@ counted_more ps xs ys zs is = append_assoc ps (counts_asked xs) (counts_asked ys
 -- two tests, of which the first passed
 pub both_told : {A B : Type 0} (r a : Bool) → a ≡ true → IsTrue a ↔ A → IsTrue r ↔ B → IsTrue r ↔ (A × B)
 both_told r a yes' one two = (λ is. (one.0 yes', two.0 is), λ p. two.1 p.1)
+
+-- at most one more
+pub long_more : (zs xs : List Participant) (o : Option Participant) → zs ≡ xs ++ cons_option o [] → (length zs ≡ length xs + length (cons_option o [])) × (length (cons_option o []) ≤ 1)
+long_more zs xs None is = (ap length is ∙ length-append xs [], omega arith)
+long_more zs xs (Some p) is = (ap length is ∙ length-append xs (p ∷ []), omega arith)
+
+-- at most as many participants as nodes
+pub few_asked_of : (nodes : List NodeFacts) (ns : List ℕ) → length (asked_of nodes ns) ≤ length ns
+few_asked_of nodes [] = omega arith
+few_asked_of nodes (n ∷ ns) = by (asked_at nodes n) (few_asked_of nodes ns) where
+  by : (o : Option Participant) → length (asked_of nodes ns) ≤ length ns → length (cons_option o (asked_of nodes ns)) ≤ length (n ∷ ns)
+  by None h = omega (arith, h)
+  by (Some p) h = omega (arith, h)

@@ -7,7 +7,8 @@ use Rattle.std.proofs.lemmas.Option.{same_Some, none-some, slice_get_within, opt
 use Rattle.std.specs.List.{AllByRecursion, IsDistinct, list_any}
 use Rattle.std.proofs.lemmas.Bool.{cases_eq, ne_eqb}
 use Rattle.std.proofs.lemmas.Map.Steps.{length-le_from_distinct_below}
-use Rattle.sysmem_proof.specs.Base.{IsElsewhere}
+use Rattle.sysmem_proof.specs.Base.{BaseFacts, IsElsewhere, IsGivenBase}
+use Rattle.sysmem_sanitise.specs.Platform.{PlatformFacts}
 use Rattle.sysmem_tree.specs.Node.{NodeFacts}
 use Rattle.sysmem_tree.specs.Nodes.{HasNode}
 use Rattle.sysmem_tree.specs.declared.layout.Layout.{Layout}
@@ -62,73 +63,6 @@ took_all layout old now walk steps ns t over = by t.rest t.same t.few where
   by [] same few = sym (append-nil now) ∙ sym same
   by (x ∷ rest) same few = absurd (omega (arith, few, over))
 
--- one node more of the tree
-pub all_push : {X : Type 0} (P : X → Type 0) (xs : List X) (x : X) → All P xs → P x → All P (xs ++ x ∷ [])
-all_push P [] x all p zero d less = p
-all_push P [] x all p (suc k) d less = absurd (omega (arith, less))
-all_push P (y ∷ xs) x all p zero d less = all zero d (omega arith)
-all_push P (y ∷ xs) x all p (suc k) d less = all_push P xs x (λ j d' w. all (suc j) d' (omega (arith, w))) p k d (omega (arith, less))
-
--- the nodes that the first choices settle, and the group that is open then
-pub record IsGathered (layout : Layout) (d : Forest ℕ) (cs : List ℕ) (k : ℕ) (nodes : List ℕ) (group : Option ℕ) : Type 0 where
-  pub left : Forest ℕ
-  pub leads : after d (take k cs) ≡ Some left
-  pub order : IsPermutation nodes (settled left)
-  pub open' : IsFirstOpen layout d (take k cs) group
-
-module _ (layout : Layout) (d : Forest ℕ) (cs : List ℕ) (k c : ℕ) (prefixes : PrefixOfPrefix) (prefix : IsPrefix d cs) (less : k < length cs) (is : c ≡ get_or cs k c) where
-  more : take (k + 1) cs ≡ take k cs ++ c ∷ []
-  more = take_more cs k c less ∙ ap (λ x. take k cs ++ x ∷ []) (sym is)
-
-  pub one_prefix : IsPrefix d (take k cs ++ c ∷ [])
-  one_prefix = prefixes d (take k cs ++ c ∷ []) (drop (k + 1) cs) (subst (IsPrefix d) (sym (ap (λ xs. xs ++ drop (k + 1) cs) (sym more) ∙ take-append-drop (k + 1) cs)) prefix)
-
-  after_one : (xs : List ℕ) (f e : Forest ℕ) → after f xs ≡ Some e → after f (xs ++ c ∷ []) ≡ after e (c ∷ [])
-  after_one [] f e leads = ap (λ x. after x (c ∷ [])) (same_Some f e leads)
-  after_one (x ∷ xs) f e leads = option_and_then_some (λ y. after y xs) (option_and_then (λ es. slice_get es x) (choices f)) e leads
-      (λ y one on. ap (option_and_then (λ z. after z (xs ++ c ∷ []))) one ∙ after_one xs y e on)
-
-  -- a group is open, since a choice is left
-  pub some_open : NoneOpenIsSelection → IsFirstOpen layout d (take k cs) None → ⊥
-  some_open law open' =
-      let w = law layout d (take k cs) None open' in
-      let none : after w.left (c ∷ []) ≡ None = ap (λ o. option_and_then (λ e. after e []) (option_and_then (λ es. slice_get es c) o)) (w.whole.0 refl) in
-      by (after d (take k cs ++ c ∷ [])) one_prefix (after_one (take k cs) d w.left w.leads ∙ none) where
-        by : (o : Option (Forest ℕ)) → IsSome o → o ≡ None → ⊥
-        by None h e = absurd (cc)
-        by (Some x) h e = absurd (cc)
-
-  -- the share of the chosen child is settled too
-  pub gathered_more : (nodes nodes' : List ℕ) (group group' : Option ℕ) (at : ℕ) → ChoiceSettlesShare → IsGathered layout d cs k nodes group → IsChildPlace layout d (take k cs) c at
-      → nodes' ≡ nodes ++ share_of layout at → IsFirstOpen layout d (take k cs ++ c ∷ []) group' → IsGathered layout d cs (k + 1) nodes' group'
-  gathered_more nodes nodes' group group' at law g child pushed open' =
-      let s = law layout d (take k cs) c at child in
-      record {
-        left = s.left;
-        leads = ap (after d) more ∙ s.leads;
-        order = subst (λ xs. IsPermutation xs (settled s.left)) (sym pushed) (IsPermutation-trans (nodes ++ share_of layout at) (settled g.left ++ share_of layout at) (settled s.left)
-            (IsPermutation-append_left (share_of layout at) nodes (settled g.left) g.order)
-            (of_some (λ e. IsPermutation (settled e ++ share_of layout at) (settled s.left)) (after d (take k cs)) g.left g.leads s.adds));
-        open' = subst (λ xs. IsFirstOpen layout d xs group') (sym more) open';
-      }
-
-  -- and has at most 128 nodes
-  pub share_few : (nodes : List ℕ) (group : Option ℕ) (at : ℕ) → ChoiceSettlesShare → IsGathered layout d cs k nodes group → IsChildPlace layout d (take k cs) c at
-      → ((xs : List ℕ) (e : Forest ℕ) → after d xs ≡ Some e → length (settled e) ≤ 128) → length (share_of layout at) ≤ 128
-  share_few nodes group at law g child few =
-      let s = law layout d (take k cs) c at child in
-      let long = length_permutation (settled g.left ++ share_of layout at) (settled s.left)
-      (of_some (λ e. IsPermutation (settled e ++ share_of layout at) (settled s.left)) (after d (take k cs)) g.left g.leads s.adds) in
-      let f = few (take k cs ++ c ∷ []) s.left s.leads in omega (arith, long, length-append (settled g.left) (share_of layout at), f)
-
--- after all choices
-pub gathered_all : (layout : Layout) (d : Forest ℕ) (cs : List ℕ) (k : ℕ) (nodes : List ℕ) (group : Option ℕ) → length cs ≤ k → IsGathered layout d cs k nodes group
-    → IfSome (after d cs) (λ e. IsPermutation nodes (settled e))
-gathered_all layout d cs k nodes group over g = by (after d cs) (ap (after d) (sym (take_all k cs over)) ∙ g.leads) where
-  by : (o : Option (Forest ℕ)) → o ≡ Some g.left → IfSome o (λ e. IsPermutation nodes (settled e))
-  by None is = tt
-  by (Some e) is = subst (λ x. IsPermutation nodes (settled x)) (sym (same_Some e g.left is)) g.order
-
 -- what a base names is there
 pub elsewhere_there : (nodes : List NodeFacts) (domain : ℕ) (ns : List ℕ) → All (IsElsewhere nodes domain) ns → All (HasNode nodes) ns
 elsewhere_there nodes domain ns all k d less = by (slice_index_or ns k d) (slice_get nodes (slice_index_or ns k d)) refl (all k d less) where
@@ -159,11 +93,9 @@ below_all n (x ∷ xs) all q h = elim (cases_eq q x) [
 pub few_different : (xs : List ℕ) (n : ℕ) → AllPairs (λ i j. i ≢ j) xs → All (λ x. x < n) xs → length xs ≤ n
 few_different xs n differ below = length-le_from_distinct_below xs n (distinct_of xs differ) (below_all n xs below)
 
--- an element within a list, whatever stands for those past its end
-same_get : (xs : List ℕ) (k a b : ℕ) → k < length xs → slice_index_or xs k a ≡ slice_index_or xs k b
-same_get [] k a b less = absurd (omega (arith, less))
-same_get (x ∷ xs) zero a b less = refl
-same_get (x ∷ xs) (suc k) a b less = same_get xs k a b (omega (arith, less))
-
-pub at_choice : (items cs : List ℕ) (k : ℕ) → items ≡ cs → k < length items → slice_index_or items k 0 ≡ get_or cs k (slice_index_or items k 0)
-at_choice items cs k is less = same_get items k 0 (slice_index_or items k 0) less ∙ ap (λ xs. get_or xs k (slice_index_or items k 0)) is
+-- at most 128 nodes were accepted before
+pub few_accepted : (platform : PlatformFacts) (nodes : List NodeFacts) (domain : ℕ) (base : Option BaseFacts) → length nodes ≤ 128 → IsGivenBase platform nodes domain base
+    → (b : BaseFacts) → base ≡ Some b → length b.accepted ≤ 128
+few_accepted platform nodes domain base few given b some =
+    let is = (subst (IsGivenBase platform nodes domain) some given).1 in
+    let less = few_different b.accepted (length nodes) is.once (elsewhere_there nodes domain b.accepted is.elsewhere) in omega (arith, less, few)

@@ -12,7 +12,7 @@ use crate::searching::search_from;
 use std::alloc::{AllocError, Global};
 use sysmem_proof::{Base, Chosen, Verdict};
 use sysmem_sanitise::Platform;
-use sysmem_tree::{DomainId, Prefix, Tree};
+use sysmem_tree::{DomainId, Tree};
 
 /// The most selections that a decision goes through.
 pub const MOST_SELECTIONS: u64 = 4096;
@@ -55,17 +55,16 @@ pub fn search<G: Gate>(
             visits: 0,
         });
     }
-    let question = Question::new(alloc, platform, tree, domain, base);
-    let mut prefix = Prefix::new();
+    let mut question = Question::new(alloc, platform, tree, domain, base)?;
     let mut visits = 0;
-    let Some(settings) = search_from(&question, gate, &mut prefix, &mut visits)? else {
+    let Some(settings) = search_from(&mut question, gate, &mut visits)? else {
         return Ok(Found {
             verdict: Verdict::IntersectionEmpty,
             visits,
         });
     };
     Ok(Found {
-        verdict: Verdict::Chosen(Chosen::new(prefix, settings)),
+        verdict: Verdict::Chosen(Chosen::new(question.into_prefix(), settings)),
         visits,
     })
 }

@@ -5,10 +5,11 @@
 //! ```
 #![tactic(auto)]
 
-mod asking;
 mod deciding;
 mod gate;
-mod participants;
+mod kept;
+mod levels;
+mod on_base;
 mod question;
 mod searching;
 mod settling;

@@ -1,22 +1,26 @@
-//! What a search asks at a prefix.
+//! What a search asks where it stands.
 
-ghost use Rattle.std.specs.Prelude.{◌≡◌, ◌≤◌, ◌<◌, ◌↔◌, ℕ, length, option_map, IfOk, IfSome, IsTrue, MatchOption};
+ghost use Rattle.std.specs.Prelude.{◌≡◌, ◌≤◌, ◌<◌, ◌↔◌, ◌++◌, [], ◌∷◌, ℕ, List, length, option_map, IfOk, IfSome, IsTrue, MatchOption, OnOk};
 ghost use Rattle.sysmem_merge.specs.declared.settings.Settings.{Settings as Settled};
 ghost use Rattle.sysmem_search.specs.Live.{IsMet};
-ghost use Rattle.sysmem_search.specs.Question.{Matter, HasBase, forest, Meets, MeetsSoFar, IsBest};
-ghost use Rattle.sysmem_tree.specs.Domain.{HasDomain, IsSoundTree};
+ghost use Rattle.sysmem_search.specs.Question.{forest, Meets, MeetsSoFar, IsBest};
+ghost use Rattle.sysmem_search.specs.Standing.{Standing};
 ghost use Rattle.sysmem_tree.specs.Forest.{choices, settled};
 ghost use Rattle.sysmem_tree.specs.Selection.{IsPrefix, after};
 
-use crate::asking::{base_meets, best_for, can_be_met, children_after};
+use crate::kept::Part;
+use crate::levels::{Level, first_level, join_level, keep_part, no_parts, reserve_level};
 use std::alloc::{AllocError, Global};
 use std::marker::Model;
 use sysmem_merge::Settings;
+use sysmem_merge::laws::sums_in_any_order;
 use sysmem_proof::Base;
 use sysmem_sanitise::Platform;
-use sysmem_tree::{DomainId, Prefix, Tree};
+use sysmem_tree::layout_laws::{choice_settles_share, none_open_is_selection};
+use sysmem_tree::{DomainId, Layout, Prefix, Tree};
 
-/// A domain of a tree on a platform, with its base where it is an attached one.
+/// A domain of a tree on a platform, with its base where it is an attached one, and a prefix of choices at which a search stands. What a
+/// choice settles is read once, when the choice is first made; each prefix on the way is kept by what its participants ask together.
 #[derive(Drop)]
 pub(crate) struct Question<'a> {
     alloc: Global,
@@ -24,107 +28,176 @@ pub(crate) struct Question<'a> {
     tree: &'a Tree,
     domain: DomainId,
     base: Option<&'a Base>,
+    layout: Layout,
+    prefix: Prefix,
+    /// By the place of the child that is chosen.
+    parts: Vec<Option<Part>>,
+    /// By the number of choices.
+    levels: Vec<Level>,
 }
 
 impl<'a> Model for Question<'a> {
     ghost use Rattle.std.specs.Prelude.{option_map};
-    ghost use Rattle.sysmem_proof.specs.Base.{IsGivenBase};
-    ghost use Rattle.sysmem_search.specs.Question.{Matter};
+    ghost use Rattle.sysmem_search.specs.Standing.{Standing, Keeps};
     ghost use Rattle.sysmem_tree.specs.Domain.{HasDomain, IsSoundTree};
 
-    ghost Value = { Matter };
+    ghost Value = { Standing };
 
     ghost view = { λ q. record {
+      matter = record {
+        platform = q.platform.now;
+        nodes = q.tree.now.nodes;
+        domain = q.domain;
+        base = option_map (λ b. b.now) q.base;
+      };
+      choices = q.prefix;
+    } };
+
+    ghost invariant = { λ q. HasDomain q.tree.now.nodes q.domain × IsSoundTree q.tree.now × Keeps (record {
       platform = q.platform.now;
       nodes = q.tree.now.nodes;
       domain = q.domain;
       base = option_map (λ b. b.now) q.base;
-    } };
-
-    ghost invariant = { λ q. HasDomain q.tree.now.nodes q.domain × IsSoundTree q.tree.now };
+    }) q.layout q.parts.items q.levels.items q.prefix };
 }
 
 impl<'a> Question<'a> {
-    /// Of this domain of the tree.
+    ghost use Rattle.sysmem_proof.specs.Base.{IsGivenBase};
+    ghost use Rattle.sysmem_tree.specs.Domain.{HasDomain};
+
+    /// Of this domain of the tree, at no choice.
     pub(crate) fn new(
         alloc: Global,
         platform: &'a Platform,
         tree: &'a Tree,
         domain: DomainId,
         base: Option<&'a Base>,
-    ) -> Question<'a>
-        requires { HasDomain tree.now.nodes domain }
-        ensures { result ≡ record {
-          platform = platform.now;
-          nodes = tree.now.nodes;
-          domain = domain;
-          base = option_map (λ b. b.now) base.entry;
-        } }
+    ) -> Result<Question<'a>, AllocError>
+        requires domain { HasDomain tree.now.nodes domain }
+        requires base { IsGivenBase platform.now tree.now.nodes domain (option_map (λ b. b.now) base) }
+        ensures { IfOk result (λ question. question ≡ record {
+          matter = record {
+            platform = platform.now;
+            nodes = tree.now.nodes;
+            domain = domain;
+            base = option_map (λ b. b.now) base.entry;
+          };
+          choices = [];
+        }) }
     {
         tree.nodes();
-        Question {
+        let layout = tree.layout(domain);
+        let parts = no_parts(alloc)?;
+        let first = first_level(alloc, platform, tree, domain, base, &layout)?;
+        let levels = Vec::from_array(alloc, [first])?;
+        Ok(Question {
             alloc,
             platform,
             tree,
             domain,
             base,
-        }
+            layout,
+            prefix: Prefix::new(),
+            parts,
+            levels,
+        })
     }
 
-    /// How many children the group has that is next after these choices; `None` where they are a selection.
-    pub(crate) fn children(&self, prefix: &Prefix) -> Option<u8>
-        requires prefix { IsPrefix (forest self.now) prefix.now }
-        ensures number { IfSome (after (forest self.now) prefix.now)
+    /// The choices so far.
+    pub(crate) fn prefix(&self) -> &Prefix
+        ensures { result.now ≡ self.now.choices }
+    {
+        &self.prefix
+    }
+
+    /// The choices, which are all that is left of a question that was answered.
+    pub(crate) fn into_prefix(self) -> Prefix
+        ensures { result ≡ self.entry.choices }
+    {
+        self.prefix
+    }
+
+    /// How many children the group has that is next; `None` where the choices are a selection.
+    pub(crate) fn children(&self) -> Option<u8>
+        requires prefix { IsPrefix (forest self.now.matter) self.now.choices }
+        ensures number { IfSome (after (forest self.now.matter) self.now.choices)
             (λ d. option_map length (choices d) ≡ result) }
-        ensures room { IfSome result (λ _. length prefix.now < 128) }
+        ensures room { IfSome result (λ _. length self.now.choices < 128) }
         ensures few { IfSome result (λ many. many ≤ 128) }
     {
-        children_after(self.tree, self.domain, prefix)
-    }
-
-    /// Whether some settings meet the participants that the choices settle, as long as more may come.
-    pub(crate) fn is_met(&self, prefix: &Prefix) -> Result<bool, AllocError>
-        requires prefix { IsPrefix (forest self.now) prefix.now }
-        requires base { HasBase self.now }
-        ensures { IfOk result (λ met. IfSome (after (forest self.now) prefix.now)
-            (λ d. IsTrue met ↔ IsMet (MeetsSoFar self.now) d)) }
-    {
-        match self.base {
-            None => can_be_met(self.alloc, self.platform, self.tree, self.domain, prefix),
-            Some(base) => {
-                base_meets(
-                    self.alloc,
-                    self.platform,
-                    self.tree,
-                    self.domain,
-                    base,
-                    prefix,
-                )
-            }
+        none_open_is_selection();
+        match self.levels[self.prefix.choices().len()].group {
+            Some(group) => Some(self.layout.group_at(group).1 as u8),
+            None => None,
         }
     }
 
-    /// The best settings for the participants of a selection; `None` where none meet them.
-    pub(crate) fn best(&self, prefix: &Prefix) -> Result<Option<Settings>, AllocError>
-        requires prefix { IsPrefix (forest self.now) prefix.now }
-        requires base { HasBase self.now }
-        ensures { IfOk result (λ best. IfSome (after (forest self.now) prefix.now)
-            (λ d. MatchOption best ((t : Settled) → ¬ (Meets self.now (settled d) t))
-            (IsBest self.now (settled d)))) }
+    /// Whether some settings meet the participants that the choices settle, as long as more may come. It takes no memory.
+    pub(crate) fn is_met(&self) -> bool
+        ensures { IfSome (after (forest self.now.matter) self.now.choices)
+            (λ d. IsTrue result ↔ IsMet (MeetsSoFar self.now.matter) d) }
     {
-        let Some(base) = self.base else {
-            return best_for(self.alloc, self.platform, self.tree, self.domain, prefix);
+        let level = &self.levels[self.prefix.choices().len()];
+        level.kept.is_met(self.platform, self.base)
+    }
+
+    /// The best settings for the participants of a selection; `None` where none meet them. It takes no memory.
+    pub(crate) fn best(&self) -> Option<Settings>
+        ensures { IfSome (after (forest self.now.matter) self.now.choices) (λ d. MatchOption result
+            ((t : Settled) → ¬ (Meets self.now.matter (settled d) t))
+            (IsBest self.now.matter (settled d))) }
+    {
+        let level = &self.levels[self.prefix.choices().len()];
+        level.kept.best(self.platform, self.base)
+    }
+
+    /// Makes one choice more. It takes memory where a choice of this child, or so many choices, are made for the first time.
+    pub(crate) fn enter(&mut self, choice: u8) -> Result<(), AllocError>
+        requires room { length self.old.choices < 128 }
+        requires prefix { IsPrefix (forest self.old.matter) (self.old.choices ++ choice ∷ []) }
+        ensures { OnOk result (self.new
+            ≡ record { matter = self.old.matter; choices = self.old.choices ++ choice ∷ [] }) }
+    {
+        choice_settles_share();
+        none_open_is_selection();
+        sums_in_any_order();
+        let depth = self.prefix.choices().len();
+        let Some(group) = self.levels[depth].group else {
+            return Ok(());
         };
-        if base_meets(
+        let child = self.layout.child_at(group, choice);
+        keep_part(
+            &mut self.parts,
+            child,
+            self.alloc,
+            self.platform,
+            self.tree,
+            self.base,
+            &self.layout,
+        )?;
+        reserve_level(
+            &mut self.levels,
+            depth,
             self.alloc,
             self.platform,
             self.tree,
             self.domain,
-            base,
-            prefix,
-        )? {
-            return Ok(Some(base.settings()));
-        }
-        Ok(None)
+            self.base,
+        )?;
+        let Some(part) = &self.parts[child.number()] else {
+            return Ok(());
+        };
+        let next = self.layout.open_after(child);
+        join_level(&mut self.levels, self.platform, depth, part, next);
+        self.prefix.push(choice);
+        Ok(())
+    }
+
+    /// Takes the last choice back.
+    pub(crate) fn leave(&mut self)
+        ensures { (cs : List ℕ) (choice : ℕ) → self.old.choices ≡ cs ++ choice ∷ []
+            → self.new ≡ record { matter = self.old.matter; choices = cs } }
+    {
+        self.prefix.pop();
     }
 }

@@ -4,9 +4,10 @@ ghost use Rattle.std.specs.Prelude.{IfOk, IfSome};
 ghost use Rattle.sysmem_tree.specs.Domain.{HasDomain};
 ghost use Rattle.sysmem_tree.specs.Nodes.{HasNode};
 
-use crate::{Found, NoGate, search};
+use crate::{Found, Gate, search};
 use serde_json::Value;
 use std::alloc::Global;
+use std::cell::Cell;
 use std::process::Abort;
 use std::sync::Arc;
 use std::test::Fail;
@@ -34,6 +35,14 @@ const ANY: &str =
 
 const NV12: &str =
     r#"{"usage":["video"],"image_format_constraints":[{"pixel_format":"NV12","color_spaces":["SRGB"]}]}"#;
+
+const R8: &str =
+    r#"{"usage":["video"],"image_format_constraints":[{"pixel_format":"R8","color_spaces":["SRGB"]}]}"#;
+
+const R8G8B8A8: &str =
+    r#"{"usage":["video"],"image_format_constraints":[{"pixel_format":"R8G8B8A8","color_spaces":["SRGB"]}]}"#;
+
+const CPU: &str = r#"{"usage":["cpu"]}"#;
 
 const NEVER: &str = r#"{"usage":["cpu"],"min_buffer_count":2,"max_buffer_count":1}"#;
 
@@ -82,7 +91,7 @@ fn play(alloc: Global, tree: &mut Tree, steps: &[(&[u32], Deed)]) -> Result<(), 
     Ok(())
 }
 
-// Groups of two released children each, below the root, but that the first child of the first group can't be met; then the root's release.
+// Groups of two children each, below the root; then the root's release, and that of each child but the first one's.
 fn groups_of_two(alloc: Global, tree: &mut Tree, many: u32) -> Result<(), Fail> {
     for group in 0..many {
         play(
@@ -100,24 +109,48 @@ fn groups_of_two(alloc: Global, tree: &mut Tree, many: u32) -> Result<(), Fail> 
             play(alloc, tree, &[(&[group, 0], Deed::Release)])?;
         }
     }
+    play(alloc, tree, &[(&[], Deed::Release)])
+}
+
+// Such groups, where nothing meets the first child of the first one.
+fn cut_groups(alloc: Global, tree: &mut Tree, many: u32) -> Result<(), Fail> {
+    groups_of_two(alloc, tree, many)?;
     play(
         alloc,
         tree,
-        &[
-            (&[0, 0], Deed::Bind),
-            (&[0, 0], Deed::Set(NEVER)),
-            (&[], Deed::Release),
-        ],
+        &[(&[0, 0], Deed::Bind), (&[0, 0], Deed::Set(NEVER))],
     )
 }
 
-// Decides the initial domain, which has to be ready.
-fn decide(alloc: Global, tree: &Tree) -> Result<Found, Fail> {
+// Counts the visits of which it is told, and keeps how many choices there were at most.
+#[derive(Drop)]
+struct Counted {
+    visits: Cell<u64>,
+    most_choices: Cell<u32>,
+}
+
+impl Gate for Counted {
+    fn at_prefix(&self, length: u32) {
+        self.visits.set(self.visits.get().saturating_add(1));
+        self.most_choices.set(self.most_choices.get().max(length));
+    }
+}
+
+// Decides the initial domain, which has to be ready; the gate has to be told of each visit, with no more than so many choices.
+fn decide(alloc: Global, tree: &Tree, most_choices: u32) -> Result<Found, Fail> {
     let domain = tree.domain_of(tree.root());
     if !tree.ready(domain) || tree.host_of(domain).is_some() {
         return Err(Fail::new("not ready"));
     }
-    Ok(search(alloc, &platform(alloc)?, tree, domain, None, &NoGate)?)
+    let gate = Counted {
+        visits: Cell::new(0),
+        most_choices: Cell::new(0),
+    };
+    let found = search(alloc, &platform(alloc)?, tree, domain, None, &gate)?;
+    if gate.visits.get() != found.visits || gate.most_choices.get() != most_choices {
+        return Err(Fail::new("the gate was told of other visits"));
+    }
+    Ok(found)
 }
 
 // Whether these choices were chosen.
@@ -158,7 +191,7 @@ fn two_groups(alloc: Global, last: &'static str) -> Result<Tree, Fail> {
 #[test]
 fn a_later_group_names_the_format(rt: HostRuntime) -> Result<(), Fail> {
     let tree = two_groups(rt.alloc(), NV12)?;
-    let found = decide(rt.alloc(), &tree)?;
+    let found = decide(rt.alloc(), &tree, 2)?;
     assert_eq!(&rt; found.visits, 3);
     assert!(&rt; chose(&found, &[0, 0]));
     Ok(())
@@ -167,17 +200,94 @@ fn a_later_group_names_the_format(rt: HostRuntime) -> Result<(), Fail> {
 #[test]
 fn nothing_named(rt: HostRuntime) -> Result<(), Fail> {
     let tree = two_groups(rt.alloc(), ANY)?;
-    let found = decide(rt.alloc(), &tree)?;
+    let found = decide(rt.alloc(), &tree, 2)?;
     assert_eq!(&rt; found.visits, 5);
     assert!(&rt; matches!(found.verdict, Verdict::IntersectionEmpty));
     Ok(())
 }
 
 #[test]
-fn twelve_groups_with_one_cut(rt: HostRuntime) -> Result<(), Fail> {
+fn the_first_of_two_selections(rt: HostRuntime) -> Result<(), Fail> {
+    let mut tree = Tree::new(rt.alloc())?;
+    play(
+        rt.alloc(),
+        &mut tree,
+        &[
+            (&[], Deed::CreateGroup),
+            (&[0], Deed::CreateChild),
+            (&[0], Deed::CreateChild),
+            (&[0], Deed::AllChildrenPresent),
+            (&[], Deed::CreateGroup),
+            (&[1], Deed::CreateChild),
+            (&[1], Deed::CreateChild),
+            (&[1], Deed::CreateChild),
+            (&[1], Deed::AllChildrenPresent),
+            (&[], Deed::Release),
+            (&[0, 0], Deed::Bind),
+            (&[0, 0], Deed::Set(R8)),
+            (&[0, 1], Deed::Bind),
+            (&[0, 1], Deed::Set(NV12)),
+            (&[1, 0], Deed::Bind),
+            (&[1, 0], Deed::Set(NV12)),
+            (&[1, 1], Deed::Bind),
+            (&[1, 1], Deed::Set(R8G8B8A8)),
+            (&[1, 2], Deed::Bind),
+            (&[1, 2], Deed::Set(R8)),
+        ],
+    )?;
+    let found = decide(rt.alloc(), &tree, 2)?;
+    assert_eq!(&rt; found.visits, 5);
+    assert!(&rt; chose(&found, &[0, 2]));
+    Ok(())
+}
+
+#[test]
+fn one_group_inside_another(rt: HostRuntime) -> Result<(), Fail> {
+    let mut tree = Tree::new(rt.alloc())?;
+    play(
+        rt.alloc(),
+        &mut tree,
+        &[
+            (&[], Deed::CreateGroup),
+            (&[], Deed::Release),
+            (&[0], Deed::CreateChild),
+            (&[0], Deed::CreateChild),
+            (&[0], Deed::AllChildrenPresent),
+            (&[0, 0], Deed::CreateGroup),
+            (&[0, 0, 0], Deed::CreateChild),
+            (&[0, 0, 0], Deed::CreateChild),
+            (&[0, 0, 0], Deed::AllChildrenPresent),
+            (&[0, 0], Deed::Release),
+            (&[0, 0, 0, 0], Deed::Bind),
+            (&[0, 0, 0, 0], Deed::Set(NEVER)),
+            (&[0, 0, 0, 1], Deed::Bind),
+            (&[0, 0, 0, 1], Deed::Set(NEVER)),
+            (&[0, 1], Deed::Bind),
+            (&[0, 1], Deed::Set(CPU)),
+        ],
+    )?;
+    let found = decide(rt.alloc(), &tree, 2)?;
+    assert_eq!(&rt; found.visits, 5);
+    assert!(&rt; chose(&found, &[1]));
+    Ok(())
+}
+
+#[test]
+fn twelve_groups_without_a_cut(rt: HostRuntime) -> Result<(), Fail> {
     let mut tree = Tree::new(rt.alloc())?;
     groups_of_two(rt.alloc(), &mut tree, 12)?;
-    let found = decide(rt.alloc(), &tree)?;
+    play(rt.alloc(), &mut tree, &[(&[0, 0], Deed::Release)])?;
+    let found = decide(rt.alloc(), &tree, 12)?;
+    assert_eq!(&rt; found.visits, 13);
+    assert!(&rt; chose(&found, &[0; 12]));
+    Ok(())
+}
+
+#[test]
+fn twelve_groups_with_one_cut(rt: HostRuntime) -> Result<(), Fail> {
+    let mut tree = Tree::new(rt.alloc())?;
+    cut_groups(rt.alloc(), &mut tree, 12)?;
+    let found = decide(rt.alloc(), &tree, 12)?;
     assert_eq!(&rt; found.visits, 14);
     assert!(&rt; chose(&found, &[1, 0, 0, 0, 0, 0, 0, 0, 0, 0, 0, 0]));
     Ok(())
@@ -186,8 +296,8 @@ fn twelve_groups_with_one_cut(rt: HostRuntime) -> Result<(), Fail> {
 #[test]
 fn thirteen_groups_are_too_many(rt: HostRuntime) -> Result<(), Fail> {
     let mut tree = Tree::new(rt.alloc())?;
-    groups_of_two(rt.alloc(), &mut tree, 13)?;
-    let found = decide(rt.alloc(), &tree)?;
+    cut_groups(rt.alloc(), &mut tree, 13)?;
+    let found = decide(rt.alloc(), &tree, 0)?;
     assert_eq!(&rt; found.visits, 0);
     assert!(&rt; matches!(found.verdict, Verdict::TooMany));
     Ok(())

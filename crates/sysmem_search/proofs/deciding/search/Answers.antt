@@ -1,6 +1,7 @@
 -- The verdict is what was found from no choices on.
-use Rattle.std.proofs.Common.{refl, sym, ◌∙◌, ap, subst, arith}
+use Rattle.std.proofs.Common.{◌≡◌, refl, sym, ◌∙◌, ap, subst, arith}
 use Rattle.std.specs.Prelude.{option_map}
+use Rattle.sysmem_search.specs.Standing.{Standing}
 use Rattle.sysmem_search.proofs.Decided.{many_counted, few_counted, decided_empty, decided_chosen}
 use Rattle.sysmem_search.proofs.deciding.search.Goals as goal
 
@@ -8,13 +9,13 @@ pub returns-then-count_selections-gt-MOST_SELECTIONS-clause-optimal : goal.retur
 returns-then-count_selections-gt-MOST_SELECTIONS-clause-optimal g c = many_counted c.args.platform.now c.args.tree.now.nodes c.args.domain (option_map (λ b. b.now) c.args.base) c.count_selections.result c.count_selections.ensures c.if-count_selections-gt-MOST_SELECTIONS.true
 
 pub returns-in_default-clause-optimal : goal.returns-in_default-clause-optimal
-returns-in_default-clause-optimal g c = (decided_empty c.args.platform.now c.args.tree.now.nodes c.args.domain (option_map (λ b. b.now) c.args.base) c.new-question.result c.new-prefix.result c.search_from.new.prefix c.search_from.new.visits c.in_ok-settings.field-0 c.new-question.ensures c.new-prefix.ensures c.in_default.is (few_counted c.args.platform.now c.args.tree.now.nodes c.args.domain (option_map (λ b. b.now) c.args.base) c.count_selections.result c.count_selections.ensures c.if-count_selections-gt-MOST_SELECTIONS.false) c.in_ok-settings.ensures).0
+returns-in_default-clause-optimal g c = (decided_empty c.args.platform.now c.args.tree.now.nodes c.args.domain (option_map (λ b. b.now) c.args.base) c.in_ok-question.question.matter c.in_ok-question.question.choices c.search_from.new.question.choices c.search_from.new.visits c.in_ok-settings.field-0 (ap (λ (s : Standing). s.matter) c.in_ok-question.ensures) (ap (λ (s : Standing). s.choices) c.in_ok-question.ensures) c.in_default.is (few_counted c.args.platform.now c.args.tree.now.nodes c.args.domain (option_map (λ b. b.now) c.args.base) c.count_selections.result c.count_selections.ensures c.if-count_selections-gt-MOST_SELECTIONS.false) c.in_ok-settings.ensures.found).0
 
 pub returns-in_default-clause-visits : goal.returns-in_default-clause-visits
-returns-in_default-clause-visits g c = (decided_empty c.args.platform.now c.args.tree.now.nodes c.args.domain (option_map (λ b. b.now) c.args.base) c.new-question.result c.new-prefix.result c.search_from.new.prefix c.search_from.new.visits c.in_ok-settings.field-0 c.new-question.ensures c.new-prefix.ensures c.in_default.is (few_counted c.args.platform.now c.args.tree.now.nodes c.args.domain (option_map (λ b. b.now) c.args.base) c.count_selections.result c.count_selections.ensures c.if-count_selections-gt-MOST_SELECTIONS.false) c.in_ok-settings.ensures).1
+returns-in_default-clause-visits g c = (decided_empty c.args.platform.now c.args.tree.now.nodes c.args.domain (option_map (λ b. b.now) c.args.base) c.in_ok-question.question.matter c.in_ok-question.question.choices c.search_from.new.question.choices c.search_from.new.visits c.in_ok-settings.field-0 (ap (λ (s : Standing). s.matter) c.in_ok-question.ensures) (ap (λ (s : Standing). s.choices) c.in_ok-question.ensures) c.in_default.is (few_counted c.args.platform.now c.args.tree.now.nodes c.args.domain (option_map (λ b. b.now) c.args.base) c.count_selections.result c.count_selections.ensures c.if-count_selections-gt-MOST_SELECTIONS.false) c.in_ok-settings.ensures.found).1
 
 pub returns-clause-optimal : goal.returns-clause-optimal
-returns-clause-optimal g c = (decided_chosen c.args.platform.now c.args.tree.now.nodes c.args.domain (option_map (λ b. b.now) c.args.base) c.new-question.result c.new-prefix.result c.search_from.new.prefix c.search_from.new.visits c.in_ok-settings.field-0 c.in-Some.settings c.new.result c.new-question.ensures c.new-prefix.ensures c.in-Some.is (few_counted c.args.platform.now c.args.tree.now.nodes c.args.domain (option_map (λ b. b.now) c.args.base) c.count_selections.result c.count_selections.ensures c.if-count_selections-gt-MOST_SELECTIONS.false) c.in_ok-settings.ensures c.new.ensures).0
+returns-clause-optimal g c = (decided_chosen c.args.platform.now c.args.tree.now.nodes c.args.domain (option_map (λ b. b.now) c.args.base) c.in_ok-question.question.matter c.in_ok-question.question.choices c.search_from.new.question.choices c.search_from.new.visits c.in_ok-settings.field-0 c.in-Some.settings c.new-2.result (ap (λ (s : Standing). s.matter) c.in_ok-question.ensures) (ap (λ (s : Standing). s.choices) c.in_ok-question.ensures) c.in-Some.is (few_counted c.args.platform.now c.args.tree.now.nodes c.args.domain (option_map (λ b. b.now) c.args.base) c.count_selections.result c.count_selections.ensures c.if-count_selections-gt-MOST_SELECTIONS.false) c.in_ok-settings.ensures.found (c.new-2.ensures ∙ ap (λ xs. record { selection = xs; settings = c.in-Some.settings }) c.into_prefix.ensures)).0
 
 pub returns-clause-visits : goal.returns-clause-visits
-returns-clause-visits g c = (decided_chosen c.args.platform.now c.args.tree.now.nodes c.args.domain (option_map (λ b. b.now) c.args.base) c.new-question.result c.new-prefix.result c.search_from.new.prefix c.search_from.new.visits c.in_ok-settings.field-0 c.in-Some.settings c.new.result c.new-question.ensures c.new-prefix.ensures c.in-Some.is (few_counted c.args.platform.now c.args.tree.now.nodes c.args.domain (option_map (λ b. b.now) c.args.base) c.count_selections.result c.count_selections.ensures c.if-count_selections-gt-MOST_SELECTIONS.false) c.in_ok-settings.ensures c.new.ensures).1
+returns-clause-visits g c = (decided_chosen c.args.platform.now c.args.tree.now.nodes c.args.domain (option_map (λ b. b.now) c.args.base) c.in_ok-question.question.matter c.in_ok-question.question.choices c.search_from.new.question.choices c.search_from.new.visits c.in_ok-settings.field-0 c.in-Some.settings c.new-2.result (ap (λ (s : Standing). s.matter) c.in_ok-question.ensures) (ap (λ (s : Standing). s.choices) c.in_ok-question.ensures) c.in-Some.is (few_counted c.args.platform.now c.args.tree.now.nodes c.args.domain (option_map (λ b. b.now) c.args.base) c.count_selections.result c.count_selections.ensures c.if-count_selections-gt-MOST_SELECTIONS.false) c.in_ok-settings.ensures.found (c.new-2.ensures ∙ ap (λ xs. record { selection = xs; settings = c.in-Some.settings }) c.into_prefix.ensures)).1

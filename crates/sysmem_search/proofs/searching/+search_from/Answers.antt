@@ -3,59 +3,80 @@ use Rattle.std.proofs.Common.{◌≡◌, ◌<◌, ◌-◌, ◌+◌, [], ◌∷�
 use Rattle.std.specs.Prelude.{IfSome}
 use Rattle.sysmem_search.specs.Question.{forest}
 use Rattle.sysmem_search.specs.Searching.{IsFoundOf}
-use Rattle.sysmem_search.proofs.Finding.{whole_found, found_cut, begun, long_push, front_same, pushed_prefix, found_below, unmet_below, same_below, all_below, popped}
-use Rattle.sysmem_tree.specs.Selection.{after}
+use Rattle.sysmem_search.specs.Standing.{Standing}
+use Rattle.sysmem_search.proofs.Finding.{found_here, found_cut, begun, long_push, pushed_prefix, found_below, unmet_below, same_below, all_below}
+use Rattle.sysmem_tree.specs.Selection.{IsPrefix, after}
 use Rattle.sysmem_search.proofs.searching.+search_from.Goals as goal
 
-pub returns-in_default : goal.returns-in_default
-returns-in_default g t c = whole_found c.args.question.now c.best.result (after (forest c.args.question.now) c.args.prefix.now) c.args.prefix.now _ _ c.in_default.ensures.number c.saturating_add.ensures c.best.ensures
+pub returns-in_default-clause-found : goal.returns-in_default-clause-found
+returns-in_default-clause-found g t c = found_here c.args.question.now.matter (after (forest c.args.question.now.matter) c.args.question.now.choices) c.args.question.now.choices _ _ c.best.result
+    c.in_default.ensures.number c.saturating_add.ensures c.best.ensures
 
-pub returns-then-not-branch : goal.returns-then-not-branch
-returns-then-not-branch g t c = found_cut c.args.question.now (after (forest c.args.question.now) c.args.prefix.now) c.args.prefix.now _ _ c.in_ok-is_met.field-0
-    c.cuts_lose_nothing.ensures c.if-not-branch.true c.saturating_add.ensures c.in_ok-is_met.ensures
+pub returns-then-not-is_met-clause-found : goal.returns-then-not-is_met-clause-found
+returns-then-not-is_met-clause-found g t c = found_cut c.args.question.now.matter (after (forest c.args.question.now.matter) c.args.question.now.choices) c.args.question.now.choices _ _ c.is_met.result
+    c.cuts_lose_nothing.ensures c.if-not-is_met.true c.saturating_add.ensures c.is_met.ensures
 
 pub loop-choice-init : goal.loop-choice-init
 loop-choice-init g t c = record {
   same = refl;
-  gone = begun c.args.question.now (after (forest c.args.question.now) c.args.prefix.now) c.in-Some.children _ _ c.in-Some.ensures.number c.saturating_add.ensures;
+  gone = begun c.args.question.now.matter (after (forest c.args.question.now.matter) c.args.question.now.choices) c.in-Some.children _ _ c.in-Some.ensures.number c.saturating_add.ensures;
 }
+
+pub enter-requires-clause-prefix : goal.enter-requires-clause-prefix
+enter-requires-clause-prefix g t c =
+    let q = c.args.question.now in
+    subst (λ (s : Standing). IsPrefix (forest s.matter) (s.choices ++ c.loop-choice.choice ∷ [])) (sym c.loop-choice.invariant.same)
+    (pushed_prefix q.matter q.choices (q.choices ++ c.loop-choice.choice ∷ []) c.loop-choice.choice c.in-Some.children 0 c.requires.prefix c.loop-choice-test.true refl c.in-Some.ensures.number)
 
 pub search_from-requires : goal.search_from-requires
 search_from-requires g t c = λ κs out.
-    let is = c.push.ensures ∙ ap (λ xs. xs ++ c.loop-choice.choice ∷ []) c.loop-choice.invariant.same in
-    let long = long_push c.args.prefix.now c.push.new.self c.loop-choice.choice is in (
+    let q = c.args.question.now in
+    let matter_is : c.enter.new.self.matter ≡ q.matter = ap (λ (s : Standing). s.matter) (c.in_ok-enter.ensures) ∙ ap (λ (s : Standing). s.matter) c.loop-choice.invariant.same in
+    let is : c.enter.new.self.choices ≡ q.choices ++ c.loop-choice.choice ∷ [] =
+    ap (λ (s : Standing). s.choices) c.in_ok-enter.ensures ∙ ap (λ (s : Standing). s.choices ++ c.loop-choice.choice ∷ []) c.loop-choice.invariant.same in
+    let long = long_push q.choices c.enter.new.self.choices c.loop-choice.choice is in (
       omega (arith, c.decreases, long, c.in-Some.ensures.room),
       (
         out,
         (
-          pushed_prefix c.args.question.now c.args.prefix.now c.push.new.self c.loop-choice.choice c.in-Some.children 0 c.requires.prefix c.loop-choice-test.true is c.in-Some.ensures.number,
-          (
-            c.requires.base,
-            omega (arith, long, c.in-Some.ensures.room),
-          ),
+          subst (λ x. IsPrefix (forest x) c.enter.new.self.choices) (sym matter_is)
+              (pushed_prefix q.matter q.choices c.enter.new.self.choices c.loop-choice.choice c.in-Some.children 0 c.requires.prefix c.loop-choice-test.true is c.in-Some.ensures.number),
+          omega (arith, long, c.in-Some.ensures.room),
         ),
       ),
     )
 
-pub returns-in-Some-2 : goal.returns-in-Some-2
-returns-in-Some-2 g t c =
-    let is = c.push.ensures ∙ ap (λ xs. xs ++ c.loop-choice.choice ∷ []) c.loop-choice.invariant.same in
-    found_below c.args.question.now c.args.prefix.now c.push.new.self c.loop-choice.choice c.in-Some.children _ c.requires.prefix c.loop-choice-test.true is c.in-Some.ensures.number
-    c.in_ok-is_met.field-0 c.if-not-branch.false c.in_ok-is_met.ensures _ _ _ c.loop-choice.invariant.gone c.in-Some-2.settings
-    (subst (λ f. IfSome (after (forest c.args.question.now) c.push.new.self) (λ e. IsFoundOf c.args.question.now e c.push.new.self c.search_from.new.prefix c.loop-choice.visits c.search_from.new.visits f)) c.in-Some-2.is c.in_ok-settings.ensures)
+pub returns-in-Some-2-clause-found : goal.returns-in-Some-2-clause-found
+returns-in-Some-2-clause-found g t c =
+    let q = c.args.question.now in
+    let matter_is : c.enter.new.self.matter ≡ q.matter = ap (λ (s : Standing). s.matter) (c.in_ok-enter.ensures) ∙ ap (λ (s : Standing). s.matter) c.loop-choice.invariant.same in
+    let is : c.enter.new.self.choices ≡ q.choices ++ c.loop-choice.choice ∷ [] =
+    ap (λ (s : Standing). s.choices) c.in_ok-enter.ensures ∙ ap (λ (s : Standing). s.choices ++ c.loop-choice.choice ∷ []) c.loop-choice.invariant.same in
+    let found = subst (λ x. IfSome (after (forest x) c.enter.new.self.choices) (λ e. IsFoundOf x e c.enter.new.self.choices c.search_from.new.question.choices c.loop-choice.visits c.search_from.new.visits c.in_ok-settings.field-0))
+    matter_is c.in_ok-settings.ensures.found in
+    let found_is = subst (λ f. IfSome (after (forest q.matter) c.enter.new.self.choices) (λ e. IsFoundOf q.matter e c.enter.new.self.choices c.search_from.new.question.choices c.loop-choice.visits c.search_from.new.visits f)) c.in-Some-2.is found in
+    found_below q.matter q.choices c.enter.new.self.choices c.loop-choice.choice c.in-Some.children _ c.requires.prefix c.loop-choice-test.true is c.in-Some.ensures.number
+    c.is_met.result c.if-not-is_met.false c.is_met.ensures _ _ _ c.loop-choice.invariant.gone c.in-Some-2.settings found_is
 
 pub loop-choice-preserved : goal.loop-choice-preserved
 loop-choice-preserved g t c =
-    let is = c.push.ensures ∙ ap (λ xs. xs ++ c.loop-choice.choice ∷ []) c.loop-choice.invariant.same in
-    let found = subst (λ f. IfSome (after (forest c.args.question.now) c.push.new.self) (λ e. IsFoundOf c.args.question.now e c.push.new.self c.search_from.new.prefix c.loop-choice.visits c.search_from.new.visits f)) c.in_default-2.is c.in_ok-settings.ensures in
+    let q = c.args.question.now in
+    let matter_is : c.enter.new.self.matter ≡ q.matter = ap (λ (s : Standing). s.matter) (c.in_ok-enter.ensures) ∙ ap (λ (s : Standing). s.matter) c.loop-choice.invariant.same in
+    let is : c.enter.new.self.choices ≡ q.choices ++ c.loop-choice.choice ∷ [] =
+    ap (λ (s : Standing). s.choices) c.in_ok-enter.ensures ∙ ap (λ (s : Standing). s.choices ++ c.loop-choice.choice ∷ []) c.loop-choice.invariant.same in
+    let found = subst (λ x. IfSome (after (forest x) c.enter.new.self.choices) (λ e. IsFoundOf x e c.enter.new.self.choices c.search_from.new.question.choices c.loop-choice.visits c.search_from.new.visits c.in_ok-settings.field-0))
+    matter_is c.in_ok-settings.ensures.found in
+    let found_is = subst (λ f. IfSome (after (forest q.matter) c.enter.new.self.choices) (λ e. IsFoundOf q.matter e c.enter.new.self.choices c.search_from.new.question.choices c.loop-choice.visits c.search_from.new.visits f)) c.in_default-2.is found in
+    let back = same_below q.matter q.choices c.enter.new.self.choices c.loop-choice.choice c.in-Some.children _ c.requires.prefix c.loop-choice-test.true is c.in-Some.ensures.number
+    c.is_met.result c.if-not-is_met.false c.is_met.ensures _ _ _ c.loop-choice.invariant.gone found_is in
     record {
-      same = popped c.pop.result c.search_from.new.prefix c.pop.new.self c.args.prefix.now c.loop-choice.choice c.pop.ensures
-          (same_below c.args.question.now c.args.prefix.now c.push.new.self c.loop-choice.choice c.in-Some.children _ c.requires.prefix c.loop-choice-test.true is c.in-Some.ensures.number
-          c.in_ok-is_met.field-0 c.if-not-branch.false c.in_ok-is_met.ensures _ _ _ c.loop-choice.invariant.gone found ∙ is);
-      gone = unmet_below c.args.question.now c.args.prefix.now c.push.new.self c.loop-choice.choice c.in-Some.children _ c.requires.prefix c.loop-choice-test.true is c.in-Some.ensures.number
-          c.in_ok-is_met.field-0 c.if-not-branch.false c.in_ok-is_met.ensures _ _ _ c.loop-choice.invariant.gone found;
+      same = c.leave.ensures q.choices c.loop-choice.choice (back ∙ is) ∙ ap (λ x. record { matter = x; choices = q.choices }) (c.in_ok-settings.ensures.matter ∙ matter_is);
+      gone = unmet_below q.matter q.choices c.enter.new.self.choices c.loop-choice.choice c.in-Some.children _ c.requires.prefix c.loop-choice-test.true is c.in-Some.ensures.number
+          c.is_met.result c.if-not-is_met.false c.is_met.ensures _ _ _ c.loop-choice.invariant.gone found_is;
     }
 
-pub returns : goal.returns
-returns g t c = all_below c.args.question.now (after (forest c.args.question.now) c.args.prefix.now) c.args.prefix.now _ c.loop-choice.choice c.in-Some.children _ _ c.loop-choice-test.false c.loop-choice.auto.choice-end
-    c.in-Some.ensures.number c.loop-choice.invariant.same c.loop-choice.invariant.gone
+pub returns-clause-found : goal.returns-clause-found
+returns-clause-found g t c =
+    let q = c.args.question.now in
+    all_below q.matter (after (forest q.matter) q.choices) q.choices _ c.loop-choice.choice c.in-Some.children _ _ c.loop-choice-test.false c.loop-choice.auto.choice-end
+    c.in-Some.ensures.number (ap (λ (s : Standing). s.choices) c.loop-choice.invariant.same) c.loop-choice.invariant.gone

@@ -1,20 +1,18 @@
--- With a base its settings are the best, or there are none.
-use Rattle.std.proofs.Common.{◌≡◌, sym, ap, subst}
-use Rattle.std.specs.Prelude.{IfSome, option_map}
+-- What is kept where the question stands is asked.
+use Rattle.std.proofs.Common.{◌≡◌, subst}
+use Rattle.std.specs.Prelude.{IfSome, MatchOption, option_map}
 use Rattle.sysmem_merge.specs.declared.settings.Settings.{Settings}
-use Rattle.sysmem_search.specs.Question.{forest, Meets, IsBest}
+use Rattle.sysmem_search.specs.Question.{Matter, forest, Meets, IsBest}
+use Rattle.sysmem_search.proofs.AskedMembers.{if_some}
+use Rattle.sysmem_search.proofs.Entering.{level_at, kept_at}
 use Rattle.sysmem_tree.specs.Forest.{settled}
-use Rattle.sysmem_tree.specs.Selection.{IsPrefix, after}
-use Rattle.sysmem_search.proofs.AskedMembers.{attached_best, attached_none}
+use Rattle.sysmem_tree.specs.Selection.{after}
 use Rattle.sysmem_search.proofs.question.Question.best.Goals as goal
 
-pub base_meets-requires-clause-prefix : goal.base_meets-requires-clause-prefix
-base_meets-requires-clause-prefix c = subst (λ m. IsPrefix (forest m) c.args.prefix.now) (sym c.self.view_is) c.requires.prefix
-
-pub returns-then-branch : goal.returns-then-branch
-returns-then-branch c = subst (λ m. IfSome (after (forest m) c.args.prefix.now) (λ d. IsBest m (settled d) c.settings.result)) c.self.view_is
-    (attached_best (record { platform = c.self.inside.platform.now; nodes = c.self.inside.tree.now.nodes; domain = c.self.inside.domain; base = option_map (λ b. b.now) c.self.inside.base }) c.in-Some.base.now c.args.prefix.now c.in_ok-base_meets.field-0 c.settings.result (ap (option_map (λ b. b.now)) c.in-Some.is) c.if-branch.true c.settings.ensures c.in_ok-base_meets.ensures)
-
 pub returns : goal.returns
-returns c = subst (λ m. IfSome (after (forest m) c.args.prefix.now) (λ d. (t : Settings) → ¬ (Meets m (settled d) t))) c.self.view_is
-    (attached_none (record { platform = c.self.inside.platform.now; nodes = c.self.inside.tree.now.nodes; domain = c.self.inside.domain; base = option_map (λ b. b.now) c.self.inside.base }) c.in-Some.base.now c.args.prefix.now c.in_ok-base_meets.field-0 (ap (option_map (λ b. b.now)) c.in-Some.is) c.if-branch.false c.in_ok-base_meets.ensures)
+returns c =
+    let m : Matter = record { platform = c.self.inside.platform.now; nodes = c.self.inside.tree.now.nodes; domain = c.self.inside.domain; base = option_map (λ b. b.now) c.self.inside.base } in
+    let cs = c.self.inside.prefix in
+    let level = level_at m c.self.inside.layout c.self.inside.parts.items c.self.inside.levels.items c.choices.result.now cs c.index-level.result.now c.choices.ensures c.self.invariant.2 c.index-level.ensures in
+    subst (λ s. IfSome (after (forest s.matter) s.choices) (λ d. MatchOption c.best.result ((t : Settings) → ¬ (Meets s.matter (settled d) t)) (IsBest s.matter (settled d)))) c.self.view_is
+    (if_some _ (after (forest m) cs) (λ d leads. c.best.ensures m.nodes (settled d) (kept_at m c.self.inside.layout cs c.index-level.result.now level d leads)))

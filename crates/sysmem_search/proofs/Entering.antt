@@ -1,0 +1,310 @@
+-- What a search keeps where it stands, from one choice to the next.
+use Rattle.std.proofs.Common.{◌≡◌, ◌≢◌, ◌<◌, ◌≤◌, ◌⊎◌, ◌+◌, ℕ, zero, suc, List, [], ◌∷◌, ◌++◌, Option, Some, None, length, take, slice_get, slice_set, get_or, is_some, Bool, true, refl, sym, ◌∙◌, ap, subst, arith, inl, inr, length-append}
+use Rattle.std.specs.Prelude.{IfSome, IsSome, IsSomeAnd, IsPermutation, option_map, option_and_then}
+use Rattle.std.specs.List.{filter_map}
+use Rattle.std.proofs.lemmas.Bool.{cases_eq}
+use Rattle.std.proofs.lemmas.List.{take_all, length-set}
+use Rattle.std.proofs.lemmas.List.Elements.{filter_map-append}
+use Rattle.std.proofs.lemmas.List.Sorted.{length_permutation}
+use Rattle.std.proofs.lemmas.Option.{same_Some, slice_get_within, option_and_then_some}
+use Rattle.list_lemmas.proofs.CallerLemmas.{slice_get-append_left, slice_get-set_same, slice_get-set_other}
+use Rattle.sysmem_merge.specs.Sum.{SumsInAnyOrder}
+use Rattle.sysmem_proof.specs.Base.{BaseFacts}
+use Rattle.sysmem_proof.specs.Members.{participants}
+use Rattle.sysmem_sanitise.specs.Participant.{Participant}
+use Rattle.sysmem_sanitise.specs.Platform.{PlatformFacts}
+use Rattle.sysmem_search.specs.declared.kept.Part.{Part}
+use Rattle.sysmem_search.specs.declared.levels.Level.{Level}
+use Rattle.sysmem_search.specs.Kept.{IsKept, IsPart, HaveRoom}
+use Rattle.sysmem_search.specs.Question.{Matter, HasBase, forest, asked_at, asked_of}
+use Rattle.sysmem_search.specs.Standing.{LaysOut, IsLevel, AreLevels, AreMade, AreParts, Keeps, numbers}
+use Rattle.sysmem_search.proofs.Keeping.{kept_in_order, have_room}
+use Rattle.sysmem_search.proofs.Orders.{taken_in_order}
+use Rattle.sysmem_search.proofs.AskedMembers.{root_there, numbers_left, same_asked, of_some, some_of, if_some}
+use Rattle.sysmem_search.proofs.Shapes.{few_settled}
+use Rattle.sysmem_search.proofs.Taking.{few_asked_of}
+use Rattle.sysmem_search.proofs.Walking.{few_accepted}
+use Rattle.sysmem_tree.specs.declared.layout.Layout.{Layout}
+use Rattle.sysmem_tree.specs.Domain.{HasDomain}
+use Rattle.sysmem_tree.specs.Forest.{Forest, choices, settled, first_group}
+use Rattle.sysmem_tree.proofs.CallerLemmas.{first_many}
+use Rattle.sysmem_tree.specs.LayoutLaws.{ChoiceSettlesShare, NoneOpenIsSelection}
+use Rattle.sysmem_tree.specs.Node.{NodeFacts}
+use Rattle.sysmem_tree.specs.Nodes.{IsTree}
+use Rattle.sysmem_tree.specs.OpenGroups.{IsChildPlace, IsFirstOpen, share_of}
+use Rattle.sysmem_tree.specs.Selection.{after, IsPrefix}
+use Rattle.sysmem_tree.specs.Shape.{Member}
+
+-- goes out of an option that is there
+pub there : {X : Type 0} (P : X → Type 0) (o : Option X) → IsSomeAnd o P → (x : X) × (o ≡ Some x) × P x
+there P None h = absurd h
+there P (Some x) h = (x, refl, h)
+
+pub and_there : {X : Type 0} (P : X → Type 0) (o : Option X) (x : X) → o ≡ Some x → P x → IsSomeAnd o P
+and_there P None x is h = absurd (cc)
+and_there P (Some y) x is h = subst P (sym (same_Some y x is)) h
+
+-- what stands at a place of a list
+pub at_index : {X : Type 0} (xs : List X) (k : ℕ) (x : X) → x ≡ get_or xs k x → k < length xs → slice_get xs k ≡ Some x
+at_index [] k x is less = absurd (omega (arith, less))
+at_index (y ∷ xs) zero x is less = ap Some (sym is)
+at_index (y ∷ xs) (suc k) x is less = at_index xs k x is (omega (arith, less))
+
+-- a front of choices is one of more choices
+front_of : (cs : List ℕ) (c k : ℕ) → k ≤ length cs → take k (cs ++ c ∷ []) ≡ take k cs
+front_of [] c zero within = refl
+front_of [] c (suc k) within = absurd (omega (arith, within))
+front_of (x ∷ cs) c zero within = refl
+front_of (x ∷ cs) c (suc k) within = ap (λ xs. x ∷ xs) (front_of cs c k (omega (arith, within)))
+
+module _ (m : Matter) (layout : Layout) where
+  -- the level where it stands
+  pub level_here : (cs : List ℕ) (levels : List Level) → AreLevels m layout cs levels → IsSomeAnd (slice_get levels (length cs)) (IsLevel m layout cs)
+  level_here cs levels are = subst (λ xs. IsSomeAnd (slice_get levels (length cs)) (IsLevel m layout xs)) (take_all (length cs) cs (omega arith)) (are (length cs) (omega arith))
+
+  -- what is read there is it
+  pub level_at : (parts : List (Option Part)) (levels : List Level) (items cs : List ℕ) (level : Level) → items ≡ cs → Keeps m layout parts levels cs
+      → level ≡ get_or levels (length items) level → IsLevel m layout cs level
+  level_at parts levels items cs level same keeps is =
+      let (l, here, h) = there (IsLevel m layout cs) (slice_get levels (length cs)) (level_here cs levels keeps.fronts) in
+      let at = at_index levels (length cs) level (subst (λ xs. level ≡ get_or levels (length xs) level) same is) (slice_get_within levels (length cs) l here) in
+      subst (IsLevel m layout cs) (same_Some l level (sym here ∙ at)) h
+
+  -- there is such a level
+  pub level_within : (parts : List (Option Part)) (levels : List Level) (items cs : List ℕ) → items ≡ cs → Keeps m layout parts levels cs → length items < length levels
+  level_within parts levels items cs same keeps =
+      let (l, here, h) = there (IsLevel m layout cs) (slice_get levels (length cs)) (level_here cs levels keeps.fronts) in
+      subst (λ xs. length xs < length levels) (sym same) (slice_get_within levels (length cs) l here)
+
+  -- what is kept there is of what the choices settle
+  pub kept_at : (cs : List ℕ) (level : Level) → IsLevel m layout cs level → (d : Forest Member) → after (forest m) cs ≡ Some d → IsKept m.platform m.nodes m.base level.kept (participants (settled d))
+  kept_at cs level is d leads = subst (λ x. IsKept m.platform m.nodes m.base level.kept (participants (settled x))) (same_Some is.left d (sym is.leads ∙ leads)) is.kept
+
+  -- with more parts, and with more levels
+  pub more_kept : (parts parts' : List (Option Part)) (levels levels' : List Level) (items cs : List ℕ) → items ≡ cs → Keeps m layout parts levels cs → length parts' ≡ length parts
+      → AreParts m.platform m.nodes m.base layout parts' → ((k : ℕ) → k ≤ length items → slice_get levels' k ≡ slice_get levels k) → AreMade m.platform m.nodes m.base levels' → Keeps m layout parts' levels' cs
+  more_kept parts parts' levels levels' items cs at keeps long are same made = record {
+    given = keeps.given;
+    laid = keeps.laid;
+    places = long ∙ keeps.places;
+    shares = are;
+    made = made;
+    fronts = λ k within. subst (λ o. IsSomeAnd o (IsLevel m layout (take k cs))) (sym (same k (subst (λ xs. k ≤ length xs) (sym at) within))) (keeps.fronts k within);
+  }
+
+  -- before any choice
+  pub first_keeps : (parts : List (Option Part)) (level : Level) → HasBase m → LaysOut m layout → length parts ≡ 128 → ((at : ℕ) (part : Part) → slice_get parts at ≢ Some (Some part))
+      → IsLevel m layout [] level → Keeps m layout parts (level ∷ []) []
+  first_keeps parts level base lays places none first = record {
+    given = base;
+    laid = lays;
+    places = places;
+    shares = λ at part is. absurd (none at part is);
+    made = made;
+    fronts = levels;
+  } where
+    made : AreMade m.platform m.nodes m.base (level ∷ [])
+    made zero l is = (participants (settled first.left), subst (λ x. IsKept m.platform m.nodes m.base x.kept (participants (settled first.left))) (same_Some level l is) first.kept)
+    made (suc k) l is = absurd (cc)
+
+    levels : AreLevels m layout [] (level ∷ [])
+    levels zero within = first
+    levels (suc k) within = absurd (omega (arith, within))
+
+  -- without the last choice
+  pub left_keeps : (parts : List (Option Part)) (levels : List Level) (longer cs : List ℕ) (c : ℕ) → longer ≡ cs ++ c ∷ [] → Keeps m layout parts levels longer → Keeps m layout parts levels cs
+  left_keeps parts levels longer cs c is keeps = record {
+    given = keeps.given;
+    laid = keeps.laid;
+    places = keeps.places;
+    shares = keeps.shares;
+    made = keeps.made;
+    fronts = λ k within. subst (λ xs. IsSomeAnd (slice_get levels k) (IsLevel m layout xs)) (ap (take k) is ∙ front_of cs c k within)
+        (keeps.fronts k (subst (λ xs. k ≤ length xs) (sym is) (omega (arith, within, length-append cs (c ∷ [])))));
+  }
+
+  -- with one choice more, below whose level nothing changed
+  pub entered_keeps : (parts parts' : List (Option Part)) (levels between levels' : List Level) (cs longer : List ℕ) (c : ℕ) → longer ≡ cs ++ c ∷ [] → Keeps m layout parts levels cs
+      → length parts' ≡ length parts → AreParts m.platform m.nodes m.base layout parts' → ((k : ℕ) → k ≤ length cs → slice_get between k ≡ slice_get levels k)
+      → AreMade m.platform m.nodes m.base between → ((k : ℕ) → k ≢ length cs + 1 → slice_get levels' k ≡ slice_get between k)
+      → IsSomeAnd (slice_get levels' (length cs + 1)) (IsLevel m layout longer) → Keeps m layout parts' levels' longer
+  entered_keeps parts parts' levels between levels' cs longer c is keeps long are kept between_made same last = record {
+    given = keeps.given;
+    laid = keeps.laid;
+    places = long ∙ keeps.places;
+    shares = are;
+    made = made;
+    fronts = each;
+  } where
+    made : AreMade m.platform m.nodes m.base levels'
+    made k level at = elim (cases_eq k (length cs + 1)) [
+      | inl here ↦
+          let (l, one, is') = there (IsLevel m layout longer) (slice_get levels' (length cs + 1)) last in (
+            participants (settled is'.left),
+            subst (λ x. IsKept m.platform m.nodes m.base x.kept (participants (settled is'.left))) (same_Some l level (sym one ∙ (ap (slice_get levels') (sym here) ∙ at))) is'.kept,
+          )
+      | inr other ↦ between_made k level (sym (same k other) ∙ at)
+    ]
+
+    long_is : length longer ≡ length cs + 1
+    long_is = ap length is ∙ length-append cs (c ∷ [])
+
+    each : AreLevels m layout longer levels'
+    each k within = elim (cases_eq k (length cs + 1)) [
+      | inl here ↦ subst (λ n. IsSomeAnd (slice_get levels' n) (IsLevel m layout (take n longer))) (sym here)
+          (subst (λ xs. IsSomeAnd (slice_get levels' (length cs + 1)) (IsLevel m layout xs)) (sym (take_all (length cs + 1) longer (omega (arith, long_is)))) last)
+      | inr other ↦
+          let less : k ≤ length cs = omega (arith, within, long_is, other) in
+          subst (λ o. IsSomeAnd o (IsLevel m layout (take k longer))) (sym (same k other ∙ kept k less))
+          (subst (λ xs. IsSomeAnd (slice_get levels k) (IsLevel m layout xs)) (sym (ap (take k) is ∙ front_of cs c k less)) (keeps.fronts k less))
+    ]
+
+  module _ (cs : List ℕ) (c at : ℕ) (above : Level) (is : IsLevel m layout cs above) (law : ChoiceSettlesShare) (child : IsChildPlace layout (numbers m) cs c at)
+      (numbers_left : (e : Forest ℕ) × (after (numbers m) cs ≡ Some e)) where
+    -- what one choice more settles asks what was asked before, and what its share asks
+    pub settles_more : (d : Forest Member) → after (forest m) (cs ++ c ∷ []) ≡ Some d
+        → IsPermutation (participants (settled is.left) ++ asked_of m.nodes (share_of layout at)) (participants (settled d))
+    settles_more d leads =
+        let s = law layout (numbers m) cs c at child in
+        let (e, here) = numbers_left in
+        let order = taken_in_order (asked_at m.nodes) (settled e ++ share_of layout at) (settled s.left)
+        (of_some (λ x. IsPermutation (settled x ++ share_of layout at) (settled s.left)) (after (numbers m) cs) e here s.adds) in
+        let before = filter_map-append (asked_at m.nodes) (settled e) (share_of layout at) ∙ ap (λ xs. xs ++ asked_of m.nodes (share_of layout at)) (same_asked m.nodes m.domain cs e is.left here is.leads) in
+        subst (λ xs. IsPermutation xs (participants (settled d))) before
+        (subst (IsPermutation (asked_of m.nodes (settled e ++ share_of layout at))) (same_asked m.nodes m.domain (cs ++ c ∷ []) s.left d s.leads leads) order)
+
+    -- so the level of one choice more is joined
+    pub joined_level : SumsInAnyOrder → (longer : List ℕ) (level : Level) (next : Option ℕ) → longer ≡ cs ++ c ∷ [] → IsPrefix (forest m) (cs ++ c ∷ [])
+        → (level.group ≡ next) × IsKept m.platform m.nodes m.base level.kept (participants (settled is.left) ++ asked_of m.nodes (share_of layout at))
+        → IsFirstOpen layout (numbers m) (cs ++ c ∷ []) next → IsLevel m layout longer level
+    joined_level sums longer level next long prefix made open' =
+        let (d, leads) = some_of (after (forest m) (cs ++ c ∷ [])) prefix in
+        subst (λ xs. IsLevel m layout xs level) (sym long) (record {
+          left = d;
+          leads = leads;
+          kept = kept_in_order sums m.platform m.nodes m.base level.kept _ _ (settles_more d leads) made.1;
+          group = subst (IsFirstOpen layout (numbers m) (cs ++ c ∷ [])) (sym made.0) open';
+        })
+
+-- a level of one choice more was joined, from that above it and from a part
+abbrev pub IsJoined : PlatformFacts → List Level → List Level → ℕ → Part → Option ℕ → Type 0
+IsJoined platform between levels' depth part next = (nodes : List NodeFacts) (base : Option BaseFacts) (ps qs : List Participant) (above old : Level)
+    → slice_get between depth ≡ Some above → slice_get between (depth + 1) ≡ Some old → IsKept platform nodes base above.kept ps → IsPart platform base part qs
+    → (others : List Participant) → IsKept platform nodes base old.kept others
+    → IsSomeAnd (slice_get levels' (depth + 1)) (λ level. (level.group ≡ next) × IsKept platform nodes base level.kept (ps ++ qs))
+
+at_length : {X : Type 0} (xs : List X) (k : ℕ) → k < length xs → (x : X) × (slice_get xs k ≡ Some x)
+at_length [] k less = absurd (omega (arith, less))
+at_length (x ∷ xs) zero less = (x, refl)
+at_length (x ∷ xs) (suc k) less = at_length xs k (omega (arith, less))
+
+some_weaker : {X : Type 0} (P Q : X → Type 0) (o : Option X) → ((x : X) → P x → Q x) → IsSomeAnd o P → IsSomeAnd o Q
+some_weaker P Q None h p = absurd p
+some_weaker P Q (Some x) h p = h x p
+
+module _ (m : Matter) (layout : Layout) (parts parts' : List (Option Part)) (levels between levels' : List Level) (cs longer : List ℕ) (c at : ℕ) (part : Part) (next : Option ℕ) where
+  entered_at : longer ≡ cs ++ c ∷ [] → Keeps m layout parts levels cs → length parts' ≡ length parts → AreParts m.platform m.nodes m.base layout parts'
+      → ((k : ℕ) → k ≤ length cs → slice_get between k ≡ slice_get levels k) → AreMade m.platform m.nodes m.base between → length cs + 1 < length between
+      → ((k : ℕ) → k ≢ length cs + 1 → slice_get levels' k ≡ slice_get between k) → IsJoined m.platform between levels' (length cs) part next → slice_get parts' at ≡ Some (Some part)
+      → SumsInAnyOrder → ChoiceSettlesShare → IsChildPlace layout (numbers m) cs c at → (e : Forest ℕ) × (after (numbers m) cs ≡ Some e) → IsPrefix (forest m) (cs ++ c ∷ [])
+      → IsFirstOpen layout (numbers m) (cs ++ c ∷ []) next → Keeps m layout parts' levels' longer
+  entered_at long keeps places are kept made room others joined here sums law child numbers_here prefix open' =
+      let (above, is, level) = there (IsLevel m layout cs) (slice_get levels (length cs)) (level_here m layout cs levels keeps.fronts) in
+      let (old, old_is) = at_length between (length cs + 1) room in
+      let (ps, old_kept) = made (length cs + 1) old old_is in
+      entered_keeps m layout parts parts' levels between levels' cs longer c long keeps places are kept made others
+      (some_weaker _ (IsLevel m layout longer) (slice_get levels' (length cs + 1))
+      (λ l h. joined_level m layout cs c at above level law child numbers_here sums longer l next long prefix h open')
+      (joined m.nodes m.base (participants (settled level.left)) (asked_of m.nodes (share_of layout at)) above old (kept (length cs) (omega arith) ∙ is) old_is level.kept (are at part here) ps old_kept))
+
+  -- where a search stands after one choice more
+  pub entered : (items : List ℕ) → items ≡ cs → longer ≡ cs ++ c ∷ [] → Keeps m layout parts levels cs → length parts' ≡ length parts → AreParts m.platform m.nodes m.base layout parts'
+      → ((k : ℕ) → k ≤ length items → slice_get between k ≡ slice_get levels k) → AreMade m.platform m.nodes m.base between → length items + 1 < length between
+      → ((k : ℕ) → k ≢ length items + 1 → slice_get levels' k ≡ slice_get between k) → IsJoined m.platform between levels' (length items) part next → slice_get parts' at ≡ Some (Some part)
+      → SumsInAnyOrder → ChoiceSettlesShare → IsChildPlace layout (numbers m) cs c at → (e : Forest ℕ) × (after (numbers m) cs ≡ Some e) → IsPrefix (forest m) (cs ++ c ∷ [])
+      → IsFirstOpen layout (numbers m) (cs ++ c ∷ []) next → Keeps m layout parts' levels' longer
+  entered items same long keeps places are kept made room others joined = entered_at long keeps places are
+      (subst (λ xs. (k : ℕ) → k ≤ length xs → slice_get between k ≡ slice_get levels k) same kept) made (subst (λ xs. length xs + 1 < length between) same room)
+      (subst (λ xs. (k : ℕ) → k ≢ length xs + 1 → slice_get levels' k ≡ slice_get between k) same others) (subst (λ xs. IsJoined m.platform between levels' (length xs) part next) same joined)
+
+-- a place for nothing more
+pub none_more : (xs : List (Option Part)) → ((at : ℕ) (part : Part) → slice_get xs at ≢ Some (Some part)) → (at : ℕ) (part : Part) → slice_get (xs ++ None ∷ []) at ≢ Some (Some part)
+none_more [] none zero part is = absurd (cc)
+none_more [] none (suc at) part is = absurd (cc)
+none_more (x ∷ xs) none zero part is = none zero part is
+none_more (x ∷ xs) none (suc at) part is = none_more xs (λ k p e. none (suc k) p e) at part is
+
+-- what is there where a test says so
+pub some_there : {X : Type 0} (o : Option X) (b : Bool) → b ≡ is_some o → b ≡ true → (x : X) × (o ≡ Some x)
+some_there None b is yes' = absurd (cc)
+some_there (Some x) b is yes' = (x, refl)
+
+-- a part that is kept now, beside those of before
+pub part_kept : (platform : PlatformFacts) (nodes : List NodeFacts) (base : Option BaseFacts) (layout : Layout) (parts : List (Option Part)) (place : ℕ) (part : Part)
+    → IsPart platform base part (asked_of nodes (share_of layout place)) → AreParts platform nodes base layout parts → AreParts platform nodes base layout (slice_set parts place (Some part))
+part_kept platform nodes base layout parts place part is are at other there' = elim (cases_eq at place) [
+  | inl here ↦
+      let same = slice_get-set_same parts place (Some part) (Some other) (within parts place at other here there') (ap (slice_get (slice_set parts place (Some part))) (sym here) ∙ there') in
+      subst (λ k. IsPart platform base other (asked_of nodes (share_of layout k))) (sym here)
+      (subst (λ p. IsPart platform base p (asked_of nodes (share_of layout place))) (same_Some part other same) is)
+  | inr elsewhere ↦ are at other (slice_get-set_other parts place at (Some part) (Some other) elsewhere there')
+] where
+  within : (parts : List (Option Part)) (place at : ℕ) (other : Part) → at ≡ place → slice_get (slice_set parts place (Some part)) at ≡ Some (Some other) → place < length parts
+  within parts place at other here there' = by (slice_get_within (slice_set parts place (Some part)) at (Some other) there') where
+    by : at < length (slice_set parts place (Some part)) → place < length parts
+    by less = omega (arith, here, less, length-set parts place (Some part))
+
+pub part_there : (parts : List (Option Part)) (place : ℕ) (part : Part) → place < length parts → slice_get (slice_set parts place (Some part)) place ≡ Some (Some part)
+part_there [] place part less = absurd (omega (arith, less))
+part_there (x ∷ xs) zero part less = refl
+part_there (x ∷ xs) (suc k) part less = part_there xs k part (omega (arith, less))
+
+-- where nothing is open, no choice is a prefix
+after_one : (c : ℕ) (xs : List ℕ) (f e : Forest ℕ) → after f xs ≡ Some e → after f (xs ++ c ∷ []) ≡ after e (c ∷ [])
+after_one c [] f e leads = ap (λ x. after x (c ∷ [])) (same_Some f e leads)
+after_one c (x ∷ xs) f e leads = option_and_then_some (λ y. after y xs) (option_and_then (λ es. slice_get es x) (choices f)) e leads
+    (λ y one on. ap (option_and_then (λ z. after z (xs ++ c ∷ []))) one ∙ after_one c xs y e on)
+
+pub some_open : (layout : Layout) (d : Forest ℕ) (cs : List ℕ) (c : ℕ) → NoneOpenIsSelection → IsPrefix d (cs ++ c ∷ []) → IsFirstOpen layout d cs None → ⊥
+some_open layout d cs c law prefix open' =
+    let w = law layout d cs None open' in
+    let none : after w.left (c ∷ []) ≡ None = ap (λ o. option_and_then (λ e. after e []) (option_and_then (λ es. slice_get es c) o)) (w.whole.0 refl) in
+    by (after d (cs ++ c ∷ [])) prefix (after_one c cs d w.left w.leads ∙ none) where
+      by : (o : Option (Forest ℕ)) → IsSome o → o ≡ None → ⊥
+      by None h e = absurd (cc)
+      by (Some x) h e = absurd (cc)
+
+-- nor is there a first group
+pub none_next : (layout : Layout) (d : Forest ℕ) (cs : List ℕ) → NoneOpenIsSelection → IsFirstOpen layout d cs None → IfSome (after d cs) (λ e. None ≡ first_group e)
+none_next layout d cs law open' =
+    let w = law layout d cs None open' in
+    if_some (λ e. None ≡ first_group e) (after d cs) (λ e leads. by (first_group e) (sym (first_many e) ∙ ap (option_map length) (ap choices (same_Some e w.left (sym leads ∙ w.leads)) ∙ w.whole.0 refl))) where
+      by : (o : Option (ℕ × ℕ)) → option_map (λ (g : ℕ × ℕ). g.1) o ≡ None → None ≡ o
+      by None h = refl
+      by (Some x) h = absurd (cc)
+
+-- a share has at most 128 nodes
+pub share_few : (layout : Layout) (d : Forest ℕ) (cs : List ℕ) (c at : ℕ) → ChoiceSettlesShare → IsChildPlace layout d cs c at → (e : Forest ℕ) × (after d cs ≡ Some e)
+    → ((xs : List ℕ) (e : Forest ℕ) → after d xs ≡ Some e → length (settled e) ≤ 128) → length (share_of layout at) ≤ 128
+share_few layout d cs c at law child here few =
+    let s = law layout d cs c at child in
+    let (e, leads) = here in
+    let long = length_permutation (settled e ++ share_of layout at) (settled s.left)
+    (of_some (λ x. IsPermutation (settled x ++ share_of layout at) (settled s.left)) (after d cs) e leads s.adds) in
+    let f = few (cs ++ c ∷ []) s.left s.leads in omega (arith, long, length-append (settled e) (share_of layout at), f)
+
+-- where a search stands, a choice's participants fit beside those of before
+pub room_for : (m : Matter) (layout : Layout) (parts : List (Option Part)) (levels between : List Level) (items cs : List ℕ) (above : Level) (part : Part) (share : List ℕ) → items ≡ cs
+    → Keeps m layout parts levels cs → ((k : ℕ) → k ≤ length items → slice_get between k ≡ slice_get levels k) → slice_get between (length items) ≡ Some above
+    → IsPart m.platform m.base part (asked_of m.nodes share) → length share ≤ 128 → IsTree m.nodes → HasDomain m.nodes m.domain → HaveRoom above.kept part
+room_for m layout parts levels between items cs above part share same keeps kept is part_is few tree domain =
+    let (l, here, level) = there (IsLevel m layout cs) (slice_get levels (length cs)) (level_here m layout cs levels keeps.fronts) in
+    let is_above : l ≡ above = same_Some l above (sym here ∙ subst (λ xs. slice_get levels (length xs) ≡ Some above) same (sym (kept (length items) (omega arith)) ∙ is)) in
+    let root = root_there m.nodes m.domain domain in
+    let (e, leads) = numbers_left m.nodes m.domain cs tree root (ap is_some level.leads) in
+    let long = ap length (same_asked m.nodes m.domain cs e level.left leads level.leads) in
+    have_room m.platform m.nodes m.base above.kept part (participants (settled level.left)) (asked_of m.nodes share)
+    (subst (λ x. IsKept m.platform m.nodes m.base x.kept (participants (settled level.left))) is_above level.kept) part_is
+    (few_accepted m.platform m.nodes m.domain m.base tree.few keeps.given)
+    (omega (arith, long, few_asked_of m.nodes (settled e), few_settled m.nodes m.domain cs e tree root leads))
+    (omega (arith, few_asked_of m.nodes share, few))

@@ -1,0 +1,41 @@
+-- One node more of the walk.
+use Rattle.std.proofs.Common.{◌≡◌, ◌+◌, ◌≤◌, [], ◌∷◌, ◌++◌, length, length-append, refl, sym, ◌∙◌, ap, subst, arith}
+use Rattle.std.specs.Prelude.{option_map}
+use Rattle.std.specs.List.{cons_option}
+use Rattle.std.proofs.lemmas.List.Elements.{filter_map-append}
+use Rattle.sysmem_search.specs.Kept.{IsPart}
+use Rattle.sysmem_search.specs.Question.{asked_at, asked_of}
+use Rattle.sysmem_search.proofs.Keeping.{has_room}
+use Rattle.sysmem_search.proofs.Taking.{told, few_asked_of}
+use Rattle.sysmem_search.proofs.Walking.{gives_same, take_one}
+use Rattle.sysmem_search.proofs.settling.part_of.Goals as goal
+
+pub loop-step-init : goal.loop-step-init
+loop-step-init c = (
+  [],
+  omega arith,
+  c.in_ok-part.ensures,
+  λ ns has.
+      let (ms, has', few) = c.requires.few in
+      let same = ap length (gives_same c.args.layout.now.places c.args.walk.end ms ns c.args.walk.at has' has) in
+      record { rest = ns; same = refl; left = has; few = omega (arith, few, same) },
+)
+
+pub add_asked-requires : goal.add_asked-requires
+add_asked-requires c =
+    let (taken, few, is, walk) = c.loop-step.invariant in
+    has_room c.args.platform.now (option_map (λ b. b.now) c.args.base) c.loop-step.part (asked_of c.args.tree.now.nodes taken) is
+    (omega (arith, few_asked_of c.args.tree.now.nodes taken, few, c.loop-step-test.true))
+
+pub loop-step-preserved : goal.loop-step-preserved
+loop-step-preserved c =
+    let (taken, few, is, walk) = c.loop-step.invariant in
+    let nodes = c.args.tree.now.nodes in
+    let node = c.in-Some.node in
+    let asked = told nodes node _ (c.in-Some.ensures.there nodes c.requires.there) c.constraints_of.ensures in
+    let more : asked_of nodes (taken ++ node ∷ []) ≡ asked_of nodes taken ++ cons_option (asked_at nodes node) [] = filter_map-append (asked_at nodes) taken (node ∷ []) in (
+      taken ++ node ∷ [],
+      omega (arith, few, length-append taken (node ∷ [])),
+      subst (IsPart c.args.platform.now (option_map (λ b. b.now) c.args.base) c.add_asked.new.part) (ap (λ o. asked_of nodes taken ++ cons_option o []) asked ∙ sym more) (c.add_asked.ensures (asked_of nodes taken) is),
+      λ ns has. take_one c.args.layout.now [] taken c.loop-step.left c.next_settled.new.walk c.next_settled.result node c.loop-step._step ns (walk ns has) c.next_settled.ensures.next c.in-Some.is,
+    )

@@ -1,0 +1,59 @@
+-- Where a search stands, and what it keeps there.
+use Rattle.std.specs.Prelude.{◌≡◌, ◌≤◌, ℕ, List, [], Option, Some, IsSomeAnd, length, slice_get, take}
+use Rattle.sysmem_proof.specs.Base.{BaseFacts}
+use Rattle.sysmem_proof.specs.Members.{participants}
+use Rattle.sysmem_sanitise.specs.Participant.{Participant}
+use Rattle.sysmem_sanitise.specs.Platform.{PlatformFacts}
+use Rattle.sysmem_search.specs.declared.kept.Part.{Part}
+use Rattle.sysmem_search.specs.declared.levels.Level.{Level}
+use Rattle.sysmem_search.specs.Kept.{IsKept, IsPart}
+use Rattle.sysmem_search.specs.Question.{Matter, HasBase, forest, asked_of}
+use Rattle.sysmem_tree.specs.declared.layout.Layout.{Layout}
+use Rattle.sysmem_tree.specs.Forest.{Forest, settled}
+use Rattle.sysmem_tree.specs.Layout.{IsLayout}
+use Rattle.sysmem_tree.specs.Node.{NodeFacts}
+use Rattle.sysmem_tree.specs.OpenGroups.{HoldsNodes, IsFirstOpen, share_of}
+use Rattle.sysmem_tree.specs.Selection.{after}
+use Rattle.sysmem_tree.specs.Shape.{Member, by_number, forest_of}
+
+-- a search of a matter that stands at a prefix of choices
+pub record Standing : Type 0 where
+  pub matter : Matter
+  pub choices : List ℕ
+
+-- the domain's forest by the numbers of its nodes
+abbrev pub numbers : Matter → Forest ℕ
+numbers m = forest_of by_number m.nodes m.domain []
+
+-- the layout is the domain's
+pub record LaysOut (m : Matter) (layout : Layout) : Type 0 where
+  pub lays : IsLayout layout (numbers m)
+  pub nodes : HoldsNodes layout m.nodes
+
+-- a level is that of these choices: the first group that is open after them, and what is kept of the participants that they settle
+pub record IsLevel (m : Matter) (layout : Layout) (cs : List ℕ) (level : Level) : Type 0 where
+  pub left : Forest Member
+  pub leads : after (forest m) cs ≡ Some left
+  pub kept : IsKept m.platform m.nodes m.base level.kept (participants (settled left))
+  pub group : IsFirstOpen layout (numbers m) cs level.group
+
+-- there is a level for each front of the choices
+abbrev pub AreLevels : Matter → Layout → List ℕ → List Level → Type 0
+AreLevels m layout cs levels = (k : ℕ) → k ≤ length cs → IsSomeAnd (slice_get levels k) (IsLevel m layout (take k cs))
+
+-- each level stands for some participants
+abbrev pub AreMade : PlatformFacts → List NodeFacts → Option BaseFacts → List Level → Type 0
+AreMade platform nodes base levels = (k : ℕ) (level : Level) → slice_get levels k ≡ Some level → (ps : List Participant) × IsKept platform nodes base level.kept ps
+
+-- what is kept at a place is of the child that stands there: of the participants that the choice of it settles
+abbrev pub AreParts : PlatformFacts → List NodeFacts → Option BaseFacts → Layout → List (Option Part) → Type 0
+AreParts platform nodes base layout parts = (at : ℕ) (part : Part) → slice_get parts at ≡ Some (Some part) → IsPart platform base part (asked_of nodes (share_of layout at))
+
+-- what a search keeps where it stands
+pub record Keeps (m : Matter) (layout : Layout) (parts : List (Option Part)) (levels : List Level) (cs : List ℕ) : Type 0 where
+  pub given : HasBase m
+  pub laid : LaysOut m layout
+  pub places : length parts ≡ 128
+  pub shares : AreParts m.platform m.nodes m.base layout parts
+  pub made : AreMade m.platform m.nodes m.base levels
+  pub fronts : AreLevels m layout cs levels

@@ -1,0 +1,157 @@
+//! What a search keeps at each prefix from no choice on to where it stands.
+
+ghost use Rattle.std.specs.Prelude.{◌≡◌, ◌≢◌, ◌<◌, ◌≤◌, ◌+◌, ◌++◌, ℕ, List, [], Option, Some, IfOk, IsSomeAnd, OnOk, length, option_map, slice_get};
+ghost use Rattle.sysmem_proof.specs.Base.{BaseFacts, IsGivenBase};
+ghost use Rattle.sysmem_sanitise.specs.Participant.{Participant};
+ghost use Rattle.sysmem_search.specs.Kept.{IsKept, IsPart, HaveRoom};
+ghost use Rattle.sysmem_search.specs.Standing.{AreMade, AreParts, IsLevel};
+ghost use Rattle.sysmem_search.specs.declared.kept.Part.{Part as APart};
+ghost use Rattle.sysmem_search.specs.declared.levels.Level.{Level as ALevel};
+ghost use Rattle.sysmem_tree.specs.Domain.{HasDomain};
+ghost use Rattle.sysmem_tree.specs.Layout.{IsLayout};
+ghost use Rattle.sysmem_tree.specs.Node.{NodeFacts};
+ghost use Rattle.sysmem_tree.specs.OpenGroups.{HasChild, HoldsNodes, share_of};
+ghost use Rattle.sysmem_tree.specs.Shape.{by_number, forest_of};
+
+use crate::kept::{Kept, Part};
+use crate::settling::part_of;
+use std::alloc::{AllocError, Global};
+use sysmem_proof::Base;
+use sysmem_sanitise::Platform;
+use sysmem_tree::{ChildPlace, DomainId, GroupPlace, Layout, MOST_NODES, Tree};
+
+/// What is kept at a prefix. Those of longer prefixes are written over, so that a visit takes no memory.
+#[derive(Debug, Drop)]
+pub(crate) struct Level {
+    /// The first group that is open after the choices.
+    pub(crate) group: Option<GroupPlace>,
+    /// What is kept of the participants that they settle.
+    pub(crate) kept: Kept,
+}
+
+/// Makes the level below this depth that of one choice more, which settles a part and leaves this group open.
+pub(crate) fn join_level(
+    levels: &mut Vec<Level>,
+    platform: &Platform,
+    depth: usize,
+    part: &Part,
+    group: Option<GroupPlace>,
+)
+    requires there { depth + 1 < length levels.old.items }
+    requires room { (above : ALevel) → slice_get levels.old.items depth ≡ Some above
+        → HaveRoom above.kept part.now }
+    ensures same { (k : ℕ) → k ≢ depth + 1 → slice_get levels.new.items k ≡ slice_get levels.old.items k }
+    ensures joined { (nodes : List NodeFacts) (base : Option BaseFacts) (ps qs : List Participant)
+        (above old : ALevel)
+        → slice_get levels.old.items depth ≡ Some above → slice_get levels.old.items (depth + 1) ≡ Some old
+        → IsKept platform.now nodes base above.kept ps → IsPart platform.now base part.now qs
+        → (others : List Participant) → IsKept platform.now nodes base old.kept others
+        → IsSomeAnd (slice_get levels.new.items (depth + 1)) (λ level. (level.group ≡ group)
+        × IsKept platform.now nodes base level.kept (ps ++ qs)) }
+{
+    let (above, below) = levels.split_at_mut(depth + 1);
+    let level = &mut below[0];
+    level.kept.join_of(platform, &above[depth].kept, part);
+    level.group = group;
+}
+
+/// The level of no choice.
+pub(crate) fn first_level(
+    alloc: Global,
+    platform: &Platform,
+    tree: &Tree,
+    domain: DomainId,
+    base: Option<&Base>,
+    layout: &Layout,
+) -> Result<Level, AllocError>
+    requires domain { HasDomain tree.now.nodes domain }
+    requires base { IsGivenBase platform.now tree.now.nodes domain (option_map (λ b. b.now) base) }
+    requires lays { IsLayout layout.now (forest_of by_number tree.now.nodes domain []) }
+    requires nodes { HoldsNodes layout.now tree.now.nodes }
+    ensures { IfOk result (λ level. IsLevel (record {
+      platform = platform.now;
+      nodes = tree.now.nodes;
+      domain = domain;
+      base = option_map (λ b. b.now) base.entry;
+    }) layout.now [] level) }
+{
+    tree.nodes();
+    let none = Kept::new(alloc, platform, tree, domain, base)?;
+    let part = part_of(alloc, platform, tree, base, layout, layout.settled_first())?;
+    let mut kept = Kept::new(alloc, platform, tree, domain, base)?;
+    kept.join_of(platform, &none, &part);
+    let group = layout.first_open();
+    Ok(Level { group, kept })
+}
+
+/// Has a level below this depth, whatever stands there.
+pub(crate) fn reserve_level(
+    levels: &mut Vec<Level>,
+    depth: usize,
+    alloc: Global,
+    platform: &Platform,
+    tree: &Tree,
+    domain: DomainId,
+    base: Option<&Base>,
+) -> Result<(), AllocError>
+    requires base { IsGivenBase platform.now tree.now.nodes domain (option_map (λ b. b.now) base) }
+    requires there { depth < length levels.old.items }
+    requires small { depth ≤ 128 }
+    ensures there { OnOk result (depth + 1 < length levels.new.items) }
+    ensures kept { (k : ℕ) → k ≤ depth
+        → slice_get levels.new.items k ≡ slice_get levels.old.items k }
+    ensures made { AreMade platform.now tree.now.nodes
+        (option_map (λ b. b.now) base.entry) levels.old.items → AreMade platform.now tree.now.nodes
+        (option_map (λ b. b.now) base.entry) levels.new.items }
+{
+    if depth + 1 < levels.len() {
+        return Ok(());
+    }
+    let kept = Kept::new(alloc, platform, tree, domain, base)?;
+    levels.push(Level { group: None, kept })?;
+    Ok(())
+}
+
+/// A place for what is kept of each child, where nothing is kept yet.
+pub(crate) fn no_parts(alloc: Global) -> Result<Vec<Option<Part>>, AllocError>
+    ensures many { IfOk result (λ parts. length parts.items ≡ 128) }
+    ensures none { IfOk result (λ parts. (at : ℕ) (part : APart)
+        → slice_get parts.items at ≢ Some (Some part)) }
+{
+    let mut parts = Vec::new(alloc);
+    for _place in 0..MOST_NODES {
+        parts.push(None)?;
+    }
+    Ok(parts)
+}
+
+/// Keeps what the choice of a child settles, if that isn't kept yet.
+pub(crate) fn keep_part(
+    parts: &mut Vec<Option<Part>>,
+    child: ChildPlace,
+    alloc: Global,
+    platform: &Platform,
+    tree: &Tree,
+    base: Option<&Base>,
+    layout: &Layout,
+) -> Result<(), AllocError>
+    requires places { length parts.old.items ≡ 128 }
+    requires within { child < 128 }
+    requires child { HasChild layout.now child }
+    requires few { length (share_of layout.now child) ≤ 128 }
+    requires nodes { HoldsNodes layout.now tree.now.nodes }
+    ensures places { length parts.new.items ≡ length parts.old.items }
+    ensures parts { AreParts platform.now tree.now.nodes (option_map (λ b. b.now) base.entry)
+        layout.now parts.old.items → AreParts platform.now tree.now.nodes
+        (option_map (λ b. b.now) base.entry) layout.now parts.new.items }
+    ensures there { OnOk result ((part : APart) × (slice_get parts.new.items child ≡ Some (Some part))) }
+{
+    let place = child.number();
+    if parts[place].is_some() {
+        return Ok(());
+    }
+    let walk = layout.settled_with(child);
+    let part = part_of(alloc, platform, tree, base, layout, walk)?;
+    parts[place] = Some(part);
+    Ok(())
+}
