@@ -10,7 +10,7 @@ use Rattle.sysmem_sanitise.specs.Faults.{lack_of}
 use Rattle.sysmem_sanitise.specs.Reading.{participant_of, participant_with}
 use Rattle.script_run.specs.declared.action.Action.{Action}
 use Rattle.script_run.specs.declared.action.Action.TheVariants.{SetConstraints}
-use Rattle.script_run.specs.declared.reply.Refusal.{Refusal}
+use Rattle.sysmem_tree.specs.declared.refusal.Refusal.{Refusal}
 use Rattle.script_run.specs.declared.reply.Reply.{Reply}
 use Rattle.script_run.specs.declared.reply.Reply.TheVariants.{Accepted, Refused, Misread, Skipped}
 use Rattle.script_run.specs.declared.verdict.Verdict.{Verdict}

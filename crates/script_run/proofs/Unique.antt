@@ -14,7 +14,7 @@ use Rattle.sysmem_sanitise.specs.declared.fault.Fault.{Fault}
 use Rattle.script_run.specs.declared.action.Action.{Action}
 use Rattle.script_run.specs.declared.action.Action.TheVariants.{Duplicate, Bind, SetConstraints, Release}
 use Rattle.script_run.specs.declared.node.Node.{Node}
-use Rattle.script_run.specs.declared.reply.Refusal.{Refusal}
+use Rattle.sysmem_tree.specs.declared.refusal.Refusal.{Refusal}
 use Rattle.script_run.specs.declared.reply.Reply.{Reply}
 use Rattle.script_run.specs.declared.reply.Reply.TheVariants.{Accepted, Refused, Misread, Skipped}
 use Rattle.script_run.specs.declared.verdict.Verdict.{Verdict}

@@ -1,5 +1,5 @@
 -- The lines of a report. Each ends with a newline.
-use Rattle.std.specs.Prelude.{◌≡◌, ℕ, ◌++◌, List, [], Option, Some, None, OnOk, Result, String, codes, slice_get, string_bytes}
+use Rattle.std.specs.Prelude.{◌≡◌, ℕ, ◌++◌, List, [], ◌∷◌, Option, Some, None, OnOk, Result, String, codes, slice_get, string_bytes}
 use Rattle.std.specs.declared.alloc.Global.{Global}
 use Rattle.std.specs.Fmt.{decimal}
 use Rattle.sysmem_memory.specs.Domain.{domain_name}
@@ -11,24 +11,16 @@ use Rattle.sysmem_formats.specs.declared.offer.Pair.{Pair}
 use Rattle.sysmem_formats.specs.Names.{colour_name, format_name, modifier_name}
 use Rattle.sysmem_image.specs.declared.size.Corner.{Corner}
 use Rattle.sysmem_merge.specs.declared.settings.Settings.{Settings}
+use Rattle.sysmem_proof.specs.Chosen.{ChosenFacts}
 use Rattle.sysmem_sanitise.specs.Platform.{PlatformFacts}
 use Rattle.sysmem_sanitise.specs.Faults.{fault_text}
-use Rattle.script_run.specs.declared.reply.Refusal.{Refusal}
-use Rattle.script_run.specs.declared.reply.Refusal.TheVariants as refusals
+use Rattle.sysmem_tree.specs.Refusal.{refusal_text}
 use Rattle.script_run.specs.declared.reply.Reply.{Reply}
 use Rattle.script_run.specs.declared.reply.Reply.TheVariants.{Accepted, Refused, Misread, Skipped}
 use Rattle.script_run.specs.declared.verdict.Verdict.{Verdict}
 use Rattle.script_run.specs.declared.verdict.Verdict.TheVariants.{Chosen, Empty, NoMemory}
 use Rattle.script_reading.specs.Call.{ActFacts, duplicates, binds, states, creates_group, creates_child, has_all_children, attaches_token, releases, closes, checks, waits, name_made}
 use Rattle.script_reading.specs.Script.{CallFacts}
-
-abbrev pub refusal_text : Refusal → List ℕ
-refusal_text refusals.NoMemory = codes "E1 NoMemory"
-refusal_text refusals.WrongState = codes "E2 WrongState"
-refusal_text refusals.TooManyNodes = codes "E3 TooManyNodes"
-refusal_text refusals.DomainFailed = codes "E6 DomainFailed"
-refusal_text refusals.ConstraintsIntersectionEmpty = codes "E7 ConstraintsIntersectionEmpty"
-refusal_text refusals.Pending = codes "E9 Pending"
 
 abbrev pub reply_text : Reply → List ℕ
 reply_text Accepted = codes "ok"
@@ -86,6 +78,30 @@ abbrev pub settings_text : PlatformFacts → Settings → List ℕ
 settings_text platform s = (codes "count " ++ decimal s.count ++ codes " size " ++ decimal s.size_bytes ++ codes " place ")
     ++ heap_text (slice_get platform.heaps s.place.heap)
     ++ (codes " " ++ domain_name s.place.coherency ++ codes " image ")
+
+-- each number behind this mark: `/0/1`
+abbrev pub marked : List ℕ → List ℕ → List ℕ
+marked mark [] = []
+marked mark (n ∷ ns) = (mark ++ decimal n) ++ marked mark ns
+
+-- `/` for the root, else `/0/1`
+abbrev pub path_text : List ℕ → List ℕ
+path_text [] = codes "/"
+path_text (ordinal ∷ ordinals) = marked (codes "/") (ordinal ∷ ordinals)
+
+-- `0.1`, one choice for each group in effect, or `-` where there is none
+abbrev pub selection_text : List ℕ → List ℕ
+selection_text [] = codes "-"
+selection_text (choice ∷ choices) = decimal choice ++ marked (codes ".") choices
+
+-- `chosen 0.1 count 2 size 4096 place ram#0 cpu image none`
+abbrev pub chosen_text : PlatformFacts → ChosenFacts → Corner → List ℕ
+chosen_text platform chosen k =
+    codes "chosen " ++ selection_text chosen.selection ++ codes " " ++ settings_text platform chosen.settings ++ image_text chosen.settings.offer k
+
+-- `domain /0/1 empty`: what became of the domain whose root is at this path
+abbrev pub domain_line : List ℕ → List ℕ → List ℕ
+domain_line path what = codes "domain " ++ path_text path ++ codes " " ++ what ++ codes "\n"
 
 -- the line of the domain of the root token, which has no groups to select from
 abbrev pub verdict_line : PlatformFacts → Verdict → List ℕ

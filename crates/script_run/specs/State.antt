@@ -8,8 +8,8 @@ use Rattle.script_run.specs.declared.action.Action.{Action}
 use Rattle.script_run.specs.declared.action.Action.TheVariants.{Duplicate, Bind, SetConstraints, Release}
 use Rattle.script_run.specs.declared.node.Node.{Node}
 use Rattle.script_run.specs.declared.node.Node.TheVariants.{Token, Collection, Stated, Gone}
-use Rattle.script_run.specs.declared.reply.Refusal.{Refusal}
-use Rattle.script_run.specs.declared.reply.Refusal.TheVariants.{WrongState, TooManyNodes, DomainFailed}
+use Rattle.sysmem_tree.specs.declared.refusal.Refusal.{Refusal}
+use Rattle.sysmem_tree.specs.declared.refusal.Refusal.TheVariants.{WrongState, TooManyNodes, DomainFailed}
 use Rattle.script_run.specs.declared.verdict.Verdict.{Verdict}
 use Rattle.script_run.specs.declared.verdict.Verdict.TheVariants.{Empty, NoMemory}
 

@@ -10,6 +10,7 @@
 
 mod action;
 mod decision;
+mod domain_line;
 mod fault;
 pub mod laws;
 mod line;

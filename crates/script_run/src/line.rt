@@ -1,19 +1,18 @@
 //! The lines of a report, each put behind the text so far.
 
-ghost use Rattle.std.specs.Prelude.{◌≡◌, ℕ, ◌++◌, codes, option_map, slice_get};
+ghost use Rattle.std.specs.Prelude.{◌≡◌, ◌++◌, codes};
 ghost use Rattle.std.specs.Fmt.{decimal};
 ghost use Rattle.sysmem_sanitise.specs.Faults.{fault_text};
-ghost use Rattle.script_run.specs.Lines.{Puts, act_name, call_line, heap_text, image_text, new_name, pending_lines, reply_text, settings_text, verdict_line};
+ghost use Rattle.script_run.specs.Lines.{Puts, act_name, call_line, new_name, pending_lines, reply_text, verdict_line};
 ghost use Rattle.script_reading.specs.Seen.{act_seen, call_seen};
 
+use crate::domain_line::{put_image, put_settings};
 use crate::reply::Reply;
 use crate::verdict::Verdict;
 use script_reading::{Act, Call};
 use std::alloc::AllocError;
 use std::fmt::Write;
-use sysmem_formats::{ColourSpace, Offer, Pair};
 use sysmem_image::Corner;
-use sysmem_memory::HeapInfo;
 use sysmem_merge::Settings;
 use sysmem_sanitise::{Fault, Platform};
 
@@ -103,7 +102,7 @@ fn put_reply(text: &mut String, reply: Reply) -> Result<(), AllocError>
 {
     match reply {
         Reply::Accepted => text.push_str(" ok\n"),
-        Reply::Refused(refusal) => put_end(text, refusal.text()),
+        Reply::Refused(refusal) => put_end(text, refusal.name()),
         Reply::Misread(fault) => put_fault(text, fault),
         Reply::Skipped => text.push_str(" skipped\n"),
     }
@@ -137,97 +136,4 @@ fn put_chosen(
     put_image(text, settings.offer, corner)?;
     text.push_str("\n")?;
     Ok(())
-}
-
-fn put_settings(
-    text: &mut String,
-    platform: &Platform,
-    settings: Settings,
-) -> Result<(), AllocError>
-    ensures { Puts result text.old text.new (settings_text platform.now settings) }
-{
-    put_numbers(text, settings.count, settings.size_bytes)?;
-    put_heap(text, heap_at(platform, settings.place.heap))?;
-    put_coherency(text, settings.place.coherency.name())?;
-    Ok(())
-}
-
-fn put_numbers(text: &mut String, count: u32, size: u64) -> Result<(), AllocError>
-    ensures { Puts result text.old text.new
-        (codes "count " ++ decimal count ++ codes " size " ++ decimal size ++ codes " place ") }
-{
-    write!(text, "count {count} size {size} place ")
-}
-
-fn heap_at(platform: &Platform, index: usize) -> Option<&HeapInfo>
-    ensures { option_map (λ info. info.now) result ≡ slice_get platform.now.heaps index }
-{
-    platform.heaps().get(index)
-}
-
-fn put_heap(text: &mut String, heap: Option<&HeapInfo>) -> Result<(), AllocError>
-    ensures { Puts result text.old text.new (heap_text (option_map (λ info. info.now) heap.entry)) }
-{
-    match heap {
-        Some(info) => put_heap_name(text, info.heap.heap_type.as_str(), info.heap.id),
-        None => Ok(()),
-    }
-}
-
-fn put_heap_name(text: &mut String, heap_type: &str, id: u64) -> Result<(), AllocError>
-    ensures { Puts result text.old text.new (heap_type.now ++ codes "#" ++ decimal id) }
-{
-    write!(text, "{heap_type}#{id}")
-}
-
-fn put_coherency(text: &mut String, coherency: &str) -> Result<(), AllocError>
-    ensures { Puts result text.old text.new (codes " " ++ coherency.now ++ codes " image ") }
-{
-    write!(text, " {coherency} image ")
-}
-
-fn put_image(text: &mut String, offer: Offer, corner: Corner) -> Result<(), AllocError>
-    ensures { Puts result text.old text.new (image_text offer corner) }
-{
-    match offer {
-        Offer::NoImage => text.push_str("none"),
-        Offer::Image(pair, colour) => put_shown(text, pair, colour, corner),
-    }
-}
-
-fn put_shown(
-    text: &mut String,
-    pair: Pair,
-    colour: ColourSpace,
-    corner: Corner,
-) -> Result<(), AllocError>
-    ensures { Puts result text.old text.new (image_text (Offer.Image pair colour) corner) }
-{
-    put_format(
-        text,
-        pair.format.name(),
-        pair.modifier.name(),
-        colour.name(),
-    )?;
-    put_corner(text, corner.width, corner.height, corner.bytes_per_row)?;
-    Ok(())
-}
-
-fn put_format(
-    text: &mut String,
-    format: &str,
-    modifier: &str,
-    colour: &str,
-) -> Result<(), AllocError>
-    ensures { Puts result text.old text.new
-        (format.now ++ codes " " ++ modifier.now ++ codes " " ++ colour.now ++ codes " ") }
-{
-    write!(text, "{format} {modifier} {colour} ")
-}
-
-fn put_corner(text: &mut String, width: u32, height: u32, row: u32) -> Result<(), AllocError>
-    ensures { Puts result text.old text.new
-        (decimal width ++ codes "x" ++ decimal height ++ codes " row " ++ decimal row) }
-{
-    write!(text, "{width}x{height} row {row}")
 }

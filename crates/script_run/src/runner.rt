@@ -14,13 +14,14 @@ use crate::action::Action;
 use crate::decision::decide;
 use crate::line::{put_call, put_verdict};
 use crate::node::Node;
-use crate::reply::{Refusal, Reply};
+use crate::reply::Reply;
 use crate::verdict::Verdict;
 use script_reading::{Act, Call};
 use serde_json::Value;
 use std::alloc::{AllocError, Global};
 use std::mem;
 use sysmem_sanitise::{Code, Fault, Platform, read_constraints};
+use sysmem_tree::Refusal;
 
 const MOST_NODES: usize = 128;
 

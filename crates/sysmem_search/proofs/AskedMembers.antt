@@ -13,7 +13,6 @@ use Rattle.sysmem_counts.specs.declared.constraints.CountConstraints.{CountConst
 use Rattle.sysmem_counts.specs.Counts.{IsCounted}
 use Rattle.sysmem_merge.specs.declared.reason.Reason.{Reason}
 use Rattle.sysmem_merge.specs.declared.settings.Settings.{Settings}
-use Rattle.sysmem_merge.specs.Aggregate.{StandsFor}
 use Rattle.sysmem_merge.specs.Best as best
 use Rattle.sysmem_merge.specs.Demands.{counts_asked}
 use Rattle.sysmem_merge.specs.Kept.{Kept}

@@ -1,5 +1,5 @@
 use Rattle.script_run.proofs.Texts.{three}
-use Rattle.script_run.proofs.line.put_settings.Goals as goal
+use Rattle.script_run.proofs.domain_line.put_settings.Goals as goal
 
 pub returns : goal.returns
 returns c =
