@@ -24,6 +24,3 @@ pub use calls::read_calls;
 pub use fault::{ParseFault, ScriptFault};
 pub use script::{Script, read_script};
 pub use text::{LONGEST, parse_script};
-
-#[cfg(test)]
-mod tests;
