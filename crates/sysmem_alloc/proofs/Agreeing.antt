@@ -1,11 +1,11 @@
 -- The decisions of a legal history agree with its tree.
-use Rattle.std.proofs.Common.{◌≡◌, ◌≢◌, ◌≤◌, ◌<◌, ℕ, zero, suc, ◌+◌, ◌==◌, Bool, true, false, List, [], ◌∷◌, ◌++◌, length, Option, Some, None, Result, Ok, Err, slice_get, refl, sym, ◌∙◌, ap, subst, arith, rules, tests, inl, inr, eq-eqb}
-use Rattle.std.specs.Prelude.{◌^◌, IsOk, IsSome, IfSome, IsSomeAnd, filter, map, is_some, option_map, option_and_then, if◌then◌else◌}
+use Rattle.std.proofs.Common.{◌≡◌, ◌≢◌, ℕ, zero, suc, ◌+◌, ◌==◌, Bool, true, false, List, [], ◌∷◌, ◌++◌, Option, Some, None, Result, Ok, Err, slice_get, refl, sym, ◌∙◌, ap, subst, arith, inl, inr, eq-eqb}
+use Rattle.std.specs.Prelude.{IsOk, IfSome, IsSomeAnd, filter, map, is_some, option_map, option_and_then, if◌then◌else◌}
 use Rattle.std.proofs.lemmas.Bool.{cases_eq, ne_eqb}
 use Rattle.std.proofs.lemmas.List.{map-append}
 use Rattle.std.proofs.lemmas.Option.{same_Some, slice_get_within}
 use Rattle.sysmem_merge.specs.declared.settings.Settings.{Settings}
-use Rattle.sysmem_merge.specs.Settings.{Meets, MeetsLoosely}
+use Rattle.sysmem_merge.specs.Settings.{MeetsLoosely}
 use Rattle.sysmem_proof.specs.declared.verdict.Verdict.{Verdict}
 use Rattle.sysmem_proof.specs.declared.verdict.Verdict.TheVariants as verdicts
 use Rattle.sysmem_proof.specs.Base.{BaseFacts}
@@ -16,10 +16,10 @@ use Rattle.sysmem_tree.specs.declared.domain.Decision.TheVariants.{Undecided, Ch
 use Rattle.sysmem_tree.specs.declared.domain.Domain.{Domain}
 use Rattle.sysmem_tree.specs.declared.refusal.Refusal.{Refusal}
 use Rattle.sysmem_tree.specs.ActionKind.{Deed, kind_of}
-use Rattle.sysmem_tree.specs.Domain.{TreeFacts, HasDomain, AreDomains, decision_of, host_node, is_chosen, is_ready, is_undecided, roots_from}
+use Rattle.sysmem_tree.specs.Domain.{TreeFacts, HasDomain, AreDomains, decision_of, host_node, is_undecided, roots_from}
 use Rattle.sysmem_tree.specs.Forest.{Forest, relabel}
 use Rattle.sysmem_tree.specs.History as trees
-use Rattle.sysmem_tree.specs.Laws.{ForestStays, OneForest, AreOneForest, IsSameDomain}
+use Rattle.sysmem_tree.specs.Laws.{ForestStays, OneForest, IsSameDomain}
 use Rattle.sysmem_tree.specs.Node.{NodeFacts}
 use Rattle.sysmem_tree.specs.Selection.{IsSelection}
 use Rattle.sysmem_tree.specs.Shape.{Member, by_number, forest_of}
@@ -29,13 +29,13 @@ use Rattle.sysmem_alloc.specs.Decision.{Decision, choices_of, decision_for, sett
 use Rattle.sysmem_alloc.specs.Entry.{BookEntry, Acted, Decided}
 use Rattle.sysmem_alloc.specs.History.{after_answer, after_entry, replay_from, replay, Allows, AreAllowed, IsLegal}
 use Rattle.sysmem_alloc.specs.Laws.{LegalIsSound, LegalAgrees}
-use Rattle.sysmem_alloc.specs.Sound.{AgreesWithTree, AllOf, AreApart, AreSettingsOn, IsDecisionOn, IsOfReady, IsSoundState, MayWait, roots_of, standing_of}
-use Rattle.sysmem_alloc.specs.State.{State, first_state, after_action, after_decision, base_of, chosen_in, is_open, kept_for, open_in}
+use Rattle.sysmem_alloc.specs.Sound.{AgreesWithTree, AllOf, AreApart, AreSettingsOn, IsDecisionOn, IsOfReady, IsSoundState, roots_of, standing_of}
+use Rattle.sysmem_alloc.specs.State.{State, first_state, after_action, base_of, chosen_in, is_open, kept_for, open_in}
 use Rattle.sysmem_tree.proofs.CallerLemmas.{accepted, decision_acted, decision_by}
 use Rattle.sysmem_alloc.proofs.Choosing.{same_chosen}
 use Rattle.sysmem_alloc.proofs.Entering.{allowed_push, replay_push}
 use Rattle.sysmem_alloc.proofs.Lists.{all_append, all_weaken, apart_append}
-use Rattle.sysmem_alloc.proofs.Stepping.{accepts, may_decide, selects}
+use Rattle.sysmem_alloc.proofs.Stepping.{accepts, selects}
 
 -- who passes a test is some of all
 sub_filter : (p : ℕ → Bool) (xs : List ℕ) → IsSublist (filter p xs) xs

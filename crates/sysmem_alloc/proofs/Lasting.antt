@@ -1,12 +1,11 @@
 -- A verdict stays.
-use Rattle.std.proofs.Common.{◌≡◌, ℕ, Bool, true, false, not, ◌&&◌, ◌==◌, List, [], ◌∷◌, ◌++◌, Option, Some, None, Result, Ok, Err, refl, sym, ◌∙◌, ap, subst, rules, tests}
+use Rattle.std.proofs.Common.{◌≡◌, ℕ, Bool, true, false, not, ◌&&◌, ◌==◌, List, [], ◌∷◌, ◌++◌, Option, Some, None, Result, Ok, Err, refl, ◌∙◌, ap, subst, rules, tests}
 use Rattle.std.specs.Prelude.{option_map, unwrap_or, if◌then◌else◌}
 use Rattle.list_lemmas.proofs.CallerLemmas.{and_parts}
 use Rattle.sysmem_proof.specs.declared.verdict.Verdict.{Verdict}
 use Rattle.sysmem_proof.specs.declared.verdict.Verdict.TheVariants as verdicts
-use Rattle.sysmem_sanitise.specs.Platform.{PlatformFacts}
 use Rattle.sysmem_tree.specs.declared.refusal.Refusal.{Refusal}
-use Rattle.sysmem_tree.specs.Domain.{TreeFacts, HasDomain, has_failed, host_node, is_complete, is_host_selected, is_ready}
+use Rattle.sysmem_tree.specs.Domain.{TreeFacts, has_failed, host_node, is_complete, is_host_selected, is_ready}
 use Rattle.sysmem_tree.specs.Laws.{FailedStays, OneForest, ReadyStays}
 use Rattle.sysmem_tree.specs.Tree.{Applied, applied}
 use Rattle.sysmem_alloc.specs.Decision.{Decision, decision_for}
@@ -14,7 +13,7 @@ use Rattle.sysmem_alloc.specs.Entry.{BookEntry, Acted, Decided, tree_entry}
 use Rattle.sysmem_alloc.specs.History.{after_answer, after_entry, replay}
 use Rattle.sysmem_alloc.specs.Laws.{LegalIsSound, VerdictStays}
 use Rattle.sysmem_alloc.specs.Sound.{AllOf, IsOfReady}
-use Rattle.sysmem_alloc.specs.State.{State, verdict_of}
+use Rattle.sysmem_alloc.specs.State.{State}
 use Rattle.sysmem_alloc.proofs.Stepping.{accepts, tree_of_entry}
 
 -- the decision of a domain stays when another is entered

@@ -23,8 +23,8 @@ use Rattle.sysmem_tree.specs.Shape.{Member, members_of, participants_of, shape_o
 use Rattle.sysmem_tree.specs.Sublist.{IsSublist, ended, taken, left_out}
 use Rattle.sysmem_tree.specs.Tree.{Applied, applied}
 use Rattle.sysmem_alloc.specs.Decision.{Decision, choices_of, settings_for}
-use Rattle.sysmem_alloc.specs.Entry.{BookEntry, Acted}
-use Rattle.sysmem_alloc.specs.History.{after_answer, after_entry, replay, Allows, IsLegal}
+use Rattle.sysmem_alloc.specs.Entry.{Acted}
+use Rattle.sysmem_alloc.specs.History.{after_answer, replay}
 use Rattle.sysmem_alloc.specs.Laws.{LegalAgrees, LegalIsSound, NextStays, StaysNext}
 use Rattle.sysmem_alloc.specs.Sound.{AllOf, IsOfReady, IsSoundState, MayWait}
 use Rattle.sysmem_alloc.specs.State.{State, first_state, next_ready, newly_ready, base_of, chosen_by, chosen_in, open_in, kept_for, after_action}

@@ -38,7 +38,7 @@ selects one platform nodes r base (Some verdicts.TooMany) h = tt
 selects one platform nodes r base (Some verdicts.Failed) h = tt
 selects one platform nodes r base (Some verdicts.NoMemory) h = tt
 
-pub may_decide : (t : TreeFacts) (waiting : List ℕ) (r : ℕ) → AllOf (MayWait t) waiting → slice_get waiting 0 ≡ Some r → MayWait t r
+may_decide : (t : TreeFacts) (waiting : List ℕ) (r : ℕ) → AllOf (MayWait t) waiting → slice_get waiting 0 ≡ Some r → MayWait t r
 may_decide t [] r all is = absurd (cc)
 may_decide t (x ∷ rest) r all is = subst (MayWait t) (same_Some x r is) all.0
 

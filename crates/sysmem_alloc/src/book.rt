@@ -5,6 +5,7 @@ ghost use Rattle.std.specs.Arc.{arc_value};
 ghost use Rattle.sysmem_alloc.specs.Book.{IsBook, entered, new_book};
 ghost use Rattle.sysmem_alloc.specs.Entry.{Acted, Decided, entry_in};
 ghost use Rattle.sysmem_alloc.specs.Frozen.{frozen_of};
+ghost use Rattle.sysmem_alloc.specs.History.{IsStep};
 ghost use Rattle.sysmem_alloc.specs.Sound.{MayWait};
 ghost use Rattle.sysmem_alloc.specs.State.{base_of, next_ready, verdict_of};
 ghost use Rattle.sysmem_proof.specs.Base.{IsGivenBase};
@@ -191,6 +192,8 @@ impl Book {
             ≡ Ok (record { tree = self.new.state.tree; node = done.node })) }
         ensures entered { OnOk result (self.new
             ≡ entered self.old (Acted event.node (deed_of event.action))) }
+        ensures step { OnOk result (IsStep self.old.platform self.old.state
+            (Acted event.node (deed_of event.action)) self.new.state) }
         ensures ready { IfOk result (λ done. done.ready ≡ is_some (next_ready self.new.state)) }
         ensures refused { IfErr result (λ refusal.
             applied self.old.state.tree event.node (deed_of event.action) ≡ Err refusal) }
@@ -218,10 +221,14 @@ impl Book {
         requires optimal { IfSome verdict (λ shared.
             IsOptimalIn self.old.platform self.old.state.tree.nodes domain
             (base_of self.old.state domain) (arc_value shared)) }
-        ensures { self.new ≡ entered self.old (Decided (record {
+        ensures entered { self.new ≡ entered self.old (Decided (record {
           domain = domain;
           verdict = option_map (λ shared. arc_value shared) verdict;
         })) }
+        ensures step { IsStep self.old.platform self.old.state (Decided (record {
+          domain = domain;
+          verdict = option_map (λ shared. arc_value shared) verdict;
+        })) self.new.state }
     {
         legal_is_sound();
         few_entries();

@@ -5,8 +5,8 @@ ghost use Rattle.sysmem_alloc.specs.Laws.{LegalIsSound, LegalAgrees, BaseIsGiven
 use sysmem_proof::laws::one_answer;
 use sysmem_tree::laws;
 use sysmem_tree::laws::{
-    failed_stays, forest_stays, maps_of_logs, members_stand_once, members_stay, one_forest, ready_stays,
-    sound_stays,
+    failed_stays, forest_stays, maps_of_logs, members_stand_once, members_stay, one_forest,
+    ready_stays, sound_stays,
 };
 
 /// The state of each legal history: its tree is sound, each domain that waits is ready, undecided and there once, and what was decided is

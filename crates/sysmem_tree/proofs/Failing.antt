@@ -1,6 +1,6 @@
 -- Once failed a domain stays so.
-use Rattle.std.proofs.Common.{◌≡◌, ◌≢◌, ◌⊎◌, ℕ, zero, suc, ◌<◌, ◌==◌, ◌&&◌, ◌||◌, not, Bool, true, false, List, [], ◌∷◌, ◌++◌, length, Option, Some, None, Ok, slice_get, refl, sym, ◌∙◌, ap, subst, arith, inl, inr}
-use Rattle.std.specs.Prelude.{IsOk, Result, Err, option_map, option_and_then, unwrap_or, map, if◌then◌else◌}
+use Rattle.std.proofs.Common.{◌≡◌, ◌≢◌, ℕ, zero, suc, ◌==◌, ◌&&◌, ◌||◌, Bool, true, false, List, [], ◌∷◌, ◌++◌, length, Option, Some, None, Ok, slice_get, refl, sym, ◌∙◌, ap, subst, arith, inl, inr}
+use Rattle.std.specs.Prelude.{IsOk, Result, Err, option_map, unwrap_or, map, if◌then◌else◌}
 use Rattle.std.specs.List.{list_any}
 use Rattle.std.proofs.lemmas.Bool.{cases_eq}
 use Rattle.std.proofs.lemmas.Option.{slice_get_within, same_Some}
@@ -13,12 +13,12 @@ use Rattle.sysmem_tree.specs.declared.domain.Domain.{Domain}
 use Rattle.sysmem_tree.specs.declared.node.Birth.{Birth}
 use Rattle.sysmem_tree.specs.declared.refusal.Refusal.{Refusal}
 use Rattle.sysmem_tree.specs.ActionKind.{Deed, kind_of}
-use Rattle.sysmem_tree.specs.Domain.{TreeFacts, HasDomain, IsSoundTree, decision_of, fails, has_failed, host_node, is_chosen, is_host_lost, is_lost, is_none_chosen, is_ready, is_undecided, up_from, was_closed_early}
-use Rattle.sysmem_tree.specs.History.{HistoryEntry, Acted, Decided, Accepts, after_answer, after_entry}
+use Rattle.sysmem_tree.specs.Domain.{TreeFacts, HasDomain, decision_of, fails, has_failed, host_node, is_chosen, is_host_lost, is_lost, is_none_chosen, is_ready, is_undecided, up_from, was_closed_early}
+use Rattle.sysmem_tree.specs.History.{Acted, Decided, after_answer}
 use Rattle.sysmem_tree.specs.Laws.{FailedStays}
 use Rattle.sysmem_tree.specs.Node.{NodeFacts}
 use Rattle.sysmem_tree.specs.Nodes.{IsTree}
-use Rattle.sysmem_tree.specs.Tree.{Applied, applied, new_domain, node_after, nodes_after, closed_early, domains_after, tree_after, decided_domain, decided}
+use Rattle.sysmem_tree.specs.Tree.{Applied, applied, new_domain, node_after, nodes_after, closed_early, domains_after, tree_after, decided}
 use Rattle.sysmem_tree.proofs.Accepted.{accepted}
 use Rattle.sysmem_tree.proofs.Agreeing.{decided_marks}
 use Rattle.sysmem_tree.proofs.Alike.{decided_alike}

@@ -15,7 +15,7 @@ use Rattle.sysmem_tree.specs.Node.{NodeFacts}
 use Rattle.sysmem_tree.specs.Nodes.{IsTree, ordinal_under}
 use Rattle.sysmem_tree.specs.Path.{node_at, path_of}
 use Rattle.sysmem_tree.specs.Selection.{after, settled_by}
-use Rattle.sysmem_tree.specs.Shape.{Member, by_number, by_path, forest_of, kid_of, kids_from, before, members_of, rooted, tree_of, shape_of}
+use Rattle.sysmem_tree.specs.Shape.{Member, by_number, by_path, forest_of, kid_of, kids_from, before, members_of, rooted, tree_of}
 use Rattle.sysmem_tree.proofs.Apart.{Apart, all_append, all_index, all_sub, less_after, settled_labels, shape_apart, sub_none, tree_labels}
 use Rattle.sysmem_tree.proofs.Kids.{is_under}
 use Rattle.sysmem_tree.proofs.Labelled.{one_forest}
