@@ -16,3 +16,4 @@ pub mod Faulting
 pub mod Labels
 pub mod Rolls
 pub mod OnRoll
+pub mod Numbering

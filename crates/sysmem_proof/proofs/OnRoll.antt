@@ -21,12 +21,12 @@ use Rattle.sysmem_proof.specs.Naming.{asked_at, Names, IsTrueOf}
 use Rattle.sysmem_proof.specs.Roll.{asked_by}
 
 -- an element within a list, whatever stands for those past its end
-same_get : {X : Type 0} (xs : List X) (k : ℕ) (a b : X) → k < length xs → slice_index_or xs k a ≡ slice_index_or xs k b
+pub same_get : {X : Type 0} (xs : List X) (k : ℕ) (a b : X) → k < length xs → slice_index_or xs k a ≡ slice_index_or xs k b
 same_get [] k a b less = absurd (omega (arith, less))
 same_get (x ∷ xs) zero a b less = refl
 same_get (x ∷ xs) (suc k) a b less = same_get xs k a b (omega (arith, less))
 
-all_push : {X : Type 0} (P : X → Type 0) (xs : List X) (x : X) → All P xs → P x → All P (xs ++ x ∷ [])
+pub all_push : {X : Type 0} (P : X → Type 0) (xs : List X) (x : X) → All P xs → P x → All P (xs ++ x ∷ [])
 all_push P [] x all p zero d less = p
 all_push P [] x all p (suc k) d less = absurd (omega (arith, less))
 all_push P (y ∷ xs) x all p zero d less = all zero d (omega arith)

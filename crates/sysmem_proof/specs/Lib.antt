@@ -12,4 +12,5 @@ pub mod Check
 pub mod Cannot
 pub mod Finder
 pub mod Roll
+pub mod EachLine
 pub mod Fault

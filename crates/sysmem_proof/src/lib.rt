@@ -10,6 +10,7 @@ mod base;
 mod certificate;
 mod conflict;
 pub mod laws;
+mod fixed_faults;
 mod line;
 mod line_faults;
 mod line_tests;
