@@ -5,7 +5,7 @@ use Rattle.serde_json.specs.Data.{Data, Items, no_items, item}
 use Rattle.serde_json.specs.Find.{get, as_array, as_object}
 use Rattle.script_reading.specs.declared.fault.ScriptFault.{ScriptFault}
 use Rattle.script_reading.specs.declared.fault.ScriptFault.TheVariants.{Misshapen, CallMisshapen, BadName, TooManyCalls, TooManyActors}
-use Rattle.script_reading.specs.Call.{ActFacts, duplicates, FormFacts, keys_of, form_of}
+use Rattle.script_reading.specs.Call.{ActFacts, name_made, FormFacts, keys_of, form_of}
 use Rattle.script_reading.specs.Names.{is_name, is_among, with_actor, root}
 use Rattle.script_reading.specs.Platform.{platform_said}
 use Rattle.sysmem_sanitise.specs.Platform.{PlatformFacts}
@@ -31,16 +31,16 @@ abbrev pub ◌>>=◌ : {A B F : Type 0} → Result A F → (A → Result B F) �
 Ok a >>= next = next a
 Err fault >>= next = Err fault
 
--- the names after a call: a duplicate's name is a good one, and was not made before
-abbrev pub names_after : ActFacts → List (List ℕ) → Option (List (List ℕ))
-names_after (duplicates name) names = if is_name name && not (is_among name names) then Some (names ++ name ∷ []) else None
-names_after _ names = Some names
+-- the names after one that a call makes, if it makes one: it is a good one, and was not made before
+abbrev pub names_after : Option (List ℕ) → List (List ℕ) → Option (List (List ℕ))
+names_after (Some name) names = if is_name name && not (is_among name names) then Some (names ++ name ∷ []) else None
+names_after None names = Some names
 
 -- the place of the name that a call is made on, and the names after it
 abbrev pub names_found : List (List ℕ) → FormFacts → Option (ℕ × List (List ℕ))
 names_found names form =
     if is_name form.actor
-    then option_and_then (λ place. option_map (λ after. (place, after)) (names_after form.act names)) (position (bytes_eq form.on) names)
+    then option_and_then (λ place. option_map (λ after. (place, after)) (names_after (name_made form.act) names)) (position (bytes_eq form.on) names)
     else None
 
 -- the actors after a call, who are 16 at most

@@ -2,19 +2,25 @@
 use Rattle.std.specs.Prelude.{map, option_map}
 use Rattle.serde_json.specs.View.{view}
 use Rattle.script_reading.specs.declared.call.Act.{Act}
-use Rattle.script_reading.specs.declared.call.Act.TheVariants.{Duplicate, Bind, SetConstraints, Release, Check}
+use Rattle.script_reading.specs.declared.call.Act.TheVariants.{Duplicate, Bind, SetConstraints, CreateGroup, CreateChild, AllChildrenPresent, AttachToken, Release, Close, Check, Wait}
 use Rattle.script_reading.specs.declared.call.Call.{Call}
 use Rattle.script_reading.specs.declared.form.Form.{Form}
 use Rattle.script_reading.specs.declared.script.Script.{Script}
-use Rattle.script_reading.specs.Call.{ActFacts, duplicates, binds, states, releases, checks, FormFacts}
+use Rattle.script_reading.specs.Call.{ActFacts, duplicates, binds, states, creates_group, creates_child, has_all_children, attaches_token, releases, closes, checks, waits, FormFacts}
 use Rattle.script_reading.specs.Script.{CallFacts, ScriptFacts}
 
 abbrev pub act_seen : Act → ActFacts
 act_seen (Duplicate name) = duplicates name.now
 act_seen Bind = binds
 act_seen (SetConstraints stated) = states (option_map (λ d. view d.now) stated)
+act_seen (CreateGroup name) = creates_group name.now
+act_seen (CreateChild name) = creates_child name.now
+act_seen AllChildrenPresent = has_all_children
+act_seen (AttachToken name) = attaches_token name.now
 act_seen Release = releases
+act_seen Close = closes
 act_seen Check = checks
+act_seen Wait = waits
 
 abbrev pub form_seen : Form → FormFacts
 form_seen s = record { act = act_seen s.act; on = s.on.now; actor = s.actor.now }

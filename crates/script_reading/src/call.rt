@@ -1,7 +1,11 @@
 //! The calls of a script.
+ghost use Rattle.std.specs.Prelude.{◌≡◌, option_map};
+ghost use Rattle.script_reading.specs.Call.{name_made};
+ghost use Rattle.script_reading.specs.Seen.{act_seen};
+
 use serde_json::Value;
 
-/// What a call does to the token that it is made on.
+/// What a call does to the node that it is made on.
 #[derive(Clone, Copy, Debug)]
 pub enum Act<'a> {
     /// Makes a token of this name.
@@ -9,15 +13,42 @@ pub enum Act<'a> {
     Bind,
     /// States these constraints, or none.
     SetConstraints(Option<&'a Value>),
+    /// Makes a group of this name: of its children one is selected.
+    CreateGroup(&'a str),
+    /// Makes a token of this name, the group's next child.
+    CreateChild(&'a str),
+    /// The group has all its children.
+    AllChildrenPresent,
+    /// Makes a token of this name, for a participant who comes later.
+    AttachToken(&'a str),
     Release,
+    Close,
+    /// Asks for the verdict.
     Check,
+    /// Asks for the verdict once there is one.
+    Wait,
+}
+
+impl<'a> Act<'a> {
+    /// The name that the call makes, if it makes one.
+    pub fn name_made(&self) -> Option<&'a str>
+        ensures { option_map (λ name. name.now) result ≡ name_made (act_seen self.now) }
+    {
+        match *self {
+            Act::Duplicate(name)
+            | Act::CreateGroup(name)
+            | Act::CreateChild(name)
+            | Act::AttachToken(name) => Some(name),
+            _ => None,
+        }
+    }
 }
 
 /// One call of a script.
 #[derive(Clone, Copy, Debug)]
 pub struct Call<'a> {
     pub act: Act<'a>,
-    /// The name of the token that the call is made on.
+    /// The name of the node that the call is made on.
     pub on: &'a str,
     /// The place of that name: 0 is the root's, and each call that makes a name gives it the next.
     pub place: usize,

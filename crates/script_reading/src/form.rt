@@ -2,7 +2,7 @@
 ghost use Rattle.std.specs.Prelude.{◌≡◌, codes, option_map};
 ghost use Rattle.std.specs.List.{list_all};
 ghost use Rattle.serde_json.specs.View.{view, members_view};
-ghost use Rattle.script_reading.specs.Call.{actor_of, constraints_of, act_of, keys_of, may_have, form_of, text_at};
+ghost use Rattle.script_reading.specs.Call.{actor_of, constraints_of, act_of, keys_of, makes_name, may_have, form_of, name_in, text_at};
 ghost use Rattle.script_reading.specs.Seen.{act_seen, form_seen};
 
 use crate::call::Act;
@@ -39,17 +39,39 @@ fn constraints_of(call: &Value) -> Option<&Value>
         .filter(|constraints| !constraints.is_null())
 }
 
+fn name_in(call: &Value) -> Option<&str>
+    ensures { option_map (λ name. name.now) result ≡ name_in (view call.now) }
+{
+    text_at(call, "as")
+}
+
 fn act_of<'a>(name: &str, call: &'a Value) -> Option<Act<'a>>
     ensures { option_map act_seen result ≡ act_of name.now (view call.now) }
 {
     match name {
-        "duplicate" => Some(Act::Duplicate(text_at(call, "as")?)),
+        "duplicate" => Some(Act::Duplicate(name_in(call)?)),
         "bind" => Some(Act::Bind),
         "set_constraints" => Some(Act::SetConstraints(constraints_of(call))),
+        "create_group" => Some(Act::CreateGroup(name_in(call)?)),
+        "create_child" => Some(Act::CreateChild(name_in(call)?)),
+        "all_children_present" => Some(Act::AllChildrenPresent),
+        "attach_token" => Some(Act::AttachToken(name_in(call)?)),
         "release" => Some(Act::Release),
+        "close" => Some(Act::Close),
         "check" => Some(Act::Check),
+        "wait" => Some(Act::Wait),
         _ => None,
     }
+}
+
+#[tactic(auto, unfolding(crate::specs::Call::makes_name))]
+fn makes_name(name: &str) -> bool
+    ensures { result ≡ makes_name name.now }
+{
+    matches!(
+        name,
+        "duplicate" | "create_group" | "create_child" | "attach_token"
+    )
 }
 
 #[tactic(auto, unfolding(crate::specs::Call::may_have))]
@@ -59,7 +81,7 @@ fn may_have(name: &str, key: &str) -> bool
     key == "call"
         || key == "on"
         || key == "actor"
-        || (key == "as" && name == "duplicate")
+        || (key == "as" && makes_name(name))
         || (key == "constraints" && name == "set_constraints")
 }
 

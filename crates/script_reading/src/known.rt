@@ -5,9 +5,9 @@ ghost use Rattle.script_reading.specs.Faults.{Gives};
 ghost use Rattle.script_reading.specs.Known.{known_seen, texts};
 ghost use Rattle.script_reading.specs.Names.{root};
 ghost use Rattle.script_reading.specs.Script.{actors_after, names_after, names_found, call_of, nothing_known};
-ghost use Rattle.script_reading.specs.Seen.{act_seen, call_seen, form_seen};
+ghost use Rattle.script_reading.specs.Seen.{call_seen, form_seen};
 
-use crate::call::{Act, Call};
+use crate::call::Call;
 use crate::fault::{ParseFault, ScriptFault};
 use crate::form::{Form, form_of};
 use crate::names::{ROOT, is_name};
@@ -34,18 +34,21 @@ fn place_of(names: &IndexSet<&str>, name: &str) -> Option<usize>
 
 /// Adds the name that a call makes, if it makes one. False: the name is bad or there already.
 #[tactic(auto, using(crate::proofs::TextsLemmas::texts_rules))]
-fn add<'a>(names: &mut IndexSet<&'a str>, act: &Act<'a>) -> Result<bool, AllocFailed<&'a str>>
+fn add<'a>(
+    names: &mut IndexSet<&'a str>,
+    made: Option<&'a str>,
+) -> Result<bool, AllocFailed<&'a str>>
     ensures { IfOk result (λ added. (if added then Some (texts names.new.keys) else None)
-        ≡ names_after (act_seen act.now) (texts names.old.keys)) }
+        ≡ names_after (option_map (λ name. name.now) made.entry) (texts names.old.keys)) }
 {
-    match *act {
-        Act::Duplicate(name) => {
+    match made {
+        Some(name) => {
             if !is_name(name) {
                 return Ok(false);
             }
             names.insert(name)
         }
-        _ => Ok(true),
+        None => Ok(true),
     }
 }
 
@@ -65,7 +68,7 @@ fn find<'a>(
     let Some(place) = place_of(names, form.on) else {
         return Ok(None);
     };
-    if !add(names, &form.act)? {
+    if !add(names, form.act.name_made())? {
         return Ok(None);
     }
     Ok(Some(place))

@@ -1,5 +1,5 @@
 -- The lines of a report. Each ends with a newline.
-use Rattle.std.specs.Prelude.{◌≡◌, ℕ, ◌++◌, List, [], Option, Some, None, OnOk, Result, String, codes, slice_get, string_bytes}
+use Rattle.std.specs.Prelude.{◌≡◌, ℕ, ◌++◌, List, [], Option, Some, None, OnOk, Result, String, codes, slice_get, string_bytes, flat_map, ◌∷◌}
 use Rattle.std.specs.declared.alloc.Global.{Global}
 use Rattle.std.specs.Fmt.{decimal}
 use Rattle.sysmem_memory.specs.Domain.{domain_name}
@@ -13,22 +13,12 @@ use Rattle.sysmem_image.specs.declared.size.Corner.{Corner}
 use Rattle.sysmem_merge.specs.declared.settings.Settings.{Settings}
 use Rattle.sysmem_sanitise.specs.Platform.{PlatformFacts}
 use Rattle.sysmem_sanitise.specs.Faults.{fault_text}
-use Rattle.script_run.specs.declared.reply.Refusal.{Refusal}
-use Rattle.script_run.specs.declared.reply.Refusal.TheVariants as refusals
+use Rattle.sysmem_tree.specs.Refusal.{refusal_text}
+use Rattle.sysmem_proof.specs.Chosen.{ChosenFacts}
 use Rattle.script_run.specs.declared.reply.Reply.{Reply}
 use Rattle.script_run.specs.declared.reply.Reply.TheVariants.{Accepted, Refused, Misread, Skipped}
-use Rattle.script_run.specs.declared.verdict.Verdict.{Verdict}
-use Rattle.script_run.specs.declared.verdict.Verdict.TheVariants.{Chosen, Empty, NoMemory}
-use Rattle.script_reading.specs.Call.{ActFacts, duplicates, binds, states, releases, checks}
+use Rattle.script_reading.specs.Call.{ActFacts, duplicates, binds, states, creates_group, creates_child, has_all_children, attaches_token, releases, closes, checks, waits}
 use Rattle.script_reading.specs.Script.{CallFacts}
-
-abbrev pub refusal_text : Refusal → List ℕ
-refusal_text refusals.NoMemory = codes "E1 NoMemory"
-refusal_text refusals.WrongState = codes "E2 WrongState"
-refusal_text refusals.TooManyNodes = codes "E3 TooManyNodes"
-refusal_text refusals.DomainFailed = codes "E6 DomainFailed"
-refusal_text refusals.ConstraintsIntersectionEmpty = codes "E7 ConstraintsIntersectionEmpty"
-refusal_text refusals.Pending = codes "E9 Pending"
 
 abbrev pub reply_text : Reply → List ℕ
 reply_text Accepted = codes "ok"
@@ -41,12 +31,21 @@ abbrev pub act_name : ActFacts → List ℕ
 act_name (duplicates name) = codes "duplicate"
 act_name binds = codes "bind"
 act_name (states constraints) = codes "set_constraints"
+act_name (creates_group name) = codes "create_group"
+act_name (creates_child name) = codes "create_child"
+act_name has_all_children = codes "all_children_present"
+act_name (attaches_token name) = codes "attach_token"
 act_name releases = codes "release"
+act_name closes = codes "close"
 act_name checks = codes "check"
+act_name waits = codes "wait"
 
 -- the name that the call gives, behind a space
 abbrev pub new_name : ActFacts → List ℕ
 new_name (duplicates name) = codes " " ++ name
+new_name (creates_group name) = codes " " ++ name
+new_name (creates_child name) = codes " " ++ name
+new_name (attaches_token name) = codes " " ++ name
 new_name _ = []
 
 -- `7 duplicate root a ok`
@@ -77,16 +76,23 @@ settings_text platform s = (codes "count " ++ decimal s.count ++ codes " size " 
     ++ heap_text (slice_get platform.heaps s.place.heap)
     ++ (codes " " ++ domain_name s.place.coherency ++ codes " image ")
 
--- the line of the domain of the root token, which has no groups to select from
-abbrev pub verdict_line : PlatformFacts → Verdict → List ℕ
-verdict_line platform (Chosen s k) = codes "domain / chosen - " ++ settings_text platform s ++ image_text s.offer k ++ codes "\n"
-verdict_line platform Empty = codes "domain / empty\n"
-verdict_line platform NoMemory = codes "domain / no_memory\n"
+-- `/0/1`, of the root `/`
+abbrev pub path_text : List ℕ → List ℕ
+path_text [] = codes "/"
+path_text (o ∷ os) = flat_map (λ x. codes "/" ++ decimal x) (o ∷ os)
 
--- the last line of a report whose domain has no verdict
-abbrev pub pending_lines : Option Verdict → List ℕ
-pending_lines None = codes "domain / pending\n"
-pending_lines (Some verdict) = []
+-- `0.1`, of no choices `-`
+abbrev pub selection_text : List ℕ → List ℕ
+selection_text [] = codes "-"
+selection_text (c ∷ cs) = decimal c ++ flat_map (λ x. codes "." ++ decimal x) cs
+
+-- what is said of a domain that settings were chosen for
+abbrev pub chosen_text : PlatformFacts → ChosenFacts → Corner → List ℕ
+chosen_text platform chosen k = codes "chosen " ++ selection_text chosen.selection ++ codes " " ++ settings_text platform chosen.settings ++ image_text chosen.settings.offer k
+
+-- `domain /0 empty`
+abbrev pub domain_line : List ℕ → List ℕ → List ℕ
+domain_line path what = codes "domain " ++ path_text path ++ codes " " ++ what ++ codes "\n"
 
 -- where the result is Ok, the line was put behind the text
 abbrev pub Puts : {T E : Type 0} → Result T E → String Global → String Global → List ℕ → Type 0

@@ -3,11 +3,10 @@
 ghost use Rattle.std.specs.Prelude.{◌≡◌, ℕ, ◌++◌, codes, option_map, slice_get};
 ghost use Rattle.std.specs.Fmt.{decimal};
 ghost use Rattle.sysmem_sanitise.specs.Faults.{fault_text};
-ghost use Rattle.script_run.specs.Lines.{Puts, act_name, call_line, heap_text, image_text, new_name, pending_lines, reply_text, settings_text, verdict_line};
+ghost use Rattle.script_run.specs.Lines.{Puts, act_name, call_line, chosen_text, domain_line, heap_text, image_text, new_name, path_text, reply_text, selection_text, settings_text};
 ghost use Rattle.script_reading.specs.Seen.{act_seen, call_seen};
 
 use crate::reply::Reply;
-use crate::verdict::Verdict;
 use script_reading::{Act, Call};
 use std::alloc::AllocError;
 use std::fmt::Write;
@@ -15,7 +14,9 @@ use sysmem_formats::{ColourSpace, Offer, Pair};
 use sysmem_image::Corner;
 use sysmem_memory::HeapInfo;
 use sysmem_merge::Settings;
+use sysmem_proof::Chosen;
 use sysmem_sanitise::{Fault, Platform};
+use sysmem_tree::Path;
 
 /// Puts the line of a call behind the text: `7 duplicate root a ok`.
 pub(crate) fn put_call(
@@ -31,29 +32,41 @@ pub(crate) fn put_call(
     put_reply(text, reply)
 }
 
-/// Puts a verdict's line behind the text: `domain / empty`.
-pub(crate) fn put_verdict(
-    text: &mut String,
-    platform: &Platform,
-    verdict: Verdict,
-) -> Result<(), AllocError>
-    ensures { Puts result text.old text.new (verdict_line platform.now verdict) }
+/// Puts the line that says this word of the domain at a path behind the text.
+pub(crate) fn put_word(text: &mut String, path: &Path, word: &str) -> Result<(), AllocError>
+    ensures { Puts result text.old text.new (domain_line path.now word.now) }
 {
-    match verdict {
-        Verdict::Chosen(settings, corner) => put_chosen(text, platform, settings, corner),
-        Verdict::Empty => text.push_str("domain / empty\n"),
-        Verdict::NoMemory => text.push_str("domain / no_memory\n"),
-    }
+    text.push_str("domain ")?;
+    put_path(text, path)?;
+    writeln!(text, " {word}")
 }
 
-/// Puts the last line of a report without a verdict behind the text: `domain / pending`.
-pub(crate) fn put_pending(text: &mut String, verdict: Option<Verdict>) -> Result<(), AllocError>
-    ensures { Puts result text.old text.new (pending_lines verdict) }
+fn put_path(text: &mut String, path: &Path) -> Result<(), AllocError>
+    ensures { Puts result text.old text.new (path_text path.now) }
 {
-    match verdict {
-        Some(_) => Ok(()),
-        None => text.push_str("domain / pending\n"),
+    let ordinals = path.ordinals();
+    if ordinals.is_empty() {
+        return text.push_str("/");
     }
+    for ordinal in ordinals {
+        write!(text, "/{ordinal}")?;
+    }
+    Ok(())
+}
+
+fn put_selection(text: &mut String, choices: &[u8]) -> Result<(), AllocError>
+    ensures { Puts result text.old text.new (selection_text choices.now) }
+{
+    if choices.is_empty() {
+        return text.push_str("-");
+    }
+    let mut rest = false;
+    for choice in choices {
+        if rest { text.push_str(".")?; }
+        rest = true;
+        write!(text, "{choice}")?;
+    }
+    Ok(())
 }
 
 /// The name of what a call does.
@@ -64,8 +77,14 @@ fn act_name(act: &Act<'_>) -> &'static str
         Act::Duplicate(_) => "duplicate",
         Act::Bind => "bind",
         Act::SetConstraints(_) => "set_constraints",
+        Act::CreateGroup(_) => "create_group",
+        Act::CreateChild(_) => "create_child",
+        Act::AllChildrenPresent => "all_children_present",
+        Act::AttachToken(_) => "attach_token",
         Act::Release => "release",
+        Act::Close => "close",
         Act::Check => "check",
+        Act::Wait => "wait",
     }
 }
 
@@ -82,6 +101,9 @@ fn put_new_name(text: &mut String, act: &Act<'_>) -> Result<(), AllocError>
 {
     match act {
         Act::Duplicate(name) => put_name(text, name),
+        Act::CreateGroup(name) => put_name(text, name),
+        Act::CreateChild(name) => put_name(text, name),
+        Act::AttachToken(name) => put_name(text, name),
         _ => Ok(()),
     }
 }
@@ -97,7 +119,7 @@ fn put_reply(text: &mut String, reply: Reply) -> Result<(), AllocError>
 {
     match reply {
         Reply::Accepted => text.push_str(" ok\n"),
-        Reply::Refused(refusal) => put_end(text, refusal.text()),
+        Reply::Refused(refusal) => put_end(text, refusal.name()),
         Reply::Misread(fault) => put_fault(text, fault),
         Reply::Skipped => text.push_str(" skipped\n"),
     }
@@ -117,16 +139,22 @@ fn put_fault(text: &mut String, fault: Fault) -> Result<(), AllocError>
     writeln!(text, " {code} {at}")
 }
 
-fn put_chosen(
+pub(crate) fn put_chosen(
     text: &mut String,
     platform: &Platform,
-    settings: Settings,
+    path: &Path,
+    chosen: &Chosen,
     corner: Corner,
 ) -> Result<(), AllocError>
     ensures { Puts result text.old text.new
-        (verdict_line platform.now (Verdict.Chosen settings corner)) }
+        (domain_line path.now (chosen_text platform.now chosen.now corner)) }
 {
-    text.push_str("domain / chosen - ")?;
+    let settings = chosen.settings();
+    text.push_str("domain ")?;
+    put_path(text, path)?;
+    text.push_str(" chosen ")?;
+    put_selection(text, chosen.selection().choices())?;
+    text.push_str(" ")?;
     put_settings(text, platform, settings)?;
     put_image(text, settings.offer, corner)?;
     text.push_str("\n")?;
