@@ -143,8 +143,11 @@ impl Runner {
             Act::AllChildrenPresent => self.act(call, node, Action::AllChildrenPresent),
             Act::AttachToken(_) => self.act(call, node, Action::AttachToken),
             Act::Release => self.act(call, node, Action::Release),
-            Act::Close => self.act(call, node, Action::Close),
-            Act::Check | Act::Wait => Ok(told(&self.book, node)),
+            Act::Check | Act::Wait => Ok(self.checked(node)),
+            _ => {
+                self.keep_name(&call.act, None)?;
+                Ok(Reply::Refused(Refusal::WrongState))
+            }
         }
     }
 
@@ -244,8 +247,12 @@ impl Runner {
           names = (state_of self.old).names ++ named (act_seen act.now) node;
         }) }
     {
-        if act.name_made().is_some() {
-            self.names.push(node)?;
+        match act.name_made() {
+            Some(_) => {
+                self.names.push(node)?;
+                Ok(())
+            }
+            None => Ok(()),
         }
         Ok(())
     }
