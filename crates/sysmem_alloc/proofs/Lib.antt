@@ -14,3 +14,5 @@ pub mod Fates
 pub mod Confluent
 pub mod Hosts
 pub mod Next
+pub mod Agreeing
+pub mod Bases

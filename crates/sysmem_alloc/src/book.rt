@@ -4,6 +4,7 @@ ghost use Rattle.std.specs.Prelude.{◌≡◌, Some, Ok, Err, map, option_map, i
 ghost use Rattle.std.specs.Arc.{arc_value};
 ghost use Rattle.sysmem_alloc.specs.Book.{IsBook, entered, new_book};
 ghost use Rattle.sysmem_alloc.specs.Entry.{Acted, Decided, entry_in};
+ghost use Rattle.sysmem_alloc.specs.Sound.{MayWait};
 ghost use Rattle.sysmem_alloc.specs.State.{base_of, next_ready, verdict_of};
 ghost use Rattle.sysmem_alloc.specs.Sound.{MayWait};
 ghost use Rattle.sysmem_proof.specs.Base.{IsGivenBase};
@@ -113,8 +114,9 @@ impl Book {
     /// ready, those of one event in order of creation of their roots.
     pub fn next_ready(&self) -> Option<DomainId>
         ensures next { result ≡ next_ready self.now.state }
-        ensures may { IfSome result (MayWait self.now.state.tree) }
+        ensures waits { IfSome result (MayWait self.now.state.tree) }
     {
+        legal_is_sound();
         self.waiting.first().copied()
     }
 
