@@ -1,10 +1,6 @@
-pub mod Adding
 pub mod AnswerLemmas
 pub mod Answering
-pub mod Corners
-pub mod Entering
+pub mod Growing
 pub mod Reaching
 pub mod RunLemmas
 pub mod Spelling
-pub mod Texts
-pub mod Unique

@@ -17,9 +17,7 @@ use Rattle.sysmem_tree.specs.Refusal.{refusal_text}
 use Rattle.sysmem_proof.specs.Chosen.{ChosenFacts}
 use Rattle.script_run.specs.declared.reply.Reply.{Reply}
 use Rattle.script_run.specs.declared.reply.Reply.TheVariants.{Accepted, Refused, Misread, Skipped}
-use Rattle.script_run.specs.declared.verdict.Verdict.{Verdict}
-use Rattle.script_run.specs.declared.verdict.Verdict.TheVariants.{Chosen, Empty, NoMemory}
-use Rattle.script_reading.specs.Call.{ActFacts, duplicates, binds, states, creates_group, creates_child, has_all_children, attaches_token, releases, closes, checks, waits, name_made}
+use Rattle.script_reading.specs.Call.{ActFacts, duplicates, binds, states, creates_group, creates_child, has_all_children, attaches_token, releases, closes, checks, waits}
 use Rattle.script_reading.specs.Script.{CallFacts}
 
 abbrev pub reply_text : Reply → List ℕ
@@ -42,14 +40,13 @@ act_name closes = codes "close"
 act_name checks = codes "check"
 act_name waits = codes "wait"
 
--- a name, if there is one, behind a space
-abbrev pub spaced : Option (List ℕ) → List ℕ
-spaced (Some name) = codes " " ++ name
-spaced None = []
-
--- the name that the call makes, if it makes one, behind a space
+-- the name that the call gives, behind a space
 abbrev pub new_name : ActFacts → List ℕ
-new_name act = spaced (name_made act)
+new_name (duplicates name) = codes " " ++ name
+new_name (creates_group name) = codes " " ++ name
+new_name (creates_child name) = codes " " ++ name
+new_name (attaches_token name) = codes " " ++ name
+new_name _ = []
 
 -- `7 duplicate root a ok`
 abbrev pub call_line : ℕ → CallFacts → Reply → List ℕ

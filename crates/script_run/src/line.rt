@@ -99,9 +99,12 @@ fn put_head(text: &mut String, number: usize, act: &Act<'_>, on: &str) -> Result
 fn put_new_name(text: &mut String, act: &Act<'_>) -> Result<(), AllocError>
     ensures { Puts result text.old text.new (new_name (act_seen act.now)) }
 {
-    match act.name_made() {
-        Some(name) => put_name(text, name),
-        None => Ok(()),
+    match act {
+        Act::Duplicate(name) => put_name(text, name),
+        Act::CreateGroup(name) => put_name(text, name),
+        Act::CreateChild(name) => put_name(text, name),
+        Act::AttachToken(name) => put_name(text, name),
+        _ => Ok(()),
     }
 }
 

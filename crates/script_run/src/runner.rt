@@ -143,11 +143,8 @@ impl Runner {
             Act::AllChildrenPresent => self.act(call, node, Action::AllChildrenPresent),
             Act::AttachToken(_) => self.act(call, node, Action::AttachToken),
             Act::Release => self.act(call, node, Action::Release),
-            Act::Check | Act::Wait => Ok(self.checked(node)),
-            _ => {
-                self.keep_name(&call.act, None)?;
-                Ok(Reply::Refused(Refusal::WrongState))
-            }
+            Act::Close => self.act(call, node, Action::Close),
+            Act::Check | Act::Wait => Ok(told(&self.book, node)),
         }
     }
 
@@ -247,12 +244,8 @@ impl Runner {
           names = (state_of self.old).names ++ named (act_seen act.now) node;
         }) }
     {
-        match act.name_made() {
-            Some(_) => {
-                self.names.push(node)?;
-                Ok(())
-            }
-            None => Ok(()),
+        if act.name_made().is_some() {
+            self.names.push(node)?;
         }
         Ok(())
     }

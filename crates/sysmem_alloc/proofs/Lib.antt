@@ -16,3 +16,4 @@ pub mod Hosts
 pub mod Next
 pub mod Agreeing
 pub mod Bases
+pub mod CallerLemmas

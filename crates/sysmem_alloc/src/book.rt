@@ -6,8 +6,6 @@ ghost use Rattle.sysmem_alloc.specs.Book.{IsBook, entered, new_book};
 ghost use Rattle.sysmem_alloc.specs.Entry.{Acted, Decided, entry_in};
 ghost use Rattle.sysmem_alloc.specs.Sound.{MayWait};
 ghost use Rattle.sysmem_alloc.specs.State.{base_of, next_ready, verdict_of};
-ghost use Rattle.sysmem_alloc.specs.Sound.{MayWait};
-ghost use Rattle.sysmem_proof.specs.Base.{IsGivenBase};
 ghost use Rattle.sysmem_proof.specs.Verdict.{IsOptimalIn};
 ghost use Rattle.sysmem_tree.specs.ActionKind.{deed_of};
 ghost use Rattle.sysmem_tree.specs.Domain.{HasDomain};
@@ -20,7 +18,7 @@ use crate::verdicts::{choices_of, entered_for, has_failed};
 use std::alloc::{AllocError, Global};
 use std::marker::Model;
 use std::sync::Arc;
-use sysmem_proof::{Base, Verdict};
+use sysmem_proof::Verdict;
 use sysmem_sanitise::Platform;
 use sysmem_tree::laws::{forest_stays, one_forest};
 use sysmem_tree::{DomainId, Event, MOST_NODES, NodeId, Refusal, Tree};
@@ -118,31 +116,6 @@ impl Book {
     {
         legal_is_sound();
         self.waiting.first().copied()
-    }
-
-    /// STUB
-    pub fn base(&self, domain: DomainId) -> Result<Option<Base>, AllocError>
-        requires { next_ready self.now.state ≡ Some domain }
-        ensures base { IfOk result (λ base. option_map (λ b. b.now) base ≡ base_of self.now.state domain) }
-        ensures given { IfOk result (λ base. IsGivenBase self.now.platform self.now.state.tree.nodes domain (option_map (λ b. b.now) base)) }
-    {
-        let Some(host) = self.tree.host_of(domain) else { return Ok(None); };
-        let Some(Verdict::Chosen(chosen)) = self.verdict_of(self.tree.domain_of(host)) else { return Ok(None); };
-        let settings = chosen.settings();
-        let mut accepted = Vec::new(*self.history.allocator());
-        for entry in &self.history {
-            if let Entry::Decided(one, Some(verdict)) = entry {
-                if let Verdict::Chosen(given) = &**verdict {
-                    for number in 0..self.tree.nodes() {
-                        let Some(node) = self.tree.node(number) else { continue; };
-                        if self.tree.settled(*one, given.selection(), node) && self.were_open[number as usize] {
-                            accepted.push(node)?;
-                        }
-                    }
-                }
-            }
-        }
-        Ok(Some(Base::new(settings, accepted)))
     }
 
     /// The verdict of a domain of the tree; `None` where it has none yet.

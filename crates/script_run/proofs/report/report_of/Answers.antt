@@ -14,5 +14,5 @@ loop-index-preserved c =
 pub returns : goal.returns
 returns c =
     let all : length c.args.calls.now ≤ c.loop-index.index = omega arith in
-    let put = rw c.verdict.ensures at c.in_ok-put_pending.ensures in
+    let put = rw c.book.ensures at c.in_ok-put_pending.ensures in
     rw c.is_starved.ensures (reaches-end _ c.args.calls.now c.loop-index.index (state_of c.loop-index.runner) (string_bytes c.loop-index.text) _ all c.loop-index.invariant put)
