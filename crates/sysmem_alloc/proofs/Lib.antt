@@ -15,5 +15,5 @@ pub mod Confluent
 pub mod Hosts
 pub mod Next
 pub mod Agreeing
-pub mod Bases
-pub mod CallerLemmas
+pub mod GivenBases
+pub mod Gathering

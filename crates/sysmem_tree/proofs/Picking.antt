@@ -1,8 +1,9 @@
 -- A pass over a layout finds the nodes of its forest in their order.
 use Rattle.std.proofs.Common.{◌≡◌, ◌≤◌, ◌<◌, ℕ, zero, suc, ◌+◌, ◌++◌, ◌==◌, ◌&&◌, Bool, true, false, List, [], ◌∷◌, Option, Some, None, length, drop, get_or, slice_get, refl, sym, ◌∙◌, ap, subst, arith, append_assoc, append-nil}
-use Rattle.std.specs.Prelude.{filter, is_some, map, option_and_then, if◌then◌else◌}
+use Rattle.std.specs.Prelude.{All, IsSomeAnd, filter, is_some, map, option_and_then, if◌then◌else◌}
 use Rattle.std.specs.List.{list_any}
-use Rattle.std.proofs.lemmas.Option.{get_or_from_slice_get}
+use Rattle.std.proofs.lemmas.List.Elements.{All-filter, All-weaker}
+use Rattle.std.proofs.lemmas.Option.{get_or_from_slice_get, slice_get_within}
 use Rattle.sysmem_tree.specs.declared.layout.Layout.{Layout}
 use Rattle.sysmem_tree.specs.declared.layout.Place.{Place}
 use Rattle.sysmem_tree.specs.Domain.{HasDomain}
@@ -11,10 +12,11 @@ use Rattle.sysmem_tree.specs.Laws.{labels}
 use Rattle.sysmem_tree.specs.Layout.{Spot, start, behind, AreLaid, IsLayout}
 use Rattle.sysmem_tree.specs.Members.{is_marked}
 use Rattle.sysmem_tree.specs.Node.{NodeFacts}
-use Rattle.sysmem_tree.specs.Nodes.{IsTree}
+use Rattle.sysmem_tree.specs.Nodes.{HasNode, IsTree}
 use Rattle.sysmem_tree.specs.Shape.{by_number, forest_of, members_of, participants_of}
 use Rattle.sysmem_tree.proofs.Numbers.{front}
-use Rattle.sysmem_tree.proofs.Once.{labels_relabel, filter_both, members_picked}
+use Rattle.sysmem_tree.proofs.Once.{labels_relabel, filter_both, members_picked, members_stand_once}
+use Rattle.sysmem_tree.proofs.Places.{there}
 
 -- the nodes that stand from a place on
 abbrev pub nodes_from : List Place → ℕ → List ℕ
@@ -108,3 +110,10 @@ passed_on test places from at kept d n less is fails way = record { long = way.l
 pub all_kept : (test : ℕ → Bool) (places : List Place) (from at : ℕ) (kept : List ℕ) → 128 ≤ at → IsOnTheWay test places from at kept → kept ≡ filter test (nodes_from places from)
 all_kept test places from at kept more way =
     sym (append-nil kept) ∙ (ap (λ (qs : List Place). kept ++ filter test (map (λ (q : Place). q.node) qs)) (sym (past_end places at (omega (arith, more, way.long)))) ∙ way.all)
+
+-- and they are nodes of the tree
+pub participants_there : (nodes : List NodeFacts) (r : ℕ) (cs : List ℕ) → IsTree nodes → HasDomain nodes r → All (HasNode nodes) (participants_of nodes r cs)
+participants_there nodes r cs tree has =
+    All-filter (λ i. is_some (option_and_then (λ (n : NodeFacts). n.constraints) (slice_get nodes i))) (HasNode nodes) (members_of nodes r cs)
+    (All-weaker (λ i. IsSomeAnd (slice_get nodes i) (λ (n : NodeFacts). n.domain ≡ r)) (HasNode nodes)
+    (λ i own. let (n, here, _) = there (λ (z : NodeFacts). z.domain ≡ r) (slice_get nodes i) own in slice_get_within nodes i n here) (members_of nodes r cs) (members_stand_once nodes r cs tree has).own)

@@ -1,6 +1,6 @@
 //! The participants of selections, in their order.
 
-ghost use Rattle.std.specs.Prelude.{◌≡◌, ◌≤◌, ℕ, [], IfOk, filter, length};
+ghost use Rattle.std.specs.Prelude.{◌≡◌, ◌≤◌, ℕ, [], All, IfOk, filter, length};
 ghost use Rattle.sysmem_tree.specs.Domain.{HasDomain};
 ghost use Rattle.sysmem_tree.specs.Forest.{Forest};
 ghost use Rattle.sysmem_tree.specs.Laws.{labels};
@@ -25,6 +25,7 @@ impl Tree {
         requires prefix { IsPrefix (forest_of by_number self.now.nodes domain []) choices.now }
         ensures nodes { IfOk result
             (λ nodes. nodes.items ≡ participants_of self.now.nodes domain choices.now) }
+        ensures there { IfOk result (λ nodes. All (HasNode self.now.nodes) nodes.items) }
     {
         let marks = members(&self.nodes, domain.0, choices);
         self.marked_in(&self.layout(domain), &marks)

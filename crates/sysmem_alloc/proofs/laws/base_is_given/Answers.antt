@@ -1,5 +1,5 @@
--- See Bases.antt.
-use Rattle.sysmem_alloc.proofs.Bases.{base_is_given as lemma}
+-- See GivenBases.antt.
+use Rattle.sysmem_alloc.proofs.GivenBases.{base_is_given as lemma}
 use Rattle.sysmem_alloc.proofs.laws.base_is_given.Goals as goal
 
 pub returns : goal.returns

@@ -1,9 +1,9 @@
--- See Bases.antt.
+-- See GivenBases.antt.
 use Rattle.std.proofs.Common.{◌∙◌, ap, slice_get, subst, sym}
 use Rattle.std.specs.Prelude.{IfSome}
 use Rattle.sysmem_alloc.specs.Book.{BookFacts, IsBook}
 use Rattle.sysmem_alloc.specs.Sound.{MayWait}
-use Rattle.sysmem_alloc.proofs.Bases.{next_waits}
+use Rattle.sysmem_alloc.proofs.GivenBases.{next_waits}
 use Rattle.sysmem_alloc.proofs.book.Book.next_ready.Goals as goal
 
 pub returns-clause-waits : goal.returns-clause-waits

@@ -18,14 +18,17 @@ use Rattle.sysmem_tree.specs.Members.{AreItsNodes, MembersStandOnce}
 use Rattle.sysmem_tree.specs.Node.{NodeFacts}
 use Rattle.sysmem_tree.specs.Nodes.{IsTree}
 use Rattle.sysmem_tree.specs.Path.{birth_of}
-use Rattle.sysmem_tree.specs.Shape.{members_of, participants_of}
+use Rattle.sysmem_tree.specs.Forest.{Forest}
+use Rattle.sysmem_tree.specs.Selection.{IsPrefix, IsSelection}
+use Rattle.sysmem_tree.specs.Shape.{by_number, forest_of, members_of, participants_of}
 use Rattle.sysmem_tree.specs.Sublist.{IsSublist, ended, taken, left_out}
+use Rattle.sysmem_alloc.specs.Accepted.{IsChosenIn}
 use Rattle.sysmem_alloc.specs.Book.{BookFacts, IsBook}
 use Rattle.sysmem_alloc.specs.Decision.{Decision, choices_of, decision_for, settings_for, settings_of}
 use Rattle.sysmem_alloc.specs.Entry.{constraints_at}
 use Rattle.sysmem_alloc.specs.History.{replay}
 use Rattle.sysmem_alloc.specs.Laws.{BaseIsGiven, LegalAgrees, LegalIsSound}
-use Rattle.sysmem_alloc.specs.Sound.{AgreesWithTree, AllOf, AreApart, AreSettingsOn, IsOfReady, IsSoundState, MayWait, standing_of}
+use Rattle.sysmem_alloc.specs.Sound.{AgreesWithTree, AllOf, AreApart, AreSettingsOn, IsDecisionOn, IsOfReady, IsSoundState, MayWait, standing_of}
 use Rattle.sysmem_alloc.specs.State.{State, base_of, chosen_by, chosen_in, next_ready}
 use Rattle.sysmem_alloc.proofs.Agreeing.{none_entered, none_for, settings_fit}
 use Rattle.sysmem_alloc.proofs.Entering.{state_sound}
@@ -194,3 +197,20 @@ pub base_is_given : LegalIsSound → LegalAgrees → MembersStandOnce → BaseIs
 base_is_given sound agrees law platform es r legal next =
     let state = sound platform es legal in
     given law platform (replay es) r state (agrees platform es legal) (first_waits (replay es).tree (replay es).waiting r state.waiting next)
+
+-- in a book
+pub book_base_given : BaseIsGiven → (b : BookFacts) (r : ℕ) → IsBook b → next_ready b.state ≡ Some r → IsGivenBase b.platform b.state.tree.nodes r (base_of b.state r)
+book_base_given law b r is next = subst (λ (s : State). IsGivenBase b.platform s.tree.nodes r (base_of s r)) (sym is.replayed)
+    (law b.platform b.history r is.legal (subst (λ (s : State). next_ready s ≡ Some r) is.replayed next))
+
+-- each decision of a book is of a domain of its tree, and leads on in it
+pub all_chosen : LegalIsSound → LegalAgrees → (b : BookFacts) → IsBook b → All (IsChosenIn b.state.tree.nodes) b.state.decisions
+all_chosen sound agrees b is = each b.state.decisions (state_sound sound b is).decided (subst (AgreesWithTree b.platform) (sym is.replayed) (agrees b.platform b.history is.legal)).chosen where
+  leads : (f : Forest ℕ) (o : Option (List ℕ)) → IfSome o (λ cs. (e : Forest ℕ) × IsSelection f cs e) → IfSome o (λ cs. IsPrefix f cs)
+  leads f None h = tt
+  leads f (Some cs) h = subst IsSome (sym h.1.leads) refl
+
+  each : (ds : List Decision) → AllOf (IsOfReady b.state.tree) ds → AllOf (IsDecisionOn b.platform b.state.tree.nodes) ds → All (IsChosenIn b.state.tree.nodes) ds
+  each [] ready chosen = All-nil (IsChosenIn b.state.tree.nodes)
+  each (d ∷ ds) ready chosen = All-cons (IsChosenIn b.state.tree.nodes) d ds
+      (record { there = ready.0.there; prefix = leads (forest_of by_number b.state.tree.nodes d.domain []) (choices_of d.verdict) chosen.0.selects }) (each ds ready.1 chosen.1)
