@@ -1,5 +1,5 @@
 -- The lines of a report. Each ends with a newline.
-use Rattle.std.specs.Prelude.{◌≡◌, ℕ, ◌++◌, List, [], Option, Some, None, OnOk, Result, String, codes, slice_get, string_bytes, flat_map, ◌∷◌}
+use Rattle.std.specs.Prelude.{◌≡◌, ℕ, ◌++◌, List, [], ◌∷◌, Option, Some, None, OnOk, Result, String, codes, slice_get, string_bytes}
 use Rattle.std.specs.declared.alloc.Global.{Global}
 use Rattle.std.specs.Fmt.{decimal}
 use Rattle.sysmem_memory.specs.Domain.{domain_name}
@@ -11,13 +11,13 @@ use Rattle.sysmem_formats.specs.declared.offer.Pair.{Pair}
 use Rattle.sysmem_formats.specs.Names.{colour_name, format_name, modifier_name}
 use Rattle.sysmem_image.specs.declared.size.Corner.{Corner}
 use Rattle.sysmem_merge.specs.declared.settings.Settings.{Settings}
+use Rattle.sysmem_proof.specs.Chosen.{ChosenFacts}
 use Rattle.sysmem_sanitise.specs.Platform.{PlatformFacts}
 use Rattle.sysmem_sanitise.specs.Faults.{fault_text}
 use Rattle.sysmem_tree.specs.Refusal.{refusal_text}
-use Rattle.sysmem_proof.specs.Chosen.{ChosenFacts}
 use Rattle.script_run.specs.declared.reply.Reply.{Reply}
 use Rattle.script_run.specs.declared.reply.Reply.TheVariants.{Accepted, Refused, Misread, Skipped}
-use Rattle.script_reading.specs.Call.{ActFacts, duplicates, binds, states, creates_group, creates_child, has_all_children, attaches_token, releases, closes, checks, waits}
+use Rattle.script_reading.specs.Call.{ActFacts, duplicates, binds, states, creates_group, creates_child, has_all_children, attaches_token, releases, closes, checks, waits, name_made}
 use Rattle.script_reading.specs.Script.{CallFacts}
 
 abbrev pub reply_text : Reply → List ℕ
@@ -40,13 +40,14 @@ act_name closes = codes "close"
 act_name checks = codes "check"
 act_name waits = codes "wait"
 
--- the name that the call gives, behind a space
+-- a name, if there is one, behind a space
+abbrev pub spaced : Option (List ℕ) → List ℕ
+spaced (Some name) = codes " " ++ name
+spaced None = []
+
+-- the name that the call makes, if it makes one, behind a space
 abbrev pub new_name : ActFacts → List ℕ
-new_name (duplicates name) = codes " " ++ name
-new_name (creates_group name) = codes " " ++ name
-new_name (creates_child name) = codes " " ++ name
-new_name (attaches_token name) = codes " " ++ name
-new_name _ = []
+new_name act = spaced (name_made act)
 
 -- `7 duplicate root a ok`
 abbrev pub call_line : ℕ → CallFacts → Reply → List ℕ
@@ -76,21 +77,27 @@ settings_text platform s = (codes "count " ++ decimal s.count ++ codes " size " 
     ++ heap_text (slice_get platform.heaps s.place.heap)
     ++ (codes " " ++ domain_name s.place.coherency ++ codes " image ")
 
--- `/0/1`, of the root `/`
+-- each number behind this mark: `/0/1`
+abbrev pub marked : List ℕ → List ℕ → List ℕ
+marked mark [] = []
+marked mark (n ∷ ns) = (mark ++ decimal n) ++ marked mark ns
+
+-- `/` for the root, else `/0/1`
 abbrev pub path_text : List ℕ → List ℕ
 path_text [] = codes "/"
-path_text (o ∷ os) = flat_map (λ x. codes "/" ++ decimal x) (o ∷ os)
+path_text (ordinal ∷ ordinals) = marked (codes "/") (ordinal ∷ ordinals)
 
--- `0.1`, of no choices `-`
+-- `0.1`, one choice for each group in effect, or `-` where there is none
 abbrev pub selection_text : List ℕ → List ℕ
 selection_text [] = codes "-"
-selection_text (c ∷ cs) = decimal c ++ flat_map (λ x. codes "." ++ decimal x) cs
+selection_text (choice ∷ choices) = decimal choice ++ marked (codes ".") choices
 
--- what is said of a domain that settings were chosen for
+-- `chosen 0.1 count 2 size 4096 place ram#0 cpu image none`
 abbrev pub chosen_text : PlatformFacts → ChosenFacts → Corner → List ℕ
-chosen_text platform chosen k = codes "chosen " ++ selection_text chosen.selection ++ codes " " ++ settings_text platform chosen.settings ++ image_text chosen.settings.offer k
+chosen_text platform chosen k =
+    codes "chosen " ++ selection_text chosen.selection ++ codes " " ++ settings_text platform chosen.settings ++ image_text chosen.settings.offer k
 
--- `domain /0 empty`
+-- `domain /0/1 empty`: what became of the domain whose root is at this path
 abbrev pub domain_line : List ℕ → List ℕ → List ℕ
 domain_line path what = codes "domain " ++ path_text path ++ codes " " ++ what ++ codes "\n"
 

@@ -1,25 +1,24 @@
 //! The decision of the first domain that waits, and its line.
 
-ghost use Rattle.std.specs.Prelude.{◌≡◌, Some, option_map, IfOk, OnOk};
+ghost use Rattle.std.specs.Prelude.{◌≡◌, Some, option_map, OnOk};
 ghost use Rattle.std.specs.Arc.{arc_value};
 ghost use Rattle.std.specs.String.{string_bytes};
 ghost use Rattle.sysmem_alloc.specs.Decision.{Decision};
 ghost use Rattle.sysmem_alloc.specs.Entry.{Decided};
 ghost use Rattle.sysmem_alloc.specs.History.{Allows};
-ghost use Rattle.sysmem_alloc.specs.State.{base_of, next_ready};
-ghost use Rattle.sysmem_proof.specs.Base.{IsGivenBase};
+ghost use Rattle.sysmem_alloc.specs.State.{next_ready};
 ghost use Rattle.sysmem_proof.specs.declared.verdict.Verdict.TheVariants as verdicts;
 ghost use Rattle.sysmem_tree.specs.Path.{path_of};
 ghost use Rattle.script_run.specs.Deciding.{HasCorner, TellsIn};
 
-use crate::line::{put_chosen, put_word};
+use crate::domain_line::{put_chosen, put_word};
 use std::alloc::{AllocError, Global};
 use std::sync::Arc;
 use sysmem_alloc::Book;
 use sysmem_alloc::laws::legal_is_sound;
 use sysmem_image::corner;
 use sysmem_image::laws::no_corner;
-use sysmem_proof::{Base, Chosen, Verdict};
+use sysmem_proof::{Chosen, Verdict};
 use sysmem_sanitise::Platform;
 use sysmem_search::{NoGate, search};
 use sysmem_tree::{DomainId, Path};
@@ -32,7 +31,7 @@ pub(crate) fn verdict_for(alloc: Global, book: &Book, domain: DomainId) -> Optio
       verdict = option_map (λ shared. arc_value shared) result;
     })) }
 {
-    let base = base_of(book, domain).ok()?;
+    let base = book.base(domain).ok()?;
     let found = search(
         alloc,
         book.platform(),
@@ -43,15 +42,6 @@ pub(crate) fn verdict_for(alloc: Global, book: &Book, domain: DomainId) -> Optio
     )
     .ok()?;
     Arc::new(alloc, found.verdict).ok()
-}
-
-/// STUB
-fn base_of(book: &Book, domain: DomainId) -> Result<Option<Base>, AllocError>
-    requires { next_ready book.now.state ≡ Some domain }
-    ensures base { IfOk result (λ base. option_map (λ b. b.now) base ≡ base_of book.now.state domain) }
-    ensures given { IfOk result (λ base. IsGivenBase book.now.platform book.now.state.tree.nodes domain (option_map (λ b. b.now) base)) }
-{
-    Err(AllocError)
 }
 
 /// Puts the line of a decision that the book allows behind the text.

@@ -6,7 +6,7 @@ ghost use Rattle.script_run.specs.Marks.{AreMarksOf, failed_at, unmarked_at};
 ghost use Rattle.script_run.specs.Report.{failed_lines};
 ghost use Rattle.sysmem_tree.specs.Domain.{HasDomain, TreeFacts, has_failed};
 
-use crate::domain::put_domain;
+use crate::domain_line::put_domain;
 use std::alloc::AllocError;
 use sysmem_tree::{DomainId, Fate, Tree};
 

@@ -9,7 +9,7 @@
 #![tactic(auto)]
 
 mod deciding;
-mod domain;
+mod domain_line;
 mod failing;
 mod fault;
 pub mod laws;

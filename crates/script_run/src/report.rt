@@ -9,7 +9,7 @@ ghost use Rattle.script_run.specs.Report.{IsReport, pending_lines};
 ghost use Rattle.script_run.specs.State.{first_state};
 ghost use Rattle.sysmem_tree.specs.Domain.{HasDomain};
 
-use crate::domain::put_domain;
+use crate::domain_line::put_domain;
 use crate::runner::Runner;
 use script_reading::Call;
 use std::alloc::{AllocError, Global};

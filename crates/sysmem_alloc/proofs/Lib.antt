@@ -17,3 +17,4 @@ pub mod Next
 pub mod Agreeing
 pub mod GivenBases
 pub mod Gathering
+pub mod CallerLemmas
