@@ -8,19 +8,21 @@ use Rattle.sysmem_sanitise.specs.declared.fault.Fault.{Fault}
 use Rattle.sysmem_sanitise.specs.declared.fault.Code.{Code}
 use Rattle.sysmem_sanitise.specs.declared.fault.Code.TheVariants.{WantOfMemory}
 use Rattle.sysmem_sanitise.specs.Faults.{lack_of}
+use Rattle.sysmem_sanitise.specs.Participant.{Participant}
 use Rattle.sysmem_sanitise.specs.Reading.{participant_of, participant_with}
 use Rattle.sysmem_tree.specs.declared.refusal.Refusal.{Refusal}
+use Rattle.sysmem_tree.specs.declared.refusal.Refusal.TheVariants as refusals
 use Rattle.sysmem_tree.specs.ActionKind.{Deed}
+use Rattle.sysmem_tree.specs.ActionKind as deeds
 use Rattle.sysmem_tree.specs.Domain.{TreeFacts}
 use Rattle.sysmem_tree.specs.Tree.{applied}
 use Rattle.script_reading.specs.Call.{ActFacts, states}
 use Rattle.script_reading.specs.Script.{CallFacts}
 use Rattle.script_run.specs.declared.reply.Reply.{Reply}
 use Rattle.script_run.specs.declared.reply.Reply.TheVariants.{Accepted, Refused, Misread, Skipped}
-use Rattle.script_run.specs.Answer.{Asks, Replies, skips, misreads, starves as starved_by, refuses, accepts}
+use Rattle.script_run.specs.Answer.{Asks, to_set, Replies, skips, misreads, starves, lacks, refuses, accepts, is_want}
 use Rattle.script_run.specs.Lines.{call_line}
 use Rattle.script_run.specs.Report.{FollowsIn, Takes, failed_lines, takes}
-use Rattle.script_run.specs.Runner.{starves}
 use Rattle.script_run.specs.State.{State, tree_of, acted, named, node_named, unmade}
 
 pub skipped_as : (s t : State) (r : CallFacts) → node_named s r ≡ None → t ≡ unmade s r.act → Replies s r Skipped t
@@ -46,28 +48,35 @@ or_false : (b : Bool) → (b || false) ≡ b
 or_false true = refl
 or_false false = refl
 
-starves_for_want : (code : Code) → starves code ≡ true → code ≡ WantOfMemory
+starves_for_want : (code : Code) → is_want code ≡ true → code ≡ WantOfMemory
 starves_for_want WantOfMemory e = refl
 starves_for_want _ e = absurd (cc)
 
 by_code : (s t : State) (r : CallFacts) (k : ℕ) (d : Data) (fault : Fault) (b : Bool) → node_named s r ≡ Some k → r.act ≡ states (Some d)
     → ((fault.code ≡ WantOfMemory → ⊥) → participant_of d ≡ Err fault) → (fault.code ≡ WantOfMemory → participant_with (lack_of fault) d ≡ Err fault)
-    → starves fault.code ≡ b → t ≡ record s { starved = s.starved || starves fault.code }
+    → is_want fault.code ≡ b → t ≡ record s { starved = s.starved || is_want fault.code }
     → Replies s r (Misread fault) t
-by_code s t r k d fault true here act said lacks g e =
-    let all : (s.starved || starves fault.code) ≡ true = rw g (or_true s.starved) in
+by_code s t r k d fault true here act said wanting g e =
+    let all : (s.starved || is_want fault.code) ≡ true = rw g (or_true s.starved) in
     let want : fault.code ≡ WantOfMemory = starves_for_want fault.code g in
-    rw (e, all) (starved_by k d fault here act want (lacks want))
-by_code s t r k d fault false here act said lacks g e =
-    let all : (s.starved || starves fault.code) ≡ s.starved = rw g (or_false s.starved) in
-    rw (e, all) (misreads k d fault here act (said (λ (want : fault.code ≡ WantOfMemory). absurd (cc (g, ap starves want)))))
+    rw (e, all) (starves k d fault here act want (wanting want))
+by_code s t r k d fault false here act said wanting g e =
+    let all : (s.starved || is_want fault.code) ≡ s.starved = rw g (or_false s.starved) in
+    rw (e, all) (misreads k d fault here act (said (λ (want : fault.code ≡ WantOfMemory). absurd (cc (g, ap is_want want)))))
+
+pub asks_set : (act : ActFacts) (d : Data) (asked shared : Participant) → act ≡ states (Some d) → participant_of d ≡ Ok asked → shared ≡ asked → Asks act (deeds.sets (Some shared))
+asks_set act d asked shared e read same = rw (e, same) (to_set d asked read)
 
 -- a fault for want of memory starves, and every other one is what is wrong with the record
 pub misread_as : (s t : State) (r : CallFacts) (k : ℕ) (d : Data) (fault : Fault) → node_named s r ≡ Some k → r.act ≡ states (Some d)
     → ((fault.code ≡ WantOfMemory → ⊥) → participant_of d ≡ Err fault) → (fault.code ≡ WantOfMemory → participant_with (lack_of fault) d ≡ Err fault)
-    → t ≡ record s { starved = s.starved || starves fault.code }
+    → t ≡ record s { starved = s.starved || is_want fault.code }
     → Replies s r (Misread fault) t
-misread_as s t r k d fault here act said lacks e = by_code s t r k d fault (starves fault.code) here act said lacks refl e
+misread_as s t r k d fault here act said wanting e = by_code s t r k d fault (is_want fault.code) here act said wanting refl e
+
+four_texts : (a b c d w x y : List ℕ) → b ≡ a ++ w → c ≡ b ++ x → d ≡ c ++ y → d ≡ a ++ (w ++ x ++ y)
+four_texts a b c d w x y e f g =
+    g ∙ (ap (λ z. z ++ y) (f ∙ ap (λ z. z ++ x) e) ∙ (ap (λ z. z ++ y) (append_assoc a w x) ∙ append_assoc a (w ++ x) y))
 
 -- a reply, the domains that the call made fail and what follows are what a call makes
 pub takes_as : (number : ℕ) (s : State) (r : CallFacts) (mid t : State) (before between then_on after : List ℕ) (reply : Reply)
@@ -76,5 +85,10 @@ pub takes_as : (number : ℕ) (s : State) (r : CallFacts) (mid t : State) (befor
 takes_as number s r mid t before between then_on after reply answered e f followed = record {
   lines = call_line number r reply ++ failed_lines (tree_of s) (tree_of mid) ++ followed.lines;
   made = takes reply mid t followed.lines answered followed.follows;
-  put = followed.put ∙ rw (f, e, append_assoc, append_assoc, append_assoc) refl;
+  put = four_texts before between then_on after (call_line number r reply) (failed_lines (tree_of s) (tree_of mid)) followed.lines e f followed.put;
 }
+
+-- constraints that were read but for which memory was refused
+pub lacks_as : (s t : State) (r : CallFacts) (k : ℕ) (d : Data) (asked : Participant) → node_named s r ≡ Some k → r.act ≡ states (Some d) → participant_of d ≡ Ok asked
+    → t ≡ record s { starved = true } → Replies s r (Refused refusals.NoMemory) t
+lacks_as s t r k d asked here act read e = rw e (lacks k d asked here act read)

@@ -1,6 +1,14 @@
 pub mod AnswerLemmas
 pub mod Answering
+pub mod Corners
+pub mod Failures
+pub mod Following
 pub mod Growing
 pub mod Reaching
+pub mod Marked
 pub mod RunLemmas
 pub mod Spelling
+pub mod Told
+pub mod Texts
+pub mod Unique
+pub mod Walking

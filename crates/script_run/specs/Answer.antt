@@ -6,6 +6,7 @@ use Rattle.sysmem_alloc.specs.State.{State as BookState, verdict_of}
 use Rattle.sysmem_proof.specs.declared.verdict.Verdict.{Verdict}
 use Rattle.sysmem_proof.specs.declared.verdict.Verdict.TheVariants.{Chosen, IntersectionEmpty, TooMany, Failed}
 use Rattle.sysmem_proof.specs.declared.verdict.Verdict.TheVariants as verdicts
+use Rattle.sysmem_sanitise.specs.declared.fault.Code.{Code}
 use Rattle.sysmem_sanitise.specs.declared.fault.Code.TheVariants.{WantOfMemory}
 use Rattle.sysmem_sanitise.specs.declared.fault.Fault.{Fault}
 use Rattle.sysmem_sanitise.specs.Faults.{lack_of}
@@ -83,3 +84,8 @@ pub data Replies (s : State) (r : CallFacts) : Reply → State → Type 0 where
   accepts : (k made : ℕ) (deed : Deed) (tree : TreeFacts) → node_named s r ≡ Some k
       → Asks r.act deed → applied (tree_of s) k deed ≡ Ok (record { tree = tree; node = made }) → Replies s r Accepted (acted s r.act (Acted k deed) made)
   tells : (k : ℕ) → node_named s r ≡ Some k → AsksVerdict r.act → Replies s r (told s.book.state k) s
+
+-- a reader's fault for want of memory
+abbrev pub is_want : Code → Bool
+is_want WantOfMemory = true
+is_want _ = false

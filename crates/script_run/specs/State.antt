@@ -1,9 +1,11 @@
 -- How a script stands: its book, and what its names stand for.
-use Rattle.std.specs.Prelude.{ℕ, ◌++◌, List, [], ◌∷◌, Bool, false, Option, Some, None, slice_get, unwrap_or}
+use Rattle.std.specs.Prelude.{◌≡◌, ℕ, ◌++◌, List, [], ◌∷◌, Bool, false, Option, Some, None, slice_get, unwrap_or}
 use Rattle.sysmem_alloc.specs.Book.{BookFacts, entered, new_book}
 use Rattle.sysmem_alloc.specs.Entry.{BookEntry}
 use Rattle.sysmem_sanitise.specs.Platform.{PlatformFacts}
 use Rattle.sysmem_tree.specs.Domain.{TreeFacts}
+use Rattle.sysmem_tree.specs.Node.{NodeFacts}
+use Rattle.sysmem_tree.specs.Nodes.{HasNode}
 use Rattle.script_reading.specs.Call.{ActFacts, name_made}
 use Rattle.script_reading.specs.Script.{CallFacts}
 
@@ -41,3 +43,7 @@ unmade s act = record s { names = s.names ++ named act None }
 -- an accepted action was entered, and its name stands for this node
 abbrev pub acted : State → ActFacts → BookEntry → ℕ → State
 acted s act entry made = record s { book = entered s.book entry; names = s.names ++ named act (Some made) }
+
+-- each name that stands for a node stands for one of the tree's
+abbrev pub AreThere : List NodeFacts → List (Option ℕ) → Type 0
+AreThere nodes names = (place k : ℕ) → slice_get names place ≡ Some (Some k) → HasNode nodes k

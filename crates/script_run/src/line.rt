@@ -3,18 +3,14 @@
 ghost use Rattle.std.specs.Prelude.{◌≡◌, ◌++◌, codes};
 ghost use Rattle.std.specs.Fmt.{decimal};
 ghost use Rattle.sysmem_sanitise.specs.Faults.{fault_text};
-ghost use Rattle.script_run.specs.Lines.{Puts, act_name, call_line, new_name, pending_lines, reply_text, verdict_line};
+ghost use Rattle.script_run.specs.Lines.{Puts, act_name, call_line, new_name, reply_text};
 ghost use Rattle.script_reading.specs.Seen.{act_seen, call_seen};
 
-use crate::domain_line::{put_image, put_settings};
 use crate::reply::Reply;
-use crate::verdict::Verdict;
 use script_reading::{Act, Call};
 use std::alloc::AllocError;
 use std::fmt::Write;
-use sysmem_image::Corner;
-use sysmem_merge::Settings;
-use sysmem_sanitise::{Fault, Platform};
+use sysmem_sanitise::Fault;
 
 /// Puts the line of a call behind the text: `7 duplicate root a ok`.
 pub(crate) fn put_call(
@@ -95,20 +91,4 @@ fn put_fault(text: &mut String, fault: Fault) -> Result<(), AllocError>
     let code = fault.code.name();
     let at = fault.at.name();
     writeln!(text, " {code} {at}")
-}
-
-fn put_chosen(
-    text: &mut String,
-    platform: &Platform,
-    settings: Settings,
-    corner: Corner,
-) -> Result<(), AllocError>
-    ensures { Puts result text.old text.new
-        (verdict_line platform.now (Verdict.Chosen settings corner)) }
-{
-    text.push_str("domain / chosen - ")?;
-    put_settings(text, platform, settings)?;
-    put_image(text, settings.offer, corner)?;
-    text.push_str("\n")?;
-    Ok(())
 }

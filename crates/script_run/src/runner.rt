@@ -1,14 +1,17 @@
 //! The collection that a script's calls act on: its book, and what their names stand for.
 
-ghost use Rattle.std.specs.Prelude.{◌≡◌, ◌+◌, ◌≤◌, ◌++◌, ◌||◌, Some, length, slice_get, unwrap_or, IfOk, IfSome, OnOk};
+ghost use Rattle.std.specs.Prelude.{◌≡◌, ◌+◌, ◌≤◌, ◌++◌, ◌||◌, Some, None, true, length, option_map, slice_get, unwrap_or, IfOk, IfSome, OnOk};
+ghost use Rattle.std.specs.Arc.{arc_value};
 ghost use Rattle.std.specs.String.{string_bytes};
 ghost use Rattle.serde_json.specs.View.{view};
 ghost use Rattle.script_reading.specs.Call.{states};
 ghost use Rattle.script_reading.specs.Seen.{act_seen, call_seen};
-ghost use Rattle.script_run.specs.Answer.{Asks, Replies, told};
-ghost use Rattle.script_run.specs.Report.{DecidesIn, FollowsIn, Takes};
-ghost use Rattle.script_run.specs.Runner.{AreThere, starves};
-ghost use Rattle.script_run.specs.State.{first_state, named, node_named};
+ghost use Rattle.script_run.specs.Answer.{Asks, Replies, is_want};
+ghost use Rattle.script_run.specs.Report.{DecidesIn, FollowsIn, Takes, decided};
+ghost use Rattle.script_run.specs.State.{AreThere, first_state, named, node_named};
+ghost use Rattle.sysmem_alloc.specs.Entry.{Decided};
+ghost use Rattle.sysmem_alloc.specs.History.{Allows};
+ghost use Rattle.sysmem_alloc.specs.Sound.{MayWait};
 ghost use Rattle.sysmem_alloc.specs.State.{next_ready};
 ghost use Rattle.sysmem_tree.specs.ActionKind.{deed_of};
 ghost use Rattle.sysmem_tree.specs.Nodes.{HasNode};
@@ -23,8 +26,9 @@ use serde_json::Value;
 use std::alloc::{AllocError, Global};
 use std::sync::Arc;
 use sysmem_alloc::Book;
-use sysmem_alloc::laws::few_entries;
-use sysmem_sanitise::{Code, Constraints, Fault, Platform, read_constraints};
+use sysmem_alloc::laws::{few_entries, legal_is_sound};
+use sysmem_proof::Verdict;
+use sysmem_sanitise::{Code, Fault, Platform, read_constraints};
 use sysmem_tree::{Action, DomainId, Event, NodeId, Refusal};
 
 /// A collection with the names of its nodes.
@@ -81,6 +85,8 @@ impl Runner {
         ensures { OnOk result (Takes number (state_of self.old) (call_seen call.now)
             (state_of self.new) (string_bytes text.old) (string_bytes text.new)) }
     {
+        legal_is_sound();
+        self.book.platform();
         let had_failed = failed_domains(self.book.tree());
         let reply = self.answer(alloc, call)?;
         put_call(text, number, call, reply)?;
@@ -107,7 +113,8 @@ impl Runner {
         domain: DomainId,
         text: &mut String,
     ) -> Result<(), AllocError>
-        requires { next_ready (state_of self.old).book.state ≡ Some domain }
+        requires next { next_ready (state_of self.old).book.state ≡ Some domain }
+        requires waits { MayWait (state_of self.old).book.state.tree domain }
         ensures lines { OnOk result (DecidesIn (state_of self.old) (state_of self.new)
             (string_bytes text.old) (string_bytes text.new)) }
         ensures grows { OnOk result (length (state_of self.new).book.history
@@ -118,11 +125,26 @@ impl Runner {
         let verdict = verdict_for(alloc, &self.book, domain);
         put_decision(text, &self.book, domain, &verdict)?;
         let had_failed = failed_domains(self.book.tree());
+        self.enter(domain, verdict);
+        put_failed(text, self.book.tree(), &had_failed)?;
+        self.book.platform();
+        Ok(())
+    }
+
+    /// Enters a decision that the book allows.
+    fn enter(&mut self, domain: DomainId, verdict: Option<Arc<Verdict>>)
+        requires { Allows (state_of self.old).book.platform (state_of self.old).book.state
+            (Decided (record {
+              domain = domain;
+              verdict = option_map (λ shared. arc_value shared) verdict;
+            })) }
+        ensures { state_of self.new ≡ decided (state_of self.old) (record {
+          domain = domain;
+          verdict = option_map (λ shared. arc_value shared) verdict;
+        }) }
+    {
         self.starved = self.starved || verdict.is_none();
         self.book.decide(domain, verdict);
-        put_failed(text, self.book.tree(), &had_failed)?;
-        let _ = self.book.platform();
-        Ok(())
     }
 
     /// Makes a call, and gives its reply.
@@ -144,7 +166,8 @@ impl Runner {
             Act::AttachToken(_) => self.act(call, node, Action::AttachToken),
             Act::Release => self.act(call, node, Action::Release),
             Act::Close => self.act(call, node, Action::Close),
-            Act::Check | Act::Wait => Ok(told(&self.book, node)),
+            Act::Check => Ok(told(&self.book, node)),
+            Act::Wait => Ok(told(&self.book, node)),
         }
     }
 
@@ -194,10 +217,10 @@ impl Runner {
     fn misread(&mut self, fault: Fault) -> Reply
         ensures reply { result ≡ Reply.Misread fault }
         ensures starved { state_of self.new ≡ record (state_of self.old) {
-          starved = (state_of self.old).starved || starves fault.code;
+          starved = (state_of self.old).starved || is_want fault.code;
         } }
     {
-        self.starved = self.starved || starves(fault.code);
+        self.starved = self.starved || is_want(fault.code);
         Reply::Misread(fault)
     }
 
@@ -252,8 +275,8 @@ impl Runner {
 }
 
 /// Whether memory was refused to a reader.
-fn starves(code: Code) -> bool
-    ensures { result ≡ starves code }
+fn is_want(code: Code) -> bool
+    ensures { result ≡ is_want code }
 {
     matches!(code, Code::WantOfMemory)
 }

@@ -9,8 +9,11 @@ use Rattle.sysmem_alloc.specs.Sound.{AllOf, roots_of}
 use Rattle.sysmem_tree.specs.declared.action.ActionKind.{ActionKind}
 use Rattle.sysmem_tree.specs.declared.action.ActionKind.TheVariants.{Duplicate, CreateGroup, Bind, CreateChild, AllChildrenPresent, SetConstraints, AttachToken, Release, Close}
 use Rattle.sysmem_tree.specs.declared.domain.Domain.{Domain}
+use Rattle.sysmem_tree.specs.declared.domain.Decision.{Decision}
+use Rattle.sysmem_tree.specs.declared.domain.Decision.TheVariants.{Undecided, Chosen, NoneChosen}
+use Rattle.sysmem_tree.specs.declared.fate.Fate.TheVariants as fates
 use Rattle.sysmem_tree.specs.ActionKind.{Deed, kind_of}
-use Rattle.sysmem_tree.specs.Domain.{TreeFacts, HasDomain, IsSoundTree, fails, has_failed, host_node, is_host_lost, up_from, was_closed_early}
+use Rattle.sysmem_tree.specs.Domain.{TreeFacts, HasDomain, IsSoundTree, decision_of, fails, fate_by, fate_of, has_failed, host_node, is_host_lost, up_from, was_closed_early}
 use Rattle.sysmem_tree.specs.Node.{NodeFacts}
 use Rattle.sysmem_tree.specs.Tree.{Applied, applied, decided}
 use Rattle.script_run.specs.Marks.{AreMarksOf, failed_at, unmarked_at}
@@ -21,16 +24,15 @@ never_closed : (nodes : List NodeFacts) (r : ℕ) (ds : List Domain) → slice_g
 never_closed nodes r [] none all = refl
 never_closed nodes r (d ∷ ds) none all =
     let apart : (d.root == r) ≡ false = ne_eqb d.root r (λ same. not_there (subst (HasDomain nodes) same all.0)) in
-    ap (λ b. (b && d.is_closed_early) || was_closed_early ds r) apart ∙ never_closed nodes r ds none all.1
-  where
-    not_there : HasDomain nodes r → ⊥
-    not_there h = subst (λ o. IsSomeAnd o (λ (n : NodeFacts). n.domain ≡ r)) none h
+    ap (λ b. (b && d.is_closed_early) || was_closed_early ds r) apart ∙ never_closed nodes r ds none all.1 where
+  not_there : HasDomain nodes r → ⊥
+  not_there h = subst (λ o. IsSomeAnd o (λ (n : NodeFacts). n.domain ≡ r)) none h
 
 no_host : (nodes : List NodeFacts) (r : ℕ) → slice_get nodes r ≡ None → host_node nodes r ≡ None
 no_host nodes r none = ap (λ o. option_and_then (λ (n : NodeFacts). option_and_then (λ b. slice_get nodes b.parent) n.birth) o) none
 
 fails_not : (t : TreeFacts) (r : ℕ) → slice_get t.nodes r ≡ None → was_closed_early t.domains r ≡ false → fails t r ≡ false
-fails_not t r none open = ap (λ b. b || is_host_lost t.domains (host_node t.nodes r)) open ∙ ap (is_host_lost t.domains) (no_host t.nodes r none)
+fails_not t r none early = ap (λ b. b || is_host_lost t.domains (host_node t.nodes r)) early ∙ ap (is_host_lost t.domains) (no_host t.nodes r none)
 
 none_above : (t : TreeFacts) (r many : ℕ) → slice_get t.nodes r ≡ None → fails t r ≡ false → list_any (fails t) (up_from many t.nodes r) ≡ false
 none_above t r zero none not_it = refl
@@ -100,3 +102,21 @@ unmarked_is old t marks k are = by (slice_get (roots_of t) k) refl where
       → picked (λ r. has_failed t r && not (has_failed old r)) o ≡ option_and_then (λ r. if has_failed t r && not (get_or marks k false) then Some r else None) o
   by None here = refl
   by (Some r) here = ap (λ b. if has_failed t r && not b then Some r else None) (sym (are k r here))
+
+not_failed : (d : Decision) → fate_by d ≡ fates.Failed → ⊥
+not_failed Undecided e = absurd (cc)
+not_failed Chosen e = absurd (cc)
+not_failed NoneChosen e = absurd (cc)
+
+-- what became of a domain says whether it has failed
+pub failed_if : (t : TreeFacts) (r : ℕ) → fate_of t r ≡ fates.Failed → true ≡ has_failed t r
+failed_if t r is = by (has_failed t r) is where
+  by : (b : Bool) → (if b then fates.Failed else fate_by (decision_of t.domains r)) ≡ fates.Failed → true ≡ b
+  by true e = refl
+  by false e = absurd (not_failed (decision_of t.domains r) e)
+
+pub unfailed_if : (t : TreeFacts) (r : ℕ) → fate_of t r ≢ fates.Failed → false ≡ has_failed t r
+unfailed_if t r other = by (has_failed t r) other where
+  by : (b : Bool) → (if b then fates.Failed else fate_by (decision_of t.domains r)) ≢ fates.Failed → false ≡ b
+  by true n = absurd (n refl)
+  by false n = refl

@@ -1,0 +1,19 @@
+use Rattle.script_run.specs.Runner.{state_of}
+use Rattle.sysmem_tree.specs.ActionKind.{deed_of}
+use Rattle.script_run.proofs.Answering.{refused_as, accepted_as}
+use Rattle.script_run.proofs.Growing.{applied_there, there_after}
+use Rattle.script_run.proofs.runner.Runner.act.Goals as goal
+
+pub invariant_of-self : goal.invariant_of-self
+invariant_of-self c = applied_there c.args.self.now.book c.apply.new.self c.args.node (deed_of c.args.action) _ c.apply.result c.args.self.now.there c.apply.ensures.accepted c.apply.ensures.unchanged
+
+pub keep_name-requires : goal.keep_name-requires
+keep_name-requires c = (there_after _ _ _ _ c.in-Ok.ensures.accepted).there
+
+pub returns-in_ok-keep_name-in-Ok : goal.returns-in_ok-keep_name-in-Ok
+returns-in_ok-keep_name-in-Ok c =
+    accepted_as (state_of c.args.self.now) _ c.apply.new.self _ c.args.node c.in-Ok.done.node (deed_of c.args.action) c.requires.named c.requires.asks c.in-Ok.ensures.accepted c.in-Ok.ensures.entered c.in_ok-keep_name-in-Ok.ensures
+
+pub returns-in_ok-keep_name-in-Err : goal.returns-in_ok-keep_name-in-Err
+returns-in_ok-keep_name-in-Err c =
+    refused_as (state_of c.args.self.now) _ c.apply.new.self _ c.args.node (deed_of c.args.action) c.in-Err.refusal c.requires.named c.requires.asks c.in-Err.ensures.refused c.in-Err.ensures.unchanged c.in_ok-keep_name-in-Err.ensures
