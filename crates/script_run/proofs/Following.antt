@@ -1,7 +1,7 @@
 -- What follows a reply: decisions, one after the other, and what they and the call made fail.
 use Rattle.std.proofs.Common.{◌≡◌, ◌≤◌, ℕ, ◌+◌, ◌++◌, ◌||◌, Bool, false, List, [], ◌∷◌, length, length-append, Option, Some, None, Result, Ok, Err, get_or, refl, sym, ◌∙◌, ap, subst, append-nil, append_assoc}
 use Rattle.std.specs.Prelude.{is_none, option_map}
-use Rattle.sysmem_alloc.specs.Book.{BookFacts, IsBook}
+use Rattle.sysmem_alloc.specs.Book.{BookFacts, IsBook, entered}
 use Rattle.sysmem_alloc.specs.Decision.{Decision, choices_of}
 use Rattle.sysmem_alloc.specs.Entry.{Decided}
 use Rattle.sysmem_alloc.specs.History.{Allows}
@@ -40,11 +40,11 @@ pub decides_as : (s t : State) (d : Decision) (what before between after : List 
     → Tells s.book.platform d.verdict what → between ≡ before ++ domain_line (path_of (tree_of s).nodes d.domain) what
     → ((k : ℕ) → get_or marks k false ≡ failed_at (tree_of s) k)
     → ((old : TreeFacts) → AreMarksOf old (tree_of t) marks → after ≡ between ++ failed_lines old (tree_of t)) → t ≡ decided s d → DecidesIn s t before after
-decides_as s t d what before between after marks allowed tells line marked failed is = record {
+decides_as s t d what before between after marks allowed said line marked failed is = record {
   decision = d;
   what = what;
   allowed = allowed;
-  tells = tells;
+  tells = said;
   entered = is;
   put = all ∙ (ap (λ ts. ts ++ failed_lines (tree_of s) (tree_of (decided s d))) line
       ∙ append_assoc before (domain_line (path_of (tree_of s).nodes d.domain) what) (failed_lines (tree_of s) (tree_of (decided s d))));
@@ -52,6 +52,11 @@ decides_as s t d what before between after marks allowed tells line marked faile
   all : after ≡ between ++ failed_lines (tree_of s) (tree_of (decided s d))
   all = (subst (λ (x : State). (old : TreeFacts) → AreMarksOf old (tree_of x) marks → after ≡ between ++ failed_lines old (tree_of x)) is failed)
       (tree_of s) (marks_decided (tree_of s) d.domain (choices_of d.verdict) marks marked)
+
+-- a decision that was entered, with whether memory was refused to it
+pub entered_as : (s t : State) (b : BookFacts) (wants : Bool) (d : Decision) → t ≡ record s { book = b; starved = s.starved || wants } → b ≡ entered s.book (Decided d) → wants ≡ is_none d.verdict → t ≡ decided s d
+entered_as s t b wants d is same short =
+    is ∙ (ap (λ (x : BookFacts). record s { book = x; starved = s.starved || wants }) same ∙ ap (λ (w : Bool). record s { book = entered s.book (Decided d); starved = s.starved || w }) short)
 
 -- a book's history is one entry longer by it
 pub one_longer : (s t : State) (d : Decision) → t ≡ decided s d → length t.book.history ≡ length s.book.history + 1

@@ -143,8 +143,18 @@ impl Runner {
           verdict = option_map (λ shared. arc_value shared) verdict;
         }) }
     {
-        self.starved = self.starved || verdict.is_none();
+        let wants = verdict.is_none();
         self.book.decide(domain, verdict);
+        self.keep_want(wants);
+    }
+
+    /// Keeps whether memory was refused.
+    fn keep_want(&mut self, wants: bool)
+        ensures { state_of self.new ≡ record (state_of self.old) {
+          starved = (state_of self.old).starved || wants;
+        } }
+    {
+        self.starved = self.starved || wants;
     }
 
     /// Makes a call, and gives its reply.
@@ -220,7 +230,7 @@ impl Runner {
           starved = (state_of self.old).starved || is_want fault.code;
         } }
     {
-        self.starved = self.starved || is_want(fault.code);
+        self.keep_want(is_want(fault.code));
         Reply::Misread(fault)
     }
 

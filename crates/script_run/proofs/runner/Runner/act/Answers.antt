@@ -5,10 +5,12 @@ use Rattle.script_run.proofs.Growing.{applied_there, there_after}
 use Rattle.script_run.proofs.runner.Runner.act.Goals as goal
 
 pub invariant_of-self : goal.invariant_of-self
-invariant_of-self c = applied_there c.args.self.now.book c.apply.new.self c.args.node (deed_of c.args.action) _ c.apply.result c.args.self.now.there c.apply.ensures.accepted c.apply.ensures.unchanged
+invariant_of-self c = record {
+  there = applied_there c.args.self.now.book c.apply.new.self c.args.node (deed_of c.args.action) _ c.apply.result c.args.self.now.there c.apply.ensures.accepted c.apply.ensures.unchanged;
+}
 
 pub keep_name-requires : goal.keep_name-requires
-keep_name-requires c = (there_after _ _ _ _ c.in-Ok.ensures.accepted).there
+keep_name-requires c = (there_after c.args.self.now.book.state.tree c.args.node (deed_of c.args.action) (record { tree = c.apply.new.self.state.tree; node = c.in-Ok.done.node }) c.in-Ok.ensures.accepted).there
 
 pub returns-in_ok-keep_name-in-Ok : goal.returns-in_ok-keep_name-in-Ok
 returns-in_ok-keep_name-in-Ok c =
