@@ -1,5 +1,5 @@
 -- What follows a reply: decisions, one after the other, and what they and the call made fail.
-use Rattle.std.proofs.Common.{◌≡◌, ◌≤◌, ℕ, ◌+◌, ◌++◌, ◌||◌, Bool, false, List, [], ◌∷◌, length, length-append, Option, Some, None, Result, Ok, Err, get_or, refl, sym, ◌∙◌, ap, subst, append-nil, append_assoc}
+use Rattle.std.proofs.Common.{◌≡◌, ◌≤◌, ℕ, ◌+◌, ◌++◌, ◌||◌, Bool, true, false, not, List, [], ◌∷◌, length, length-append, Option, Some, None, Result, Ok, Err, get_or, refl, sym, ◌∙◌, ap, subst, append-nil, append_assoc}
 use Rattle.std.specs.Prelude.{is_none, option_map}
 use Rattle.sysmem_alloc.specs.Book.{BookFacts, IsBook, entered}
 use Rattle.sysmem_alloc.specs.Decision.{Decision, choices_of}
@@ -34,6 +34,11 @@ answered_marks s _ r _ marks sound marked (tells k here asks) = marks_same (tree
 pub none_mapped : {X Y : Type 0} (f : X → Y) (o : Option X) → is_none (option_map f o) ≡ is_none o
 none_mapped f None = refl
 none_mapped f (Some x) = refl
+
+-- what is the other of a test has that as its other
+pub turned : (a b : Bool) → a ≡ not b → b ≡ not a
+turned a true e = sym (ap not e)
+turned a false e = sym (ap not e)
 
 -- a decision with its lines
 pub decides_as : (s t : State) (d : Decision) (what before between after : List ℕ) (marks : List Bool) → Allows s.book.platform s.book.state (Decided d)

@@ -1,9 +1,9 @@
 use Rattle.std.proofs.Common.{sym, ◌∙◌}
 use Rattle.std.specs.Arc.{arc_value}
-use Rattle.std.specs.Prelude.{option_map}
+use Rattle.std.specs.Prelude.{is_some, option_map}
 use Rattle.sysmem_alloc.specs.Decision.{Decision}
 use Rattle.script_run.specs.Runner.{state_of}
-use Rattle.script_run.proofs.Following.{entered_as, none_mapped}
+use Rattle.script_run.proofs.Following.{entered_as, none_mapped, turned}
 use Rattle.script_run.proofs.Growing.{decided_there}
 use Rattle.script_run.proofs.Told.{if_unmapped}
 use Rattle.script_run.proofs.runner.Runner.enter.Goals as goal
@@ -20,4 +20,4 @@ pub returns : goal.returns
 returns c =
     let d : Decision = record { domain = c.args.domain; verdict = option_map (λ shared. arc_value shared) c.args.verdict } in
     entered_as (state_of c.args.self.now) (state_of c.keep_want.new.self) c.decide.new.self c.is_none-wants.result d c.keep_want.ensures c.decide.ensures
-    (c.is_none-wants.ensures ∙ sym (none_mapped (λ shared. arc_value shared) c.args.verdict))
+    (turned (is_some c.args.verdict) c.is_none-wants.result c.is_none-wants.ensures ∙ sym (none_mapped (λ shared. arc_value shared) c.args.verdict))
