@@ -17,3 +17,4 @@ pub mod Agreeing
 pub mod GivenBases
 pub mod Gathering
 pub mod Lasting
+pub mod CallerLemmas
