@@ -2,7 +2,7 @@
 
 ghost use Rattle.std.specs.Prelude.{◌≡◌, ◌≤◌, ◌<◌, ◌+◌, ◌^◌, ◌↔◌, ◌++◌, true, List, [], ◌∷◌, Any, IsTrue, length, option_map};
 ghost use Rattle.std.specs.List.{cons_option};
-ghost use Rattle.sysmem_counts.specs.Bounds.{StandsFor};
+ghost use Rattle.sysmem_counts.specs.Bounds.{IsTallyOf};
 ghost use Rattle.sysmem_counts.specs.Tally.{sum_of};
 ghost use Rattle.sysmem_counts.specs.declared.constraints.CountConstraints.{CountConstraints as Counted};
 ghost use Rattle.sysmem_formats.specs.declared.offer.Offer.{Offer as Offered};
@@ -23,7 +23,7 @@ use sysmem_tree::Path;
 /// Adds what one more asks of the number of buffers, if there is one.
 fn add_count(counts: &mut CountBounds, asked: Option<&Constraints>)
     requires { sum_of counts.old < 2 ^ 62 }
-    ensures added { (ps : List Counted) → StandsFor counts.old ps → StandsFor counts.new
+    ensures added { (ps : List Counted) → IsTallyOf counts.old ps → IsTallyOf counts.new
         (ps ++ counts_asked (cons_option (option_map (λ one. one.now) asked.entry) [])) }
     ensures grows { sum_of counts.new ≤ sum_of counts.old + 2 ^ 33 }
 {
@@ -35,7 +35,7 @@ fn add_count(counts: &mut CountBounds, asked: Option<&Constraints>)
 /// What they ask of the number of buffers.
 pub(crate) fn counts_of(roll: &Roll<'_>, paths: &[Path]) -> CountBounds
     requires few { length paths.now ≤ 128 }
-    ensures { StandsFor result (counts_asked (asked_by (listed roll.now) paths.now)) }
+    ensures { IsTallyOf result (counts_asked (asked_by (listed roll.now) paths.now)) }
 {
     let mut counts = CountBounds::new();
     for path in paths {

@@ -1,32 +1,11 @@
 -- What is asked of nodes by their numbers is asked of the shape's members.
-use Rattle.std.proofs.Common.{◌≡◌, ◌<◌, ◌≤◌, ℕ, Bool, true, false, List, [], ◌∷◌, ◌++◌, Option, Some, None, length, map, slice_get, refl, sym, ◌∙◌, ap, subst, arith}
-use Rattle.std.specs.Prelude.{◌↔◌, IsTrue, Result, Ok, Err, IfOk, IfErr, IfSome, IsSome, MatchOption, All, option_map, option_and_then, is_ok, IsSomeAnd}
+use Rattle.std.proofs.Common.{◌≡◌, ◌<◌, ◌≤◌, ℕ, List, [], ◌∷◌, Option, Some, None, length, map, slice_get, refl, sym, ◌∙◌, ap, subst}
+use Rattle.std.specs.Prelude.{IfSome, IsSome, option_map, option_and_then, IsSomeAnd}
 use Rattle.std.specs.List.{filter_map, cons_option}
-use Rattle.std.specs.List.Sorted.{IsPermutation}
-use Rattle.std.proofs.lemmas.List.Sorted.{IsPermutation-map, IsPermutation-sym, IsPermutation-append_right, All-permutation, length_permutation}
-use Rattle.std.proofs.lemmas.List.Elements.{filter_map-append}
-use Rattle.std.proofs.lemmas.List.{map-append}
 use Rattle.std.proofs.lemmas.Option.{same_Some, slice_get_within}
-use Rattle.list_lemmas.proofs.CallerLemmas.{some_in_order}
-use Rattle.sysmem_counts.proofs.CallerLemmas.{counted_some}
-use Rattle.sysmem_counts.specs.declared.constraints.CountConstraints.{CountConstraints}
-use Rattle.sysmem_counts.specs.Counts.{IsCounted}
-use Rattle.sysmem_merge.specs.declared.reason.Reason.{Reason}
-use Rattle.sysmem_merge.specs.declared.settings.Settings.{Settings}
-use Rattle.sysmem_merge.specs.Best as best
-use Rattle.sysmem_merge.specs.Demands.{counts_asked}
-use Rattle.sysmem_merge.specs.Kept.{Kept}
-use Rattle.sysmem_merge.specs.Laws.{StandsInAnyOrder}
-use Rattle.sysmem_merge.specs.Settings.{CoversOn}
-use Rattle.sysmem_proof.specs.Base.{BaseFacts, terms_of}
-use Rattle.sysmem_proof.specs.Members.{participants, member_at, members_at}
-use Rattle.sysmem_proof.specs.Verdict.{MeetsAll, MeetsAllLoosely, IsBestOfAll, MeetsFixed, MeetsFor, MeetsLooselyFor, IsBestFor}
-use Rattle.sysmem_sanitise.specs.Participant.{Participant}
-use Rattle.sysmem_sanitise.specs.Platform.{PlatformFacts}
-use Rattle.sysmem_search.specs.Live.{IsMet}
-use Rattle.sysmem_search.specs.Question.{Matter, forest, Meets, MeetsSoFar, IsBest, asked_at, asked_of}
-use Rattle.sysmem_search.proofs.Orders.{taken_in_order}
-use Rattle.sysmem_search.proofs.Shapes.{asked_by, prefix_of_numbers, same_settled, same_choices, few_choices, few_settled}
+use Rattle.sysmem_proof.specs.Members.{participants, members_at}
+use Rattle.sysmem_search.specs.Question.{asked_at, asked_of}
+use Rattle.sysmem_search.proofs.Shapes.{asked_by, prefix_of_numbers, same_settled, same_choices, few_choices}
 use Rattle.sysmem_tree.specs.Domain.{HasDomain}
 use Rattle.sysmem_tree.specs.Path.{path_of}
 use Rattle.sysmem_tree.specs.Forest.{Forest, choices, settled, first_group}

@@ -1,6 +1,6 @@
 -- What a search from no choices on decides.
-use Rattle.std.proofs.Common.{◌≡◌, ◌<◌, ◌≤◌, ℕ, List, [], ◌∷◌, ◌++◌, Option, Some, None, min, refl, sym, ◌∙◌, ap, subst, arith}
-use Rattle.std.specs.Prelude.{IfSome, option_map}
+use Rattle.std.proofs.Common.{◌≡◌, ◌<◌, ◌≤◌, ℕ, List, [], Option, Some, None, min, sym, subst, arith}
+use Rattle.std.specs.Prelude.{IfSome}
 use Rattle.sysmem_merge.specs.declared.settings.Settings.{Settings}
 use Rattle.sysmem_proof.specs.Base.{BaseFacts}
 use Rattle.sysmem_proof.specs.Chosen.{ChosenFacts}
@@ -9,7 +9,7 @@ use Rattle.sysmem_proof.specs.Verdict.{IsChosen, IsOptimalIn}
 use Rattle.sysmem_sanitise.specs.Platform.{PlatformFacts}
 use Rattle.sysmem_search.specs.Live.{IsLiveUpTo}
 use Rattle.sysmem_search.specs.Question.{Matter, forest, Meets, MeetsSoFar, IsBest}
-use Rattle.sysmem_search.specs.Searching.{NothingFound, FirstFound, IsFoundOf}
+use Rattle.sysmem_search.specs.Searching.{IsFoundOf}
 use Rattle.sysmem_search.specs.Visits.{IsRaised, AreVisitsIn}
 use Rattle.sysmem_search.proofs.Shapes.{same_count}
 use Rattle.sysmem_tree.specs.Forest.{count}

@@ -5,12 +5,10 @@ use Rattle.std.proofs.lemmas.Option.{same_Some, none-some, option_and_then_some}
 use Rattle.std.proofs.lemmas.List.{append-nil}
 use Rattle.sysmem_merge.specs.declared.settings.Settings.{Settings}
 use Rattle.sysmem_proof.specs.Laws.{CutsLoseNothing}
-use Rattle.sysmem_proof.specs.Verdict.{Meeting, IsUnmet, IsChosen}
 use Rattle.sysmem_proof.proofs.CallerLemmas.{whole_unmet, chosen_here}
-use Rattle.sysmem_search.specs.Live.{IsMet, choose, IsLive, IsNotLater, IsLiveUpTo}
+use Rattle.sysmem_search.specs.Live.{IsMet, choose, IsLive, IsLiveUpTo}
 use Rattle.sysmem_search.specs.Question.{Matter, forest, terms, Meets, MeetsSoFar, IsBest}
-use Rattle.sysmem_search.specs.Searching.{NothingFound, FirstFound, IsFound, IsFoundOf}
-use Rattle.sysmem_search.specs.Visits.{IsRaised}
+use Rattle.sysmem_search.specs.Searching.{NothingFound, FirstFound, IsFoundOf}
 use Rattle.sysmem_search.proofs.Raising.{raised_once}
 use Rattle.sysmem_search.proofs.Sofar.{Sofar, none_yet, one_more, all_gone, one_found}
 use Rattle.sysmem_tree.specs.Forest.{Forest, choices, settled}

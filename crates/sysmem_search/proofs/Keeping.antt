@@ -1,15 +1,14 @@
 -- What is kept, of either kind of domain.
-use Rattle.std.proofs.Common.{◌≡◌, ◌≤◌, ◌<◌, ◌^◌, ◌+◌, ◌*◌, ℕ, Bool, true, false, List, [], ◌∷◌, ◌++◌, Option, Some, None, length, refl, sym, ◌∙◌, ap, subst, arith}
-use Rattle.std.specs.Prelude.{◌↔◌, All, IsTrue, IsSome, OnOk, IfErr, Result, Ok, Err, MatchOption, is_ok, option_map}
+use Rattle.std.proofs.Common.{◌≡◌, ◌≤◌, ◌<◌, ◌^◌, ◌+◌, ◌*◌, Bool, true, false, List, [], ◌++◌, Option, Some, None, length, refl, sym, ◌∙◌, ap, subst, arith}
+use Rattle.std.specs.Prelude.{◌↔◌, All, IsTrue, OnOk, IfErr, Result, Ok, Err, is_ok, option_map}
 use Rattle.std.specs.List.Sorted.{IsPermutation}
 use Rattle.std.proofs.lemmas.List.{map-append}
 use Rattle.std.proofs.lemmas.List.Elements.{filter_map-append}
 use Rattle.std.proofs.lemmas.List.Sorted.{All-permutation, IsPermutation-append_right, IsPermutation-map, IsPermutation-sym, length_permutation}
 use Rattle.sysmem_counts.proofs.CallerLemmas.{tally_in_order}
-use Rattle.sysmem_counts.specs.Bounds.{IsTallyOf}
 use Rattle.sysmem_counts.specs.Counts.{IsCounted}
 use Rattle.sysmem_counts.specs.declared.constraints.CountConstraints.{CountConstraints}
-use Rattle.sysmem_counts.specs.Tally.{Tally, sum_of}
+use Rattle.sysmem_counts.specs.Tally.{sum_of}
 use Rattle.sysmem_merge.specs.declared.reason.Reason.{Reason}
 use Rattle.sysmem_merge.specs.declared.settings.Settings.{Settings}
 use Rattle.sysmem_merge.specs.Best as best
@@ -17,7 +16,7 @@ use Rattle.sysmem_merge.specs.Demands.{counts_asked}
 use Rattle.sysmem_merge.specs.Settings.{CoversOn}
 use Rattle.sysmem_merge.specs.Sum.{SumFacts, SumsUp, SumsInAnyOrder}
 use Rattle.sysmem_merge.specs.Sum as sum
-use Rattle.sysmem_proof.specs.Base.{BaseFacts, IsBase, IsGivenBase, terms_of}
+use Rattle.sysmem_proof.specs.Base.{BaseFacts, terms_of}
 use Rattle.sysmem_proof.specs.Members.{participants, members_at}
 use Rattle.sysmem_proof.specs.Verdict.{MeetsFixed, MeetsFor, MeetsLooselyFor, IsBestFor}
 use Rattle.sysmem_sanitise.specs.Participant.{Participant}

@@ -1,8 +1,8 @@
 -- What the first nodes of a list ask, one by one.
-use Rattle.std.proofs.Common.{◌≡◌, ◌<◌, ◌≤◌, ℕ, zero, suc, ◌+◌, Bool, true, false, List, [], ◌∷◌, ◌++◌, Option, Some, None, length, take, drop, get_or, map, slice_get, refl, sym, ◌∙◌, ap, subst, arith, append_assoc, length-append, inl, inr, ◌⊎◌}
-use Rattle.std.specs.Prelude.{◌↔◌, All, IfSome, IsTrue, option_map, option_and_then}
-use Rattle.std.specs.List.{filter_map, cons_option}
-use Rattle.std.proofs.lemmas.List.{append-nil, take_more, take_all, take-append-drop, map-append}
+use Rattle.std.proofs.Common.{◌≡◌, ◌<◌, ◌≤◌, ℕ, zero, suc, ◌+◌, Bool, true, false, List, [], ◌∷◌, ◌++◌, Option, Some, None, length, take, drop, get_or, slice_get, sym, ◌∙◌, ap, subst, arith, append_assoc, length-append}
+use Rattle.std.specs.Prelude.{◌↔◌, All, IfSome, IsTrue, option_and_then}
+use Rattle.std.specs.List.{cons_option}
+use Rattle.std.proofs.lemmas.List.{take_more, take_all, take-append-drop, map-append}
 use Rattle.std.proofs.lemmas.List.Elements.{filter_map-append}
 use Rattle.list_lemmas.proofs.CallerLemmas.{slice_get_some}
 use Rattle.sysmem_counts.specs.declared.constraints.CountConstraints.{CountConstraints}

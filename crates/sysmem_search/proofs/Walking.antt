@@ -1,9 +1,8 @@
 -- What a walk over a layout has yet to give, and what one choice more settles.
-use Rattle.std.proofs.Common.{◌≡◌, ◌≢◌, ◌<◌, ◌≤◌, Bool, true, false, eqb, inl, inr, ℕ, zero, suc, ◌+◌, List, [], ◌∷◌, ◌++◌, Option, Some, None, length, take, drop, get_or, slice_get, refl, sym, ◌∙◌, ap, subst, arith, append_assoc, length-append}
-use Rattle.std.specs.Prelude.{◌||◌, All, AllPairs, IfSome, IsSome, IsSomeAnd, MatchOption, IsPermutation, option_and_then, slice_index_or}
-use Rattle.std.proofs.lemmas.List.{append-nil, take_more, take_all, take-append-drop}
-use Rattle.std.proofs.lemmas.List.Sorted.{IsPermutation-trans, IsPermutation-append_left, length_permutation}
-use Rattle.std.proofs.lemmas.Option.{same_Some, none-some, slice_get_within, option_and_then_some}
+use Rattle.std.proofs.Common.{◌≡◌, ◌≢◌, ◌<◌, ◌≤◌, true, false, eqb, inl, inr, ℕ, suc, ◌+◌, List, [], ◌∷◌, ◌++◌, Option, Some, None, length, slice_get, refl, sym, ◌∙◌, ap, subst, arith, append_assoc}
+use Rattle.std.specs.Prelude.{◌||◌, All, AllPairs, IfSome, IsSomeAnd, MatchOption, slice_index_or}
+use Rattle.std.proofs.lemmas.List.{append-nil}
+use Rattle.std.proofs.lemmas.Option.{same_Some, slice_get_within}
 use Rattle.std.specs.List.{AllByRecursion, IsDistinct, list_any}
 use Rattle.std.proofs.lemmas.Bool.{cases_eq, ne_eqb}
 use Rattle.std.proofs.lemmas.Map.Steps.{length-le_from_distinct_below}
@@ -14,11 +13,7 @@ use Rattle.sysmem_tree.specs.Nodes.{HasNode}
 use Rattle.sysmem_tree.specs.declared.layout.Layout.{Layout}
 use Rattle.sysmem_tree.specs.declared.layout.Place.{Place}
 use Rattle.sysmem_tree.specs.declared.open_groups.SettledNodes.{SettledNodes}
-use Rattle.sysmem_tree.specs.Forest.{Forest, choices, settled}
-use Rattle.sysmem_tree.specs.Laws.{PrefixOfPrefix}
-use Rattle.sysmem_tree.specs.LayoutLaws.{Settles, ChoiceSettlesShare, NoneOpenIsSelection}
-use Rattle.sysmem_tree.specs.OpenGroups.{Gives, HasLeft, place_after, IsFirstOpen, IsChildPlace, share_of}
-use Rattle.sysmem_tree.specs.Selection.{after, IsPrefix}
+use Rattle.sysmem_tree.specs.OpenGroups.{Gives, HasLeft, place_after}
 
 -- a walk gives one list of nodes
 pub gives_same : (places : List Place) (to : ℕ) (ns ms : List ℕ) (at : ℕ) → Gives places at to ns → Gives places at to ms → ns ≡ ms

@@ -1,12 +1,11 @@
 -- What a search asks, of which domain.
 use Rattle.std.specs.Prelude.{ℕ, List, Option, option_map, option_and_then, slice_get}
 use Rattle.std.specs.List.{filter_map}
-use Rattle.sysmem_merge.specs.declared.settings.Settings.{Settings}
 use Rattle.sysmem_proof.specs.Base.{BaseFacts, Terms, terms_of, IsGivenBase}
 use Rattle.sysmem_proof.specs.Verdict.{Meeting, MeetsFor, MeetsLooselyFor, IsBestFor}
 use Rattle.sysmem_sanitise.specs.Participant.{Participant}
 use Rattle.sysmem_sanitise.specs.Platform.{PlatformFacts}
-use Rattle.sysmem_tree.specs.Forest.{Forest, settled}
+use Rattle.sysmem_tree.specs.Forest.{Forest}
 use Rattle.sysmem_tree.specs.Node.{NodeFacts}
 use Rattle.sysmem_tree.specs.Shape.{Member, shape_of}
 

@@ -1,5 +1,5 @@
 -- The verdict is what was found from no choices on.
-use Rattle.std.proofs.Common.{◌≡◌, refl, sym, ◌∙◌, ap, subst, arith}
+use Rattle.std.proofs.Common.{◌∙◌, ap}
 use Rattle.std.specs.Prelude.{option_map}
 use Rattle.sysmem_search.specs.Standing.{Standing}
 use Rattle.sysmem_search.proofs.Decided.{many_counted, few_counted, decided_empty, decided_chosen}

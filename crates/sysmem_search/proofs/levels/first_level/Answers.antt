@@ -1,7 +1,6 @@
 -- Nothing behind what no choice settles.
-use Rattle.std.proofs.Common.{◌≡◌, ◌≤◌, Some, [], ◌++◌, length, refl, sym, ◌∙◌, ap, subst, arith}
+use Rattle.std.proofs.Common.{[], refl, subst, arith}
 use Rattle.std.specs.Prelude.{option_map}
-use Rattle.sysmem_proof.specs.Members.{participants}
 use Rattle.sysmem_search.specs.Kept.{IsKept}
 use Rattle.sysmem_search.specs.Question.{asked_of}
 use Rattle.sysmem_search.proofs.AskedMembers.{root_there, same_asked}

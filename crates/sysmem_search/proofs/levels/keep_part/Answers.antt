@@ -1,5 +1,5 @@
 -- The part stands at its child's place.
-use Rattle.std.proofs.Common.{◌≡◌, ◌<◌, Some, length, slice_get, slice_set, sym, ◌∙◌, ap, subst, arith}
+use Rattle.std.proofs.Common.{◌≡◌, Some, slice_get, slice_set, sym, ◌∙◌, ap, subst, arith}
 use Rattle.std.specs.Prelude.{option_map}
 use Rattle.sysmem_search.specs.Kept.{IsPart}
 use Rattle.sysmem_search.specs.Question.{asked_of}

@@ -1,5 +1,5 @@
 -- One place more.
-use Rattle.std.proofs.Common.{◌+◌, ◌≡◌, ◌≢◌, Some, None, [], ◌∷◌, length, slice_get, length-append, refl, sym, ◌∙◌, ap, subst, arith}
+use Rattle.std.proofs.Common.{◌+◌, None, [], ◌∷◌, length, slice_get, length-append, sym, ◌∙◌, ap}
 use Rattle.sysmem_search.proofs.Entering.{none_more}
 use Rattle.sysmem_search.proofs.levels.no_parts.Goals as goal
 

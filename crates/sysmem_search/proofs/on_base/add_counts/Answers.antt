@@ -1,9 +1,8 @@
 -- One participant more is counted.
-use Rattle.std.proofs.Common.{refl, sym, ◌∙◌, ap, subst, take, length, ◌≤◌, ◌+◌, ◌*◌, ◌^◌, ◌++◌, arith}
+use Rattle.std.proofs.Common.{subst, length, ◌≤◌, ◌+◌, ◌*◌, ◌^◌, ◌++◌, arith}
 use Rattle.sysmem_counts.specs.Bounds.{IsTallyOf}
 use Rattle.sysmem_counts.specs.Tally.{sum_of}
 use Rattle.sysmem_merge.specs.Demands.{counts_asked}
-use Rattle.sysmem_search.specs.Question.{asked_of}
 use Rattle.sysmem_search.proofs.Taking.{asked_more, asked_whole, counted_more, long_more}
 use Rattle.sysmem_search.proofs.on_base.add_counts.Goals as goal
 

@@ -1,5 +1,5 @@
 -- Those that were accepted before are nodes of the tree, each once.
-use Rattle.std.proofs.Common.{◌≡◌, ◌≤◌, Some, [], sym, ap, subst, length, arith}
+use Rattle.std.proofs.Common.{◌≤◌, [], sym, ap, subst, length, arith}
 use Rattle.std.specs.Prelude.{option_map}
 use Rattle.sysmem_proof.specs.Base.{IsGivenBase}
 use Rattle.sysmem_search.specs.declared.kept.Kept.TheVariants as kept_as

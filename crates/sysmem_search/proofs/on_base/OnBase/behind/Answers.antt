@@ -1,5 +1,5 @@
 -- The counts of those that were accepted before.
-use Rattle.std.proofs.Common.{[], ◌++◌, refl, sym, subst, arith}
+use Rattle.std.proofs.Common.{[], refl, sym, subst, arith}
 use Rattle.std.proofs.lemmas.List.{append-nil}
 use Rattle.std.proofs.lemmas.List.Elements.{All-nil}
 use Rattle.sysmem_counts.specs.Bounds.{IsTallyOf}

@@ -1,5 +1,5 @@
 -- More participants take the base, or don't.
-use Rattle.std.proofs.Common.{[], arith, subst}
+use Rattle.std.proofs.Common.{arith}
 use Rattle.sysmem_search.proofs.Accepting.{takes_more}
 use Rattle.sysmem_search.proofs.on_base.OnBase.join.Goals as goal
 

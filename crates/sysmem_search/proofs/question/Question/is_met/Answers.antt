@@ -1,5 +1,5 @@
 -- What is kept where the question stands is asked.
-use Rattle.std.proofs.Common.{◌≡◌, subst}
+use Rattle.std.proofs.Common.{subst}
 use Rattle.std.specs.Prelude.{◌↔◌, IfSome, IsTrue, option_map}
 use Rattle.sysmem_search.specs.Live.{IsMet}
 use Rattle.sysmem_search.specs.Question.{Matter, forest, MeetsSoFar}
