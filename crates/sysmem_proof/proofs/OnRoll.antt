@@ -44,11 +44,14 @@ named_none ms = ([], record { each = refl; once = λ i j d less within. absurd (
 
 -- one path more
 named_push : (ms : List Member) (xs : List (List ℕ)) (p : List ℕ) (q : Participant) → AreNamed ms xs → asked_at ms p ≡ Some q → ¬ (Contains xs p) → AreNamed ms (xs ++ p ∷ [])
-named_push ms xs p q named asks new' = (named.0 ++ q ∷ [], record {
-  each = map-append (asked_at ms) xs (p ∷ []) ∙ (ap (λ os. os ++ asked_at ms p ∷ []) named.1.each
-      ∙ (ap (λ o. map (λ x. Some x) named.0 ++ o ∷ []) asks ∙ sym (map-append (λ x. Some x) named.0 (q ∷ []))));
-  once = pairs_push (λ a b. a ≢ b) xs p named.1.once (λ k d less same. new' (k, less, same_get xs k p d less ∙ same));
-})
+named_push ms xs p q named asks new' = (
+  named.0 ++ q ∷ [],
+  record {
+    each = map-append (asked_at ms) xs (p ∷ []) ∙ (ap (λ os. os ++ asked_at ms p ∷ []) named.1.each
+        ∙ (ap (λ o. map (λ x. Some x) named.0 ++ o ∷ []) asks ∙ sym (map-append (λ x. Some x) named.0 (q ∷ []))));
+    once = pairs_push (λ a b. a ≢ b) xs p named.1.once (λ k d less same. new' (k, less, same_get xs k p d less ∙ same));
+  },
+)
 
 -- some of both are some of one or the other
 any_parts : {X : Type 0} (P : X → Type 0) (xs ys : List X) → Any P (xs ++ ys) → Any P xs ⊎ Any P ys

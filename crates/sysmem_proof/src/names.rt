@@ -11,9 +11,7 @@ use sysmem_tree::Path;
 fn is_among(paths: &[Path], path: &Path) -> bool
     ensures { IsTrue result ↔ Contains paths.now path.now }
 {
-    paths
-        .iter()
-        .any(|one| one.ordinals() == path.ordinals())
+    paths.iter().any(|one| one.ordinals() == path.ordinals())
 }
 
 /// Whether each path is that of a participant on the roll, and none stands there twice.

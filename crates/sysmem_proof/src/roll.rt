@@ -100,13 +100,7 @@ impl<'a> Roll<'a> {
 }
 
 /// Paths that name participants, each once, are at most as many as a tree has nodes.
-fn few_paths(
-    tree: &Tree,
-    domain: DomainId,
-    prefix: &Prefix,
-    accepted: &[NodeId],
-    paths: &[Path],
-)
+fn few_paths(tree: &Tree, domain: DomainId, prefix: &Prefix, accepted: &[NodeId], paths: &[Path])
     requires domain { HasDomain tree.now.nodes domain }
     requires there { All (HasNode tree.now.nodes) accepted.now }
     requires named { AreNamed (listed (record {
