@@ -20,8 +20,8 @@ same_fields a b text starved =
 
 -- the report of a script whose memory is not refused, with that said of it
 fed_report : (script : ScriptFacts) (r : ReportFacts) → r.starved ≡ false
-    → IsReport script.platform 1 first_state script.calls r.text r.starved → IsReport script.platform 1 first_state script.calls r.text false
-fed_report script r e report = subst (λ (s : Bool). IsReport script.platform 1 first_state script.calls r.text s) e report
+    → IsReport 1 (first_state script.platform) script.calls r.text r.starved → IsReport 1 (first_state script.platform) script.calls r.text false
+fed_report script r e report = subst (λ (s : Bool). IsReport 1 (first_state script.platform) script.calls r.text s) e report
 
 -- a value gives one answer
 one_said : OneReport → (value : Data) (a b : Result ReportFacts ScriptFault) → ValueRunsTo value a → ValueRunsTo value b → IsFed a → IsFed b → a ≡ b
@@ -32,8 +32,8 @@ one_said one value _ _ (reported script r e report) (refused g h) x y = let both
 one_said one value _ _ (reported script a e first) (reported other b h second) x y =
     let both : Ok other ≡ Ok script = sym h ∙ e in
     let same : other ≡ script = cc in
-    let there : IsReport script.platform 1 first_state script.calls b.text false =
-    subst (λ (z : ScriptFacts). IsReport z.platform 1 first_state z.calls b.text false) same (fed_report other b y second) in
+    let there : IsReport 1 (first_state script.platform) script.calls b.text false =
+    subst (λ (z : ScriptFacts). IsReport 1 (first_state z.platform) z.calls b.text false) same (fed_report other b y second) in
     ap Ok (same_fields a b (one script.platform script.calls a.text b.text (fed_report script a x first) there) (x ∙ sym y))
 
 too_long_alone : (n : ℕ) → longest < n → n ≤ longest → ⊥

@@ -1,10 +1,14 @@
-pub mod Adding
 pub mod AnswerLemmas
 pub mod Answering
 pub mod Corners
-pub mod Entering
+pub mod Failures
+pub mod Following
+pub mod Growing
 pub mod Reaching
+pub mod Marked
 pub mod RunLemmas
 pub mod Spelling
+pub mod Told
 pub mod Texts
 pub mod Unique
+pub mod Walking

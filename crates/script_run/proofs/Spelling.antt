@@ -49,7 +49,7 @@ value-fault d (Refused fault) said = refused fault said
 
 -- the report of a script is one of its value
 pub script-report : (d : Data) (script : Script) (result : Result Report ParseFault) → script_of d ≡ Ok (script_seen script)
-    → IfOk result (λ report. IsReport (script_seen script).platform 1 first_state (script_seen script).calls (string_bytes report.text) report.starved)
+    → IfOk result (λ report. IsReport 1 (first_state (script_seen script).platform) (script_seen script).calls (string_bytes report.text) report.starved)
     → IfErr result (λ fault. fault ≡ NoMemory) → GivesOneOf report_seen result (ValueRunsTo d)
 script-report d script (Ok report) read said none = reported (script_seen script) (report_seen report) read said
 script-report d script (Err fault) read said none = rw none tt

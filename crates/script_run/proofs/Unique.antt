@@ -1,36 +1,39 @@
 -- Calls have one report, where memory is not refused.
-use Rattle.std.proofs.Common.{◌≡◌, ℕ, ◌+◌, ◌++◌, ◌||◌, List, Bool, true, false, Option, Some, None, Result, Ok, Err, refl, sym, ◌∙◌, ap, subst}
-use Rattle.std.specs.Prelude.{slice_get, option_and_then}
-use Rattle.sysmem_image.specs.declared.size.Corner.{Corner}
+use Rattle.std.proofs.Common.{◌≡◌, ℕ, ◌+◌, ◌++◌, ◌||◌, List, [], Bool, true, false, Option, Some, None, Result, Ok, Err, refl, sym, ◌∙◌, ap, subst}
+use Rattle.std.specs.Prelude.{IfSome, is_none}
+use Rattle.std.proofs.lemmas.Option.{same_Some}
+use Rattle.sysmem_alloc.specs.Decision.{Decision}
+use Rattle.sysmem_alloc.specs.Entry.{Acted, Decided}
+use Rattle.sysmem_alloc.specs.History.{Allows}
+use Rattle.sysmem_alloc.specs.State.{base_of, next_ready}
 use Rattle.sysmem_image.specs.Corners.{IsCorner}
 use Rattle.sysmem_image.specs.Laws.{CornerIsLeast}
-use Rattle.sysmem_merge.specs.Best.{IsBest}
-use Rattle.sysmem_merge.specs.Laws.{OneBest}
+use Rattle.sysmem_merge.specs.declared.settings.Settings.{Settings}
+use Rattle.sysmem_proof.specs.declared.verdict.Verdict.{Verdict}
+use Rattle.sysmem_proof.specs.declared.verdict.Verdict.TheVariants.{Chosen, IntersectionEmpty, TooMany, Failed, NoMemory}
+use Rattle.sysmem_proof.specs.Base.{terms_of}
+use Rattle.sysmem_proof.specs.Chosen.{ChosenFacts}
+use Rattle.sysmem_proof.specs.Laws.{OneAnswer}
+use Rattle.sysmem_proof.specs.Verdict.{IsOptimalIn, IsSameAnswer}
 use Rattle.sysmem_sanitise.specs.Participant.{Participant}
 use Rattle.sysmem_sanitise.specs.Platform.{PlatformFacts}
 use Rattle.sysmem_sanitise.specs.Reading.{participant_of}
-use Rattle.sysmem_merge.specs.declared.settings.Settings.{Settings}
 use Rattle.sysmem_sanitise.specs.declared.fault.Fault.{Fault}
-use Rattle.script_run.specs.declared.action.Action.{Action}
-use Rattle.script_run.specs.declared.action.Action.TheVariants.{Duplicate, Bind, SetConstraints, Release}
-use Rattle.script_run.specs.declared.node.Node.{Node}
 use Rattle.sysmem_tree.specs.declared.refusal.Refusal.{Refusal}
+use Rattle.sysmem_tree.specs.ActionKind.{Deed}
+use Rattle.sysmem_tree.specs.ActionKind as deeds
+use Rattle.sysmem_tree.specs.Shape.{shape_of}
+use Rattle.sysmem_tree.specs.Tree.{Applied, applied}
+use Rattle.script_reading.specs.Call.{ActFacts, duplicates, binds, states, creates_group, creates_child, has_all_children, attaches_token, releases, closes, checks, waits}
+use Rattle.script_reading.specs.Script.{CallFacts}
 use Rattle.script_run.specs.declared.reply.Reply.{Reply}
 use Rattle.script_run.specs.declared.reply.Reply.TheVariants.{Accepted, Refused, Misread, Skipped}
-use Rattle.script_run.specs.declared.verdict.Verdict.{Verdict}
-use Rattle.script_run.specs.declared.verdict.Verdict.TheVariants.{Chosen}
-use Rattle.script_reading.specs.Call.{ActFacts, duplicates, binds, states, releases, checks}
+use Rattle.script_run.specs.Answer.{Asks, to_duplicate, to_create_group, to_bind, to_create_child, to_complete, to_set_none, to_set, to_attach_token, to_release, to_close, AsksVerdict, to_check, to_wait, Replies, skips, misreads, starves, lacks, refuses, accepts, tells, told}
 use Rattle.script_run.specs.Laws.{OneReport}
-use Rattle.script_run.proofs.Corners.{one_chosen}
-use Rattle.script_run.specs.Lines.{call_line, verdict_line}
-use Rattle.script_run.specs.Report.{Replies, skips, misreads, starves, refuses, accepts, tells, Asks, to_duplicate, to_bind, to_set_none, to_set, to_release, Decides, chooses, none_meet, has_no_memory, is_no_memory, Follows, waits, decides, MakesCall, takes, IsReport, ended, continued, node_named, unmade, with_name, checked}
-use Rattle.script_reading.specs.Script.{CallFacts}
-use Rattle.script_run.specs.State.{State, first_state, applied, changed, has_room, is_barred, participants_of}
-
--- the best settings of participants, with their smallest image, are one verdict
-abbrev pub OneChosenOn : PlatformFacts → Type 0
-OneChosenOn platform = (ps : List Participant) (a b : Settings) (k m : Corner) → IsBest true platform ps a → IsBest true platform ps b
-    → IsCorner a.offer a.bounds k → IsCorner b.offer b.bounds m → Chosen a k ≡ Chosen b m
+use Rattle.script_run.specs.Lines.{call_line, chosen_text}
+use Rattle.script_run.specs.Report.{Tells, chose, none_meet, too_many, wants_memory, decided, decision_lines, failed_lines, Follows, none_waits, decides, MakesCall, takes, IsReport, ended, continued}
+use Rattle.script_run.specs.State.{State, tree_of, first_state, node_named, unmade, acted}
+use Rattle.script_run.proofs.Corners.{one_corner}
 
 absurd_true : {A : Type 0} → true ≡ false → A
 absurd_true e = absurd (cc)
@@ -49,139 +52,207 @@ or_right false c e = e
 or_right true c e = absurd_true e
 
 -- what an action answers on a node
-act_on : State → CallFacts → Result State Refusal → Reply × State
-act_on s r (Ok after) = (Accepted, with_name s r.act after)
-act_on s r (Err refusal) = (Refused refusal, unmade s r.act)
+act_on : State → CallFacts → ℕ → Deed → Result Applied Refusal → Reply × State
+act_on s r k deed (Ok after) = (Accepted, acted s r.act (Acted k deed) after.node)
+act_on s r k deed (Err refusal) = (Refused refusal, unmade s r.act)
+
+-- what making it answers
+made_on : State → CallFacts → ℕ → Deed → Reply × State
+made_on s r k deed = act_on s r k deed (applied (tree_of s) k deed)
 
 -- what reading constraints and setting them answers
 set_on : State → CallFacts → ℕ → Result Participant Fault → Reply × State
-set_on s r k (Ok asked) = act_on s r (applied s k (SetConstraints (Some asked)))
+set_on s r k (Ok asked) = made_on s r k (deeds.sets (Some asked))
 set_on s r k (Err fault) = (Misread fault, s)
 
 -- what a call answers on a node, where memory is not refused
 answer_at : State → CallFacts → ℕ → ActFacts → Reply × State
-answer_at s r k (duplicates name) = act_on s r (applied s k Duplicate)
-answer_at s r k binds = act_on s r (applied s k Bind)
-answer_at s r k (states None) = act_on s r (applied s k (SetConstraints None))
+answer_at s r k (duplicates name) = made_on s r k deeds.duplicates
+answer_at s r k binds = made_on s r k deeds.binds
+answer_at s r k (states None) = made_on s r k (deeds.sets None)
 answer_at s r k (states (Some d)) = set_on s r k (participant_of d)
-answer_at s r k releases = act_on s r (applied s k Release)
-answer_at s r k checks = (checked (slice_get s.nodes k) s.verdict, s)
+answer_at s r k (creates_group name) = made_on s r k deeds.creates_group
+answer_at s r k (creates_child name) = made_on s r k deeds.creates_child
+answer_at s r k has_all_children = made_on s r k deeds.has_all_children
+answer_at s r k (attaches_token name) = made_on s r k deeds.attaches_token
+answer_at s r k releases = made_on s r k deeds.releases
+answer_at s r k closes = made_on s r k deeds.closes
+answer_at s r k checks = (told s.book.state k, s)
+answer_at s r k waits = (told s.book.state k, s)
 
 answer_for : State → CallFacts → Option ℕ → Reply × State
 answer_for s r None = (Skipped, unmade s r.act)
 answer_for s r (Some k) = answer_at s r k r.act
 
-asked_for : (s : State) (r : CallFacts) (k : ℕ) (act : ActFacts) (action : Action) → Asks act action → answer_at s r k act ≡ act_on s r (applied s k action)
+asked_for : (s : State) (r : CallFacts) (k : ℕ) (act : ActFacts) (deed : Deed) → Asks act deed → answer_at s r k act ≡ made_on s r k deed
 unfolding answer_at set_on
 asked_for s r k _ _ (to_duplicate name) = refl
+asked_for s r k _ _ (to_create_group name) = refl
 asked_for s r k _ _ to_bind = refl
+asked_for s r k _ _ (to_create_child name) = refl
+asked_for s r k _ _ to_complete = refl
 asked_for s r k _ _ to_set_none = refl
 asked_for s r k _ _ (to_set d asked read) = rw read refl
+asked_for s r k _ _ (to_attach_token name) = refl
 asked_for s r k _ _ to_release = refl
+asked_for s r k _ _ to_close = refl
+
+told_for : (s : State) (r : CallFacts) (k : ℕ) (act : ActFacts) → AsksVerdict act → answer_at s r k act ≡ (told s.book.state k, s)
+unfolding answer_at
+told_for s r k _ to_check = refl
+told_for s r k _ to_wait = refl
 
 -- a call answers this, where memory is not refused
 is_answer : (s : State) (r : CallFacts) (reply : Reply) (t : State) → Replies s r reply t → t.starved ≡ false → (reply, t) ≡ answer_for s r (node_named s r)
-unfolding answer_for answer_at act_on set_on
+unfolding answer_for answer_at made_on act_on set_on
 is_answer s r _ _ (skips none) e = rw none refl
 is_answer s r _ _ (misreads k d fault here act read) e = rw (here, act, read) refl
 is_answer s r _ _ (starves k d fault here act want lack) e = absurd_true e
-is_answer s r _ _ (refuses k action refusal here asks why) e = rw (here, asked_for s r k r.act action asks, why) refl
-is_answer s r _ _ (accepts k action after here asks made) e = rw (here, asked_for s r k r.act action asks, made) refl
-is_answer s r _ _ (tells k here act) e = rw (here, act) refl
+is_answer s r _ _ (lacks k d asked here act read) e = absurd_true e
+is_answer s r _ _ (refuses k deed refusal here asks why) e = rw (here, asked_for s r k r.act deed asks, why) refl
+is_answer s r _ _ (accepts k made deed tree here asks done) e = rw (here, asked_for s r k r.act deed asks) (sym (ap (act_on s r k deed) done))
+is_answer s r _ _ (tells k here asks) e = rw (here, told_for s r k r.act asks) refl
 
--- a decision has one verdict, where memory is not refused
-one_verdict : (platform : PlatformFacts) (ps : List Participant) (v w : Verdict) → OneChosenOn platform
-    → Decides platform ps v → Decides platform ps w → is_no_memory v ≡ false → is_no_memory w ≡ false → v ≡ w
-one_verdict platform ps _ _ best (chooses a k x u) (chooses b m y v) e f = best ps a b k m x y u v
-one_verdict platform ps _ _ best (chooses a k x u) (none_meet y) e f = absurd (y a x.meets)
-one_verdict platform ps _ _ best (none_meet x) (chooses b m y v) e f = absurd (x b y.meets)
-one_verdict platform ps _ _ best (none_meet x) (none_meet y) e f = refl
-one_verdict platform ps _ _ best has_no_memory second e f = absurd_true e
-one_verdict platform ps _ _ best (chooses a k x u) has_no_memory e f = absurd_true f
-one_verdict platform ps _ _ best (none_meet x) has_no_memory e f = absurd_true f
+same_chosen : (a b : ChosenFacts) → a.selection ≡ b.selection → a.settings ≡ b.settings → a ≡ b
+same_chosen a b selection settings =
+    let first : a ≡ record { selection = b.selection; settings = a.settings } = ap (λ (cs : List ℕ). let c : ChosenFacts = record { selection = cs; settings = a.settings } in c) selection in
+    first ∙ ap (λ (s : Settings). let c : ChosenFacts = record { selection = b.selection; settings = s } in c) settings
 
--- the state after a decision
-abbrev decided : State → Verdict → State
-decided s v = record s { verdict = Some v; starved = s.starved || is_no_memory v }
+-- verdicts that are the same answer are one
+same_verdict : (v w : Verdict) → IsSameAnswer v w → v ≡ w
+same_verdict (Chosen a) (Chosen b) h = ap Chosen (same_chosen a b h.0 h.1)
+same_verdict IntersectionEmpty IntersectionEmpty h = refl
+same_verdict TooMany TooMany h = refl
+same_verdict Failed Failed h = refl
+same_verdict NoMemory NoMemory h = refl
+same_verdict (Chosen a) IntersectionEmpty h = absurd h
+same_verdict (Chosen a) TooMany h = absurd h
+same_verdict (Chosen a) Failed h = absurd h
+same_verdict (Chosen a) NoMemory h = absurd h
+same_verdict IntersectionEmpty (Chosen b) h = absurd h
+same_verdict IntersectionEmpty TooMany h = absurd h
+same_verdict IntersectionEmpty Failed h = absurd h
+same_verdict IntersectionEmpty NoMemory h = absurd h
+same_verdict TooMany (Chosen b) h = absurd h
+same_verdict TooMany IntersectionEmpty h = absurd h
+same_verdict TooMany Failed h = absurd h
+same_verdict TooMany NoMemory h = absurd h
+same_verdict Failed (Chosen b) h = absurd h
+same_verdict Failed IntersectionEmpty h = absurd h
+same_verdict Failed TooMany h = absurd h
+same_verdict Failed NoMemory h = absurd h
+same_verdict NoMemory (Chosen b) h = absurd h
+same_verdict NoMemory IntersectionEmpty h = absurd h
+same_verdict NoMemory TooMany h = absurd h
+same_verdict NoMemory Failed h = absurd h
 
--- what follows a reply is one, where memory is not refused
-one_following : (platform : PlatformFacts) (s t u : State) (a b : List ℕ) → OneChosenOn platform
-    → Follows platform s t a → Follows platform s u b → t.starved ≡ false → u.starved ≡ false → (t ≡ u) × (a ≡ b)
-one_following platform s _ _ _ _ best (waits idle) (waits _) e f = (refl, refl)
-one_following platform s _ _ _ _ best (waits idle) (decides w ready y) e f = absurd_true (sym ready ∙ idle)
-one_following platform s _ _ _ _ best (decides v ready x) (waits idle) e f = absurd_true (sym ready ∙ idle)
-one_following platform s _ _ _ _ best (decides v ready x) (decides w _ y) e f =
-    let same : v ≡ w = one_verdict platform (participants_of s) v w best x y (or_right s.starved (is_no_memory v) e) (or_right s.starved (is_no_memory w) f) in
-    (ap (λ (z : Verdict). decided s z) same, ap (λ (z : Verdict). verdict_line platform z) same)
+module _ (one : OneAnswer) (least : CornerIsLeast) where
+  -- a domain has one verdict, where memory is not refused
+  one_verdict : (s : State) (r : ℕ) (v w : Option Verdict) → IfSome v (IsOptimalIn s.book.platform (tree_of s).nodes r (base_of s.book.state r))
+      → IfSome w (IsOptimalIn s.book.platform (tree_of s).nodes r (base_of s.book.state r)) → is_none v ≡ false → is_none w ≡ false → v ≡ w
+  one_verdict s r None w x y e f = absurd_true e
+  one_verdict s r (Some v) None x y e f = absurd_true f
+  one_verdict s r (Some v) (Some w) x y e f =
+      ap Some (same_verdict v w (one s.book.platform _ (shape_of (tree_of s).nodes r) v w x y))
 
--- what followed a state that isn't starved, wasn't either
-unstarved_before : (platform : PlatformFacts) (s t : State) (a : List ℕ) → Follows platform s t a → t.starved ≡ false → s.starved ≡ false
-unstarved_before platform s _ _ (waits idle) e = e
-unstarved_before platform s _ _ (decides v ready x) e = or_left s.starved (is_no_memory v) e
+  one_decision : (s : State) (d e : Decision) → Allows s.book.platform s.book.state (Decided d) → Allows s.book.platform s.book.state (Decided e)
+      → is_none d.verdict ≡ false → is_none e.verdict ≡ false → d ≡ e
+  one_decision s d e x y f g =
+      let own : d.domain ≡ e.domain = same_Some d.domain e.domain (sym x.0 ∙ y.0) in
+      let there = subst (λ r. IfSome e.verdict (IsOptimalIn s.book.platform (tree_of s).nodes r (base_of s.book.state r))) (sym own) y.1 in
+      let verdict = one_verdict s d.domain d.verdict e.verdict x.1 there f g in
+      let first : d ≡ record { domain = e.domain; verdict = d.verdict } = ap (λ (r : ℕ). let z : Decision = record { domain = r; verdict = d.verdict } in z) own in
+      first ∙ ap (λ (v : Option Verdict). let z : Decision = record { domain = e.domain; verdict = v } in z) verdict
 
-joined : (a b c d : List ℕ) → a ≡ b → c ≡ d → a ++ c ≡ b ++ d
-joined a b c d e f = cc
+  -- one line tells of a verdict
+  one_telling : (platform : PlatformFacts) (v w : Option Verdict) (a b : List ℕ) → v ≡ w → Tells platform v a → Tells platform w b → a ≡ b
+  one_telling platform _ _ _ _ e (chose chosen k x) (chose other m y) =
+      let same : chosen ≡ other = cc in
+      let there = subst (λ (c : ChosenFacts). IsCorner c.settings.offer c.settings.bounds m) (sym same) y in
+      ap (λ (c : ChosenFacts). chosen_text platform c k) same ∙ ap (chosen_text platform other) (one_corner least chosen.settings.offer chosen.settings.bounds k m x there)
+  one_telling platform _ _ _ _ e (chose chosen k x) none_meet = absurd (cc)
+  one_telling platform _ _ _ _ e (chose chosen k x) too_many = absurd (cc)
+  one_telling platform _ _ _ _ e (chose chosen k x) wants_memory = absurd (cc)
+  one_telling platform _ _ _ _ e none_meet (chose other m y) = absurd (cc)
+  one_telling platform _ _ _ _ e none_meet none_meet = refl
+  one_telling platform _ _ _ _ e none_meet too_many = absurd (cc)
+  one_telling platform _ _ _ _ e none_meet wants_memory = absurd (cc)
+  one_telling platform _ _ _ _ e too_many (chose other m y) = absurd (cc)
+  one_telling platform _ _ _ _ e too_many none_meet = absurd (cc)
+  one_telling platform _ _ _ _ e too_many too_many = refl
+  one_telling platform _ _ _ _ e too_many wants_memory = absurd (cc)
+  one_telling platform _ _ _ _ e wants_memory (chose other m y) = absurd (cc)
+  one_telling platform _ _ _ _ e wants_memory none_meet = absurd (cc)
+  one_telling platform _ _ _ _ e wants_memory too_many = absurd (cc)
+  one_telling platform _ _ _ _ e wants_memory wants_memory = refl
 
-one_call : (platform : PlatformFacts) (number : ℕ) (s t u : State) (r : CallFacts) (a b : List ℕ) → OneChosenOn platform
-    → MakesCall platform number s r t a → MakesCall platform number s r u b → t.starved ≡ false → u.starved ≡ false → (t ≡ u) × (a ≡ b)
-one_call platform number s t u r _ _ best (takes reply mid _ line answered followed) (takes reply' mid' _ line' answered' followed') e f =
-    let first : (reply, mid) ≡ answer_for s r (node_named s r) = is_answer s r reply mid answered (unstarved_before platform mid t line followed e) in
-    let second : (reply', mid') ≡ answer_for s r (node_named s r) = is_answer s r reply' mid' answered' (unstarved_before platform mid' u line' followed' f) in
-    let same_reply : reply ≡ reply' = ap (λ (p : Reply × State). p.0) (first ∙ sym second) in
-    let same_mid : mid' ≡ mid = ap (λ (p : Reply × State). p.1) (second ∙ sym first) in
-    let followed_too : Follows platform mid u line' = subst (λ (m : State). Follows platform m u line') same_mid followed' in
-    let same : (t ≡ u) × (line ≡ line') = one_following platform mid t u line line' best followed followed_too e f in
-    (same.0, joined (call_line number r reply) (call_line number r reply') line line' (ap (call_line number r) same_reply) same.1)
+  -- what followed a state that isn't starved, wasn't either
+  unstarved_before : (s t : State) (a : List ℕ) → Follows s t a → t.starved ≡ false → s.starved ≡ false
+  unstarved_before _ _ _ (none_waits s none) e = e
+  unstarved_before _ _ _ (decides s t d what rest allowed line followed) e = or_left s.starved (is_none d.verdict) (unstarved_before (decided s d) t rest followed e)
 
-abbrev starved_in : State → Result State Refusal → Bool
-starved_in s (Ok t) = t.starved
-starved_in s (Err refusal) = s.starved
+  joined : (a b c d : List ℕ) → a ≡ b → c ≡ d → a ++ c ≡ b ++ d
+  joined a b c d e f = cc
 
-kept_by : (s after : State) (k : ℕ) (action : Action) (barred : Bool) (node : Option Node) (room : Bool)
-    → is_barred s.verdict action ≡ barred → option_and_then (changed action) (slice_get s.nodes k) ≡ node → has_room s.nodes action ≡ room
-    → applied s k action ≡ Ok after → after.starved ≡ s.starved
-kept_by s after k action true found room b n h e = let f = rw b at e in absurd (cc)
-kept_by s after k action false None room b n h e = let f = rw (b, n) at e in absurd (cc)
-kept_by s after k action false (Some found) false b n h e = let f = rw (b, n, h) at e in absurd (cc)
-kept_by s after k action false (Some found) true b n h e = let f = rw (b, n, h) at e in sym (ap (λ (x : Result State Refusal). starved_in s x) f)
+  not_both : (s : State) (r : ℕ) → next_ready s.book.state ≡ None → next_ready s.book.state ≡ Some r → ⊥
+  not_both s r none some = absurd (cc)
 
--- an accepted action starves nothing
-kept_starved : (s after : State) (k : ℕ) (action : Action) → applied s k action ≡ Ok after → after.starved ≡ s.starved
-kept_starved s after k action e = kept_by s after k action (is_barred s.verdict action) (option_and_then (changed action) (slice_get s.nodes k)) (has_room s.nodes action) refl refl refl e
+  -- what follows a reply is one, where memory is not refused
+  one_following : (s t u : State) (a b : List ℕ) → Follows s t a → Follows s u b → t.starved ≡ false → u.starved ≡ false → (t ≡ u) × (a ≡ b)
+  one_following _ _ _ _ _ (none_waits s none) (none_waits _ _) e f = (refl, refl)
+  one_following _ _ _ _ _ (none_waits s none) (decides _ u d what rest allowed line followed) e f = absurd (not_both s d.domain none allowed.0)
+  one_following _ _ _ _ _ (decides s t d what rest allowed line followed) (none_waits _ none) e f = absurd (not_both s d.domain none allowed.0)
+  one_following _ _ _ _ _ (decides s t d what rest allowed line followed) (decides _ u d' what' rest' allowed' line' followed') e f =
+      let short : is_none d.verdict ≡ false = or_right s.starved (is_none d.verdict) (unstarved_before (decided s d) t rest followed e) in
+      let short' : is_none d'.verdict ≡ false = or_right s.starved (is_none d'.verdict) (unstarved_before (decided s d') u rest' followed' f) in
+      let same : d ≡ d' = one_decision s d d' allowed allowed' short short' in
+      let said : what ≡ what' = one_telling s.book.platform d.verdict d'.verdict what what' (ap (λ (z : Decision). z.verdict) same) line line' in
+      let there : Follows (decided s d) u rest' = subst (λ (z : Decision). Follows (decided s z) u rest') (sym same) followed' in
+      let (ends, rests) = one_following (decided s d) t u rest rest' followed there e f in
+      (ends, joined (decision_lines s d what) (decision_lines s d' what') rest rest' (ap (λ (z : Decision). decision_lines s z what) same ∙ ap (decision_lines s d') said) rests)
 
--- memory that was refused stays so
-answer_starves : (s t : State) (r : CallFacts) (reply : Reply) → Replies s r reply t → s.starved ≡ true → t.starved ≡ true
-answer_starves s _ r _ (skips none) e = e
-answer_starves s _ r _ (misreads k d fault here act read) e = e
-answer_starves s _ r _ (starves k d fault here act want lack) e = refl
-answer_starves s _ r _ (refuses k action refusal here asks why) e = e
-answer_starves s _ r _ (accepts k action after here asks made) e = kept_starved s after k action made ∙ e
-answer_starves s _ r _ (tells k here act) e = e
+  one_call : (number : ℕ) (s t u : State) (r : CallFacts) (a b : List ℕ) → MakesCall number s r t a → MakesCall number s r u b → t.starved ≡ false → u.starved ≡ false → (t ≡ u) × (a ≡ b)
+  one_call number s t u r _ _ (takes reply mid _ line answered followed) (takes reply' mid' _ line' answered' followed') e f =
+      let first : (reply, mid) ≡ answer_for s r (node_named s r) = is_answer s r reply mid answered (unstarved_before mid t line followed e) in
+      let second : (reply', mid') ≡ answer_for s r (node_named s r) = is_answer s r reply' mid' answered' (unstarved_before mid' u line' followed' f) in
+      let same_reply : reply ≡ reply' = ap (λ (p : Reply × State). p.0) (first ∙ sym second) in
+      let same_mid : mid' ≡ mid = ap (λ (p : Reply × State). p.1) (second ∙ sym first) in
+      let followed_too : Follows mid u line' = subst (λ (m : State). Follows m u line') same_mid followed' in
+      let same : (t ≡ u) × (line ≡ line') = one_following mid t u line line' followed followed_too e f in
+      (same.0, joined (call_line number r reply ++ failed_lines (tree_of s) (tree_of mid)) (call_line number r reply' ++ failed_lines (tree_of s) (tree_of mid')) line line'
+      (joined (call_line number r reply) (call_line number r reply') (failed_lines (tree_of s) (tree_of mid)) (failed_lines (tree_of s) (tree_of mid')) (ap (call_line number r) same_reply)
+      (ap (λ (m : State). failed_lines (tree_of s) (tree_of m)) (sym same_mid))) same.1)
 
-following_starves : (platform : PlatformFacts) (s t : State) (a : List ℕ) → Follows platform s t a → s.starved ≡ true → t.starved ≡ true
-following_starves platform s _ _ (waits idle) e = e
-following_starves platform s _ _ (decides v ready x) e = rw e refl
+  -- memory that was refused stays so
+  answer_starves : (s t : State) (r : CallFacts) (reply : Reply) → Replies s r reply t → s.starved ≡ true → t.starved ≡ true
+  answer_starves s _ r _ (skips none) e = e
+  answer_starves s _ r _ (misreads k d fault here act read) e = e
+  answer_starves s _ r _ (starves k d fault here act want lack) e = refl
+  answer_starves s _ r _ (lacks k d asked here act read) e = refl
+  answer_starves s _ r _ (refuses k deed refusal here asks why) e = e
+  answer_starves s _ r _ (accepts k made deed tree here asks done) e = e
+  answer_starves s _ r _ (tells k here asks) e = e
 
-call_starves : (platform : PlatformFacts) (number : ℕ) (s t : State) (r : CallFacts) (a : List ℕ) → MakesCall platform number s r t a → s.starved ≡ true → t.starved ≡ true
-call_starves platform number s _ r _ (takes reply mid t line answered followed) e =
-    following_starves platform mid t line followed (answer_starves s mid r reply answered e)
+  following_starves : (s t : State) (a : List ℕ) → Follows s t a → s.starved ≡ true → t.starved ≡ true
+  following_starves _ _ _ (none_waits s none) e = e
+  following_starves _ _ _ (decides s t d what rest allowed line followed) e = following_starves (decided s d) t rest followed (rw e refl)
 
-pub report_starves : (platform : PlatformFacts) (number : ℕ) (s : State) (rs : List CallFacts) (a : List ℕ) (starved : Bool)
-    → IsReport platform number s rs a starved → s.starved ≡ true → starved ≡ true
-report_starves platform _ _ _ _ _ (ended number s) e = e
-report_starves platform _ _ _ _ _ (continued number s t r rs text rest starved made report) e =
-    report_starves platform (number + 1) t rs rest starved report (call_starves platform number s t r text made e)
+  call_starves : (number : ℕ) (s t : State) (r : CallFacts) (a : List ℕ) → MakesCall number s r t a → s.starved ≡ true → t.starved ≡ true
+  call_starves number s _ r _ (takes reply mid t line answered followed) e = following_starves mid t line followed (answer_starves s mid r reply answered e)
 
-same_report : (platform : PlatformFacts) (number : ℕ) (s : State) (rs : List CallFacts) (a b : List ℕ) (x y : Bool) → OneChosenOn platform
-    → IsReport platform number s rs a x → IsReport platform number s rs b y → x ≡ false → y ≡ false → a ≡ b
-same_report platform _ _ _ _ _ _ _ best (ended number s) (ended _ _) e f = refl
-same_report platform _ _ _ _ _ _ _ best (continued number s t r rs text rest x made report) (continued _ _ u _ _ line others y made' report') e f =
-    let same : (t ≡ u) × (text ≡ line) = one_call platform number s t u r text line best made made'
-    (not_true t.starved x (report_starves platform (number + 1) t rs rest x report) e)
-    (not_true u.starved y (report_starves platform (number + 1) u rs others y report') f) in
-    let there : IsReport platform (number + 1) t rs others y = subst (λ (v : State). IsReport platform (number + 1) v rs others y) (sym same.0) report' in
-    joined text line rest others same.1 (same_report platform (number + 1) t rs rest others x y best report there e f)
+  report_starves : (number : ℕ) (s : State) (rs : List CallFacts) (a : List ℕ) (starved : Bool) → IsReport number s rs a starved → s.starved ≡ true → starved ≡ true
+  report_starves _ _ _ _ _ (ended number s) e = e
+  report_starves _ _ _ _ _ (continued number s t r rs text rest starved made report) e =
+      report_starves (number + 1) t rs rest starved report (call_starves number s t r text made e)
 
-pub one_report : OneBest → CornerIsLeast → OneReport
-one_report best least platform rs a b first second =
-    same_report platform 1 first_state rs a b false false (λ ps s t k m x y u v. one_chosen least s t k m (best true platform ps s t x y) u v) first second refl refl
+  same_report : (number : ℕ) (s : State) (rs : List CallFacts) (a b : List ℕ) (x y : Bool) → IsReport number s rs a x → IsReport number s rs b y → x ≡ false → y ≡ false → a ≡ b
+  same_report _ _ _ _ _ _ _ (ended number s) (ended _ _) e f = refl
+  same_report _ _ _ _ _ _ _ (continued number s t r rs text rest x made report) (continued _ _ u _ _ line others y made' report') e f =
+      let same : (t ≡ u) × (text ≡ line) = one_call number s t u r text line made made'
+      (not_true t.starved x (report_starves (number + 1) t rs rest x report) e)
+      (not_true u.starved y (report_starves (number + 1) u rs others y report') f) in
+      let there : IsReport (number + 1) t rs others y = subst (λ (v : State). IsReport (number + 1) v rs others y) (sym same.0) report' in
+      joined text line rest others same.1 (same_report (number + 1) t rs rest others x y report there e f)
+
+  pub one_report : OneReport
+  one_report platform rs a b first second = same_report 1 (first_state platform) rs a b false false first second refl refl

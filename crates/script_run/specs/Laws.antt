@@ -10,7 +10,7 @@ use Rattle.script_run.specs.State.{first_state}
 -- the calls of a script have one report on a platform, where memory is not refused
 abbrev pub OneReport : Type 0
 OneReport = (platform : PlatformFacts) (rs : List CallFacts) (a b : List ℕ)
-    → IsReport platform 1 first_state rs a false → IsReport platform 1 first_state rs b false → a ≡ b
+    → IsReport 1 (first_state platform) rs a false → IsReport 1 (first_state platform) rs b false → a ≡ b
 
 -- a fault, or a report in which memory is not refused
 abbrev pub IsFed : Result ReportFacts ScriptFault → Type 0

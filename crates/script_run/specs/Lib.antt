@@ -1,6 +1,9 @@
+pub mod Answer
+pub mod Deciding
 pub mod Faults
 pub mod Laws
 pub mod Lines
+pub mod Marks
 pub mod Outcome
 pub mod Report
 pub mod Run

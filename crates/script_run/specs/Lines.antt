@@ -17,8 +17,6 @@ use Rattle.sysmem_sanitise.specs.Faults.{fault_text}
 use Rattle.sysmem_tree.specs.Refusal.{refusal_text}
 use Rattle.script_run.specs.declared.reply.Reply.{Reply}
 use Rattle.script_run.specs.declared.reply.Reply.TheVariants.{Accepted, Refused, Misread, Skipped}
-use Rattle.script_run.specs.declared.verdict.Verdict.{Verdict}
-use Rattle.script_run.specs.declared.verdict.Verdict.TheVariants.{Chosen, Empty, NoMemory}
 use Rattle.script_reading.specs.Call.{ActFacts, duplicates, binds, states, creates_group, creates_child, has_all_children, attaches_token, releases, closes, checks, waits, name_made}
 use Rattle.script_reading.specs.Script.{CallFacts}
 
@@ -102,17 +100,6 @@ chosen_text platform chosen k =
 -- `domain /0/1 empty`: what became of the domain whose root is at this path
 abbrev pub domain_line : List ℕ → List ℕ → List ℕ
 domain_line path what = codes "domain " ++ path_text path ++ codes " " ++ what ++ codes "\n"
-
--- the line of the domain of the root token, which has no groups to select from
-abbrev pub verdict_line : PlatformFacts → Verdict → List ℕ
-verdict_line platform (Chosen s k) = codes "domain / chosen - " ++ settings_text platform s ++ image_text s.offer k ++ codes "\n"
-verdict_line platform Empty = codes "domain / empty\n"
-verdict_line platform NoMemory = codes "domain / no_memory\n"
-
--- the last line of a report whose domain has no verdict
-abbrev pub pending_lines : Option Verdict → List ℕ
-pending_lines None = codes "domain / pending\n"
-pending_lines (Some verdict) = []
 
 -- where the result is Ok, the line was put behind the text
 abbrev pub Puts : {T E : Type 0} → Result T E → String Global → String Global → List ℕ → Type 0

@@ -22,7 +22,7 @@ report_seen report = record { text = string_bytes report.text; starved = report.
 pub data ValueRunsTo (value : Data) : Result ReportFacts ScriptFault → Type 0 where
   refused : (fault : ScriptFault) → script_of value ≡ Err fault → ValueRunsTo value (Err fault)
   reported : (script : ScriptFacts) (report : ReportFacts) → script_of value ≡ Ok script
-      → IsReport script.platform 1 first_state script.calls report.text report.starved → ValueRunsTo value (Ok report)
+      → IsReport 1 (first_state script.platform) script.calls report.text report.starved → ValueRunsTo value (Ok report)
 
 -- what the bytes of a script give: a fault of theirs, or what their value gives
 abbrev pub RunsTo : List ℕ → Result ReportFacts ScriptFault → Type 0

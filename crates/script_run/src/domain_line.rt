@@ -3,6 +3,8 @@
 ghost use Rattle.std.specs.Prelude.{◌≡◌, ℕ, ◌++◌, codes, option_map, slice_get};
 ghost use Rattle.std.specs.Fmt.{decimal};
 ghost use Rattle.script_run.specs.Lines.{Puts, chosen_text, domain_line, heap_text, image_text, marked, path_text, selection_text, settings_text};
+ghost use Rattle.sysmem_tree.specs.Domain.{HasDomain};
+ghost use Rattle.sysmem_tree.specs.Path.{path_of};
 
 use std::alloc::AllocError;
 use std::fmt::Write;
@@ -12,7 +14,7 @@ use sysmem_memory::HeapInfo;
 use sysmem_merge::Settings;
 use sysmem_proof::Chosen;
 use sysmem_sanitise::Platform;
-use sysmem_tree::Path;
+use sysmem_tree::{DomainId, Path, Tree};
 
 /// Puts the line of a domain that was decided behind the text: `domain /0 chosen 1 count 2 size 4096 place ram#0 cpu
 /// image none`.
@@ -43,6 +45,21 @@ pub(crate) fn put_word(text: &mut String, path: &Path, word: &str) -> Result<(),
     put_path(text, path)?;
     put_end(text, word)?;
     Ok(())
+}
+
+/// Puts the line that says this word of a domain of the tree behind the text: `domain /0 failed`.
+pub(crate) fn put_domain(
+    text: &mut String,
+    tree: &Tree,
+    domain: DomainId,
+    word: &str,
+) -> Result<(), AllocError>
+    requires { HasDomain tree.now.nodes domain }
+    ensures { Puts result text.old text.new
+        (domain_line (path_of tree.now.nodes domain) word.now) }
+{
+    let path = tree.path_of(tree.root_of(domain))?;
+    put_word(text, &path, word)
 }
 
 fn put_path(text: &mut String, path: &Path) -> Result<(), AllocError>
@@ -121,7 +138,7 @@ fn put_end(text: &mut String, word: &str) -> Result<(), AllocError>
     writeln!(text, " {word}")
 }
 
-pub(crate) fn put_settings(
+fn put_settings(
     text: &mut String,
     platform: &Platform,
     settings: Settings,
@@ -168,7 +185,7 @@ fn put_coherency(text: &mut String, coherency: &str) -> Result<(), AllocError>
     write!(text, " {coherency} image ")
 }
 
-pub(crate) fn put_image(text: &mut String, offer: Offer, corner: Corner) -> Result<(), AllocError>
+fn put_image(text: &mut String, offer: Offer, corner: Corner) -> Result<(), AllocError>
     ensures { Puts result text.old text.new (image_text offer corner) }
 {
     match offer {

@@ -3,13 +3,13 @@
 ghost use Rattle.script_run.specs.Laws.{OneAnswer, OneReport};
 
 use sysmem_image::laws::corner_is_least;
-use sysmem_merge::laws::one_best;
+use sysmem_proof::laws;
 
 /// The calls of a script have one report on a platform, where memory is not refused.
 pub fn one_report()
     ensures { OneReport }
 {
-    one_best();
+    laws::one_answer();
     corner_is_least();
 }
 

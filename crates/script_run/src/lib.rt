@@ -8,18 +8,17 @@
 //! ```
 #![tactic(auto)]
 
-mod action;
-mod decision;
+mod deciding;
 mod domain_line;
+mod failing;
 mod fault;
 pub mod laws;
 mod line;
-mod node;
 mod reply;
 mod report;
 mod runner;
 mod running;
-mod verdict;
+mod telling;
 
 pub use fault::RunFault;
 pub use report::{Report, report_of};

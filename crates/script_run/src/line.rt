@@ -3,18 +3,14 @@
 ghost use Rattle.std.specs.Prelude.{◌≡◌, ◌++◌, codes};
 ghost use Rattle.std.specs.Fmt.{decimal};
 ghost use Rattle.sysmem_sanitise.specs.Faults.{fault_text};
-ghost use Rattle.script_run.specs.Lines.{Puts, act_name, call_line, new_name, pending_lines, reply_text, verdict_line};
+ghost use Rattle.script_run.specs.Lines.{Puts, act_name, call_line, new_name, reply_text};
 ghost use Rattle.script_reading.specs.Seen.{act_seen, call_seen};
 
-use crate::domain_line::{put_image, put_settings};
 use crate::reply::Reply;
-use crate::verdict::Verdict;
 use script_reading::{Act, Call};
 use std::alloc::AllocError;
 use std::fmt::Write;
-use sysmem_image::Corner;
-use sysmem_merge::Settings;
-use sysmem_sanitise::{Fault, Platform};
+use sysmem_sanitise::Fault;
 
 /// Puts the line of a call behind the text: `7 duplicate root a ok`.
 pub(crate) fn put_call(
@@ -28,31 +24,6 @@ pub(crate) fn put_call(
     put_head(text, number, &call.act, call.on)?;
     put_new_name(text, &call.act)?;
     put_reply(text, reply)
-}
-
-/// Puts a verdict's line behind the text: `domain / empty`.
-pub(crate) fn put_verdict(
-    text: &mut String,
-    platform: &Platform,
-    verdict: Verdict,
-) -> Result<(), AllocError>
-    ensures { Puts result text.old text.new (verdict_line platform.now verdict) }
-{
-    match verdict {
-        Verdict::Chosen(settings, corner) => put_chosen(text, platform, settings, corner),
-        Verdict::Empty => text.push_str("domain / empty\n"),
-        Verdict::NoMemory => text.push_str("domain / no_memory\n"),
-    }
-}
-
-/// Puts the last line of a report without a verdict behind the text: `domain / pending`.
-pub(crate) fn put_pending(text: &mut String, verdict: Option<Verdict>) -> Result<(), AllocError>
-    ensures { Puts result text.old text.new (pending_lines verdict) }
-{
-    match verdict {
-        Some(_) => Ok(()),
-        None => text.push_str("domain / pending\n"),
-    }
 }
 
 /// The name of what a call does.
@@ -120,20 +91,4 @@ fn put_fault(text: &mut String, fault: Fault) -> Result<(), AllocError>
     let code = fault.code.name();
     let at = fault.at.name();
     writeln!(text, " {code} {at}")
-}
-
-fn put_chosen(
-    text: &mut String,
-    platform: &Platform,
-    settings: Settings,
-    corner: Corner,
-) -> Result<(), AllocError>
-    ensures { Puts result text.old text.new
-        (verdict_line platform.now (Verdict.Chosen settings corner)) }
-{
-    text.push_str("domain / chosen - ")?;
-    put_settings(text, platform, settings)?;
-    put_image(text, settings.offer, corner)?;
-    text.push_str("\n")?;
-    Ok(())
 }

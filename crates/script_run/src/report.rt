@@ -1,21 +1,26 @@
 //! The report of a script's calls.
 
-ghost use Rattle.std.specs.Prelude.{map, IfOk};
+ghost use Rattle.std.specs.Prelude.{◌≡◌, map, IfOk, IfSome};
 ghost use Rattle.std.specs.String.{string_bytes};
-ghost use Rattle.script_run.specs.Report.{IsReport};
 ghost use Rattle.script_reading.specs.Seen.{call_seen};
+ghost use Rattle.script_run.specs.Lines.{Puts};
+ghost use Rattle.script_run.specs.Marks.{pending_at};
+ghost use Rattle.script_run.specs.Report.{IsReport, pending_lines};
 ghost use Rattle.script_run.specs.State.{first_state};
+ghost use Rattle.sysmem_tree.specs.Domain.{HasDomain};
 
-use crate::line::put_pending;
+use crate::domain_line::put_domain;
 use crate::runner::Runner;
 use script_reading::Call;
 use std::alloc::{AllocError, Global};
+use sysmem_alloc::Book;
 use sysmem_sanitise::Platform;
+use sysmem_tree::DomainId;
 
 /// A report.
 #[derive(Debug, Drop)]
 pub struct Report {
-    /// A line for each call, for each decision, and for a domain without a verdict.
+    /// A line for each call, for each domain that was decided or failed, and for each domain without a verdict.
     pub text: String,
     /// Whether memory was refused in a reply or a decision.
     pub starved: bool,
@@ -25,20 +30,46 @@ pub struct Report {
 /// reply or a decision is the `Err`.
 pub fn report_of(
     alloc: Global,
-    platform: &Platform,
+    platform: Platform,
     calls: &[Call<'_>],
 ) -> Result<Report, AllocError>
-    ensures { IfOk result (λ report. IsReport platform.now 1 first_state
+    ensures { IfOk result (λ report. IsReport 1 (first_state platform)
         (map call_seen calls.now) (string_bytes report.text) report.starved) }
 {
-    let mut runner = Runner::new(alloc)?;
+    let mut runner = Runner::new(alloc, platform)?;
     let mut text = String::new(alloc);
     for (index, call) in calls.iter().enumerate() {
-        runner.take(alloc, platform, index + 1, call, &mut text)?;
+        runner.take(alloc, index + 1, call, &mut text)?;
     }
-    put_pending(&mut text, runner.verdict())?;
+    put_pending(&mut text, runner.book())?;
     Ok(Report {
         text,
         starved: runner.is_starved(),
     })
+}
+
+/// The domain of this index, if it has no verdict.
+fn pending_at(book: &Book, index: u32) -> Option<DomainId>
+    ensures domain { result ≡ pending_at book.now.state index }
+    ensures there { IfSome result (HasDomain book.now.state.tree.nodes) }
+{
+    let domain = book.tree().domain_at(index)?;
+    match book.verdict_of(domain) {
+        Some(_) => None,
+        None => Some(domain),
+    }
+}
+
+/// Puts the line of each domain without a verdict behind the text, in order of creation of their roots.
+fn put_pending(text: &mut String, book: &Book) -> Result<(), AllocError>
+    ensures { Puts result text.old text.new (pending_lines book.now.state) }
+{
+    let tree = book.tree();
+    for index in 0..tree.domains() {
+        let Some(domain) = pending_at(book, index) else {
+            continue;
+        };
+        put_domain(text, tree, domain, "pending")?;
+    }
+    Ok(())
 }

@@ -1,65 +1,70 @@
-//! The collection that a script's calls act on: its nodes, what their names stand for, and its verdict.
+//! The collection that a script's calls act on: its book, and what their names stand for.
 
-ghost use Rattle.std.specs.Prelude.{◌≡◌, ◌≢◌, ◌+◌, ◌≤◌, ◌++◌, ◌||◌, true, length, nat_le, slice_get, unwrap_or, OnOk, IfOk};
-ghost use Rattle.std.specs.List.{list_all};
-ghost use Rattle.std.specs.Result.{result_err};
+ghost use Rattle.std.specs.Prelude.{◌≡◌, ◌+◌, ◌≤◌, ◌++◌, ◌||◌, Some, None, true, length, option_map, slice_get, unwrap_or, IfOk, IfSome, OnOk};
+ghost use Rattle.std.specs.Arc.{arc_value};
 ghost use Rattle.std.specs.String.{string_bytes};
 ghost use Rattle.serde_json.specs.View.{view};
 ghost use Rattle.script_reading.specs.Call.{states};
-ghost use Rattle.script_run.specs.Report.{Asks, FollowsIn, Replies, Takes, answer_by, checked, is_no_memory, named, node_named};
 ghost use Rattle.script_reading.specs.Seen.{act_seen, call_seen};
-ghost use Rattle.script_run.specs.State.{applied, first_state, has_room, is_barred, is_complete, is_due, made_if, starves};
+ghost use Rattle.script_run.specs.Answer.{Asks, Replies, is_want};
+ghost use Rattle.script_run.specs.Report.{DecidesIn, FollowsIn, Takes, decided};
+ghost use Rattle.script_run.specs.State.{AreThere, first_state, named, node_named};
+ghost use Rattle.sysmem_alloc.specs.Entry.{Decided};
+ghost use Rattle.sysmem_alloc.specs.History.{Allows};
+ghost use Rattle.sysmem_alloc.specs.Sound.{MayWait};
+ghost use Rattle.sysmem_alloc.specs.State.{next_ready};
+ghost use Rattle.sysmem_tree.specs.ActionKind.{deed_of};
+ghost use Rattle.sysmem_tree.specs.Nodes.{HasNode};
 
-use crate::action::Action;
-use crate::decision::decide;
-use crate::line::{put_call, put_verdict};
-use crate::node::Node;
+use crate::deciding::{put_decision, verdict_for};
+use crate::failing::{failed_domains, put_failed};
+use crate::line::put_call;
 use crate::reply::Reply;
-use crate::verdict::Verdict;
+use crate::telling::told;
 use script_reading::{Act, Call};
 use serde_json::Value;
 use std::alloc::{AllocError, Global};
-use std::mem;
+use std::sync::Arc;
+use sysmem_alloc::Book;
+use sysmem_alloc::laws::{few_entries, legal_is_sound};
+use sysmem_proof::Verdict;
 use sysmem_sanitise::{Code, Fault, Platform, read_constraints};
-use sysmem_tree::Refusal;
+use sysmem_tree::{Action, DomainId, Event, NodeId, Refusal};
 
-const MOST_NODES: usize = 128;
-
-/// A collection of at most 128 nodes.
+/// A collection with the names of its nodes.
 #[derive(Debug, Drop)]
 pub struct Runner {
-    nodes: Vec<Node>,
+    book: Book,
     /// For each name, in the order of the calls that make one, the node that it stands for; `None` where that call
     /// was not made.
-    names: Vec<Option<usize>>,
-    verdict: Option<Verdict>,
+    names: Vec<Option<NodeId>>,
     /// Whether memory was refused in a reply or a decision.
     starved: bool,
-    ghost few: { length nodes.items ≤ 128 },
+    ghost there: { AreThere book.state.tree.nodes names.items },
 }
 
 impl Runner {
     ghost use Rattle.script_run.specs.Runner.{state_of};
 
     /// The collection of the root token.
-    pub(crate) fn new(alloc: Global) -> Result<Runner, AllocError>
-        ensures { IfOk result (λ runner. state_of runner ≡ first_state) }
+    pub(crate) fn new(alloc: Global, platform: Platform) -> Result<Runner, AllocError>
+        ensures { IfOk result (λ runner. state_of runner ≡ first_state platform) }
     {
-        let nodes = vec![in alloc; Node::Token]?;
-        let names = vec![in alloc; Some(0)]?;
+        let book = Book::new(alloc, platform)?;
+        let root = book.tree().root();
+        let names = vec![in alloc; Some(root)]?;
         Ok(Runner {
-            nodes,
+            book,
             names,
-            verdict: None,
             starved: false,
         })
     }
 
-    /// The verdict of the root's domain, once there is one.
-    pub(crate) fn verdict(&self) -> Option<Verdict>
-        ensures { result ≡ (state_of self.now).verdict }
+    /// The book.
+    pub(crate) fn book(&self) -> &Book
+        ensures { result.now ≡ (state_of self.now).book }
     {
-        self.verdict
+        &self.book
     }
 
     /// Whether memory was refused in a reply or a decision.
@@ -69,73 +74,87 @@ impl Runner {
         self.starved
     }
 
-    /// Makes a call, decides where the collection is ready by it, and puts the lines of both behind the text.
+    /// Makes a call and decides each domain that waits then, and puts the lines of all that behind the text.
     pub(crate) fn take(
         &mut self,
         alloc: Global,
-        platform: &Platform,
         number: usize,
         call: &Call<'_>,
         text: &mut String,
     ) -> Result<(), AllocError>
-        ensures { OnOk result (Takes platform.now number (state_of self.old) (call_seen call.now)
+        ensures { OnOk result (Takes number (state_of self.old) (call_seen call.now)
             (state_of self.new) (string_bytes text.old) (string_bytes text.new)) }
     {
+        legal_is_sound();
+        self.book.platform();
+        let had_failed = failed_domains(self.book.tree());
         let reply = self.answer(alloc, call)?;
         put_call(text, number, call, reply)?;
-        self.decide_if_due(alloc, platform, text)?;
+        put_failed(text, self.book.tree(), &had_failed)?;
+        self.decide_waiting(alloc, text)?;
         Ok(())
     }
 
-    /// Decides where the collection is ready and has no verdict, and puts the verdict's line behind the text.
-    fn decide_if_due(
-        &mut self,
-        alloc: Global,
-        platform: &Platform,
-        text: &mut String,
-    ) -> Result<(), AllocError>
-        ensures { OnOk result (FollowsIn platform.now (state_of self.old) (state_of self.new)
+    /// Decides as long as a domain waits, and puts the lines of the decisions behind the text.
+    fn decide_waiting(&mut self, alloc: Global, text: &mut String) -> Result<(), AllocError>
+        ensures { OnOk result (FollowsIn (state_of self.old) (state_of self.new)
             (string_bytes text.old) (string_bytes text.new)) }
     {
-        if self.is_due() {
-            return self.decide(alloc, platform, text);
+        while let Some(domain) = self.book.next_ready() {
+            self.decide(alloc, domain, text)?;
         }
         Ok(())
     }
 
-    /// Decides, and puts the verdict's line behind the text.
+    /// Decides the first domain that waits, and puts the lines of the decision behind the text.
     fn decide(
         &mut self,
         alloc: Global,
-        platform: &Platform,
+        domain: DomainId,
         text: &mut String,
     ) -> Result<(), AllocError>
-        requires { is_due (state_of self.old) ≡ true }
-        ensures { OnOk result (FollowsIn platform.now (state_of self.old) (state_of self.new)
+        requires next { next_ready (state_of self.old).book.state ≡ Some domain }
+        requires waits { MayWait (state_of self.old).book.state.tree domain }
+        ensures lines { OnOk result (DecidesIn (state_of self.old) (state_of self.new)
             (string_bytes text.old) (string_bytes text.new)) }
+        ensures grows { OnOk result (length (state_of self.new).book.history
+            ≡ length (state_of self.old).book.history + 1) }
+        ensures few { OnOk result (length (state_of self.new).book.history ≤ 639) }
     {
-        let verdict = decide(alloc, platform, &self.nodes);
-        self.keep_verdict(verdict);
-        put_verdict(text, platform, verdict)?;
+        few_entries();
+        let verdict = verdict_for(alloc, &self.book, domain);
+        put_decision(text, &self.book, domain, &verdict)?;
+        let had_failed = failed_domains(self.book.tree());
+        self.enter(domain, verdict);
+        put_failed(text, self.book.tree(), &had_failed)?;
+        self.book.platform();
         Ok(())
     }
 
-    /// Keeps the verdict of a decision.
-    fn keep_verdict(&mut self, verdict: Verdict)
-        ensures { state_of self.new ≡ record (state_of self.old) {
-          verdict = Some verdict;
-          starved = (state_of self.old).starved || is_no_memory verdict;
-        } }
+    /// Enters a decision that the book allows.
+    fn enter(&mut self, domain: DomainId, verdict: Option<Arc<Verdict>>)
+        requires { Allows (state_of self.old).book.platform (state_of self.old).book.state
+            (Decided (record {
+              domain = domain;
+              verdict = option_map (λ shared. arc_value shared) verdict;
+            })) }
+        ensures { state_of self.new ≡ decided (state_of self.old) (record {
+          domain = domain;
+          verdict = option_map (λ shared. arc_value shared) verdict;
+        }) }
     {
-        self.verdict = Some(verdict);
-        self.starved = self.starved || verdict.is_no_memory();
+        let wants = verdict.is_none();
+        self.book.decide(domain, verdict);
+        self.keep_want(wants);
     }
 
-    /// Whether the collection is ready and has no verdict yet.
-    fn is_due(&self) -> bool
-        ensures { result ≡ is_due (state_of self.now) }
+    /// Keeps whether memory was refused.
+    fn keep_want(&mut self, wants: bool)
+        ensures { state_of self.new ≡ record (state_of self.old) {
+          starved = (state_of self.old).starved || wants;
+        } }
     {
-        self.verdict.is_none() && are_complete(&self.nodes)
+        self.starved = self.starved || wants;
     }
 
     /// Makes a call, and gives its reply.
@@ -149,14 +168,16 @@ impl Runner {
         };
         match call.act {
             Act::Duplicate(_) => self.act(call, node, Action::Duplicate),
+            Act::CreateGroup(_) => self.act(call, node, Action::CreateGroup),
             Act::Bind => self.act(call, node, Action::Bind),
             Act::SetConstraints(stated) => self.set_constraints(alloc, call, node, stated),
+            Act::CreateChild(_) => self.act(call, node, Action::CreateChild),
+            Act::AllChildrenPresent => self.act(call, node, Action::AllChildrenPresent),
+            Act::AttachToken(_) => self.act(call, node, Action::AttachToken),
             Act::Release => self.act(call, node, Action::Release),
-            Act::Check | Act::Wait => Ok(self.checked(node)),
-            _ => {
-                self.keep_name(&call.act, None)?;
-                Ok(Reply::Refused(Refusal::WrongState))
-            }
+            Act::Close => self.act(call, node, Action::Close),
+            Act::Check => Ok(told(&self.book, node)),
+            Act::Wait => Ok(told(&self.book, node)),
         }
     }
 
@@ -165,7 +186,7 @@ impl Runner {
         &mut self,
         alloc: Global,
         call: &Call<'_>,
-        node: usize,
+        node: NodeId,
         stated: Option<&Value>,
     ) -> Result<Reply, AllocError>
         requires named { node_named (state_of self.old) (call_seen call.now) ≡ Some node }
@@ -184,7 +205,7 @@ impl Runner {
         &mut self,
         alloc: Global,
         call: &Call<'_>,
-        node: usize,
+        node: NodeId,
         value: &Value,
     ) -> Result<Reply, AllocError>
         requires named { node_named (state_of self.old) (call_seen call.now) ≡ Some node }
@@ -192,9 +213,13 @@ impl Runner {
         ensures { IfOk result (λ reply.
             Replies (state_of self.old) (call_seen call.now) reply (state_of self.new)) }
     {
-        match read_constraints(alloc, value) {
-            Ok(asked) => self.act(call, node, Action::SetConstraints(Some(asked))),
-            Err(fault) => Ok(self.misread(fault)),
+        let asked = match read_constraints(alloc, value) {
+            Ok(asked) => asked,
+            Err(fault) => return Ok(self.misread(fault)),
+        };
+        match Arc::new(alloc, asked) {
+            Ok(shared) => self.act(call, node, Action::SetConstraints(Some(shared))),
+            Err(_) => Ok(self.unshared()),
         }
     }
 
@@ -202,150 +227,66 @@ impl Runner {
     fn misread(&mut self, fault: Fault) -> Reply
         ensures reply { result ≡ Reply.Misread fault }
         ensures starved { state_of self.new ≡ record (state_of self.old) {
-          starved = (state_of self.old).starved || starves fault.code;
+          starved = (state_of self.old).starved || is_want fault.code;
         } }
     {
-        self.starved = self.starved || starves(fault.code);
+        self.keep_want(is_want(fault.code));
         Reply::Misread(fault)
     }
 
+    /// The reply where memory is refused to constraints that were read.
+    fn unshared(&mut self) -> Reply
+        ensures reply { result ≡ Reply.Refused Refusal.NoMemory }
+        ensures starved { state_of self.new ≡ record (state_of self.old) { starved = true } }
+    {
+        self.starved = true;
+        Reply::Refused(Refusal::NoMemory)
+    }
+
     /// Makes a call's action on its node, or refuses it.
-    fn act(&mut self, call: &Call<'_>, node: usize, action: Action) -> Result<Reply, AllocError>
+    fn act(&mut self, call: &Call<'_>, node: NodeId, action: Action) -> Result<Reply, AllocError>
         requires named { node_named (state_of self.old) (call_seen call.now) ≡ Some node }
-        requires asks { Asks (call_seen call.now).act action }
+        requires asks { Asks (call_seen call.now).act (deed_of action) }
         ensures { IfOk result (λ reply.
             Replies (state_of self.old) (call_seen call.now) reply (state_of self.new)) }
     {
-        let made = self.nodes.len();
-        if let Some(refusal) = self.refusal_of(node, &action) {
-            self.keep_name(&call.act, None)?;
-            return Ok(Reply::Refused(refusal));
-        }
-        self.enter(node, action)?;
-        self.keep_name(&call.act, Some(made))?;
-        Ok(Reply::Accepted)
-    }
-
-    /// The first refusal of an action on a node, if there is one.
-    fn refusal_of(&self, node: usize, action: &Action) -> Option<Refusal>
-        ensures { result ≡ result_err (applied (state_of self.now) node action.now) }
-    {
-        if self.is_barred(action) {
-            return Some(Refusal::DomainFailed);
-        }
-        let Some(there) = self.nodes.get(node) else {
-            return Some(Refusal::WrongState);
-        };
-        if !there.allows(action) {
-            return Some(Refusal::WrongState);
-        }
-        if !self.has_room(action) {
-            return Some(Refusal::TooManyNodes);
-        }
-        None
-    }
-
-    /// Whether the domain failed, which bars all but a release.
-    fn is_barred(&self, action: &Action) -> bool
-        ensures { result ≡ is_barred (state_of self.now).verdict action.now }
-    {
-        match action {
-            Action::Release => false,
-            _ => matches!(self.verdict, Some(Verdict::Empty | Verdict::NoMemory)),
-        }
-    }
-
-    /// Whether the nodes that the action makes are within the limit.
-    fn has_room(&self, action: &Action) -> bool
-        ensures { result ≡ has_room (state_of self.now).nodes action.now }
-    {
-        match action {
-            Action::Duplicate => self.nodes.len() < MOST_NODES,
-            _ => true,
-        }
-    }
-
-    /// Makes an action that is not refused.
-    fn enter(&mut self, node: usize, action: Action) -> Result<(), AllocError>
-        requires { result_err (applied (state_of self.old) node action) ≡ None }
-        ensures { OnOk result (applied (state_of self.old) node action ≡ Ok (state_of self.new)) }
-    {
-        let makes = action.makes_token();
-        let there = mem::replace(&mut self.nodes[node], Node::Token);
-        self.nodes[node] = there.after(action);
-        self.grow(makes)?;
-        Ok(())
-    }
-
-    /// Makes a further token, where one is to be made.
-    fn grow(&mut self, makes: bool) -> Result<(), AllocError>
-        requires { nat_le (length (state_of self.old).nodes + length (made_if makes)) 128 ≡ true }
-        ensures { OnOk result (state_of self.new ≡ record (state_of self.old) {
-          nodes = (state_of self.old).nodes ++ made_if makes;
-        }) }
-    {
-        if makes {
-            self.nodes.push(Node::Token)?;
-        }
-        Ok(())
-    }
-
-    /// The reply to a check of a node.
-    fn checked(&self, node: usize) -> Reply
-        ensures { result
-            ≡ checked (slice_get (state_of self.now).nodes node) (state_of self.now).verdict }
-    {
-        match self.nodes.get(node) {
-            Some(Node::Collection | Node::Stated(_)) => answer_by(self.verdict),
-            _ => Reply::Refused(Refusal::WrongState),
+        match self.book.apply(Event { node, action }) {
+            Ok(done) => {
+                self.keep_name(&call.act, Some(done.node))?;
+                Ok(Reply::Accepted)
+            }
+            Err(refusal) => {
+                self.keep_name(&call.act, None)?;
+                Ok(Reply::Refused(refusal))
+            }
         }
     }
 
     /// The node that the name at a place stands for; `None` where the call that makes it was not made.
-    fn node_at(&self, place: usize) -> Option<usize>
-        ensures { result ≡ unwrap_or (slice_get (state_of self.now).names place) None }
+    fn node_at(&self, place: usize) -> Option<NodeId>
+        ensures node { result ≡ unwrap_or (slice_get (state_of self.now).names place) None }
+        ensures there { IfSome result (HasNode (state_of self.now).book.state.tree.nodes) }
     {
         self.names.get(place).copied().unwrap_or(None)
     }
 
     /// Keeps what the name that a call gives stands for, if it gives one.
-    fn keep_name(&mut self, act: &Act<'_>, node: Option<usize>) -> Result<(), AllocError>
+    fn keep_name(&mut self, act: &Act<'_>, node: Option<NodeId>) -> Result<(), AllocError>
+        requires { IfSome node (HasNode (state_of self.old).book.state.tree.nodes) }
         ensures { OnOk result (state_of self.new ≡ record (state_of self.old) {
           names = (state_of self.old).names ++ named (act_seen act.now) node;
         }) }
     {
-        match act.name_made() {
-            Some(_) => {
-                self.names.push(node)?;
-                Ok(())
-            }
-            None => Ok(()),
+        if act.name_made().is_some() {
+            self.names.push(node)?;
         }
+        Ok(())
     }
 }
 
 /// Whether memory was refused to a reader.
-fn starves(code: Code) -> bool
-    ensures { result ≡ starves code }
+fn is_want(code: Code) -> bool
+    ensures { result ≡ is_want code }
 {
     matches!(code, Code::WantOfMemory)
-}
-
-/// Whether nothing more waits on the nodes.
-fn are_complete(nodes: &[Node]) -> bool
-    ensures { result ≡ list_all is_complete nodes.now }
-{
-    nodes.iter().all(|node| node.is_complete())
-}
-
-/// The reply to a check by the verdict.
-fn answer_by(verdict: Option<Verdict>) -> Reply
-    ensures { result ≡ answer_by verdict }
-{
-    match verdict {
-        None => Reply::Refused(Refusal::Pending),
-        Some(Verdict::Chosen(_, _)) => Reply::Accepted,
-        Some(Verdict::Empty) => Reply::Refused(Refusal::ConstraintsIntersectionEmpty),
-        Some(Verdict::NoMemory) => Reply::Refused(Refusal::NoMemory),
-    }
 }

@@ -78,12 +78,15 @@ fn report_on_value(alloc: Global, value: &Value) -> Result<Report, ParseFault>
 }
 
 fn report_on_script(alloc: Global, script: &Script<'_>) -> Result<Report, ParseFault>
-    ensures report { IfOk result (λ report. IsReport
-        (script_seen script.now).platform 1 first_state (script_seen script.now).calls
+    ensures report { IfOk result (λ report. IsReport 1
+        (first_state (script_seen script.now).platform) (script_seen script.now).calls
         (string_bytes report.text) report.starved) }
     ensures fault { IfErr result (λ fault. fault ≡ ParseFault.NoMemory) }
 {
-    match report_of(alloc, &script.platform, &script.calls) {
+    let Ok(platform) = script.platform.copy() else {
+        return Err(ParseFault::NoMemory);
+    };
+    match report_of(alloc, platform, &script.calls) {
         Ok(report) => Ok(report),
         Err(_) => Err(ParseFault::NoMemory),
     }

@@ -60,7 +60,7 @@ host_is nodes r = by (slice_get nodes r) where
   by (Some n) = born n.birth n.domain
 
 -- a parent is one of the nodes
-parent_within : (nodes : List NodeFacts) (k : ℕ) (n : NodeFacts) (b : Birth) → IsTree nodes → slice_get nodes k ≡ Some n → n.birth ≡ Some b → k < length nodes → b.parent < length nodes
+pub parent_within : (nodes : List NodeFacts) (k : ℕ) (n : NodeFacts) (b : Birth) → IsTree nodes → slice_get nodes k ≡ Some n → n.birth ≡ Some b → k < length nodes → b.parent < length nodes
 parent_within nodes zero n b tree here born less = absurd (no_birth (subst (λ o. IsSomeAnd o (λ (x : NodeFacts). (x.birth ≡ None) × (x.domain ≡ 0))) here tree.root)) where
   no_birth : (n.birth ≡ None) × (n.domain ≡ 0) → ⊥
   no_birth h = let none = h.0 in absurd (cc)

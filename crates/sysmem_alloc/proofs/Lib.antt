@@ -14,3 +14,7 @@ pub mod Fates
 pub mod Confluent
 pub mod Hosts
 pub mod Next
+pub mod Agreeing
+pub mod GivenBases
+pub mod Gathering
+pub mod CallerLemmas

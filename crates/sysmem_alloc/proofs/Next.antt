@@ -27,11 +27,11 @@ still_kept : (waiting old new : List ℕ) (r : ℕ) → slice_get waiting 0 ≡ 
 still_kept [] old new r is = absurd (cc)
 still_kept (x ∷ rest) old new r is = refl
 
-first_waits : (t : TreeFacts) (waiting : List ℕ) (r : ℕ) → AllOf (MayWait t) waiting → slice_get waiting 0 ≡ Some r → MayWait t r
+pub first_waits : (t : TreeFacts) (waiting : List ℕ) (r : ℕ) → AllOf (MayWait t) waiting → slice_get waiting 0 ≡ Some r → MayWait t r
 first_waits t [] r all is = absurd (cc)
 first_waits t (x ∷ rest) r all is = subst (MayWait t) (same_Some x r is) all.0
 
-within : (nodes : List NodeFacts) (r : ℕ) → HasDomain nodes r → r < length nodes
+pub within : (nodes : List NodeFacts) (r : ℕ) → HasDomain nodes r → r < length nodes
 within nodes r has = by (slice_get nodes r) refl has where
   by : (o : Option NodeFacts) → slice_get nodes r ≡ o → IsSomeAnd o (λ n. n.domain ≡ r) → r < length nodes
   by None is h = absurd h

@@ -29,7 +29,7 @@ use Rattle.sysmem_alloc.proofs.Relabelled.{by_numbers}
 use Rattle.sysmem_alloc.proofs.Trees.{acted_there, decided_there, acted_decision, decided_decision, added, acted_roots, decided_roots, added_unready}
 
 -- what a verdict chose is a selection of the domain's forest
-selects : OneForest → (platform : PlatformFacts) (nodes : List NodeFacts) (r : ℕ) (base : Option BaseFacts) (verdict : Option Verdict) → IfSome verdict (IsOptimalIn platform nodes r base)
+pub selects : OneForest → (platform : PlatformFacts) (nodes : List NodeFacts) (r : ℕ) (base : Option BaseFacts) (verdict : Option Verdict) → IfSome verdict (IsOptimalIn platform nodes r base)
     → IfSome (choices_of verdict) (λ cs. (e : Forest ℕ) × IsSelection (forest_of by_number nodes r []) cs e)
 selects one platform nodes r base None h = tt
 selects one platform nodes r base (Some (verdicts.Chosen chosen)) h = by_numbers nodes r (one nodes r) chosen.selection h.1.members h.1.selects
@@ -38,7 +38,7 @@ selects one platform nodes r base (Some verdicts.TooMany) h = tt
 selects one platform nodes r base (Some verdicts.Failed) h = tt
 selects one platform nodes r base (Some verdicts.NoMemory) h = tt
 
-may_decide : (t : TreeFacts) (waiting : List ℕ) (r : ℕ) → AllOf (MayWait t) waiting → slice_get waiting 0 ≡ Some r → MayWait t r
+pub may_decide : (t : TreeFacts) (waiting : List ℕ) (r : ℕ) → AllOf (MayWait t) waiting → slice_get waiting 0 ≡ Some r → MayWait t r
 may_decide t [] r all is = absurd (cc)
 may_decide t (x ∷ rest) r all is = subst (MayWait t) (same_Some x r is) all.0
 

@@ -1,6 +1,7 @@
 -- What is true of legal histories.
 use Rattle.std.specs.Prelude.{◌≡◌, ◌≤◌, ℕ, List, length, Some, map}
 use Rattle.sysmem_proof.specs.declared.verdict.Verdict.{Verdict}
+use Rattle.sysmem_proof.specs.Base.{IsGivenBase}
 use Rattle.sysmem_proof.specs.Verdict.{IsSameAnswer}
 use Rattle.sysmem_sanitise.specs.Platform.{PlatformFacts}
 use Rattle.sysmem_tree.specs.ActionKind.{Deed}
@@ -11,12 +12,21 @@ use Rattle.sysmem_tree.specs.History.{log_at}
 use Rattle.sysmem_alloc.specs.Decision.{Decision, decision_for}
 use Rattle.sysmem_alloc.specs.Entry.{BookEntry, Acted, tree_entry}
 use Rattle.sysmem_alloc.specs.History.{Allows, after_entry, IsLegal, NoEarlyClose, SameCalls, replay}
-use Rattle.sysmem_alloc.specs.Sound.{IsSoundState}
+use Rattle.sysmem_alloc.specs.Sound.{AgreesWithTree, IsSoundState}
 use Rattle.sysmem_alloc.specs.State.{State, next_ready, base_of}
 
 -- the state of each legal history is sound
 abbrev pub LegalIsSound : Type 0
 LegalIsSound = (platform : PlatformFacts) (es : List BookEntry) → IsLegal platform es → IsSoundState (replay es)
+
+-- the decisions of each legal history agree with its tree
+abbrev pub LegalAgrees : Type 0
+LegalAgrees = (platform : PlatformFacts) (es : List BookEntry) → IsLegal platform es → AgreesWithTree platform (replay es)
+
+-- what the domain that is to be decided next is decided on is a base for it, and there is one exactly for an attached domain
+abbrev pub BaseIsGiven : Type 0
+BaseIsGiven = (platform : PlatformFacts) (es : List BookEntry) (r : ℕ) → IsLegal platform es → next_ready (replay es) ≡ Some r
+    → IsGivenBase platform (replay es).tree.nodes r (base_of (replay es) r)
 
 -- a history has at most 639 entries: 127 nodes are made, each of the 128 has at most three further actions, and as many domains are decided
 abbrev pub FewEntries : Type 0

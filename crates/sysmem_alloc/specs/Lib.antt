@@ -6,3 +6,4 @@ pub mod Book
 pub mod Sound
 pub mod Marks
 pub mod Laws
+pub mod Accepted

@@ -1,8 +1,18 @@
 -- What is true of the state of each legal history.
-use Rattle.std.specs.Prelude.{◌≡◌, ◌≢◌, ◌+◌, ℕ, true, List, [], ◌∷◌, length, map, filter}
+use Rattle.std.specs.Prelude.{◌≡◌, ◌≢◌, ◌+◌, ◌^◌, ◌<◌, ◌≤◌, ℕ, true, List, [], ◌∷◌, Option, Some, None, IfSome, length, map, filter, is_some, if◌then◌else◌}
+use Rattle.sysmem_image.specs.Bounds.{IsInRange}
+use Rattle.sysmem_merge.specs.declared.settings.Settings.{Settings}
+use Rattle.sysmem_sanitise.specs.Platform.{PlatformFacts}
+use Rattle.sysmem_tree.specs.declared.domain.Decision.{Decision as Standing}
+use Rattle.sysmem_tree.specs.declared.domain.Decision.TheVariants.{Undecided, Chosen, NoneChosen}
 use Rattle.sysmem_tree.specs.Domain.{TreeFacts, HasDomain, IsSoundTree, decision_of, is_ready, is_undecided}
-use Rattle.sysmem_alloc.specs.Decision.{Decision}
-use Rattle.sysmem_alloc.specs.State.{State}
+use Rattle.sysmem_tree.specs.Forest.{Forest}
+use Rattle.sysmem_tree.specs.Node.{NodeFacts}
+use Rattle.sysmem_tree.specs.Selection.{IsSelection}
+use Rattle.sysmem_tree.specs.Shape.{by_number, forest_of}
+use Rattle.sysmem_tree.specs.Sublist.{IsSublist}
+use Rattle.sysmem_alloc.specs.Decision.{Decision, choices_of, decision_for, settings_of}
+use Rattle.sysmem_alloc.specs.State.{State, chosen_in}
 
 -- what all elements of a list have
 abbrev pub AllOf : {X : Type 0} → (X → Type 0) → List X → Type 0
@@ -36,3 +46,29 @@ pub record IsSoundState (s : State) : Type 0 where
   pub once : AreApart s.waiting
   pub decided : AllOf (IsOfReady s.tree) s.decisions
   pub count : length s.waiting + length s.decisions ≡ length (filter (is_ready s.tree) (roots_of s.tree))
+
+-- what the tree has of a domain by what was entered for it
+abbrev pub standing_of : Option Decision → Standing
+standing_of None = Undecided
+standing_of (Some d) = if is_some (choices_of d.verdict) then Chosen else NoneChosen
+
+-- settings that fit their types, with a count from 1 to 128 and a heap of the platform
+pub record AreSettingsOn (platform : PlatformFacts) (s : Settings) : Type 0 where
+  pub some : 1 ≤ s.count
+  pub few : s.count ≤ 128
+  pub heap : s.place.heap < length platform.heaps
+  pub size : s.size_bytes < 2 ^ 64
+  pub bounds : IsInRange s.bounds
+
+-- what a decision chose: such settings, for a selection of its domain
+pub record IsDecisionOn (platform : PlatformFacts) (nodes : List NodeFacts) (d : Decision) : Type 0 where
+  pub settings : IfSome (settings_of d.verdict) (AreSettingsOn platform)
+  pub selects : IfSome (choices_of d.verdict) (λ cs. (e : Forest ℕ) × IsSelection (forest_of by_number nodes d.domain []) cs e)
+
+-- the decisions that were entered agree with the tree: each domain has there what was entered for it, which is at most one decision; what was
+-- chosen is a selection of the tree; and who is accepted is some of those whom the decisions chose, in their order
+pub record AgreesWithTree (platform : PlatformFacts) (s : State) : Type 0 where
+  pub standing : (r : ℕ) → decision_of s.tree.domains r ≡ standing_of (decision_for s.decisions r)
+  pub once : AreApart (map (λ d. d.domain) s.decisions)
+  pub chosen : AllOf (IsDecisionOn platform s.tree.nodes) s.decisions
+  pub accepted : IsSublist s.accepted (chosen_in s.tree.nodes s.decisions)

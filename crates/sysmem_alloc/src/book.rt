@@ -4,20 +4,23 @@ ghost use Rattle.std.specs.Prelude.{◌≡◌, Some, Ok, Err, map, option_map, i
 ghost use Rattle.std.specs.Arc.{arc_value};
 ghost use Rattle.sysmem_alloc.specs.Book.{IsBook, entered, new_book};
 ghost use Rattle.sysmem_alloc.specs.Entry.{Acted, Decided, entry_in};
+ghost use Rattle.sysmem_alloc.specs.Sound.{MayWait};
 ghost use Rattle.sysmem_alloc.specs.State.{base_of, next_ready, verdict_of};
+ghost use Rattle.sysmem_proof.specs.Base.{IsGivenBase};
 ghost use Rattle.sysmem_proof.specs.Verdict.{IsOptimalIn};
 ghost use Rattle.sysmem_tree.specs.ActionKind.{deed_of};
 ghost use Rattle.sysmem_tree.specs.Domain.{HasDomain};
 ghost use Rattle.sysmem_tree.specs.Tree.{applied};
 
+use crate::bases::{accepted_in, settings_for};
 use crate::entry::{Entry, enter_action};
-use crate::laws::{few_entries, legal_is_sound};
+use crate::laws::{base_is_given, few_entries, legal_agrees, legal_is_sound};
 use crate::ready::{add_ready, open_nodes, open_or_kept, ready_domains};
 use crate::verdicts::{choices_of, entered_for, has_failed};
 use std::alloc::{AllocError, Global};
 use std::marker::Model;
 use std::sync::Arc;
-use sysmem_proof::Verdict;
+use sysmem_proof::{Base, Verdict};
 use sysmem_sanitise::Platform;
 use sysmem_tree::laws::{forest_stays, one_forest};
 use sysmem_tree::{DomainId, Event, MOST_NODES, NodeId, Refusal, Tree};
@@ -110,9 +113,44 @@ impl Book {
     /// The domain that is to be decided next: the first of those that are ready and undecided, in the order in which they became
     /// ready, those of one event in order of creation of their roots.
     pub fn next_ready(&self) -> Option<DomainId>
-        ensures { result ≡ next_ready self.now.state }
+        ensures next { result ≡ next_ready self.now.state }
+        ensures waits { IfSome result (MayWait self.now.state.tree) }
     {
+        legal_is_sound();
         self.waiting.first().copied()
+    }
+
+    /// What the domain that is to be decided next is decided on, in memory of the book's allocator: for an attached one the settings of its
+    /// host's domain, with the participants that were accepted when it became the first to be decided; `None` for the initial one.
+    /// `AllocError` where memory is refused.
+    pub fn base(&self, domain: DomainId) -> Result<Option<Base>, AllocError>
+        requires { next_ready self.now.state ≡ Some domain }
+        ensures base { IfOk result (λ base. base ≡ base_of self.now.state domain) }
+        ensures given { IfOk result (λ base.
+            IsGivenBase self.now.platform self.now.state.tree.nodes domain base) }
+    {
+        self.platform();
+        legal_is_sound();
+        base_is_given();
+        self.entered_base(domain)
+    }
+
+    /// What a domain of the tree would be decided on now, by what was entered.
+    fn entered_base(&self, domain: DomainId) -> Result<Option<Base>, AllocError>
+        requires { HasDomain self.now.state.tree.nodes domain }
+        ensures { IfOk result (λ base. base ≡ base_of self.now.state domain) }
+    {
+        legal_is_sound();
+        legal_agrees();
+        let Some(host) = self.tree.host_of(domain) else {
+            return Ok(None);
+        };
+        let Some(settings) = settings_for(&self.history, self.tree.domain_of(host)) else {
+            return Ok(None);
+        };
+        let alloc = *self.history.allocator();
+        let accepted = accepted_in(alloc, &self.tree, &self.history, &self.were_open)?;
+        Ok(Some(Base::new(settings, accepted)))
     }
 
     /// The verdict of a domain of the tree; `None` where it has none yet.

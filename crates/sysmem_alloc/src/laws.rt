@@ -1,10 +1,12 @@
 //! What is true of the histories of books, whoever keeps them.
 
-ghost use Rattle.sysmem_alloc.specs.Laws.{LegalIsSound, FewEntries, NextStays, InitialShape, Confluence};
+ghost use Rattle.sysmem_alloc.specs.Laws.{LegalIsSound, LegalAgrees, BaseIsGiven, FewEntries, NextStays, InitialShape, Confluence};
 
 use sysmem_proof::laws::one_answer;
 use sysmem_tree::laws;
-use sysmem_tree::laws::{forest_stays, maps_of_logs, one_forest, ready_stays, sound_stays};
+use sysmem_tree::laws::{
+    forest_stays, maps_of_logs, members_stand_once, one_forest, ready_stays, sound_stays,
+};
 
 /// The state of each legal history: its tree is sound, each domain that waits is ready, undecided and there once, and what was decided is
 /// ready.
@@ -15,6 +17,25 @@ pub fn legal_is_sound()
     ready_stays();
     one_forest();
     maps_of_logs();
+}
+
+/// The decisions of each legal history agree with its tree: each domain has there what was entered for it.
+pub fn legal_agrees()
+    ensures { LegalAgrees }
+{
+    legal_is_sound();
+    forest_stays();
+    one_forest();
+}
+
+/// What the domain that is to be decided next is decided on is a base for it, as a search wants one: given exactly for an attached domain,
+/// with settings that fit and accepted nodes of other domains, each once.
+pub fn base_is_given()
+    ensures { BaseIsGiven }
+{
+    legal_is_sound();
+    legal_agrees();
+    members_stand_once();
 }
 
 /// A legal history has at most 639 entries.

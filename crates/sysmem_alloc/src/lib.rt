@@ -9,6 +9,7 @@
 //! ```
 #![tactic(auto)]
 
+mod bases;
 mod book;
 mod entry;
 pub mod laws;

@@ -24,7 +24,7 @@ use Rattle.sysmem_tree.proofs.Selections.{AllOf, IfAny, all_mapped, all_at, sub_
 use Rattle.sysmem_tree.proofs.Steps.{path_leads}
 
 -- what all of two lists have, all of both have
-all_append : {X : Type 0} (P : X → Type 0) (xs ys : List X) → AllOf P xs → AllOf P ys → AllOf P (xs ++ ys)
+pub all_append : {X : Type 0} (P : X → Type 0) (xs ys : List X) → AllOf P xs → AllOf P ys → AllOf P (xs ++ ys)
 all_append P [] ys a b = b
 all_append P (x ∷ xs) ys a b = (a.0, all_append P xs ys a.1 b)
 
@@ -32,18 +32,18 @@ all_weaken : {X : Type 0} (P Q : X → Type 0) (xs : List X) → ((x : X) → P 
 all_weaken P Q [] h a = tt
 all_weaken P Q (x ∷ xs) h a = (h x a.0, all_weaken P Q xs h a.1)
 
-all_sub : {X : Type 0} (P : X → Type 0) (xs ys : List X) → IsSublist xs ys → AllOf P ys → AllOf P xs
+pub all_sub : {X : Type 0} (P : X → Type 0) (xs ys : List X) → IsSublist xs ys → AllOf P ys → AllOf P xs
 all_sub P _ _ ended a = tt
 all_sub P _ _ (taken x xs ys p) a = (a.0, all_sub P xs ys p a.1)
 all_sub P _ _ (left_out x xs ys p) a = all_sub P xs ys p a.1
 
-all_index : {X : Type 0} (P : X → Type 0) (xs : List X) → AllOf P xs → All P xs
+pub all_index : {X : Type 0} (P : X → Type 0) (xs : List X) → AllOf P xs → All P xs
 all_index P [] a k d within = absurd (omega (arith, within))
 all_index P (x ∷ xs) a zero d within = a.0
 all_index P (x ∷ xs) a (suc k) d within = all_index P xs a.1 k d (omega (arith, within))
 
 -- no two have one path
-abbrev Apart : List Member → Type 0
+abbrev pub Apart : List Member → Type 0
 Apart [] = Unit {0}
 Apart (m ∷ ms) = AllOf (λ (x : Member). m.path ≢ x.path) ms × Apart ms
 
@@ -82,7 +82,7 @@ deeper path o m w = record { turn = o; behind = w.turn ∷ w.behind; late = omeg
 later : (path : List ℕ) (o : ℕ) (m : Member) → Onward path (o + 1) m → Onward path o m
 later path o m w = record { turn = w.turn; behind = w.behind; late = omega (arith, w.late); is = w.is }
 
-tree_labels : {A : Type 0} (k : NodeKind) (l : A) (kids rest : Forest A) → labels (tree_of k l kids rest) ≡ l ∷ (labels kids ++ labels rest)
+pub tree_labels : {A : Type 0} (k : NodeKind) (l : A) (kids rest : Forest A) → labels (tree_of k l kids rest) ≡ l ∷ (labels kids ++ labels rest)
 tree_labels kinds.Token l kids rest = refl
 tree_labels kinds.Group l kids rest = refl
 tree_labels kinds.Collection l kids rest = refl
@@ -133,7 +133,7 @@ module _ (at : Map) where
   fine_grown (suc depth) path many = fine_row (grown member at depth) (λ q m. fine_grown depth q m) path 0 many
 
 -- the paths of a shape differ
-shape_apart : (nodes : List NodeFacts) (r : ℕ) → IsTree nodes → HasDomain nodes r → Apart (labels (shape_of nodes r))
+pub shape_apart : (nodes : List NodeFacts) (r : ℕ) → IsTree nodes → HasDomain nodes r → Apart (labels (shape_of nodes r))
 shape_apart nodes r tree has =
     let (n, here, home) = there (λ (z : NodeFacts). z.domain ≡ r) (slice_get nodes r) has in
     let p : List ℕ = path_of nodes r in
@@ -148,7 +148,7 @@ shape_apart nodes r tree has =
 
 -- choices only take nodes away
 module _ {A : Type 0} where
-  sub_none : (xs : List A) → IsSublist [] xs
+  pub sub_none : (xs : List A) → IsSublist [] xs
   sub_none [] = ended
   sub_none (x ∷ xs) = left_out x [] xs (sub_none xs)
 
@@ -184,12 +184,12 @@ module _ {A : Type 0} where
   one_less d e c None all is = absurd (cc)
   one_less d e c (Some es) all is = all_at (Less d) es c e is all
 
-  less_after : (d e : Forest A) (cs : List ℕ) → after d cs ≡ Some e → Less d e
+  pub less_after : (d e : Forest A) (cs : List ℕ) → after d cs ≡ Some e → Less d e
   less_after d e [] is = subst (Less d) (same_Some d e is) (sub_refl (labels d))
   less_after d e (c ∷ cs) is = option_and_then_some (λ x. after x cs) (option_and_then (λ es. slice_get es c) (choices d)) e is
       (λ x one on. sub_trans (labels e) (labels x) (labels d) (less_after x e cs on) (one_less d x c (choices d) (less d) one))
 
-  settled_labels : (d : Forest A) → IsSublist (settled d) (labels d)
+  pub settled_labels : (d : Forest A) → IsSublist (settled d) (labels d)
   settled_labels Empty = ended
   settled_labels (Plain n kids rest) = taken n (settled kids ++ settled rest) (labels kids ++ labels rest) (sub_append (settled kids) (labels kids) (settled rest) (labels rest) (settled_labels kids) (settled_labels rest))
   settled_labels (Group n kids rest) = taken n (settled rest) (labels kids ++ labels rest) (sub_behind (labels kids) (settled rest) (labels rest) (settled_labels rest))

@@ -42,3 +42,5 @@ pub mod Shares
 pub mod ChoiceLaws
 pub mod Answering
 pub mod Onward
+pub mod Once
+pub mod Picking

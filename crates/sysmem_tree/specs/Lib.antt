@@ -17,3 +17,4 @@ pub mod Layout
 pub mod Prefix
 pub mod OpenGroups
 pub mod LayoutLaws
+pub mod Members

@@ -1,6 +1,7 @@
 //! What is true of trees, whoever makes them.
 
 ghost use Rattle.sysmem_tree.specs.Laws.{OnePath, ActionIsStep, SameMapSameShape, OneForest, SoundStays, ReadyStays, ForestStays, PathsInShapesDiffer, FewGroupsNest, SettledGrows, Counts, FirstGroup, SelectionsAreListed, OneIsEarlier, EarlierIsAnOrder, PrefixOfPrefix, Relabels, MapsOfLogs, InitialShape, Confluence};
+ghost use Rattle.sysmem_tree.specs.Members.{MembersStandOnce};
 
 /// Each node has one path.
 pub fn one_path()
@@ -46,6 +47,11 @@ pub fn paths_in_shapes_differ()
 /// In a shape at most 128 groups stand within each other.
 pub fn few_groups_nest()
     ensures { FewGroupsNest }
+{}
+
+/// The members of a selection are nodes of its domain, each once.
+pub fn members_stand_once()
+    ensures { MembersStandOnce }
 {}
 
 /// Choices only add to the nodes that are settled.

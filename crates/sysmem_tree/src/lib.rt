@@ -23,6 +23,7 @@ mod next_group;
 mod node;
 mod numbered;
 mod open_groups;
+mod participants;
 mod path;
 mod paths;
 mod prefix;

@@ -18,4 +18,14 @@ impl Tree {
         }
         Some(NodeId(number as usize))
     }
+
+    /// The number of a node of the tree.
+    pub fn number_of(&self, node: NodeId) -> u32
+        requires { HasNode self.now.nodes node }
+        ensures number { result ≡ node }
+        ensures few { result < 128 }
+    {
+        let _ = &self.nodes;
+        node.0 as u32
+    }
 }

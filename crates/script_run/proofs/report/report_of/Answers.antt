@@ -1,5 +1,7 @@
-use Rattle.std.proofs.Common.{◌<◌, ◌≤◌, length, map, arith}
+use Rattle.std.proofs.Common.{◌<◌, ◌≤◌, ◌++◌, length, map, ◌∙◌, ap, arith}
 use Rattle.std.specs.String.{string_bytes}
+use Rattle.sysmem_alloc.specs.Book.{BookFacts}
+use Rattle.script_run.specs.Report.{pending_lines}
 use Rattle.script_run.specs.Runner.{state_of}
 use Rattle.script_reading.specs.Seen.{call_seen}
 use Rattle.script_run.proofs.Reaching.{reaches-take, reaches-end, drop-call_seen}
@@ -14,5 +16,5 @@ loop-index-preserved c =
 pub returns : goal.returns
 returns c =
     let all : length c.args.calls.now ≤ c.loop-index.index = omega arith in
-    let put = rw c.verdict.ensures at c.in_ok-put_pending.ensures in
-    rw c.is_starved.ensures (reaches-end _ c.args.calls.now c.loop-index.index (state_of c.loop-index.runner) (string_bytes c.loop-index.text) _ all c.loop-index.invariant put)
+    rw c.is_starved.ensures (reaches-end _ c.args.calls.now c.loop-index.index (state_of c.loop-index.runner) (string_bytes c.loop-index.text) _ all c.loop-index.invariant
+    (c.in_ok-put_pending.ensures ∙ ap (λ (b : BookFacts). string_bytes c.loop-index.text ++ pending_lines b.state) c.book.ensures))

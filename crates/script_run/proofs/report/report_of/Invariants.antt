@@ -6,4 +6,4 @@ use Rattle.script_run.proofs.Reaching.{Reaches}
 use Rattle.script_run.proofs.report.report_of.Given as goal
 
 abbrev pub invariant-loop-index : goal.invariant-loop-index
-invariant-loop-index l = Reaches l.platform (map call_seen l.calls) l.index (state_of l.runner) (string_bytes l.text)
+invariant-loop-index l = Reaches l.fn.platform (map call_seen l.calls) l.index (state_of l.runner) (string_bytes l.text)

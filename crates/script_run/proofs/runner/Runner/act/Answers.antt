@@ -1,12 +1,21 @@
-use Rattle.std.proofs.Common.{◌∙◌}
 use Rattle.script_run.specs.Runner.{state_of}
+use Rattle.sysmem_tree.specs.ActionKind.{deed_of}
 use Rattle.script_run.proofs.Answering.{refused_as, accepted_as}
+use Rattle.script_run.proofs.Growing.{applied_there, there_after}
 use Rattle.script_run.proofs.runner.Runner.act.Goals as goal
 
-pub returns-in-Some : goal.returns-in-Some
-returns-in-Some c =
-    refused_as _ _ _ c.args.node c.args.action c.in-Some.refusal c.requires.named c.requires.asks c.in-Some.ensures c.in_ok-keep_name.ensures
+pub invariant_of-self : goal.invariant_of-self
+invariant_of-self c = record {
+  there = applied_there c.args.self.now.book c.apply.new.self c.args.node (deed_of c.args.action) _ c.apply.result c.args.self.now.there c.apply.ensures.accepted c.apply.ensures.unchanged;
+}
 
-pub returns : goal.returns
-returns c =
-    accepted_as _ (state_of c.enter.new.self) _ _ c.args.node c.len-made.result c.args.action c.requires.named c.requires.asks c.in_ok-enter.ensures (c.len-made.ensures ∙ c.args.self.now.nodes.ok.0) c.in_ok-keep_name-2.ensures
+pub keep_name-requires : goal.keep_name-requires
+keep_name-requires c = (there_after c.args.self.now.book.state.tree c.args.node (deed_of c.args.action) (record { tree = c.apply.new.self.state.tree; node = c.in-Ok.done.node }) c.in-Ok.ensures.accepted).there
+
+pub returns-in_ok-keep_name-in-Ok : goal.returns-in_ok-keep_name-in-Ok
+returns-in_ok-keep_name-in-Ok c =
+    accepted_as (state_of c.args.self.now) _ c.apply.new.self _ c.args.node c.in-Ok.done.node (deed_of c.args.action) c.requires.named c.requires.asks c.in-Ok.ensures.accepted c.in-Ok.ensures.entered c.in_ok-keep_name-in-Ok.ensures
+
+pub returns-in_ok-keep_name-in-Err : goal.returns-in_ok-keep_name-in-Err
+returns-in_ok-keep_name-in-Err c =
+    refused_as (state_of c.args.self.now) _ c.apply.new.self _ c.args.node (deed_of c.args.action) c.in-Err.refusal c.requires.named c.requires.asks c.in-Err.ensures.refused c.in-Err.ensures.unchanged c.in_ok-keep_name-in-Err.ensures

@@ -1,4 +1,4 @@
-use Rattle.script_run.specs.Report.{to_set_none}
+use Rattle.script_run.specs.Answer.{to_set_none}
 use Rattle.script_run.proofs.runner.Runner.set_constraints.Goals as goal
 
 pub act-requires-clause-asks : goal.act-requires-clause-asks

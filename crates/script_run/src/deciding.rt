@@ -1,0 +1,110 @@
+//! The decision of the first domain that waits, and its line.
+
+ghost use Rattle.std.specs.Prelude.{◌≡◌, Some, option_map, OnOk};
+ghost use Rattle.std.specs.Arc.{arc_value};
+ghost use Rattle.std.specs.String.{string_bytes};
+ghost use Rattle.sysmem_alloc.specs.Entry.{Decided};
+ghost use Rattle.sysmem_alloc.specs.History.{Allows};
+ghost use Rattle.sysmem_alloc.specs.Sound.{MayWait};
+ghost use Rattle.sysmem_alloc.specs.State.{next_ready};
+ghost use Rattle.sysmem_proof.specs.declared.verdict.Verdict.TheVariants as verdicts;
+ghost use Rattle.sysmem_tree.specs.Domain.{HasDomain};
+ghost use Rattle.sysmem_tree.specs.Path.{path_of};
+ghost use Rattle.script_run.specs.Deciding.{CanBeTold, HasCorner, TellsIn};
+
+use crate::domain_line::{put_chosen, put_word};
+use std::alloc::{AllocError, Global};
+use std::sync::Arc;
+use sysmem_alloc::Book;
+use sysmem_image::corner;
+use sysmem_image::laws::no_corner;
+use sysmem_proof::{Chosen, Verdict};
+use sysmem_sanitise::Platform;
+use sysmem_search::{NoGate, search};
+use sysmem_tree::{DomainId, Path};
+
+/// An optimal verdict of the first domain that waits; `None` where memory is refused.
+pub(crate) fn verdict_for(alloc: Global, book: &Book, domain: DomainId) -> Option<Arc<Verdict>>
+    requires next { next_ready book.now.state ≡ Some domain }
+    requires waits { MayWait book.now.state.tree domain }
+    ensures { Allows book.now.platform book.now.state (Decided (record {
+      domain = domain;
+      verdict = option_map (λ shared. arc_value shared) result;
+    })) }
+{
+    let Ok(base) = book.base(domain) else {
+        return None;
+    };
+    let platform = book.platform();
+    let Ok(found) = search(alloc, platform, book.tree(), domain, base.as_ref(), &NoGate) else {
+        return None;
+    };
+    let Ok(shared) = Arc::new(alloc, found.verdict) else {
+        return None;
+    };
+    Some(shared)
+}
+
+/// Puts the line of a decision that the book allows behind the text.
+pub(crate) fn put_decision(
+    text: &mut String,
+    book: &Book,
+    domain: DomainId,
+    verdict: &Option<Arc<Verdict>>,
+) -> Result<(), AllocError>
+    requires there { HasDomain book.now.state.tree.nodes domain }
+    requires allowed { Allows book.now.platform book.now.state (Decided (record {
+      domain = domain;
+      verdict = option_map (λ shared. arc_value shared) verdict.now;
+    })) }
+    ensures { OnOk result (TellsIn book.now.platform (path_of book.now.state.tree.nodes domain)
+        (option_map (λ shared. arc_value shared) verdict.now)
+        (string_bytes text.old) (string_bytes text.new)) }
+{
+    no_corner();
+    let platform = book.platform();
+    let tree = book.tree();
+    let path = tree.path_of(tree.root_of(domain))?;
+    match verdict {
+        Some(shared) => put_verdict(text, platform, &path, shared),
+        None => put_word(text, &path, "no_memory"),
+    }
+}
+
+/// Puts the line of a verdict that a decision can have behind the text.
+fn put_verdict(
+    text: &mut String,
+    platform: &Platform,
+    path: &Path,
+    verdict: &Verdict,
+) -> Result<(), AllocError>
+    requires { CanBeTold verdict.now }
+    ensures { OnOk result (TellsIn platform.now path.now (Some verdict.now)
+        (string_bytes text.old) (string_bytes text.new)) }
+{
+    match verdict {
+        Verdict::Chosen(chosen) => put_choice(text, platform, path, chosen),
+        Verdict::IntersectionEmpty => put_word(text, path, "empty"),
+        Verdict::TooMany => put_word(text, path, "too_many"),
+        Verdict::Failed => Ok(()),
+        Verdict::NoMemory => Ok(()),
+    }
+}
+
+/// Puts the line of a choice behind the text.
+fn put_choice(
+    text: &mut String,
+    platform: &Platform,
+    path: &Path,
+    chosen: &Chosen,
+) -> Result<(), AllocError>
+    requires { HasCorner chosen.now.settings }
+    ensures { OnOk result (TellsIn platform.now path.now (Some (verdicts.Chosen chosen.now))
+        (string_bytes text.old) (string_bytes text.new)) }
+{
+    let settings = chosen.settings();
+    match corner(&settings.bounds, &settings.offer) {
+        Ok(corner) => put_chosen(text, platform, path, chosen, corner),
+        Err(_) => Ok(()),
+    }
+}

@@ -1,0 +1,119 @@
+-- A pass over a layout finds the nodes of its forest in their order.
+use Rattle.std.proofs.Common.{◌≡◌, ◌≤◌, ◌<◌, ℕ, zero, suc, ◌+◌, ◌++◌, ◌==◌, ◌&&◌, Bool, true, false, List, [], ◌∷◌, Option, Some, None, length, drop, get_or, slice_get, refl, sym, ◌∙◌, ap, subst, arith, append_assoc, append-nil}
+use Rattle.std.specs.Prelude.{All, IsSomeAnd, filter, is_some, map, option_and_then, if◌then◌else◌}
+use Rattle.std.specs.List.{list_any}
+use Rattle.std.proofs.lemmas.List.Elements.{All-filter, All-weaker}
+use Rattle.std.proofs.lemmas.Option.{get_or_from_slice_get, slice_get_within}
+use Rattle.sysmem_tree.specs.declared.layout.Layout.{Layout}
+use Rattle.sysmem_tree.specs.declared.layout.Place.{Place}
+use Rattle.sysmem_tree.specs.Domain.{HasDomain}
+use Rattle.sysmem_tree.specs.Forest.{Forest, Empty, Plain, Group, relabel}
+use Rattle.sysmem_tree.specs.Laws.{labels}
+use Rattle.sysmem_tree.specs.Layout.{Spot, start, behind, AreLaid, IsLayout}
+use Rattle.sysmem_tree.specs.Members.{is_marked}
+use Rattle.sysmem_tree.specs.Node.{NodeFacts}
+use Rattle.sysmem_tree.specs.Nodes.{HasNode, IsTree}
+use Rattle.sysmem_tree.specs.Shape.{by_number, forest_of, members_of, participants_of}
+use Rattle.sysmem_tree.proofs.Numbers.{front}
+use Rattle.sysmem_tree.proofs.Once.{labels_relabel, filter_both, members_picked, members_stand_once}
+use Rattle.sysmem_tree.proofs.Places.{there}
+
+-- the nodes that stand from a place on
+abbrev pub nodes_from : List Place → ℕ → List ℕ
+nodes_from places at = map (λ p. p.node) (drop at places)
+
+-- from a place on: its node, and those behind it
+drop_at : {X : Type 0} (xs : List X) (i : ℕ) (x : X) → slice_get xs i ≡ Some x → drop i xs ≡ x ∷ drop (i + 1) xs
+drop_at [] i x here = absurd (cc)
+drop_at (y ∷ xs) zero x here = let same : y ≡ x = cc in ap (λ z. z ∷ xs) same
+drop_at (y ∷ xs) (suc i) x here =
+    let z : suc (i + 1) ≡ suc i + 1 = omega arith in
+    drop_at xs i x here ∙ ap (λ (j : ℕ). x ∷ drop j (y ∷ xs)) z
+
+abbrev node_at : Spot → ℕ
+node_at s = s.node
+
+-- a part of a layout holds the nodes of what is laid out there
+module _ (ps : List Place) where
+  stand_at : (s : Spot) (p : Place) (kids rest : Forest Spot) (to : ℕ) → slice_get ps s.place ≡ Some p → p.node ≡ s.node → start kids (start rest to) ≡ s.place + 1
+      → nodes_from ps (start kids (start rest to)) ≡ labels (relabel node_at kids) ++ nodes_from ps (start rest to) → nodes_from ps (start rest to) ≡ labels (relabel node_at rest) ++ nodes_from ps to
+      → nodes_from ps s.place ≡ s.node ∷ ((labels (relabel node_at kids) ++ labels (relabel node_at rest)) ++ nodes_from ps to)
+  stand_at s p kids rest to here node next below behind' =
+      ap (map (λ (q : Place). q.node)) (drop_at ps s.place p here)
+      ∙ (ap (λ (n : ℕ). n ∷ nodes_from ps (s.place + 1)) node
+      ∙ ap (λ ns. s.node ∷ ns) (ap (nodes_from ps) (sym next) ∙ (below ∙ (ap (λ ns. labels (relabel node_at kids) ++ ns) behind' ∙ sym (append_assoc (labels (relabel node_at kids)) (labels (relabel node_at rest)) (nodes_from ps to))))))
+
+  stand : (g : Bool) (w : Forest Spot) (to : ℕ) (next : Option ℕ) → AreLaid g ps w to next → nodes_from ps (start w to) ≡ labels (relabel node_at w) ++ nodes_from ps to
+  stand g Empty to next l = refl
+  stand g (Plain s kids rest) to next l = stand_at s _ kids rest to l.0.here refl l.0.kids_here (stand false kids (start rest to) (behind g rest next) l.1) (stand g rest to next l.2)
+  stand g (Group s kids rest) to next l = stand_at s _ kids rest to l.0.here refl l.0.kids_here (stand true kids (start rest to) (behind g rest next) l.1) (stand g rest to next l.2)
+
+past_end : {X : Type 0} (xs : List X) (k : ℕ) → length xs ≤ k → drop k xs ≡ []
+past_end [] zero more = refl
+past_end [] (suc k) more = refl
+past_end (x ∷ xs) zero more = absurd (omega (arith, more))
+past_end (x ∷ xs) (suc k) more = past_end xs k (omega (arith, more))
+
+-- the nodes of a layout are those of its forest
+pub all_of_layout : (layout : Layout) (d : Forest ℕ) → length layout.places ≡ 128 → IsLayout layout d → nodes_from layout.places layout.start ≡ labels d
+all_of_layout layout d long is =
+    ap (nodes_from layout.places) (sym is.starts) ∙ (stand layout.places false is.spots 128 None is.laid
+    ∙ (ap (λ ps. labels (relabel node_at is.spots) ++ map (λ (q : Place). q.node) ps) (past_end layout.places 128 (omega (arith, long)))
+    ∙ (append-nil (labels (relabel node_at is.spots)) ∙ ap labels is.numbers)))
+
+-- those that are marked as members and have constraints are the participants
+pub marked_participants : (nodes : List NodeFacts) (r : ℕ) (cs : List ℕ) (marks : List Bool) → IsTree nodes → HasDomain nodes r → ((k : ℕ) → get_or marks k false ≡ list_any (λ m. m == k) (members_of nodes r cs))
+    → filter (is_marked nodes marks) (labels (forest_of by_number nodes r [])) ≡ participants_of nodes r cs
+marked_participants nodes r cs marks tree has marked =
+    let asks : ℕ → Bool = λ i. is_some (option_and_then (λ (n : NodeFacts). n.constraints) (slice_get nodes i)) in
+    filter_both (λ i. get_or marks i false) asks (labels (forest_of by_number nodes r []))
+    ∙ ap (filter asks) (agree (labels (forest_of by_number nodes r [])) ∙ members_picked nodes r cs tree has) where
+      agree : (xs : List ℕ) → filter (λ i. get_or marks i false) xs ≡ filter (λ i. list_any (λ m. m == i) (members_of nodes r cs)) xs
+      agree [] = refl
+      agree (x ∷ xs) = ap (λ b. if b then x ∷ filter (λ i. get_or marks i false) xs else filter (λ i. get_or marks i false) xs) (marked x)
+          ∙ ap (λ ys. if list_any (λ m. m == x) (members_of nodes r cs) then x ∷ ys else ys) (agree xs)
+
+-- a pass: what is kept so far, and those that will be kept of what is left
+pub record IsOnTheWay (test : ℕ → Bool) (places : List Place) (from at : ℕ) (kept : List ℕ) : Type 0 where
+  pub long : length places ≡ 128
+  pub all : kept ++ filter test (nodes_from places at) ≡ filter test (nodes_from places from)
+
+step : (test : ℕ → Bool) (places : List Place) (at : ℕ) (d : Place) → at < length places
+    → filter test (nodes_from places at) ≡ (if test (get_or places at d).node then (get_or places at d).node ∷ filter test (nodes_from places (at + 1)) else filter test (nodes_from places (at + 1)))
+step test places at d less =
+    let (p, here, _) = front places at less in
+    let same : p ≡ get_or places at d = sym (get_or_from_slice_get places at p d here) in
+    subst (λ (q : Place). filter test (nodes_from places at) ≡ (if test q.node then q.node ∷ filter test (nodes_from places (at + 1)) else filter test (nodes_from places (at + 1)))) same
+    (ap (λ qs. filter test (map (λ (q : Place). q.node) qs)) (drop_at places at p here))
+
+-- one node is kept
+pub kept_on : (test : ℕ → Bool) (places : List Place) (from at : ℕ) (kept : List ℕ) (d : Place) (n : ℕ) → at < length places → n ≡ (get_or places at d).node → test n ≡ true → IsOnTheWay test places from at kept
+    → IsOnTheWay test places from (at + 1) (kept ++ n ∷ [])
+kept_on test places from at kept d n less is passes way = record {
+  long = way.long;
+  all = append_assoc kept (n ∷ []) (filter test (nodes_from places (at + 1)))
+      ∙ (ap (λ xs. kept ++ xs) (sym (step test places at d less ∙ by)) ∙ way.all);
+} where
+  by : (if test (get_or places at d).node then (get_or places at d).node ∷ filter test (nodes_from places (at + 1)) else filter test (nodes_from places (at + 1))) ≡ n ∷ filter test (nodes_from places (at + 1))
+  by = subst (λ (k : ℕ). (if test k then k ∷ filter test (nodes_from places (at + 1)) else filter test (nodes_from places (at + 1))) ≡ n ∷ filter test (nodes_from places (at + 1))) is
+      (ap (λ b. if b then n ∷ filter test (nodes_from places (at + 1)) else filter test (nodes_from places (at + 1))) passes)
+
+-- or passed over
+pub passed_on : (test : ℕ → Bool) (places : List Place) (from at : ℕ) (kept : List ℕ) (d : Place) (n : ℕ) → at < length places → n ≡ (get_or places at d).node → test n ≡ false → IsOnTheWay test places from at kept
+    → IsOnTheWay test places from (at + 1) kept
+passed_on test places from at kept d n less is fails way = record { long = way.long; all = ap (λ xs. kept ++ xs) (sym (step test places at d less ∙ by)) ∙ way.all } where
+  by : (if test (get_or places at d).node then (get_or places at d).node ∷ filter test (nodes_from places (at + 1)) else filter test (nodes_from places (at + 1))) ≡ filter test (nodes_from places (at + 1))
+  by = subst (λ (k : ℕ). (if test k then k ∷ filter test (nodes_from places (at + 1)) else filter test (nodes_from places (at + 1))) ≡ filter test (nodes_from places (at + 1))) is
+      (ap (λ b. if b then n ∷ filter test (nodes_from places (at + 1)) else filter test (nodes_from places (at + 1))) fails)
+
+-- at the end all is kept
+pub all_kept : (test : ℕ → Bool) (places : List Place) (from at : ℕ) (kept : List ℕ) → 128 ≤ at → IsOnTheWay test places from at kept → kept ≡ filter test (nodes_from places from)
+all_kept test places from at kept more way =
+    sym (append-nil kept) ∙ (ap (λ (qs : List Place). kept ++ filter test (map (λ (q : Place). q.node) qs)) (sym (past_end places at (omega (arith, more, way.long)))) ∙ way.all)
+
+-- and they are nodes of the tree
+pub participants_there : (nodes : List NodeFacts) (r : ℕ) (cs : List ℕ) → IsTree nodes → HasDomain nodes r → All (HasNode nodes) (participants_of nodes r cs)
+participants_there nodes r cs tree has =
+    All-filter (λ i. is_some (option_and_then (λ (n : NodeFacts). n.constraints) (slice_get nodes i))) (HasNode nodes) (members_of nodes r cs)
+    (All-weaker (λ i. IsSomeAnd (slice_get nodes i) (λ (n : NodeFacts). n.domain ≡ r)) (HasNode nodes)
+    (λ i own. let (n, here, _) = there (λ (z : NodeFacts). z.domain ≡ r) (slice_get nodes i) own in slice_get_within nodes i n here) (members_of nodes r cs) (members_stand_once nodes r cs tree has).own)
