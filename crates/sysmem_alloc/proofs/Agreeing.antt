@@ -1,11 +1,11 @@
 -- The decisions of a legal history agree with its tree.
-use Rattle.std.proofs.Common.{◌≡◌, ◌≢◌, ◌≤◌, ◌<◌, ℕ, zero, suc, ◌+◌, ◌==◌, Bool, true, false, List, [], ◌∷◌, ◌++◌, length, Option, Some, None, Result, Ok, Err, slice_get, refl, sym, ◌∙◌, ap, subst, arith, rules, tests, inl, inr, eq-eqb}
-use Rattle.std.specs.Prelude.{◌^◌, IsOk, IsSome, IfSome, IsSomeAnd, filter, map, is_some, option_map, option_and_then, if◌then◌else◌}
+use Rattle.std.proofs.Common.{◌≡◌, ◌≢◌, ℕ, zero, suc, ◌+◌, ◌==◌, Bool, true, false, List, [], ◌∷◌, ◌++◌, Option, Some, None, Result, Ok, Err, slice_get, refl, sym, ◌∙◌, ap, subst, arith, inl, inr, eq-eqb}
+use Rattle.std.specs.Prelude.{IsOk, IfSome, IsSomeAnd, filter, map, is_some, option_map, option_and_then, if◌then◌else◌}
 use Rattle.std.proofs.lemmas.Bool.{cases_eq, ne_eqb}
 use Rattle.std.proofs.lemmas.List.{map-append}
 use Rattle.std.proofs.lemmas.Option.{same_Some, slice_get_within}
 use Rattle.sysmem_merge.specs.declared.settings.Settings.{Settings}
-use Rattle.sysmem_merge.specs.Settings.{Meets, MeetsLoosely}
+use Rattle.sysmem_merge.specs.Settings.{MeetsLoosely}
 use Rattle.sysmem_proof.specs.declared.verdict.Verdict.{Verdict}
 use Rattle.sysmem_proof.specs.declared.verdict.Verdict.TheVariants as verdicts
 use Rattle.sysmem_proof.specs.Base.{BaseFacts}
@@ -16,10 +16,10 @@ use Rattle.sysmem_tree.specs.declared.domain.Decision.TheVariants.{Undecided, Ch
 use Rattle.sysmem_tree.specs.declared.domain.Domain.{Domain}
 use Rattle.sysmem_tree.specs.declared.refusal.Refusal.{Refusal}
 use Rattle.sysmem_tree.specs.ActionKind.{Deed, kind_of}
-use Rattle.sysmem_tree.specs.Domain.{TreeFacts, HasDomain, AreDomains, decision_of, host_node, is_chosen, is_ready, is_undecided, roots_from}
+use Rattle.sysmem_tree.specs.Domain.{TreeFacts, HasDomain, AreDomains, decision_of, host_node, is_undecided, roots_from}
 use Rattle.sysmem_tree.specs.Forest.{Forest, relabel}
 use Rattle.sysmem_tree.specs.History as trees
-use Rattle.sysmem_tree.specs.Laws.{ForestStays, OneForest, AreOneForest, IsSameDomain}
+use Rattle.sysmem_tree.specs.Laws.{ForestStays, OneForest, IsSameDomain}
 use Rattle.sysmem_tree.specs.Node.{NodeFacts}
 use Rattle.sysmem_tree.specs.Selection.{IsSelection}
 use Rattle.sysmem_tree.specs.Shape.{Member, by_number, forest_of}
@@ -29,14 +29,13 @@ use Rattle.sysmem_alloc.specs.Decision.{Decision, choices_of, decision_for, sett
 use Rattle.sysmem_alloc.specs.Entry.{BookEntry, Acted, Decided}
 use Rattle.sysmem_alloc.specs.History.{after_answer, after_entry, replay_from, replay, Allows, AreAllowed, IsLegal}
 use Rattle.sysmem_alloc.specs.Laws.{LegalIsSound, LegalAgrees}
-use Rattle.sysmem_alloc.specs.Sound.{AgreesWithTree, AllOf, AreApart, AreSettingsOn, IsDecisionOn, IsOfReady, IsSoundState, MayWait, roots_of, standing_of}
-use Rattle.sysmem_alloc.specs.State.{State, first_state, after_action, after_decision, base_of, chosen_in, is_open, kept_for, open_in}
-use Rattle.sysmem_alloc.proofs.Accepting.{accepted}
+use Rattle.sysmem_alloc.specs.Sound.{AgreesWithTree, AllOf, AreApart, AreSettingsOn, IsDecisionOn, IsOfReady, IsSoundState, roots_of, standing_of}
+use Rattle.sysmem_alloc.specs.State.{State, first_state, after_action, base_of, chosen_in, is_open, kept_for, open_in}
+use Rattle.sysmem_tree.proofs.CallerLemmas.{accepted, decision_acted, decision_by}
 use Rattle.sysmem_alloc.proofs.Choosing.{same_chosen}
 use Rattle.sysmem_alloc.proofs.Entering.{allowed_push, replay_push}
 use Rattle.sysmem_alloc.proofs.Lists.{all_append, all_weaken, apart_append}
-use Rattle.sysmem_alloc.proofs.Stepping.{accepts, may_decide, selects}
-use Rattle.sysmem_alloc.proofs.Trees.{acted_decision, decided_decision}
+use Rattle.sysmem_alloc.proofs.Stepping.{accepts, selects}
 
 -- who passes a test is some of all
 sub_filter : (p : ℕ → Bool) (xs : List ℕ) → IsSublist (filter p xs) xs
@@ -206,7 +205,7 @@ module _ (stays : ForestStays) (one : OneForest) (platform : PlatformFacts) wher
       let let_in : IsOk (applied s.tree i deed) = subst IsOk (sym is) refl in
       let same = decided_stay s (trees.Acted i deed) made.tree (ap (trees.after_answer s.tree) is) sound let_in in
       record {
-        standing = λ r. subst (λ (x : TreeFacts). decision_of x.domains r ≡ decision_of s.tree.domains r) ok.tree (acted_decision s.tree n (kind_of deed) r) ∙ agrees.standing r;
+        standing = λ r. subst (λ (x : TreeFacts). decision_of x.domains r ≡ decision_of s.tree.domains r) ok.tree (decision_acted s.tree n r (kind_of deed)) ∙ agrees.standing r;
         once = agrees.once;
         chosen = all_still s made.tree agrees same;
         accepted = still_accepted s.tree.nodes made.tree.nodes s.decisions s.waiting s.accepted (same_chosen s.tree.nodes made.tree.nodes s.decisions (one s.tree.nodes) same) agrees.accepted;
@@ -228,7 +227,7 @@ module _ (stays : ForestStays) (one : OneForest) (platform : PlatformFacts) wher
         standing = λ r. elim (cases_eq r d.domain) [
           | inl is ↦ subst (λ k. decision_of u.domains k ≡ standing_of (decision_for (s.decisions ++ d ∷ []) k)) (sym is)
               (decided_own s.tree d.domain (choices_of d.verdict) sound.tree.domains fine.there ∙ ap standing_of (sym (entered_last s.decisions d none)))
-          | inr other ↦ decided_decision s.tree d.domain (choices_of d.verdict) r other ∙ (agrees.standing r ∙ ap standing_of (sym (entered_other s.decisions d r other)))
+          | inr other ↦ decision_by s.tree d.domain r (choices_of d.verdict) other ∙ (agrees.standing r ∙ ap standing_of (sym (entered_other s.decisions d r other)))
         ];
         once = subst AreApart (sym (map-append (λ (x : Decision). x.domain) s.decisions (d ∷ []))) (apart_append (map (λ (x : Decision). x.domain) s.decisions) (d.domain ∷ []) agrees.once (tt, tt)
             (apart_last s.decisions (none_entered s.decisions d.domain none)));

@@ -15,7 +15,7 @@ use Rattle.sysmem_alloc.specs.Decision.{Decision, choices_of}
 use Rattle.sysmem_alloc.specs.Entry.{constraints_at}
 use Rattle.sysmem_alloc.specs.Sound.{AllOf}
 use Rattle.sysmem_alloc.specs.State.{chosen_by, chosen_in}
-use Rattle.sysmem_alloc.proofs.Relabelled.{after_relabel, settled_relabel}
+use Rattle.sysmem_tree.proofs.CallerLemmas.{after_relabel, settled_relabel}
 
 all_mapped : {X Y : Type 0} (P : X → Type 0) (Q : Y → Type 0) (f : X → Y) (xs : List X) → ((x : X) → P x → Q (f x)) → AllOf P xs → AllOf Q (map f xs)
 all_mapped P Q f [] h all = tt

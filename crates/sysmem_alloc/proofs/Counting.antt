@@ -23,7 +23,7 @@ use Rattle.sysmem_alloc.specs.Entry.{BookEntry, Acted, Decided}
 use Rattle.sysmem_alloc.specs.History.{after_answer, after_entry, replay_from, replay, Allows, AreAllowed, IsLegal}
 use Rattle.sysmem_alloc.specs.Sound.{IsSoundState, roots_of}
 use Rattle.sysmem_alloc.specs.State.{State, first_state}
-use Rattle.sysmem_alloc.proofs.Accepting.{accepted}
+use Rattle.sysmem_tree.proofs.CallerLemmas.{accepted}
 use Rattle.sysmem_alloc.proofs.Trees.{few_domains}
 
 abbrev one : Bool → ℕ

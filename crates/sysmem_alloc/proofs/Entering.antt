@@ -23,7 +23,7 @@ use Rattle.sysmem_alloc.specs.Laws.{LegalIsSound}
 use Rattle.sysmem_alloc.specs.Marks.{ready_at, ready_unmarked}
 use Rattle.sysmem_alloc.specs.Sound.{AllOf, IsOfReady, IsSoundState, roots_of}
 use Rattle.sysmem_alloc.specs.State.{State, first_state, newly_ready, is_open, chosen_in, open_in, kept_for}
-use Rattle.sysmem_alloc.proofs.Accepting.{accepted}
+use Rattle.sysmem_tree.proofs.CallerLemmas.{accepted}
 use Rattle.sysmem_alloc.proofs.Choosing.{same_chosen, same_filter}
 use Rattle.sysmem_alloc.proofs.Counting.{few_waiting}
 use Rattle.sysmem_alloc.proofs.Lists.{all_each, all_weaken}

@@ -1,23 +1,21 @@
 -- What the domain that is to be decided next is decided on is a base for it.
-use Rattle.std.proofs.Common.{◌≡◌, ◌≢◌, ◌≤◌, ◌<◌, ℕ, zero, suc, ◌+◌, ◌&&◌, Bool, true, false, List, [], ◌∷◌, ◌++◌, length, Option, Some, None, slice_get, refl, sym, ◌∙◌, ap, subst, arith}
-use Rattle.std.specs.Prelude.{All, AllPairs, IfSome, IsSome, IsSomeAnd, filter, is_some, map, not, option_map, option_and_then, unwrap_or, if◌then◌else◌}
+use Rattle.std.proofs.Common.{◌≡◌, ◌≢◌, ◌<◌, ℕ, zero, suc, ◌+◌, ◌&&◌, Bool, true, List, [], ◌∷◌, ◌++◌, length, Option, Some, None, slice_get, refl, sym, ◌∙◌, ap, subst, arith}
+use Rattle.std.specs.Prelude.{All, AllPairs, IfSome, IsSome, IsSomeAnd, is_some, map, not, option_map, option_and_then, unwrap_or, if◌then◌else◌}
 use Rattle.std.proofs.lemmas.List.Concat.{flat_map-cons}
 use Rattle.std.proofs.lemmas.List.Elements.{All-append, All-cons, All-filter, All-nil, All-weaker, All-head, All-tail}
 use Rattle.std.proofs.lemmas.List.Kept.{AllPairs-cons, AllPairs-filter}
-use Rattle.std.proofs.lemmas.Option.{same_Some}
 use Rattle.list_lemmas.proofs.CallerLemmas.{and_parts}
 use Rattle.sysmem_merge.specs.declared.settings.Settings.{Settings}
 use Rattle.sysmem_proof.specs.declared.verdict.Verdict.{Verdict}
 use Rattle.sysmem_proof.specs.declared.verdict.Verdict.TheVariants as verdicts
 use Rattle.sysmem_tree.specs.declared.domain.Decision.TheVariants.{Chosen, NoneChosen}
-use Rattle.sysmem_proof.specs.Base.{BaseFacts, IsBase, IsElsewhere, IsGivenBase}
+use Rattle.sysmem_proof.specs.Base.{IsBase, IsElsewhere, IsGivenBase}
 use Rattle.sysmem_sanitise.specs.Platform.{PlatformFacts}
 use Rattle.sysmem_tree.specs.declared.node.Birth.{Birth}
 use Rattle.sysmem_tree.specs.Domain.{TreeFacts, HasDomain, decision_of, has_failed, host_node, host_number, is_chosen, is_complete, is_host_selected, is_ready}
-use Rattle.sysmem_tree.specs.Members.{AreItsNodes, MembersStandOnce}
+use Rattle.sysmem_tree.specs.Members.{MembersStandOnce}
 use Rattle.sysmem_tree.specs.Node.{NodeFacts}
 use Rattle.sysmem_tree.specs.Nodes.{IsTree}
-use Rattle.sysmem_tree.specs.Path.{birth_of}
 use Rattle.sysmem_tree.specs.Forest.{Forest}
 use Rattle.sysmem_tree.specs.Selection.{IsPrefix, IsSelection}
 use Rattle.sysmem_tree.specs.Shape.{by_number, forest_of, members_of, participants_of}
@@ -25,7 +23,6 @@ use Rattle.sysmem_tree.specs.Sublist.{IsSublist, ended, taken, left_out}
 use Rattle.sysmem_alloc.specs.Accepted.{IsChosenIn}
 use Rattle.sysmem_alloc.specs.Book.{BookFacts, IsBook}
 use Rattle.sysmem_alloc.specs.Decision.{Decision, choices_of, decision_for, settings_for, settings_of}
-use Rattle.sysmem_alloc.specs.Entry.{constraints_at}
 use Rattle.sysmem_alloc.specs.History.{replay}
 use Rattle.sysmem_alloc.specs.Laws.{BaseIsGiven, LegalAgrees, LegalIsSound}
 use Rattle.sysmem_alloc.specs.Sound.{AgreesWithTree, AllOf, AreApart, AreSettingsOn, IsDecisionOn, IsOfReady, IsSoundState, MayWait, standing_of}
@@ -34,7 +31,7 @@ use Rattle.sysmem_alloc.proofs.Agreeing.{none_entered, none_for, settings_fit}
 use Rattle.sysmem_alloc.proofs.Entering.{state_sound}
 use Rattle.sysmem_alloc.proofs.Hosts.{parent_within}
 use Rattle.sysmem_alloc.proofs.Lists.{all_weaken}
-use Rattle.sysmem_alloc.proofs.Next.{first_waits, within}
+use Rattle.sysmem_alloc.proofs.Next.{all_sub, first_waits, within}
 
 -- the first of those who wait may
 pub next_waits : LegalIsSound → (b : BookFacts) → IsBook b → IfSome (next_ready b.state) (MayWait b.state.tree)
@@ -147,12 +144,6 @@ module _ (law : MembersStandOnce) (nodes : List NodeFacts) (tree : IsTree nodes)
         others : (es : List Decision) → AllOf (λ y. d.domain ≢ y) (map (λ (e : Decision). e.domain) es) → AllOf (λ (e : Decision). e.domain ≢ d.domain) es
         others [] a = tt
         others (e ∷ es) a = ((λ same. a.0 (sym same)), others es a.1)
-
--- what all have, some of them have
-all_sub : (P : ℕ → Type 0) (xs ys : List ℕ) → IsSublist xs ys → All P ys → All P xs
-all_sub P _ _ ended all = all
-all_sub P _ _ (taken x xs ys p) all = All-cons P x xs (All-head P x ys all) (all_sub P xs ys p (All-tail P x ys all))
-all_sub P _ _ (left_out x xs ys p) all = all_sub P xs ys p (All-tail P x ys all)
 
 pairs_rest : (x : ℕ) (xs : List ℕ) → AllPairs (λ i j. i ≢ j) (x ∷ xs) → All (λ j. x ≢ j) xs × AllPairs (λ i j. i ≢ j) xs
 pairs_rest x xs all = ((λ k d small. all 0 (suc k) d (omega arith) (omega (arith, small))), (λ i j d less small. all (suc i) (suc j) d (omega (arith, less)) (omega (arith, small))))

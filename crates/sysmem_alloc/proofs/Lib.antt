@@ -1,4 +1,3 @@
-pub mod Accepting
 pub mod Lists
 pub mod Trees
 pub mod Advance
@@ -17,4 +16,5 @@ pub mod Next
 pub mod Agreeing
 pub mod GivenBases
 pub mod Gathering
+pub mod Lasting
 pub mod CallerLemmas

@@ -1,22 +1,35 @@
 -- The domain that is to be decided next stays so.
 use Rattle.std.proofs.Common.{◌≡◌, ℕ, List, [], ◌∷◌, ◌++◌, ◌<◌, length, Option, Some, None, Result, Ok, Err, slice_get, refl, sym, ◌∙◌, ap, subst}
-use Rattle.std.specs.Prelude.{IsOk, IsSomeAnd}
+use Rattle.std.specs.Prelude.{All, IfSome, IsOk, IsSomeAnd, is_some, option_and_then, option_map, unwrap_or}
+use Rattle.std.specs.List.{cons_option}
+use Rattle.std.proofs.lemmas.List.Concat.{flat_map-cons}
+use Rattle.std.proofs.lemmas.List.Elements.{All-append, All-cons, All-filter, All-head, All-nil, All-tail}
 use Rattle.std.proofs.lemmas.Option.{same_Some, slice_get_within}
+use Rattle.sysmem_merge.specs.declared.settings.Settings.{Settings}
+use Rattle.sysmem_proof.specs.declared.verdict.Verdict.{Verdict}
+use Rattle.sysmem_proof.specs.Base.{BaseFacts, terms_of}
+use Rattle.sysmem_proof.specs.Members.{members_at}
+use Rattle.sysmem_proof.specs.Verdict.{IsOptimalFor, IsOptimalIn}
 use Rattle.sysmem_sanitise.specs.Platform.{PlatformFacts}
 use Rattle.sysmem_tree.specs.declared.refusal.Refusal.{Refusal}
 use Rattle.sysmem_tree.specs.ActionKind.{Deed}
-use Rattle.sysmem_tree.specs.Domain.{TreeFacts, HasDomain}
+use Rattle.sysmem_tree.specs.Domain.{TreeFacts, HasDomain, host_node}
 use Rattle.sysmem_tree.specs.Node.{NodeFacts}
 use Rattle.sysmem_tree.specs.Nodes.{IsTree}
 use Rattle.sysmem_tree.specs.History as trees
 use Rattle.sysmem_tree.specs.Laws.{ForestStays, IsSameDomain}
+use Rattle.sysmem_tree.specs.Members.{MembersStay, shown_at}
+use Rattle.sysmem_tree.specs.Shape.{Member, members_of, participants_of, shape_of}
+use Rattle.sysmem_tree.specs.Sublist.{IsSublist, ended, taken, left_out}
 use Rattle.sysmem_tree.specs.Tree.{Applied, applied}
-use Rattle.sysmem_alloc.specs.Entry.{BookEntry, Acted}
-use Rattle.sysmem_alloc.specs.History.{after_answer, after_entry, replay, Allows, IsLegal}
-use Rattle.sysmem_alloc.specs.Laws.{LegalIsSound, NextStays, StaysNext}
-use Rattle.sysmem_alloc.specs.Sound.{AllOf, MayWait}
-use Rattle.sysmem_alloc.specs.State.{State, next_ready, newly_ready, open_in, kept_for, after_action}
-use Rattle.sysmem_alloc.proofs.Accepting.{accepted}
+use Rattle.sysmem_alloc.specs.Decision.{Decision, choices_of, settings_for}
+use Rattle.sysmem_alloc.specs.Entry.{Acted}
+use Rattle.sysmem_alloc.specs.History.{after_answer, replay}
+use Rattle.sysmem_alloc.specs.Laws.{LegalAgrees, LegalIsSound, NextStays, StaysNext}
+use Rattle.sysmem_alloc.specs.Sound.{AllOf, IsOfReady, IsSoundState, MayWait}
+use Rattle.sysmem_alloc.specs.State.{State, first_state, next_ready, newly_ready, base_of, chosen_by, chosen_in, open_in, kept_for, after_action}
+use Rattle.sysmem_tree.proofs.CallerLemmas.{accepted}
+use Rattle.sysmem_alloc.proofs.Entering.{allowed_push, replay_push}
 use Rattle.sysmem_alloc.proofs.Hosts.{base_stays}
 
 still_first : (waiting more : List ℕ) (r : ℕ) → slice_get waiting 0 ≡ Some r → slice_get (waiting ++ more) 0 ≡ Some r
@@ -37,23 +50,86 @@ within nodes r has = by (slice_get nodes r) refl has where
   by None is h = absurd h
   by (Some n) is h = slice_get_within nodes r n is
 
-stays_at : (s : State) (i : ℕ) (deed : Deed) (r : ℕ) → IsTree s.tree.nodes → MayWait s.tree r → (trees.Accepts s.tree (trees.Acted i deed)) → next_ready s ≡ Some r
-    → IsSameDomain s.tree.nodes (trees.after_answer s.tree (applied s.tree i deed)).nodes r → (o : Result Applied Refusal) → applied s.tree i deed ≡ o → StaysNext s (after_answer s o) r
-stays_at s i deed r tree waits ok first same (Err refusal) is = absurd (not_refused (applied s.tree i deed) refusal ok is) where
+-- what all have, some of them have
+pub all_sub : (P : ℕ → Type 0) (xs ys : List ℕ) → IsSublist xs ys → All P ys → All P xs
+all_sub P _ _ ended all = all
+all_sub P _ _ (taken x xs ys p) all = All-cons P x xs (All-head P x ys all) (all_sub P xs ys p (All-tail P x ys all))
+all_sub P _ _ (left_out x xs ys p) all = all_sub P xs ys p (All-tail P x ys all)
+
+-- who was chosen shows what it did
+chosen_shown : MembersStay → (old new : List NodeFacts) → IsTree old → IsTree new → (ds : List Decision)
+    → AllOf (λ (d : Decision). HasDomain old d.domain × HasDomain new d.domain × IsSameDomain old new d.domain) ds → All (λ i. shown_at new i ≡ shown_at old i) (chosen_in old ds)
+chosen_shown law old new tree tree' [] all = All-nil (λ i. shown_at new i ≡ shown_at old i)
+chosen_shown law old new tree tree' (d ∷ ds) all = subst (All (λ i. shown_at new i ≡ shown_at old i)) (sym (flat_map-cons (chosen_by old) d ds))
+    (All-append (λ i. shown_at new i ≡ shown_at old i) (chosen_by old d) (chosen_in old ds) (by (choices_of d.verdict)) (chosen_shown law old new tree tree' ds all.1)) where
+      by : (o : Option (List ℕ)) → All (λ i. shown_at new i ≡ shown_at old i) (unwrap_or (option_map (participants_of old d.domain) o) [])
+      by None = All-nil (λ i. shown_at new i ≡ shown_at old i)
+      by (Some cs) = All-filter (λ i. is_some (option_and_then (λ (n : NodeFacts). n.constraints) (slice_get old i))) (λ i. shown_at new i ≡ shown_at old i) (members_of old d.domain cs)
+          (law old new d.domain cs tree tree' all.0.0 all.0.1 all.0.2)
+
+same_members : (old new : List NodeFacts) (ns : List ℕ) → All (λ i. shown_at new i ≡ shown_at old i) ns → members_at new ns ≡ members_at old ns
+same_members old new [] all = refl
+same_members old new (n ∷ ns) all = ap (λ o. cons_option o (members_at new ns)) (All-head (λ i. shown_at new i ≡ shown_at old i) n ns all)
+    ∙ ap (cons_option (shown_at old n)) (same_members old new ns (All-tail (λ i. shown_at new i ≡ shown_at old i) n ns all))
+
+-- a base that a state gives has its accepted participants
+has_accepted : (s : State) (r : ℕ) → IfSome (base_of s r) (λ (b : BaseFacts). b.accepted ≡ s.accepted)
+has_accepted s r = by (host_node s.tree.nodes r) where
+  with' : (o : Option Settings) → IfSome (option_map (λ (settings : Settings). record { settings = settings; accepted = s.accepted }) o) (λ (b : BaseFacts). b.accepted ≡ s.accepted)
+  with' None = tt
+  with' (Some t) = refl
+
+  by : (o : Option NodeFacts)
+      → IfSome (option_and_then (λ (host : NodeFacts). option_map (λ (settings : Settings). record { settings = settings; accepted = s.accepted }) (settings_for s.decisions host.domain)) o)
+      (λ (b : BaseFacts). b.accepted ≡ s.accepted)
+  by None = tt
+  by (Some host) = with' (settings_for s.decisions host.domain)
+
+same_terms : (old new : List NodeFacts) (acc : List ℕ) (o : Option BaseFacts) → IfSome o (λ b. b.accepted ≡ acc) → members_at new acc ≡ members_at old acc → option_map (terms_of new) o ≡ option_map (terms_of old) o
+same_terms old new acc None has same = refl
+same_terms old new acc (Some b) has same =
+    ap (λ (ms : List Member). Some (record { settings = b.settings; accepted = ms })) (ap (members_at new) has ∙ (same ∙ ap (members_at old) (sym has)))
+
+-- what is optimal for a domain stays so where its shape and its terms do
+still_optimal : (platform : PlatformFacts) (s u : State) (r : ℕ) (v : Verdict) → base_of u r ≡ base_of s r → shape_of u.tree.nodes r ≡ shape_of s.tree.nodes r
+    → option_map (terms_of u.tree.nodes) (base_of s r) ≡ option_map (terms_of s.tree.nodes) (base_of s r) → IsOptimalIn platform s.tree.nodes r (base_of s r) v → IsOptimalIn platform u.tree.nodes r (base_of u r) v
+still_optimal platform s u r v base shape terms h =
+    subst (λ t. IsOptimalFor platform t (shape_of u.tree.nodes r) v) (sym (ap (option_map (terms_of u.tree.nodes)) base ∙ terms))
+    (subst (λ d. IsOptimalFor platform (option_map (terms_of s.tree.nodes) (base_of s r)) d v) (sym shape) h)
+
+-- of the decisions before an action and after it
+each_stays : (old new : TreeFacts) (ds : List Decision) → AllOf (IsOfReady old) ds → AllOf (IsOfReady new) ds → ((d : Decision) → IsOfReady old d → IsSameDomain old.nodes new.nodes d.domain)
+    → AllOf (λ (d : Decision). HasDomain old.nodes d.domain × HasDomain new.nodes d.domain × IsSameDomain old.nodes new.nodes d.domain) ds
+each_stays old new [] a b same = tt
+each_stays old new (d ∷ ds) a b same = ((a.0.there, b.0.there, same d a.0), each_stays old new ds a.1 b.1 same)
+
+stays_at : MembersStay → ForestStays → (s : State) (i : ℕ) (deed : Deed) (r : ℕ) → IsSoundState s → IsSublist s.accepted (chosen_in s.tree.nodes s.decisions) → MayWait s.tree r
+    → trees.Accepts s.tree (trees.Acted i deed) → next_ready s ≡ Some r
+    → IsSameDomain s.tree.nodes (trees.after_answer s.tree (applied s.tree i deed)).nodes r → (o : Result Applied Refusal) → applied s.tree i deed ≡ o → IsSoundState (after_answer s o) → StaysNext s (after_answer s o) r
+stays_at law stays s i deed r sound some waits ok first same (Err refusal) is later = absurd (not_refused (applied s.tree i deed) refusal ok is) where
   not_refused : (o : Result Applied Refusal) (refusal : Refusal) → IsOk o → o ≡ Err refusal → ⊥
   not_refused (Ok made) refusal h e = absurd (cc)
   not_refused (Err other) refusal h e = absurd (cc)
-stays_at s i deed r tree waits ok first same (Ok made) is =
+stays_at law stays s i deed r sound some waits ok first same (Ok made) is later =
     let (n, fine) = accepted s.tree i deed made is in
     let kept = still_kept s.waiting s.accepted (open_in made.tree.nodes s.decisions) r first in
+    let own = subst (λ o. IsSameDomain s.tree.nodes (trees.after_answer s.tree o).nodes r) is same in
+    let base = base_stays s (after_action s made.tree) i n deed r sound.tree.tree fine.there (within s.tree.nodes r waits.there) fine.tree refl kept in
+    let each = each_stays s.tree made.tree s.decisions sound.decided later.decided
+    (λ d ready. subst (λ o. IsSameDomain s.tree.nodes (trees.after_answer s.tree o).nodes d.domain) is (stays s.tree (trees.Acted i deed) d.domain sound.tree.tree ok ready.there ready.ready)) in
+    let shown = all_sub (λ k. shown_at made.tree.nodes k ≡ shown_at s.tree.nodes k) s.accepted (chosen_in s.tree.nodes s.decisions) some
+    (chosen_shown law s.tree.nodes made.tree.nodes sound.tree.tree later.tree.tree s.decisions each) in
     record {
       next = still_first s.waiting (newly_ready s.tree made.tree) r first;
-      domain = subst (λ o. IsSameDomain s.tree.nodes (trees.after_answer s.tree o).nodes r) is same;
-      base = base_stays s (after_action s made.tree) i n deed r tree fine.there (within s.tree.nodes r waits.there) fine.tree refl kept;
+      domain = own;
+      base = base;
+      optimal = λ platform v. still_optimal platform s (after_action s made.tree) r v base own.shape
+          (same_terms s.tree.nodes made.tree.nodes s.accepted (base_of s r) (has_accepted s r) (same_members s.tree.nodes made.tree.nodes s.accepted shown));
     }
 
-pub next_stays : LegalIsSound → ForestStays → NextStays
-next_stays sound stays platform es i deed r legal ok first =
+pub next_stays : LegalIsSound → LegalAgrees → ForestStays → MembersStay → NextStays
+next_stays sound agrees stays law platform es i deed r legal ok first =
     let state = sound platform es legal in
     let waits = first_waits (replay es).tree (replay es).waiting r state.waiting first in
-    stays_at (replay es) i deed r state.tree.tree waits ok first (stays (replay es).tree (trees.Acted i deed) r state.tree.tree ok waits.there waits.ready) (applied (replay es).tree i deed) refl
+    let later = subst IsSoundState (replay_push first_state es (Acted i deed)) (sound platform (es ++ Acted i deed ∷ []) (allowed_push platform first_state es (Acted i deed) legal ok)) in
+    stays_at law stays (replay es) i deed r state (agrees platform es legal).accepted waits ok first (stays (replay es).tree (trees.Acted i deed) r state.tree.tree ok waits.there waits.ready) (applied (replay es).tree i deed) refl later

@@ -24,7 +24,7 @@ use Rattle.sysmem_alloc.specs.Entry.{BookEntry, Acted, Decided, constraints_at, 
 use Rattle.sysmem_alloc.specs.History.{after_answer, after_entry, replay_from, Allows, AreAllowed}
 use Rattle.sysmem_alloc.specs.Sound.{AllOf}
 use Rattle.sysmem_alloc.specs.State.{State}
-use Rattle.sysmem_alloc.proofs.Accepting.{accepted}
+use Rattle.sysmem_tree.proofs.CallerLemmas.{accepted}
 
 -- node i is set, to these constraints
 abbrev pub IsSetTo : List NodeFacts → ℕ → Option Participant → Type 0

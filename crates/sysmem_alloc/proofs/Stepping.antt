@@ -22,11 +22,11 @@ use Rattle.sysmem_alloc.specs.Entry.{BookEntry, Acted, Decided, tree_entry}
 use Rattle.sysmem_alloc.specs.History.{after_answer, after_entry, replay_from, replay, Allows, AreAllowed, IsLegal}
 use Rattle.sysmem_alloc.specs.Sound.{AllOf, AreApart, IsOfReady, IsSoundState, MayWait, roots_of}
 use Rattle.sysmem_alloc.specs.State.{State, first_state, newly_ready, after_action, open_in, base_of}
-use Rattle.sysmem_alloc.proofs.Accepting.{accepted, IsAccepted}
+use Rattle.sysmem_tree.proofs.CallerLemmas.{accepted, decision_acted, decision_by, IsAccepted}
 use Rattle.sysmem_alloc.proofs.Advance.{Follows, advance}
 use Rattle.sysmem_alloc.proofs.Lists.{all_append, all_weaken}
 use Rattle.sysmem_alloc.proofs.Relabelled.{by_numbers}
-use Rattle.sysmem_alloc.proofs.Trees.{acted_there, decided_there, acted_decision, decided_decision, added, acted_roots, decided_roots, added_unready}
+use Rattle.sysmem_alloc.proofs.Trees.{acted_there, decided_there, added, acted_roots, decided_roots, added_unready}
 
 -- what a verdict chose is a selection of the domain's forest
 pub selects : OneForest → (platform : PlatformFacts) (nodes : List NodeFacts) (r : ℕ) (base : Option BaseFacts) (verdict : Option Verdict) → IfSome verdict (IsOptimalIn platform nodes r base)
@@ -38,7 +38,7 @@ selects one platform nodes r base (Some verdicts.TooMany) h = tt
 selects one platform nodes r base (Some verdicts.Failed) h = tt
 selects one platform nodes r base (Some verdicts.NoMemory) h = tt
 
-pub may_decide : (t : TreeFacts) (waiting : List ℕ) (r : ℕ) → AllOf (MayWait t) waiting → slice_get waiting 0 ≡ Some r → MayWait t r
+may_decide : (t : TreeFacts) (waiting : List ℕ) (r : ℕ) → AllOf (MayWait t) waiting → slice_get waiting 0 ≡ Some r → MayWait t r
 may_decide t [] r all is = absurd (cc)
 may_decide t (x ∷ rest) r all is = subst (MayWait t) (same_Some x r is) all.0
 
@@ -69,7 +69,7 @@ module _ (sound_stays : SoundStays) (ready_stays : ReadyStays) where
         unready = subst (λ (x : TreeFacts). AllOf (λ r. is_ready x r ≡ false) (added (kind_of deed) (length t.nodes))) ok.tree (added_unready t i n deed);
         there = λ r has. subst (λ (x : TreeFacts). HasDomain x.nodes r) ok.tree (acted_there t i n deed r ok.there has);
         ready = λ r has now. subst (λ o. is_ready (trees.after_answer t o) r ≡ true) is (ready_stays t (trees.Acted i deed) r sound let_in has now);
-        undecided = λ r _. subst (λ (x : TreeFacts). decision_of x.domains r ≡ decision_of t.domains r) ok.tree (acted_decision t n (kind_of deed) r);
+        undecided = λ r _. subst (λ (x : TreeFacts). decision_of x.domains r ≡ decision_of t.domains r) ok.tree (decision_acted t n r (kind_of deed));
       }
 
   still_ready : (t u : TreeFacts) (added : List ℕ) → Follows t u added → (d : Decision) → IsOfReady t d → IsOfReady u d
@@ -80,7 +80,7 @@ module _ (sound_stays : SoundStays) (ready_stays : ReadyStays) where
       let (n, ok) = accepted s.tree i deed made is in
       let f = acted_follows s.tree i deed made n sound.tree is ok in
       let same : (r : ℕ) → decision_of made.tree.domains r ≡ decision_of s.tree.domains r
-      = λ r. subst (λ (x : TreeFacts). decision_of x.domains r ≡ decision_of s.tree.domains r) ok.tree (acted_decision s.tree n (kind_of deed) r) in
+      = λ r. subst (λ (x : TreeFacts). decision_of x.domains r ≡ decision_of s.tree.domains r) ok.tree (decision_acted s.tree n r (kind_of deed)) in
       let on = advance s.tree made.tree (added (kind_of deed) (length s.tree.nodes)) s.waiting f
       (all_weaken (MayWait s.tree) (λ r. MayWait s.tree r × (decision_of made.tree.domains r ≡ decision_of s.tree.domains r)) s.waiting (λ r w. (w, same r)) sound.waiting) sound.once in
       record {
@@ -100,7 +100,7 @@ module _ (sound_stays : SoundStays) (ready_stays : ReadyStays) where
     unready = tt;
     there = λ k has. decided_there t r choices k has;
     ready = λ k has now. ready_stays t (trees.Decided r choices) k sound ok has now;
-    undecided = λ k unready. decided_decision t r choices k (λ same. not_both (is_ready t r) ok.ready (subst (λ x. is_ready t x ≡ false) same unready));
+    undecided = λ k unready. decision_by t r k choices (λ same. not_both (is_ready t r) ok.ready (subst (λ x. is_ready t x ≡ false) same unready));
   } where
     not_both : (b : Bool) → b ≡ true → b ≡ false → ⊥
     not_both b on off = absurd (cc)
@@ -116,7 +116,7 @@ module _ (sound_stays : SoundStays) (ready_stays : ReadyStays) where
       let f = decided_follows t d.domain choices sound.tree ok in
       let waits : AllOf (MayWait t) (x ∷ rest) = subst (AllOf (MayWait t)) is sound.waiting in
       let once : AreApart (x ∷ rest) = subst AreApart is sound.once in
-      let on = advance t u [] rest f (both t u x rest (λ r other. decided_decision t d.domain choices r (λ same. other (own ∙ sym same))) waits.1 once.0) once.1 in
+      let on = advance t u [] rest f (both t u x rest (λ r other. decision_by t d.domain r choices (λ same. other (own ∙ sym same))) waits.1 once.0) once.1 in
       record {
         tree = f.after;
         waiting = on.waits;

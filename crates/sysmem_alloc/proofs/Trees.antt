@@ -1,17 +1,16 @@
 -- What an action and a decision leave of the nodes and domains of a tree.
 use Rattle.std.proofs.Common.{◌≡◌, ◌≢◌, ◌≤◌, ℕ, zero, suc, ◌+◌, ◌==◌, Bool, true, false, not, ◌&&◌, List, [], ◌∷◌, ◌++◌, length, Option, Some, None, slice_get, slice_set, refl, sym, ◌∙◌, ap, subst, arith, rules, tests, append-nil}
 use Rattle.std.specs.Prelude.{IsSomeAnd, map, if◌then◌else◌}
-use Rattle.std.proofs.lemmas.Bool.{ne_eqb}
 use Rattle.std.proofs.lemmas.List.{map-append}
 use Rattle.std.proofs.lemmas.Option.{same_Some}
 use Rattle.sysmem_tree.specs.declared.action.ActionKind.{ActionKind}
 use Rattle.sysmem_tree.specs.declared.action.ActionKind.TheVariants.{Duplicate, CreateGroup, Bind, CreateChild, AllChildrenPresent, SetConstraints, AttachToken, Release, Close}
 use Rattle.sysmem_tree.specs.declared.domain.Decision.{Decision}
-use Rattle.sysmem_tree.specs.declared.domain.Decision.TheVariants.{Undecided, Chosen, NoneChosen}
+use Rattle.sysmem_tree.specs.declared.domain.Decision.TheVariants.{Chosen, NoneChosen}
 use Rattle.sysmem_tree.specs.declared.domain.Domain.{Domain}
 use Rattle.sysmem_tree.specs.declared.state.NodeKind.TheVariants.{Token}
 use Rattle.sysmem_tree.specs.ActionKind.{Deed, kind_of, duplicates, creates_group, binds, creates_child, has_all_children, sets, attaches_token, releases, closes}
-use Rattle.sysmem_tree.specs.Domain.{TreeFacts, HasDomain, IsSoundTree, decision_of, has_failed, host_node, is_complete, is_host_selected, is_ready, roots_from}
+use Rattle.sysmem_tree.specs.Domain.{TreeFacts, HasDomain, IsSoundTree, has_failed, host_node, is_complete, is_host_selected, is_ready, roots_from}
 use Rattle.sysmem_tree.specs.Node.{NodeFacts, fresh, is_awaited}
 use Rattle.sysmem_tree.specs.Shape.{members_of}
 use Rattle.sysmem_tree.specs.Table.{makes}
@@ -48,50 +47,6 @@ acted_there t i n deed r here h =
 pub decided_there : (t : TreeFacts) (d : ℕ) (choices : Option (List ℕ)) (r : ℕ) → HasDomain t.nodes r → HasDomain (decided t d choices).nodes r
 decided_there t d None r h = h
 decided_there t d (Some cs) r h = at_left (members_of t.nodes d cs) d 0 t.nodes r r h
-
--- decisions
-pushed : (ds : List Domain) (k r : ℕ) → decision_of (ds ++ new_domain k ∷ []) r ≡ decision_of ds r
-pushed [] k r = at (k == r) where
-  at : (b : Bool) → (if b then Undecided else Undecided) ≡ Undecided
-  at true = refl
-  at false = refl
-pushed (d ∷ ds) k r = ap (λ x. if d.root == r then d.decision else x) (pushed ds k r)
-
-closed : (e : ℕ) (ds : List Domain) (r : ℕ) → decision_of (map (closed_early e) ds) r ≡ decision_of ds r
-closed e [] r = refl
-closed e (d ∷ ds) r = ap (λ x. if d.root == r then d.decision else x) (closed e ds r)
-
--- an action changes none
-pub acted_decision : (t : TreeFacts) (n : NodeFacts) (kind : ActionKind) (r : ℕ) → decision_of (domains_after t n kind) r ≡ decision_of t.domains r
-acted_decision t n AttachToken r = pushed t.domains (length t.nodes) r
-acted_decision t n Close r = at (is_ready t n.domain) where
-  at : (b : Bool) → decision_of (if b then t.domains else map (closed_early n.domain) t.domains) r ≡ decision_of t.domains r
-  at true = refl
-  at false = closed n.domain t.domains r
-acted_decision t n Duplicate r = refl
-acted_decision t n CreateGroup r = refl
-acted_decision t n Bind r = refl
-acted_decision t n CreateChild r = refl
-acted_decision t n AllChildrenPresent r = refl
-acted_decision t n SetConstraints r = refl
-acted_decision t n Release r = refl
-
-others : (d : ℕ) (x : Decision) (ds : List Domain) (r : ℕ) → r ≢ d → decision_of (map (decided_domain d x) ds) r ≡ decision_of ds r
-others d x [] r other = refl
-others d x (e ∷ ds) r other = at (others d x ds r other) (e.root == d) refl where
-  at : decision_of (map (decided_domain d x) ds) r ≡ decision_of ds r → (b : Bool) → (e.root == d) ≡ b
-      → (if (if b then record e { decision = x } else e).root == r then (if b then record e { decision = x } else e).decision else decision_of (map (decided_domain d x) ds) r)
-      ≡ (if e.root == r then e.decision else decision_of ds r)
-  at rest false is = ap (λ y. if e.root == r then e.decision else y) rest
-  at rest true is =
-      let own : e.root ≡ d = search (rules, tests, is) in
-      let apart : (e.root == r) ≡ false = ne_eqb e.root r (λ same. other (sym same ∙ own)) in
-      ap (λ b. if b then x else decision_of (map (decided_domain d x) ds) r) apart ∙ (rest ∙ sym (ap (λ b. if b then e.decision else decision_of ds r) apart))
-
--- a decision changes its own alone
-pub decided_decision : (t : TreeFacts) (d : ℕ) (choices : Option (List ℕ)) (r : ℕ) → r ≢ d → decision_of (decided t d choices).domains r ≡ decision_of t.domains r
-decided_decision t d None r other = others d NoneChosen t.domains r other
-decided_decision t d (Some cs) r other = others d Chosen t.domains r other
 
 -- the root that an action adds
 abbrev pub added : ActionKind → ℕ → List ℕ

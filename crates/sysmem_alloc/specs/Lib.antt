@@ -7,3 +7,4 @@ pub mod Sound
 pub mod Marks
 pub mod Laws
 pub mod Accepted
+pub mod Frozen

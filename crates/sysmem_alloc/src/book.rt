@@ -4,6 +4,8 @@ ghost use Rattle.std.specs.Prelude.{◌≡◌, Some, Ok, Err, map, option_map, i
 ghost use Rattle.std.specs.Arc.{arc_value};
 ghost use Rattle.sysmem_alloc.specs.Book.{IsBook, entered, new_book};
 ghost use Rattle.sysmem_alloc.specs.Entry.{Acted, Decided, entry_in};
+ghost use Rattle.sysmem_alloc.specs.Frozen.{frozen_of};
+ghost use Rattle.sysmem_alloc.specs.History.{IsStep};
 ghost use Rattle.sysmem_alloc.specs.Sound.{MayWait};
 ghost use Rattle.sysmem_alloc.specs.State.{base_of, next_ready, verdict_of};
 ghost use Rattle.sysmem_proof.specs.Base.{IsGivenBase};
@@ -14,6 +16,7 @@ ghost use Rattle.sysmem_tree.specs.Tree.{applied};
 
 use crate::bases::{accepted_in, settings_for};
 use crate::entry::{Entry, enter_action};
+use crate::frozen::Frozen;
 use crate::laws::{base_is_given, few_entries, legal_agrees, legal_is_sound};
 use crate::ready::{add_ready, open_nodes, open_or_kept, ready_domains};
 use crate::verdicts::{choices_of, entered_for, has_failed};
@@ -135,6 +138,20 @@ impl Book {
         self.entered_base(domain)
     }
 
+    /// Copies of the platform and the tree, with the domain that is to be decided next and what it is decided on, in memory of their own;
+    /// `None` exactly where no domain waits. `AllocError` where memory is refused.
+    pub fn frozen(&self) -> Result<Option<Frozen>, AllocError>
+        ensures { IfOk result (λ frozen. frozen ≡ frozen_of self.now) }
+    {
+        let Some(domain) = self.next_ready() else {
+            return Ok(None);
+        };
+        let base = self.base(domain)?;
+        let platform = self.platform.copy()?;
+        let tree = self.tree.copy()?;
+        Ok(Some(Frozen::new(platform, tree, domain, base)))
+    }
+
     /// What a domain of the tree would be decided on now, by what was entered.
     fn entered_base(&self, domain: DomainId) -> Result<Option<Base>, AllocError>
         requires { HasDomain self.now.state.tree.nodes domain }
@@ -175,6 +192,8 @@ impl Book {
             ≡ Ok (record { tree = self.new.state.tree; node = done.node })) }
         ensures entered { OnOk result (self.new
             ≡ entered self.old (Acted event.node (deed_of event.action))) }
+        ensures step { OnOk result (IsStep self.old.platform self.old.state
+            (Acted event.node (deed_of event.action)) self.new.state) }
         ensures ready { IfOk result (λ done. done.ready ≡ is_some (next_ready self.new.state)) }
         ensures refused { IfErr result (λ refusal.
             applied self.old.state.tree event.node (deed_of event.action) ≡ Err refusal) }
@@ -202,10 +221,14 @@ impl Book {
         requires optimal { IfSome verdict (λ shared.
             IsOptimalIn self.old.platform self.old.state.tree.nodes domain
             (base_of self.old.state domain) (arc_value shared)) }
-        ensures { self.new ≡ entered self.old (Decided (record {
+        ensures entered { self.new ≡ entered self.old (Decided (record {
           domain = domain;
           verdict = option_map (λ shared. arc_value shared) verdict;
         })) }
+        ensures step { IsStep self.old.platform self.old.state (Decided (record {
+          domain = domain;
+          verdict = option_map (λ shared. arc_value shared) verdict;
+        })) self.new.state }
     {
         legal_is_sound();
         few_entries();

@@ -1,11 +1,12 @@
 //! What is true of the histories of books, whoever keeps them.
 
-ghost use Rattle.sysmem_alloc.specs.Laws.{LegalIsSound, LegalAgrees, BaseIsGiven, FewEntries, NextStays, InitialShape, Confluence};
+ghost use Rattle.sysmem_alloc.specs.Laws.{LegalIsSound, LegalAgrees, BaseIsGiven, FewEntries, VerdictStays, NextStays, InitialShape, Confluence};
 
 use sysmem_proof::laws::one_answer;
 use sysmem_tree::laws;
 use sysmem_tree::laws::{
-    forest_stays, maps_of_logs, members_stand_once, one_forest, ready_stays, sound_stays,
+    failed_stays, forest_stays, maps_of_logs, members_stand_once, members_stay, one_forest,
+    ready_stays, sound_stays,
 };
 
 /// The state of each legal history: its tree is sound, each domain that waits is ready, undecided and there once, and what was decided is
@@ -71,11 +72,23 @@ pub fn confluence()
     one_answer();
 }
 
+/// A domain that has a verdict keeps it, whatever is entered.
+pub fn verdict_stays()
+    ensures { VerdictStays }
+{
+    legal_is_sound();
+    ready_stays();
+    failed_stays();
+    one_forest();
+}
+
 /// The domain that is to be decided next stays so until it is: no action changes its forest, or the settings and the accepted nodes that
-/// it is decided on.
+/// it is decided on; so a verdict that is optimal for it stays so.
 pub fn next_stays()
     ensures { NextStays }
 {
     legal_is_sound();
+    legal_agrees();
     forest_stays();
+    members_stay();
 }

@@ -12,12 +12,14 @@
 mod bases;
 mod book;
 mod entry;
+mod frozen;
 pub mod laws;
 mod ready;
 mod verdicts;
 
 pub use book::{Book, Done};
 pub use entry::Entry;
+pub use frozen::Frozen;
 
 #[cfg(test)]
 mod tests;

@@ -202,3 +202,32 @@ fn a_domain_without_memory_is_decided_once(rt: HostRuntime) -> Result<(), Fail> 
     assert_eq!(&rt; book.history().len(), 10);
     Ok(())
 }
+
+#[test]
+fn what_is_frozen_stays_as_the_book_was(rt: HostRuntime) -> Result<(), Fail> {
+    let mut book = Book::new(rt.alloc(), platform(rt.alloc())?)?;
+    play(rt.alloc(), &rt, &mut book, &ATTACHED)?;
+    assert!(&rt; book.frozen()?.is_none());
+    play(
+        rt.alloc(),
+        &rt,
+        &mut book,
+        &[(&[], Deed::Release, None), (&[0], Deed::Release, None)],
+    )?;
+    let Some(frozen) = book.frozen()? else {
+        panic!(&rt; "the initial domain is ready");
+    };
+    play(
+        rt.alloc(),
+        &rt,
+        &mut book,
+        &[(&[0, 0], Deed::AttachToken, None)],
+    )?;
+    let tree = frozen.tree();
+    assert_eq!(&rt; tree.nodes(), 5);
+    assert_eq!(&rt; book.tree().nodes(), 6);
+    assert!(&rt; frozen.domain() == tree.domain_of(tree.root()));
+    assert!(&rt; frozen.base().is_none());
+    assert_eq!(&rt; frozen.platform().heaps().len(), 1);
+    Ok(())
+}

@@ -44,3 +44,4 @@ pub mod Answering
 pub mod Onward
 pub mod Once
 pub mod Picking
+pub mod Failing

@@ -9,13 +9,13 @@ use Rattle.std.proofs.lemmas.Option.{slice_get_within}
 use Rattle.sysmem_tree.specs.Sublist.{IsSublist, ended, taken, left_out}
 use Rattle.sysmem_tree.specs.Domain.{HasDomain}
 use Rattle.sysmem_tree.specs.Forest.{Forest, Empty, Plain, Group, settled, relabel}
-use Rattle.sysmem_tree.specs.Laws.{labels, by_both}
-use Rattle.sysmem_tree.specs.Members.{AreItsNodes}
+use Rattle.sysmem_tree.specs.Laws.{labels, by_both, IsSameDomain}
+use Rattle.sysmem_tree.specs.Members.{AreItsNodes, shown_at}
 use Rattle.sysmem_tree.specs.Node.{NodeFacts}
 use Rattle.sysmem_tree.specs.Nodes.{IsTree, ordinal_under}
 use Rattle.sysmem_tree.specs.Path.{node_at, path_of}
 use Rattle.sysmem_tree.specs.Selection.{after, settled_by}
-use Rattle.sysmem_tree.specs.Shape.{Member, by_number, forest_of, kid_of, kids_from, before, members_of, rooted, tree_of, shape_of}
+use Rattle.sysmem_tree.specs.Shape.{Member, by_number, by_path, forest_of, kid_of, kids_from, before, members_of, rooted, tree_of}
 use Rattle.sysmem_tree.proofs.Apart.{Apart, all_append, all_index, all_sub, less_after, settled_labels, shape_apart, sub_none, tree_labels}
 use Rattle.sysmem_tree.proofs.Kids.{is_under}
 use Rattle.sysmem_tree.proofs.Labelled.{one_forest}
@@ -29,9 +29,13 @@ labels_relabel f Empty = refl
 labels_relabel f (Plain n kids rest) = rw (labels_relabel f kids, labels_relabel f rest) (ap (λ xs. f n ∷ xs) (sym (map-append f (labels kids) (labels rest))))
 labels_relabel f (Group n kids rest) = rw (labels_relabel f kids, labels_relabel f rest) (ap (λ xs. f n ∷ xs) (sym (map-append f (labels kids) (labels rest))))
 
--- a label's path leads to its node, which is in the domain
-abbrev Leads : List NodeFacts → ℕ → ℕ × Member → Type 0
-Leads nodes r l = (node_at nodes l.1.path ≡ Some l.0) × IsSomeAnd (slice_get nodes l.0) (λ n. n.domain ≡ r)
+-- a label's path leads to its node, which is in the domain and is what it shows
+record Leads (nodes : List NodeFacts) (r : ℕ) (l : ℕ × Member) : Type 0 where
+  leads : node_at nodes l.1.path ≡ Some l.0
+  node : NodeFacts
+  here : slice_get nodes l.0 ≡ Some node
+  home : node.domain ≡ r
+  shows : by_path l.0 l.1.path node ≡ l.1
 
 -- a child in the domain is born there
 kid_is : (r p o : ℕ) (n : NodeFacts) → kid_of r p n ≡ Some o → (n.domain ≡ r) × (n.birth ≡ Some (record { parent = p; ordinal = o }))
@@ -62,7 +66,7 @@ module _ (all : List NodeFacts) (tree : IsTree all) (r : ℕ) where
             let kids : Forest (ℕ × Member) = kids_from by_both r (i + 1) nodes i (path ++ o ∷ []) in
             let behind : Forest (ℕ × Member) = kids_from by_both r (i + 1) nodes p path in
             subst (AllOf (Leads all r)) (sym (tree_labels n.state.kind (by_both i (path ++ o ∷ []) n) kids behind))
-            ((on, put (λ (x : NodeFacts). x.domain ≡ r) (slice_get all i) n here home), all_append (Leads all r) (labels kids) (labels behind) (rest i (path ++ o ∷ []) on) (rest p path leads))
+            (record { leads = on; node = n; here = here; home = home; shows = refl }, all_append (Leads all r) (labels kids) (labels behind) (rest i (path ++ o ∷ []) on) (rest p path leads))
 
   -- and so do those of a whole domain
   labels_lead : HasDomain all r → AllOf (Leads all r) (labels (forest_of by_both all r (path_of all r)))
@@ -72,14 +76,14 @@ module _ (all : List NodeFacts) (tree : IsTree all) (r : ℕ) where
       let kids : Forest (ℕ × Member) = kids_from by_both r 0 all r (path_of all r) in
       subst (λ o. AllOf (Leads all r) (labels (rooted by_both all r (path_of all r) o))) (sym here)
       (subst (AllOf (Leads all r)) (sym (tree_labels n.state.kind (by_both r (path_of all r) n) kids Empty))
-      ((leads, has), all_append (Leads all r) (labels kids) [] (kids_lead 0 all (λ m x at. let z : m ≡ 0 + m = omega arith in subst (λ k. slice_get all k ≡ Some x) z at) r (path_of all r) leads) tt))
+      (record { leads = leads; node = n; here = here; home = home; shows = refl }, all_append (Leads all r) (labels kids) [] (kids_lead 0 all (λ m x at. let z : m ≡ 0 + m = omega arith in subst (λ k. slice_get all k ≡ Some x) z at) r (path_of all r) leads) tt))
 
   -- where paths differ, nodes do
   differ : (l : ℕ × Member) (ls : List (ℕ × Member)) → Leads all r l → AllOf (Leads all r) ls → AllOf (λ (x : Member). l.1.path ≢ x.path) (map (λ (m : ℕ × Member). m.1) ls)
       → AllOf (λ y. l.0 ≢ y) (map (λ (m : ℕ × Member). m.0) ls)
   differ l [] own leads apart = tt
   differ l (m ∷ ls) own leads apart = (
-    λ same. apart.0 (sym (path_is all tree l.1.path l.0 own.0) ∙ (ap (path_of all) same ∙ path_is all tree m.1.path m.0 leads.0.0)),
+    λ same. apart.0 (sym (path_is all tree l.1.path l.0 own.leads) ∙ (ap (path_of all) same ∙ path_is all tree m.1.path m.0 leads.0.leads)),
     differ l ls own leads.1 apart.1,
   )
 
@@ -105,7 +109,8 @@ labels_own : (nodes : List NodeFacts) (r : ℕ) → IsTree nodes → HasDomain n
 labels_own nodes r tree has =
     let both : Forest (ℕ × Member) = forest_of by_both nodes r (path_of nodes r) in
     subst (AllOf (λ i. IsSomeAnd (slice_get nodes i) (λ n. n.domain ≡ r))) (sym (labels_relabel (λ (l : ℕ × Member). l.0) both) ∙ ap labels (one_forest nodes r).numbers)
-    (all_mapped (Leads nodes r) (λ i. IsSomeAnd (slice_get nodes i) (λ n. n.domain ≡ r)) (λ (l : ℕ × Member). l.0) (labels both) (λ l h. h.1) (labels_lead nodes tree r has))
+    (all_mapped (Leads nodes r) (λ i. IsSomeAnd (slice_get nodes i) (λ n. n.domain ≡ r)) (λ (l : ℕ × Member). l.0) (labels both)
+    (λ l h. put (λ (x : NodeFacts). x.domain ≡ r) (slice_get nodes l.0) h.node h.here h.home) (labels_lead nodes tree r has))
 
 -- what choices settle stands in the order of the forest
 pub settled_sub : (d : Forest ℕ) (cs : List ℕ) → IsSublist (unwrap_or (settled_by d cs) []) (labels d)
@@ -131,6 +136,25 @@ members_stand_once nodes r cs tree has =
           (all_sub (λ i. IsSomeAnd (slice_get nodes i) (λ n. n.domain ≡ r)) (members_of nodes r cs) (labels d) (settled_sub d cs) (labels_own nodes r tree has));
       once = once_pairs (members_of nodes r cs) (once_sub (members_of nodes r cs) (labels d) (settled_sub d cs) (labels_once nodes r tree has));
     }
+
+-- a label is what is shown of its node
+is_shown : (nodes : List NodeFacts) → IsTree nodes → (r : ℕ) (l : ℕ × Member) → Leads nodes r l → shown_at nodes l.0 ≡ Some l.1
+is_shown nodes tree r l h = ap (option_map (by_path l.0 (path_of nodes l.0))) h.here ∙ ap (λ m. Some m) (ap (λ path. by_path l.0 path h.node) (path_is nodes tree l.1.path l.0 h.leads) ∙ h.shows)
+
+pub members_stay : (old new : List NodeFacts) (r : ℕ) (cs : List ℕ) → IsTree old → IsTree new → HasDomain old r → HasDomain new r → IsSameDomain old new r
+    → All (λ i. shown_at new i ≡ shown_at old i) (members_of old r cs)
+members_stay old new r cs tree tree' has has' same =
+    let both : Forest (ℕ × Member) = forest_of by_both old r (path_of old r) in
+    let later : AllOf (Leads new r) (labels both) = subst (λ d. AllOf (Leads new r) (labels d)) same.forest (labels_lead new tree' r has') in
+    let numbers : labels (forest_of by_number old r []) ≡ map (λ (l : ℕ × Member). l.0) (labels both) = sym (ap labels (one_forest old r).numbers) ∙ labels_relabel (λ (l : ℕ × Member). l.0) both in
+    all_index (λ i. shown_at new i ≡ shown_at old i) (members_of old r cs)
+    (all_sub (λ i. shown_at new i ≡ shown_at old i) (members_of old r cs) (labels (forest_of by_number old r [])) (settled_sub (forest_of by_number old r []) cs)
+    (subst (AllOf (λ i. shown_at new i ≡ shown_at old i)) (sym numbers)
+    (all_mapped (λ (l : ℕ × Member). Leads old r l × Leads new r l) (λ i. shown_at new i ≡ shown_at old i) (λ (l : ℕ × Member). l.0) (labels both)
+    (λ l h. is_shown new tree' r l h.1 ∙ sym (is_shown old tree r l h.0)) (paired (labels both) (labels_lead old tree r has) later)))) where
+      paired : (ls : List (ℕ × Member)) → AllOf (Leads old r) ls → AllOf (Leads new r) ls → AllOf (λ (l : ℕ × Member). Leads old r l × Leads new r l) ls
+      paired [] a b = tt
+      paired (l ∷ ls) a b = ((a.0, b.0), paired ls a.1 b.1)
 
 -- what isn't among numbers isn't found there
 not_among : (x : ℕ) (xs : List ℕ) → AllOf (λ y. x ≢ y) xs → list_any (λ m. m == x) xs ≡ false

@@ -1,5 +1,5 @@
 -- A pass over a layout finds the nodes of its forest in their order.
-use Rattle.std.proofs.Common.{◌≡◌, ◌≤◌, ◌<◌, ℕ, zero, suc, ◌+◌, ◌++◌, ◌==◌, ◌&&◌, Bool, true, false, List, [], ◌∷◌, Option, Some, None, length, drop, get_or, slice_get, refl, sym, ◌∙◌, ap, subst, arith, append_assoc, append-nil}
+use Rattle.std.proofs.Common.{◌≡◌, ◌≤◌, ◌<◌, ℕ, zero, suc, ◌+◌, ◌++◌, ◌==◌, Bool, true, false, List, [], ◌∷◌, Option, Some, None, length, drop, get_or, slice_get, refl, sym, ◌∙◌, ap, subst, arith, append_assoc, append-nil}
 use Rattle.std.specs.Prelude.{All, IsSomeAnd, filter, is_some, map, option_and_then, if◌then◌else◌}
 use Rattle.std.specs.List.{list_any}
 use Rattle.std.proofs.lemmas.List.Elements.{All-filter, All-weaker}
@@ -15,7 +15,7 @@ use Rattle.sysmem_tree.specs.Node.{NodeFacts}
 use Rattle.sysmem_tree.specs.Nodes.{HasNode, IsTree}
 use Rattle.sysmem_tree.specs.Shape.{by_number, forest_of, members_of, participants_of}
 use Rattle.sysmem_tree.proofs.Numbers.{front}
-use Rattle.sysmem_tree.proofs.Once.{labels_relabel, filter_both, members_picked, members_stand_once}
+use Rattle.sysmem_tree.proofs.Once.{filter_both, members_picked, members_stand_once}
 use Rattle.sysmem_tree.proofs.Places.{there}
 
 -- the nodes that stand from a place on

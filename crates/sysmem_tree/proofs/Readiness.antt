@@ -138,10 +138,10 @@ home_root nodes tree (suc bound) k n below here = by (λ j m less at. home_root 
       ]
 
 -- hosts by their numbers
-host_none : (nodes : List NodeFacts) (r : ℕ) (z : NodeFacts) → slice_get nodes r ≡ Some z → z.birth ≡ None → host_node nodes r ≡ None
+pub host_none : (nodes : List NodeFacts) (r : ℕ) (z : NodeFacts) → slice_get nodes r ≡ Some z → z.birth ≡ None → host_node nodes r ≡ None
 host_none nodes r z here e = ap (λ o. option_and_then (λ (x : NodeFacts). option_and_then (λ (b : Birth). slice_get nodes b.parent) x.birth) o) here ∙ ap (λ o. option_and_then (λ (b : Birth). slice_get nodes b.parent) o) e
 
-host_some : (nodes : List NodeFacts) (r : ℕ) (z h : NodeFacts) (b : Birth) → slice_get nodes r ≡ Some z → z.birth ≡ Some b → slice_get nodes b.parent ≡ Some h → host_node nodes r ≡ Some h
+pub host_some : (nodes : List NodeFacts) (r : ℕ) (z h : NodeFacts) (b : Birth) → slice_get nodes r ≡ Some z → z.birth ≡ Some b → slice_get nodes b.parent ≡ Some h → host_node nodes r ≡ Some h
 host_some nodes r z h b here e up =
     ap (λ o. option_and_then (λ (x : NodeFacts). option_and_then (λ (b : Birth). slice_get nodes b.parent) x.birth) o) here ∙ (ap (λ o. option_and_then (λ (b : Birth). slice_get nodes b.parent) o) e ∙ up)
 
@@ -178,7 +178,7 @@ decision_if : (b : Bool) (ds : List Domain) (e x : ℕ) → decision_of (if b th
 decision_if true ds e x = refl
 decision_if false ds e x = decision_closed ds e x
 
-decision_acted : (t : TreeFacts) (n : NodeFacts) (e : ℕ) (call : ActionKind) → decision_of (domains_after t n call) e ≡ decision_of t.domains e
+pub decision_acted : (t : TreeFacts) (n : NodeFacts) (e : ℕ) (call : ActionKind) → decision_of (domains_after t n call) e ≡ decision_of t.domains e
 decision_acted t n e AttachToken = decision_push t.domains e (length t.nodes)
 decision_acted t n e Close = decision_if (is_ready t n.domain) t.domains e n.domain
 decision_acted t n e Duplicate = refl
@@ -248,12 +248,12 @@ left_kept members d i (n ∷ nodes) zero x y a b other =
       or_nothing false = refl
 left_kept members d i (n ∷ nodes) (suc k) x y a b other = left_kept members d (i + 1) nodes k x y a b other
 
-kept_by : (t : TreeFacts) (d : ℕ) (choices : Option (List ℕ)) (k : ℕ) (x y : NodeFacts) → slice_get t.nodes k ≡ Some x → slice_get (decided t d choices).nodes k ≡ Some y → x.domain ≢ d
+pub kept_by : (t : TreeFacts) (d : ℕ) (choices : Option (List ℕ)) (k : ℕ) (x y : NodeFacts) → slice_get t.nodes k ≡ Some x → slice_get (decided t d choices).nodes k ≡ Some y → x.domain ≢ d
     → y.is_left_out ≡ x.is_left_out
 kept_by t d None k x y a b other = ap (λ (z : NodeFacts). z.is_left_out) (same_Some y x (sym b ∙ a))
 kept_by t d (Some cs) k x y a b other = left_kept (members_of t.nodes d cs) d 0 t.nodes k x y a b other
 
-decision_by : (t : TreeFacts) (d e : ℕ) (choices : Option (List ℕ)) → e ≢ d → decision_of (decided t d choices).domains e ≡ decision_of t.domains e
+pub decision_by : (t : TreeFacts) (d e : ℕ) (choices : Option (List ℕ)) → e ≢ d → decision_of (decided t d choices).domains e ≡ decision_of t.domains e
 decision_by t d e None other = decision_other t.domains e d NoneChosen other
 decision_by t d e (Some cs) other = decision_other t.domains e d Chosen other
 

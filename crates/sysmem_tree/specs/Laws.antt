@@ -2,7 +2,7 @@
 use Rattle.std.specs.Prelude.{◌≡◌, ◌≢◌, ◌<◌, ◌≤◌, ◌⊎◌, ◌++◌, ℕ, suc, max, true, List, [], ◌∷◌, length, AllPairs, Some, None, Ok, map, option_map, slice_get}
 use Rattle.sysmem_tree.specs.Sublist.{IsSublist}
 use Rattle.sysmem_tree.specs.ActionKind.{Deed}
-use Rattle.sysmem_tree.specs.Domain.{TreeFacts, HasDomain, is_complete, is_ready, IsSoundTree}
+use Rattle.sysmem_tree.specs.Domain.{TreeFacts, HasDomain, has_failed, is_complete, is_ready, IsSoundTree}
 use Rattle.sysmem_tree.specs.Forest.{Forest, Empty, Plain, Group, choices, settled, relabel, count, total, first_group}
 use Rattle.sysmem_tree.specs.History.{HistoryEntry, Accepts, after_entry, AreAccepted, replay, log_at, SameCalls, NoEarlyClose}
 use Rattle.sysmem_tree.specs.Node.{NodeFacts}
@@ -51,6 +51,10 @@ SoundStays = (t : TreeFacts) (e : HistoryEntry) → IsSoundTree t → Accepts t 
 -- once ready a domain stays so, by actions and by decisions
 abbrev pub ReadyStays : Type 0
 ReadyStays = (t : TreeFacts) (e : HistoryEntry) (r : ℕ) → IsSoundTree t → Accepts t e → HasDomain t.nodes r → is_ready t r ≡ true → is_ready (after_entry t e) r ≡ true
+
+-- once failed a domain stays so, by actions and by decisions
+abbrev pub FailedStays : Type 0
+FailedStays = (t : TreeFacts) (e : HistoryEntry) (r : ℕ) → IsSoundTree t → Accepts t e → HasDomain t.nodes r → has_failed t r ≡ true → has_failed (after_entry t e) r ≡ true
 
 -- a domain has the forest that it had, by numbers and by paths, kinds and constraints, and so each selection has the members that it had
 pub record IsSameDomain (old new : List NodeFacts) (r : ℕ) : Type 0 where

@@ -1,7 +1,7 @@
 //! What is true of trees, whoever makes them.
 
-ghost use Rattle.sysmem_tree.specs.Laws.{OnePath, ActionIsStep, SameMapSameShape, OneForest, SoundStays, ReadyStays, ForestStays, PathsInShapesDiffer, FewGroupsNest, SettledGrows, Counts, FirstGroup, SelectionsAreListed, OneIsEarlier, EarlierIsAnOrder, PrefixOfPrefix, Relabels, MapsOfLogs, InitialShape, Confluence};
-ghost use Rattle.sysmem_tree.specs.Members.{MembersStandOnce};
+ghost use Rattle.sysmem_tree.specs.Laws.{OnePath, ActionIsStep, SameMapSameShape, OneForest, SoundStays, ReadyStays, FailedStays, ForestStays, PathsInShapesDiffer, FewGroupsNest, SettledGrows, Counts, FirstGroup, SelectionsAreListed, OneIsEarlier, EarlierIsAnOrder, PrefixOfPrefix, Relabels, MapsOfLogs, InitialShape, Confluence};
+ghost use Rattle.sysmem_tree.specs.Members.{MembersStandOnce, MembersStay};
 
 /// Each node has one path.
 pub fn one_path()
@@ -34,6 +34,11 @@ pub fn ready_stays()
     ensures { ReadyStays }
 {}
 
+/// Once failed a domain stays so, by actions and by decisions.
+pub fn failed_stays()
+    ensures { FailedStays }
+{}
+
 /// From ready on neither an action nor a decision changes a domain's forest, and so its shape and the members of its selections.
 pub fn forest_stays()
     ensures { ForestStays }
@@ -52,6 +57,11 @@ pub fn few_groups_nest()
 /// The members of a selection are nodes of its domain, each once.
 pub fn members_stand_once()
     ensures { MembersStandOnce }
+{}
+
+/// Where a domain's forest stays, each member of a selection keeps its path, its kind and its constraints.
+pub fn members_stay()
+    ensures { MembersStay }
 {}
 
 /// Choices only add to the nodes that are settled.

@@ -1,9 +1,10 @@
 -- See Entering.antt.
-use Rattle.std.proofs.Common.{sym, ◌∙◌, ap, subst, arith}
-use Rattle.std.specs.Prelude.{Ok, Err, Result, OnErr}
-use Rattle.sysmem_alloc.specs.Book.{IsBook, entered, kept_book}
+use Rattle.std.proofs.Common.{refl, sym, ◌∙◌, ap, subst, arith}
+use Rattle.std.specs.Prelude.{IsOk, Ok, Err, Result, OnErr}
+use Rattle.sysmem_alloc.specs.Book.{BookFacts, IsBook, entered, kept_book}
 use Rattle.sysmem_alloc.specs.Entry.{Acted}
 use Rattle.sysmem_tree.specs.ActionKind.{deed_of}
+use Rattle.sysmem_tree.specs.Tree.{applied}
 use Rattle.sysmem_alloc.proofs.Entering.{acted_room, acted_shows}
 use Rattle.sysmem_alloc.proofs.book.Book.apply.Goals as goal
 
@@ -41,3 +42,9 @@ returns-clause-entered c =
     c.self.invariant.0 c.in_ok-node.ensures.accepted c.kind-kind.ensures c.enter_action.ensures.items c.ready_domains-were_ready.ensures c.add_ready.ensures.items
     (λ e. c.open_or_kept-self-inside.ensures.open (c.deref.ensures.value ∙ e)) (λ n. c.open_or_kept-self-inside.ensures.kept (λ e. n (sym c.deref.ensures.value ∙ e))) in
     shown.is ∙ ap (λ b. entered b (Acted c.args.event.node (deed_of c.args.event.action))) c.self.view_is
+
+pub returns-clause-step : goal.returns-clause-step
+returns-clause-step c = record {
+  allowed = subst (λ (b : BookFacts). IsOk (applied b.state.tree c.args.event.node (deed_of c.args.event.action))) c.self.view_is (subst IsOk (sym c.in_ok-node.ensures.accepted) refl);
+  leads = ap (λ (b : BookFacts). b.state) (returns-clause-entered c);
+}

@@ -1,5 +1,5 @@
 -- See GivenBases.antt.
-use Rattle.std.proofs.Common.{Some, sym, subst}
+use Rattle.std.proofs.Common.{sym, subst}
 use Rattle.std.specs.Prelude.{IfSome}
 use Rattle.std.proofs.lemmas.Result.{IfOk-weaker}
 use Rattle.sysmem_alloc.specs.Sound.{MayWait}

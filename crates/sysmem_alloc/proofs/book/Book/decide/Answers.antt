@@ -6,7 +6,7 @@ use Rattle.std.specs.Prelude.{IfSome, option_map}
 use Rattle.sysmem_alloc.specs.declared.entry.Entry.TheVariants as entries
 use Rattle.sysmem_tree.specs.History.{IsDecidable}
 use Rattle.sysmem_tree.specs.Tree.{decided}
-use Rattle.sysmem_alloc.specs.Book.{entered}
+use Rattle.sysmem_alloc.specs.Book.{BookFacts, entered}
 use Rattle.sysmem_alloc.specs.Decision.{Decision}
 use Rattle.sysmem_alloc.specs.Entry.{Decided}
 use Rattle.sysmem_alloc.specs.History.{Allows}
@@ -52,8 +52,8 @@ invariant_of-self c =
     c.push_reserved.ensures.items c.ready_domains-were_ready.ensures grown c.open_nodes-self-inside.ensures in
     (shown.book, omega (arith, c.self.invariant.1, c.push_reserved.ensures.capacity), omega (arith, c.self.invariant.2, c.remove.ensures.capacity, c.add_ready.ensures.reserved), c.self.invariant.3, c.self.invariant.4)
 
-pub returns : goal.returns
-returns c =
+pub returns-clause-entered : goal.returns-clause-entered
+returns-clause-entered c =
     let d : Decision = record { domain = c.args.domain; verdict = option_map (λ shared. arc_value shared) c.args.verdict } in
     let ok = subst (λ b. Allows b.platform b.state (Decided d)) (sym c.self.view_is) (c.requires.next, if_map (λ shared. arc_value shared) _ c.args.verdict c.requires.optimal) in
     let tree = c.decided.ensures ∙ ap (decided c.self.inside.tree c.args.domain) c.choices_of.ensures in
@@ -63,3 +63,9 @@ returns c =
     c.self.inside.were_open c.open_nodes-self-inside.result c.ready_domains-were_ready.result (entries.Decided c.args.domain c.args.verdict) d c.self.invariant.0 ok refl (λ nodes. refl) tree
     c.push_reserved.ensures.items c.ready_domains-were_ready.ensures grown c.open_nodes-self-inside.ensures in
     shown.is ∙ ap (λ b. entered b (Decided d)) c.self.view_is
+
+pub returns-clause-step : goal.returns-clause-step
+returns-clause-step c = record {
+  allowed = (c.requires.next, if_map (λ shared. arc_value shared) _ c.args.verdict c.requires.optimal);
+  leads = ap (λ (b : BookFacts). b.state) (returns-clause-entered c);
+}

@@ -1,0 +1,75 @@
+-- A verdict stays.
+use Rattle.std.proofs.Common.{◌≡◌, ℕ, Bool, true, false, not, ◌&&◌, ◌==◌, List, [], ◌∷◌, ◌++◌, Option, Some, None, Result, Ok, Err, refl, ◌∙◌, ap, subst, rules, tests}
+use Rattle.std.specs.Prelude.{option_map, unwrap_or, if◌then◌else◌}
+use Rattle.list_lemmas.proofs.CallerLemmas.{and_parts}
+use Rattle.sysmem_proof.specs.declared.verdict.Verdict.{Verdict}
+use Rattle.sysmem_proof.specs.declared.verdict.Verdict.TheVariants as verdicts
+use Rattle.sysmem_tree.specs.declared.refusal.Refusal.{Refusal}
+use Rattle.sysmem_tree.specs.Domain.{TreeFacts, has_failed, host_node, is_complete, is_host_selected, is_ready}
+use Rattle.sysmem_tree.specs.Laws.{FailedStays, OneForest, ReadyStays}
+use Rattle.sysmem_tree.specs.Tree.{Applied, applied}
+use Rattle.sysmem_alloc.specs.Decision.{Decision, decision_for}
+use Rattle.sysmem_alloc.specs.Entry.{BookEntry, Acted, Decided, tree_entry}
+use Rattle.sysmem_alloc.specs.History.{after_answer, after_entry, replay}
+use Rattle.sysmem_alloc.specs.Laws.{LegalIsSound, VerdictStays}
+use Rattle.sysmem_alloc.specs.Sound.{AllOf, IsOfReady}
+use Rattle.sysmem_alloc.specs.State.{State}
+use Rattle.sysmem_alloc.proofs.Stepping.{accepts, tree_of_entry}
+
+-- the decision of a domain stays when another is entered
+entered_front : (ds : List Decision) (x : Decision) (r : ℕ) (d : Decision) → decision_for ds r ≡ Some d → decision_for (ds ++ x ∷ []) r ≡ Some d
+entered_front [] x r d is = absurd (cc)
+entered_front (y ∷ ds) x r d is = by (y.domain == r) is (entered_front ds x r d) where
+  by : (b : Bool) → (if b then Some y else decision_for ds r) ≡ Some d → (decision_for ds r ≡ Some d → decision_for (ds ++ x ∷ []) r ≡ Some d)
+      → (if b then Some y else decision_for (ds ++ x ∷ []) r) ≡ Some d
+  by true e rest = e
+  by false e rest = rest e
+
+decision_stays : (s : State) (e : BookEntry) (r : ℕ) (d : Decision) → decision_for s.decisions r ≡ Some d → decision_for (after_entry s e).decisions r ≡ Some d
+decision_stays s (Acted i deed) r d is = by (applied s.tree i deed) where
+  by : (o : Result Applied Refusal) → decision_for (after_answer s o).decisions r ≡ Some d
+  by (Ok made) = is
+  by (Err refusal) = is
+decision_stays s (Decided x) r d is = entered_front s.decisions x r d is
+
+-- what was decided is ready
+decided_ready : (t : TreeFacts) (ds : List Decision) (r : ℕ) (d : Decision) → AllOf (IsOfReady t) ds → decision_for ds r ≡ Some d → is_ready t r ≡ true
+decided_ready t [] r d all is = absurd (cc)
+decided_ready t (x ∷ ds) r d all is = by (x.domain == r) refl is (decided_ready t ds r d all.1) where
+  by : (b : Bool) → (x.domain == r) ≡ b → (if b then Some x else decision_for ds r) ≡ Some d → (decision_for ds r ≡ Some d → is_ready t r ≡ true) → is_ready t r ≡ true
+  by true own e rest = let same : x.domain ≡ r = search (rules, tests, own) in subst (λ k. is_ready t k ≡ true) same all.0.ready
+  by false own e rest = rest e
+
+-- and so hasn't failed
+ready_unfailed : (t : TreeFacts) (r : ℕ) → is_ready t r ≡ true → has_failed t r ≡ false
+ready_unfailed t r ready =
+    let (_, rest) = and_parts (is_complete t.nodes r) (not (has_failed t r) && is_host_selected t.domains (host_node t.nodes r)) ready in
+    by (has_failed t r) (and_parts (not (has_failed t r)) (is_host_selected t.domains (host_node t.nodes r)) rest).0 where
+      by : (b : Bool) → not b ≡ true → b ≡ false
+      by true e = absurd (cc)
+      by false e = refl
+
+-- a verdict, by whether the domain failed and by what was entered
+abbrev shown : Bool → Option Decision → Option Verdict
+shown failed o = if failed then Some verdicts.Failed else option_map (λ (d : Decision). unwrap_or d.verdict verdicts.NoMemory) o
+
+pub verdict_stays : LegalIsSound → ReadyStays → FailedStays → OneForest → VerdictStays
+verdict_stays sound ready_stays failed_stays one platform es e r v legal ok has is = by (has_failed (replay es).tree r) refl (decision_for (replay es).decisions r) refl is where
+  failed : has_failed (replay es).tree r ≡ true → has_failed (after_entry (replay es) e).tree r ≡ true
+  failed f =
+      let state = sound platform es legal in
+      ap (λ (t : TreeFacts). has_failed t r) (tree_of_entry (replay es) e) ∙ failed_stays (replay es).tree (tree_entry e) r state.tree (accepts one platform (replay es) e state ok) has f
+
+  unfailed : (d : Decision) → decision_for (replay es).decisions r ≡ Some d → has_failed (after_entry (replay es) e).tree r ≡ false
+  unfailed d entered =
+      let state = sound platform es legal in
+      let now = decided_ready (replay es).tree (replay es).decisions r d state.decided entered in
+      ap (λ (t : TreeFacts). has_failed t r) (tree_of_entry (replay es) e)
+      ∙ ready_unfailed _ r (ready_stays (replay es).tree (tree_entry e) r state.tree (accepts one platform (replay es) e state ok) has now)
+
+  by : (b : Bool) → has_failed (replay es).tree r ≡ b → (o : Option Decision) → decision_for (replay es).decisions r ≡ o → shown b o ≡ Some v
+      → shown (has_failed (after_entry (replay es) e).tree r) (decision_for (after_entry (replay es) e).decisions r) ≡ Some v
+  by true f o entered now = ap (λ b. shown b (decision_for (after_entry (replay es) e).decisions r)) (failed f) ∙ now
+  by false f None entered now = absurd (cc)
+  by false f (Some d) entered now =
+      ap (λ b. shown b (decision_for (after_entry (replay es) e).decisions r)) (unfailed d entered) ∙ (ap (shown false) (decision_stays (replay es) e r d entered) ∙ now)

@@ -1,0 +1,6 @@
+-- See Once.antt.
+use Rattle.sysmem_tree.proofs.Once.{members_stay as lemma}
+use Rattle.sysmem_tree.proofs.laws.members_stay.Goals as goal
+
+pub returns : goal.returns
+returns c = lemma
