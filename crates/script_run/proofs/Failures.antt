@@ -4,8 +4,9 @@ use Rattle.std.specs.Prelude.{IsSomeAnd, map, option_and_then, option_map, unwra
 use Rattle.std.specs.List.{list_any}
 use Rattle.std.proofs.lemmas.Bool.{ne_eqb}
 use Rattle.std.proofs.lemmas.Option.{same_Some, slice_get_within}
-use Rattle.sysmem_alloc.proofs.CallerLemmas.{accepted, acted_roots, added, decided_roots, domains_there}
+use Rattle.sysmem_alloc.proofs.CallerLemmas.{acted_roots, added, decided_roots, domains_there}
 use Rattle.sysmem_alloc.specs.Sound.{AllOf, roots_of}
+use Rattle.sysmem_tree.proofs.CallerLemmas.{accepted}
 use Rattle.sysmem_tree.specs.declared.action.ActionKind.{ActionKind}
 use Rattle.sysmem_tree.specs.declared.action.ActionKind.TheVariants.{Duplicate, CreateGroup, Bind, CreateChild, AllChildrenPresent, SetConstraints, AttachToken, Release, Close}
 use Rattle.sysmem_tree.specs.declared.domain.Domain.{Domain}

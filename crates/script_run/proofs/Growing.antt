@@ -7,7 +7,7 @@ use Rattle.sysmem_alloc.specs.declared.book.Done.{Done}
 use Rattle.sysmem_alloc.specs.Book.{BookFacts, entered}
 use Rattle.sysmem_alloc.specs.Decision.{Decision, choices_of}
 use Rattle.sysmem_alloc.specs.Entry.{Decided}
-use Rattle.sysmem_alloc.proofs.CallerLemmas.{accepted, IsAccepted}
+use Rattle.sysmem_tree.proofs.CallerLemmas.{accepted}
 use Rattle.sysmem_tree.specs.declared.refusal.Refusal.{Refusal}
 use Rattle.sysmem_tree.specs.declared.state.NodeState.{NodeState}
 use Rattle.sysmem_tree.specs.ActionKind.{Deed, kind_of}
