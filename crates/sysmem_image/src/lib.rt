@@ -36,6 +36,3 @@ pub use multiples::lcm_capped;
 pub use read::BoundsRead;
 pub use size::{Corner, Size};
 pub use smallest::corner;
-
-#[cfg(test)]
-mod tests;

@@ -22,10 +22,6 @@ mod settings;
 mod share;
 mod sound;
 mod sum;
-#[cfg(test)]
-mod sum_tests;
-#[cfg(test)]
-mod tests;
 mod walk;
 
 pub use aggregate::Aggregate;

@@ -11,4 +11,12 @@ mod faults;
 #[cfg(test)]
 mod formats;
 #[cfg(test)]
+mod images;
+#[cfg(test)]
+mod lines;
+#[cfg(test)]
 mod memory;
+#[cfg(test)]
+mod settings;
+#[cfg(test)]
+mod sums;

@@ -1,8 +1,5 @@
-// What no clause shows: settings and reasons as they were worked out by hand, on a platform of one heap and two formats.
+//! Settings and reasons as they were worked out by hand, on a platform of one heap and two formats.
 
-mod lines;
-
-use crate::{Aggregate, Reason, Settings, fails_in, first_uncovered, is_sound, meets_one};
 use serde_json::Value;
 use std::alloc::Global;
 use std::test::Fail;
@@ -10,6 +7,7 @@ use sysmem_counts::Field;
 use sysmem_formats::{ColourSpace, Modifier, Offer, Pair, PixelFormat};
 use sysmem_image::ImageBounds;
 use sysmem_memory::{CoherencyDomain, Place};
+use sysmem_merge::{Aggregate, Reason, Settings, fails_in, first_uncovered, is_sound, meets_one};
 use sysmem_sanitise::{Constraints, Platform, read_constraints, read_platform};
 
 const ANY: &str = r#"{"usage":["cpu"]}"#;
@@ -22,7 +20,8 @@ fn platform(alloc: Global) -> Result<Platform, Fail> {
     Ok(read_platform(alloc, &value)?)
 }
 
-fn asked(alloc: Global, text: &str) -> Result<Constraints, Fail> {
+// A participant of this record.
+pub(crate) fn asked(alloc: Global, text: &str) -> Result<Constraints, Fail> {
     let value = Value::from_str(alloc, text)?;
     Ok(read_constraints(alloc, &value)?)
 }
@@ -58,7 +57,7 @@ fn cached(count: u32, size_bytes: u64) -> Settings {
 }
 
 // Linear images of the format.
-fn linear(format: PixelFormat) -> Offer {
+pub(crate) fn linear(format: PixelFormat) -> Offer {
     let modifier = Modifier::Linear;
     Offer::Image(Pair { format, modifier }, ColourSpace::Srgb)
 }

@@ -1,13 +1,14 @@
-// Sums of prefixes on the platform of the worked scripts, with what those scripts' decisions say of them.
+//! Sums of prefixes on the platform of the worked scripts, with what those scripts' decisions say of them.
 
 ghost use Rattle.std.specs.Prelude.{◌≡◌, IfOk};
 
-use crate::{Aggregate, Reason, Share, Sum};
+use crate::settings::asked;
 use serde_json::Value;
 use std::alloc::Global;
 use std::test::Fail;
 use sysmem_counts::Field;
-use sysmem_sanitise::{Constraints, Platform, read_constraints, read_platform};
+use sysmem_merge::{Aggregate, Reason, Share, Sum};
+use sysmem_sanitise::{Platform, read_platform};
 
 // Three heaps, five pairs, two colour spaces.
 const PLATFORM: &str =
@@ -32,11 +33,6 @@ const R8: &str =
 fn platform(alloc: Global) -> Result<Platform, Fail> {
     let value = Value::from_str(alloc, PLATFORM)?;
     Ok(read_platform(alloc, &value)?)
-}
-
-fn asked(alloc: Global, text: &str) -> Result<Constraints, Fail> {
-    let value = Value::from_str(alloc, text)?;
-    Ok(read_constraints(alloc, &value)?)
 }
 
 fn share_of(alloc: Global, platform: &Platform, text: &str) -> Result<Share, Fail>

@@ -1,11 +1,11 @@
-// The lines of the conflict table about one offer, asked of participants whose numbers were worked out by hand.
+//! The lines of the conflict table about one offer, asked of participants whose numbers were worked out by hand.
 
-use super::{asked, linear};
-use crate::OfferRead;
+use crate::settings::{asked, linear};
 use std::alloc::Global;
 use std::test::Fail;
 use sysmem_counts::Field;
 use sysmem_formats::{Offer, PixelFormat};
+use sysmem_merge::OfferRead;
 
 const ANY: &str =
     r#"{"usage":["cpu"],"image_format_constraints":[{"pixel_format":"DO_NOT_CARE","color_spaces":["DO_NOT_CARE"]}]}"#;

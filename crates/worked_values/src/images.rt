@@ -1,9 +1,13 @@
 //! Bounds, corners and entries, as they were worked out by hand.
 
-use super::*;
 use std::test::Fail;
 use sysmem_counts::Field;
 use sysmem_formats::{ColourSpace, Modifier, Offer, Pair, PixelFormat};
+use sysmem_image::{
+    BoundsRead, ColourSet, Corner, Entry, EntryBounds, FirstMatches, ImageBounds, Size, corner,
+    entry_for, first_failing, keeps_field, lcm_capped, merge_bounds, merge_into, suits,
+    takes_colour,
+};
 
 fn offer(format: PixelFormat, modifier: Modifier) -> Offer {
     Offer::Image(Pair { format, modifier }, ColourSpace::Srgb)
