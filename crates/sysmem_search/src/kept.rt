@@ -95,7 +95,8 @@ impl Kept {
     /// Becomes what is kept of the participants above, then those of a part, whatever it was. It takes no memory.
     pub(crate) fn join_of(&mut self, platform: &Platform, above: &Kept, part: &Part)
         requires { HaveRoom above.now part.now }
-        ensures { (nodes : List NodeFacts) (base : Option BaseFacts) (others ps qs : List Participant)
+        ensures { (nodes : List NodeFacts) (base : Option BaseFacts)
+            (others ps qs : List Participant)
             → IsKept platform.now nodes base self.old others
             → IsKept platform.now nodes base above.now ps → IsPart platform.now base part.now qs
             → IsKept platform.now nodes base self.new (ps ++ qs) }

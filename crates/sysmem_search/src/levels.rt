@@ -40,10 +40,12 @@ pub(crate) fn join_level(
     requires there { depth + 1 < length levels.old.items }
     requires room { (above : ALevel) → slice_get levels.old.items depth ≡ Some above
         → HaveRoom above.kept part.now }
-    ensures same { (k : ℕ) → k ≢ depth + 1 → slice_get levels.new.items k ≡ slice_get levels.old.items k }
+    ensures same { (k : ℕ) → k ≢ depth + 1
+        → slice_get levels.new.items k ≡ slice_get levels.old.items k }
     ensures joined { (nodes : List NodeFacts) (base : Option BaseFacts) (ps qs : List Participant)
         (above old : ALevel)
-        → slice_get levels.old.items depth ≡ Some above → slice_get levels.old.items (depth + 1) ≡ Some old
+        → slice_get levels.old.items depth ≡ Some above
+        → slice_get levels.old.items (depth + 1) ≡ Some old
         → IsKept platform.now nodes base above.kept ps → IsPart platform.now base part.now qs
         → (others : List Participant) → IsKept platform.now nodes base old.kept others
         → IsSomeAnd (slice_get levels.new.items (depth + 1)) (λ level. (level.group ≡ group)

@@ -74,7 +74,8 @@ impl<'a> Question<'a> {
         base: Option<&'a Base>,
     ) -> Result<Question<'a>, AllocError>
         requires domain { HasDomain tree.now.nodes domain }
-        requires base { IsGivenBase platform.now tree.now.nodes domain (option_map (λ b. b.now) base) }
+        requires base { IsGivenBase platform.now tree.now.nodes domain
+            (option_map (λ b. b.now) base) }
         ensures { IfOk result (λ question. question ≡ record {
           matter = record {
             platform = platform.now;
