@@ -146,7 +146,8 @@ pub(crate) fn keep_part(
     ensures parts { AreParts platform.now tree.now.nodes (option_map (λ b. b.now) base.entry)
         layout.now parts.old.items → AreParts platform.now tree.now.nodes
         (option_map (λ b. b.now) base.entry) layout.now parts.new.items }
-    ensures there { OnOk result ((part : APart) × (slice_get parts.new.items child ≡ Some (Some part))) }
+    ensures there { OnOk result ((part : APart)
+        × (slice_get parts.new.items child ≡ Some (Some part))) }
 {
     let place = child.number();
     if parts[place].is_some() {
