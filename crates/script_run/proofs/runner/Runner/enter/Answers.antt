@@ -14,10 +14,10 @@ decide-requires-clause-optimal c = if_unmapped (λ shared. arc_value shared) _ c
 pub invariant_of-self : goal.invariant_of-self
 invariant_of-self c =
     let d : Decision = record { domain = c.args.domain; verdict = option_map (λ shared. arc_value shared) c.args.verdict } in
-    record { there = decided_there c.args.self.now.book c.decide.new.self d _ c.args.self.now.there c.decide.ensures }
+    record { there = decided_there c.args.self.now.book c.decide.new.self d _ c.args.self.now.there c.decide.ensures.entered }
 
 pub returns : goal.returns
 returns c =
     let d : Decision = record { domain = c.args.domain; verdict = option_map (λ shared. arc_value shared) c.args.verdict } in
-    entered_as (state_of c.args.self.now) (state_of c.keep_want.new.self) c.decide.new.self c.is_none-wants.result d c.keep_want.ensures c.decide.ensures
+    entered_as (state_of c.args.self.now) (state_of c.keep_want.new.self) c.decide.new.self c.is_none-wants.result d c.keep_want.ensures c.decide.ensures.entered
     (turned (is_some c.args.verdict) c.is_none-wants.result c.is_none-wants.ensures ∙ sym (none_mapped (λ shared. arc_value shared) c.args.verdict))
