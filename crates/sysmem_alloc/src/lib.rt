@@ -20,6 +20,3 @@ mod verdicts;
 pub use book::{Book, Done};
 pub use entry::Entry;
 pub use frozen::Frozen;
-
-#[cfg(test)]
-mod tests;

@@ -16,6 +16,3 @@ mod settling;
 
 pub use deciding::{Found, MOST_SELECTIONS, search};
 pub use gate::{Gate, NoGate};
-
-#[cfg(test)]
-mod tests;

@@ -3,12 +3,12 @@
 ghost use Rattle.std.specs.Prelude.{IfOk};
 ghost use Rattle.sysmem_tree.specs.Nodes.{HasNode};
 
-use crate::{Book, Entry};
 use serde_json::Value;
 use std::alloc::Global;
 use std::process::Abort;
 use std::sync::Arc;
 use std::test::Fail;
+use sysmem_alloc::{Book, Entry};
 use sysmem_proof::Verdict;
 use sysmem_sanitise::{Constraints, Platform, read_constraints, read_platform};
 use sysmem_tree::{Action, ActionKind, Event, NodeId, Path, Refusal};

@@ -4,7 +4,6 @@ ghost use Rattle.std.specs.Prelude.{IfOk, IfSome};
 ghost use Rattle.sysmem_tree.specs.Domain.{HasDomain};
 ghost use Rattle.sysmem_tree.specs.Nodes.{HasNode};
 
-use crate::{Found, Gate, search};
 use serde_json::Value;
 use std::alloc::Global;
 use std::cell::Cell;
@@ -13,6 +12,7 @@ use std::sync::Arc;
 use std::test::Fail;
 use sysmem_proof::Verdict;
 use sysmem_sanitise::{Platform, read_constraints, read_platform};
+use sysmem_search::{Found, Gate, search};
 use sysmem_tree::{Action, DomainId, Event, NodeId, Path, Tree};
 
 // What a step does; constraints are given as JSON.

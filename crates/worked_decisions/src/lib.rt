@@ -1,0 +1,8 @@
+//! Decisions of small trees, and books step by step, beside what was worked out by hand. It is a crate of tests alone, so that
+//! neither the search nor the book is proved again with its tests, and searches and books meet in it.
+#![tactic(auto)]
+
+#[cfg(test)]
+mod books;
+#[cfg(test)]
+mod searches;
