@@ -26,8 +26,8 @@ never_closed nodes r [] none all = refl
 never_closed nodes r (d ∷ ds) none all =
     let apart : (d.root == r) ≡ false = ne_eqb d.root r (λ same. not_there (subst (HasDomain nodes) same all.0)) in
     ap (λ b. (b && d.is_closed_early) || was_closed_early ds r) apart ∙ never_closed nodes r ds none all.1 where
-  not_there : HasDomain nodes r → ⊥
-  not_there h = subst (λ o. IsSomeAnd o (λ (n : NodeFacts). n.domain ≡ r)) none h
+      not_there : HasDomain nodes r → ⊥
+      not_there h = subst (λ o. IsSomeAnd o (λ (n : NodeFacts). n.domain ≡ r)) none h
 
 no_host : (nodes : List NodeFacts) (r : ℕ) → slice_get nodes r ≡ None → host_node nodes r ≡ None
 no_host nodes r none = ap (λ o. option_and_then (λ (n : NodeFacts). option_and_then (λ b. slice_get nodes b.parent) n.birth) o) none

@@ -32,12 +32,12 @@ there_after t i deed after is =
     subst (λ (u : TreeFacts). IsThereAfter t.nodes u.nodes after.node) ok.tree
     (subst (IsThereAfter t.nodes (slice_set t.nodes i (node_after deed n) ++ nodes_made (length t.nodes) i n (kind_of deed) (makes (kind_of deed)))) ok.node
     (by (slice_set t.nodes i (node_after deed n)) n (makes (kind_of deed)) kept own)) where
-  by : (xs : List NodeFacts) (n : NodeFacts) (o : Option NodeState) → length xs ≡ length t.nodes → i < length t.nodes
-      → IsThereAfter t.nodes (xs ++ nodes_made (length t.nodes) i n (kind_of deed) o) (if is_some o then length t.nodes else i)
-  by xs n None kept own = record { grows = omega (arith, kept, length-append xs []); there = omega (arith, kept, own, length-append xs []) }
-  by xs n (Some s) kept own =
-      let long = length-append xs (new_node (length t.nodes) i n (kind_of deed) s ∷ []) in
-      record { grows = omega (arith, kept, long); there = omega (arith, kept, long) }
+      by : (xs : List NodeFacts) (n : NodeFacts) (o : Option NodeState) → length xs ≡ length t.nodes → i < length t.nodes
+          → IsThereAfter t.nodes (xs ++ nodes_made (length t.nodes) i n (kind_of deed) o) (if is_some o then length t.nodes else i)
+      by xs n None kept own = record { grows = omega (arith, kept, length-append xs []); there = omega (arith, kept, own, length-append xs []) }
+      by xs n (Some s) kept own =
+          let long = length-append xs (new_node (length t.nodes) i n (kind_of deed) s ∷ []) in
+          record { grows = omega (arith, kept, long); there = omega (arith, kept, long) }
 
 left_length : (ms : List ℕ) (r i : ℕ) (nodes : List NodeFacts) → length (left_out_but ms r i nodes) ≡ length nodes
 left_length ms r i [] = refl

@@ -218,10 +218,12 @@ module _ (one : OneAnswer) (least : CornerIsLeast) where
       let same_reply : reply ≡ reply' = ap (λ (p : Reply × State). p.0) (first ∙ sym second) in
       let same_mid : mid' ≡ mid = ap (λ (p : Reply × State). p.1) (second ∙ sym first) in
       let followed_too : Follows mid u line' = subst (λ (m : State). Follows m u line') same_mid followed' in
-      let same : (t ≡ u) × (line ≡ line') = one_following mid t u line line' followed followed_too e f in
-      (same.0, joined (call_line number r reply ++ failed_lines (tree_of s) (tree_of mid)) (call_line number r reply' ++ failed_lines (tree_of s) (tree_of mid')) line line'
-      (joined (call_line number r reply) (call_line number r reply') (failed_lines (tree_of s) (tree_of mid)) (failed_lines (tree_of s) (tree_of mid')) (ap (call_line number r) same_reply)
-      (ap (λ (m : State). failed_lines (tree_of s) (tree_of m)) (sym same_mid))) same.1)
+      let same : (t ≡ u) × (line ≡ line') = one_following mid t u line line' followed followed_too e f in (
+        same.0,
+        joined (call_line number r reply ++ failed_lines (tree_of s) (tree_of mid)) (call_line number r reply' ++ failed_lines (tree_of s) (tree_of mid')) line line'
+            (joined (call_line number r reply) (call_line number r reply') (failed_lines (tree_of s) (tree_of mid)) (failed_lines (tree_of s) (tree_of mid')) (ap (call_line number r) same_reply)
+            (ap (λ (m : State). failed_lines (tree_of s) (tree_of m)) (sym same_mid))) same.1,
+      )
 
   -- memory that was refused stays so
   answer_starves : (s t : State) (r : CallFacts) (reply : Reply) → Replies s r reply t → s.starved ≡ true → t.starved ≡ true

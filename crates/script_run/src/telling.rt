@@ -18,7 +18,10 @@ pub(crate) fn told(book: &Book, node: NodeId) -> Reply
     if !is_open_collection(tree, node) {
         return Reply::Refused(Refusal::WrongState);
     }
-    told_by(tree.is_selected(node), book.verdict_of(tree.domain_of(node)))
+    told_by(
+        tree.is_selected(node),
+        book.verdict_of(tree.domain_of(node)),
+    )
 }
 
 /// Whether a node of the tree is an open collection.
