@@ -141,8 +141,8 @@ met_fit platform ps t m = record {
   some = m.counted.some;
   few = m.counted.limit;
   heap = slice_get_within platform.heaps t.place.heap m.heap m.sound.place.heap;
-  size = m.sound.fits;
-  bounds = m.sound.bounds.in_range;
+  size = m.sound.fit.fits;
+  bounds = m.sound.fit.holds.bounds.in_range;
 }
 
 -- the base that a state gives has settings of a decision
