@@ -1,9 +1,10 @@
--- Bytes give one answer, where memory is not refused.
+-- Bytes give one answer, where memory is not refused, and a fault of theirs alone.
 use Rattle.std.proofs.Common.{◌≡◌, ℕ, ◌<◌, ◌≤◌, List, Bool, false, Some, Result, Ok, Err, refl, sym, ◌∙◌, ap, subst, length, arith}
 use Rattle.serde_json.specs.Data.{Data}
 use Rattle.script_reading.specs.declared.fault.ScriptFault.{ScriptFault}
-use Rattle.script_run.specs.Laws.{IsFed, OneAnswer, OneReport}
-use Rattle.script_run.specs.Outcome.{ReportFacts, ValueRunsTo, refused, reported}
+use Rattle.script_reading.specs.declared.fault.ScriptFault.TheVariants.{TooLong, NotJson}
+use Rattle.script_run.specs.Laws.{FaultIsAlone, IsFed, OneAnswer, OneReport}
+use Rattle.script_run.specs.Outcome.{ReportFacts, ValueRunsTo, RunsTo, refused, reported}
 use Rattle.script_run.specs.Report.{IsReport}
 use Rattle.script_reading.specs.Script.{ScriptFacts}
 use Rattle.script_run.specs.State.{first_state}
@@ -39,14 +40,31 @@ one_said one value _ _ (reported script a e first) (reported other b h second) x
 too_long_alone : (n : ℕ) → longest < n → n ≤ longest → ⊥
 too_long_alone n long few = absurd (omega (arith, long, few))
 
+-- two answers of bytes are the same fault of theirs, or both of their one value
+both_said : (P : Result ReportFacts ScriptFault → Result ReportFacts ScriptFault → Type 0) → ((fault : ScriptFault) → P (Err fault) (Err fault))
+    → ((value : Data) (a b : Result ReportFacts ScriptFault) → ValueRunsTo value a → ValueRunsTo value b → P a b)
+    → (input : List ℕ) (a b : Result ReportFacts ScriptFault) → RunsTo input a → RunsTo input b → P a b
+both_said P same both input _ _ (too_long long) (too_long _) = same TooLong
+both_said P same both input _ _ (too_long long) (not_json few none) = absurd (too_long_alone (length input) long few)
+both_said P same both input _ b (too_long long) (spelled w few json _ said) = absurd (too_long_alone (length input) long few)
+both_said P same both input _ _ (not_json few none) (too_long long) = absurd (too_long_alone (length input) long few)
+both_said P same both input _ _ (not_json few none) (not_json _ _) = same NotJson
+both_said P same both input _ b (not_json few none) (spelled w _ json _ said) = absurd (none w json)
+both_said P same both input a _ (spelled v few json _ said) (too_long long) = absurd (too_long_alone (length input) long few)
+both_said P same both input a _ (spelled v _ json _ said) (not_json few none) = absurd (none v json)
+both_said P same both input a b (spelled v few json _ said) (spelled w _ json' _ said') =
+    both v a b said (subst (λ (d : Data). ValueRunsTo d b) (one_value input v w json json') said')
+
 pub one_answer : OneReport → OneAnswer
-one_answer one input _ _ (too_long long) (too_long _) x y = refl
-one_answer one input _ _ (too_long long) (not_json few none) x y = absurd (too_long_alone (length input) long few)
-one_answer one input _ b (too_long long) (spelled w few json _ said) x y = absurd (too_long_alone (length input) long few)
-one_answer one input _ _ (not_json few none) (too_long long) x y = absurd (too_long_alone (length input) long few)
-one_answer one input _ _ (not_json few none) (not_json _ _) x y = refl
-one_answer one input _ b (not_json few none) (spelled w _ json _ said) x y = absurd (none w json)
-one_answer one input a _ (spelled v few json _ said) (too_long long) x y = absurd (too_long_alone (length input) long few)
-one_answer one input a _ (spelled v _ json _ said) (not_json few none) x y = absurd (none v json)
-one_answer one input a b (spelled v few json _ said) (spelled w _ json' _ said') x y =
-    one_said one v a b said (subst (λ (d : Data). ValueRunsTo d b) (one_value input v w json json') said') x y
+one_answer one = both_said (λ a b. IsFed a → IsFed b → a ≡ b) (λ fault x y. refl) (one_said one)
+
+-- a value with a fault gives nothing else
+fault_said : (fault : ScriptFault) (value : Data) (a b : Result ReportFacts ScriptFault) → ValueRunsTo value a → ValueRunsTo value b → a ≡ Err fault → b ≡ Err fault
+fault_said fault value _ _ (refused f e) (refused g h) same =
+    let both : Err g ≡ Err f = sym h ∙ e in let other : g ≡ f = cc in ap Err other ∙ same
+fault_said fault value _ _ (refused f e) (reported script r h report) same = let both : Err f ≡ Ok script = sym e ∙ h in absurd (cc)
+fault_said fault value _ b (reported script r e report) said same = absurd (cc)
+
+pub fault_is_alone : FaultIsAlone
+fault_is_alone input fault b first second =
+    both_said (λ a b. a ≡ Err fault → b ≡ Err fault) (λ other same. same) (fault_said fault) input (Err fault) b first second refl

@@ -20,3 +20,7 @@ IsFed (Err fault) = Unit {0}
 -- the bytes of a script give one answer, where memory is not refused: a fault or a report
 abbrev pub OneAnswer : Type 0
 OneAnswer = (input : List ℕ) (a b : Result ReportFacts ScriptFault) → RunsTo input a → RunsTo input b → IsFed a → IsFed b → a ≡ b
+
+-- bytes with a fault give that fault and nothing else, whether or not memory is refused
+abbrev pub FaultIsAlone : Type 0
+FaultIsAlone = (input : List ℕ) (fault : ScriptFault) (b : Result ReportFacts ScriptFault) → RunsTo input (Err fault) → RunsTo input b → b ≡ Err fault

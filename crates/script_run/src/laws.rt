@@ -1,6 +1,6 @@
 //! What is true of reports, whoever writes them.
 
-ghost use Rattle.script_run.specs.Laws.{OneAnswer, OneReport};
+ghost use Rattle.script_run.specs.Laws.{FaultIsAlone, OneAnswer, OneReport};
 
 use sysmem_image::laws::corner_is_least;
 use sysmem_proof::laws;
@@ -19,3 +19,8 @@ pub fn one_answer()
 {
     one_report();
 }
+
+/// Bytes with a fault give that fault and nothing else, whether or not memory is refused: no report, and no other fault.
+pub fn fault_is_alone()
+    ensures { FaultIsAlone }
+{}
