@@ -1,16 +1,15 @@
 -- Each label of a domain's forest tells the node at its path.
-use Rattle.std.proofs.Common.{◌≡◌, ◌≢◌, ℕ, zero, suc, ◌+◌, Bool, true, false, List, [], ◌∷◌, ◌++◌, Option, Some, None, map, slice_get, refl, sym, ◌∙◌, ap, subst, arith}
+use Rattle.std.proofs.Common.{◌≡◌, ℕ, suc, ◌+◌, Bool, true, false, List, [], ◌∷◌, ◌++◌, Option, Some, None, slice_get, refl, ap, subst, arith}
 use Rattle.std.specs.Prelude.{◌==◌, IfSome, option_map, option_and_then, unwrap_or, if◌then◌else◌}
 use Rattle.std.proofs.lemmas.Option.{same_Some, option_and_then_some}
 use Rattle.sysmem_sanitise.specs.Participant.{Participant}
 use Rattle.sysmem_tree.specs.declared.state.NodeKind.{NodeKind}
 use Rattle.sysmem_tree.specs.declared.state.NodeKind.TheVariants as kinds
-use Rattle.sysmem_tree.specs.declared.node.Birth.{Birth}
 use Rattle.sysmem_tree.specs.Forest.{Forest, Empty, Plain, Group, each, kids_else_rest, choices, settled}
-use Rattle.sysmem_tree.specs.Laws.{by_both, OnePath}
+use Rattle.sysmem_tree.specs.Laws.{by_both}
 use Rattle.sysmem_tree.specs.Node.{NodeFacts}
 use Rattle.sysmem_tree.specs.Nodes.{IsTree, ordinal_under}
-use Rattle.sysmem_tree.specs.Path.{node_at, path_of}
+use Rattle.sysmem_tree.specs.Path.{node_at}
 use Rattle.sysmem_tree.specs.Selection.{after, settled_by}
 use Rattle.sysmem_tree.specs.Shape.{Member, kid_of, before, tree_of, kids_from, rooted, forest_of}
 use Rattle.sysmem_tree.proofs.CallerLemmas.{AllOf, all_mapped, all_at, led_kid, is_under}

@@ -1,10 +1,10 @@
 -- How many places and offers a platform has, and whom the lines of a conflict name.
-use Rattle.std.proofs.Common.{◌≡◌, ◌<◌, ◌≤◌, ℕ, zero, suc, ◌+◌, Bool, true, false, List, [], ◌∷◌, ◌++◌, Option, Some, None, inl, inr, length, take, get_or, refl, sym, ◌∙◌, ap, subst, arith}
+use Rattle.std.proofs.Common.{◌≡◌, ◌<◌, ◌≤◌, ℕ, zero, suc, ◌+◌, Bool, true, false, List, [], ◌∷◌, ◌++◌, Some, inl, inr, length, take, get_or, sym, ◌∙◌, ap, subst, arith}
 use Rattle.std.specs.Prelude.{All, Any, MatchResult, Ok, Err, Result}
 use Rattle.std.proofs.lemmas.List.{take_more, take_all}
 use Rattle.sysmem_counts.specs.declared.field.Field.{Field}
 use Rattle.sysmem_memory.specs.Heap.{HeapFacts}
-use Rattle.sysmem_memory.specs.Listed.{HeapPlace, put_if, places_from, places_of}
+use Rattle.sysmem_memory.specs.Listed.{put_if, places_from, places_of}
 use Rattle.sysmem_merge.specs.declared.settings.Settings.{Settings}
 use Rattle.sysmem_merge.specs.Failing.{FailsOn}
 use Rattle.sysmem_sanitise.specs.Platform.{PlatformFacts, offers_of}

@@ -1,7 +1,7 @@
 -- Whom a path names of a roll.
-use Rattle.std.proofs.Common.{eqb, ◌≤◌, rules, tests, ◌≡◌, ◌≢◌, ◌<◌, ℕ, zero, suc, Bool, true, false, List, [], ◌∷◌, ◌++◌, Option, Some, None, length, map, slice_get, refl, sym, ◌∙◌, ap, subst, arith, inl, inr}
-use Rattle.std.specs.Prelude.{◌==◌, ◌||◌, All, AllPairs, slice_index_or, filter, is_some, not, option_map, option_and_then, unwrap_or, IfSome, IsSome, IsSomeAnd, if◌then◌else◌}
-use Rattle.std.specs.List.{AllByRecursion, IsDistinct, filter_map, cons_option, list_any}
+use Rattle.std.proofs.Common.{eqb, ◌≤◌, rules, tests, ◌≡◌, ◌≢◌, ◌<◌, ℕ, suc, Bool, true, false, List, [], ◌∷◌, ◌++◌, Option, Some, None, length, map, slice_get, refl, sym, ◌∙◌, ap, subst, arith, inl, inr}
+use Rattle.std.specs.Prelude.{◌==◌, ◌||◌, All, AllPairs, slice_index_or, filter, is_some, option_map, option_and_then, unwrap_or, IfSome, IsSome, IsSomeAnd, if◌then◌else◌}
+use Rattle.std.specs.List.{AllByRecursion, IsDistinct, cons_option, list_any}
 use Rattle.std.proofs.lemmas.Bool.{cases_eq, ne_eqb}
 use Rattle.std.proofs.lemmas.Map.Steps.{length-le_from_distinct_below}
 use Rattle.std.proofs.lemmas.List.{length-map, map-append}
@@ -19,7 +19,7 @@ use Rattle.sysmem_tree.specs.Selection.{after, settled_by, IsPrefix}
 use Rattle.sysmem_tree.specs.Shape.{Member, by_number, by_path, forest_of, shape_of, members_of, participants_of}
 use Rattle.sysmem_tree.proofs.CallerLemmas.{AllOf, settled_relabel, after_relabel, node_within}
 use Rattle.sysmem_proof.specs.Fault.{AreNamed}
-use Rattle.sysmem_proof.specs.Members.{member_at, members_at}
+use Rattle.sysmem_proof.specs.Members.{members_at}
 use Rattle.sysmem_proof.specs.Naming.{same_path, asked_at}
 use Rattle.sysmem_proof.specs.Roll.{RollFacts, listed}
 use Rattle.sysmem_proof.proofs.Labels.{IsLabel, node_asks, both_all, in_settled_by, labels_are}

@@ -1,8 +1,7 @@
 -- Conflicts: why no settings meet the participants that are settled.
-use Rattle.std.specs.Prelude.{◌≡◌, ◌⊎◌, ℕ, Bool, true, List, [], ◌∷◌, ◌++◌, Option, Some, None, is_none, Any}
+use Rattle.std.specs.Prelude.{◌≡◌, ◌⊎◌, Bool, true, List, [], ◌∷◌, ◌++◌, Option, Some, None, is_none, Any}
 use Rattle.std.specs.List.{AllZip}
 use Rattle.sysmem_counts.specs.Counts.{IsCountLine, IsFixedCountLine}
-use Rattle.sysmem_counts.specs.declared.field.Field.{Field}
 use Rattle.sysmem_formats.specs.declared.offer.Offer.{Offer}
 use Rattle.sysmem_memory.specs.Listed.{HeapPlace, places_of}
 use Rattle.sysmem_memory.specs.PlaceTable.{IsPlaceLine}

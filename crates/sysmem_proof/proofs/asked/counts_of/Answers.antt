@@ -1,9 +1,8 @@
 -- One more is counted.
-use Rattle.std.proofs.Common.{◌*◌, ◌≤◌, subst, arith}
+use Rattle.std.proofs.Common.{subst, arith}
 use Rattle.sysmem_counts.specs.Bounds.{IsTallyOf}
-use Rattle.sysmem_merge.specs.Demands.{counts_asked}
 use Rattle.sysmem_proof.specs.Roll.{listed}
-use Rattle.sysmem_proof.proofs.OnRoll.{counts_more, asked_whole}
+use Rattle.sysmem_proof.proofs.OnRoll.{counts_more}
 use Rattle.sysmem_proof.proofs.asked.counts_of.Goals as goal
 
 pub loop-path-preserved : goal.loop-path-preserved

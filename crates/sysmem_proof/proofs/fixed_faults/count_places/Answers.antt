@@ -1,5 +1,5 @@
 -- One heap more.
-use Rattle.std.proofs.Common.{◌≤◌, ◌*◌, ◌∙◌, ap, sym, arith, ◌+◌}
+use Rattle.std.proofs.Common.{◌∙◌, ap, arith, ◌+◌}
 use Rattle.sysmem_proof.specs.EachLine.{many_in}
 use Rattle.sysmem_proof.proofs.Numbering.{places_more, places_whole}
 use Rattle.sysmem_proof.proofs.fixed_faults.count_places.Goals as goal

@@ -1,10 +1,9 @@
 -- What is told of a line is told of the conflict.
-use Rattle.std.proofs.Common.{Some, sym, subst, arith}
+use Rattle.std.proofs.Common.{Some, sym, subst}
 use Rattle.std.specs.Prelude.{MatchResult}
 use Rattle.sysmem_proof.specs.Conflict.{IsFixedConflict}
 use Rattle.sysmem_proof.specs.Fault.{ConflictFaults}
 use Rattle.sysmem_proof.specs.Roll.{listed}
-use Rattle.sysmem_proof.specs.declared.no.No.TheVariants.{NoConflict}
 use Rattle.sysmem_proof.proofs.Numbering.{fixed_told, places_told, offers_told}
 use Rattle.sysmem_proof.proofs.fixed_faults.fixed_conflict_fault.Goals as goal
 
