@@ -57,7 +57,8 @@ impl Model for Book {
 
     ghost view = { λ b. kept_book b.platform b.tree b.history.items b.waiting.items b.were_open };
 
-    ghost invariant = { λ b. IsBook (kept_book b.platform b.tree b.history.items b.waiting.items b.were_open)
+    ghost invariant = { λ b.
+        IsBook (kept_book b.platform b.tree b.history.items b.waiting.items b.were_open)
         × (1024 ≤ vec_capacity b.history) × (128 ≤ vec_capacity b.waiting)
         × (b.failed ≡ verdicts.Failed) × (b.no_memory ≡ verdicts.NoMemory) };
 }

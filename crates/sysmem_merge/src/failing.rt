@@ -110,7 +110,8 @@ fn fails_bound_of(field: Field, settings: &Settings, entries: &[Entry]) -> bool
 /// The first of the offer's fields and bounds in which the settings fail a participant with these entries.
 fn failing_offer(settings: &Settings, entries: &[Entry]) -> Option<Field>
     ensures first { (heap : HeapFacts) (p : Participant) → p.entries ≡ entries.now
-        → IfSome result (λ field. IsFirstOf (λ f. FailsIn f heap settings.now p) offer_fields field) }
+        → IfSome result (λ field.
+        IsFirstOf (λ f. FailsIn f heap settings.now p) offer_fields field) }
     ensures none { (d : OfferDemand) → d.entries ≡ entries.now
         → IfNone result (AcceptsOffer settings.now.offer settings.now.bounds d) }
 {

@@ -96,7 +96,8 @@ impl KeptBounds {
     fn add(&mut self, offer: &Offer, entry: &Entry)
         ensures { (ds : List OfferDemand) (d : OfferDemand)
             → Some entry.now ≡ first_match offer.now d.entries
-            → AreKeptBounds offer.now ds self.old → AreKeptBounds offer.now (ds ++ d ∷ []) self.new }
+            → AreKeptBounds offer.now ds self.old
+            → AreKeptBounds offer.now (ds ++ d ∷ []) self.new }
     {
         if !takes_colour(entry, offer) {
             return self.refuse(Field::ColorSpaces);

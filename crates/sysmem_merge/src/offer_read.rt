@@ -158,7 +158,8 @@ impl OfferRead {
         ensures greatest { self.new.greatest_size ≡ self.old.greatest_size }
         ensures refused { self.new.format_refused ≡ self.old.format_refused }
         ensures bounds { (es : List ImageBounds) → AreRead self.old.offer es self.old.bounds
-            → AreRead self.old.offer (es ++ effective self.old.offer entry.now ∷ []) self.new.bounds }
+            → AreRead self.old.offer (es ++ effective self.old.offer entry.now ∷ [])
+            self.new.bounds }
         ensures colour { self.new.colour_refused
             ≡ (self.old.colour_refused || not (takes_colour self.old.offer entry.now)) }
         ensures format_named { self.new.format_named

@@ -44,7 +44,8 @@ pub fn search<G: Gate>(
     requires base { IsGivenBase platform.now tree.now.nodes domain
         (option_map (λ b. b.now) base) }
     ensures optimal { IfOk result (λ found.
-        IsOptimalIn platform.now tree.now.nodes domain (option_map (λ b. b.now) base.entry) found.verdict) }
+        IsOptimalIn platform.now tree.now.nodes domain (option_map (λ b. b.now) base.entry)
+        found.verdict) }
     ensures visits { IfOk result (λ found.
         AreVisitsIn platform.now tree.now.nodes domain (option_map (λ b. b.now) base.entry) found.verdict
         found.visits) }

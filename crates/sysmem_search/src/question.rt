@@ -53,12 +53,13 @@ impl<'a> Model for Question<'a> {
       choices = q.prefix;
     } };
 
-    ghost invariant = { λ q. HasDomain q.tree.now.nodes q.domain × IsSoundTree q.tree.now × Keeps (record {
-      platform = q.platform.now;
-      nodes = q.tree.now.nodes;
-      domain = q.domain;
-      base = option_map (λ b. b.now) q.base;
-    }) q.layout q.parts.items q.levels.items q.prefix };
+    ghost invariant = { λ q. HasDomain q.tree.now.nodes q.domain × IsSoundTree q.tree.now
+        × Keeps (record {
+          platform = q.platform.now;
+          nodes = q.tree.now.nodes;
+          domain = q.domain;
+          base = option_map (λ b. b.now) q.base;
+        }) q.layout q.parts.items q.levels.items q.prefix };
 }
 
 impl<'a> Question<'a> {
