@@ -9,6 +9,7 @@ pub mod Counting
 pub mod Marking
 pub mod Marked
 pub mod Entering
+pub mod Onward
 pub mod Fates
 pub mod Confluent
 pub mod Hosts

@@ -8,6 +8,7 @@ use Rattle.sysmem_tree.specs.History as trees
 use Rattle.sysmem_tree.specs.Tree.{Applied, applied, decided}
 use Rattle.sysmem_alloc.specs.Decision.{choices_of}
 use Rattle.sysmem_alloc.specs.Entry.{BookEntry, Acted, Decided, tree_entry}
+use Rattle.sysmem_alloc.specs.Sound.{AllOf}
 use Rattle.sysmem_alloc.specs.State.{State, first_state, next_ready, after_action, after_decision, base_of}
 
 -- after the tree's answer to an action; a refusal leaves the state
@@ -47,6 +48,14 @@ AreAllowed platform s (e ∷ es) = Allows platform s e × AreAllowed platform (a
 
 abbrev pub IsLegal : PlatformFacts → List BookEntry → Type 0
 IsLegal platform es = AreAllowed platform first_state es
+
+-- no decision is among the entries
+abbrev pub IsAction : BookEntry → Type 0
+IsAction (Acted i deed) = Unit {0}
+IsAction (Decided d) = ⊥
+
+abbrev pub AreActions : List BookEntry → Type 0
+AreActions es = AllOf IsAction es
 
 -- histories with the same actions at each path, constraints included
 abbrev pub SameCalls : List BookEntry → List BookEntry → Type 0

@@ -72,7 +72,7 @@ pub fn confluence()
     one_answer();
 }
 
-/// A domain that has a verdict keeps it, whatever is entered.
+/// A domain that has a verdict keeps it, whatever is entered after it.
 pub fn verdict_stays()
     ensures { VerdictStays }
 {
@@ -82,8 +82,8 @@ pub fn verdict_stays()
     one_forest();
 }
 
-/// The domain that is to be decided next stays so until it is: no action changes its forest, or the settings and the accepted nodes that
-/// it is decided on; so a verdict that is optimal for it stays so.
+/// The domain that is to be decided next stays so until it is: actions, however many, change neither its forest nor the settings and the
+/// accepted nodes that it is decided on; so a verdict that is optimal for it stays so.
 pub fn next_stays()
     ensures { NextStays }
 {
