@@ -1,10 +1,11 @@
 -- What is true of legal histories.
-use Rattle.std.specs.Prelude.{◌≡◌, ◌≤◌, ◌++◌, ℕ, List, length, Some, map}
+use Rattle.std.specs.Prelude.{◌≡◌, ◌≤◌, ◌++◌, ℕ, true, List, length, Some, map}
+use Rattle.std.specs.List.{Contains}
 use Rattle.sysmem_proof.specs.declared.verdict.Verdict.{Verdict}
 use Rattle.sysmem_proof.specs.Base.{IsGivenBase}
 use Rattle.sysmem_proof.specs.Verdict.{IsOptimalIn, IsSameAnswer}
 use Rattle.sysmem_sanitise.specs.Platform.{PlatformFacts}
-use Rattle.sysmem_tree.specs.Domain.{HasDomain}
+use Rattle.sysmem_tree.specs.Domain.{HasDomain, decision_of, is_ready, is_undecided}
 use Rattle.sysmem_tree.specs.Laws.{SameInitial, SameReady, IsSameDomain}
 use Rattle.sysmem_tree.specs.Path.{at_path}
 use Rattle.sysmem_tree.specs.Step.{IsInitial}
@@ -22,6 +23,11 @@ LegalIsSound = (platform : PlatformFacts) (es : List BookEntry) → IsLegal plat
 -- the decisions of each legal history agree with its tree
 abbrev pub LegalAgrees : Type 0
 LegalAgrees = (platform : PlatformFacts) (es : List BookEntry) → IsLegal platform es → AgreesWithTree platform (replay es)
+
+-- each domain that is ready and undecided waits
+abbrev pub ReadyWaits : Type 0
+ReadyWaits = (platform : PlatformFacts) (es : List BookEntry) (r : ℕ) → IsLegal platform es → HasDomain (replay es).tree.nodes r → is_ready (replay es).tree r ≡ true
+    → is_undecided (decision_of (replay es).tree.domains r) ≡ true → Contains (replay es).waiting r
 
 -- what the domain that is to be decided next is decided on is a base for it, and there is one exactly for an attached domain
 abbrev pub BaseIsGiven : Type 0

@@ -1,6 +1,6 @@
 //! What is true of the histories of books, whoever keeps them.
 
-ghost use Rattle.sysmem_alloc.specs.Laws.{LegalIsSound, LegalAgrees, BaseIsGiven, FewEntries, VerdictStays, NextStays, InitialShape, Confluence};
+ghost use Rattle.sysmem_alloc.specs.Laws.{LegalIsSound, LegalAgrees, BaseIsGiven, FewEntries, ReadyWaits, VerdictStays, NextStays, InitialShape, Confluence};
 
 use sysmem_proof::laws::one_answer;
 use sysmem_tree::laws;
@@ -27,6 +27,14 @@ pub fn legal_agrees()
     legal_is_sound();
     forest_stays();
     one_forest();
+}
+
+/// In each legal history's state, each domain that is ready and undecided waits for a decision.
+pub fn ready_waits()
+    ensures { ReadyWaits }
+{
+    legal_is_sound();
+    legal_agrees();
 }
 
 /// What the domain that is to be decided next is decided on is a base for it, as a search wants one: given exactly for an attached domain,
