@@ -1,9 +1,8 @@
 -- Histories of a book: the states that they lead to, and which are legal.
-use Rattle.std.specs.Prelude.{◌≡◌, ℕ, List, [], ◌∷◌, Some, Result, Ok, Err, IsOk, IfSome, map}
+use Rattle.std.specs.Prelude.{◌≡◌, List, [], ◌∷◌, Some, Result, Ok, Err, IsOk, IfSome, map}
 use Rattle.sysmem_proof.specs.Verdict.{IsOptimalIn}
 use Rattle.sysmem_sanitise.specs.Platform.{PlatformFacts}
 use Rattle.sysmem_tree.specs.declared.refusal.Refusal.{Refusal}
-use Rattle.sysmem_tree.specs.Domain.{newly_failed}
 use Rattle.sysmem_tree.specs.History as trees
 use Rattle.sysmem_tree.specs.Tree.{Applied, applied, decided}
 use Rattle.sysmem_alloc.specs.Decision.{choices_of}
@@ -64,7 +63,3 @@ SameCalls es fs = trees.SameCalls (map tree_entry es) (map tree_entry fs)
 -- no node is closed before the initial domain's decision
 abbrev pub NoEarlyClose : List BookEntry → Type 0
 NoEarlyClose es = trees.NoEarlyClose (map tree_entry es)
-
--- the domains that an entry makes fail, in order of creation of their roots
-abbrev pub failed_by : State → BookEntry → List ℕ
-failed_by s e = newly_failed s.tree (after_entry s e).tree
