@@ -1,20 +1,26 @@
 -- A verdict stays.
-use Rattle.std.proofs.Common.{◌≡◌, ℕ, Bool, true, false, not, ◌&&◌, ◌==◌, List, [], ◌∷◌, ◌++◌, Option, Some, None, Result, Ok, Err, refl, ◌∙◌, ap, subst, rules, tests}
+use Rattle.std.proofs.Common.{◌≡◌, ℕ, Bool, true, false, not, ◌&&◌, ◌==◌, List, [], ◌∷◌, ◌++◌, Option, Some, None, Result, Ok, Err, refl, sym, ◌∙◌, ap, subst, rules, tests}
 use Rattle.std.specs.Prelude.{option_map, unwrap_or, if◌then◌else◌}
 use Rattle.list_lemmas.proofs.CallerLemmas.{and_parts}
 use Rattle.sysmem_proof.specs.declared.verdict.Verdict.{Verdict}
 use Rattle.sysmem_proof.specs.declared.verdict.Verdict.TheVariants as verdicts
 use Rattle.sysmem_tree.specs.declared.refusal.Refusal.{Refusal}
-use Rattle.sysmem_tree.specs.Domain.{TreeFacts, has_failed, host_node, is_complete, is_host_selected, is_ready}
+use Rattle.sysmem_tree.specs.Domain.{TreeFacts, HasDomain, has_failed, host_node, is_complete, is_host_selected, is_ready}
 use Rattle.sysmem_tree.specs.Laws.{FailedStays, OneForest, ReadyStays}
 use Rattle.sysmem_tree.specs.Tree.{Applied, applied}
-use Rattle.sysmem_alloc.specs.Decision.{Decision, decision_for}
+use Rattle.sysmem_sanitise.specs.Platform.{PlatformFacts}
+use Rattle.sysmem_alloc.specs.Decision.{Decision, choices_of, decision_for}
 use Rattle.sysmem_alloc.specs.Entry.{BookEntry, Acted, Decided, tree_entry}
-use Rattle.sysmem_alloc.specs.History.{after_answer, after_entry, replay}
+use Rattle.sysmem_alloc.specs.History.{after_answer, after_entry, replay, Allows, IsLegal}
 use Rattle.sysmem_alloc.specs.Laws.{LegalIsSound, VerdictStays}
 use Rattle.sysmem_alloc.specs.Sound.{AllOf, IsOfReady}
-use Rattle.sysmem_alloc.specs.State.{State}
+use Rattle.sysmem_alloc.specs.State.{State, first_state, verdict_of}
+use Rattle.sysmem_tree.proofs.CallerLemmas.{accepted}
+use Rattle.sysmem_alloc.proofs.Entering.{replay_push}
+use Rattle.sysmem_alloc.proofs.Lists.{all_each}
+use Rattle.sysmem_alloc.proofs.Onward.{all_keep}
 use Rattle.sysmem_alloc.proofs.Stepping.{accepts, tree_of_entry}
+use Rattle.sysmem_alloc.proofs.Trees.{acted_there, decided_there}
 
 -- the decision of a domain stays when another is entered
 entered_front : (ds : List Decision) (x : Decision) (r : ℕ) (d : Decision) → decision_for ds r ≡ Some d → decision_for (ds ++ x ∷ []) r ≡ Some d
@@ -53,8 +59,18 @@ ready_unfailed t r ready =
 abbrev shown : Bool → Option Decision → Option Verdict
 shown failed o = if failed then Some verdicts.Failed else option_map (λ (d : Decision). unwrap_or d.verdict verdicts.NoMemory) o
 
-pub verdict_stays : LegalIsSound → ReadyStays → FailedStays → OneForest → VerdictStays
-verdict_stays sound ready_stays failed_stays one platform es e r v legal ok has is = by (has_failed (replay es).tree r) refl (decision_for (replay es).decisions r) refl is where
+-- a domain is there after an entry
+there_after : (s : State) (e : BookEntry) (r : ℕ) → HasDomain s.tree.nodes r → HasDomain (after_entry s e).tree.nodes r
+there_after s (Acted i deed) r has = by (applied s.tree i deed) refl where
+  by : (o : Result Applied Refusal) → applied s.tree i deed ≡ o → HasDomain (after_answer s o).tree.nodes r
+  by (Err refusal) is = has
+  by (Ok made) is = let (n, ok) = accepted s.tree i deed made is in subst (λ (t : TreeFacts). HasDomain t.nodes r) ok.tree (acted_there s.tree i n deed r ok.there has)
+there_after s (Decided d) r has = decided_there s.tree d.domain (choices_of d.verdict) r has
+
+-- one entry
+verdict_after : LegalIsSound → ReadyStays → FailedStays → OneForest → (platform : PlatformFacts) (es : List BookEntry) (e : BookEntry) (r : ℕ) (v : Verdict) → IsLegal platform es
+    → Allows platform (replay es) e → HasDomain (replay es).tree.nodes r → verdict_of (replay es) r ≡ Some v → verdict_of (after_entry (replay es) e) r ≡ Some v
+verdict_after sound ready_stays failed_stays one platform es e r v legal ok has is = by (has_failed (replay es).tree r) refl (decision_for (replay es).decisions r) refl is where
   failed : has_failed (replay es).tree r ≡ true → has_failed (after_entry (replay es) e).tree r ≡ true
   failed f =
       let state = sound platform es legal in
@@ -73,3 +89,13 @@ verdict_stays sound ready_stays failed_stays one platform es e r v legal ok has 
   by false f None entered now = absurd (cc)
   by false f (Some d) entered now =
       ap (λ b. shown b (decision_for (after_entry (replay es) e).decisions r)) (unfailed d entered) ∙ (ap (shown false) (decision_stays (replay es) e r d entered) ∙ now)
+
+pub verdict_stays : LegalIsSound → ReadyStays → FailedStays → OneForest → VerdictStays
+verdict_stays sound ready_stays failed_stays one platform es fs r v legal has is =
+    (all_keep platform (λ _. Unit {0}) (λ gs. Has (replay gs)) step es fs legal (all_each (λ _. Unit {0}) fs (λ _. tt)) (has, is)).1 where
+      Has : State → Type 0
+      Has s = HasDomain s.tree.nodes r × (verdict_of s r ≡ Some v)
+
+      step : (gs : List BookEntry) (e : BookEntry) → IsLegal platform gs → Allows platform (replay gs) e → Unit {0} → Has (replay gs) → Has (replay (gs ++ e ∷ []))
+      step gs e before ok any now = subst Has (sym (replay_push first_state gs e))
+          (there_after (replay gs) e r now.0, verdict_after sound ready_stays failed_stays one platform gs e r v before ok now.0 now.1)

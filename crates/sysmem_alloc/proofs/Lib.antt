@@ -9,11 +9,13 @@ pub mod Counting
 pub mod Marking
 pub mod Marked
 pub mod Entering
+pub mod Onward
 pub mod Fates
 pub mod Confluent
 pub mod Hosts
 pub mod Next
 pub mod Agreeing
+pub mod Awaiting
 pub mod GivenBases
 pub mod Gathering
 pub mod Lasting

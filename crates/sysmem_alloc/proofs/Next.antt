@@ -23,14 +23,15 @@ use Rattle.sysmem_tree.specs.Shape.{Member, members_of, participants_of, shape_o
 use Rattle.sysmem_tree.specs.Sublist.{IsSublist, ended, taken, left_out}
 use Rattle.sysmem_tree.specs.Tree.{Applied, applied}
 use Rattle.sysmem_alloc.specs.Decision.{Decision, choices_of, settings_for}
-use Rattle.sysmem_alloc.specs.Entry.{Acted}
-use Rattle.sysmem_alloc.specs.History.{after_answer, replay}
+use Rattle.sysmem_alloc.specs.Entry.{BookEntry, Acted, Decided}
+use Rattle.sysmem_alloc.specs.History.{after_answer, after_entry, replay, Allows, IsAction, IsLegal}
 use Rattle.sysmem_alloc.specs.Laws.{LegalAgrees, LegalIsSound, NextStays, StaysNext}
 use Rattle.sysmem_alloc.specs.Sound.{AllOf, IsOfReady, IsSoundState, MayWait}
 use Rattle.sysmem_alloc.specs.State.{State, first_state, next_ready, newly_ready, base_of, chosen_by, chosen_in, open_in, kept_for, after_action}
 use Rattle.sysmem_tree.proofs.CallerLemmas.{accepted}
 use Rattle.sysmem_alloc.proofs.Entering.{allowed_push, replay_push}
 use Rattle.sysmem_alloc.proofs.Hosts.{base_stays}
+use Rattle.sysmem_alloc.proofs.Onward.{all_keep}
 
 still_first : (waiting more : List ℕ) (r : ℕ) → slice_get waiting 0 ≡ Some r → slice_get (waiting ++ more) 0 ≡ Some r
 still_first [] more r is = absurd (cc)
@@ -127,9 +128,37 @@ stays_at law stays s i deed r sound some waits ok first same (Ok made) is later 
           (same_terms s.tree.nodes made.tree.nodes s.accepted (base_of s r) (has_accepted s r) (same_members s.tree.nodes made.tree.nodes s.accepted shown));
     }
 
-pub next_stays : LegalIsSound → LegalAgrees → ForestStays → MembersStay → NextStays
-next_stays sound agrees stays law platform es i deed r legal ok first =
+-- one action
+acted_stays : LegalIsSound → LegalAgrees → ForestStays → MembersStay → (platform : PlatformFacts) (es : List BookEntry) (i : ℕ) (deed : Deed) (r : ℕ) → IsLegal platform es
+    → Allows platform (replay es) (Acted i deed) → next_ready (replay es) ≡ Some r → StaysNext (replay es) (after_entry (replay es) (Acted i deed)) r
+acted_stays sound agrees stays law platform es i deed r legal ok first =
     let state = sound platform es legal in
     let waits = first_waits (replay es).tree (replay es).waiting r state.waiting first in
     let later = subst IsSoundState (replay_push first_state es (Acted i deed)) (sound platform (es ++ Acted i deed ∷ []) (allowed_push platform first_state es (Acted i deed) legal ok)) in
     stays_at law stays (replay es) i deed r state (agrees platform es legal).accepted waits ok first (stays (replay es).tree (trees.Acted i deed) r state.tree.tree ok waits.there waits.ready) (applied (replay es).tree i deed) refl later
+
+-- it stays as it is where nothing is entered, and through two steps where it does through each
+stays_now : (s : State) (r : ℕ) → next_ready s ≡ Some r → StaysNext s s r
+stays_now s r first = record {
+  next = first;
+  domain = record { forest = refl; shape = refl; members = λ cs. refl };
+  base = refl;
+  optimal = λ platform v h. h;
+}
+
+stays_on : (old mid new : State) (r : ℕ) → StaysNext old mid r → StaysNext mid new r → StaysNext old new r
+stays_on old mid new r a b = record {
+  next = b.next;
+  domain = record { forest = b.domain.forest ∙ a.domain.forest; shape = b.domain.shape ∙ a.domain.shape; members = λ cs. b.domain.members cs ∙ a.domain.members cs };
+  base = b.base ∙ a.base;
+  optimal = λ platform v h. b.optimal platform v (a.optimal platform v h);
+}
+
+pub next_stays : LegalIsSound → LegalAgrees → ForestStays → MembersStay → NextStays
+next_stays sound agrees stays law platform es fs r legal acts first =
+    all_keep platform IsAction (λ gs. StaysNext (replay es) (replay gs) r) step es fs legal acts (stays_now (replay es) r first) where
+      step : (gs : List BookEntry) (e : BookEntry) → IsLegal platform gs → Allows platform (replay gs) e → IsAction e → StaysNext (replay es) (replay gs) r
+          → StaysNext (replay es) (replay (gs ++ e ∷ [])) r
+      step gs (Decided d) before ok act now = absurd act
+      step gs (Acted i deed) before ok act now = subst (λ s. StaysNext (replay es) s r) (sym (replay_push first_state gs (Acted i deed)))
+          (stays_on (replay es) (replay gs) (after_entry (replay gs) (Acted i deed)) r now (acted_stays sound agrees stays law platform gs i deed r before ok now.next))

@@ -1,13 +1,13 @@
 -- Histories of a book: the states that they lead to, and which are legal.
-use Rattle.std.specs.Prelude.{◌≡◌, ℕ, List, [], ◌∷◌, Some, Result, Ok, Err, IsOk, IfSome, map}
+use Rattle.std.specs.Prelude.{◌≡◌, List, [], ◌∷◌, Some, Result, Ok, Err, IsOk, IfSome, map}
 use Rattle.sysmem_proof.specs.Verdict.{IsOptimalIn}
 use Rattle.sysmem_sanitise.specs.Platform.{PlatformFacts}
 use Rattle.sysmem_tree.specs.declared.refusal.Refusal.{Refusal}
-use Rattle.sysmem_tree.specs.Domain.{newly_failed}
 use Rattle.sysmem_tree.specs.History as trees
 use Rattle.sysmem_tree.specs.Tree.{Applied, applied, decided}
 use Rattle.sysmem_alloc.specs.Decision.{choices_of}
 use Rattle.sysmem_alloc.specs.Entry.{BookEntry, Acted, Decided, tree_entry}
+use Rattle.sysmem_alloc.specs.Sound.{AllOf}
 use Rattle.sysmem_alloc.specs.State.{State, first_state, next_ready, after_action, after_decision, base_of}
 
 -- after the tree's answer to an action; a refusal leaves the state
@@ -48,6 +48,14 @@ AreAllowed platform s (e ∷ es) = Allows platform s e × AreAllowed platform (a
 abbrev pub IsLegal : PlatformFacts → List BookEntry → Type 0
 IsLegal platform es = AreAllowed platform first_state es
 
+-- no decision is among the entries
+abbrev pub IsAction : BookEntry → Type 0
+IsAction (Acted i deed) = Unit {0}
+IsAction (Decided d) = ⊥
+
+abbrev pub AreActions : List BookEntry → Type 0
+AreActions es = AllOf IsAction es
+
 -- histories with the same actions at each path, constraints included
 abbrev pub SameCalls : List BookEntry → List BookEntry → Type 0
 SameCalls es fs = trees.SameCalls (map tree_entry es) (map tree_entry fs)
@@ -55,7 +63,3 @@ SameCalls es fs = trees.SameCalls (map tree_entry es) (map tree_entry fs)
 -- no node is closed before the initial domain's decision
 abbrev pub NoEarlyClose : List BookEntry → Type 0
 NoEarlyClose es = trees.NoEarlyClose (map tree_entry es)
-
--- the domains that an entry makes fail, in order of creation of their roots
-abbrev pub failed_by : State → BookEntry → List ℕ
-failed_by s e = newly_failed s.tree (after_entry s e).tree

@@ -1,18 +1,18 @@
 -- What is true of legal histories.
-use Rattle.std.specs.Prelude.{◌≡◌, ◌≤◌, ℕ, List, length, Some, map}
+use Rattle.std.specs.Prelude.{◌≡◌, ◌≤◌, ◌++◌, ℕ, true, List, length, Some, map}
+use Rattle.std.specs.List.{Contains}
 use Rattle.sysmem_proof.specs.declared.verdict.Verdict.{Verdict}
 use Rattle.sysmem_proof.specs.Base.{IsGivenBase}
 use Rattle.sysmem_proof.specs.Verdict.{IsOptimalIn, IsSameAnswer}
 use Rattle.sysmem_sanitise.specs.Platform.{PlatformFacts}
-use Rattle.sysmem_tree.specs.ActionKind.{Deed}
-use Rattle.sysmem_tree.specs.Domain.{HasDomain}
+use Rattle.sysmem_tree.specs.Domain.{HasDomain, decision_of, is_ready, is_undecided}
 use Rattle.sysmem_tree.specs.Laws.{SameInitial, SameReady, IsSameDomain}
 use Rattle.sysmem_tree.specs.Path.{at_path}
 use Rattle.sysmem_tree.specs.Step.{IsInitial}
 use Rattle.sysmem_tree.specs.History.{log_at}
 use Rattle.sysmem_alloc.specs.Decision.{Decision, decision_for}
-use Rattle.sysmem_alloc.specs.Entry.{BookEntry, Acted, tree_entry}
-use Rattle.sysmem_alloc.specs.History.{Allows, after_entry, IsLegal, NoEarlyClose, SameCalls, replay}
+use Rattle.sysmem_alloc.specs.Entry.{BookEntry, tree_entry}
+use Rattle.sysmem_alloc.specs.History.{AreActions, IsLegal, NoEarlyClose, SameCalls, replay}
 use Rattle.sysmem_alloc.specs.Sound.{AgreesWithTree, IsSoundState}
 use Rattle.sysmem_alloc.specs.State.{State, next_ready, base_of, verdict_of}
 
@@ -23,6 +23,11 @@ LegalIsSound = (platform : PlatformFacts) (es : List BookEntry) → IsLegal plat
 -- the decisions of each legal history agree with its tree
 abbrev pub LegalAgrees : Type 0
 LegalAgrees = (platform : PlatformFacts) (es : List BookEntry) → IsLegal platform es → AgreesWithTree platform (replay es)
+
+-- each domain that is ready and undecided waits
+abbrev pub ReadyWaits : Type 0
+ReadyWaits = (platform : PlatformFacts) (es : List BookEntry) (r : ℕ) → IsLegal platform es → HasDomain (replay es).tree.nodes r → is_ready (replay es).tree r ≡ true
+    → is_undecided (decision_of (replay es).tree.domains r) ≡ true → Contains (replay es).waiting r
 
 -- what the domain that is to be decided next is decided on is a base for it, and there is one exactly for an attached domain
 abbrev pub BaseIsGiven : Type 0
@@ -51,10 +56,10 @@ abbrev pub Confluence : Type 0
 Confluence = (platform : PlatformFacts) (es fs : List BookEntry) → IsLegal platform es → IsLegal platform fs → SameCalls es fs → NoEarlyClose es → NoEarlyClose fs
     → AreConfluent es fs
 
--- a domain that has a verdict keeps it, whatever is entered
+-- a domain that has a verdict keeps it, whatever is entered after it
 abbrev pub VerdictStays : Type 0
-VerdictStays = (platform : PlatformFacts) (es : List BookEntry) (e : BookEntry) (r : ℕ) (v : Verdict) → IsLegal platform es → Allows platform (replay es) e
-    → HasDomain (replay es).tree.nodes r → verdict_of (replay es) r ≡ Some v → verdict_of (after_entry (replay es) e) r ≡ Some v
+VerdictStays = (platform : PlatformFacts) (es fs : List BookEntry) (r : ℕ) (v : Verdict) → IsLegal platform (es ++ fs)
+    → HasDomain (replay es).tree.nodes r → verdict_of (replay es) r ≡ Some v → verdict_of (replay (es ++ fs)) r ≡ Some v
 
 -- the domain that is to be decided next stays so, with its forest and what it is decided on, and each verdict that is optimal for it stays so
 pub record StaysNext (old new : State) (r : ℕ) : Type 0 where
@@ -63,7 +68,8 @@ pub record StaysNext (old new : State) (r : ℕ) : Type 0 where
   pub base : base_of new r ≡ base_of old r
   pub optimal : (platform : PlatformFacts) (v : Verdict) → IsOptimalIn platform old.tree.nodes r (base_of old r) v → IsOptimalIn platform new.tree.nodes r (base_of new r) v
 
--- no action changes the domain that is to be decided next, its forest, what it is decided on, or which verdicts are optimal for it
+-- actions, however many, change neither which domain is to be decided next nor its forest or what it is decided on, and leave each verdict
+-- optimal that is optimal for it
 abbrev pub NextStays : Type 0
-NextStays = (platform : PlatformFacts) (es : List BookEntry) (i : ℕ) (deed : Deed) (r : ℕ) → IsLegal platform es → Allows platform (replay es) (Acted i deed)
-    → next_ready (replay es) ≡ Some r → StaysNext (replay es) (after_entry (replay es) (Acted i deed)) r
+NextStays = (platform : PlatformFacts) (es fs : List BookEntry) (r : ℕ) → IsLegal platform (es ++ fs) → AreActions fs → next_ready (replay es) ≡ Some r
+    → StaysNext (replay es) (replay (es ++ fs)) r

@@ -10,7 +10,7 @@ use Rattle.sysmem_tree.specs.Tree.{first_tree}
 use Rattle.sysmem_alloc.specs.Decision.{Decision, choices_of, decision_for, settings_for}
 
 -- the tree; the decisions in their order; the domains that wait for one, in the order in which they became ready; and the participants that
--- are accepted for the first of them
+-- are accepted for the first of them or, while none waits, those whose collection is open
 pub record State : Type 0 where
   pub tree : TreeFacts
   pub decisions : List Decision

@@ -1,6 +1,6 @@
 //! What is true of the histories of books, whoever keeps them.
 
-ghost use Rattle.sysmem_alloc.specs.Laws.{LegalIsSound, LegalAgrees, BaseIsGiven, FewEntries, VerdictStays, NextStays, InitialShape, Confluence};
+ghost use Rattle.sysmem_alloc.specs.Laws.{LegalIsSound, LegalAgrees, BaseIsGiven, FewEntries, ReadyWaits, VerdictStays, NextStays, InitialShape, Confluence};
 
 use sysmem_proof::laws::one_answer;
 use sysmem_tree::laws;
@@ -27,6 +27,14 @@ pub fn legal_agrees()
     legal_is_sound();
     forest_stays();
     one_forest();
+}
+
+/// In each legal history's state, each domain that is ready and undecided waits for a decision.
+pub fn ready_waits()
+    ensures { ReadyWaits }
+{
+    legal_is_sound();
+    legal_agrees();
 }
 
 /// What the domain that is to be decided next is decided on is a base for it, as a search wants one: given exactly for an attached domain,
@@ -72,7 +80,7 @@ pub fn confluence()
     one_answer();
 }
 
-/// A domain that has a verdict keeps it, whatever is entered.
+/// A domain that has a verdict keeps it, whatever is entered after it.
 pub fn verdict_stays()
     ensures { VerdictStays }
 {
@@ -82,8 +90,8 @@ pub fn verdict_stays()
     one_forest();
 }
 
-/// The domain that is to be decided next stays so until it is: no action changes its forest, or the settings and the accepted nodes that
-/// it is decided on; so a verdict that is optimal for it stays so.
+/// The domain that is to be decided next stays so until it is: actions, however many, change neither its forest nor the settings and the
+/// accepted nodes that it is decided on; so a verdict that is optimal for it stays so.
 pub fn next_stays()
     ensures { NextStays }
 {
