@@ -4,6 +4,7 @@ pub mod Acting
 pub mod Soundness
 pub mod Entering
 pub mod Upwards
+pub mod Climbing
 pub mod Writes
 pub mod Places
 pub mod Kids

@@ -43,7 +43,8 @@ some_root (n ∷ nodes) (nobody, own) = subst (λ b. 1 ≤ length (if b then 0 �
 pub some_domain : (t : TreeFacts) → IsSoundTree t → 1 ≤ length t.domains
 some_domain t sound = omega (arith, as_many t sound, some_root t.nodes sound.tree.root)
 
-root_there : (i : ℕ) (nodes : List NodeFacts) (k r : ℕ) → slice_get (roots_from i nodes) k ≡ Some r → (m : ℕ) × (r ≡ i + m) × IsSomeAnd (slice_get nodes m) (λ n. n.domain ≡ r)
+-- what is listed from a number on is a root from there on
+pub root_there : (i : ℕ) (nodes : List NodeFacts) (k r : ℕ) → slice_get (roots_from i nodes) k ≡ Some r → (m : ℕ) × (r ≡ i + m) × IsSomeAnd (slice_get nodes m) (λ n. n.domain ≡ r)
 root_there i [] k r at_k = absurd (cc)
 root_there i (n ∷ nodes) k r at_k = at (n.domain == i) refl (λ j at_j. root_there (i + 1) nodes j r at_j) k at_k where
   on : ((k : ℕ) → slice_get (roots_from (i + 1) nodes) k ≡ Some r → (m : ℕ) × (r ≡ (i + 1) + m) × IsSomeAnd (slice_get nodes m) (λ n. n.domain ≡ r))

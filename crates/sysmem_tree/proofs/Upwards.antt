@@ -42,8 +42,3 @@ pub failed_above : (t : TreeFacts) (many less r : ℕ) (whole : Bool) (host : No
     → host_node t.nodes r ≡ Some host → whole ≡ fails_within less t host.domain
 failed_above t zero less r whole host is count here up = absurd (omega (arith, count))
 failed_above t (suc many) less r whole host is count here up = above_same t many less r whole host is (omega (arith, count)) here up
-
--- none of no domains does
-pub failed_end : (t : TreeFacts) (many r : ℕ) (whole : Bool) → whole ≡ fails_within many t r → many ≡ 0 → false ≡ whole
-failed_end t zero r whole is end = sym is
-failed_end t (suc many) r whole is end = absurd (omega (arith, end))

@@ -1,8 +1,9 @@
 //! How it stands with domains: which have failed, and which are ready.
 
-ghost use Rattle.std.specs.Prelude.{◌≡◌, ◌≤◌, ◌==◌, ℕ, List, false, length, map, option_map, get_or};
+ghost use Rattle.std.specs.Prelude.{◌≡◌, ◌≤◌, ◌==◌, ℕ, List, false, ◌||◌, ◌&&◌, length, map, option_map, get_or};
 ghost use Rattle.std.specs.List.{list_any};
 ghost use Rattle.sysmem_tree.specs.Domain as domain;
+ghost use Rattle.sysmem_tree.specs.Nodes.{IsTree};
 ghost use Rattle.sysmem_tree.specs.Tree.{closed_early, decided_domain, left_out_but};
 
 use crate::domain::{Decision, Domain};
@@ -45,42 +46,43 @@ pub(crate) fn is_selected(domains: &[Domain], node: &Node) -> bool
     decision_of(domains, node.domain()).is_chosen() && !node.is_left_out()
 }
 
-/// Whether the node's domain was decided without it.
-fn is_lost(domains: &[Domain], node: &Node) -> bool
-    ensures { result ≡ domain.is_lost domains.now node.now }
+/// Whether this decision of the node's domain is one without the node.
+fn is_lost_by(decision: Decision, node: &Node) -> bool
+    ensures { result
+        ≡ domain.is_none_chosen decision || (domain.is_chosen decision && node.now.is_left_out) }
 {
-    match decision_of(domains, node.domain()) {
+    match decision {
         Decision::Undecided => false,
         Decision::Chosen => node.is_left_out(),
         Decision::NoneChosen => true,
     }
 }
 
-/// Whether a domain fails by itself: it was closed early, or its host was lost.
-fn fails(nodes: &[Node], domains: &[Domain], root: usize) -> bool
-    ensures { result ≡ domain.fails (record { nodes = nodes.now; domains = domains.now }) root }
-{
-    was_closed_early(domains, root)
-        || match host_of(nodes, root) {
-            Some(host) => is_lost(domains, host),
-            None => false,
-        }
-}
-
-/// Whether a domain, or one above it, fails by itself.
+/// Whether a domain, or one above it, fails by itself. The domain of a host stands before those
+/// that hang on it, so that one pass from the last domain to the first meets all above this one.
 pub(crate) fn has_failed(nodes: &[Node], domains: &[Domain], root: usize) -> bool
+    requires tree { IsTree nodes.now }
+    requires rising { domain.AreDomains (record { nodes = nodes.now; domains = domains.now }) }
     ensures { result
         ≡ domain.has_failed (record { nodes = nodes.now; domains = domains.now }) root }
 {
-    let mut above = root;
-    for _ in 0..MOST_NODES {
-        if fails(nodes, domains, above) {
-            return true;
+    if was_closed_early(domains, root) {
+        return true;
+    }
+    let Some(mut host) = host_of(nodes, root) else {
+        return false;
+    };
+    for index in (0..domains.len()).rev() {
+        let one = domains[index];
+        if one.root == host.domain() {
+            if one.is_closed_early || is_lost_by(one.decision, host) {
+                return true;
+            }
+            let Some(above) = host_of(nodes, one.root) else {
+                return false;
+            };
+            host = above;
         }
-        let Some(host) = host_of(nodes, above) else {
-            return false;
-        };
-        above = host.domain();
     }
     false
 }
@@ -95,6 +97,8 @@ fn is_complete(nodes: &[Node], root: usize) -> bool
 /// Whether a domain is ready: its nodes are complete, it hasn't failed, and its host, where it has
 /// one, is selected.
 pub(crate) fn is_ready(nodes: &[Node], domains: &[Domain], root: usize) -> bool
+    requires tree { IsTree nodes.now }
+    requires rising { domain.AreDomains (record { nodes = nodes.now; domains = domains.now }) }
     ensures { result ≡ domain.is_ready (record { nodes = nodes.now; domains = domains.now }) root }
 {
     is_complete(nodes, root)

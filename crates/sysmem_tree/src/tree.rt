@@ -4,7 +4,7 @@ ghost use Rattle.std.specs.Prelude.{◌≡◌, ℕ, List, ◌<◌, ◌≤◌, tr
 ghost use Rattle.std.specs.Result.{result_err};
 ghost use Rattle.std.specs.Vec.{vec_capacity};
 ghost use Rattle.sysmem_tree.specs.ActionKind.{deed_of, kind_of};
-ghost use Rattle.sysmem_tree.specs.Domain.{HasDomain, IsSoundTree, decision_of, fate_of, host_number, is_ready, is_selected, is_undecided};
+ghost use Rattle.sysmem_tree.specs.Domain.{AreDomains, HasDomain, IsSoundTree, decision_of, fate_of, host_number, is_ready, is_selected, is_undecided};
 ghost use Rattle.sysmem_tree.specs.Nodes.{HasNode, IsTree};
 ghost use Rattle.sysmem_tree.specs.Path.{node_at, path_of};
 ghost use Rattle.sysmem_tree.specs.Table.{makes_root};
@@ -301,6 +301,8 @@ impl Tree {
 /// Notes an action on one of the nodes with the domains: an attached token has one of its own, and
 /// a close fails one that isn't ready.
 fn note(nodes: &[Node], domains: &mut Vec<Domain>, number: usize, kind: ActionKind)
+    requires tree { IsTree nodes.now }
+    requires rising { AreDomains (record { nodes = nodes.now; domains = domains.old.items }) }
     requires there { number < length nodes.now }
     requires reserved { 128 ≤ vec_capacity domains.old }
     requires room { makes_root kind ≡ true → length domains.old.items < 128 }
