@@ -86,20 +86,30 @@ one_decision raw x d is = filter_map-append decision_in raw (x ∷ []) ∙ ap (�
   one : filter_map decision_in (x ∷ []) ≡ d ∷ []
   one = rw is refl
 
--- which participants are accepted
-accepted_kept : (old new : List NodeFacts) (ds : List Decision) (waiting : List ℕ) (marks now : List Bool) → chosen_in new ds ≡ chosen_in old ds
-    → (waiting ≡ [] → (k : ℕ) → get_or now k false ≡ is_open new k) → (waiting ≢ [] → now ≡ marks)
-    → filter (λ i. get_or now i false) (chosen_in new ds) ≡ kept_for waiting (filter (λ i. get_or marks i false) (chosen_in old ds)) (open_in new ds)
-accepted_kept old new ds [] marks now same taken kept =
-    same_filter (λ i. get_or now i false) (is_open new) (chosen_in new ds) (all_each (λ i. get_or now i false ≡ is_open new i) (chosen_in new ds) (taken refl))
-accepted_kept old new ds (r ∷ rs) marks now same taken kept =
-    ap (λ (ms : List Bool). filter (λ i. get_or ms i false) (chosen_in new ds)) (kept (λ e. absurd (cc))) ∙ ap (filter (λ i. get_or marks i false)) same
+-- who is accepted, by the domains that wait and by marks of the nodes that were open
+abbrev kept_in : List NodeFacts → List Decision → List ℕ → List Bool → List ℕ
+kept_in nodes ds waiting marks = kept_for waiting (filter (λ i. get_or marks i false) (chosen_in nodes ds)) (open_in nodes ds)
+
+-- where the marks are of those open now, or none waits, those open now are accepted
+opened : (nodes : List NodeFacts) (ds : List Decision) (waiting : List ℕ) (now : List Bool) → (waiting ≢ [] → (k : ℕ) → get_or now k false ≡ is_open nodes k) → kept_in nodes ds waiting now ≡ open_in nodes ds
+opened nodes ds [] now taken = refl
+opened nodes ds (r ∷ rs) now taken =
+    same_filter (λ i. get_or now i false) (is_open nodes) (chosen_in nodes ds) (all_each (λ i. get_or now i false ≡ is_open nodes i) (chosen_in nodes ds) (taken (λ e. absurd (cc))))
+
+-- after an action as it says
+accepted_kept : (old new : List NodeFacts) (ds : List Decision) (waiting newly later : List ℕ) (marks now : List Bool) → chosen_in new ds ≡ chosen_in old ds → later ≡ waiting ++ newly
+    → (waiting ≡ [] → later ≢ [] → (k : ℕ) → get_or now k false ≡ is_open new k) → (waiting ≢ [] → now ≡ marks)
+    → kept_in new ds later now ≡ kept_for waiting (kept_in old ds waiting marks) (open_in new ds)
+accepted_kept old new ds [] newly later marks now same grown taken kept = opened new ds later now (taken refl)
+accepted_kept old new ds (r ∷ rs) newly later marks now same grown taken kept =
+    ap (λ ws. kept_in new ds ws now) grown
+    ∙ (ap (λ (ms : List Bool). filter (λ i. get_or ms i false) (chosen_in new ds)) (kept (λ e. absurd (cc))) ∙ ap (filter (λ i. get_or marks i false)) same)
 
 module _ (sound : LegalIsSound) (stays : ForestStays) (one : OneForest) where
   -- an action
   pub acted_kept : (platform : PlatformFacts) (t : TreeFacts) (raw : List Entry) (waiting later : List ℕ) (marks now : List Bool) (i : ℕ) (deed : Deed) (made : Applied)
       → IsBook (kept_book platform t raw waiting marks) → applied t i deed ≡ Ok made → later ≡ waiting ++ newly_ready t made.tree
-      → (waiting ≡ [] → (k : ℕ) → get_or now k false ≡ is_open made.tree.nodes k) → (waiting ≢ [] → now ≡ marks)
+      → (waiting ≡ [] → later ≢ [] → (k : ℕ) → get_or now k false ≡ is_open made.tree.nodes k) → (waiting ≢ [] → now ≡ marks)
       → kept_book platform made.tree (raw ++ entries.Acted i (kind_of deed) ∷ []) later now ≡ entered (kept_book platform t raw waiting marks) (Acted i deed)
   acted_kept platform t raw waiting later marks now i deed made is ok grown taken kept =
       let b : BookFacts = kept_book platform t raw waiting marks in
@@ -115,8 +125,8 @@ module _ (sound : LegalIsSound) (stays : ForestStays) (one : OneForest) where
       (kept_book platform made.tree (raw ++ x ∷ []) later now).state (after_entry b.state (Acted i deed))
       (read_push platform t made.tree raw x (Acted i deed) waiting marks is (λ k c h. subst (λ o. IsSetTo (after_answer b.state o).tree.nodes k c) ok (entry_keeps b.state (Acted i deed) k c h)) (read_made t i deed made ok))
       (same_state made.tree (filter_map decision_in (raw ++ x ∷ [])) ds later (waiting ++ newly_ready t made.tree)
-      (filter (λ k. get_or now k false) (chosen_in made.tree.nodes (filter_map decision_in (raw ++ x ∷ [])))) (kept_for waiting (filter (λ k. get_or marks k false) (chosen_in t.nodes ds)) (open_in made.tree.nodes ds))
-      none grown (ap (λ es. filter (λ k. get_or now k false) (chosen_in made.tree.nodes es)) none ∙ accepted_kept t.nodes made.tree.nodes ds waiting marks now chosen taken kept)
+      (kept_in made.tree.nodes (filter_map decision_in (raw ++ x ∷ [])) later now) (kept_for waiting (kept_in t.nodes ds waiting marks) (open_in made.tree.nodes ds))
+      none grown (ap (λ es. kept_in made.tree.nodes es later now) none ∙ accepted_kept t.nodes made.tree.nodes ds waiting (newly_ready t made.tree) later marks now chosen grown taken kept)
       ∙ ap (after_answer b.state) (sym ok))
 
 -- a decision
@@ -134,9 +144,8 @@ decided_kept platform t raw waiting later marks now x d is decides read grown ta
     (kept_book platform u (raw ++ x ∷ []) later now).state (after_entry b.state (Decided d))
     (read_push platform t u raw x (Decided d) waiting marks is (λ k c h. entry_keeps b.state (Decided d) k c h) (read u.nodes))
     (same_state u (filter_map decision_in (raw ++ x ∷ [])) (ds ++ d ∷ []) later (drop 1 waiting ++ newly_ready t u)
-    (filter (λ k. get_or now k false) (chosen_in u.nodes (filter_map decision_in (raw ++ x ∷ [])))) (open_in u.nodes (ds ++ d ∷ []))
-    more grown (ap (λ es. filter (λ k. get_or now k false) (chosen_in u.nodes es)) more
-    ∙ same_filter (λ k. get_or now k false) (is_open u.nodes) (chosen_in u.nodes (ds ++ d ∷ [])) (all_each (λ k. get_or now k false ≡ is_open u.nodes k) (chosen_in u.nodes (ds ++ d ∷ [])) taken)))
+    (kept_in u.nodes (filter_map decision_in (raw ++ x ∷ [])) later now) (open_in u.nodes (ds ++ d ∷ []))
+    more grown (ap (λ es. kept_in u.nodes es later now) more ∙ opened u.nodes (ds ++ d ∷ []) later now (λ some. taken)))
 
 -- who is newly ready, by marks of those who were
 marked_at : (t : TreeFacts) (marks : List Bool) → ((k : ℕ) → get_or marks k false ≡ ready_at t k) → (j r : ℕ) → slice_get (roots_of t) j ≡ Some r
@@ -180,7 +189,7 @@ acted_room sound platform t raw waiting marks were i deed made is ok marked =
 pub acted_shows : LegalIsSound → ForestStays → OneForest → (platform : PlatformFacts) (t : TreeFacts) (raw new : List Entry) (waiting later : List ℕ) (marks now were : List Bool) (i : ℕ) (kind : ActionKind) (deed : Deed)
     (made : Applied) → IsBook (kept_book platform t raw waiting marks) → applied t i deed ≡ Ok made → kind ≡ kind_of deed → new ≡ raw ++ entries.Acted i kind ∷ []
     → ((k : ℕ) → get_or were k false ≡ ready_at t k) → later ≡ waiting ++ ready_unmarked made.tree were 0 (roots_of made.tree)
-    → (waiting ≡ [] → (k : ℕ) → get_or now k false ≡ is_open made.tree.nodes k) → (waiting ≢ [] → now ≡ marks)
+    → (waiting ≡ [] → later ≢ [] → (k : ℕ) → get_or now k false ≡ is_open made.tree.nodes k) → (waiting ≢ [] → now ≡ marks)
     → Shows (entered (kept_book platform t raw waiting marks) (Acted i deed)) (kept_book platform made.tree new later now)
 acted_shows sound stays one platform t raw new waiting later marks now were i kind deed made is ok same_kind pushed marked grown taken kept =
     let b : BookFacts = kept_book platform t raw waiting marks in

@@ -1,14 +1,18 @@
 -- The verdict of a domain, by what became of it.
-use Rattle.std.proofs.Common.{◌≡◌, ◌≢◌, ℕ, Bool, true, false, Option, Some, None, refl, sym, ◌∙◌, ap}
+use Rattle.std.proofs.Common.{◌≡◌, ◌≢◌, ℕ, Bool, true, false, Option, Some, None, refl, sym, ◌∙◌, ap, subst}
 use Rattle.std.specs.Prelude.{option_map, unwrap_or, if◌then◌else◌}
 use Rattle.sysmem_proof.specs.declared.verdict.Verdict.{Verdict}
 use Rattle.sysmem_proof.specs.declared.verdict.Verdict.TheVariants as verdicts
 use Rattle.sysmem_tree.specs.declared.domain.Decision.{Decision as Standing}
 use Rattle.sysmem_tree.specs.declared.domain.Decision.TheVariants.{Undecided, Chosen, NoneChosen}
 use Rattle.sysmem_tree.specs.declared.fate.Fate.TheVariants as fates
-use Rattle.sysmem_tree.specs.Domain.{decision_of, fate_by, fate_of, has_failed}
+use Rattle.sysmem_tree.specs.Domain.{TreeFacts, decision_of, fate_by, fate_of, has_failed, is_undecided}
+use Rattle.sysmem_alloc.specs.Book.{BookFacts, IsBook}
 use Rattle.sysmem_alloc.specs.Decision.{Decision, decision_for}
+use Rattle.sysmem_alloc.specs.Laws.{LegalAgrees}
+use Rattle.sysmem_alloc.specs.Sound.{AgreesWithTree}
 use Rattle.sysmem_alloc.specs.State.{State, verdict_of}
+use Rattle.sysmem_alloc.proofs.Agreeing.{none_for}
 
 not_failed : (d : Standing) → fate_by d ≡ fates.Failed → ⊥
 not_failed Undecided e = absurd (cc)
@@ -28,6 +32,22 @@ other_verdict s r other = by (has_failed s.tree r) other where
       → (if b then Some verdicts.Failed else option_map (λ d. unwrap_or d.verdict verdicts.NoMemory) (decision_for s.decisions r)) ≡ option_map (λ d. unwrap_or d.verdict verdicts.NoMemory) (decision_for s.decisions r)
   by true n = absurd (n refl)
   by false n = refl
+
+-- what became of an undecided domain is that the tree has no decision of it
+undecided_in : (t : TreeFacts) (r : ℕ) → fate_of t r ≡ fates.Undecided → is_undecided (decision_of t.domains r) ≡ true
+undecided_in t r is = by (has_failed t r) (decision_of t.domains r) is where
+  by : (b : Bool) (d : Standing) → (if b then fates.Failed else fate_by d) ≡ fates.Undecided → is_undecided d ≡ true
+  by true d e = absurd (cc)
+  by false Undecided e = refl
+  by false Chosen e = absurd (cc)
+  by false NoneChosen e = absurd (cc)
+
+-- so none was entered for it, and it has no verdict
+pub undecided_verdict : LegalAgrees → (b : BookFacts) (r : ℕ) → IsBook b → fate_of b.state.tree r ≡ fates.Undecided → None ≡ verdict_of b.state r
+undecided_verdict agrees b r is undecided =
+    let agreeing = subst (AgreesWithTree b.platform) (sym is.replayed) (agrees b.platform b.history is.legal) in
+    let none = none_for b.platform b.state r agreeing (undecided_in b.state.tree r undecided) in
+    sym (other_verdict b.state r (λ e. (let two = sym undecided ∙ e in absurd (cc))) ∙ ap (option_map (λ (d : Decision). unwrap_or d.verdict verdicts.NoMemory)) none)
 
 -- of what was entered
 pub entered_verdict : (s : State) (r : ℕ) (o : Option (Option Verdict)) → o ≡ option_map (λ d. d.verdict) (decision_for s.decisions r) → fate_of s.tree r ≢ fates.Failed

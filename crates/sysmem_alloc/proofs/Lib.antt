@@ -15,6 +15,7 @@ pub mod Confluent
 pub mod Hosts
 pub mod Next
 pub mod Agreeing
+pub mod Apart
 pub mod Awaiting
 pub mod GivenBases
 pub mod Gathering

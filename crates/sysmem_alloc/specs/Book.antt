@@ -5,7 +5,7 @@ use Rattle.sysmem_sanitise.specs.Platform.{PlatformFacts}
 use Rattle.sysmem_alloc.specs.declared.entry.Entry.{Entry}
 use Rattle.sysmem_alloc.specs.Entry.{BookEntry, entry_in, decision_in}
 use Rattle.sysmem_alloc.specs.History.{IsLegal, after_entry, replay}
-use Rattle.sysmem_alloc.specs.State.{State, first_state, chosen_in}
+use Rattle.sysmem_alloc.specs.State.{State, first_state, chosen_in, kept_for, open_in}
 use Rattle.sysmem_tree.specs.Domain.{TreeFacts}
 
 -- the platform for which it decides, its history, the oldest entry first, and its state
@@ -27,8 +27,8 @@ new_book platform = record { platform = platform; history = []; state = first_st
 abbrev pub entered : BookFacts → BookEntry → BookFacts
 entered b e = record { platform = b.platform; history = b.history ++ e ∷ []; state = after_entry b.state e }
 
--- what stands for a book: the tree, the entries as they are kept, the domains that wait, and which nodes were open when the accepted
--- participants were taken
+-- what stands for a book: the tree, the entries as they are kept, the domains that wait, and, as long as one does, which nodes were open
+-- when the accepted participants were taken for the first of them; while none waits, those are accepted who are open in the tree
 abbrev pub kept_book : PlatformFacts → TreeFacts → List Entry → List ℕ → List Bool → BookFacts
 kept_book platform t raw waiting were_open = record {
   platform = platform;
@@ -37,6 +37,7 @@ kept_book platform t raw waiting were_open = record {
     tree = t;
     decisions = filter_map decision_in raw;
     waiting = waiting;
-    accepted = filter (λ i. get_or were_open i false) (chosen_in t.nodes (filter_map decision_in raw));
+    accepted = kept_for waiting (filter (λ i. get_or were_open i false) (chosen_in t.nodes (filter_map decision_in raw)))
+        (open_in t.nodes (filter_map decision_in raw));
   };
 }

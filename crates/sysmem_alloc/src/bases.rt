@@ -1,11 +1,12 @@
 //! What an attached domain is decided on, read off a book.
 
-ghost use Rattle.std.specs.Prelude.{◌≡◌, ◌++◌, All, IfOk, IfSome, OnOk, option_map};
+ghost use Rattle.std.specs.Prelude.{◌≡◌, ◌++◌, All, IfOk, IfSome, OnOk, map, option_map};
 ghost use Rattle.std.specs.Arc.{arc_value};
 ghost use Rattle.std.specs.List.{filter_map};
 ghost use Rattle.sysmem_alloc.specs.Accepted.{IsChosenIn, marked_by, marked_of};
 ghost use Rattle.sysmem_alloc.specs.Decision.{settings_for, settings_of};
 ghost use Rattle.sysmem_alloc.specs.Entry.{decision_in};
+ghost use Rattle.sysmem_alloc.specs.Sound.{AreApart};
 ghost use Rattle.sysmem_alloc.specs.State.{chosen_in};
 ghost use Rattle.sysmem_tree.specs.Nodes.{HasNode};
 
@@ -32,6 +33,7 @@ fn settings_of(verdict: &Option<Arc<Verdict>>) -> Option<Settings>
 
 /// The settings that were chosen for a domain.
 pub(crate) fn settings_for(history: &[Entry], domain: DomainId) -> Option<Settings>
+    requires { AreApart (map (λ d. d.domain) (filter_map decision_in history.now)) }
     ensures { result ≡ settings_for (filter_map decision_in history.now) domain }
 {
     settings_of(entered_for(history, domain)?)

@@ -18,8 +18,8 @@ use crate::bases::{accepted_in, settings_for};
 use crate::entry::{Entry, enter_action};
 use crate::frozen::Frozen;
 use crate::laws::{base_is_given, few_entries, legal_agrees, legal_is_sound};
-use crate::ready::{add_ready, open_nodes, open_or_kept, ready_domains};
-use crate::verdicts::{choices_of, entered_for, has_failed};
+use crate::ready::{add_ready, mark_for_first, open_nodes, ready_domains};
+use crate::verdicts::{choices_of, entered_for, has_failed, is_undecided};
 use std::alloc::{AllocError, Global};
 use std::marker::Model;
 use std::sync::Arc;
@@ -39,7 +39,8 @@ pub struct Book {
     history: Vec<Entry>,
     /// The domains that wait for a decision, in the order in which they became ready.
     waiting: Vec<DomainId>,
-    /// The nodes that were open when the accepted participants were taken, marked by their numbers.
+    /// As long as a domain waits, the nodes that were open when the accepted participants were taken for the first one, marked by their
+    /// numbers.
     were_open: [bool; 128],
     /// What `verdict_of` lends for a domain that failed.
     failed: Verdict,
@@ -153,9 +154,10 @@ impl Book {
         Ok(Some(Frozen::new(platform, tree, domain, base)))
     }
 
-    /// What a domain of the tree would be decided on now, by what was entered.
+    /// What the domain that is to be decided next is decided on, by what was entered.
     fn entered_base(&self, domain: DomainId) -> Result<Option<Base>, AllocError>
-        requires { HasDomain self.now.state.tree.nodes domain }
+        requires there { HasDomain self.now.state.tree.nodes domain }
+        requires next { next_ready self.now.state ≡ Some domain }
         ensures { IfOk result (λ base. base ≡ base_of self.now.state domain) }
     {
         legal_is_sound();
@@ -176,8 +178,13 @@ impl Book {
         requires { HasDomain self.now.state.tree.nodes domain }
         ensures { option_map (λ verdict. verdict.now) result ≡ verdict_of self.now.state domain }
     {
-        if has_failed(self.tree.fate(domain)) {
+        legal_agrees();
+        let fate = self.tree.fate(domain);
+        if has_failed(fate) {
             return Some(&self.failed);
+        }
+        if is_undecided(fate) {
+            return None;
         }
         match entered_for(&self.history, domain)? {
             Some(verdict) => Some(verdict),
@@ -208,9 +215,10 @@ impl Book {
         let kind = event.action.kind();
         let were_ready = ready_domains(&self.tree);
         let node = self.tree.apply(event)?;
-        self.were_open = open_or_kept(&self.tree, &self.waiting, self.were_open);
+        let none_waited = self.waiting.is_empty();
         enter_action(&mut self.history, acted, kind);
         add_ready(&self.tree, &were_ready, &mut self.waiting);
+        mark_for_first(&self.tree, none_waited, &self.waiting, &mut self.were_open);
         let ready = self.next_ready().is_some();
         Ok(Done { node, ready })
     }

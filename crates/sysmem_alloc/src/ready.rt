@@ -1,6 +1,6 @@
 //! Which domains an event made ready, and which nodes are open.
 
-ghost use Rattle.std.specs.Prelude.{◌≡◌, ◌≢◌, ◌≤◌, ◌<◌, ◌+◌, ◌++◌, ℕ, [], false, length, get_or};
+ghost use Rattle.std.specs.Prelude.{◌≡◌, ◌≢◌, ◌≤◌, ◌<◌, ◌+◌, ◌++◌, ℕ, [], false, true, length, get_or};
 ghost use Rattle.std.specs.Vec.{vec_capacity};
 ghost use Rattle.sysmem_alloc.specs.Marks.{ready_at, ready_unmarked, unmarked_at};
 ghost use Rattle.sysmem_alloc.specs.Sound.{roots_of};
@@ -80,14 +80,19 @@ pub(crate) fn open_nodes(tree: &Tree) -> [bool; 128]
     marks
 }
 
-/// The nodes that are open, or as long as a domain waits those that were.
-pub(crate) fn open_or_kept(tree: &Tree, waiting: &[DomainId], were_open: [bool; 128]) -> [bool; 128]
-    ensures open { waiting.now ≡ [] → (k : ℕ) → get_or result k false ≡ is_open tree.now.nodes k }
-    ensures kept { waiting.now ≢ [] → result ≡ were_open }
+/// Marks the nodes that are open where a domain has come to wait and none did before; as long as one does, the marks stay.
+pub(crate) fn mark_for_first(
+    tree: &Tree,
+    none_waited: bool,
+    waiting: &[DomainId],
+    were_open: &mut [bool; 128],
+)
+    ensures open { none_waited ≡ true → waiting.now ≢ []
+        → (k : ℕ) → get_or were_open.new k false ≡ is_open tree.now.nodes k }
+    ensures kept { none_waited ≡ false → were_open.new ≡ were_open.old }
+    ensures idle { waiting.now ≡ [] → were_open.new ≡ were_open.old }
 {
-    if waiting.is_empty() {
-        open_nodes(tree)
-    } else {
-        were_open
+    if none_waited && !waiting.is_empty() {
+        *were_open = open_nodes(tree);
     }
 }

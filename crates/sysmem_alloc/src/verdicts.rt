@@ -1,10 +1,11 @@
 //! The verdicts that a history has.
 
-ghost use Rattle.std.specs.Prelude.{◌≡◌, ◌≢◌, true, false, option_map};
+ghost use Rattle.std.specs.Prelude.{◌≡◌, ◌≢◌, true, false, map, option_map};
 ghost use Rattle.std.specs.Arc.{arc_value};
 ghost use Rattle.std.specs.List.{filter_map};
 ghost use Rattle.sysmem_alloc.specs.Decision.{choices_of, decision_for};
 ghost use Rattle.sysmem_alloc.specs.Entry.{decision_in};
+ghost use Rattle.sysmem_alloc.specs.Sound.{AreApart};
 ghost use Rattle.sysmem_tree.specs.declared.fate.Fate.TheVariants as fates;
 
 use crate::entry::Entry;
@@ -18,6 +19,14 @@ pub(crate) fn has_failed(fate: Fate) -> bool
     ensures other { result ≡ false → fate ≢ fates.Failed }
 {
     matches!(fate, Fate::Failed)
+}
+
+/// Whether what became of a domain is that no decision was taken.
+pub(crate) fn is_undecided(fate: Fate) -> bool
+    ensures undecided { result ≡ true → fate ≡ fates.Undecided }
+    ensures other { result ≡ false → fate ≢ fates.Undecided }
+{
+    matches!(fate, Fate::Undecided)
 }
 
 /// The choices of a verdict that chose.
@@ -34,13 +43,15 @@ pub(crate) fn choices_of(verdict: &Option<Arc<Verdict>>) -> Option<&[u8]>
     }
 }
 
-/// The verdict that was entered for a domain, if any was.
+/// The verdict that was entered for a domain, if any was: at most one is, so the entries are read from the last to the first, as the
+/// decisions that are asked for are mostly late ones.
 pub(crate) fn entered_for(history: &[Entry], domain: DomainId) -> Option<&Option<Arc<Verdict>>>
+    requires { AreApart (map (λ d. d.domain) (filter_map decision_in history.now)) }
     ensures { option_map (λ verdict. option_map (λ shared. arc_value shared) verdict.now) result
         ≡ option_map (λ d. d.verdict) (decision_for (filter_map decision_in history.now) domain) }
 {
-    for entry in history {
-        if let Entry::Decided(decided, verdict) = entry {
+    for index in (0..history.len()).rev() {
+        if let Entry::Decided(decided, verdict) = &history[index] {
             if *decided == domain {
                 return Some(verdict);
             }

@@ -1,5 +1,7 @@
 -- See Entering.antt.
-use Rattle.std.proofs.Common.{refl, sym, ◌∙◌, ap, subst, arith}
+use Rattle.std.proofs.Common.{◌≡◌, ◌≢◌, ◌==◌, ℕ, false, List, [], ◌∷◌, length, refl, sym, ◌∙◌, ap, subst, arith}
+use Rattle.std.proofs.lemmas.Bool.{ne_eqb}
+use Rattle.std.specs.Vec.{vec_len}
 use Rattle.std.specs.Prelude.{IsOk, Ok, Err, Result, OnErr}
 use Rattle.sysmem_alloc.specs.Book.{BookFacts, IsBook, entered, kept_book}
 use Rattle.sysmem_alloc.specs.Entry.{Acted}
@@ -11,6 +13,10 @@ use Rattle.sysmem_alloc.proofs.book.Book.apply.Goals as goal
 on_err : {A E P : Type 0} (r : Result A E) → P → OnErr r P
 on_err (Ok x) p = tt
 on_err (Err e) p = p
+
+not_none : (ws : List ℕ) → ws ≢ [] → (length ws == 0) ≡ false
+not_none [] n = absurd (n refl)
+not_none (w ∷ ws) n = ne_eqb (length (w ∷ ws)) 0 (λ e. omega (arith, e))
 
 pub invariant_of-self : goal.invariant_of-self
 invariant_of-self c =
@@ -29,18 +35,20 @@ add_ready-requires c =
 
 pub invariant_of-self-2 : goal.invariant_of-self-2
 invariant_of-self-2 c =
+    let len : vec_len c.self.inside.waiting ≡ length c.self.inside.waiting.items = omega (arith, c.self.inside.waiting.ok) in
     let shown = acted_shows c.legal_is_sound.ensures c.forest_stays.ensures c.one_forest.ensures c.self.inside.platform c.self.inside.tree c.self.inside.history.items c.enter_action.new.history.items
-    c.self.inside.waiting.items c.add_ready.new.waiting.items c.self.inside.were_open c.open_or_kept-self-inside.result c.ready_domains-were_ready.result c.args.event.node c.kind-kind.result (deed_of c.args.event.action) _
+    c.self.inside.waiting.items c.add_ready.new.waiting.items c.self.inside.were_open c.mark_for_first.new.were_open c.ready_domains-were_ready.result c.args.event.node c.kind-kind.result (deed_of c.args.event.action) _
     c.self.invariant.0 c.in_ok-node.ensures.accepted c.kind-kind.ensures c.enter_action.ensures.items c.ready_domains-were_ready.ensures c.add_ready.ensures.items
-    (λ e. c.open_or_kept-self-inside.ensures.open (c.deref.ensures.value ∙ e)) (λ n. c.open_or_kept-self-inside.ensures.kept (λ e. n (sym c.deref.ensures.value ∙ e))) in
+    (λ none some. c.mark_for_first.ensures.open (c.is_empty-none_waited.ensures ∙ (ap (λ n. n == 0) len ∙ ap (λ (ws : List ℕ). length ws == 0) none)) (λ e. some (sym c.deref.ensures.value ∙ e))) (λ n. c.mark_for_first.ensures.kept (c.is_empty-none_waited.ensures ∙ (ap (λ n. n == 0) len ∙ not_none _ n))) in
     (shown.book, omega (arith, c.self.invariant.1, c.enter_action.ensures.capacity), omega (arith, c.self.invariant.2, c.add_ready.ensures.reserved), c.self.invariant.3, c.self.invariant.4)
 
 pub returns-clause-entered : goal.returns-clause-entered
 returns-clause-entered c =
+    let len : vec_len c.self.inside.waiting ≡ length c.self.inside.waiting.items = omega (arith, c.self.inside.waiting.ok) in
     let shown = acted_shows c.legal_is_sound.ensures c.forest_stays.ensures c.one_forest.ensures c.self.inside.platform c.self.inside.tree c.self.inside.history.items c.enter_action.new.history.items
-    c.self.inside.waiting.items c.add_ready.new.waiting.items c.self.inside.were_open c.open_or_kept-self-inside.result c.ready_domains-were_ready.result c.args.event.node c.kind-kind.result (deed_of c.args.event.action) _
+    c.self.inside.waiting.items c.add_ready.new.waiting.items c.self.inside.were_open c.mark_for_first.new.were_open c.ready_domains-were_ready.result c.args.event.node c.kind-kind.result (deed_of c.args.event.action) _
     c.self.invariant.0 c.in_ok-node.ensures.accepted c.kind-kind.ensures c.enter_action.ensures.items c.ready_domains-were_ready.ensures c.add_ready.ensures.items
-    (λ e. c.open_or_kept-self-inside.ensures.open (c.deref.ensures.value ∙ e)) (λ n. c.open_or_kept-self-inside.ensures.kept (λ e. n (sym c.deref.ensures.value ∙ e))) in
+    (λ none some. c.mark_for_first.ensures.open (c.is_empty-none_waited.ensures ∙ (ap (λ n. n == 0) len ∙ ap (λ (ws : List ℕ). length ws == 0) none)) (λ e. some (sym c.deref.ensures.value ∙ e))) (λ n. c.mark_for_first.ensures.kept (c.is_empty-none_waited.ensures ∙ (ap (λ n. n == 0) len ∙ not_none _ n))) in
     shown.is ∙ ap (λ b. entered b (Acted c.args.event.node (deed_of c.args.event.action))) c.self.view_is
 
 pub returns-clause-step : goal.returns-clause-step

@@ -7,8 +7,8 @@ use Rattle.sysmem_proof.specs.Base.{IsGivenBase}
 use Rattle.sysmem_alloc.proofs.GivenBases.{book_base_given, next_waits}
 use Rattle.sysmem_alloc.proofs.book.Book.base.Goals as goal
 
-pub entered_base-requires : goal.entered_base-requires
-entered_base-requires c = (subst (λ o. IfSome o (MayWait c.args.self.now.state.tree)) c.requires (next_waits c.legal_is_sound.ensures c.args.self.now c.platform.ensures.book)).there
+pub entered_base-requires-clause-there : goal.entered_base-requires-clause-there
+entered_base-requires-clause-there c = (subst (λ o. IfSome o (MayWait c.args.self.now.state.tree)) c.requires (next_waits c.legal_is_sound.ensures c.args.self.now c.platform.ensures.book)).there
 
 pub returns-clause-given : goal.returns-clause-given
 returns-clause-given c = IfOk-weaker c.entered_base.result _ _
