@@ -9,6 +9,7 @@ pub mod Conflict
 pub mod CertificateFacts
 pub mod Certificate
 pub mod Check
+pub mod Claim
 pub mod Cannot
 pub mod Finder
 pub mod Roll

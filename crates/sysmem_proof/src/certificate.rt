@@ -4,6 +4,7 @@ ghost use Rattle.std.specs.Prelude.{◌≡◌};
 
 use crate::line::Lines;
 use crate::refutation::Refutation;
+use crate::verdict::Verdict;
 use std::marker::Model;
 
 /// Refutations of the choices before the chosen one of a group, that of choice 0 first.
@@ -101,4 +102,13 @@ pub enum Proof {
     Empty(Refutation),
     /// Of more selections than a decision goes through, which need no proof, and of what isn't a decision.
     Nothing,
+}
+
+/// A verdict with what is to prove it. Any are a claim; whether it is true is a checker's matter.
+#[derive(Debug, Drop)]
+pub struct Claim {
+    /// What is claimed to be optimal.
+    pub verdict: Verdict,
+    /// What is to prove it.
+    pub proof: Proof,
 }

@@ -21,7 +21,7 @@ mod roll;
 mod verdict;
 
 pub use base::Base;
-pub use certificate::{Certificate, EarlierChoices, Proof};
+pub use certificate::{Certificate, Claim, EarlierChoices, Proof};
 pub use conflict::Conflict;
 pub use line::{Line, Lines};
 pub use no::No;
