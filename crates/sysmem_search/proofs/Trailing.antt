@@ -27,7 +27,7 @@ zip_push R (a ∷ xs) (b ∷ ys) zero x y zip here r = absurd zip
 zip_push R (a ∷ xs) [] (suc c) x y zip here r = absurd zip
 zip_push R (a ∷ xs) (b ∷ ys) (suc c) x y zip here r = (zip.0, zip_push R xs ys c x y zip.1 here r)
 
-zip_length : {A B : Type 0} (R : A → B → Type 0) (xs : List A) (ys : List B) → AllZip R xs ys → length ys ≡ length xs
+pub zip_length : {A B : Type 0} (R : A → B → Type 0) (xs : List A) (ys : List B) → AllZip R xs ys → length ys ≡ length xs
 zip_length R [] [] zip = refl
 zip_length R [] (y ∷ ys) zip = absurd zip
 zip_length R (x ∷ xs) [] zip = absurd zip
