@@ -126,16 +126,16 @@ front_same (a ∷ xs) (b ∷ ys) x y e = rw (heads a b (xs ++ x ∷ []) (ys ++ y
 module _ (m : Matter) (old pushed : List ℕ) (c n from : ℕ) (prefix : IsPrefix (forest m) old) (less : c < n) (is : pushed ≡ old ++ c ∷ [])
     (many : IfSome (after (forest m) old) (λ d. option_map length (choices d) ≡ Some n)) where
   -- the forest after the choices, its alternatives, and the one that is chosen
-  record Child : Type 0 where
-    forest_here : Forest Member
-    leads : after (forest m) old ≡ Some forest_here
-    alternatives : List (Forest Member)
-    open' : choices forest_here ≡ Some alternatives
-    child : Forest Member
-    here : slice_get alternatives c ≡ Some child
-    goes_on : after (forest m) pushed ≡ Some child
+  pub record Child : Type 0 where
+    pub forest_here : Forest Member
+    pub leads : after (forest m) old ≡ Some forest_here
+    pub alternatives : List (Forest Member)
+    pub open' : choices forest_here ≡ Some alternatives
+    pub child : Forest Member
+    pub here : slice_get alternatives c ≡ Some child
+    pub goes_on : after (forest m) pushed ≡ Some child
 
-  child : Child
+  pub child : Child
   child = by (after (forest m) old) refl prefix many where
     at : (d : Forest Member) → after (forest m) old ≡ Some d → (o : Option (List (Forest Member))) → choices d ≡ o → option_map length o ≡ Some n → Child
     at d leads None open' e = absurd (cc)
