@@ -5,9 +5,8 @@ use Rattle.script_reading.specs.declared.fault.ScriptFault.{ScriptFault}
 use Rattle.script_reading.specs.declared.fault.ScriptFault.TheVariants.{TooLong, NotJson}
 use Rattle.script_run.specs.Laws.{FaultIsAlone, IsFed, OneAnswer, OneReport}
 use Rattle.script_run.specs.Outcome.{ReportFacts, ValueRunsTo, RunsTo, refused, reported}
-use Rattle.script_run.specs.Report.{IsReport}
+use Rattle.script_run.specs.Report.{Certified, IsReport}
 use Rattle.script_reading.specs.Script.{ScriptFacts}
-use Rattle.script_run.specs.State.{first_state}
 use Rattle.script_reading.specs.Text.{IsJson, longest, too_long, not_json, spelled}
 
 -- bytes spell one value
@@ -20,22 +19,22 @@ same_fields a b text starved =
     first ∙ ap (λ (s : Bool). let r : ReportFacts = record { text = b.text; starved = s } in r) starved
 
 -- the report of a script whose memory is not refused, with that said of it
-fed_report : (script : ScriptFacts) (r : ReportFacts) → r.starved ≡ false
-    → IsReport 1 (first_state script.platform) script.calls r.text r.starved → IsReport 1 (first_state script.platform) script.calls r.text false
-fed_report script r e report = subst (λ (s : Bool). IsReport 1 (first_state script.platform) script.calls r.text s) e report
+fed_report : (script : ScriptFacts) (r : ReportFacts) (cs : List Certified) → r.starved ≡ false
+    → IsReport script.platform script.calls r.text cs r.starved → IsReport script.platform script.calls r.text cs false
+fed_report script r cs e report = subst (λ (s : Bool). IsReport script.platform script.calls r.text cs s) e report
 
 -- a value gives one answer
 one_said : OneReport → (value : Data) (a b : Result ReportFacts ScriptFault) → ValueRunsTo value a → ValueRunsTo value b → IsFed a → IsFed b → a ≡ b
 one_said one value _ _ (refused f e) (refused g h) x y =
     let both : Err f ≡ Err g = sym e ∙ h in let same : f ≡ g = cc in ap Err same
-one_said one value _ _ (refused f e) (reported script r h report) x y = let both : Err f ≡ Ok script = sym e ∙ h in absurd (cc)
-one_said one value _ _ (reported script r e report) (refused g h) x y = let both : Ok script ≡ Err g = sym e ∙ h in absurd (cc)
-one_said one value _ _ (reported script a e first) (reported other b h second) x y =
+one_said one value _ _ (refused f e) (reported script r cs h report) x y = let both : Err f ≡ Ok script = sym e ∙ h in absurd (cc)
+one_said one value _ _ (reported script r cs e report) (refused g h) x y = let both : Ok script ≡ Err g = sym e ∙ h in absurd (cc)
+one_said one value _ _ (reported script a cs e first) (reported other b ds h second) x y =
     let both : Ok other ≡ Ok script = sym h ∙ e in
     let same : other ≡ script = cc in
-    let there : IsReport 1 (first_state script.platform) script.calls b.text false =
-    subst (λ (z : ScriptFacts). IsReport 1 (first_state z.platform) z.calls b.text false) same (fed_report other b y second) in
-    ap Ok (same_fields a b (one script.platform script.calls a.text b.text (fed_report script a x first) there) (x ∙ sym y))
+    let there : IsReport script.platform script.calls b.text ds false =
+    subst (λ (z : ScriptFacts). IsReport z.platform z.calls b.text ds false) same (fed_report other b ds y second) in
+    ap Ok (same_fields a b (one script.platform script.calls a.text b.text cs ds (fed_report script a cs x first) there) (x ∙ sym y))
 
 too_long_alone : (n : ℕ) → longest < n → n ≤ longest → ⊥
 too_long_alone n long few = absurd (omega (arith, long, few))
@@ -62,8 +61,8 @@ one_answer one = both_said (λ a b. IsFed a → IsFed b → a ≡ b) (λ fault x
 fault_said : (fault : ScriptFault) (value : Data) (a b : Result ReportFacts ScriptFault) → ValueRunsTo value a → ValueRunsTo value b → a ≡ Err fault → b ≡ Err fault
 fault_said fault value _ _ (refused f e) (refused g h) same =
     let both : Err g ≡ Err f = sym h ∙ e in let other : g ≡ f = cc in ap Err other ∙ same
-fault_said fault value _ _ (refused f e) (reported script r h report) same = let both : Err f ≡ Ok script = sym e ∙ h in absurd (cc)
-fault_said fault value _ b (reported script r e report) said same = absurd (cc)
+fault_said fault value _ _ (refused f e) (reported script r cs h report) same = let both : Err f ≡ Ok script = sym e ∙ h in absurd (cc)
+fault_said fault value _ b (reported script r cs e report) said same = absurd (cc)
 
 pub fault_is_alone : FaultIsAlone
 fault_is_alone input fault b first second =

@@ -1,9 +1,10 @@
 -- How a reply answers a call, from what the runner's functions say.
-use Rattle.std.proofs.Common.{◌≡◌, ℕ, ◌++◌, ◌||◌, List, Bool, true, false, Option, Some, None, Result, Ok, Err, slice_get, refl, sym, ◌∙◌, ap, subst, append_assoc}
+use Rattle.std.proofs.Common.{◌≡◌, ℕ, ◌+◌, ◌++◌, ◌||◌, List, [], ◌∷◌, Bool, true, false, Option, Some, None, Result, Ok, Err, slice_get, refl, sym, ◌∙◌, ap, subst, append_assoc}
 use Rattle.std.specs.Prelude.{IfSome}
 use Rattle.serde_json.specs.Data.{Data}
 use Rattle.sysmem_alloc.specs.Book.{BookFacts, entered}
 use Rattle.sysmem_alloc.specs.Entry.{Acted}
+use Rattle.sysmem_alloc.specs.State.{next_ready}
 use Rattle.sysmem_sanitise.specs.declared.fault.Fault.{Fault}
 use Rattle.sysmem_sanitise.specs.declared.fault.Code.{Code}
 use Rattle.sysmem_sanitise.specs.declared.fault.Code.TheVariants.{WantOfMemory}
@@ -22,23 +23,24 @@ use Rattle.script_run.specs.declared.reply.Reply.{Reply}
 use Rattle.script_run.specs.declared.reply.Reply.TheVariants.{Accepted, Refused, Misread, Skipped}
 use Rattle.script_run.specs.Answer.{Asks, to_set, Replies, skips, misreads, starves, lacks, refuses, accepts, is_want}
 use Rattle.script_run.specs.Lines.{call_line}
-use Rattle.script_run.specs.Report.{FollowsIn, Takes, failed_lines, takes}
+use Rattle.script_run.specs.Report.{GoesIn, calls, call_lines, failed_lines}
 use Rattle.script_run.specs.State.{State, tree_of, acted, named, node_named, unmade}
+use Rattle.script_run.proofs.Following.{state_at}
 
 pub skipped_as : (s t : State) (r : CallFacts) → node_named s r ≡ None → t ≡ unmade s r.act → Replies s r Skipped t
 skipped_as s t r none e = rw e (skips none)
 
 -- a refusal leaves the book
-pub refused_as : (s t : State) (b : BookFacts) (r : CallFacts) (k : ℕ) (deed : Deed) (refusal : Refusal) → node_named s r ≡ Some k → Asks r.act deed
-    → applied (tree_of s) k deed ≡ Err refusal → b ≡ s.book → t ≡ record s { book = b; names = s.names ++ named r.act None } → Replies s r (Refused refusal) t
-refused_as s t b r k deed refusal here asks why same e =
-    rw (e ∙ ap (λ (x : BookFacts). record s { book = x; names = s.names ++ named r.act None }) same) (refuses k deed refusal here asks why)
+pub refused_as : (old b : BookFacts) (names : List (Option ℕ)) (starved : Bool) (t : State) (r : CallFacts) (k : ℕ) (deed : Deed) (refusal : Refusal) → node_named (state_at old names starved) r ≡ Some k
+    → Asks r.act deed → applied old.state.tree k deed ≡ Err refusal → b ≡ old → t ≡ state_at b (names ++ named r.act None) starved → Replies (state_at old names starved) r (Refused refusal) t
+refused_as old b names starved t r k deed refusal here asks why same e =
+    rw (e ∙ ap (λ (x : BookFacts). state_at x (names ++ named r.act None) starved) same) (refuses k deed refusal here asks why)
 
-pub accepted_as : (s t : State) (b : BookFacts) (r : CallFacts) (k made : ℕ) (deed : Deed) → node_named s r ≡ Some k → Asks r.act deed
-    → applied (tree_of s) k deed ≡ Ok (record { tree = b.state.tree; node = made }) → b ≡ entered s.book (Acted k deed)
-    → t ≡ record s { book = b; names = s.names ++ named r.act (Some made) } → Replies s r Accepted t
-accepted_as s t b r k made deed here asks done same e =
-    rw (e ∙ ap (λ (x : BookFacts). record s { book = x; names = s.names ++ named r.act (Some made) }) same) (accepts k made deed b.state.tree here asks done)
+pub accepted_as : (old b : BookFacts) (names : List (Option ℕ)) (starved : Bool) (t : State) (r : CallFacts) (k made : ℕ) (deed : Deed) → node_named (state_at old names starved) r ≡ Some k
+    → Asks r.act deed → applied old.state.tree k deed ≡ Ok (record { tree = b.state.tree; node = made }) → b ≡ entered old (Acted k deed)
+    → t ≡ state_at b (names ++ named r.act (Some made)) starved → Replies (state_at old names starved) r Accepted t
+accepted_as old b names starved t r k made deed here asks done same e =
+    rw (e ∙ ap (λ (x : BookFacts). state_at x (names ++ named r.act (Some made)) starved) same) (accepts k made deed b.state.tree here asks done)
 
 or_true : (b : Bool) → (b || true) ≡ true
 or_true true = refl
@@ -74,19 +76,22 @@ pub misread_as : (s t : State) (r : CallFacts) (k : ℕ) (d : Data) (fault : Fau
     → Replies s r (Misread fault) t
 misread_as s t r k d fault here act said wanting e = by_code s t r k d fault (is_want fault.code) here act said wanting refl e
 
-four_texts : (a b c d w x y : List ℕ) → b ≡ a ++ w → c ≡ b ++ x → d ≡ c ++ y → d ≡ a ++ (w ++ x ++ y)
+four_texts : (a b c d w x y : List ℕ) → b ≡ a ++ w → c ≡ b ++ x → d ≡ c ++ y → d ≡ a ++ ((w ++ x) ++ y)
 four_texts a b c d w x y e f g =
     g ∙ (ap (λ z. z ++ y) (f ∙ ap (λ z. z ++ x) e) ∙ (ap (λ z. z ++ y) (append_assoc a w x) ∙ append_assoc a (w ++ x) y))
 
 -- a reply, the domains that the call made fail and what follows are what a call makes
-pub takes_as : (number : ℕ) (s : State) (r : CallFacts) (mid t : State) (before between then_on after : List ℕ) (reply : Reply)
+pub takes_as : (number : ℕ) (s : State) (r : CallFacts) (mid t : State) (before between then_on after : List ℕ) (reply : Reply) → next_ready s.book ≡ None
     → Replies s r reply mid → between ≡ before ++ call_line number r reply → then_on ≡ between ++ failed_lines (tree_of s) (tree_of mid)
-    → FollowsIn mid t then_on after → Takes number s r t before after
-takes_as number s r mid t before between then_on after reply answered e f followed = record {
-  lines = call_line number r reply ++ failed_lines (tree_of s) (tree_of mid) ++ followed.lines;
-  made = takes reply mid t followed.lines answered followed.follows;
-  put = four_texts before between then_on after (call_line number r reply) (failed_lines (tree_of s) (tree_of mid)) followed.lines e f followed.put;
-}
+    → ((k : ℕ) → GoesIn k mid [] t then_on after) → GoesIn number s (r ∷ []) t before after
+takes_as number s r mid t before between then_on after reply idle answered e f followed =
+    let on = followed (number + 1) in
+    record {
+      lines = call_lines number s r reply mid ++ on.lines;
+      decisions = on.decisions;
+      goes = calls number s mid t r [] reply on.lines on.decisions idle answered on.goes;
+      put = four_texts before between then_on after (call_line number r reply) (failed_lines (tree_of s) (tree_of mid)) on.lines e f on.put;
+    }
 
 -- constraints that were read but for which memory was refused
 pub lacks_as : (s t : State) (r : CallFacts) (k : ℕ) (d : Data) (asked : Participant) → node_named s r ≡ Some k → r.act ≡ states (Some d) → participant_of d ≡ Ok asked

@@ -3,7 +3,8 @@ use Rattle.std.proofs.Common.{◌≡◌, ℕ, ◌+◌, ◌==◌, ◌≤◌, Bool
 use Rattle.std.specs.Prelude.{IfSome, option_map, option_and_then, if◌then◌else◌}
 use Rattle.std.proofs.lemmas.Option.{same_Some}
 use Rattle.sysmem_alloc.specs.Book.{BookFacts, IsBook}
-use Rattle.sysmem_alloc.specs.Decision.{Decision, decision_for, settings_for, settings_of}
+use Rattle.sysmem_alloc.proofs.CallerLemmas.{claims_optimal}
+use Rattle.sysmem_alloc.specs.Decision.{Decision, answer_of, decision_for, settings_for, settings_of}
 use Rattle.sysmem_alloc.specs.Entry.{BookEntry, Acted, Decided}
 use Rattle.sysmem_alloc.specs.History.{Allows, AreAllowed, after_answer, after_entry, replay, replay_from}
 use Rattle.sysmem_alloc.specs.State.{State, base_of, first_state}
@@ -113,8 +114,9 @@ entry_corners none platform s (Acted i deed) ok all = by (applied s.tree i deed)
   by : (o : Result Applied Refusal) → HaveCorners (after_answer s o)
   by (Ok made) = all
   by (Err refusal) = all
-entry_corners none platform s (Decided d) ok all = λ r x is.
-    pushed s.decisions d r x (HasCorner x) (all r x) (decided_corners none platform s d all ok.1 x) is
+entry_corners none platform s (Decided c) ok all = λ r x is.
+    let optimal = claims_optimal platform s.tree.nodes c.domain (base_of s c.domain) c.claim ok.1 in
+    pushed s.decisions (answer_of c) r x (HasCorner x) (all r x) (decided_corners none platform s (answer_of c) all optimal x) is
 
 corners_from : NoCorner → (platform : PlatformFacts) (s : State) (es : List BookEntry) → AreAllowed platform s es → HaveCorners s → HaveCorners (replay_from s es)
 corners_from none platform s [] ok all = all

@@ -1,12 +1,11 @@
 -- What follows a reply: decisions, one after the other, and what they and the call made fail.
-use Rattle.std.proofs.Common.{◌≡◌, ◌≤◌, ℕ, ◌+◌, ◌++◌, ◌||◌, Bool, true, false, not, List, [], ◌∷◌, length, length-append, Option, Some, None, Result, Ok, Err, get_or, refl, sym, ◌∙◌, ap, subst, append-nil, append_assoc}
+use Rattle.std.proofs.Common.{◌≡◌, ◌≤◌, ℕ, suc, ◌+◌, ◌++◌, ◌||◌, Bool, true, false, not, List, [], ◌∷◌, length, length-append, Option, Some, None, Result, Ok, Err, get_or, refl, sym, ◌∙◌, ap, subst, arith, append-nil, append_assoc}
 use Rattle.std.specs.Prelude.{is_none, option_map}
 use Rattle.sysmem_alloc.specs.Book.{BookFacts, IsBook, entered}
-use Rattle.sysmem_alloc.specs.Decision.{Decision, choices_of}
+use Rattle.sysmem_alloc.specs.Decision.{Claimed, Decision, answer_of, choices_of}
 use Rattle.sysmem_alloc.specs.Entry.{Decided}
 use Rattle.sysmem_alloc.specs.History.{Allows}
 use Rattle.sysmem_alloc.specs.Laws.{FewEntries}
-use Rattle.sysmem_alloc.specs.State.{next_ready}
 use Rattle.sysmem_tree.specs.Domain.{TreeFacts, IsSoundTree}
 use Rattle.sysmem_tree.specs.Path.{path_of}
 use Rattle.script_reading.specs.Script.{CallFacts}
@@ -14,7 +13,7 @@ use Rattle.script_run.specs.declared.reply.Reply.{Reply}
 use Rattle.script_run.specs.Answer.{Replies, skips, misreads, starves, lacks, refuses, accepts, tells}
 use Rattle.script_run.specs.Lines.{domain_line}
 use Rattle.script_run.specs.Marks.{AreMarksOf, failed_at}
-use Rattle.script_run.specs.Report.{DecidesIn, Follows, FollowsIn, Tells, decided, decides, decision_lines, failed_lines, none_waits}
+use Rattle.script_run.specs.Report.{Certified, DecidesIn, Goes, GoesIn, Tells, calls, call_lines, certified, decided, decides, decision_lines, failed_lines, stays}
 use Rattle.script_run.specs.State.{State, tree_of}
 use Rattle.script_run.proofs.Failures.{marks_same, marks_acted, marks_decided}
 
@@ -41,12 +40,12 @@ turned a true e = sym (ap not e)
 turned a false e = sym (ap not e)
 
 -- a decision with its lines
-pub decides_as : (s t : State) (d : Decision) (what before between after : List ℕ) (marks : List Bool) → Allows s.book.platform s.book.state (Decided d)
-    → Tells s.book.platform d.verdict what → between ≡ before ++ domain_line (path_of (tree_of s).nodes d.domain) what
+pub decides_as : (s t : State) (c : Claimed) (what before between after : List ℕ) (marks : List Bool) → Allows s.platform s.book (Decided c)
+    → Tells s.platform (answer_of c).verdict what → between ≡ before ++ domain_line (path_of (tree_of s).nodes c.domain) what
     → ((k : ℕ) → get_or marks k false ≡ failed_at (tree_of s) k)
-    → ((old : TreeFacts) → AreMarksOf old (tree_of t) marks → after ≡ between ++ failed_lines old (tree_of t)) → t ≡ decided s d → DecidesIn s t before after
-decides_as s t d what before between after marks allowed said line marked failed is = record {
-  decision = d;
+    → ((old : TreeFacts) → AreMarksOf old (tree_of t) marks → after ≡ between ++ failed_lines old (tree_of t)) → t ≡ decided s (answer_of c) → DecidesIn s t before after
+decides_as s t c what before between after marks allowed said line marked failed is = record {
+  claimed = c;
   what = what;
   allowed = allowed;
   tells = said;
@@ -54,36 +53,64 @@ decides_as s t d what before between after marks allowed said line marked failed
   put = all ∙ (ap (λ ts. ts ++ failed_lines (tree_of s) (tree_of (decided s d))) line
       ∙ append_assoc before (domain_line (path_of (tree_of s).nodes d.domain) what) (failed_lines (tree_of s) (tree_of (decided s d))));
 } where
+  d : Decision
+  d = answer_of c
+
   all : after ≡ between ++ failed_lines (tree_of s) (tree_of (decided s d))
   all = (subst (λ (x : State). (old : TreeFacts) → AreMarksOf old (tree_of x) marks → after ≡ between ++ failed_lines old (tree_of x)) is failed)
       (tree_of s) (marks_decided (tree_of s) d.domain (choices_of d.verdict) marks marked)
 
+-- how a script stands with this book
+abbrev pub state_at : BookFacts → List (Option ℕ) → Bool → State
+state_at b names starved = record { platform = b.platform; book = b.state; names = names; starved = starved }
+
 -- a decision that was entered, with whether memory was refused to it
-pub entered_as : (s t : State) (b : BookFacts) (wants : Bool) (d : Decision) → t ≡ record s { book = b; starved = s.starved || wants } → b ≡ entered s.book (Decided d) → wants ≡ is_none d.verdict → t ≡ decided s d
-entered_as s t b wants d is same short =
-    is ∙ (ap (λ (x : BookFacts). record s { book = x; starved = s.starved || wants }) same ∙ ap (λ (w : Bool). record s { book = entered s.book (Decided d); starved = s.starved || w }) short)
+pub entered_as : (old b : BookFacts) (names : List (Option ℕ)) (starved wants : Bool) (t : State) (c : Claimed) → t ≡ state_at b names (starved || wants) → b ≡ entered old (Decided c)
+    → wants ≡ is_none (answer_of c).verdict → t ≡ decided (state_at old names starved) (answer_of c)
+entered_as old b names starved wants t c is same short =
+    is ∙ (ap (λ (x : BookFacts). state_at x names (starved || wants)) same ∙ ap (λ (w : Bool). state_at (entered old (Decided c)) names (starved || w)) short)
 
 -- a book's history is one entry longer by it
-pub one_longer : (s t : State) (d : Decision) → t ≡ decided s d → length t.book.history ≡ length s.book.history + 1
-one_longer s t d is = ap (λ (x : State). length x.book.history) is ∙ length-append s.book.history (Decided d ∷ [])
+pub one_longer : (old new : BookFacts) (c : Claimed) → new ≡ entered old (Decided c) → length new.history ≡ length old.history + 1
+one_longer old new c is = ap (λ (b : BookFacts). length b.history) is ∙ length-append old.history (Decided c ∷ [])
 
 -- and has at most 639
 pub few_in : FewEntries → (b : BookFacts) → IsBook b → length b.history ≤ 639
 few_in few b is = few b.platform b.history is.legal
 
--- what follows from a state on follows from an earlier one, behind the lines in between
-abbrev pub LeadsOn : State → State → List ℕ → List ℕ → Type 0
-LeadsOn s t before now = (u : State) (rest : List ℕ) → Follows t u rest → (lines : List ℕ) × Follows s u lines × (before ++ lines ≡ now ++ rest)
+-- calls and decisions, and others that go on from there
+pub goes_on : (number : ℕ) (s t u : State) (rs qs : List CallFacts) (a b : List ℕ) (cs ds : List Certified) → Goes number s rs a cs t → Goes (number + length rs) t qs b ds u
+    → Goes number s (rs ++ qs) (a ++ b) (cs ++ ds) u
+goes_on _ _ _ u _ qs _ b _ ds (stays number s) on = let z : number + 0 ≡ number = omega arith in subst (λ k. Goes k s qs b ds u) z on
+goes_on _ _ _ u _ qs _ b _ ds (calls number s answered t r rs reply text cs idle replied rest) on =
+    let z : number + suc (length rs) ≡ (number + 1) + length rs = omega arith in
+    subst (λ ts. Goes number s (r ∷ rs ++ qs) ts (cs ++ ds) u) (sym (append_assoc (call_lines number s r reply answered) text b))
+    (calls number s answered u r (rs ++ qs) reply (text ++ b) (cs ++ ds) idle replied (goes_on (number + 1) answered t u rs qs text b cs ds rest (subst (λ k. Goes k t qs b ds u) z on)))
+goes_on _ _ _ u _ qs _ b _ ds (decides number s t c rs what text cs allowed said rest) on =
+    subst (λ ts. Goes number s (rs ++ qs) ts (certified s c ∷ cs ++ ds) u) (sym (append_assoc (decision_lines s (answer_of c) what) text b))
+    (decides number s u c (rs ++ qs) what (text ++ b) (cs ++ ds) allowed said (goes_on number (decided s (answer_of c)) t u rs qs text b cs ds rest on))
 
-pub starts : (s : State) (before : List ℕ) → LeadsOn s s before before
-starts s before u rest f = (rest, f, refl)
+-- the same of lines that are put behind a text
+pub goes_in : (number : ℕ) (s t u : State) (rs qs : List CallFacts) (before now next : List ℕ) → GoesIn number s rs t before now → GoesIn (number + length rs) t qs u now next
+    → GoesIn number s (rs ++ qs) u before next
+goes_in number s t u rs qs before now next first on = record {
+  lines = first.lines ++ on.lines;
+  decisions = first.decisions ++ on.decisions;
+  goes = goes_on number s t u rs qs first.lines on.lines first.decisions on.decisions first.goes on.goes;
+  put = on.put ∙ (ap (λ ts. ts ++ on.lines) first.put ∙ append_assoc before first.lines on.lines);
+}
 
-pub one_more : (s t u : State) (before now next : List ℕ) → DecidesIn t u now next → LeadsOn s t before now → LeadsOn s u before next
-one_more s t u before now next d on v rest f =
-    let (lines, follows, put) = on v (decision_lines t d.decision d.what ++ rest) (decides t v d.decision d.what rest d.allowed d.tells (subst (λ x. Follows x v rest) d.entered f)) in
-    (lines, follows, put ∙ (sym (append_assoc now (decision_lines t d.decision d.what) rest) ∙ ap (λ ts. ts ++ rest) (sym d.put)))
+pub starts : (number : ℕ) (s : State) (before : List ℕ) → GoesIn number s [] s before before
+starts number s before = record { lines = []; decisions = []; goes = stays number s; put = sym (append-nil before) }
 
-pub ends : (s t : State) (before now : List ℕ) → next_ready t.book.state ≡ None → LeadsOn s t before now → FollowsIn s t before now
-ends s t before now none on =
-    let (lines, follows, put) = on t [] (none_waits t none) in
-    record { lines = lines; follows = follows; put = sym (append-nil now) ∙ sym put }
+one_decision : (number : ℕ) (s t : State) (before after : List ℕ) → DecidesIn s t before after → GoesIn number s [] t before after
+one_decision number s t before after d = record {
+  lines = decision_lines s (answer_of d.claimed) d.what ++ [];
+  decisions = certified s d.claimed ∷ [];
+  goes = decides number s t d.claimed [] d.what [] [] d.allowed d.tells (subst (λ x. Goes number x [] [] [] t) d.entered (stays number t));
+  put = d.put ∙ ap (λ ts. before ++ ts) (sym (append-nil (decision_lines s (answer_of d.claimed) d.what)));
+}
+
+-- one decision more
+pub one_more : (s t u : State) (before now next : List ℕ) → DecidesIn t u now next → ((number : ℕ) → GoesIn number s [] t before now) → (number : ℕ) → GoesIn number s [] u before next
+one_more s t u before now next d on number = goes_in number s t u [] [] before now next (on number) (one_decision (number + 0) t u now next d)

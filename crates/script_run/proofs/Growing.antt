@@ -5,7 +5,7 @@ use Rattle.std.proofs.lemmas.List.{length-set}
 use Rattle.std.proofs.lemmas.Option.{same_Some, slice_get_within}
 use Rattle.sysmem_alloc.specs.declared.book.Done.{Done}
 use Rattle.sysmem_alloc.specs.Book.{BookFacts, entered}
-use Rattle.sysmem_alloc.specs.Decision.{Decision, choices_of}
+use Rattle.sysmem_alloc.specs.Decision.{Claimed, answer_of, choices_of}
 use Rattle.sysmem_alloc.specs.Entry.{Decided}
 use Rattle.sysmem_tree.proofs.CallerLemmas.{accepted}
 use Rattle.sysmem_tree.specs.declared.refusal.Refusal.{Refusal}
@@ -85,6 +85,6 @@ applied_there old new i deed names (Ok done) all accepts same = still_there old.
 applied_there old new i deed names (Err refusal) all accepts same = subst (λ (b : BookFacts). AreThere b.state.tree.nodes names) (sym same) all
 
 -- and after a decision
-pub decided_there : (old new : BookFacts) (d : Decision) (names : List (Option ℕ)) → AreThere old.state.tree.nodes names → new ≡ entered old (Decided d) → AreThere new.state.tree.nodes names
-decided_there old new d names all same = subst (λ (b : BookFacts). AreThere b.state.tree.nodes names) (sym same)
-    (still_there old.state.tree.nodes (decided old.state.tree d.domain (choices_of d.verdict)).nodes names (omega (arith, decided_length old.state.tree d.domain (choices_of d.verdict))) all)
+pub decided_there : (old new : BookFacts) (c : Claimed) (names : List (Option ℕ)) → AreThere old.state.tree.nodes names → new ≡ entered old (Decided c) → AreThere new.state.tree.nodes names
+decided_there old new c names all same = subst (λ (b : BookFacts). AreThere b.state.tree.nodes names) (sym same)
+    (still_there old.state.tree.nodes (decided old.state.tree c.domain (choices_of (answer_of c).verdict)).nodes names (omega (arith, decided_length old.state.tree c.domain (choices_of (answer_of c).verdict))) all)

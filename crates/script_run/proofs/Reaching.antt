@@ -1,24 +1,44 @@
--- A report of the calls so far, and of one more.
-use Rattle.std.proofs.Common.{◌≡◌, ℕ, ◌+◌, ◌<◌, ◌≤◌, ◌++◌, List, [], ◌∷◌, Bool, drop, map, length, get_or, sym, ◌∙◌, ap, append_assoc}
+-- The calls so far, and one more.
+use Rattle.std.proofs.Common.{◌≡◌, ℕ, ◌+◌, ◌<◌, ◌≤◌, ◌++◌, List, [], ◌∷◌, None, drop, map, length, get_or, refl, sym, ◌∙◌, ap, subst, arith, append-nil, append_assoc, length-append}
 use Rattle.std.proofs.lemmas.List.{at_drop_more, at_drop_all, drop-map, length-map}
+use Rattle.sysmem_alloc.specs.State.{next_ready}
 use Rattle.sysmem_sanitise.specs.Platform.{PlatformFacts}
 use Rattle.script_reading.specs.declared.call.Call.{Call}
 use Rattle.script_reading.specs.Script.{CallFacts}
 use Rattle.script_reading.specs.Seen.{call_seen}
-use Rattle.script_run.specs.Report.{IsReport, continued, ended, pending_lines, Takes}
+use Rattle.script_run.specs.Report.{Certified, GoesIn, IsReport, pending_lines}
 use Rattle.script_run.specs.State.{State, first_state}
+use Rattle.script_run.proofs.Following.{goes_in, starts}
 
--- what the calls before this place wrote, with a report of the others, is a report of all
-abbrev pub Reaches : PlatformFacts → List CallFacts → ℕ → State → List ℕ → Type 0
-Reaches platform rs place s text = (rest : List ℕ) (starved : Bool) → IsReport (place + 1) s (drop place rs) rest starved
-    → IsReport 1 (first_state platform) rs (text ++ rest) starved
+-- the calls before this place were made, and lead to a state in which no domain waits
+pub record Reaches (platform : PlatformFacts) (rs : List CallFacts) (place : ℕ) (s : State) (text : List ℕ) : Type 0 where
+  pub made : List CallFacts
+  pub split : rs ≡ made ++ drop place rs
+  pub many : length made ≡ place
+  pub goes : GoesIn 1 (first_state platform) made s [] text
+  pub idle : next_ready s.book ≡ None
+
+pub reaches-start : (platform : PlatformFacts) (rs : List CallFacts) (s : State) (text : List ℕ) → s ≡ first_state platform → text ≡ [] → Reaches platform rs 0 s text
+reaches-start platform rs s text is empty = subst (λ x. Reaches platform rs 0 x text) (sym is) (subst (λ ts. Reaches platform rs 0 (first_state platform) ts) (sym empty) (record {
+  made = [];
+  split = refl;
+  many = refl;
+  goes = starts 1 (first_state platform) [];
+  idle = refl;
+}))
 
 pub reaches-take : (platform : PlatformFacts) (rs : List CallFacts) (place : ℕ) (s t : State) (r : CallFacts) (before after : List ℕ)
-    → drop place rs ≡ r ∷ drop (place + 1) rs → Takes (place + 1) s r t before after
+    → drop place rs ≡ r ∷ drop (place + 1) rs → GoesIn (place + 1) s (r ∷ []) t before after → next_ready t.book ≡ None
     → Reaches platform rs place s before → Reaches platform rs (place + 1) t after
-reaches-take platform rs place s t r before after here takes reached rest starved report =
-    let whole = reached (takes.lines ++ rest) starved (rw here (continued (place + 1) s t r (drop (place + 1) rs) takes.lines rest starved takes.made report)) in
-    rw (takes.put, append_assoc) whole
+reaches-take platform rs place s t r before after here taken idle reached =
+    let number : place + 1 ≡ 1 + length reached.made = omega (arith, reached.many) in
+    record {
+      made = reached.made ++ r ∷ [];
+      split = reached.split ∙ (ap (λ qs. reached.made ++ qs) here ∙ sym (append_assoc reached.made (r ∷ []) (drop (place + 1) rs)));
+      many = length-append reached.made (r ∷ []) ∙ ap (λ n. n + 1) reached.many;
+      goes = goes_in 1 (first_state platform) s t reached.made (r ∷ []) [] before after reached.goes (subst (λ n. GoesIn n s (r ∷ []) t before after) number taken);
+      idle = idle;
+    }
 
 -- the call at a place, and the calls behind it
 pub drop-call_seen : (calls : List Call) (place : ℕ) (call : Call) → place < length calls → call ≡ get_or calls place call
@@ -29,8 +49,19 @@ drop-call_seen calls place call within e =
 
 -- behind all calls the report ends
 pub reaches-end : (platform : PlatformFacts) (calls : List Call) (place : ℕ) (s : State) (before after : List ℕ) → length calls ≤ place
-    → Reaches platform (map call_seen calls) place s before → after ≡ before ++ pending_lines s.book.state
-    → IsReport 1 (first_state platform) (map call_seen calls) after s.starved
+    → Reaches platform (map call_seen calls) place s before → after ≡ before ++ pending_lines s.book
+    → (cs : List Certified) × IsReport platform (map call_seen calls) after cs s.starved
 reaches-end platform calls place s before after all reached e =
     let none : drop place (map call_seen calls) ≡ [] = at_drop_all (λ (l : List CallFacts). l) (map call_seen calls) place (rw length-map all) in
-    rw e (reached (pending_lines s.book.state) s.starved (rw none (ended (place + 1) s)))
+    let whole : reached.made ≡ map call_seen calls = sym (append-nil reached.made) ∙ (ap (λ qs. reached.made ++ qs) (sym none) ∙ sym reached.split) in
+    let goes : GoesIn 1 (first_state platform) (map call_seen calls) s [] before = subst (λ qs. GoesIn 1 (first_state platform) qs s [] before) whole reached.goes in (
+      goes.decisions,
+      record {
+        last = s;
+        lines = goes.lines;
+        goes = goes.goes;
+        done = reached.idle;
+        put = e ∙ ap (λ ts. ts ++ pending_lines s.book) goes.put;
+        memory = refl;
+      },
+    )

@@ -15,8 +15,7 @@ use Rattle.script_reading.specs.Seen.{script_seen}
 use Rattle.script_reading.specs.Text.{Outcome, too_long, not_json, spelled, IsValue}
 use Rattle.script_run.specs.declared.report.Report.{Report}
 use Rattle.script_run.specs.Outcome.{ReportFacts, ValueRunsTo, refused, reported, RunsTo, report_seen}
-use Rattle.script_run.specs.Report.{IsReport}
-use Rattle.script_run.specs.State.{first_state}
+use Rattle.script_run.specs.Report.{Certified, IsReport}
 
 no_value : (bytes : List ℕ) (fault : ScriptFault) → Outcome IsValue bytes (Err fault) → RunsTo bytes (Err fault)
 no_value bytes _ (too_long long) = too_long long
@@ -49,7 +48,7 @@ value-fault d (Refused fault) said = refused fault said
 
 -- the report of a script is one of its value
 pub script-report : (d : Data) (script : Script) (result : Result Report ParseFault) → script_of d ≡ Ok (script_seen script)
-    → IfOk result (λ report. IsReport 1 (first_state (script_seen script).platform) (script_seen script).calls (string_bytes report.text) report.starved)
+    → IfOk result (λ report. (cs : List Certified) × IsReport (script_seen script).platform (script_seen script).calls (string_bytes report.text) cs report.starved)
     → IfErr result (λ fault. fault ≡ NoMemory) → GivesOneOf report_seen result (ValueRunsTo d)
-script-report d script (Ok report) read said none = reported (script_seen script) (report_seen report) read said
+script-report d script (Ok report) read said none = reported (script_seen script) (report_seen report) said.0 read said.1
 script-report d script (Err fault) read said none = rw none tt

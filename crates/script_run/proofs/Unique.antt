@@ -2,7 +2,8 @@
 use Rattle.std.proofs.Common.{◌≡◌, ℕ, ◌+◌, ◌++◌, ◌||◌, List, [], Bool, true, false, Option, Some, None, Result, Ok, Err, refl, sym, ◌∙◌, ap, subst}
 use Rattle.std.specs.Prelude.{IfSome, is_none}
 use Rattle.std.proofs.lemmas.Option.{same_Some}
-use Rattle.sysmem_alloc.specs.Decision.{Decision}
+use Rattle.sysmem_alloc.proofs.CallerLemmas.{claims_optimal}
+use Rattle.sysmem_alloc.specs.Decision.{Claimed, Decision, answer_of}
 use Rattle.sysmem_alloc.specs.Entry.{Acted, Decided}
 use Rattle.sysmem_alloc.specs.History.{Allows}
 use Rattle.sysmem_alloc.specs.State.{base_of, next_ready}
@@ -31,7 +32,7 @@ use Rattle.script_run.specs.declared.reply.Reply.TheVariants.{Accepted, Refused,
 use Rattle.script_run.specs.Answer.{Asks, to_duplicate, to_create_group, to_bind, to_create_child, to_complete, to_set_none, to_set, to_attach_token, to_release, to_close, AsksVerdict, to_check, to_wait, Replies, skips, misreads, starves, lacks, refuses, accepts, tells, told}
 use Rattle.script_run.specs.Laws.{OneReport}
 use Rattle.script_run.specs.Lines.{call_line, chosen_text}
-use Rattle.script_run.specs.Report.{Tells, chose, none_meet, too_many, wants_memory, decided, decision_lines, failed_lines, Follows, none_waits, decides, MakesCall, takes, IsReport, ended, continued}
+use Rattle.script_run.specs.Report.{Certified, Tells, chose, none_meet, too_many, wants_memory, call_lines, certified, decided, decision_lines, failed_lines, pending_lines, Goes, stays, calls, decides, IsReport}
 use Rattle.script_run.specs.State.{State, tree_of, first_state, node_named, unmade, acted}
 use Rattle.script_run.proofs.Corners.{one_corner}
 
@@ -42,10 +43,6 @@ absurd_true e = absurd (cc)
 not_true : (b c : Bool) → (b ≡ true → c ≡ true) → c ≡ false → b ≡ false
 not_true false c h e = refl
 not_true true c h e = absurd_true (sym (h refl) ∙ e)
-
-or_left : (b c : Bool) → (b || c) ≡ false → b ≡ false
-or_left false c e = refl
-or_left true c e = absurd_true e
 
 or_right : (b c : Bool) → (b || c) ≡ false → c ≡ false
 or_right false c e = e
@@ -77,8 +74,8 @@ answer_at s r k has_all_children = made_on s r k deeds.has_all_children
 answer_at s r k (attaches_token name) = made_on s r k deeds.attaches_token
 answer_at s r k releases = made_on s r k deeds.releases
 answer_at s r k closes = made_on s r k deeds.closes
-answer_at s r k checks = (told s.book.state k, s)
-answer_at s r k waits = (told s.book.state k, s)
+answer_at s r k checks = (told s.book k, s)
+answer_at s r k waits = (told s.book k, s)
 
 answer_for : State → CallFacts → Option ℕ → Reply × State
 answer_for s r None = (Skipped, unmade s r.act)
@@ -97,7 +94,7 @@ asked_for s r k _ _ (to_attach_token name) = refl
 asked_for s r k _ _ to_release = refl
 asked_for s r k _ _ to_close = refl
 
-told_for : (s : State) (r : CallFacts) (k : ℕ) (act : ActFacts) → AsksVerdict act → answer_at s r k act ≡ (told s.book.state k, s)
+told_for : (s : State) (r : CallFacts) (k : ℕ) (act : ActFacts) → AsksVerdict act → answer_at s r k act ≡ (told s.book k, s)
 unfolding answer_at
 told_for s r k _ to_check = refl
 told_for s r k _ to_wait = refl
@@ -146,23 +143,29 @@ same_verdict NoMemory IntersectionEmpty h = absurd h
 same_verdict NoMemory TooMany h = absurd h
 same_verdict NoMemory Failed h = absurd h
 
+same_decision : (d e : Decision) → d.domain ≡ e.domain → d.verdict ≡ e.verdict → d ≡ e
+same_decision d e own verdict =
+    let first : d ≡ record { domain = e.domain; verdict = d.verdict } = ap (λ (r : ℕ). let z : Decision = record { domain = r; verdict = d.verdict } in z) own in
+    first ∙ ap (λ (v : Option Verdict). let z : Decision = record { domain = e.domain; verdict = v } in z) verdict
+
 module _ (one : OneAnswer) (least : CornerIsLeast) where
   -- a domain has one verdict, where memory is not refused
-  one_verdict : (s : State) (r : ℕ) (v w : Option Verdict) → IfSome v (IsOptimalIn s.book.platform (tree_of s).nodes r (base_of s.book.state r))
-      → IfSome w (IsOptimalIn s.book.platform (tree_of s).nodes r (base_of s.book.state r)) → is_none v ≡ false → is_none w ≡ false → v ≡ w
+  one_verdict : (s : State) (r : ℕ) (v w : Option Verdict) → IfSome v (IsOptimalIn s.platform (tree_of s).nodes r (base_of s.book r))
+      → IfSome w (IsOptimalIn s.platform (tree_of s).nodes r (base_of s.book r)) → is_none v ≡ false → is_none w ≡ false → v ≡ w
   one_verdict s r None w x y e f = absurd_true e
   one_verdict s r (Some v) None x y e f = absurd_true f
   one_verdict s r (Some v) (Some w) x y e f =
-      ap Some (same_verdict v w (one s.book.platform _ (shape_of (tree_of s).nodes r) v w x y))
+      ap Some (same_verdict v w (one s.platform _ (shape_of (tree_of s).nodes r) v w x y))
 
-  one_decision : (s : State) (d e : Decision) → Allows s.book.platform s.book.state (Decided d) → Allows s.book.platform s.book.state (Decided e)
-      → is_none d.verdict ≡ false → is_none e.verdict ≡ false → d ≡ e
-  one_decision s d e x y f g =
-      let own : d.domain ≡ e.domain = same_Some d.domain e.domain (sym x.0 ∙ y.0) in
-      let there = subst (λ r. IfSome e.verdict (IsOptimalIn s.book.platform (tree_of s).nodes r (base_of s.book.state r))) (sym own) y.1 in
-      let verdict = one_verdict s d.domain d.verdict e.verdict x.1 there f g in
-      let first : d ≡ record { domain = e.domain; verdict = d.verdict } = ap (λ (r : ℕ). let z : Decision = record { domain = r; verdict = d.verdict } in z) own in
-      first ∙ ap (λ (v : Option Verdict). let z : Decision = record { domain = e.domain; verdict = v } in z) verdict
+  one_decision : (s : State) (c e : Claimed) → Allows s.platform s.book (Decided c) → Allows s.platform s.book (Decided e)
+      → is_none (answer_of c).verdict ≡ false → is_none (answer_of e).verdict ≡ false → answer_of c ≡ answer_of e
+  one_decision s c e x y f g =
+      let own : c.domain ≡ e.domain = same_Some c.domain e.domain (sym x.0 ∙ y.0) in
+      let first = claims_optimal s.platform (tree_of s).nodes c.domain (base_of s.book c.domain) c.claim x.1 in
+      let second = claims_optimal s.platform (tree_of s).nodes e.domain (base_of s.book e.domain) e.claim y.1 in
+      let there = subst (λ r. IfSome (answer_of e).verdict (IsOptimalIn s.platform (tree_of s).nodes r (base_of s.book r))) (sym own) second in
+      let verdict = one_verdict s c.domain (answer_of c).verdict (answer_of e).verdict first there f g in
+      same_decision (answer_of c) (answer_of e) own verdict
 
   -- one line tells of a verdict
   one_telling : (platform : PlatformFacts) (v w : Option Verdict) (a b : List ℕ) → v ≡ w → Tells platform v a → Tells platform w b → a ≡ b
@@ -186,45 +189,6 @@ module _ (one : OneAnswer) (least : CornerIsLeast) where
   one_telling platform _ _ _ _ e wants_memory too_many = absurd (cc)
   one_telling platform _ _ _ _ e wants_memory wants_memory = refl
 
-  -- what followed a state that isn't starved, wasn't either
-  unstarved_before : (s t : State) (a : List ℕ) → Follows s t a → t.starved ≡ false → s.starved ≡ false
-  unstarved_before _ _ _ (none_waits s none) e = e
-  unstarved_before _ _ _ (decides s t d what rest allowed line followed) e = or_left s.starved (is_none d.verdict) (unstarved_before (decided s d) t rest followed e)
-
-  joined : (a b c d : List ℕ) → a ≡ b → c ≡ d → a ++ c ≡ b ++ d
-  joined a b c d e f = cc
-
-  not_both : (s : State) (r : ℕ) → next_ready s.book.state ≡ None → next_ready s.book.state ≡ Some r → ⊥
-  not_both s r none some = absurd (cc)
-
-  -- what follows a reply is one, where memory is not refused
-  one_following : (s t u : State) (a b : List ℕ) → Follows s t a → Follows s u b → t.starved ≡ false → u.starved ≡ false → (t ≡ u) × (a ≡ b)
-  one_following _ _ _ _ _ (none_waits s none) (none_waits _ _) e f = (refl, refl)
-  one_following _ _ _ _ _ (none_waits s none) (decides _ u d what rest allowed line followed) e f = absurd (not_both s d.domain none allowed.0)
-  one_following _ _ _ _ _ (decides s t d what rest allowed line followed) (none_waits _ none) e f = absurd (not_both s d.domain none allowed.0)
-  one_following _ _ _ _ _ (decides s t d what rest allowed line followed) (decides _ u d' what' rest' allowed' line' followed') e f =
-      let short : is_none d.verdict ≡ false = or_right s.starved (is_none d.verdict) (unstarved_before (decided s d) t rest followed e) in
-      let short' : is_none d'.verdict ≡ false = or_right s.starved (is_none d'.verdict) (unstarved_before (decided s d') u rest' followed' f) in
-      let same : d ≡ d' = one_decision s d d' allowed allowed' short short' in
-      let said : what ≡ what' = one_telling s.book.platform d.verdict d'.verdict what what' (ap (λ (z : Decision). z.verdict) same) line line' in
-      let there : Follows (decided s d) u rest' = subst (λ (z : Decision). Follows (decided s z) u rest') (sym same) followed' in
-      let (ends, rests) = one_following (decided s d) t u rest rest' followed there e f in
-      (ends, joined (decision_lines s d what) (decision_lines s d' what') rest rest' (ap (λ (z : Decision). decision_lines s z what) same ∙ ap (decision_lines s d') said) rests)
-
-  one_call : (number : ℕ) (s t u : State) (r : CallFacts) (a b : List ℕ) → MakesCall number s r t a → MakesCall number s r u b → t.starved ≡ false → u.starved ≡ false → (t ≡ u) × (a ≡ b)
-  one_call number s t u r _ _ (takes reply mid _ line answered followed) (takes reply' mid' _ line' answered' followed') e f =
-      let first : (reply, mid) ≡ answer_for s r (node_named s r) = is_answer s r reply mid answered (unstarved_before mid t line followed e) in
-      let second : (reply', mid') ≡ answer_for s r (node_named s r) = is_answer s r reply' mid' answered' (unstarved_before mid' u line' followed' f) in
-      let same_reply : reply ≡ reply' = ap (λ (p : Reply × State). p.0) (first ∙ sym second) in
-      let same_mid : mid' ≡ mid = ap (λ (p : Reply × State). p.1) (second ∙ sym first) in
-      let followed_too : Follows mid u line' = subst (λ (m : State). Follows m u line') same_mid followed' in
-      let same : (t ≡ u) × (line ≡ line') = one_following mid t u line line' followed followed_too e f in (
-        same.0,
-        joined (call_line number r reply ++ failed_lines (tree_of s) (tree_of mid)) (call_line number r reply' ++ failed_lines (tree_of s) (tree_of mid')) line line'
-            (joined (call_line number r reply) (call_line number r reply') (failed_lines (tree_of s) (tree_of mid)) (failed_lines (tree_of s) (tree_of mid')) (ap (call_line number r) same_reply)
-            (ap (λ (m : State). failed_lines (tree_of s) (tree_of m)) (sym same_mid))) same.1,
-      )
-
   -- memory that was refused stays so
   answer_starves : (s t : State) (r : CallFacts) (reply : Reply) → Replies s r reply t → s.starved ≡ true → t.starved ≡ true
   answer_starves s _ r _ (skips none) e = e
@@ -235,26 +199,50 @@ module _ (one : OneAnswer) (least : CornerIsLeast) where
   answer_starves s _ r _ (accepts k made deed tree here asks done) e = e
   answer_starves s _ r _ (tells k here asks) e = e
 
-  following_starves : (s t : State) (a : List ℕ) → Follows s t a → s.starved ≡ true → t.starved ≡ true
-  following_starves _ _ _ (none_waits s none) e = e
-  following_starves _ _ _ (decides s t d what rest allowed line followed) e = following_starves (decided s d) t rest followed (rw e refl)
+  starves_on : (number : ℕ) (s t : State) (rs : List CallFacts) (a : List ℕ) (cs : List Certified) → Goes number s rs a cs t → s.starved ≡ true → t.starved ≡ true
+  starves_on _ _ _ _ _ _ (stays number s) e = e
+  starves_on _ _ _ _ _ _ (calls number s answered t r rs reply text cs idle replied rest) e = starves_on (number + 1) answered t rs text cs rest (answer_starves s answered r reply replied e)
+  starves_on _ _ _ _ _ _ (decides number s t c rs what text cs allowed said rest) e = starves_on number (decided s (answer_of c)) t rs text cs rest (rw e refl)
 
-  call_starves : (number : ℕ) (s t : State) (r : CallFacts) (a : List ℕ) → MakesCall number s r t a → s.starved ≡ true → t.starved ≡ true
-  call_starves number s _ r _ (takes reply mid t line answered followed) e = following_starves mid t line followed (answer_starves s mid r reply answered e)
+  -- what leads to a state that isn't starved, isn't either
+  unstarved_before : (number : ℕ) (s t : State) (rs : List CallFacts) (a : List ℕ) (cs : List Certified) → Goes number s rs a cs t → t.starved ≡ false → s.starved ≡ false
+  unstarved_before number s t rs a cs goes e = not_true s.starved t.starved (starves_on number s t rs a cs goes) e
 
-  report_starves : (number : ℕ) (s : State) (rs : List CallFacts) (a : List ℕ) (starved : Bool) → IsReport number s rs a starved → s.starved ≡ true → starved ≡ true
-  report_starves _ _ _ _ _ (ended number s) e = e
-  report_starves _ _ _ _ _ (continued number s t r rs text rest starved made report) e =
-      report_starves (number + 1) t rs rest starved report (call_starves number s t r text made e)
+  joined : (a b c d : List ℕ) → a ≡ b → c ≡ d → a ++ c ≡ b ++ d
+  joined a b c d e f = cc
 
-  same_report : (number : ℕ) (s : State) (rs : List CallFacts) (a b : List ℕ) (x y : Bool) → IsReport number s rs a x → IsReport number s rs b y → x ≡ false → y ≡ false → a ≡ b
-  same_report _ _ _ _ _ _ _ (ended number s) (ended _ _) e f = refl
-  same_report _ _ _ _ _ _ _ (continued number s t r rs text rest x made report) (continued _ _ u _ _ line others y made' report') e f =
-      let same : (t ≡ u) × (text ≡ line) = one_call number s t u r text line made made'
-      (not_true t.starved x (report_starves (number + 1) t rs rest x report) e)
-      (not_true u.starved y (report_starves (number + 1) u rs others y report') f) in
-      let there : IsReport (number + 1) t rs others y = subst (λ (v : State). IsReport (number + 1) v rs others y) (sym same.0) report' in
-      joined text line rest others same.1 (same_report (number + 1) t rs rest others x y report there e f)
+  not_both : (s : State) (r : ℕ) → next_ready s.book ≡ None → next_ready s.book ≡ Some r → ⊥
+  not_both s r none some = absurd (cc)
+
+  -- the same calls lead on to one state and give one text, as far as domains that wait are decided and memory is not refused
+  one_way : (number : ℕ) (s t u : State) (rs : List CallFacts) (a b : List ℕ) (cs ds : List Certified) → Goes number s rs a cs t → Goes number s rs b ds u
+      → next_ready t.book ≡ None → next_ready u.book ≡ None → t.starved ≡ false → u.starved ≡ false → (t ≡ u) × (a ≡ b)
+  one_way _ _ _ _ _ _ _ _ _ (stays number s) (stays _ _) x y e f = (refl, refl)
+  one_way _ _ _ _ _ _ _ _ _ (stays number s) (decides _ _ u c _ what text ds allowed said rest) x y e f = absurd (not_both s c.domain x allowed.0)
+  one_way _ _ _ _ _ _ _ _ _ (decides number s t c _ what text cs allowed said rest) (stays _ _) x y e f = absurd (not_both s c.domain y allowed.0)
+  one_way _ _ _ _ _ _ _ _ _ (calls number s mid t r rs reply text cs idle replied rest) (decides _ _ u c _ what text' ds allowed said rest') x y e f = absurd (not_both s c.domain idle allowed.0)
+  one_way _ _ _ _ _ _ _ _ _ (decides number s t c _ what text cs allowed said rest) (calls _ _ mid u r rs reply text' ds idle replied rest') x y e f = absurd (not_both s c.domain idle allowed.0)
+  one_way _ _ _ _ _ _ _ _ _ (calls number s mid t r rs reply text cs idle replied rest) (calls _ _ mid' u _ _ reply' text' ds idle' replied' rest') x y e f =
+      let first : (reply, mid) ≡ answer_for s r (node_named s r) = is_answer s r reply mid replied (unstarved_before (number + 1) mid t rs text cs rest e) in
+      let second : (reply', mid') ≡ answer_for s r (node_named s r) = is_answer s r reply' mid' replied' (unstarved_before (number + 1) mid' u rs text' ds rest' f) in
+      let same_reply : reply ≡ reply' = ap (λ (p : Reply × State). p.0) (first ∙ sym second) in
+      let same_mid : mid' ≡ mid = ap (λ (p : Reply × State). p.1) (second ∙ sym first) in
+      let there : Goes (number + 1) mid rs text' ds u = subst (λ (m : State). Goes (number + 1) m rs text' ds u) same_mid rest' in
+      let (ends, rests) = one_way (number + 1) mid t u rs text text' cs ds rest there x y e f in (
+        ends,
+        joined (call_lines number s r reply mid) (call_lines number s r reply' mid') text text'
+            (ap (λ (z : Reply). call_lines number s r z mid) same_reply ∙ ap (λ (m : State). call_lines number s r reply' m) (sym same_mid)) rests,
+      )
+  one_way _ _ _ _ _ _ _ _ _ (decides number s t c rs what text cs allowed said rest) (decides _ _ u c' _ what' text' ds allowed' said' rest') x y e f =
+      let short : is_none (answer_of c).verdict ≡ false = or_right s.starved (is_none (answer_of c).verdict) (unstarved_before number (decided s (answer_of c)) t rs text cs rest e) in
+      let short' : is_none (answer_of c').verdict ≡ false = or_right s.starved (is_none (answer_of c').verdict) (unstarved_before number (decided s (answer_of c')) u rs text' ds rest' f) in
+      let same : answer_of c ≡ answer_of c' = one_decision s c c' allowed allowed' short short' in
+      let telling : what ≡ what' = one_telling s.platform (answer_of c).verdict (answer_of c').verdict what what' (ap (λ (z : Decision). z.verdict) same) said said' in
+      let there : Goes number (decided s (answer_of c)) rs text' ds u = subst (λ (z : Decision). Goes number (decided s z) rs text' ds u) (sym same) rest' in
+      let (ends, rests) = one_way number (decided s (answer_of c)) t u rs text text' cs ds rest there x y e f in
+      (ends, joined (decision_lines s (answer_of c) what) (decision_lines s (answer_of c') what') text text' (ap (λ (z : Decision). decision_lines s z what) same ∙ ap (decision_lines s (answer_of c')) telling) rests)
 
   pub one_report : OneReport
-  one_report platform rs a b first second = same_report 1 (first_state platform) rs a b false false first second refl refl
+  one_report platform rs a b cs ds x y =
+      let (ends, lines) = one_way 1 (first_state platform) x.last y.last rs x.lines y.lines cs ds x.goes y.goes x.done y.done (sym x.memory) (sym y.memory) in
+      x.put ∙ (joined x.lines y.lines (pending_lines x.last.book) (pending_lines y.last.book) lines (ap (λ (s : State). pending_lines s.book) ends) ∙ sym y.put)

@@ -83,7 +83,7 @@ pub data Replies (s : State) (r : CallFacts) : Reply → State → Type 0 where
       → Asks r.act deed → applied (tree_of s) k deed ≡ Err refusal → Replies s r (Refused refusal) (unmade s r.act)
   accepts : (k made : ℕ) (deed : Deed) (tree : TreeFacts) → node_named s r ≡ Some k
       → Asks r.act deed → applied (tree_of s) k deed ≡ Ok (record { tree = tree; node = made }) → Replies s r Accepted (acted s r.act (Acted k deed) made)
-  tells : (k : ℕ) → node_named s r ≡ Some k → AsksVerdict r.act → Replies s r (told s.book.state k) s
+  tells : (k : ℕ) → node_named s r ≡ Some k → AsksVerdict r.act → Replies s r (told s.book k) s
 
 -- a reader's fault for want of memory
 abbrev pub is_want : Code → Bool

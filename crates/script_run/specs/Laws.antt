@@ -3,14 +3,13 @@ use Rattle.std.specs.Prelude.{◌≡◌, ℕ, List, false, Result, Ok, Err}
 use Rattle.sysmem_sanitise.specs.Platform.{PlatformFacts}
 use Rattle.script_reading.specs.declared.fault.ScriptFault.{ScriptFault}
 use Rattle.script_run.specs.Outcome.{ReportFacts, RunsTo}
-use Rattle.script_run.specs.Report.{IsReport}
+use Rattle.script_run.specs.Report.{Certified, IsReport}
 use Rattle.script_reading.specs.Script.{CallFacts}
-use Rattle.script_run.specs.State.{first_state}
 
--- the calls of a script have one report on a platform, where memory is not refused
+-- the calls of a script have one report on a platform, where memory is not refused, whatever proves the decisions
 abbrev pub OneReport : Type 0
-OneReport = (platform : PlatformFacts) (rs : List CallFacts) (a b : List ℕ)
-    → IsReport 1 (first_state platform) rs a false → IsReport 1 (first_state platform) rs b false → a ≡ b
+OneReport = (platform : PlatformFacts) (rs : List CallFacts) (a b : List ℕ) (cs ds : List Certified)
+    → IsReport platform rs a cs false → IsReport platform rs b ds false → a ≡ b
 
 -- a fault, or a report in which memory is not refused
 abbrev pub IsFed : Result ReportFacts ScriptFault → Type 0

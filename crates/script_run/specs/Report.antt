@@ -1,24 +1,25 @@
--- What a report says: the lines of each call, of the domains that it makes fail, and of the decisions that follow.
+-- What a report says: the lines of each call, of the domains that it makes fail, and of the decisions that follow; and what was decided.
 use Rattle.std.specs.Prelude.{◌≡◌, ℕ, ◌+◌, ◌++◌, ◌||◌, List, [], ◌∷◌, Bool, Option, Some, None, codes, filter, flat_map, is_none}
-use Rattle.sysmem_alloc.specs.Book.{entered}
-use Rattle.sysmem_alloc.specs.Decision.{Decision}
+use Rattle.sysmem_alloc.specs.Decision.{Claimed, Decision, answer_of, choices_of}
 use Rattle.sysmem_alloc.specs.Entry.{Decided}
 use Rattle.sysmem_alloc.specs.History.{Allows}
 use Rattle.sysmem_alloc.specs.Sound.{roots_of}
-use Rattle.sysmem_alloc.specs.State.{State as BookState, next_ready, verdict_of}
+use Rattle.sysmem_alloc.specs.State.{State as BookState, after_decision, next_ready, verdict_of}
 use Rattle.sysmem_image.specs.declared.size.Corner.{Corner}
 use Rattle.sysmem_image.specs.Corners.{IsCorner}
 use Rattle.sysmem_proof.specs.Chosen.{ChosenFacts}
+use Rattle.sysmem_proof.specs.declared.certificate.Claim.{Claim}
 use Rattle.sysmem_proof.specs.declared.verdict.Verdict.{Verdict}
 use Rattle.sysmem_proof.specs.declared.verdict.Verdict.TheVariants.{Chosen, IntersectionEmpty, TooMany}
 use Rattle.sysmem_sanitise.specs.Platform.{PlatformFacts}
 use Rattle.sysmem_tree.specs.Domain.{TreeFacts, newly_failed}
 use Rattle.sysmem_tree.specs.Path.{path_of}
+use Rattle.sysmem_tree.specs.Tree as trees
 use Rattle.script_reading.specs.Script.{CallFacts}
 use Rattle.script_run.specs.declared.reply.Reply.{Reply}
 use Rattle.script_run.specs.Answer.{Replies}
 use Rattle.script_run.specs.Lines.{call_line, chosen_text, domain_line}
-use Rattle.script_run.specs.State.{State, tree_of}
+use Rattle.script_run.specs.State.{State, first_state, tree_of}
 
 -- the lines that say this of domains, by their roots
 abbrev pub domain_lines : TreeFacts → List ℕ → List ℕ → List ℕ
@@ -38,22 +39,36 @@ pub data Tells (platform : PlatformFacts) : Option Verdict → List ℕ → Type
 
 -- a decision was entered
 abbrev pub decided : State → Decision → State
-decided s d = record s { book = entered s.book (Decided d); starved = s.starved || is_none d.verdict }
+decided s d = record s {
+  book = after_decision s.book d (trees.decided (tree_of s) d.domain (choices_of d.verdict));
+  starved = s.starved || is_none d.verdict;
+}
 
 -- the lines of a decision: its own, and those of the domains that it makes fail
 abbrev pub decision_lines : State → Decision → List ℕ → List ℕ
 decision_lines s d what = domain_line (path_of (tree_of s).nodes d.domain) what ++ failed_lines (tree_of s) (tree_of (decided s d))
 
--- what follows a reply: as long as a domain waits, a decision of the first one that the book allows
-pub data Follows : State → State → List ℕ → Type 0 where
-  none_waits : (s : State) → next_ready s.book.state ≡ None → Follows s s []
-  decides : (s after : State) (d : Decision) (what rest : List ℕ) → Allows s.book.platform s.book.state (Decided d)
-      → Tells s.book.platform d.verdict what → Follows (decided s d) after rest → Follows s after (decision_lines s d what ++ rest)
+-- what is certified of a decision: the path of its domain's root, and its claim, or none where memory was wanted
+abbrev pub Certified : Type 0
+Certified = List ℕ × Option Claim
 
--- a call and its lines: its reply, the domains that it makes fail, and what follows
-pub data MakesCall (number : ℕ) (s : State) (r : CallFacts) : State → List ℕ → Type 0 where
-  takes : (reply : Reply) (answered after : State) (rest : List ℕ) → Replies s r reply answered → Follows answered after rest
-      → MakesCall number s r after (call_line number r reply ++ failed_lines (tree_of s) (tree_of answered) ++ rest)
+abbrev pub certified : State → Claimed → Certified
+certified s c = (path_of (tree_of s).nodes c.domain, c.claim)
+
+-- the lines of a call: its own, and those of the domains that it makes fail
+abbrev pub call_lines : ℕ → State → CallFacts → Reply → State → List ℕ
+call_lines number s r reply t = call_line number r reply ++ failed_lines (tree_of s) (tree_of t)
+
+-- calls from a state to another, each numbered and made where no domain waits; and decisions, each of the first domain that waits, as the book
+-- allows it: their lines, and what was decided
+pub data Goes : ℕ → State → List CallFacts → List ℕ → List Certified → State → Type 0 where
+  stays : (number : ℕ) (s : State) → Goes number s [] [] [] s
+  calls : (number : ℕ) (s answered t : State) (r : CallFacts) (rs : List CallFacts) (reply : Reply) (text : List ℕ) (cs : List Certified)
+      → next_ready s.book ≡ None → Replies s r reply answered → Goes (number + 1) answered rs text cs t
+      → Goes number s (r ∷ rs) (call_lines number s r reply answered ++ text) cs t
+  decides : (number : ℕ) (s t : State) (c : Claimed) (rs : List CallFacts) (what text : List ℕ) (cs : List Certified)
+      → Allows s.platform s.book (Decided c) → Tells s.platform (answer_of c).verdict what → Goes number (decided s (answer_of c)) rs text cs t
+      → Goes number s rs (decision_lines s (answer_of c) what ++ text) (certified s c ∷ cs) t
 
 -- the domains without a verdict, in order of creation of their roots
 abbrev pub pending_in : BookState → List ℕ
@@ -63,30 +78,27 @@ pending_in b = filter (λ r. is_none (verdict_of b r)) (roots_of b.tree)
 abbrev pub pending_lines : BookState → List ℕ
 pending_lines b = domain_lines b.tree (codes "pending") (pending_in b)
 
--- the report of calls from a state on, and whether memory was refused in the end
-pub data IsReport : ℕ → State → List CallFacts → List ℕ → Bool → Type 0 where
-  ended : (number : ℕ) (s : State) → IsReport number s [] (pending_lines s.book.state) s.starved
-  continued : (number : ℕ) (s after : State) (r : CallFacts) (rs : List CallFacts) (text rest : List ℕ) (starved : Bool)
-      → MakesCall number s r after text → IsReport (number + 1) after rs rest starved
-      → IsReport number s (r ∷ rs) (text ++ rest) starved
-
--- what follows a reply, whose lines are put behind a text
-pub record FollowsIn (s t : State) (before after : List ℕ) : Type 0 where
+-- the report of calls on a new collection, what was decided, and whether memory was refused: all calls are made, and no domain waits
+pub record IsReport (platform : PlatformFacts) (rs : List CallFacts) (text : List ℕ) (cs : List Certified) (starved : Bool) : Type 0 where
+  pub last : State
   pub lines : List ℕ
-  pub follows : Follows s t lines
+  pub goes : Goes 1 (first_state platform) rs lines cs last
+  pub done : next_ready last.book ≡ None
+  pub put : text ≡ lines ++ pending_lines last.book
+  pub memory : starved ≡ last.starved
+
+-- calls and decisions from a state to another, whose lines are put behind a text
+pub record GoesIn (number : ℕ) (s : State) (rs : List CallFacts) (t : State) (before after : List ℕ) : Type 0 where
+  pub lines : List ℕ
+  pub decisions : List Certified
+  pub goes : Goes number s rs lines decisions t
   pub put : after ≡ before ++ lines
 
 -- one decision, whose lines are put behind a text
 pub record DecidesIn (s t : State) (before after : List ℕ) : Type 0 where
-  pub decision : Decision
+  pub claimed : Claimed
   pub what : List ℕ
-  pub allowed : Allows s.book.platform s.book.state (Decided decision)
-  pub tells : Tells s.book.platform decision.verdict what
-  pub entered : t ≡ decided s decision
-  pub put : after ≡ before ++ decision_lines s decision what
-
--- a call whose lines are put behind a text
-pub record Takes (number : ℕ) (s : State) (r : CallFacts) (t : State) (before after : List ℕ) : Type 0 where
-  pub lines : List ℕ
-  pub made : MakesCall number s r t lines
-  pub put : after ≡ before ++ lines
+  pub allowed : Allows s.platform s.book (Decided claimed)
+  pub tells : Tells s.platform (answer_of claimed).verdict what
+  pub entered : t ≡ decided s (answer_of claimed)
+  pub put : after ≡ before ++ decision_lines s (answer_of claimed) what

@@ -3,4 +3,4 @@ use Rattle.script_run.specs.declared.runner.Runner.{Runner}
 use Rattle.script_run.specs.State.{State}
 
 abbrev pub state_of : Runner → State
-state_of r = record { book = r.book; names = r.names.items; starved = r.starved }
+state_of r = record { platform = r.book.platform; book = r.book.state; names = r.names.items; starved = r.starved }

@@ -1,7 +1,9 @@
--- How a script stands: its book, and what its names stand for.
+-- How a script stands: its collection, and what its names stand for.
 use Rattle.std.specs.Prelude.{◌≡◌, ℕ, ◌++◌, List, [], ◌∷◌, Bool, false, Option, Some, None, slice_get, unwrap_or}
-use Rattle.sysmem_alloc.specs.Book.{BookFacts, entered, new_book}
 use Rattle.sysmem_alloc.specs.Entry.{BookEntry}
+use Rattle.sysmem_alloc.specs.History.{after_entry}
+use Rattle.sysmem_alloc.specs.State.{State as BookState}
+use Rattle.sysmem_alloc.specs.State as books
 use Rattle.sysmem_sanitise.specs.Platform.{PlatformFacts}
 use Rattle.sysmem_tree.specs.Domain.{TreeFacts}
 use Rattle.sysmem_tree.specs.Node.{NodeFacts}
@@ -9,20 +11,21 @@ use Rattle.sysmem_tree.specs.Nodes.{HasNode}
 use Rattle.script_reading.specs.Call.{ActFacts, name_made}
 use Rattle.script_reading.specs.Script.{CallFacts}
 
--- the book; for each name, in the order of the calls that make one, the node that it names, or None where that call was not made; and
--- whether memory was refused so far
+-- the platform; how the collection stands, without what proves its decisions; for each name, in the order of the calls that make one, the node
+-- that it names, or None where that call was not made; and whether memory was refused so far
 pub record State : Type 0 where
-  pub book : BookFacts
+  pub platform : PlatformFacts
+  pub book : BookState
   pub names : List (Option ℕ)
   pub starved : Bool
 
--- the tree of its book
+-- the tree of its collection
 abbrev pub tree_of : State → TreeFacts
-tree_of s = s.book.state.tree
+tree_of s = s.book.tree
 
--- a new book, with the root token under its name
+-- a new collection, with the root token under its name
 abbrev pub first_state : PlatformFacts → State
-first_state platform = record { book = new_book platform; names = Some 0 ∷ []; starved = false }
+first_state platform = record { platform = platform; book = books.first_state; names = Some 0 ∷ []; starved = false }
 
 -- the node that the call's name stands for, or None where the call that makes it was not made
 abbrev pub node_named : State → CallFacts → Option ℕ
@@ -42,7 +45,7 @@ unmade s act = record s { names = s.names ++ named act None }
 
 -- an accepted action was entered, and its name stands for this node
 abbrev pub acted : State → ActFacts → BookEntry → ℕ → State
-acted s act entry made = record s { book = entered s.book entry; names = s.names ++ named act (Some made) }
+acted s act entry made = record s { book = after_entry s.book entry; names = s.names ++ named act (Some made) }
 
 -- each name that stands for a node stands for one of the tree's
 abbrev pub AreThere : List NodeFacts → List (Option ℕ) → Type 0

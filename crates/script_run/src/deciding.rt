@@ -3,6 +3,7 @@
 ghost use Rattle.std.specs.Prelude.{◌≡◌, Some, option_map, OnOk};
 ghost use Rattle.std.specs.Arc.{arc_value};
 ghost use Rattle.std.specs.String.{string_bytes};
+ghost use Rattle.sysmem_alloc.specs.Decision.{verdict_in};
 ghost use Rattle.sysmem_alloc.specs.Entry.{Decided};
 ghost use Rattle.sysmem_alloc.specs.History.{Allows};
 ghost use Rattle.sysmem_alloc.specs.Sound.{MayWait};
@@ -18,18 +19,18 @@ use std::sync::Arc;
 use sysmem_alloc::Book;
 use sysmem_image::corner;
 use sysmem_image::laws::no_corner;
-use sysmem_proof::{Chosen, Verdict};
+use sysmem_proof::{Chosen, Claim, Verdict};
 use sysmem_sanitise::Platform;
 use sysmem_search::{NoGate, search};
 use sysmem_tree::{DomainId, Path};
 
-/// An optimal verdict of the first domain that waits; `None` where memory is refused.
-pub(crate) fn verdict_for(alloc: Global, book: &Book, domain: DomainId) -> Option<Arc<Verdict>>
+/// An optimal verdict of the first domain that waits, with what proves it; `None` where memory is refused.
+pub(crate) fn claim_for(alloc: Global, book: &Book, domain: DomainId) -> Option<Arc<Claim>>
     requires next { next_ready book.now.state ≡ Some domain }
     requires waits { MayWait book.now.state.tree domain }
     ensures { Allows book.now.platform book.now.state (Decided (record {
       domain = domain;
-      verdict = option_map (λ shared. arc_value shared) result;
+      claim = option_map (λ shared. arc_value shared) result;
     })) }
 {
     let Ok(base) = book.base(domain) else {
@@ -39,7 +40,11 @@ pub(crate) fn verdict_for(alloc: Global, book: &Book, domain: DomainId) -> Optio
     let Ok(found) = search(alloc, platform, book.tree(), domain, base.as_ref(), &NoGate) else {
         return None;
     };
-    let Ok(shared) = Arc::new(alloc, found.verdict) else {
+    let claim = Claim {
+        verdict: found.verdict,
+        proof: sysmem_proof::Proof::Nothing,
+    };
+    let Ok(shared) = Arc::new(alloc, claim) else {
         return None;
     };
     Some(shared)
@@ -50,23 +55,23 @@ pub(crate) fn put_decision(
     text: &mut String,
     book: &Book,
     domain: DomainId,
-    verdict: &Option<Arc<Verdict>>,
+    claim: &Option<Arc<Claim>>,
 ) -> Result<(), AllocError>
     requires there { HasDomain book.now.state.tree.nodes domain }
     requires allowed { Allows book.now.platform book.now.state (Decided (record {
       domain = domain;
-      verdict = option_map (λ shared. arc_value shared) verdict.now;
+      claim = option_map (λ shared. arc_value shared) claim.now;
     })) }
     ensures { OnOk result (TellsIn book.now.platform (path_of book.now.state.tree.nodes domain)
-        (option_map (λ shared. arc_value shared) verdict.now)
+        (verdict_in (option_map (λ shared. arc_value shared) claim.now))
         (string_bytes text.old) (string_bytes text.new)) }
 {
     no_corner();
     let platform = book.platform();
     let tree = book.tree();
     let path = tree.path_of(tree.root_of(domain))?;
-    match verdict {
-        Some(shared) => put_verdict(text, platform, &path, shared),
+    match claim {
+        Some(shared) => put_verdict(text, platform, &path, &shared.verdict),
         None => put_word(text, &path, "no_memory"),
     }
 }

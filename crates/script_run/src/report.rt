@@ -1,12 +1,11 @@
 //! The report of a script's calls.
 
-ghost use Rattle.std.specs.Prelude.{◌≡◌, map, IfOk, IfSome};
+ghost use Rattle.std.specs.Prelude.{◌≡◌, List, map, IfOk, IfSome};
 ghost use Rattle.std.specs.String.{string_bytes};
 ghost use Rattle.script_reading.specs.Seen.{call_seen};
 ghost use Rattle.script_run.specs.Lines.{Puts};
 ghost use Rattle.script_run.specs.Marks.{pending_at};
-ghost use Rattle.script_run.specs.Report.{IsReport, pending_lines};
-ghost use Rattle.script_run.specs.State.{first_state};
+ghost use Rattle.script_run.specs.Report.{Certified, IsReport, pending_lines};
 ghost use Rattle.sysmem_tree.specs.Domain.{HasDomain};
 
 use crate::domain_line::put_domain;
@@ -33,8 +32,8 @@ pub fn report_of(
     platform: Platform,
     calls: &[Call<'_>],
 ) -> Result<Report, AllocError>
-    ensures { IfOk result (λ report. IsReport 1 (first_state platform)
-        (map call_seen calls.now) (string_bytes report.text) report.starved) }
+    ensures { IfOk result (λ report. (cs : List Certified)
+        × IsReport platform (map call_seen calls.now) (string_bytes report.text) cs report.starved) }
 {
     let mut runner = Runner::new(alloc, platform)?;
     let mut text = String::new(alloc);

@@ -1,14 +1,15 @@
 //! The collection that a script's calls act on: its book, and what their names stand for.
 
-ghost use Rattle.std.specs.Prelude.{◌≡◌, ◌+◌, ◌≤◌, ◌++◌, ◌||◌, Some, None, true, length, option_map, slice_get, unwrap_or, IfOk, IfSome, OnOk};
+ghost use Rattle.std.specs.Prelude.{◌≡◌, ◌+◌, ◌≤◌, ◌++◌, ◌||◌, ℕ, [], ◌∷◌, Some, None, true, length, option_map, slice_get, unwrap_or, IfOk, IfSome, OnOk};
 ghost use Rattle.std.specs.Arc.{arc_value};
 ghost use Rattle.std.specs.String.{string_bytes};
 ghost use Rattle.serde_json.specs.View.{view};
 ghost use Rattle.script_reading.specs.Call.{states};
 ghost use Rattle.script_reading.specs.Seen.{act_seen, call_seen};
 ghost use Rattle.script_run.specs.Answer.{Asks, Replies, is_want};
-ghost use Rattle.script_run.specs.Report.{DecidesIn, FollowsIn, Takes, decided};
+ghost use Rattle.script_run.specs.Report.{DecidesIn, GoesIn, decided};
 ghost use Rattle.script_run.specs.State.{AreThere, first_state, named, node_named};
+ghost use Rattle.sysmem_alloc.specs.Decision.{answer_of};
 ghost use Rattle.sysmem_alloc.specs.Entry.{Decided};
 ghost use Rattle.sysmem_alloc.specs.History.{Allows};
 ghost use Rattle.sysmem_alloc.specs.Sound.{MayWait};
@@ -16,7 +17,7 @@ ghost use Rattle.sysmem_alloc.specs.State.{next_ready};
 ghost use Rattle.sysmem_tree.specs.ActionKind.{deed_of};
 ghost use Rattle.sysmem_tree.specs.Nodes.{HasNode};
 
-use crate::deciding::{put_decision, verdict_for};
+use crate::deciding::{claim_for, put_decision};
 use crate::failing::{failed_domains, put_failed};
 use crate::line::put_call;
 use crate::reply::Reply;
@@ -27,7 +28,7 @@ use std::alloc::{AllocError, Global};
 use std::sync::Arc;
 use sysmem_alloc::Book;
 use sysmem_alloc::laws::{few_entries, legal_is_sound};
-use sysmem_proof::Verdict;
+use sysmem_proof::Claim;
 use sysmem_sanitise::{Code, Fault, Platform, read_constraints};
 use sysmem_tree::{Action, DomainId, Event, NodeId, Refusal};
 
@@ -62,7 +63,7 @@ impl Runner {
 
     /// The book.
     pub(crate) fn book(&self) -> &Book
-        ensures { result.now ≡ (state_of self.now).book }
+        ensures { result.now ≡ self.now.book }
     {
         &self.book
     }
@@ -74,7 +75,7 @@ impl Runner {
         self.starved
     }
 
-    /// Makes a call and decides each domain that waits then, and puts the lines of all that behind the text.
+    /// Makes a call where no domain waits, decides each domain that waits then, and puts the lines of all that behind the text.
     pub(crate) fn take(
         &mut self,
         alloc: Global,
@@ -82,8 +83,10 @@ impl Runner {
         call: &Call<'_>,
         text: &mut String,
     ) -> Result<(), AllocError>
-        ensures { OnOk result (Takes number (state_of self.old) (call_seen call.now)
+        requires idle { next_ready (state_of self.old).book ≡ None }
+        ensures goes { OnOk result (GoesIn number (state_of self.old) (call_seen call.now ∷ [])
             (state_of self.new) (string_bytes text.old) (string_bytes text.new)) }
+        ensures idle { OnOk result (next_ready (state_of self.new).book ≡ None) }
     {
         legal_is_sound();
         self.book.platform();
@@ -97,8 +100,9 @@ impl Runner {
 
     /// Decides as long as a domain waits, and puts the lines of the decisions behind the text.
     fn decide_waiting(&mut self, alloc: Global, text: &mut String) -> Result<(), AllocError>
-        ensures { OnOk result (FollowsIn (state_of self.old) (state_of self.new)
-            (string_bytes text.old) (string_bytes text.new)) }
+        ensures goes { OnOk result ((number : ℕ) → GoesIn number (state_of self.old) []
+            (state_of self.new) (string_bytes text.old) (string_bytes text.new)) }
+        ensures idle { OnOk result (next_ready (state_of self.new).book ≡ None) }
     {
         while let Some(domain) = self.book.next_ready() {
             self.decide(alloc, domain, text)?;
@@ -113,46 +117,47 @@ impl Runner {
         domain: DomainId,
         text: &mut String,
     ) -> Result<(), AllocError>
-        requires next { next_ready (state_of self.old).book.state ≡ Some domain }
-        requires waits { MayWait (state_of self.old).book.state.tree domain }
+        requires next { next_ready (state_of self.old).book ≡ Some domain }
+        requires waits { MayWait (state_of self.old).book.tree domain }
         ensures lines { OnOk result (DecidesIn (state_of self.old) (state_of self.new)
             (string_bytes text.old) (string_bytes text.new)) }
-        ensures grows { OnOk result (length (state_of self.new).book.history
-            ≡ length (state_of self.old).book.history + 1) }
-        ensures few { OnOk result (length (state_of self.new).book.history ≤ 639) }
+        ensures grows { OnOk result (length self.new.book.history
+            ≡ length self.old.book.history + 1) }
+        ensures few { OnOk result (length self.new.book.history ≤ 639) }
     {
         few_entries();
-        let verdict = verdict_for(alloc, &self.book, domain);
-        put_decision(text, &self.book, domain, &verdict)?;
+        let claim = claim_for(alloc, &self.book, domain);
+        put_decision(text, &self.book, domain, &claim)?;
         let had_failed = failed_domains(self.book.tree());
-        self.enter(domain, verdict);
+        self.enter(domain, claim);
         put_failed(text, self.book.tree(), &had_failed)?;
         self.book.platform();
         Ok(())
     }
 
     /// Enters a decision that the book allows.
-    fn enter(&mut self, domain: DomainId, verdict: Option<Arc<Verdict>>)
-        requires { Allows (state_of self.old).book.platform (state_of self.old).book.state
-            (Decided (record {
-              domain = domain;
-              verdict = option_map (λ shared. arc_value shared) verdict;
-            })) }
-        ensures { state_of self.new ≡ decided (state_of self.old) (record {
+    fn enter(&mut self, domain: DomainId, claim: Option<Arc<Claim>>)
+        requires { Allows self.old.book.platform self.old.book.state (Decided (record {
           domain = domain;
-          verdict = option_map (λ shared. arc_value shared) verdict;
-        }) }
+          claim = option_map (λ shared. arc_value shared) claim;
+        })) }
+        ensures state { state_of self.new ≡ decided (state_of self.old) (answer_of (record {
+          domain = domain;
+          claim = option_map (λ shared. arc_value shared) claim;
+        })) }
+        ensures grows { length self.new.book.history ≡ length self.old.book.history + 1 }
     {
-        let wants = verdict.is_none();
-        self.book.decide(domain, verdict);
+        let wants = claim.is_none();
+        self.book.decide(domain, claim);
         self.keep_want(wants);
     }
 
     /// Keeps whether memory was refused.
     fn keep_want(&mut self, wants: bool)
-        ensures { state_of self.new ≡ record (state_of self.old) {
+        ensures state { state_of self.new ≡ record (state_of self.old) {
           starved = (state_of self.old).starved || wants;
         } }
+        ensures book { self.new.book ≡ self.old.book }
     {
         self.starved = self.starved || wants;
     }
@@ -265,14 +270,14 @@ impl Runner {
     /// The node that the name at a place stands for; `None` where the call that makes it was not made.
     fn node_at(&self, place: usize) -> Option<NodeId>
         ensures node { result ≡ unwrap_or (slice_get (state_of self.now).names place) None }
-        ensures there { IfSome result (HasNode (state_of self.now).book.state.tree.nodes) }
+        ensures there { IfSome result (HasNode (state_of self.now).book.tree.nodes) }
     {
         self.names.get(place).copied().unwrap_or(None)
     }
 
     /// Keeps what the name that a call gives stands for, if it gives one.
     fn keep_name(&mut self, act: &Act<'_>, node: Option<NodeId>) -> Result<(), AllocError>
-        requires { IfSome node (HasNode (state_of self.old).book.state.tree.nodes) }
+        requires { IfSome node (HasNode (state_of self.old).book.tree.nodes) }
         ensures { OnOk result (state_of self.new ≡ record (state_of self.old) {
           names = (state_of self.old).names ++ named (act_seen act.now) node;
         }) }

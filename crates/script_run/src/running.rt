@@ -1,15 +1,14 @@
 //! A script's run, from its bytes to its report.
 
-ghost use Rattle.std.specs.Prelude.{◌≡◌, [], Err, IfOk, IfErr};
+ghost use Rattle.std.specs.Prelude.{◌≡◌, List, [], Err, IfOk, IfErr};
 ghost use Rattle.std.specs.Io.KnownBytes.{Appends};
 ghost use Rattle.std.specs.String.{string_bytes};
 ghost use Rattle.serde_json.specs.View.{view};
 ghost use Rattle.script_reading.specs.Faults.{GivesOneOf};
 ghost use Rattle.script_reading.specs.Seen.{script_seen};
 ghost use Rattle.script_run.specs.Outcome.{RunsTo, ValueRunsTo, report_seen};
-ghost use Rattle.script_run.specs.Report.{IsReport};
+ghost use Rattle.script_run.specs.Report.{Certified, IsReport};
 ghost use Rattle.script_run.specs.Run.{IsCausedBy, Ran};
-ghost use Rattle.script_run.specs.State.{first_state};
 
 use crate::fault::RunFault;
 use crate::report::{Report, report_of};
@@ -78,9 +77,9 @@ fn report_on_value(alloc: Global, value: &Value) -> Result<Report, ParseFault>
 }
 
 fn report_on_script(alloc: Global, script: &Script<'_>) -> Result<Report, ParseFault>
-    ensures report { IfOk result (λ report. IsReport 1
-        (first_state (script_seen script.now).platform) (script_seen script.now).calls
-        (string_bytes report.text) report.starved) }
+    ensures report { IfOk result (λ report. (cs : List Certified)
+        × IsReport (script_seen script.now).platform (script_seen script.now).calls
+        (string_bytes report.text) cs report.starved) }
     ensures fault { IfErr result (λ fault. fault ≡ ParseFault.NoMemory) }
 {
     let Ok(platform) = script.platform.copy() else {

@@ -25,7 +25,7 @@ use Rattle.sysmem_tree.specs.Selection.{IsSelection}
 use Rattle.sysmem_tree.specs.Shape.{Member, by_number, forest_of}
 use Rattle.sysmem_tree.specs.Sublist.{IsSublist, ended, taken, left_out}
 use Rattle.sysmem_tree.specs.Tree.{Applied, applied, decided, decided_domain}
-use Rattle.sysmem_alloc.specs.Decision.{Decision, choices_of, decision_for, settings_for, settings_of}
+use Rattle.sysmem_alloc.specs.Decision.{Claimed, Decision, answer_of, choices_of, decision_for, settings_for, settings_of}
 use Rattle.sysmem_alloc.specs.Entry.{BookEntry, Acted, Decided}
 use Rattle.sysmem_alloc.specs.History.{after_answer, after_entry, replay_from, replay, Allows, AreAllowed, IsLegal}
 use Rattle.sysmem_alloc.specs.Laws.{LegalIsSound, LegalAgrees}
@@ -35,7 +35,7 @@ use Rattle.sysmem_tree.proofs.CallerLemmas.{accepted, decision_acted, decision_b
 use Rattle.sysmem_alloc.proofs.Choosing.{same_chosen}
 use Rattle.sysmem_alloc.proofs.Entering.{allowed_push, replay_push}
 use Rattle.sysmem_alloc.proofs.Lists.{all_append, all_weaken, apart_append}
-use Rattle.sysmem_alloc.proofs.Stepping.{accepts, selects}
+use Rattle.sysmem_alloc.proofs.Stepping.{accepts, claims_optimal, selects}
 
 -- who passes a test is some of all
 sub_filter : (p : ℕ → Bool) (xs : List ℕ) → IsSublist (filter p xs) xs
@@ -212,16 +212,18 @@ module _ (stays : ForestStays) (one : OneForest) (platform : PlatformFacts) wher
       }
 
   -- after a decision
-  decided_agrees : (s : State) (d : Decision) → IsSoundState s → AgreesWithTree platform s → Allows platform s (Decided d) → AgreesWithTree platform (after_entry s (Decided d))
-  decided_agrees s d sound agrees ok =
+  decided_agrees : (s : State) (e : Claimed) → IsSoundState s → AgreesWithTree platform s → Allows platform s (Decided e) → AgreesWithTree platform (after_entry s (Decided e))
+  decided_agrees s e sound agrees ok =
+      let d : Decision = answer_of e in
+      let optimal = claims_optimal platform s.tree.nodes d.domain (base_of s d.domain) e.claim ok.1 in
       let u : TreeFacts = decided s.tree d.domain (choices_of d.verdict) in
-      let fine = accepts one platform s (Decided d) sound ok in
+      let fine = accepts one platform s (Decided e) sound ok in
       let same = decided_stay s (trees.Decided d.domain (choices_of d.verdict)) u refl sound fine in
       let own = stays s.tree (trees.Decided d.domain (choices_of d.verdict)) d.domain sound.tree.tree fine fine.there fine.ready in
       let none = none_for platform s d.domain agrees fine.undecided in
       let new : IsDecisionOn platform s.tree.nodes d = record {
-        settings = optimal_fit platform s.tree.nodes d.domain (base_of s d.domain) d.verdict (based platform s d.domain agrees.chosen) ok.1;
-        selects = selects one platform s.tree.nodes d.domain (base_of s d.domain) d.verdict ok.1;
+        settings = optimal_fit platform s.tree.nodes d.domain (base_of s d.domain) d.verdict (based platform s d.domain agrees.chosen) optimal;
+        selects = selects one platform s.tree.nodes d.domain (base_of s d.domain) d.verdict optimal;
       } in
       record {
         standing = λ r. elim (cases_eq r d.domain) [
@@ -234,7 +236,7 @@ module _ (stays : ForestStays) (one : OneForest) (platform : PlatformFacts) wher
         chosen = all_append (IsDecisionOn platform u.nodes) s.decisions (d ∷ []) (all_still s u agrees same) (still_decided platform s.tree.nodes u.nodes d one own new, tt);
         accepted = sub_filter (is_open u.nodes) (chosen_in u.nodes (s.decisions ++ d ∷ []));
       } where
-        apart_last : (ds : List Decision) → AllOf (λ (x : Decision). x.domain ≢ d.domain) ds → AllOf (λ x. AllOf (λ y. x ≢ y) (d.domain ∷ [])) (map (λ (x : Decision). x.domain) ds)
+        apart_last : (ds : List Decision) → AllOf (λ (x : Decision). x.domain ≢ e.domain) ds → AllOf (λ x. AllOf (λ y. x ≢ y) (e.domain ∷ [])) (map (λ (x : Decision). x.domain) ds)
         apart_last [] a = tt
         apart_last (x ∷ ds) a = ((a.0, tt), apart_last ds a.1)
 
@@ -244,7 +246,7 @@ module _ (stays : ForestStays) (one : OneForest) (platform : PlatformFacts) wher
     by : (o : Result Applied Refusal) → applied s.tree i deed ≡ o → IsOk o → AgreesWithTree platform (after_answer s o)
     by (Ok made) is h = acted_agrees s i deed made sound agrees is
     by (Err refusal) is h = absurd (cc)
-  agrees_step s (Decided d) sound agrees ok = decided_agrees s d sound agrees ok
+  agrees_step s (Decided e) sound agrees ok = decided_agrees s e sound agrees ok
 
 -- the state of a root token agrees
 agrees_first : (platform : PlatformFacts) → AgreesWithTree platform first_state

@@ -17,13 +17,13 @@ use Rattle.sysmem_tree.specs.Path.{at_path}
 use Rattle.sysmem_tree.specs.Shape.{shape_of}
 use Rattle.sysmem_tree.specs.Step.{IsInitial}
 use Rattle.sysmem_tree.specs.Tree.{Applied, applied}
-use Rattle.sysmem_alloc.specs.Decision.{Decision, decision_for, settings_for}
+use Rattle.sysmem_alloc.specs.Decision.{Decision, answer_of, decision_for, settings_for}
 use Rattle.sysmem_alloc.specs.Entry.{BookEntry, Acted, Decided, tree_entry}
 use Rattle.sysmem_alloc.specs.History.{after_answer, after_entry, replay_from, replay, Allows, AreAllowed, IsLegal}
 use Rattle.sysmem_alloc.specs.Laws.{InitialShape, Confluence}
 use Rattle.sysmem_alloc.specs.Sound.{AllOf, IsOfReady, IsSoundState}
 use Rattle.sysmem_alloc.specs.State.{State, first_state, base_of}
-use Rattle.sysmem_alloc.proofs.Stepping.{accepts, tree_of_entry, sound_step, sound_first}
+use Rattle.sysmem_alloc.proofs.Stepping.{accepts, claims_optimal, tree_of_entry, sound_step, sound_first}
 
 -- the tree of a history's state is the tree that its entries for the tree lead to
 pub tree_of_replay : (s : State) (es : List BookEntry) → (replay_from s es).tree ≡ trees.replay_from s.tree (map tree_entry es)
@@ -89,20 +89,24 @@ right_step stays one platform s (Acted i deed) sound ok right = λ d v has is. r
     by : (o : Result Applied Refusal) → decision_for (after_answer s o).decisions 0 ≡ Some d → decision_for s.decisions 0 ≡ Some d
     by (Ok made) h = h
     by (Err refusal) h = h
-right_step stays one platform s (Decided e) sound ok right = λ d v has is. elim (decision_push s.decisions e 0 d has) [
-  | inl before ↦ right_kept stays one platform s (Decided e) sound ok right d v before is
+right_step stays one platform s (Decided c) sound ok right = λ d v has is. elim (decision_push s.decisions (answer_of c) 0 d has) [
+  | inl before ↦ right_kept stays one platform s (Decided c) sound ok right d v before is
   | inr (same, own) ↦ now d v same own is
 ] where
-  now : (d : Decision) (v : Verdict) → e ≡ d → e.domain ≡ 0 → d.verdict ≡ Some v → IsOptimalFor platform None (shape_of (after_entry s (Decided e)).tree.nodes 0) v
+  e : Decision
+  e = answer_of c
+
+  now : (d : Decision) (v : Verdict) → e ≡ d → e.domain ≡ 0 → d.verdict ≡ Some v → IsOptimalFor platform None (shape_of (after_entry s (Decided c)).tree.nodes 0) v
   now d v same own is =
-      let w = accepts one platform s (Decided e) sound ok in
+      let w = accepts one platform s (Decided c) sound ok in
+      let right_now = claims_optimal platform s.tree.nodes e.domain (base_of s e.domain) c.claim ok.1 in
       let there : HasDomain s.tree.nodes 0 = subst (HasDomain s.tree.nodes) own w.there in
       let ready : is_ready s.tree 0 ≡ true = subst (λ r. is_ready s.tree r ≡ true) own w.ready in
       let verdict : e.verdict ≡ Some v = ap (λ (z : Decision). z.verdict) same ∙ is in
-      let optimal : IsOptimalIn platform s.tree.nodes e.domain (base_of s e.domain) v = subst (λ o. IfSome o (IsOptimalIn platform s.tree.nodes e.domain (base_of s e.domain))) verdict ok.1 in
+      let optimal : IsOptimalIn platform s.tree.nodes e.domain (base_of s e.domain) v = subst (λ o. IfSome o (IsOptimalIn platform s.tree.nodes e.domain (base_of s e.domain))) verdict right_now in
       let first : IsOptimalIn platform s.tree.nodes 0 (base_of s 0) v = subst (λ r. IsOptimalIn platform s.tree.nodes r (base_of s r) v) own optimal in
       let alone : IsOptimalFor platform None (shape_of s.tree.nodes 0) v = subst (λ b. IsOptimalFor platform (option_map (terms_of s.tree.nodes) b) (shape_of s.tree.nodes 0) v) (no_base s sound) first in
-      subst (λ shape. IsOptimalFor platform None shape v) (sym (shape_kept stays one platform s (Decided e) sound ok there ready)) alone
+      subst (λ shape. IsOptimalFor platform None shape v) (sym (shape_kept stays one platform s (Decided c) sound ok there ready)) alone
 
 -- what is known of the end of a legal history
 pub record Ends (platform : PlatformFacts) (s : State) (es : List BookEntry) : Type 0 where

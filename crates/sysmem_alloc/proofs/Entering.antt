@@ -16,7 +16,7 @@ use Rattle.sysmem_tree.specs.Laws.{ForestStays, OneForest, IsSameDomain}
 use Rattle.sysmem_tree.specs.Node.{NodeFacts}
 use Rattle.sysmem_tree.specs.Tree.{Applied, applied, decided}
 use Rattle.sysmem_alloc.specs.Book.{BookFacts, IsBook, entered, kept_book}
-use Rattle.sysmem_alloc.specs.Decision.{Decision, choices_of}
+use Rattle.sysmem_alloc.specs.Decision.{Claimed, Decision, answer_of, choices_of}
 use Rattle.sysmem_alloc.specs.Entry.{BookEntry, Acted, Decided, entry_in, decision_in}
 use Rattle.sysmem_alloc.specs.History.{after_answer, after_entry, replay_from, Allows, AreAllowed}
 use Rattle.sysmem_alloc.specs.Laws.{LegalIsSound}
@@ -130,19 +130,20 @@ module _ (sound : LegalIsSound) (stays : ForestStays) (one : OneForest) where
       ∙ ap (after_answer b.state) (sym ok))
 
 -- a decision
-pub decided_kept : (platform : PlatformFacts) (t : TreeFacts) (raw : List Entry) (waiting later : List ℕ) (marks now : List Bool) (x : Entry) (d : Decision)
-    → IsBook (kept_book platform t raw waiting marks) → decision_in x ≡ Some d → ((nodes : List NodeFacts) → entry_in nodes x ≡ Decided d)
-    → later ≡ drop 1 waiting ++ newly_ready t (decided t d.domain (choices_of d.verdict))
-    → ((k : ℕ) → get_or now k false ≡ is_open (decided t d.domain (choices_of d.verdict)).nodes k)
-    → kept_book platform (decided t d.domain (choices_of d.verdict)) (raw ++ x ∷ []) later now ≡ entered (kept_book platform t raw waiting marks) (Decided d)
-decided_kept platform t raw waiting later marks now x d is decides read grown taken =
+pub decided_kept : (platform : PlatformFacts) (t : TreeFacts) (raw : List Entry) (waiting later : List ℕ) (marks now : List Bool) (x : Entry) (e : Claimed)
+    → IsBook (kept_book platform t raw waiting marks) → decision_in x ≡ Some (answer_of e) → ((nodes : List NodeFacts) → entry_in nodes x ≡ Decided e)
+    → later ≡ drop 1 waiting ++ newly_ready t (decided t e.domain (choices_of (answer_of e).verdict))
+    → ((k : ℕ) → get_or now k false ≡ is_open (decided t e.domain (choices_of (answer_of e).verdict)).nodes k)
+    → kept_book platform (decided t e.domain (choices_of (answer_of e).verdict)) (raw ++ x ∷ []) later now ≡ entered (kept_book platform t raw waiting marks) (Decided e)
+decided_kept platform t raw waiting later marks now x e is decides read grown taken =
+    let d : Decision = answer_of e in
     let b : BookFacts = kept_book platform t raw waiting marks in
     let u : TreeFacts = decided t d.domain (choices_of d.verdict) in
     let ds : List Decision = filter_map decision_in raw in
     let more : filter_map decision_in (raw ++ x ∷ []) ≡ ds ++ d ∷ [] = one_decision raw x d decides in
-    same_book platform (map (entry_in u.nodes) (raw ++ x ∷ [])) (map (entry_in t.nodes) raw ++ Decided d ∷ [])
-    (kept_book platform u (raw ++ x ∷ []) later now).state (after_entry b.state (Decided d))
-    (read_push platform t u raw x (Decided d) waiting marks is (λ k c h. entry_keeps b.state (Decided d) k c h) (read u.nodes))
+    same_book platform (map (entry_in u.nodes) (raw ++ x ∷ [])) (map (entry_in t.nodes) raw ++ Decided e ∷ [])
+    (kept_book platform u (raw ++ x ∷ []) later now).state (after_entry b.state (Decided e))
+    (read_push platform t u raw x (Decided e) waiting marks is (λ k c h. entry_keeps b.state (Decided e) k c h) (read u.nodes))
     (same_state u (filter_map decision_in (raw ++ x ∷ [])) (ds ++ d ∷ []) later (drop 1 waiting ++ newly_ready t u)
     (kept_in u.nodes (filter_map decision_in (raw ++ x ∷ [])) later now) (open_in u.nodes (ds ++ d ∷ []))
     more grown (ap (λ es. kept_in u.nodes es later now) more ∙ opened u.nodes (ds ++ d ∷ []) later now (λ some. taken)))
@@ -200,31 +201,33 @@ acted_shows sound stays one platform t raw new waiting later marks now were i ki
     record { book = subst IsBook (sym same) (book_push b (Acted i deed) is (subst IsOk (sym ok) refl)); is = same }
 
 -- and after a decision
-pub decided_room : LegalIsSound → (platform : PlatformFacts) (t : TreeFacts) (raw : List Entry) (waiting : List ℕ) (marks were : List Bool) (d : Decision)
-    → (is : IsBook (kept_book platform t raw waiting marks)) → Allows platform (kept_book platform t raw waiting marks).state (Decided d) → ((k : ℕ) → get_or were k false ≡ ready_at t k)
-    → length (drop 1 waiting) + length (ready_unmarked (decided t d.domain (choices_of d.verdict)) were 0 (roots_of (decided t d.domain (choices_of d.verdict)))) ≤ 128
-decided_room sound platform t raw waiting marks were d is ok marked =
+pub decided_room : LegalIsSound → (platform : PlatformFacts) (t : TreeFacts) (raw : List Entry) (waiting : List ℕ) (marks were : List Bool) (e : Claimed)
+    → (is : IsBook (kept_book platform t raw waiting marks)) → Allows platform (kept_book platform t raw waiting marks).state (Decided e) → ((k : ℕ) → get_or were k false ≡ ready_at t k)
+    → length (drop 1 waiting) + length (ready_unmarked (decided t e.domain (choices_of (answer_of e).verdict)) were 0 (roots_of (decided t e.domain (choices_of (answer_of e).verdict)))) ≤ 128
+decided_room sound platform t raw waiting marks were e is ok marked =
+    let d : Decision = answer_of e in
     let b : BookFacts = kept_book platform t raw waiting marks in
     let u : TreeFacts = decided t d.domain (choices_of d.verdict) in
-    let room : length (drop 1 waiting ++ newly_ready t u) ≤ 128 = room_after sound b (Decided d) is ok in
+    let room : length (drop 1 waiting ++ newly_ready t u) ≤ 128 = room_after sound b (Decided e) is ok in
     let same : length (newly_ready t u) ≡ length (ready_unmarked u were 0 (roots_of u)) = ap length (decided_newly t d.domain (choices_of d.verdict) were marked) in
     omega (arith, room, same, length-append (drop 1 waiting) (newly_ready t u))
 
-pub decided_shows : (platform : PlatformFacts) (t u : TreeFacts) (raw new : List Entry) (waiting later : List ℕ) (marks now were : List Bool) (x : Entry) (d : Decision)
-    → IsBook (kept_book platform t raw waiting marks) → Allows platform (kept_book platform t raw waiting marks).state (Decided d)
-    → decision_in x ≡ Some d → ((nodes : List NodeFacts) → entry_in nodes x ≡ Decided d) → u ≡ decided t d.domain (choices_of d.verdict) → new ≡ raw ++ x ∷ []
+pub decided_shows : (platform : PlatformFacts) (t u : TreeFacts) (raw new : List Entry) (waiting later : List ℕ) (marks now were : List Bool) (x : Entry) (e : Claimed)
+    → IsBook (kept_book platform t raw waiting marks) → Allows platform (kept_book platform t raw waiting marks).state (Decided e)
+    → decision_in x ≡ Some (answer_of e) → ((nodes : List NodeFacts) → entry_in nodes x ≡ Decided e) → u ≡ decided t e.domain (choices_of (answer_of e).verdict) → new ≡ raw ++ x ∷ []
     → ((k : ℕ) → get_or were k false ≡ ready_at t k) → later ≡ drop 1 waiting ++ ready_unmarked u were 0 (roots_of u) → ((k : ℕ) → get_or now k false ≡ is_open u.nodes k)
-    → Shows (entered (kept_book platform t raw waiting marks) (Decided d)) (kept_book platform u new later now)
-decided_shows platform t u raw new waiting later marks now were x d is ok decides read tree pushed marked grown taken =
+    → Shows (entered (kept_book platform t raw waiting marks) (Decided e)) (kept_book platform u new later now)
+decided_shows platform t u raw new waiting later marks now were x e is ok decides read tree pushed marked grown taken =
+    let d : Decision = answer_of e in
     let b : BookFacts = kept_book platform t raw waiting marks in
     let v : TreeFacts = decided t d.domain (choices_of d.verdict) in
     let grown' : later ≡ drop 1 waiting ++ ready_unmarked v were 0 (roots_of v) = subst (λ (w : TreeFacts). later ≡ drop 1 waiting ++ ready_unmarked w were 0 (roots_of w)) tree grown in
     let laters : later ≡ drop 1 waiting ++ newly_ready t v = grown' ∙ ap (λ ys. drop 1 waiting ++ ys) (sym (decided_newly t d.domain (choices_of d.verdict) were marked)) in
     let opens : (k : ℕ) → get_or now k false ≡ is_open v.nodes k = subst (λ (w : TreeFacts). (k : ℕ) → get_or now k false ≡ is_open w.nodes k) tree taken in
-    let same : kept_book platform u new later now ≡ entered b (Decided d) =
-    ap (λ w. kept_book platform w new later now) tree ∙ (ap (λ es. kept_book platform v es later now) pushed ∙ decided_kept platform t raw waiting later marks now x d is decides read laters opens) in
-    record { book = subst IsBook (sym same) (book_push b (Decided d) is ok); is = same }
+    let same : kept_book platform u new later now ≡ entered b (Decided e) =
+    ap (λ w. kept_book platform w new later now) tree ∙ (ap (λ es. kept_book platform v es later now) pushed ∙ decided_kept platform t raw waiting later marks now x e is decides read laters opens) in
+    record { book = subst IsBook (sym same) (book_push b (Decided e) is ok); is = same }
 
 -- a decision may be entered in the tree
-pub may_enter : LegalIsSound → OneForest → (b : BookFacts) (d : Decision) → IsBook b → Allows b.platform b.state (Decided d) → trees.IsDecidable b.state.tree d.domain (choices_of d.verdict)
-may_enter sound one b d is ok = accepts one b.platform b.state (Decided d) (state_sound sound b is) ok
+pub may_enter : LegalIsSound → OneForest → (b : BookFacts) (e : Claimed) → IsBook b → Allows b.platform b.state (Decided e) → trees.IsDecidable b.state.tree e.domain (choices_of (answer_of e).verdict)
+may_enter sound one b e is ok = accepts one b.platform b.state (Decided e) (state_sound sound b is) ok

@@ -9,7 +9,7 @@ use Rattle.sysmem_tree.specs.Domain.{TreeFacts, HasDomain, has_failed, host_node
 use Rattle.sysmem_tree.specs.Laws.{FailedStays, OneForest, ReadyStays}
 use Rattle.sysmem_tree.specs.Tree.{Applied, applied}
 use Rattle.sysmem_sanitise.specs.Platform.{PlatformFacts}
-use Rattle.sysmem_alloc.specs.Decision.{Decision, choices_of, decision_for}
+use Rattle.sysmem_alloc.specs.Decision.{Decision, answer_of, choices_of, decision_for}
 use Rattle.sysmem_alloc.specs.Entry.{BookEntry, Acted, Decided, tree_entry}
 use Rattle.sysmem_alloc.specs.History.{after_answer, after_entry, replay, Allows, IsLegal}
 use Rattle.sysmem_alloc.specs.Laws.{LegalIsSound, VerdictStays}
@@ -36,7 +36,7 @@ decision_stays s (Acted i deed) r d is = by (applied s.tree i deed) where
   by : (o : Result Applied Refusal) → decision_for (after_answer s o).decisions r ≡ Some d
   by (Ok made) = is
   by (Err refusal) = is
-decision_stays s (Decided x) r d is = entered_front s.decisions x r d is
+decision_stays s (Decided c) r d is = entered_front s.decisions (answer_of c) r d is
 
 -- what was decided is ready
 decided_ready : (t : TreeFacts) (ds : List Decision) (r : ℕ) (d : Decision) → AllOf (IsOfReady t) ds → decision_for ds r ≡ Some d → is_ready t r ≡ true
@@ -65,7 +65,7 @@ there_after s (Acted i deed) r has = by (applied s.tree i deed) refl where
   by : (o : Result Applied Refusal) → applied s.tree i deed ≡ o → HasDomain (after_answer s o).tree.nodes r
   by (Err refusal) is = has
   by (Ok made) is = let (n, ok) = accepted s.tree i deed made is in subst (λ (t : TreeFacts). HasDomain t.nodes r) ok.tree (acted_there s.tree i n deed r ok.there has)
-there_after s (Decided d) r has = decided_there s.tree d.domain (choices_of d.verdict) r has
+there_after s (Decided c) r has = decided_there s.tree c.domain (choices_of (answer_of c).verdict) r has
 
 -- one entry
 verdict_after : LegalIsSound → ReadyStays → FailedStays → OneForest → (platform : PlatformFacts) (es : List BookEntry) (e : BookEntry) (r : ℕ) (v : Verdict) → IsLegal platform es

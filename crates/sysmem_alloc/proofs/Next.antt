@@ -6,8 +6,11 @@ use Rattle.std.proofs.lemmas.List.Concat.{flat_map-cons}
 use Rattle.std.proofs.lemmas.List.Elements.{All-append, All-cons, All-filter, All-head, All-nil, All-tail}
 use Rattle.std.proofs.lemmas.Option.{same_Some, slice_get_within}
 use Rattle.sysmem_merge.specs.declared.settings.Settings.{Settings}
+use Rattle.sysmem_proof.specs.declared.certificate.Claim.{Claim}
 use Rattle.sysmem_proof.specs.declared.verdict.Verdict.{Verdict}
 use Rattle.sysmem_proof.specs.Base.{BaseFacts, terms_of}
+use Rattle.sysmem_proof.specs.Check.{IsProof}
+use Rattle.sysmem_proof.specs.Claim.{IsTrueClaim}
 use Rattle.sysmem_proof.specs.Members.{members_at}
 use Rattle.sysmem_proof.specs.Verdict.{IsOptimalFor, IsOptimalIn}
 use Rattle.sysmem_sanitise.specs.Platform.{PlatformFacts}
@@ -98,6 +101,15 @@ still_optimal platform s u r v base shape terms h =
     subst (λ t. IsOptimalFor platform t (shape_of u.tree.nodes r) v) (sym (ap (option_map (terms_of u.tree.nodes)) base ∙ terms))
     (subst (λ d. IsOptimalFor platform (option_map (terms_of s.tree.nodes) (base_of s r)) d v) (sym shape) h)
 
+-- and what is true of it
+still_true : (platform : PlatformFacts) (s u : State) (r : ℕ) (c : Claim) → base_of u r ≡ base_of s r → shape_of u.tree.nodes r ≡ shape_of s.tree.nodes r
+    → option_map (terms_of u.tree.nodes) (base_of s r) ≡ option_map (terms_of s.tree.nodes) (base_of s r) → IsTrueClaim platform s.tree.nodes r (base_of s r) c → IsTrueClaim platform u.tree.nodes r (base_of u r) c
+still_true platform s u r c base shape terms h = record {
+  optimal = still_optimal platform s u r c.verdict base shape terms h.optimal;
+  proved = subst (λ t. IsProof platform t (shape_of u.tree.nodes r) c.verdict c.proof) (sym (ap (option_map (terms_of u.tree.nodes)) base ∙ terms))
+      (subst (λ d. IsProof platform (option_map (terms_of s.tree.nodes) (base_of s r)) d c.verdict c.proof) (sym shape) h.proved);
+}
+
 -- of the decisions before an action and after it
 each_stays : (old new : TreeFacts) (ds : List Decision) → AllOf (IsOfReady old) ds → AllOf (IsOfReady new) ds → ((d : Decision) → IsOfReady old d → IsSameDomain old.nodes new.nodes d.domain)
     → AllOf (λ (d : Decision). HasDomain old.nodes d.domain × HasDomain new.nodes d.domain × IsSameDomain old.nodes new.nodes d.domain) ds
@@ -120,12 +132,13 @@ stays_at law stays s i deed r sound some waits ok first same (Ok made) is later 
     (λ d ready. subst (λ o. IsSameDomain s.tree.nodes (trees.after_answer s.tree o).nodes d.domain) is (stays s.tree (trees.Acted i deed) d.domain sound.tree.tree ok ready.there ready.ready)) in
     let shown = all_sub (λ k. shown_at made.tree.nodes k ≡ shown_at s.tree.nodes k) s.accepted (chosen_in s.tree.nodes s.decisions) some
     (chosen_shown law s.tree.nodes made.tree.nodes sound.tree.tree later.tree.tree s.decisions each) in
+    let terms = same_terms s.tree.nodes made.tree.nodes s.accepted (base_of s r) (has_accepted s r) (same_members s.tree.nodes made.tree.nodes s.accepted shown) in
     record {
       next = still_first s.waiting (newly_ready s.tree made.tree) r first;
       domain = own;
       base = base;
-      optimal = λ platform v. still_optimal platform s (after_action s made.tree) r v base own.shape
-          (same_terms s.tree.nodes made.tree.nodes s.accepted (base_of s r) (has_accepted s r) (same_members s.tree.nodes made.tree.nodes s.accepted shown));
+      optimal = λ platform v. still_optimal platform s (after_action s made.tree) r v base own.shape terms;
+      claims = λ platform c. still_true platform s (after_action s made.tree) r c base own.shape terms;
     }
 
 -- one action
@@ -144,6 +157,7 @@ stays_now s r first = record {
   domain = record { forest = refl; shape = refl; members = λ cs. refl };
   base = refl;
   optimal = λ platform v h. h;
+  claims = λ platform c h. h;
 }
 
 stays_on : (old mid new : State) (r : ℕ) → StaysNext old mid r → StaysNext mid new r → StaysNext old new r
@@ -152,6 +166,7 @@ stays_on old mid new r a b = record {
   domain = record { forest = b.domain.forest ∙ a.domain.forest; shape = b.domain.shape ∙ a.domain.shape; members = λ cs. b.domain.members cs ∙ a.domain.members cs };
   base = b.base ∙ a.base;
   optimal = λ platform v h. b.optimal platform v (a.optimal platform v h);
+  claims = λ platform c h. b.claims platform c (a.claims platform c h);
 }
 
 pub next_stays : LegalIsSound → LegalAgrees → ForestStays → MembersStay → NextStays
@@ -159,6 +174,6 @@ next_stays sound agrees stays law platform es fs r legal acts first =
     all_keep platform IsAction (λ gs. StaysNext (replay es) (replay gs) r) step es fs legal acts (stays_now (replay es) r first) where
       step : (gs : List BookEntry) (e : BookEntry) → IsLegal platform gs → Allows platform (replay gs) e → IsAction e → StaysNext (replay es) (replay gs) r
           → StaysNext (replay es) (replay (gs ++ e ∷ [])) r
-      step gs (Decided d) before ok act now = absurd act
+      step gs (Decided c) before ok act now = absurd act
       step gs (Acted i deed) before ok act now = subst (λ s. StaysNext (replay es) s r) (sym (replay_push first_state gs (Acted i deed)))
           (stays_on (replay es) (replay gs) (after_entry (replay gs) (Acted i deed)) r now (acted_stays sound agrees stays law platform gs i deed r before ok now.next))

@@ -19,7 +19,7 @@ use Rattle.sysmem_tree.specs.Node.{NodeFacts}
 use Rattle.sysmem_tree.specs.Shape.{members_of}
 use Rattle.sysmem_tree.specs.Table.{allows, suits_node, makes}
 use Rattle.sysmem_tree.specs.Tree.{Applied, applied, tree_after, node_after, nodes_made, left_out_but, decided}
-use Rattle.sysmem_alloc.specs.Decision.{choices_of}
+use Rattle.sysmem_alloc.specs.Decision.{Decision, answer_of, choices_of}
 use Rattle.sysmem_alloc.specs.Entry.{BookEntry, Acted, Decided, constraints_at, entry_in, deed_with}
 use Rattle.sysmem_alloc.specs.History.{after_answer, after_entry, replay_from, Allows, AreAllowed}
 use Rattle.sysmem_alloc.specs.Sound.{AllOf}
@@ -83,7 +83,7 @@ WasSet nodes i _ = Unit {0}
 
 abbrev pub StandsIn : List NodeFacts → BookEntry → Type 0
 StandsIn nodes (Acted i deed) = WasSet nodes i deed
-StandsIn nodes (Decided d) = Unit {0}
+StandsIn nodes (Decided c) = Unit {0}
 
 -- an entry keeps what was set
 pub entry_keeps : (s : State) (e : BookEntry) (k : ℕ) (c : Option Participant) → IsSetTo s.tree.nodes k c → IsSetTo (after_entry s e).tree.nodes k c
@@ -95,7 +95,10 @@ entry_keeps s (Acted i deed) k c h = by (applied s.tree i deed) refl where
       subst (λ (t : TreeFacts). IsSetTo t.nodes k c) ok.tree
       (in_append (slice_set s.tree.nodes i (node_after deed n)) (nodes_made (length s.tree.nodes) i n (kind_of deed) (makes (kind_of deed))) k c
       (in_set s.tree.nodes i k n (node_after deed n) c ok.there (acted_keeps deed n ok.allowed) h))
-entry_keeps s (Decided d) k c h = by (choices_of d.verdict) where
+entry_keeps s (Decided e) k c h = by (choices_of d.verdict) where
+  d : Decision
+  d = answer_of e
+
   by : (o : Option (List ℕ)) → IsSetTo (decided s.tree d.domain o).nodes k c
   by None = h
   by (Some cs) = in_left (members_of s.tree.nodes d.domain cs) d.domain 0 s.tree.nodes k c h
@@ -117,10 +120,10 @@ entry_stands platform s (Acted i deed) ok = by (applied s.tree i deed) refl ok w
   by : (o : Result Applied Refusal) → applied s.tree i deed ≡ o → IsOk o → WasSet (after_answer s o).tree.nodes i deed
   by (Err refusal) is h = absurd (cc)
   by (Ok made) is h = let (n, fine) = accepted s.tree i deed made is in subst (λ (t : TreeFacts). WasSet t.nodes i deed) fine.tree (just_set s.tree i deed n fine.there)
-entry_stands platform s (Decided d) ok = tt
+entry_stands platform s (Decided c) ok = tt
 
 stands_on : (xs ys : List NodeFacts) → ((k : ℕ) (c : Option Participant) → IsSetTo xs k c → IsSetTo ys k c) → (e : BookEntry) → StandsIn xs e → StandsIn ys e
-stands_on xs ys keeps (Decided d) h = tt
+stands_on xs ys keeps (Decided c) h = tt
 stands_on xs ys keeps (Acted i (sets c)) h = keeps i c h
 stands_on xs ys keeps (Acted i duplicates) h = tt
 stands_on xs ys keeps (Acted i creates_group) h = tt
@@ -166,7 +169,7 @@ pub read_later : (xs ys : List NodeFacts) → ((k : ℕ) (c : Option Participant
 read_later xs ys keeps [] all = refl
 read_later xs ys keeps (entries.Acted i kind ∷ raw) all =
     ap (λ d. Acted i d ∷ map (entry_in ys) raw) (read_same xs ys keeps i kind all.0) ∙ ap (λ es. Acted i (deed_with (constraints_at xs i) kind) ∷ es) (read_later xs ys keeps raw all.1)
-read_later xs ys keeps (entries.Decided r verdict ∷ raw) all = ap (λ es. entry_in xs (entries.Decided r verdict) ∷ es) (read_later xs ys keeps raw all.1)
+read_later xs ys keeps (entries.Decided r claim ∷ raw) all = ap (λ es. entry_in xs (entries.Decided r claim) ∷ es) (read_later xs ys keeps raw all.1)
 
 -- what was just entered is read as it was made
 pub read_made : (t : TreeFacts) (i : ℕ) (deed : Deed) (made : Applied) → applied t i deed ≡ Ok made → entry_in made.tree.nodes (entries.Acted i (kind_of deed)) ≡ Acted i deed

@@ -2,9 +2,11 @@
 use Rattle.std.proofs.Common.{◌≡◌, ◌≢◌, ℕ, Bool, true, false, List, [], ◌∷◌, ◌++◌, length, drop, Option, Some, None, Result, Ok, Err, slice_get, refl, sym, ◌∙◌, ap, subst, arith, length-append, append-nil}
 use Rattle.std.specs.Prelude.{IsOk, IfSome}
 use Rattle.std.proofs.lemmas.Option.{same_Some}
+use Rattle.sysmem_proof.specs.declared.certificate.Claim.{Claim}
 use Rattle.sysmem_proof.specs.declared.verdict.Verdict.{Verdict}
 use Rattle.sysmem_proof.specs.declared.verdict.Verdict.TheVariants as verdicts
 use Rattle.sysmem_proof.specs.Base.{BaseFacts}
+use Rattle.sysmem_proof.specs.Claim.{IsTrueClaim}
 use Rattle.sysmem_proof.specs.Verdict.{IsOptimalIn}
 use Rattle.sysmem_sanitise.specs.Platform.{PlatformFacts}
 use Rattle.sysmem_tree.specs.declared.refusal.Refusal.{Refusal}
@@ -17,7 +19,7 @@ use Rattle.sysmem_tree.specs.Node.{NodeFacts}
 use Rattle.sysmem_tree.specs.Selection.{IsSelection}
 use Rattle.sysmem_tree.specs.Shape.{by_number, forest_of}
 use Rattle.sysmem_tree.specs.Tree.{Applied, applied, decided}
-use Rattle.sysmem_alloc.specs.Decision.{Decision, choices_of}
+use Rattle.sysmem_alloc.specs.Decision.{Decision, answer_of, choices_of, verdict_in}
 use Rattle.sysmem_alloc.specs.Entry.{BookEntry, Acted, Decided, tree_entry}
 use Rattle.sysmem_alloc.specs.History.{after_answer, after_entry, replay_from, replay, Allows, AreAllowed, IsLegal}
 use Rattle.sysmem_alloc.specs.Sound.{AllOf, AreApart, IsOfReady, IsSoundState, MayWait, roots_of}
@@ -27,6 +29,12 @@ use Rattle.sysmem_alloc.proofs.Advance.{Follows, advance}
 use Rattle.sysmem_alloc.proofs.Lists.{all_append, all_weaken}
 use Rattle.sysmem_alloc.proofs.Relabelled.{by_numbers}
 use Rattle.sysmem_alloc.proofs.Trees.{acted_there, decided_there, added, acted_roots, decided_roots, added_unready}
+
+-- the verdict of a true claim is optimal
+pub claims_optimal : (platform : PlatformFacts) (nodes : List NodeFacts) (r : ℕ) (base : Option BaseFacts) (claim : Option Claim) → IfSome claim (IsTrueClaim platform nodes r base)
+    → IfSome (verdict_in claim) (IsOptimalIn platform nodes r base)
+claims_optimal platform nodes r base None h = tt
+claims_optimal platform nodes r base (Some c) h = h.optimal
 
 -- what a verdict chose is a selection of the domain's forest
 pub selects : OneForest → (platform : PlatformFacts) (nodes : List NodeFacts) (r : ℕ) (base : Option BaseFacts) (verdict : Option Verdict) → IfSome verdict (IsOptimalIn platform nodes r base)
@@ -45,16 +53,17 @@ may_decide t (x ∷ rest) r all is = subst (MayWait t) (same_Some x r is) all.0
 -- the tree accepts what a book allows
 pub accepts : OneForest → (platform : PlatformFacts) (s : State) (e : BookEntry) → IsSoundState s → Allows platform s e → trees.Accepts s.tree (tree_entry e)
 accepts one platform s (Acted i deed) sound ok = ok
-accepts one platform s (Decided d) sound ok =
-    let w = may_decide s.tree s.waiting d.domain sound.waiting ok.0 in
-    record { there = w.there; ready = w.ready; undecided = w.undecided; selects = selects one platform s.tree.nodes d.domain (base_of s d.domain) d.verdict ok.1 }
+accepts one platform s (Decided c) sound ok =
+    let w = may_decide s.tree s.waiting c.domain sound.waiting ok.0 in
+    let optimal = claims_optimal platform s.tree.nodes c.domain (base_of s c.domain) c.claim ok.1 in
+    record { there = w.there; ready = w.ready; undecided = w.undecided; selects = selects one platform s.tree.nodes c.domain (base_of s c.domain) (answer_of c).verdict optimal }
 
 pub tree_of_entry : (s : State) (e : BookEntry) → (after_entry s e).tree ≡ trees.after_entry s.tree (tree_entry e)
 tree_of_entry s (Acted i deed) = by (applied s.tree i deed) where
   by : (o : Result Applied Refusal) → (after_answer s o).tree ≡ trees.after_answer s.tree o
   by (Ok made) = refl
   by (Err refusal) = refl
-tree_of_entry s (Decided d) = refl
+tree_of_entry s (Decided c) = refl
 
 module _ (sound_stays : SoundStays) (ready_stays : ReadyStays) where
   -- an action
@@ -136,9 +145,10 @@ module _ (sound_stays : SoundStays) (ready_stays : ReadyStays) where
     by : (o : Result Applied Refusal) → applied s.tree i deed ≡ o → IsOk o → IsSoundState (after_answer s o)
     by (Ok made) is h = acted_sound s i deed made sound is
     by (Err refusal) is h = absurd (cc)
-  sound_step one platform s (Decided d) sound ok =
+  sound_step one platform s (Decided c) sound ok =
+      let d : Decision = answer_of c in
       decided_sound s d (choices_of d.verdict) s.waiting (open_in (decided s.tree d.domain (choices_of d.verdict)).nodes (s.decisions ++ d ∷ [])) sound refl ok.0
-      (accepts one platform s (Decided d) sound ok)
+      (accepts one platform s (Decided c) sound ok)
 
   pub sound_from : OneForest → (platform : PlatformFacts) (s : State) (es : List BookEntry) → IsSoundState s → AreAllowed platform s es → IsSoundState (replay_from s es)
   sound_from one platform s [] sound all = sound

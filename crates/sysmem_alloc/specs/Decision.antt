@@ -1,6 +1,7 @@
 -- Decisions as a book enters them, and what they gave.
-use Rattle.std.specs.Prelude.{◌==◌, ℕ, List, [], ◌∷◌, Option, Some, None, option_and_then, if◌then◌else◌}
+use Rattle.std.specs.Prelude.{◌==◌, ℕ, List, [], ◌∷◌, Option, Some, None, option_and_then, option_map, if◌then◌else◌}
 use Rattle.sysmem_merge.specs.declared.settings.Settings.{Settings}
+use Rattle.sysmem_proof.specs.declared.certificate.Claim.{Claim}
 use Rattle.sysmem_proof.specs.declared.verdict.Verdict.{Verdict}
 use Rattle.sysmem_proof.specs.declared.verdict.Verdict.TheVariants as verdicts
 
@@ -8,6 +9,19 @@ use Rattle.sysmem_proof.specs.declared.verdict.Verdict.TheVariants as verdicts
 pub record Decision : Type 0 where
   pub domain : ℕ
   pub verdict : Option Verdict
+
+-- a decision with what proves its verdict: the domain that this node roots, and the claim, or none where memory was wanted
+pub record Claimed : Type 0 where
+  pub domain : ℕ
+  pub claim : Option Claim
+
+-- the verdict that is claimed
+abbrev pub verdict_in : Option Claim → Option Verdict
+verdict_in claim = option_map (λ c. c.verdict) claim
+
+-- the decision without what proves it
+abbrev pub answer_of : Claimed → Decision
+answer_of c = record { domain = c.domain; verdict = verdict_in c.claim }
 
 -- the choices of a verdict that chose
 abbrev pub choices_of : Option Verdict → Option (List ℕ)

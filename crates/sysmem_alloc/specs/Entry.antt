@@ -3,7 +3,7 @@ use Rattle.std.specs.Prelude.{ℕ, Option, Some, None, option_and_then, option_m
 use Rattle.std.specs.Arc.{arc_value}
 use Rattle.sysmem_alloc.specs.declared.entry.Entry.{Entry}
 use Rattle.sysmem_alloc.specs.declared.entry.Entry.TheVariants as entries
-use Rattle.sysmem_alloc.specs.Decision.{Decision, choices_of}
+use Rattle.sysmem_alloc.specs.Decision.{Claimed, Decision, answer_of, choices_of}
 use Rattle.sysmem_sanitise.specs.Participant.{Participant}
 use Rattle.sysmem_tree.specs.declared.action.ActionKind.{ActionKind}
 use Rattle.sysmem_tree.specs.declared.action.ActionKind.TheVariants as kinds
@@ -12,15 +12,15 @@ use Rattle.sysmem_tree.specs.History.{HistoryEntry}
 use Rattle.sysmem_tree.specs.History as trees
 use Rattle.sysmem_tree.specs.Node.{NodeFacts}
 
--- an accepted action on a node, or the decision of a domain
+-- an accepted action on a node, or the decision of a domain with what proves it
 pub data BookEntry : Type 0 where
   Acted : ℕ → Deed → BookEntry
-  Decided : Decision → BookEntry
+  Decided : Claimed → BookEntry
 
 -- what is in it for the tree
 abbrev pub tree_entry : BookEntry → HistoryEntry
 tree_entry (Acted i deed) = trees.Acted i deed
-tree_entry (Decided d) = trees.Decided d.domain (choices_of d.verdict)
+tree_entry (Decided c) = trees.Decided c.domain (choices_of (answer_of c).verdict)
 
 -- an action of this kind, where the node has these constraints afterwards
 abbrev pub deed_with : Option Participant → ActionKind → Deed
@@ -41,9 +41,9 @@ constraints_at nodes i = option_and_then (λ n. n.constraints) (slice_get nodes 
 -- an entry as it is kept, without the constraints that it set: the tree has them at its node
 abbrev pub entry_in : List NodeFacts → Entry → BookEntry
 entry_in nodes (entries.Acted i kind) = Acted i (deed_with (constraints_at nodes i) kind)
-entry_in nodes (entries.Decided r verdict) = Decided (record { domain = r; verdict = option_map (λ shared. arc_value shared) verdict })
+entry_in nodes (entries.Decided r claim) = Decided (record { domain = r; claim = option_map (λ shared. arc_value shared) claim })
 
--- the decision that it is, if it is one
+-- the decision that it is, if it is one, without what proves it
 abbrev pub decision_in : Entry → Option Decision
 decision_in (entries.Acted i _) = None
-decision_in (entries.Decided r verdict) = Some (record { domain = r; verdict = option_map (λ shared. arc_value shared) verdict })
+decision_in (entries.Decided r claim) = Some (answer_of (record { domain = r; claim = option_map (λ shared. arc_value shared) claim }))

@@ -1,11 +1,11 @@
 -- Histories of a book: the states that they lead to, and which are legal.
 use Rattle.std.specs.Prelude.{◌≡◌, List, [], ◌∷◌, Some, Result, Ok, Err, IsOk, IfSome, map}
-use Rattle.sysmem_proof.specs.Verdict.{IsOptimalIn}
+use Rattle.sysmem_proof.specs.Claim.{IsTrueClaim}
 use Rattle.sysmem_sanitise.specs.Platform.{PlatformFacts}
 use Rattle.sysmem_tree.specs.declared.refusal.Refusal.{Refusal}
 use Rattle.sysmem_tree.specs.History as trees
 use Rattle.sysmem_tree.specs.Tree.{Applied, applied, decided}
-use Rattle.sysmem_alloc.specs.Decision.{choices_of}
+use Rattle.sysmem_alloc.specs.Decision.{answer_of, choices_of}
 use Rattle.sysmem_alloc.specs.Entry.{BookEntry, Acted, Decided, tree_entry}
 use Rattle.sysmem_alloc.specs.Sound.{AllOf}
 use Rattle.sysmem_alloc.specs.State.{State, first_state, next_ready, after_action, after_decision, base_of}
@@ -18,7 +18,7 @@ after_answer s (Err refusal) = s
 -- the state after an entry
 abbrev pub after_entry : State → BookEntry → State
 after_entry s (Acted i deed) = after_answer s (applied s.tree i deed)
-after_entry s (Decided d) = after_decision s d (decided s.tree d.domain (choices_of d.verdict))
+after_entry s (Decided c) = after_decision s (answer_of c) (decided s.tree c.domain (choices_of (answer_of c).verdict))
 
 -- after entries, the oldest first
 abbrev pub replay_from : State → List BookEntry → State
@@ -29,11 +29,11 @@ replay_from s (e ∷ es) = replay_from (after_entry s e) es
 abbrev pub replay : List BookEntry → State
 replay es = replay_from first_state es
 
--- an action may be entered that the tree accepts; a decision, where it is of the first domain that waits, with a verdict that is optimal for
--- it on what it is decided on, or with none, for want of memory
+-- an action may be entered that the tree accepts; a decision, where it is of the first domain that waits, with a claim that is true of it on
+-- what it is decided on, or with none, for want of memory
 abbrev pub Allows : PlatformFacts → State → BookEntry → Type 0
 Allows platform s (Acted i deed) = IsOk (applied s.tree i deed)
-Allows platform s (Decided d) = (next_ready s ≡ Some d.domain) × IfSome d.verdict (IsOptimalIn platform s.tree.nodes d.domain (base_of s d.domain))
+Allows platform s (Decided c) = (next_ready s ≡ Some c.domain) × IfSome c.claim (IsTrueClaim platform s.tree.nodes c.domain (base_of s c.domain))
 
 -- each step enters what the state before it allows
 pub record IsStep (platform : PlatformFacts) (old : State) (e : BookEntry) (new : State) : Type 0 where
@@ -51,7 +51,7 @@ IsLegal platform es = AreAllowed platform first_state es
 -- no decision is among the entries
 abbrev pub IsAction : BookEntry → Type 0
 IsAction (Acted i deed) = Unit {0}
-IsAction (Decided d) = ⊥
+IsAction (Decided c) = ⊥
 
 abbrev pub AreActions : List BookEntry → Type 0
 AreActions es = AllOf IsAction es

@@ -1,8 +1,10 @@
 -- What is true of legal histories.
 use Rattle.std.specs.Prelude.{◌≡◌, ◌≤◌, ◌++◌, ℕ, true, List, length, Some, map}
 use Rattle.std.specs.List.{Contains}
+use Rattle.sysmem_proof.specs.declared.certificate.Claim.{Claim}
 use Rattle.sysmem_proof.specs.declared.verdict.Verdict.{Verdict}
 use Rattle.sysmem_proof.specs.Base.{IsGivenBase}
+use Rattle.sysmem_proof.specs.Claim.{IsTrueClaim}
 use Rattle.sysmem_proof.specs.Verdict.{IsOptimalIn, IsSameAnswer}
 use Rattle.sysmem_sanitise.specs.Platform.{PlatformFacts}
 use Rattle.sysmem_tree.specs.Domain.{HasDomain, decision_of, is_ready, is_undecided}
@@ -61,15 +63,17 @@ abbrev pub VerdictStays : Type 0
 VerdictStays = (platform : PlatformFacts) (es fs : List BookEntry) (r : ℕ) (v : Verdict) → IsLegal platform (es ++ fs)
     → HasDomain (replay es).tree.nodes r → verdict_of (replay es) r ≡ Some v → verdict_of (replay (es ++ fs)) r ≡ Some v
 
--- the domain that is to be decided next stays so, with its forest and what it is decided on, and each verdict that is optimal for it stays so
+-- the domain that is to be decided next stays so, with its forest and what it is decided on; and each verdict that is optimal for it stays so,
+-- and each claim that is true of it
 pub record StaysNext (old new : State) (r : ℕ) : Type 0 where
   pub next : next_ready new ≡ Some r
   pub domain : IsSameDomain old.tree.nodes new.tree.nodes r
   pub base : base_of new r ≡ base_of old r
   pub optimal : (platform : PlatformFacts) (v : Verdict) → IsOptimalIn platform old.tree.nodes r (base_of old r) v → IsOptimalIn platform new.tree.nodes r (base_of new r) v
+  pub claims : (platform : PlatformFacts) (c : Claim) → IsTrueClaim platform old.tree.nodes r (base_of old r) c → IsTrueClaim platform new.tree.nodes r (base_of new r) c
 
 -- actions, however many, change neither which domain is to be decided next nor its forest or what it is decided on, and leave each verdict
--- optimal that is optimal for it
+-- optimal that is optimal for it, and each claim true
 abbrev pub NextStays : Type 0
 NextStays = (platform : PlatformFacts) (es fs : List BookEntry) (r : ℕ) → IsLegal platform (es ++ fs) → AreActions fs → next_ready (replay es) ≡ Some r
     → StaysNext (replay es) (replay (es ++ fs)) r

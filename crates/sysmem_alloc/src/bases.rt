@@ -4,7 +4,7 @@ ghost use Rattle.std.specs.Prelude.{◌≡◌, ◌++◌, All, IfOk, IfSome, OnOk
 ghost use Rattle.std.specs.Arc.{arc_value};
 ghost use Rattle.std.specs.List.{filter_map};
 ghost use Rattle.sysmem_alloc.specs.Accepted.{IsChosenIn, marked_by, marked_of};
-ghost use Rattle.sysmem_alloc.specs.Decision.{settings_for, settings_of};
+ghost use Rattle.sysmem_alloc.specs.Decision.{settings_for, settings_of, verdict_in};
 ghost use Rattle.sysmem_alloc.specs.Entry.{decision_in};
 ghost use Rattle.sysmem_alloc.specs.Sound.{AreApart};
 ghost use Rattle.sysmem_alloc.specs.State.{chosen_in};
@@ -15,15 +15,16 @@ use crate::verdicts::{choices_of, entered_for};
 use std::alloc::{AllocError, Global};
 use std::sync::Arc;
 use sysmem_merge::Settings;
-use sysmem_proof::Verdict;
+use sysmem_proof::{Claim, Verdict};
 use sysmem_tree::{DomainId, NodeId, Tree};
 
 /// The settings of a verdict that chose.
-fn settings_of(verdict: &Option<Arc<Verdict>>) -> Option<Settings>
-    ensures { result ≡ settings_of (option_map (λ shared. arc_value shared) verdict.now) }
+fn settings_of(claim: &Option<Arc<Claim>>) -> Option<Settings>
+    ensures { result
+        ≡ settings_of (verdict_in (option_map (λ shared. arc_value shared) claim.now)) }
 {
-    match verdict {
-        Some(shared) => match &**shared {
+    match claim {
+        Some(shared) => match &shared.verdict {
             Verdict::Chosen(chosen) => Some(chosen.settings()),
             _ => None,
         },
@@ -68,10 +69,10 @@ fn add_chosen(
     ensures { OnOk result (kept.new.items
         ≡ kept.old.items ++ marked_by tree.now.nodes marks.now (decision_in entry.now)) }
 {
-    let Entry::Decided(domain, verdict) = entry else {
+    let Entry::Decided(domain, claim) = entry else {
         return Ok(());
     };
-    let Some(choices) = choices_of(verdict) else {
+    let Some(choices) = choices_of(claim) else {
         return Ok(());
     };
     let nodes = tree.participants(*domain, choices)?;

@@ -9,7 +9,7 @@ ghost use Rattle.sysmem_alloc.specs.History.{IsStep};
 ghost use Rattle.sysmem_alloc.specs.Sound.{MayWait};
 ghost use Rattle.sysmem_alloc.specs.State.{base_of, next_ready, verdict_of};
 ghost use Rattle.sysmem_proof.specs.Base.{IsGivenBase};
-ghost use Rattle.sysmem_proof.specs.Verdict.{IsOptimalIn};
+ghost use Rattle.sysmem_proof.specs.Claim.{IsTrueClaim};
 ghost use Rattle.sysmem_tree.specs.ActionKind.{deed_of};
 ghost use Rattle.sysmem_tree.specs.Domain.{HasDomain};
 ghost use Rattle.sysmem_tree.specs.Tree.{applied};
@@ -23,7 +23,7 @@ use crate::verdicts::{choices_of, entered_for, has_failed, is_undecided};
 use std::alloc::{AllocError, Global};
 use std::marker::Model;
 use std::sync::Arc;
-use sysmem_proof::{Base, Verdict};
+use sysmem_proof::{Base, Claim, Verdict};
 use sysmem_sanitise::Platform;
 use sysmem_tree::laws::{forest_stays, one_forest};
 use sysmem_tree::{DomainId, Event, MOST_NODES, NodeId, Refusal, Tree};
@@ -187,7 +187,7 @@ impl Book {
             return None;
         }
         match entered_for(&self.history, domain)? {
-            Some(verdict) => Some(verdict),
+            Some(claim) => Some(&claim.verdict),
             None => Some(&self.no_memory),
         }
     }
@@ -223,29 +223,29 @@ impl Book {
         Ok(Done { node, ready })
     }
 
-    /// Enters the decision of the domain that is to be decided next: a verdict that is optimal for it, or `None` where memory was
-    /// refused to it. It takes no memory.
-    pub fn decide(&mut self, domain: DomainId, verdict: Option<Arc<Verdict>>)
+    /// Enters the decision of the domain that is to be decided next: a verdict that is optimal for it with what proves it, or `None`
+    /// where memory was refused to it. It takes no memory.
+    pub fn decide(&mut self, domain: DomainId, claim: Option<Arc<Claim>>)
         requires next { next_ready self.old.state ≡ Some domain }
-        requires optimal { IfSome verdict (λ shared.
-            IsOptimalIn self.old.platform self.old.state.tree.nodes domain
+        requires true_of { IfSome claim (λ shared.
+            IsTrueClaim self.old.platform self.old.state.tree.nodes domain
             (base_of self.old.state domain) (arc_value shared)) }
         ensures entered { self.new ≡ entered self.old (Decided (record {
           domain = domain;
-          verdict = option_map (λ shared. arc_value shared) verdict;
+          claim = option_map (λ shared. arc_value shared) claim;
         })) }
         ensures step { IsStep self.old.platform self.old.state (Decided (record {
           domain = domain;
-          verdict = option_map (λ shared. arc_value shared) verdict;
+          claim = option_map (λ shared. arc_value shared) claim;
         })) self.new.state }
     {
         legal_is_sound();
         few_entries();
         one_forest();
         let were_ready = ready_domains(&self.tree);
-        self.tree.decided(domain, choices_of(&verdict));
+        self.tree.decided(domain, choices_of(&claim));
         self.were_open = open_nodes(&self.tree);
-        self.history.push_reserved(Entry::Decided(domain, verdict));
+        self.history.push_reserved(Entry::Decided(domain, claim));
         self.waiting.remove(0);
         add_ready(&self.tree, &were_ready, &mut self.waiting);
     }

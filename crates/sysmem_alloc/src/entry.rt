@@ -5,7 +5,7 @@ ghost use Rattle.std.specs.Vec.{vec_capacity, vec_len};
 ghost use Rattle.sysmem_alloc.specs.declared.entry.Entry.TheVariants as entries;
 
 use std::sync::Arc;
-use sysmem_proof::Verdict;
+use sysmem_proof::Claim;
 use sysmem_tree::{ActionKind, DomainId, NodeId};
 
 /// An entry of a book's history.
@@ -13,8 +13,8 @@ use sysmem_tree::{ActionKind, DomainId, NodeId};
 pub enum Entry {
     /// An accepted action on a node; the constraints that it set stand in the tree.
     Acted(NodeId, ActionKind),
-    /// The decision of a domain, with its verdict; `None` where memory was refused to it.
-    Decided(DomainId, Option<Arc<Verdict>>),
+    /// The decision of a domain, with its verdict and what proves it; `None` where memory was refused to it.
+    Decided(DomainId, Option<Arc<Claim>>),
 }
 
 /// Enters an accepted action.

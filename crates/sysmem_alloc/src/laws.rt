@@ -91,7 +91,7 @@ pub fn verdict_stays()
 }
 
 /// The domain that is to be decided next stays so until it is: actions, however many, change neither its forest nor the settings and the
-/// accepted nodes that it is decided on; so a verdict that is optimal for it stays so.
+/// accepted nodes that it is decided on; so a verdict that is optimal for it stays so, and what proves it goes on proving it.
 pub fn next_stays()
     ensures { NextStays }
 {

@@ -3,14 +3,14 @@
 ghost use Rattle.std.specs.Prelude.{◌≡◌, ◌≢◌, true, false, map, option_map};
 ghost use Rattle.std.specs.Arc.{arc_value};
 ghost use Rattle.std.specs.List.{filter_map};
-ghost use Rattle.sysmem_alloc.specs.Decision.{choices_of, decision_for};
+ghost use Rattle.sysmem_alloc.specs.Decision.{choices_of, decision_for, verdict_in};
 ghost use Rattle.sysmem_alloc.specs.Entry.{decision_in};
 ghost use Rattle.sysmem_alloc.specs.Sound.{AreApart};
 ghost use Rattle.sysmem_tree.specs.declared.fate.Fate.TheVariants as fates;
 
 use crate::entry::Entry;
 use std::sync::Arc;
-use sysmem_proof::Verdict;
+use sysmem_proof::{Claim, Verdict};
 use sysmem_tree::{DomainId, Fate};
 
 /// Whether what became of a domain is that it failed.
@@ -30,12 +30,12 @@ pub(crate) fn is_undecided(fate: Fate) -> bool
 }
 
 /// The choices of a verdict that chose.
-pub(crate) fn choices_of(verdict: &Option<Arc<Verdict>>) -> Option<&[u8]>
+pub(crate) fn choices_of(claim: &Option<Arc<Claim>>) -> Option<&[u8]>
     ensures { option_map (λ choices. choices.now) result
-        ≡ choices_of (option_map (λ shared. arc_value shared) verdict.now) }
+        ≡ choices_of (verdict_in (option_map (λ shared. arc_value shared) claim.now)) }
 {
-    match verdict {
-        Some(shared) => match &**shared {
+    match claim {
+        Some(shared) => match &shared.verdict {
             Verdict::Chosen(chosen) => Some(chosen.selection().choices()),
             _ => None,
         },
@@ -43,17 +43,17 @@ pub(crate) fn choices_of(verdict: &Option<Arc<Verdict>>) -> Option<&[u8]>
     }
 }
 
-/// The verdict that was entered for a domain, if any was: at most one is, so the entries are read from the last to the first, as the
+/// The claim that was entered for a domain, if any was: at most one is, so the entries are read from the last to the first, as the
 /// decisions that are asked for are mostly late ones.
-pub(crate) fn entered_for(history: &[Entry], domain: DomainId) -> Option<&Option<Arc<Verdict>>>
+pub(crate) fn entered_for(history: &[Entry], domain: DomainId) -> Option<&Option<Arc<Claim>>>
     requires { AreApart (map (λ d. d.domain) (filter_map decision_in history.now)) }
-    ensures { option_map (λ verdict. option_map (λ shared. arc_value shared) verdict.now) result
+    ensures { option_map (λ claim. verdict_in (option_map (λ shared. arc_value shared) claim.now)) result
         ≡ option_map (λ d. d.verdict) (decision_for (filter_map decision_in history.now) domain) }
 {
     for index in (0..history.len()).rev() {
-        if let Entry::Decided(decided, verdict) = &history[index] {
+        if let Entry::Decided(decided, claim) = &history[index] {
             if *decided == domain {
-                return Some(verdict);
+                return Some(claim);
             }
         }
     }

@@ -5,7 +5,7 @@ ghost use Rattle.std.specs.Prelude.{◌≡◌, Some, IfOk, IfSome};
 ghost use Rattle.std.specs.Arc.{arc_value};
 ghost use Rattle.sysmem_alloc.specs.Sound.{MayWait};
 ghost use Rattle.sysmem_alloc.specs.State.{base_of, next_ready};
-ghost use Rattle.sysmem_proof.specs.Verdict.{IsOptimalIn};
+ghost use Rattle.sysmem_proof.specs.Claim.{IsTrueClaim};
 ghost use Rattle.sysmem_tree.specs.Nodes.{HasNode};
 
 use serde_json::Value;
@@ -16,7 +16,7 @@ use std::test::Fail;
 use sysmem_alloc::Book;
 use sysmem_formats::Offer;
 use sysmem_memory::{CoherencyDomain, Place};
-use sysmem_proof::{Base, Verdict};
+use sysmem_proof::{Base, Claim, Verdict};
 use sysmem_sanitise::{Platform, read_constraints, read_platform};
 use sysmem_search::{NoGate, search};
 use sysmem_tree::{Action, DomainId, Event, NodeId, Path};
@@ -134,12 +134,12 @@ fn play(alloc: Global, book: &mut Book, steps: &[(&[u32], Deed)]) -> Result<(), 
     Ok(())
 }
 
-// An optimal verdict of the domain that is to be decided next; `None` where memory is refused.
-fn verdict_for(alloc: Global, book: &Book, domain: DomainId) -> Option<Arc<Verdict>>
+// An optimal verdict of the domain that is to be decided next, with what proves it; `None` where memory is refused.
+fn claim_for(alloc: Global, book: &Book, domain: DomainId) -> Option<Arc<Claim>>
     requires next { next_ready book.now.state ≡ Some domain }
     requires waits { MayWait book.now.state.tree domain }
     ensures { IfSome result (λ shared.
-        IsOptimalIn book.now.platform book.now.state.tree.nodes domain
+        IsTrueClaim book.now.platform book.now.state.tree.nodes domain
         (base_of book.now.state domain) (arc_value shared)) }
 {
     let Ok(base) = book.base(domain) else {
@@ -149,7 +149,11 @@ fn verdict_for(alloc: Global, book: &Book, domain: DomainId) -> Option<Arc<Verdi
     let Ok(found) = search(alloc, platform, book.tree(), domain, base.as_ref(), &NoGate) else {
         return None;
     };
-    let Ok(shared) = Arc::new(alloc, found.verdict) else {
+    let claim = Claim {
+        verdict: found.verdict,
+        proof: found.proof,
+    };
+    let Ok(shared) = Arc::new(alloc, claim) else {
         return None;
     };
     Some(shared)
@@ -160,8 +164,8 @@ fn decide_next(alloc: Global, book: &mut Book) -> Result<(), Fail> {
     let Some(domain) = book.next_ready() else {
         return Err(Fail::new("no domain waits"));
     };
-    let verdict = verdict_for(alloc, book, domain);
-    book.decide(domain, verdict);
+    let claim = claim_for(alloc, book, domain);
+    book.decide(domain, claim);
     Ok(())
 }
 

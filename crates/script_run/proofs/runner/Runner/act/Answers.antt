@@ -1,4 +1,3 @@
-use Rattle.script_run.specs.Runner.{state_of}
 use Rattle.sysmem_tree.specs.ActionKind.{deed_of}
 use Rattle.script_run.proofs.Answering.{refused_as, accepted_as}
 use Rattle.script_run.proofs.Growing.{applied_there, there_after}
@@ -14,8 +13,10 @@ keep_name-requires c = (there_after c.args.self.now.book.state.tree c.args.node 
 
 pub returns-in_ok-keep_name-in-Ok : goal.returns-in_ok-keep_name-in-Ok
 returns-in_ok-keep_name-in-Ok c =
-    accepted_as (state_of c.args.self.now) _ c.apply.new.self _ c.args.node c.in-Ok.done.node (deed_of c.args.action) c.requires.named c.requires.asks c.in-Ok.ensures.accepted c.in-Ok.ensures.entered c.in_ok-keep_name-in-Ok.ensures
+    accepted_as c.args.self.now.book c.apply.new.self c.args.self.now.names.items c.args.self.now.starved _ _ c.args.node c.in-Ok.done.node (deed_of c.args.action) c.requires.named c.requires.asks
+    c.in-Ok.ensures.accepted c.in-Ok.ensures.entered c.in_ok-keep_name-in-Ok.ensures
 
 pub returns-in_ok-keep_name-in-Err : goal.returns-in_ok-keep_name-in-Err
 returns-in_ok-keep_name-in-Err c =
-    refused_as (state_of c.args.self.now) _ c.apply.new.self _ c.args.node (deed_of c.args.action) c.in-Err.refusal c.requires.named c.requires.asks c.in-Err.ensures.refused c.in-Err.ensures.unchanged c.in_ok-keep_name-in-Err.ensures
+    refused_as c.args.self.now.book c.apply.new.self c.args.self.now.names.items c.args.self.now.starved _ _ c.args.node (deed_of c.args.action) c.in-Err.refusal c.requires.named c.requires.asks
+    c.in-Err.ensures.refused c.in-Err.ensures.unchanged c.in_ok-keep_name-in-Err.ensures

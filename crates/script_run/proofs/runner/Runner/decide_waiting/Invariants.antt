@@ -1,12 +1,12 @@
--- What was decided so far leads on, and the history has room for 639 entries.
-use Rattle.std.specs.Prelude.{◌-◌, length}
+-- What was decided so far, and the history has room for 639 entries.
+use Rattle.std.specs.Prelude.{ℕ, ◌-◌, [], length}
 use Rattle.std.specs.String.{string_bytes}
+use Rattle.script_run.specs.Report.{GoesIn}
 use Rattle.script_run.specs.Runner.{state_of}
-use Rattle.script_run.proofs.Following.{LeadsOn}
 use Rattle.script_run.proofs.runner.Runner.decide_waiting.Given as goal
 
 abbrev pub decreases-loop-domain : goal.decreases-loop-domain
 decreases-loop-domain l = 639 - length l.self.book.history
 
 abbrev pub invariant-loop-domain : goal.invariant-loop-domain
-invariant-loop-domain l = LeadsOn (state_of l.initial.self) (state_of l.self) (string_bytes l.initial.text) (string_bytes l.text)
+invariant-loop-domain l = (number : ℕ) → GoesIn number (state_of l.initial.self) [] (state_of l.self) (string_bytes l.initial.text) (string_bytes l.text)

@@ -7,7 +7,7 @@ use Rattle.sysmem_alloc.specs.declared.entry.Entry.TheVariants as entries
 use Rattle.sysmem_tree.specs.History.{IsDecidable}
 use Rattle.sysmem_tree.specs.Tree.{decided}
 use Rattle.sysmem_alloc.specs.Book.{BookFacts, entered}
-use Rattle.sysmem_alloc.specs.Decision.{Decision}
+use Rattle.sysmem_alloc.specs.Decision.{Claimed}
 use Rattle.sysmem_alloc.specs.Entry.{Decided}
 use Rattle.sysmem_alloc.specs.History.{Allows}
 use Rattle.sysmem_alloc.specs.Marks.{ready_unmarked}
@@ -25,14 +25,14 @@ removed (x ∷ xs) = refl
 
 pub decided-requires : goal.decided-requires
 decided-requires c =
-    let d : Decision = record { domain = c.args.domain; verdict = option_map (λ shared. arc_value shared) c.args.verdict } in
-    let ok = subst (λ b. Allows b.platform b.state (Decided d)) (sym c.self.view_is) (c.requires.next, if_map (λ shared. arc_value shared) _ c.args.verdict c.requires.optimal) in
+    let d : Claimed = record { domain = c.args.domain; claim = option_map (λ shared. arc_value shared) c.args.claim } in
+    let ok = subst (λ b. Allows b.platform b.state (Decided d)) (sym c.self.view_is) (c.requires.next, if_map (λ shared. arc_value shared) _ c.args.claim c.requires.true_of) in
     subst (IsDecidable c.self.inside.tree c.args.domain) (sym c.choices_of.ensures) (may_enter c.legal_is_sound.ensures c.one_forest.ensures _ d c.self.invariant.0 ok)
 
 pub add_ready-requires : goal.add_ready-requires
 add_ready-requires c =
-    let d : Decision = record { domain = c.args.domain; verdict = option_map (λ shared. arc_value shared) c.args.verdict } in
-    let ok = subst (λ b. Allows b.platform b.state (Decided d)) (sym c.self.view_is) (c.requires.next, if_map (λ shared. arc_value shared) _ c.args.verdict c.requires.optimal) in
+    let d : Claimed = record { domain = c.args.domain; claim = option_map (λ shared. arc_value shared) c.args.claim } in
+    let ok = subst (λ b. Allows b.platform b.state (Decided d)) (sym c.self.view_is) (c.requires.next, if_map (λ shared. arc_value shared) _ c.args.claim c.requires.true_of) in
     let tree = c.decided.ensures ∙ ap (decided c.self.inside.tree c.args.domain) c.choices_of.ensures in
     let room = subst (λ u. length (drop 1 c.self.inside.waiting.items) + length (ready_unmarked u c.ready_domains-were_ready.result 0 (roots_of u)) ≤ 128) (sym tree)
     (decided_room c.legal_is_sound.ensures c.self.inside.platform c.self.inside.tree c.self.inside.history.items c.self.inside.waiting.items c.self.inside.were_open c.ready_domains-were_ready.result d
@@ -42,30 +42,30 @@ add_ready-requires c =
 
 pub invariant_of-self : goal.invariant_of-self
 invariant_of-self c =
-    let d : Decision = record { domain = c.args.domain; verdict = option_map (λ shared. arc_value shared) c.args.verdict } in
-    let ok = subst (λ b. Allows b.platform b.state (Decided d)) (sym c.self.view_is) (c.requires.next, if_map (λ shared. arc_value shared) _ c.args.verdict c.requires.optimal) in
+    let d : Claimed = record { domain = c.args.domain; claim = option_map (λ shared. arc_value shared) c.args.claim } in
+    let ok = subst (λ b. Allows b.platform b.state (Decided d)) (sym c.self.view_is) (c.requires.next, if_map (λ shared. arc_value shared) _ c.args.claim c.requires.true_of) in
     let tree = c.decided.ensures ∙ ap (decided c.self.inside.tree c.args.domain) c.choices_of.ensures in
     let grown = c.add_ready.ensures.items
     ∙ ap (λ ys. ys ++ ready_unmarked c.decided.new.self c.ready_domains-were_ready.result 0 (roots_of c.decided.new.self)) (c.remove.ensures.items ∙ removed c.self.inside.waiting.items) in
     let shown = decided_shows c.self.inside.platform c.self.inside.tree c.decided.new.self c.self.inside.history.items c.push_reserved.new.self.items c.self.inside.waiting.items c.add_ready.new.waiting.items
-    c.self.inside.were_open c.open_nodes-self-inside.result c.ready_domains-were_ready.result (entries.Decided c.args.domain c.args.verdict) d c.self.invariant.0 ok refl (λ nodes. refl) tree
+    c.self.inside.were_open c.open_nodes-self-inside.result c.ready_domains-were_ready.result (entries.Decided c.args.domain c.args.claim) d c.self.invariant.0 ok refl (λ nodes. refl) tree
     c.push_reserved.ensures.items c.ready_domains-were_ready.ensures grown c.open_nodes-self-inside.ensures in
     (shown.book, omega (arith, c.self.invariant.1, c.push_reserved.ensures.capacity), omega (arith, c.self.invariant.2, c.remove.ensures.capacity, c.add_ready.ensures.reserved), c.self.invariant.3, c.self.invariant.4)
 
 pub returns-clause-entered : goal.returns-clause-entered
 returns-clause-entered c =
-    let d : Decision = record { domain = c.args.domain; verdict = option_map (λ shared. arc_value shared) c.args.verdict } in
-    let ok = subst (λ b. Allows b.platform b.state (Decided d)) (sym c.self.view_is) (c.requires.next, if_map (λ shared. arc_value shared) _ c.args.verdict c.requires.optimal) in
+    let d : Claimed = record { domain = c.args.domain; claim = option_map (λ shared. arc_value shared) c.args.claim } in
+    let ok = subst (λ b. Allows b.platform b.state (Decided d)) (sym c.self.view_is) (c.requires.next, if_map (λ shared. arc_value shared) _ c.args.claim c.requires.true_of) in
     let tree = c.decided.ensures ∙ ap (decided c.self.inside.tree c.args.domain) c.choices_of.ensures in
     let grown = c.add_ready.ensures.items
     ∙ ap (λ ys. ys ++ ready_unmarked c.decided.new.self c.ready_domains-were_ready.result 0 (roots_of c.decided.new.self)) (c.remove.ensures.items ∙ removed c.self.inside.waiting.items) in
     let shown = decided_shows c.self.inside.platform c.self.inside.tree c.decided.new.self c.self.inside.history.items c.push_reserved.new.self.items c.self.inside.waiting.items c.add_ready.new.waiting.items
-    c.self.inside.were_open c.open_nodes-self-inside.result c.ready_domains-were_ready.result (entries.Decided c.args.domain c.args.verdict) d c.self.invariant.0 ok refl (λ nodes. refl) tree
+    c.self.inside.were_open c.open_nodes-self-inside.result c.ready_domains-were_ready.result (entries.Decided c.args.domain c.args.claim) d c.self.invariant.0 ok refl (λ nodes. refl) tree
     c.push_reserved.ensures.items c.ready_domains-were_ready.ensures grown c.open_nodes-self-inside.ensures in
     shown.is ∙ ap (λ b. entered b (Decided d)) c.self.view_is
 
 pub returns-clause-step : goal.returns-clause-step
 returns-clause-step c = record {
-  allowed = (c.requires.next, if_map (λ shared. arc_value shared) _ c.args.verdict c.requires.optimal);
+  allowed = (c.requires.next, if_map (λ shared. arc_value shared) _ c.args.claim c.requires.true_of);
   leads = ap (λ (b : BookFacts). b.state) (returns-clause-entered c);
 }
