@@ -8,6 +8,7 @@ ghost use Rattle.sysmem_image.specs.Entries.{first_match};
 ghost use Rattle.sysmem_merge.specs.Aggregate.{AreKeptBounds, IsKept};
 ghost use Rattle.sysmem_merge.specs.declared.kept.KeptBounds.TheVariants.{Merged, Refused};
 ghost use Rattle.sysmem_merge.specs.Demands.{OfferDemand};
+ghost use Rattle.sysmem_merge.specs.Pairs.{IsMergedWith};
 ghost use Rattle.sysmem_merge.specs.Offers.{names_format, names_modifier, names_colour, is_named};
 
 use sysmem_counts::Field;
@@ -109,8 +110,22 @@ impl KeptBounds {
         }
     }
 
+    /// Keeps the bounds of one more participant's entry for the offer, whatever its colour spaces are.
+    pub(crate) fn merge(&mut self, offer: &Offer, entry: &Entry)
+        ensures merged { (b : ImageBounds) → self.old ≡ Merged b
+            → IsMergedWith offer.now entry.now b self.new }
+        ensures still { (earlier : Field) → self.old ≡ Refused earlier
+            → self.new ≡ Refused earlier }
+    {
+        if let KeptBounds::Merged(bounds) = self {
+            if let Err(field) = merge_into(bounds, entry, offer) {
+                *self = KeptBounds::Refused(field);
+            }
+        }
+    }
+
     /// Refuses the offer for a field, if it isn't refused already.
-    fn refuse(&mut self, field: Field)
+    pub(crate) fn refuse(&mut self, field: Field)
         ensures first { (bounds : ImageBounds) → self.old ≡ Merged bounds
             → self.new ≡ Refused field }
         ensures still { (earlier : Field) → self.old ≡ Refused earlier
