@@ -1,3 +1,3 @@
--- What callers need of books: that events leave the domains in their order, and marks that are set one after the other.
-pub use Rattle.sysmem_alloc.proofs.Marked.{AreSet, many_roots, none_of, set_none, set_more, set_all}
+-- What callers need of books: that events leave the domains in their order, and that each has its root.
+pub use Rattle.sysmem_alloc.proofs.Marked.{many_roots}
 pub use Rattle.sysmem_alloc.proofs.Trees.{added, acted_roots, decided_roots, domains_there}
