@@ -5,6 +5,7 @@ pub mod Soundness
 pub mod Entering
 pub mod Upwards
 pub mod Climbing
+pub mod Sweeping
 pub mod Writes
 pub mod Places
 pub mod Kids
