@@ -8,6 +8,7 @@ use Rattle.sysmem_proof.specs.Laws.{CutsLoseNothing}
 use Rattle.sysmem_proof.proofs.CallerLemmas.{whole_unmet, chosen_here}
 use Rattle.sysmem_search.specs.Live.{IsMet, choose, IsLive, IsLiveUpTo}
 use Rattle.sysmem_search.specs.Question.{Matter, forest, terms, Meets, MeetsSoFar, IsBest}
+use Rattle.sysmem_search.specs.Standing.{Standing}
 use Rattle.sysmem_search.specs.Searching.{NothingFound, FirstFound, IsFoundOf}
 use Rattle.sysmem_search.proofs.Raising.{raised_once}
 use Rattle.sysmem_search.proofs.Sofar.{Sofar, none_yet, one_more, all_gone, one_found}
@@ -106,6 +107,13 @@ at_place : {X : Type 0} (xs : List X) (c : ℕ) → c < length xs → (x : X) ×
 at_place [] c less = absurd (omega (arith, less))
 at_place (x ∷ xs) zero less = (x, refl)
 at_place (x ∷ xs) (suc c) less = at_place xs c (omega (arith, less))
+
+-- where a search stands after one choice more than before
+pub entered_at : (s t q : Standing) (c : ℕ) → s ≡ record { matter = t.matter; choices = t.choices ++ c ∷ [] } → t ≡ q → (s.matter ≡ q.matter) × (s.choices ≡ q.choices ++ c ∷ [])
+entered_at s t q c entered same = (
+  ap (λ (x : Standing). x.matter) entered ∙ ap (λ (x : Standing). x.matter) same,
+  ap (λ (x : Standing). x.choices) entered ∙ ap (λ (x : Standing). x.choices ++ c ∷ []) same,
+)
 
 -- one choice more than a list
 pub long_push : (old pushed : List ℕ) (c : ℕ) → pushed ≡ old ++ c ∷ [] → length pushed ≡ length old + 1
