@@ -2,20 +2,20 @@
 use Rattle.std.proofs.Common.{◌≡◌, ◌≤◌, ◌<◌, ℕ, ◌+◌, ◌-◌, zero, suc, List, [], ◌∷◌, ◌++◌, Option, Some, None, length, map, take, slice_get, refl, sym, ◌∙◌, ap, subst, arith, length-append, append_assoc, add-one}
 use Rattle.std.specs.Prelude.{IfSome, IsSome, option_map}
 use Rattle.std.specs.List.{AllZip, flat_map}
-use Rattle.std.proofs.lemmas.List.{append-nil, map-append, flat_map_more, take-append-le, length-take-le}
-use Rattle.std.proofs.lemmas.Option.{same_Some, none-some, slice_get_within}
+use Rattle.std.proofs.lemmas.List.{append-nil, map-append, flat_map_more}
+use Rattle.std.proofs.lemmas.Option.{same_Some, none-some}
 use Rattle.std.proofs.Math.Seq.{take-append_seam}
-use Rattle.sysmem_proof.specs.Certificate.{IsRefutation, RefutesEarlier}
+use Rattle.sysmem_proof.specs.Certificate.{IsRefutation}
 use Rattle.sysmem_proof.specs.Conflict.{IsConflictFor}
 use Rattle.sysmem_proof.specs.declared.refutation.Item.{Item}
 use Rattle.sysmem_proof.specs.declared.refutation.Item.TheVariants.{Split}
 use Rattle.sysmem_proof.proofs.CallerLemmas.{splits_refute, earlier_grows}
 use Rattle.sysmem_search.specs.declared.trail.Trail.{Trail}
 use Rattle.sysmem_search.specs.Question.{Matter, forest, terms}
-use Rattle.sysmem_search.specs.Trail.{GroupPassed, items_of, sizes_of, AddsGroups, AddsRefutation, AddsEarlier, IsLeft}
+use Rattle.sysmem_search.specs.Trail.{items_of, sizes_of, AddsRefutation, AddsEarlier}
 use Rattle.sysmem_search.proofs.AskedMembers.{if_some, of_some}
 use Rattle.sysmem_search.proofs.Finding.{Child, child}
-use Rattle.sysmem_tree.specs.Forest.{Forest, choices, settled}
+use Rattle.sysmem_tree.specs.Forest.{Forest, choices}
 use Rattle.sysmem_tree.specs.Selection.{IsPrefix, after}
 use Rattle.sysmem_tree.specs.Shape.{Member}
 

@@ -1,5 +1,5 @@
 -- One refutation more.
-use Rattle.std.proofs.Common.{[], ◌∷◌, ◌++◌, ◌+◌, length, length-append, sym, ◌∙◌, ap, subst, arith}
+use Rattle.std.proofs.Common.{[], ◌∷◌, ◌++◌, ◌+◌, length, length-append, sym, ◌∙◌, ap, arith}
 use Rattle.std.specs.Vec.Iter.{into_iter_items}
 use Rattle.sysmem_search.proofs.Pieces.{no_items, refutation_taken, size_there, all_refutations}
 use Rattle.sysmem_search.proofs.cutting.earlier_choices.Goals as goal

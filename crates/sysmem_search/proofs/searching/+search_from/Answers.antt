@@ -1,11 +1,11 @@
 -- What was found at this prefix, by what was asked and found below it.
-use Rattle.std.proofs.Common.{◌≡◌, [], ◌∷◌, ◌++◌, length, ◌≤◌, refl, sym, ◌∙◌, ap, subst, arith}
+use Rattle.std.proofs.Common.{[], ◌∷◌, ◌++◌, length, ◌≤◌, refl, sym, ◌∙◌, ap, subst, arith}
 use Rattle.std.specs.Prelude.{IfSome}
 use Rattle.sysmem_search.specs.Question.{forest}
 use Rattle.sysmem_search.specs.Searching.{IsFoundOf}
 use Rattle.sysmem_search.specs.Standing.{Standing}
 use Rattle.sysmem_search.specs.Trail.{IsLeft}
-use Rattle.sysmem_search.proofs.Finding.{whole_found, found_cut, begun, long_push, pushed_prefix, found_below, unmet_below, same_below, all_below}
+use Rattle.sysmem_search.proofs.Finding.{entered_at, whole_found, found_cut, begun, long_push, pushed_prefix, found_below, unmet_below, same_below, all_below}
 use Rattle.sysmem_search.proofs.Trailing.{no_choice_passed, choice_passed, choice_found, all_choices_passed, longer_trail}
 use Rattle.sysmem_search.proofs.Unmet.{unmet_prefix}
 use Rattle.sysmem_tree.specs.Selection.{IsPrefix, after}
@@ -34,9 +34,7 @@ refute_here-requires-clause-unmet g t c = unmet_prefix c.args.question.now.matte
 pub returns-in-Some-2-clause-trail : goal.returns-in-Some-2-clause-trail
 returns-in-Some-2-clause-trail g t c =
     let q = c.args.question.now in
-    let matter_is : c.enter.new.self.matter ≡ q.matter = ap (λ (s : Standing). s.matter) (c.in_ok-enter.ensures) ∙ ap (λ (s : Standing). s.matter) c.loop-choice.invariant.same in
-    let is : c.enter.new.self.choices ≡ q.choices ++ c.loop-choice.choice ∷ [] =
-    ap (λ (s : Standing). s.choices) c.in_ok-enter.ensures ∙ ap (λ (s : Standing). s.choices ++ c.loop-choice.choice ∷ []) c.loop-choice.invariant.same in
+    let (matter_is, is) = entered_at c.enter.new.self c.loop-choice.question q c.loop-choice.choice c.in_ok-enter.ensures c.loop-choice.invariant.same in
     let left = subst (λ x. IfSome (after (forest x) c.enter.new.self.choices) (λ e. IsLeft x e c.enter.new.self.choices c.search_from.new.question.choices c.loop-choice.trail c.search_from.new.trail c.in_ok-settings.field-0))
     matter_is c.in_ok-settings.ensures.trail in
     let left_is = subst (λ f. IfSome (after (forest q.matter) c.enter.new.self.choices) (λ e. IsLeft q.matter e c.enter.new.self.choices c.search_from.new.question.choices c.loop-choice.trail c.search_from.new.trail f)) c.in-Some-2.is left in
@@ -46,9 +44,7 @@ returns-in-Some-2-clause-trail g t c =
 pub pass_choice-requires : goal.pass_choice-requires
 pass_choice-requires g t c =
     let q = c.args.question.now in
-    let matter_is : c.enter.new.self.matter ≡ q.matter = ap (λ (s : Standing). s.matter) (c.in_ok-enter.ensures) ∙ ap (λ (s : Standing). s.matter) c.loop-choice.invariant.same in
-    let is : c.enter.new.self.choices ≡ q.choices ++ c.loop-choice.choice ∷ [] =
-    ap (λ (s : Standing). s.choices) c.in_ok-enter.ensures ∙ ap (λ (s : Standing). s.choices ++ c.loop-choice.choice ∷ []) c.loop-choice.invariant.same in
+    let (matter_is, is) = entered_at c.enter.new.self c.loop-choice.question q c.loop-choice.choice c.in_ok-enter.ensures c.loop-choice.invariant.same in
     let left = subst (λ x. IfSome (after (forest x) c.enter.new.self.choices) (λ e. IsLeft x e c.enter.new.self.choices c.search_from.new.question.choices c.loop-choice.trail c.search_from.new.trail c.in_ok-settings.field-0))
     matter_is c.in_ok-settings.ensures.trail in
     let left_is = subst (λ f. IfSome (after (forest q.matter) c.enter.new.self.choices) (λ e. IsLeft q.matter e c.enter.new.self.choices c.search_from.new.question.choices c.loop-choice.trail c.search_from.new.trail f)) c.in_default-2.is left in
@@ -70,9 +66,7 @@ enter-requires-clause-prefix g t c =
 pub search_from-requires : goal.search_from-requires
 search_from-requires g t c = λ κs out.
     let q = c.args.question.now in
-    let matter_is : c.enter.new.self.matter ≡ q.matter = ap (λ (s : Standing). s.matter) (c.in_ok-enter.ensures) ∙ ap (λ (s : Standing). s.matter) c.loop-choice.invariant.same in
-    let is : c.enter.new.self.choices ≡ q.choices ++ c.loop-choice.choice ∷ [] =
-    ap (λ (s : Standing). s.choices) c.in_ok-enter.ensures ∙ ap (λ (s : Standing). s.choices ++ c.loop-choice.choice ∷ []) c.loop-choice.invariant.same in
+    let (matter_is, is) = entered_at c.enter.new.self c.loop-choice.question q c.loop-choice.choice c.in_ok-enter.ensures c.loop-choice.invariant.same in
     let long = long_push q.choices c.enter.new.self.choices c.loop-choice.choice is in (
       omega (arith, c.decreases, long, c.in-Some.ensures.room),
       (
@@ -88,9 +82,7 @@ search_from-requires g t c = λ κs out.
 pub returns-in-Some-2-clause-found : goal.returns-in-Some-2-clause-found
 returns-in-Some-2-clause-found g t c =
     let q = c.args.question.now in
-    let matter_is : c.enter.new.self.matter ≡ q.matter = ap (λ (s : Standing). s.matter) (c.in_ok-enter.ensures) ∙ ap (λ (s : Standing). s.matter) c.loop-choice.invariant.same in
-    let is : c.enter.new.self.choices ≡ q.choices ++ c.loop-choice.choice ∷ [] =
-    ap (λ (s : Standing). s.choices) c.in_ok-enter.ensures ∙ ap (λ (s : Standing). s.choices ++ c.loop-choice.choice ∷ []) c.loop-choice.invariant.same in
+    let (matter_is, is) = entered_at c.enter.new.self c.loop-choice.question q c.loop-choice.choice c.in_ok-enter.ensures c.loop-choice.invariant.same in
     let found = subst (λ x. IfSome (after (forest x) c.enter.new.self.choices) (λ e. IsFoundOf x e c.enter.new.self.choices c.search_from.new.question.choices c.loop-choice.visits c.search_from.new.visits c.in_ok-settings.field-0))
     matter_is c.in_ok-settings.ensures.found in
     let found_is = subst (λ f. IfSome (after (forest q.matter) c.enter.new.self.choices) (λ e. IsFoundOf q.matter e c.enter.new.self.choices c.search_from.new.question.choices c.loop-choice.visits c.search_from.new.visits f)) c.in-Some-2.is found in
@@ -100,9 +92,7 @@ returns-in-Some-2-clause-found g t c =
 pub loop-choice-preserved : goal.loop-choice-preserved
 loop-choice-preserved g t c =
     let q = c.args.question.now in
-    let matter_is : c.enter.new.self.matter ≡ q.matter = ap (λ (s : Standing). s.matter) (c.in_ok-enter.ensures) ∙ ap (λ (s : Standing). s.matter) c.loop-choice.invariant.same in
-    let is : c.enter.new.self.choices ≡ q.choices ++ c.loop-choice.choice ∷ [] =
-    ap (λ (s : Standing). s.choices) c.in_ok-enter.ensures ∙ ap (λ (s : Standing). s.choices ++ c.loop-choice.choice ∷ []) c.loop-choice.invariant.same in
+    let (matter_is, is) = entered_at c.enter.new.self c.loop-choice.question q c.loop-choice.choice c.in_ok-enter.ensures c.loop-choice.invariant.same in
     let found = subst (λ x. IfSome (after (forest x) c.enter.new.self.choices) (λ e. IsFoundOf x e c.enter.new.self.choices c.search_from.new.question.choices c.loop-choice.visits c.search_from.new.visits c.in_ok-settings.field-0))
     matter_is c.in_ok-settings.ensures.found in
     let found_is = subst (λ f. IfSome (after (forest q.matter) c.enter.new.self.choices) (λ e. IsFoundOf q.matter e c.enter.new.self.choices c.search_from.new.question.choices c.loop-choice.visits c.search_from.new.visits f)) c.in_default-2.is found in
