@@ -23,3 +23,5 @@ pub mod Sofar
 pub mod AskedNodes
 pub mod FirstOnes
 pub mod TrueOfThose
+pub mod SameOffer
+pub mod FoundConflicts

@@ -1,6 +1,6 @@
 -- The participants that choices settle, by their numbers, stand for the members that they do.
 use Rattle.std.proofs.Common.{◌≡◌, ◌≢◌, ◌<◌, ◌≤◌, inl, inr, ℕ, zero, suc, Bool, true, false, List, [], ◌∷◌, ◌++◌, length, Option, Some, None, map, slice_get, refl, sym, ◌∙◌, ap, subst, arith}
-use Rattle.std.specs.Prelude.{◌||◌, All, AllPairs, filter, is_some, option_map, option_and_then, unwrap_or, IsSomeAnd, is_none}
+use Rattle.std.specs.Prelude.{◌||◌, All, AllPairs, filter, is_some, option_map, option_and_then, unwrap_or, IsSomeAnd, IfOk, Ok, Err, Result}
 use Rattle.std.proofs.Common.{eqb}
 use Rattle.std.specs.List.{AllByRecursion, IsDistinct, cons_option, list_any}
 use Rattle.std.proofs.lemmas.Bool.{cases_eq, ne_eqb}
@@ -22,6 +22,7 @@ use Rattle.sysmem_tree.specs.Shape.{Member, by_path, shape_of, members_of, parti
 use Rattle.sysmem_tree.specs.Sublist.{IsSublist, ended, taken, left_out}
 use Rattle.sysmem_tree.proofs.CallerLemmas.{AllOf, node_within, first_many}
 use Rattle.sysmem_proof.specs.Base.{IsElsewhere}
+use Rattle.sysmem_proof.specs.Found.{AreSettledAt}
 use Rattle.sysmem_proof.specs.Members.{participants, member_at, members_at}
 use Rattle.sysmem_proof.specs.Refusals.{StandFor}
 use Rattle.sysmem_proof.proofs.Growing.{sub_itself, sub_both}
@@ -214,3 +215,10 @@ module _ (nodes : List NodeFacts) (tree : IsTree nodes) (law : OnePath) where
             ∙ sym (filter_map-append (λ m. m.constraints) (members_at nodes accepted) (settled d))));
         apart = all_apart;
       }
+
+      pub settled_found : (found : List ℕ) → found ≡ participants_of nodes r cs → AreSettledAt nodes d accepted found
+      settled_found found is = subst (AreSettledAt nodes d accepted) (sym is) (record { there = all_there; few = few_there; stand = stand_for })
+
+pub if_ok : {X E : Type 0} (r : Result X E) (P Q : X → Type 0) → ((x : X) → P x → Q x) → IfOk r P → IfOk r Q
+if_ok (Ok x) P Q more h = more x h
+if_ok (Err e) P Q more h = tt

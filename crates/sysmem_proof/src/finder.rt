@@ -113,11 +113,13 @@ fn find_on_base(
     requires some { 1 ≤ base.now.settings.count }
     requires limit { base.now.settings.count ≤ 128 }
     ensures conflict { (d : Forest Member)
+        → StandFor (members_at tree.now.nodes nodes.now) (settled d)
         → StandFor (members_at tree.now.nodes (base.now.accepted ++ nodes.now))
         (members_at tree.now.nodes base.now.accepted ++ settled d)
         → IfOk result (λ found. IfSome found
         (IsFixedConflict platform.now (terms_of tree.now.nodes base.now) d)) }
     ensures none { (d : Forest Member)
+        → StandFor (members_at tree.now.nodes nodes.now) (settled d)
         → StandFor (members_at tree.now.nodes (base.now.accepted ++ nodes.now))
         (members_at tree.now.nodes base.now.accepted ++ settled d)
         → IfOk result (λ found. IfNone found
