@@ -17,3 +17,11 @@ pub mod Labels
 pub mod Rolls
 pub mod OnRoll
 pub mod Numbering
+pub mod SettledNodes
+pub mod NamedLines
+pub mod Sofar
+pub mod AskedNodes
+pub mod FirstOnes
+pub mod TrueOfThose
+pub mod SameOffer
+pub mod FoundConflicts

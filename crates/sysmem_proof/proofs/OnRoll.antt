@@ -54,7 +54,7 @@ named_push ms xs p q named asks new' = (
 )
 
 -- some of both are some of one or the other
-any_parts : {X : Type 0} (P : X → Type 0) (xs ys : List X) → Any P (xs ++ ys) → Any P xs ⊎ Any P ys
+pub any_parts : {X : Type 0} (P : X → Type 0) (xs ys : List X) → Any P (xs ++ ys) → Any P xs ⊎ Any P ys
 any_parts P [] ys any = inr any
 any_parts P (x ∷ xs) ys (zero, y, less, same, p) = inl (Any-here P x xs (subst P (sym same) p))
 any_parts P (x ∷ xs) ys (suc k, y, less, same, p) = elim (any_parts P xs ys (k, y, omega (arith, less), same, p)) as (λ _. Any P (x ∷ xs) ⊎ Any P ys) [

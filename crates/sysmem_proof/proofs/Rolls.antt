@@ -25,10 +25,10 @@ use Rattle.sysmem_proof.specs.Roll.{RollFacts, listed}
 use Rattle.sysmem_proof.proofs.Labels.{IsLabel, node_asks, both_all, in_settled_by, labels_are}
 use Rattle.sysmem_proof.proofs.Naming.{asked_here, asked_later, one_path, path_itself}
 
-abbrev number : ℕ × Member → ℕ
+abbrev pub number : ℕ × Member → ℕ
 number l = l.0
 
-abbrev member : ℕ × Member → Member
+abbrev pub member : ℕ × Member → Member
 member l = l.1
 
 -- what is found of the participant with the number i, where it may be there
@@ -73,15 +73,15 @@ module _ (nodes : List NodeFacts) (tree : IsTree nodes) (law : OnePath) where
     by rest false other = asked_later l.1 (map member ls) path other ∙ rest
 
   -- nodes that are there as labels
-  abbrev label_at : (i : ℕ) → Option NodeFacts → List (ℕ × Member)
+  abbrev pub label_at : (i : ℕ) → Option NodeFacts → List (ℕ × Member)
   label_at i None = []
   label_at i (Some n) = by_both i (path_of nodes i) n ∷ []
 
-  abbrev labels_at : List ℕ → List (ℕ × Member)
+  abbrev pub labels_at : List ℕ → List (ℕ × Member)
   labels_at [] = []
   labels_at (i ∷ is) = label_at i (slice_get nodes i) ++ labels_at is
 
-  members_labelled : (is : List ℕ) → map member (labels_at is) ≡ members_at nodes is
+  pub members_labelled : (is : List ℕ) → map member (labels_at is) ≡ members_at nodes is
   members_labelled [] = refl
   members_labelled (i ∷ is) = by (slice_get nodes i) (members_labelled is) where
     by : (o : Option NodeFacts) → map member (labels_at is) ≡ members_at nodes is
@@ -89,25 +89,32 @@ module _ (nodes : List NodeFacts) (tree : IsTree nodes) (law : OnePath) where
     by None h = h
     by (Some n) h = ap (λ ms. by_path i (path_of nodes i) n ∷ ms) h
 
-  numbers_labelled : (is : List ℕ) → All (λ i. i < length nodes) is → map number (labels_at is) ≡ is
+  pub numbers_labelled : (is : List ℕ) → All (λ i. i < length nodes) is → map number (labels_at is) ≡ is
   numbers_labelled [] all = refl
   numbers_labelled (i ∷ is) all = by (slice_get nodes i) (slice_get_some nodes i (all 0 i (omega arith))).1 (numbers_labelled is (λ k d less. all (suc k) d (omega (arith, less)))) where
     by : (o : Option NodeFacts) → o ≡ Some (slice_get_some nodes i (all 0 i (omega arith))).0 → map number (labels_at is) ≡ is → map number (label_at i o ++ labels_at is) ≡ i ∷ is
     by None e h = absurd (cc)
     by (Some n) e h = ap (λ js. i ∷ js) h
 
-  all_labelled : (is : List ℕ) → All (λ i. i < length nodes) is → AllOf (IsLabel nodes) (labels_at is)
+  pub all_labelled : (is : List ℕ) → All (λ i. i < length nodes) is → AllOf (IsLabel nodes) (labels_at is)
   all_labelled [] all = tt
   all_labelled (i ∷ is) all = by (slice_get nodes i) refl (all_labelled is (λ k d less. all (suc k) d (omega (arith, less)))) where
     by : (o : Option NodeFacts) → slice_get nodes i ≡ o → AllOf (IsLabel nodes) (labels_at is) → AllOf (IsLabel nodes) (label_at i o ++ labels_at is)
     by None e h = h
-    by (Some n) e h = (record { leads = (law nodes i tree (all 0 i (omega arith))).leads; asks = ap (option_and_then (λ (x : NodeFacts). x.constraints)) e }, h)
+    by (Some n) e h = (
+      record {
+        leads = (law nodes i tree (all 0 i (omega arith))).leads;
+        asks = ap (option_and_then (λ (x : NodeFacts). x.constraints)) e;
+        shows = ap (option_map (by_path i (path_of nodes i))) e;
+      },
+      h,
+    )
 
   module _ (r : ℕ) (there : r < length nodes) (one : AreOneForest nodes r) (cs : List ℕ) where
-    abbrev both : Forest (ℕ × Member)
+    abbrev pub both : Forest (ℕ × Member)
     both = forest_of by_both nodes r (path_of nodes r)
 
-    abbrev settled_both : List (ℕ × Member)
+    abbrev pub settled_both : List (ℕ × Member)
     settled_both = unwrap_or (settled_by both cs) []
 
     mapped : {B : Type 0} (f : ℕ × Member → B) → unwrap_or (settled_by (relabel f both) cs) [] ≡ map f settled_both
@@ -116,13 +123,13 @@ module _ (nodes : List NodeFacts) (tree : IsTree nodes) (law : OnePath) where
       by None = refl
       by (Some e) = settled_relabel f e
 
-    numbers_settled : members_of nodes r cs ≡ map number settled_both
+    pub numbers_settled : members_of nodes r cs ≡ map number settled_both
     numbers_settled = ap (λ d. unwrap_or (settled_by d cs) []) (sym one.numbers) ∙ mapped number
 
-    members_settled : unwrap_or (settled_by (shape_of nodes r) cs) [] ≡ map member settled_both
+    pub members_settled : unwrap_or (settled_by (shape_of nodes r) cs) [] ≡ map member settled_both
     members_settled = ap (λ d. unwrap_or (settled_by d cs) []) (sym one.members) ∙ mapped member
 
-    all_settled : AllOf (IsLabel nodes) settled_both
+    pub all_settled : AllOf (IsLabel nodes) settled_both
     all_settled = in_settled_by (IsLabel nodes) both cs (labels_are nodes r (path_of nodes r) tree (law nodes r tree there).leads)
 
     module _ (accepted : List ℕ) (inside : All (λ i. i < length nodes) accepted) where

@@ -15,4 +15,7 @@ pub mod Finder
 pub mod Found
 pub mod Roll
 pub mod EachLine
+pub mod Whom
+pub mod Refusals
+pub mod Reading
 pub mod Fault
