@@ -1,1 +1,4 @@
+pub mod BoundsLemmas
+pub mod Members
+pub mod Names
 pub mod Putting

@@ -14,7 +14,11 @@ mod line;
 mod member;
 mod part;
 mod path;
+mod reading;
 mod settings;
+mod unread;
 mod writer;
 
+pub use claim::read_proof;
+pub use unread::Unread;
 pub use writer::CertificateWriter;

@@ -2,18 +2,29 @@
 
 ghost use Rattle.certificate_text.specs.Certificate.{Puts, PutsMember};
 ghost use Rattle.certificate_text.specs.Told.{list_data};
+ghost use Rattle.certificate_text.specs.Reading.{Says};
 ghost use Rattle.serde_json.specs.Data.{Data};
+ghost use Rattle.serde_json.specs.View.{view};
+ghost use Rattle.std.specs.Prelude.{Option};
 
+use crate::unread::Unread;
 use json::Writer;
-use std::alloc::AllocError;
+use serde_json::Value;
+use std::alloc::{AllocError, Global};
 
 /// A part of a certificate, which stands for JSON data.
-pub(crate) trait Part: Sized {
+pub(crate) trait Part: Sized + Drop {
     ghost told: { Self → Data };
+
+    ghost said: { Data → Option Self };
 
     /// Puts it behind what is written. The text is one to write a path in.
     fn put(&self, out: &mut Writer, text: &mut String) -> Result<(), AllocError>
         ensures { Puts result out.old out.new (told self.now) };
+
+    /// Reads it from a value.
+    fn read(alloc: Global, value: &Value) -> Result<Self, Unread>
+        ensures { Says result (said (view value.now)) };
 }
 
 /// Puts a list of parts behind what is written.
