@@ -14,4 +14,5 @@ pub mod Cannot
 pub mod Finder
 pub mod Roll
 pub mod EachLine
+pub mod Checker
 pub mod Fault

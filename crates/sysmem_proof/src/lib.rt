@@ -8,6 +8,7 @@
 mod asked;
 mod base;
 mod certificate;
+mod checker;
 mod conflict;
 mod fixed_faults;
 pub mod laws;
