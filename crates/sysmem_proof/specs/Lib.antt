@@ -13,6 +13,7 @@ pub mod Claim
 pub mod Cannot
 pub mod Finder
 pub mod Roll
+pub mod Fault
 pub mod EachLine
 pub mod Checker
-pub mod Fault
+pub mod Walk
