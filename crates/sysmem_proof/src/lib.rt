@@ -11,6 +11,7 @@ mod certificate;
 mod checker;
 mod conflict;
 mod conflict_faults;
+mod earlier;
 mod fixed_faults;
 pub mod laws;
 mod line;
@@ -21,6 +22,7 @@ mod no;
 mod offer_lines;
 mod place_lines;
 mod refutation;
+mod refutations;
 mod roll;
 mod verdict;
 
