@@ -19,3 +19,5 @@ pub mod Whom
 pub mod Refusals
 pub mod Reading
 pub mod Fault
+pub mod Checker
+pub mod Walk
