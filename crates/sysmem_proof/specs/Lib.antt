@@ -12,6 +12,7 @@ pub mod Check
 pub mod Claim
 pub mod Cannot
 pub mod Finder
+pub mod Found
 pub mod Roll
 pub mod EachLine
 pub mod Fault

@@ -8,6 +8,7 @@ use Rattle.sysmem_proof.specs.Laws.{CutsLoseNothing}
 use Rattle.sysmem_proof.proofs.CallerLemmas.{whole_unmet, chosen_here}
 use Rattle.sysmem_search.specs.Live.{IsMet, choose, IsLive, IsLiveUpTo}
 use Rattle.sysmem_search.specs.Question.{Matter, forest, terms, Meets, MeetsSoFar, IsBest}
+use Rattle.sysmem_search.specs.Standing.{Standing}
 use Rattle.sysmem_search.specs.Searching.{NothingFound, FirstFound, IsFoundOf}
 use Rattle.sysmem_search.proofs.Raising.{raised_once}
 use Rattle.sysmem_search.proofs.Sofar.{Sofar, none_yet, one_more, all_gone, one_found}
@@ -107,6 +108,13 @@ at_place [] c less = absurd (omega (arith, less))
 at_place (x ∷ xs) zero less = (x, refl)
 at_place (x ∷ xs) (suc c) less = at_place xs c (omega (arith, less))
 
+-- where a search stands after one choice more than before
+pub entered_at : (s t q : Standing) (c : ℕ) → s ≡ record { matter = t.matter; choices = t.choices ++ c ∷ [] } → t ≡ q → (s.matter ≡ q.matter) × (s.choices ≡ q.choices ++ c ∷ [])
+entered_at s t q c entered same = (
+  ap (λ (x : Standing). x.matter) entered ∙ ap (λ (x : Standing). x.matter) same,
+  ap (λ (x : Standing). x.choices) entered ∙ ap (λ (x : Standing). x.choices ++ c ∷ []) same,
+)
+
 -- one choice more than a list
 pub long_push : (old pushed : List ℕ) (c : ℕ) → pushed ≡ old ++ c ∷ [] → length pushed ≡ length old + 1
 long_push old pushed c is = ap length is ∙ length-append old (c ∷ [])
@@ -126,16 +134,16 @@ front_same (a ∷ xs) (b ∷ ys) x y e = rw (heads a b (xs ++ x ∷ []) (ys ++ y
 module _ (m : Matter) (old pushed : List ℕ) (c n from : ℕ) (prefix : IsPrefix (forest m) old) (less : c < n) (is : pushed ≡ old ++ c ∷ [])
     (many : IfSome (after (forest m) old) (λ d. option_map length (choices d) ≡ Some n)) where
   -- the forest after the choices, its alternatives, and the one that is chosen
-  record Child : Type 0 where
-    forest_here : Forest Member
-    leads : after (forest m) old ≡ Some forest_here
-    alternatives : List (Forest Member)
-    open' : choices forest_here ≡ Some alternatives
-    child : Forest Member
-    here : slice_get alternatives c ≡ Some child
-    goes_on : after (forest m) pushed ≡ Some child
+  pub record Child : Type 0 where
+    pub forest_here : Forest Member
+    pub leads : after (forest m) old ≡ Some forest_here
+    pub alternatives : List (Forest Member)
+    pub open' : choices forest_here ≡ Some alternatives
+    pub child : Forest Member
+    pub here : slice_get alternatives c ≡ Some child
+    pub goes_on : after (forest m) pushed ≡ Some child
 
-  child : Child
+  pub child : Child
   child = by (after (forest m) old) refl prefix many where
     at : (d : Forest Member) → after (forest m) old ≡ Some d → (o : Option (List (Forest Member))) → choices d ≡ o → option_map length o ≡ Some n → Child
     at d leads None open' e = absurd (cc)

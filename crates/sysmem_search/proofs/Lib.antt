@@ -10,3 +10,6 @@ pub mod Taking
 pub mod Accepting
 pub mod Keeping
 pub mod Entering
+pub mod Unmet
+pub mod Trailing
+pub mod Pieces

@@ -4,3 +4,4 @@ pub mod Question
 pub mod Kept
 pub mod Standing
 pub mod Searching
+pub mod Trail

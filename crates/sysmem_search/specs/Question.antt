@@ -2,7 +2,8 @@
 use Rattle.std.specs.Prelude.{ℕ, List, Option, option_map, option_and_then, slice_get}
 use Rattle.std.specs.List.{filter_map}
 use Rattle.sysmem_proof.specs.Base.{BaseFacts, Terms, terms_of, IsGivenBase}
-use Rattle.sysmem_proof.specs.Verdict.{Meeting, MeetsFor, MeetsLooselyFor, IsBestFor}
+use Rattle.sysmem_merge.specs.declared.settings.Settings.{Settings}
+use Rattle.sysmem_proof.specs.Verdict.{Meeting, MeetsFor, MeetsLooselyFor, MeetsSettled, IsBestFor}
 use Rattle.sysmem_sanitise.specs.Participant.{Participant}
 use Rattle.sysmem_sanitise.specs.Platform.{PlatformFacts}
 use Rattle.sysmem_tree.specs.Forest.{Forest}
@@ -31,6 +32,10 @@ Meets m = MeetsFor m.platform (terms m)
 -- settings that meet members as long as more may come
 abbrev pub MeetsSoFar : Matter → Meeting
 MeetsSoFar m = MeetsLooselyFor m.platform (terms m)
+
+-- settings that meet what choices have settled, whether or not a group is left
+abbrev pub MeetsHere : Matter → Forest Member → Settings → Type 0
+MeetsHere m = MeetsSettled m.platform (terms m)
 
 -- the best settings for the members of a selection
 abbrev pub IsBest : Matter → Meeting

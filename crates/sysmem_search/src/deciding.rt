@@ -2,6 +2,7 @@
 
 ghost use Rattle.std.specs.Prelude.{◌≡◌, true, option_map, IfOk};
 ghost use Rattle.sysmem_proof.specs.Base.{IsGivenBase};
+ghost use Rattle.sysmem_proof.specs.Claim.{IsProofIn};
 ghost use Rattle.sysmem_proof.specs.Verdict.{IsOptimalIn};
 ghost use Rattle.sysmem_search.specs.Visits.{AreVisitsIn};
 ghost use Rattle.sysmem_tree.specs.Domain.{HasDomain, is_ready};
@@ -9,8 +10,9 @@ ghost use Rattle.sysmem_tree.specs.Domain.{HasDomain, is_ready};
 use crate::gate::Gate;
 use crate::question::Question;
 use crate::searching::search_from;
+use crate::trail::Trail;
 use std::alloc::{AllocError, Global};
-use sysmem_proof::{Base, Chosen, Verdict};
+use sysmem_proof::{Base, Certificate, Chosen, Proof, Verdict, lines_before};
 use sysmem_sanitise::Platform;
 use sysmem_tree::{DomainId, Tree};
 
@@ -22,15 +24,17 @@ pub const MOST_SELECTIONS: u64 = 4096;
 pub struct Found {
     /// `Chosen`, `IntersectionEmpty` or `TooMany`.
     pub verdict: Verdict,
+    /// What proves it.
+    pub proof: Proof,
     /// How many prefixes were visited, the empty one included; at most `u64::MAX`.
     pub visits: u64,
 }
 
 /// Decides a domain of the tree that is ready, for an attached one on the base that is given: the first selection that any settings meet,
-/// with the best settings for it. Where there are more than 4,096 selections it answers `TooMany`, and visits none. It goes through
-/// prefixes of choices, the first child first, and not beyond one of which nothing meets the settled participants; that
-/// nobody names an image's format, modifier or colour space is asked of whole selections alone. The gate is told of each visit.
-/// `AllocError` where memory is refused.
+/// with the best settings for it, and what proves that. Where there are more than 4,096 selections it answers `TooMany`, and visits none. It
+/// goes through prefixes of choices, the first child first, and not beyond one of which nothing meets the settled participants, where it
+/// leaves a conflict; that nobody names an image's format, modifier or colour space is asked of whole selections alone. The gate is told of
+/// each visit. `AllocError` where memory is refused.
 pub fn search<G: Gate>(
     alloc: Global,
     platform: &Platform,
@@ -46,6 +50,9 @@ pub fn search<G: Gate>(
     ensures optimal { IfOk result (λ found.
         IsOptimalIn platform.now tree.now.nodes domain (option_map (λ b. b.now) base.entry)
         found.verdict) }
+    ensures proved { IfOk result (λ found.
+        IsProofIn platform.now tree.now.nodes domain (option_map (λ b. b.now) base.entry)
+        found.verdict found.proof) }
     ensures visits { IfOk result (λ found.
         AreVisitsIn platform.now tree.now.nodes domain (option_map (λ b. b.now) base.entry) found.verdict
         found.visits) }
@@ -53,19 +60,26 @@ pub fn search<G: Gate>(
     if tree.count_selections(domain) > MOST_SELECTIONS {
         return Ok(Found {
             verdict: Verdict::TooMany,
+            proof: Proof::Nothing,
             visits: 0,
         });
     }
     let mut question = Question::new(alloc, platform, tree, domain, base)?;
     let mut visits = 0;
-    let Some(settings) = search_from(&mut question, gate, &mut visits)? else {
+    let mut trail = Trail::new(alloc);
+    let Some(settings) = search_from(&mut question, gate, &mut visits, &mut trail)? else {
         return Ok(Found {
             verdict: Verdict::IntersectionEmpty,
+            proof: Proof::Empty(trail.into_refutation()),
             visits,
         });
     };
+    let selection = question.into_prefix();
+    let earlier = trail.into_earlier(alloc, &selection)?;
+    let lines = lines_before(alloc, platform, tree, domain, base, &selection, &settings)?;
     Ok(Found {
-        verdict: Verdict::Chosen(Chosen::new(question.into_prefix(), settings)),
+        verdict: Verdict::Chosen(Chosen::new(selection, settings)),
+        proof: Proof::Choice(Certificate::new(earlier, lines.offers, lines.places)),
         visits,
     })
 }

@@ -5,6 +5,7 @@
 //! ```
 #![tactic(auto)]
 
+mod cutting;
 mod deciding;
 mod gate;
 mod kept;
@@ -13,6 +14,7 @@ mod on_base;
 mod question;
 mod searching;
 mod settling;
+mod trail;
 
 pub use deciding::{Found, MOST_SELECTIONS, search};
 pub use gate::{Gate, NoGate};

@@ -3,7 +3,8 @@
 ghost use Rattle.std.specs.Prelude.{◌≡◌, ◌≤◌, ◌<◌, ◌↔◌, ◌++◌, [], ◌∷◌, ℕ, List, length, option_map, IfOk, IfSome, IsTrue, MatchOption, OnOk};
 ghost use Rattle.sysmem_merge.specs.declared.settings.Settings.{Settings as Settled};
 ghost use Rattle.sysmem_search.specs.Live.{IsMet};
-ghost use Rattle.sysmem_search.specs.Question.{forest, Meets, MeetsSoFar, IsBest};
+ghost use Rattle.sysmem_proof.specs.Conflict.{IsConflictFor};
+ghost use Rattle.sysmem_search.specs.Question.{forest, terms, Meets, MeetsHere, MeetsSoFar, IsBest};
 ghost use Rattle.sysmem_search.specs.Standing.{Standing};
 ghost use Rattle.sysmem_tree.specs.Forest.{choices, settled};
 ghost use Rattle.sysmem_tree.specs.Selection.{IsPrefix, after};
@@ -14,7 +15,7 @@ use std::alloc::{AllocError, Global};
 use std::marker::Model;
 use sysmem_merge::Settings;
 use sysmem_merge::laws::sums_in_any_order;
-use sysmem_proof::Base;
+use sysmem_proof::{Base, Conflict, find_conflict};
 use sysmem_sanitise::Platform;
 use sysmem_tree::layout_laws::{choice_settles_share, none_open_is_selection};
 use sysmem_tree::{DomainId, Layout, Prefix, Tree};
@@ -151,6 +152,28 @@ impl<'a> Question<'a> {
     {
         let level = &self.levels[self.prefix.choices().len()];
         level.kept.best(self.platform, self.base)
+    }
+
+    /// A conflict of the participants that the choices settle, where no settings meet them.
+    pub(crate) fn conflict(&self) -> Result<Conflict, AllocError>
+        requires prefix { IsPrefix (forest self.now.matter) self.now.choices }
+        requires unmet { IfSome (after (forest self.now.matter) self.now.choices)
+            (λ d. (t : Settled) → ¬ (MeetsHere self.now.matter d t)) }
+        ensures { IfOk result (λ conflict. IfSome (after (forest self.now.matter) self.now.choices)
+            (λ d. IsConflictFor self.now.matter.platform (terms self.now.matter) d conflict)) }
+    {
+        let found = find_conflict(
+            self.alloc,
+            self.platform,
+            self.tree,
+            self.domain,
+            self.base,
+            &self.prefix,
+        )?;
+        match found {
+            Some(conflict) => Ok(conflict),
+            None => unreachable!(),
+        }
     }
 
     /// Makes one choice more. It takes memory where a choice of this child, or so many choices, are made for the first time.

@@ -1,0 +1,15 @@
+-- What a finder is given, and what it gives.
+use Rattle.std.specs.Prelude.{◌≡◌, ℕ, List, Option, MatchOption}
+use Rattle.sysmem_merge.specs.declared.settings.Settings.{Settings}
+use Rattle.sysmem_sanitise.specs.Platform.{PlatformFacts}
+use Rattle.sysmem_tree.specs.Forest.{Forest, settled}
+use Rattle.sysmem_tree.specs.Selection.{IsSelection}
+use Rattle.sysmem_tree.specs.Shape.{Member}
+use Rattle.sysmem_proof.specs.Base.{Terms}
+use Rattle.sysmem_proof.specs.Verdict.{IsBestFor}
+
+-- the choices are a selection, for whose members the settings are the best
+pub record IsBestChoice (platform : PlatformFacts) (terms : Option Terms) (d : Forest Member) (selection : List ℕ) (s : Settings) : Type 0 where
+  pub members : Forest Member
+  pub selects : IsSelection d selection members
+  pub best : IsBestFor platform terms (settled members) s

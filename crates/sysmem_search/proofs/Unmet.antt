@@ -1,0 +1,60 @@
+-- Where no settings meet what is settled.
+use Rattle.std.proofs.Common.{◌≡◌, ℕ, Bool, true, false, List, Option, Some, None, length, refl, subst}
+use Rattle.std.specs.Prelude.{◌↔◌, IfSome, IfNone, IsTrue, MatchOption, is_none, option_map}
+use Rattle.sysmem_merge.specs.declared.settings.Settings.{Settings}
+use Rattle.sysmem_merge.specs.Settings.{MeetsAs}
+use Rattle.sysmem_proof.specs.Base.{Terms}
+use Rattle.sysmem_proof.specs.declared.conflict.Conflict.{Conflict}
+use Rattle.sysmem_proof.specs.Members.{participants}
+use Rattle.sysmem_proof.specs.Verdict.{MeetsFor, MeetsLooselyFor, MeetsSettled}
+use Rattle.sysmem_search.specs.Live.{IsMet}
+use Rattle.sysmem_search.specs.Question.{Matter, forest, terms, Meets, MeetsHere, MeetsSoFar, IsBest}
+use Rattle.sysmem_search.proofs.AskedMembers.{if_some, of_some, some_of}
+use Rattle.sysmem_tree.specs.Forest.{Forest, choices, settled}
+use Rattle.sysmem_tree.specs.Selection.{IsPrefix, after}
+use Rattle.sysmem_tree.specs.Shape.{Member}
+
+-- settings that meet a selection are those that meet what is settled there
+none_at_selection : (m : Matter) (d : Forest Member) → choices d ≡ None → ((t : Settings) → ¬ (MeetsFor m.platform (terms m) (settled d) t)) → (t : Settings) → ¬ (MeetsSettled m.platform (terms m) d t)
+none_at_selection m d none unmet = by (terms m) unmet where
+  by : (o : Option Terms) → ((t : Settings) → ¬ (MeetsFor m.platform o (settled d) t)) → (t : Settings) → ¬ (MeetsSettled m.platform o d t)
+  by None unmet t met = unmet t (subst (λ x. MeetsAs (is_none x) m.platform (participants (settled d)) t) none met)
+  by (Some terms) unmet t met = unmet t met
+
+-- and before a group that is left, those that meet it but for names
+none_before : (m : Matter) (d : Forest Member) (es : List (Forest Member)) → choices d ≡ Some es → ((t : Settings) → ¬ (MeetsLooselyFor m.platform (terms m) (settled d) t))
+    → (t : Settings) → ¬ (MeetsSettled m.platform (terms m) d t)
+none_before m d es open' unmet = by (terms m) unmet where
+  by : (o : Option Terms) → ((t : Settings) → ¬ (MeetsLooselyFor m.platform o (settled d) t)) → (t : Settings) → ¬ (MeetsSettled m.platform o d t)
+  by None unmet t met = unmet t (subst (λ x. MeetsAs (is_none x) m.platform (participants (settled d)) t) open' met)
+  by (Some terms) unmet t met = unmet t met
+
+
+-- where no settings are best for a selection, none meet it
+pub unmet_selection : (m : Matter) (o : Option (Forest Member)) (best : Option Settings) → best ≡ None → IfSome o (λ d. choices d ≡ None)
+    → IfSome o (λ d. MatchOption best ((t : Settings) → ¬ (Meets m (settled d) t)) (IsBest m (settled d))) → IfSome o (λ d. (t : Settings) → ¬ (MeetsHere m d t))
+unmet_selection m o best none whole asked = if_some _ o (λ d here.
+    none_at_selection m d (of_some (λ x. choices x ≡ None) o d here whole)
+    (subst (λ b. MatchOption b ((t : Settings) → ¬ (Meets m (settled d) t)) (IsBest m (settled d))) none
+    (of_some (λ x. MatchOption best ((t : Settings) → ¬ (Meets m (settled x) t)) (IsBest m (settled x))) o d here asked)))
+
+-- where what is settled before a group can't be met, none meet it
+pub unmet_prefix : (m : Matter) (o : Option (Forest Member)) (n : ℕ) (met : Bool) → met ≡ false → IfSome o (λ d. option_map length (choices d) ≡ Some n)
+    → IfSome o (λ d. IsTrue met ↔ IsMet (MeetsSoFar m) d) → IfSome o (λ d. (t : Settings) → ¬ (MeetsHere m d t))
+unmet_prefix m o n met no' many asked = if_some _ o (λ d here. by d (choices d) refl (of_some (λ x. option_map length (choices x) ≡ Some n) o d here many)
+    (of_some (λ x. IsTrue met ↔ IsMet (MeetsSoFar m) x) o d here asked)) where
+  not_true : (b : Bool) → b ≡ false → IsTrue b → ⊥
+  not_true true e h = absurd (cc)
+  not_true false e h = absurd (cc)
+
+  by : (d : Forest Member) (es : Option (List (Forest Member))) → choices d ≡ es → option_map length es ≡ Some n → (IsTrue met ↔ IsMet (MeetsSoFar m) d) → (t : Settings) → ¬ (MeetsHere m d t)
+  by d None open' e asked = absurd (cc)
+  by d (Some es) open' e asked = none_before m d es open' (λ t meets. not_true met no' (asked.1 (t, meets)))
+
+-- then there is a conflict
+pub no_conflict : (m : Matter) (cs : List ℕ) (found : Option Conflict) → IsPrefix (forest m) cs → found ≡ None → IfSome (after (forest m) cs) (λ d. (t : Settings) → ¬ (MeetsHere m d t))
+    → ((d : Forest Member) → after (forest m) cs ≡ Some d → IfNone found ((t : Settings) × MeetsHere m d t)) → ⊥
+no_conflict m cs found prefix none unmet met =
+    let (d, leads) = some_of (after (forest m) cs) prefix in
+    let (t, meets) = subst (λ o. IfNone o ((t : Settings) × MeetsHere m d t)) none (met d leads) in
+    of_some (λ x. (t : Settings) → ¬ (MeetsHere m x t)) (after (forest m) cs) d leads unmet t meets

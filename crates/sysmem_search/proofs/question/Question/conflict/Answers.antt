@@ -1,0 +1,27 @@
+-- A finder finds none only where some settings meet.
+use Rattle.std.proofs.Common.{sym, subst}
+use Rattle.std.specs.Prelude.{IfSome, option_map}
+use Rattle.sysmem_merge.specs.declared.settings.Settings.{Settings}
+use Rattle.sysmem_proof.specs.Conflict.{IsConflictFor}
+use Rattle.sysmem_search.specs.Question.{Matter, forest, terms, MeetsHere}
+use Rattle.sysmem_search.proofs.AskedMembers.{if_some}
+use Rattle.sysmem_search.proofs.Unmet.{no_conflict}
+use Rattle.sysmem_tree.specs.Selection.{IsPrefix, after}
+use Rattle.sysmem_search.proofs.question.Question.conflict.Goals as goal
+
+pub find_conflict-requires-clause-prefix : goal.find_conflict-requires-clause-prefix
+find_conflict-requires-clause-prefix c = subst (λ s. IsPrefix (forest s.matter) s.choices) (sym c.self.view_is) c.requires.prefix
+
+pub unreachable-requires : goal.unreachable-requires
+unreachable-requires c =
+    let m : Matter = record { platform = c.self.inside.platform.now; nodes = c.self.inside.tree.now.nodes; domain = c.self.inside.domain; base = option_map (λ b. b.now) c.self.inside.base } in
+    let prefix = subst (λ s. IsPrefix (forest s.matter) s.choices) (sym c.self.view_is) c.requires.prefix in
+    let unmet = subst (λ s. IfSome (after (forest s.matter) s.choices) (λ d. (t : Settings) → ¬ (MeetsHere s.matter d t))) (sym c.self.view_is) c.requires.unmet in
+    no_conflict m c.self.inside.prefix c.in_ok-found.found prefix c.in-None.is unmet c.in_ok-found.ensures.none
+
+pub returns : goal.returns
+returns c =
+    let m : Matter = record { platform = c.self.inside.platform.now; nodes = c.self.inside.tree.now.nodes; domain = c.self.inside.domain; base = option_map (λ b. b.now) c.self.inside.base } in
+    subst (λ s. IfSome (after (forest s.matter) s.choices) (λ d. IsConflictFor s.matter.platform (terms s.matter) d c.in-Some.conflict)) c.self.view_is
+    (if_some (λ d. IsConflictFor m.platform (terms m) d c.in-Some.conflict) (after (forest m) c.self.inside.prefix) (λ d leads.
+    subst (λ o. IfSome o (IsConflictFor m.platform (terms m) d)) c.in-Some.is (c.in_ok-found.ensures.conflict d leads)))
