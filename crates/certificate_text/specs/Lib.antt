@@ -1,0 +1,4 @@
+pub mod Paths
+pub mod Bounds
+pub mod Told
+pub mod Certificate
