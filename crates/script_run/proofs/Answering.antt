@@ -11,6 +11,7 @@ use Rattle.sysmem_sanitise.specs.declared.fault.Code.TheVariants.{WantOfMemory}
 use Rattle.sysmem_sanitise.specs.Faults.{lack_of}
 use Rattle.sysmem_sanitise.specs.Participant.{Participant}
 use Rattle.sysmem_sanitise.specs.Reading.{participant_of, participant_with}
+use Rattle.sysmem_sanitise.specs.Platform.{PlatformFacts}
 use Rattle.sysmem_tree.specs.declared.refusal.Refusal.{Refusal}
 use Rattle.sysmem_tree.specs.declared.refusal.Refusal.TheVariants as refusals
 use Rattle.sysmem_tree.specs.ActionKind.{Deed}
@@ -23,9 +24,9 @@ use Rattle.script_run.specs.declared.reply.Reply.{Reply}
 use Rattle.script_run.specs.declared.reply.Reply.TheVariants.{Accepted, Refused, Misread, Skipped}
 use Rattle.script_run.specs.Answer.{Asks, to_set, Replies, skips, misreads, starves, lacks, refuses, accepts, is_want}
 use Rattle.script_run.specs.Lines.{call_line}
-use Rattle.script_run.specs.Report.{GoesIn, calls, call_lines, failed_lines}
+use Rattle.script_run.specs.Report.{Gave, GoesIn, RepliesIn, calls, call_lines, failed_lines}
 use Rattle.script_run.specs.State.{State, tree_of, acted, named, node_named, unmade}
-use Rattle.script_run.proofs.Following.{state_at}
+use Rattle.script_run.proofs.Following.{replies_platform, state_at}
 
 pub skipped_as : (s t : State) (r : CallFacts) → node_named s r ≡ None → t ≡ unmade s r.act → Replies s r Skipped t
 skipped_as s t r none e = rw e (skips none)
@@ -76,21 +77,26 @@ pub misread_as : (s t : State) (r : CallFacts) (k : ℕ) (d : Data) (fault : Fau
     → Replies s r (Misread fault) t
 misread_as s t r k d fault here act said wanting e = by_code s t r k d fault (is_want fault.code) here act said wanting refl e
 
-four_texts : (a b c d w x y : List ℕ) → b ≡ a ++ w → c ≡ b ++ x → d ≡ c ++ y → d ≡ a ++ ((w ++ x) ++ y)
-four_texts a b c d w x y e f g =
-    g ∙ (ap (λ z. z ++ y) (f ∙ ap (λ z. z ++ x) e) ∙ (ap (λ z. z ++ y) (append_assoc a w x) ∙ append_assoc a (w ++ x) y))
+-- a reply with the domains that the call made fail
+pub replies_as : (number : ℕ) (s : State) (r : CallFacts) (t : State) (before between after : List ℕ) (reply : Reply)
+    → Replies s r reply t → between ≡ before ++ call_line number r reply → after ≡ between ++ failed_lines (tree_of s) (tree_of t) → RepliesIn number s r t before after
+replies_as number s r t before between after reply answered e f = record {
+  reply = reply;
+  replies = answered;
+  put = f ∙ (ap (λ ts. ts ++ failed_lines (tree_of s) (tree_of t)) e ∙ append_assoc before (call_line number r reply) (failed_lines (tree_of s) (tree_of t)));
+}
 
--- a reply, the domains that the call made fail and what follows are what a call makes
-pub takes_as : (number : ℕ) (s : State) (r : CallFacts) (mid t : State) (before between then_on after : List ℕ) (reply : Reply) → next_ready s.book ≡ None
-    → Replies s r reply mid → between ≡ before ++ call_line number r reply → then_on ≡ between ++ failed_lines (tree_of s) (tree_of mid)
-    → ((k : ℕ) → GoesIn k mid [] t then_on after) → GoesIn number s (r ∷ []) t before after
-takes_as number s r mid t before between then_on after reply idle answered e f followed =
-    let on = followed (number + 1) in
+-- with what follows they are what a call makes
+pub takes_as : (number : ℕ) (s : State) (r : CallFacts) (mid t : State) (before between after : List ℕ) (H K : PlatformFacts → Gave) → next_ready s.book ≡ None
+    → RepliesIn number s r mid before between → ((k : ℕ) → GoesIn k mid [] t between after (H mid.platform) (K mid.platform)) → GoesIn number s (r ∷ []) t before after (H s.platform) (K s.platform)
+takes_as number s r mid t before between after H K idle replied followed =
+    let on = subst (λ p. GoesIn (number + 1) mid [] t between after (H p) (K p)) (replies_platform s mid r replied.reply replied.replies) (followed (number + 1)) in
     record {
-      lines = call_lines number s r reply mid ++ on.lines;
+      lines = call_lines number s r replied.reply mid ++ on.lines;
       decisions = on.decisions;
-      goes = calls number s mid t r [] reply on.lines on.decisions idle answered on.goes;
-      put = four_texts before between then_on after (call_line number r reply) (failed_lines (tree_of s) (tree_of mid)) on.lines e f on.put;
+      goes = calls number s mid t r [] replied.reply on.lines on.decisions idle replied.replies on.goes;
+      put = on.put ∙ (ap (λ ts. ts ++ on.lines) replied.put ∙ append_assoc before (call_lines number s r replied.reply mid) on.lines);
+      gave = on.gave;
     }
 
 -- constraints that were read but for which memory was refused

@@ -4,8 +4,8 @@ use Rattle.std.specs.Prelude.{is_none, option_map}
 use Rattle.sysmem_alloc.specs.Book.{BookFacts, IsBook, entered}
 use Rattle.sysmem_alloc.specs.Decision.{Claimed, Decision, answer_of, choices_of}
 use Rattle.sysmem_alloc.specs.Entry.{Decided}
-use Rattle.sysmem_alloc.specs.History.{Allows}
 use Rattle.sysmem_alloc.specs.Laws.{FewEntries}
+use Rattle.sysmem_sanitise.specs.Platform.{PlatformFacts}
 use Rattle.sysmem_tree.specs.Domain.{TreeFacts, IsSoundTree}
 use Rattle.sysmem_tree.specs.Path.{path_of}
 use Rattle.script_reading.specs.Script.{CallFacts}
@@ -13,7 +13,7 @@ use Rattle.script_run.specs.declared.reply.Reply.{Reply}
 use Rattle.script_run.specs.Answer.{Replies, skips, misreads, starves, lacks, refuses, accepts, tells}
 use Rattle.script_run.specs.Lines.{domain_line}
 use Rattle.script_run.specs.Marks.{AreMarksOf, failed_at}
-use Rattle.script_run.specs.Report.{Certified, DecidesIn, Goes, GoesIn, Tells, calls, call_lines, certified, decided, decides, decision_lines, failed_lines, stays}
+use Rattle.script_run.specs.Report.{Certified, DecidesIn, EntersIn, Gave, Goes, GoesIn, Tells, calls, call_lines, certified, decided, decides, decision_lines, failed_lines, stays}
 use Rattle.script_run.specs.State.{State, tree_of}
 use Rattle.script_run.proofs.Failures.{marks_same, marks_acted, marks_decided}
 
@@ -40,14 +40,12 @@ turned a true e = sym (ap not e)
 turned a false e = sym (ap not e)
 
 -- a decision with its lines
-pub decides_as : (s t : State) (c : Claimed) (what before between after : List ℕ) (marks : List Bool) → Allows s.platform s.book (Decided c)
+pub enters_as : (s t : State) (c : Claimed) (what before between after : List ℕ) (marks : List Bool)
     → Tells s.platform (answer_of c).verdict what → between ≡ before ++ domain_line (path_of (tree_of s).nodes c.domain) what
     → ((k : ℕ) → get_or marks k false ≡ failed_at (tree_of s) k)
-    → ((old : TreeFacts) → AreMarksOf old (tree_of t) marks → after ≡ between ++ failed_lines old (tree_of t)) → t ≡ decided s (answer_of c) → DecidesIn s t before after
-decides_as s t c what before between after marks allowed said line marked failed is = record {
-  claimed = c;
+    → ((old : TreeFacts) → AreMarksOf old (tree_of t) marks → after ≡ between ++ failed_lines old (tree_of t)) → t ≡ decided s (answer_of c) → EntersIn s t c before after
+enters_as s t c what before between after marks said line marked failed is = record {
   what = what;
-  allowed = allowed;
   tells = said;
   entered = is;
   put = all ∙ (ap (λ ts. ts ++ failed_lines (tree_of s) (tree_of (decided s d))) line
@@ -91,26 +89,49 @@ goes_on _ _ _ u _ qs _ b _ ds (decides number s t c rs what text cs allowed said
     (decides number s u c (rs ++ qs) what (text ++ b) (cs ++ ds) allowed said (goes_on number (decided s (answer_of c)) t u rs qs text b cs ds rest on))
 
 -- the same of lines that are put behind a text
-pub goes_in : (number : ℕ) (s t u : State) (rs qs : List CallFacts) (before now next : List ℕ) → GoesIn number s rs t before now → GoesIn (number + length rs) t qs u now next
-    → GoesIn number s (rs ++ qs) u before next
-goes_in number s t u rs qs before now next first on = record {
+pub goes_in : (number : ℕ) (s t u : State) (rs qs : List CallFacts) (before now next : List ℕ) (G H K : Gave) → GoesIn number s rs t before now G H → GoesIn (number + length rs) t qs u now next H K
+    → GoesIn number s (rs ++ qs) u before next G K
+goes_in number s t u rs qs before now next G H K first on = record {
   lines = first.lines ++ on.lines;
   decisions = first.decisions ++ on.decisions;
   goes = goes_on number s t u rs qs first.lines on.lines first.decisions on.decisions first.goes on.goes;
   put = on.put ∙ (ap (λ ts. ts ++ on.lines) first.put ∙ append_assoc before first.lines on.lines);
+  gave = λ cs g. subst K (append_assoc cs first.decisions on.decisions) (on.gave (cs ++ first.decisions) (first.gave cs g));
 }
 
-pub starts : (number : ℕ) (s : State) (before : List ℕ) → GoesIn number s [] s before before
-starts number s before = record { lines = []; decisions = []; goes = stays number s; put = sym (append-nil before) }
+pub starts : (number : ℕ) (s : State) (before : List ℕ) (G : Gave) → GoesIn number s [] s before before G G
+starts number s before G = record { lines = []; decisions = []; goes = stays number s; put = sym (append-nil before); gave = λ cs g. subst G (sym (append-nil cs)) g }
 
-one_decision : (number : ℕ) (s t : State) (before after : List ℕ) → DecidesIn s t before after → GoesIn number s [] t before after
-one_decision number s t before after d = record {
-  lines = decision_lines s (answer_of d.claimed) d.what ++ [];
+one_decision : (number : ℕ) (s t : State) (before after : List ℕ) (G H : Gave) → DecidesIn s t before after G H → GoesIn number s [] t before after G H
+one_decision number s t before after G H d = record {
+  lines = decision_lines s (answer_of d.claimed) d.enters.what ++ [];
   decisions = certified s d.claimed ∷ [];
-  goes = decides number s t d.claimed [] d.what [] [] d.allowed d.tells (subst (λ x. Goes number x [] [] [] t) d.entered (stays number t));
-  put = d.put ∙ ap (λ ts. before ++ ts) (sym (append-nil (decision_lines s (answer_of d.claimed) d.what)));
+  goes = decides number s t d.claimed [] d.enters.what [] [] d.allowed d.enters.tells (subst (λ x. Goes number x [] [] [] t) d.enters.entered (stays number t));
+  put = d.enters.put ∙ ap (λ ts. before ++ ts) (sym (append-nil (decision_lines s (answer_of d.claimed) d.enters.what)));
+  gave = d.gave;
 }
+
+-- a reply leaves the platform
+pub replies_platform : (s t : State) (r : CallFacts) (reply : Reply) → Replies s r reply t → t.platform ≡ s.platform
+replies_platform s _ r _ (skips none) = refl
+replies_platform s _ r _ (misreads k d fault here act read) = refl
+replies_platform s _ r _ (starves k d fault here act want lack) = refl
+replies_platform s _ r _ (lacks k d asked here act read) = refl
+replies_platform s _ r _ (refuses k deed refusal here asks why) = refl
+replies_platform s _ r _ (accepts k made deed tree here asks done) = refl
+replies_platform s _ r _ (tells k here asks) = refl
+
+-- the platform stays
+pub goes_platform : (number : ℕ) (s t : State) (rs : List CallFacts) (a : List ℕ) (cs : List Certified) → Goes number s rs a cs t → t.platform ≡ s.platform
+goes_platform _ _ _ _ _ _ (stays number s) = refl
+goes_platform _ _ _ _ _ _ (calls number s answered t r rs reply text cs idle replied rest) = goes_platform (number + 1) answered t rs text cs rest ∙ replies_platform s answered r reply replied
+goes_platform _ _ _ _ _ _ (decides number s t c rs what text cs allowed said rest) = goes_platform number (decided s (answer_of c)) t rs text cs rest
 
 -- one decision more
-pub one_more : (s t u : State) (before now next : List ℕ) → DecidesIn t u now next → ((number : ℕ) → GoesIn number s [] t before now) → (number : ℕ) → GoesIn number s [] u before next
-one_more s t u before now next d on number = goes_in number s t u [] [] before now next (on number) (one_decision (number + 0) t u now next d)
+pub one_more : (s t u : State) (before now next : List ℕ) (G : Gave) (H K : PlatformFacts → Gave) → DecidesIn t u now next (H t.platform) (K t.platform)
+    → ((number : ℕ) → GoesIn number s [] t before now G (H s.platform)) → (number : ℕ) → GoesIn number s [] u before next G (K s.platform)
+one_more s t u before now next G H K d on number =
+    let first = on number in
+    let same = goes_platform number s t [] first.lines first.decisions first.goes in
+    goes_in number s t u [] [] before now next G (H s.platform) (K s.platform) first
+    (one_decision (number + 0) t u now next (H s.platform) (K s.platform) (subst (λ p. DecidesIn t u now next (H p) (K p)) same d))

@@ -6,8 +6,10 @@ pub mod Following
 pub mod Growing
 pub mod Reaching
 pub mod Marked
+pub mod Results
 pub mod RunLemmas
 pub mod Spelling
+pub mod Stopping
 pub mod Told
 pub mod Texts
 pub mod Unique

@@ -1,43 +1,66 @@
 -- The calls so far, and one more.
-use Rattle.std.proofs.Common.{◌≡◌, ℕ, ◌+◌, ◌<◌, ◌≤◌, ◌++◌, List, [], ◌∷◌, None, drop, map, length, get_or, refl, sym, ◌∙◌, ap, subst, arith, append-nil, append_assoc, length-append}
+use Rattle.std.proofs.Common.{◌≡◌, ℕ, ◌+◌, ◌<◌, ◌≤◌, ◌++◌, List, [], ◌∷◌, None, false, drop, map, length, get_or, refl, sym, ◌∙◌, ap, subst, arith, append-nil, append_assoc, length-append}
 use Rattle.std.proofs.lemmas.List.{at_drop_more, at_drop_all, drop-map, length-map}
 use Rattle.sysmem_alloc.specs.State.{next_ready}
 use Rattle.sysmem_sanitise.specs.Platform.{PlatformFacts}
 use Rattle.script_reading.specs.declared.call.Call.{Call}
 use Rattle.script_reading.specs.Script.{CallFacts}
 use Rattle.script_reading.specs.Seen.{call_seen}
-use Rattle.script_run.specs.Report.{Certified, GoesIn, IsReport, pending_lines}
+use Rattle.script_run.specs.declared.decider.Objection.{Objection}
+use Rattle.script_run.specs.Report.{Gave, GoesIn, IsReported, pending_lines}
 use Rattle.script_run.specs.State.{State, first_state}
-use Rattle.script_run.proofs.Following.{goes_in, starts}
+use Rattle.script_run.specs.Stop.{IsStopped, Objects, StopsIn}
+use Rattle.script_run.proofs.Following.{goes_in, goes_platform, starts}
+use Rattle.script_run.proofs.Stopping.{stops_behind}
 
 -- the calls before this place were made, and lead to a state in which no domain waits
-pub record Reaches (platform : PlatformFacts) (rs : List CallFacts) (place : ℕ) (s : State) (text : List ℕ) : Type 0 where
+pub record Reaches (platform : PlatformFacts) (rs : List CallFacts) (place : ℕ) (s : State) (text : List ℕ) (old new : Gave) : Type 0 where
   pub made : List CallFacts
   pub split : rs ≡ made ++ drop place rs
   pub many : length made ≡ place
-  pub goes : GoesIn 1 (first_state platform) made s [] text
+  pub goes : GoesIn 1 (first_state platform) made s [] text old new
   pub idle : next_ready s.book ≡ None
 
-pub reaches-start : (platform : PlatformFacts) (rs : List CallFacts) (s : State) (text : List ℕ) → s ≡ first_state platform → text ≡ [] → Reaches platform rs 0 s text
-reaches-start platform rs s text is empty = subst (λ x. Reaches platform rs 0 x text) (sym is) (subst (λ ts. Reaches platform rs 0 (first_state platform) ts) (sym empty) (record {
+pub reaches-start : (platform : PlatformFacts) (rs : List CallFacts) (s : State) (text : List ℕ) (G : Gave) → s ≡ first_state platform → text ≡ [] → Reaches platform rs 0 s text G G
+reaches-start platform rs s text G is empty = subst (λ x. Reaches platform rs 0 x text G G) (sym is) (subst (λ ts. Reaches platform rs 0 (first_state platform) ts G G) (sym empty) (record {
   made = [];
   split = refl;
   many = refl;
-  goes = starts 1 (first_state platform) [];
+  goes = starts 1 (first_state platform) [] G;
   idle = refl;
 }))
 
-pub reaches-take : (platform : PlatformFacts) (rs : List CallFacts) (place : ℕ) (s t : State) (r : CallFacts) (before after : List ℕ)
-    → drop place rs ≡ r ∷ drop (place + 1) rs → GoesIn (place + 1) s (r ∷ []) t before after → next_ready t.book ≡ None
-    → Reaches platform rs place s before → Reaches platform rs (place + 1) t after
-reaches-take platform rs place s t r before after here taken idle reached =
+-- the platform is the first state's
+pub reached-platform : (platform : PlatformFacts) (rs : List CallFacts) (place : ℕ) (s : State) (text : List ℕ) (G H : Gave) → Reaches platform rs place s text G H → s.platform ≡ platform
+reached-platform platform rs place s text G H reached = goes_platform 1 (first_state platform) s reached.made reached.goes.lines reached.goes.decisions reached.goes.goes
+
+pub reaches-take : (platform : PlatformFacts) (rs : List CallFacts) (place : ℕ) (s t : State) (r : CallFacts) (before after : List ℕ) (G : Gave) (H K : PlatformFacts → Gave)
+    → drop place rs ≡ r ∷ drop (place + 1) rs → GoesIn (place + 1) s (r ∷ []) t before after (H s.platform) (K s.platform) → next_ready t.book ≡ None
+    → Reaches platform rs place s before G (H platform) → Reaches platform rs (place + 1) t after G (K platform)
+reaches-take platform rs place s t r before after G H K here taken idle reached =
     let number : place + 1 ≡ 1 + length reached.made = omega (arith, reached.many) in
+    let same = reached-platform platform rs place s before G (H platform) reached in
     record {
       made = reached.made ++ r ∷ [];
       split = reached.split ∙ (ap (λ qs. reached.made ++ qs) here ∙ sym (append_assoc reached.made (r ∷ []) (drop (place + 1) rs)));
       many = length-append reached.made (r ∷ []) ∙ ap (λ n. n + 1) reached.many;
-      goes = goes_in 1 (first_state platform) s t reached.made (r ∷ []) [] before after reached.goes (subst (λ n. GoesIn n s (r ∷ []) t before after) number taken);
+      goes = goes_in 1 (first_state platform) s t reached.made (r ∷ []) [] before after G (H platform) (K platform) reached.goes
+          (subst (λ n. GoesIn n s (r ∷ []) t before after (H platform) (K platform)) number (subst (λ p. GoesIn (place + 1) s (r ∷ []) t before after (H p) (K p)) same taken));
       idle = idle;
+    }
+
+-- an objection after them
+pub reaches-stop : (platform : PlatformFacts) (rs : List CallFacts) (place : ℕ) (s t : State) (r : CallFacts) (before : List ℕ) (G : Gave) (H K : PlatformFacts → Gave) (objects : Objects) (o : Objection)
+    → drop place rs ≡ r ∷ drop (place + 1) rs → t.starved ≡ false → StopsIn (place + 1) s (r ∷ []) t (H s.platform) (K s.platform) objects o
+    → Reaches platform rs place s before G (H platform) → IsStopped platform rs G (K platform) objects o
+reaches-stop platform rs place s t r before G H K objects o here fed stops reached =
+    let number : place + 1 ≡ 1 + length reached.made = omega (arith, reached.many) in
+    let same = reached-platform platform rs place s before G (H platform) reached in
+    record {
+      last = t;
+      stops = stops_behind (first_state platform) s t rs reached.made (r ∷ []) (drop (place + 1) rs) [] before G (H platform) (K platform) objects o (reached.split ∙ ap (λ qs. reached.made ++ qs) here) reached.goes
+          (subst (λ n. StopsIn n s (r ∷ []) t (H platform) (K platform) objects o) number (subst (λ p. StopsIn (place + 1) s (r ∷ []) t (H p) (K p) objects o) same stops));
+      fed = fed;
     }
 
 -- the call at a place, and the calls behind it
@@ -48,20 +71,22 @@ drop-call_seen calls place call within e =
     ∙ (ap (λ (c : Call). call_seen c ∷ map call_seen (drop (place + 1) calls)) (sym e) ∙ ap (λ (l : List CallFacts). call_seen call ∷ l) (sym (drop-map call_seen (place + 1) calls))))
 
 -- behind all calls the report ends
-pub reaches-end : (platform : PlatformFacts) (calls : List Call) (place : ℕ) (s : State) (before after : List ℕ) → length calls ≤ place
-    → Reaches platform (map call_seen calls) place s before → after ≡ before ++ pending_lines s.book
-    → (cs : List Certified) × IsReport platform (map call_seen calls) after cs s.starved
-reaches-end platform calls place s before after all reached e =
+pub reaches-end : (platform : PlatformFacts) (calls : List Call) (place : ℕ) (s : State) (before after : List ℕ) (G H : Gave) → length calls ≤ place → G []
+    → Reaches platform (map call_seen calls) place s before G H → after ≡ before ++ pending_lines s.book
+    → IsReported platform (map call_seen calls) H after s.starved
+reaches-end platform calls place s before after G H all given reached e =
     let none : drop place (map call_seen calls) ≡ [] = at_drop_all (λ (l : List CallFacts). l) (map call_seen calls) place (rw length-map all) in
     let whole : reached.made ≡ map call_seen calls = sym (append-nil reached.made) ∙ (ap (λ qs. reached.made ++ qs) (sym none) ∙ sym reached.split) in
-    let goes : GoesIn 1 (first_state platform) (map call_seen calls) s [] before = subst (λ qs. GoesIn 1 (first_state platform) qs s [] before) whole reached.goes in (
-      goes.decisions,
-      record {
+    let goes : GoesIn 1 (first_state platform) (map call_seen calls) s [] before G H = subst (λ qs. GoesIn 1 (first_state platform) qs s [] before G H) whole reached.goes in
+    record {
+      decisions = goes.decisions;
+      report = record {
         last = s;
         lines = goes.lines;
         goes = goes.goes;
         done = reached.idle;
         put = e ∙ ap (λ ts. ts ++ pending_lines s.book) goes.put;
         memory = refl;
-      },
-    )
+      };
+      gave = goes.gave [] given;
+    }

@@ -9,3 +9,4 @@ pub mod Report
 pub mod Run
 pub mod Runner
 pub mod State
+pub mod Stop

@@ -87,18 +87,40 @@ pub record IsReport (platform : PlatformFacts) (rs : List CallFacts) (text : Lis
   pub put : text ≡ lines ++ pending_lines last.book
   pub memory : starved ≡ last.starved
 
+-- what a decider says of the decisions that it took
+abbrev pub Gave : Type 1
+Gave = List Certified → Type 0
+
+-- a report of calls, with decisions of which this is said
+pub record IsReported (platform : PlatformFacts) (rs : List CallFacts) (says : Gave) (text : List ℕ) (starved : Bool) : Type 0 where
+  pub decisions : List Certified
+  pub report : IsReport platform rs text decisions starved
+  pub gave : says decisions
+
 -- calls and decisions from a state to another, whose lines are put behind a text
-pub record GoesIn (number : ℕ) (s : State) (rs : List CallFacts) (t : State) (before after : List ℕ) : Type 0 where
+pub record GoesIn (number : ℕ) (s : State) (rs : List CallFacts) (t : State) (before after : List ℕ) (old new : Gave) : Type 0 where
   pub lines : List ℕ
   pub decisions : List Certified
   pub goes : Goes number s rs lines decisions t
   pub put : after ≡ before ++ lines
+  pub gave : (cs : List Certified) → old cs → new (cs ++ decisions)
 
--- one decision, whose lines are put behind a text
-pub record DecidesIn (s t : State) (before after : List ℕ) : Type 0 where
-  pub claimed : Claimed
+-- a decision was entered, and its lines are put behind a text
+pub record EntersIn (s t : State) (claimed : Claimed) (before after : List ℕ) : Type 0 where
   pub what : List ℕ
-  pub allowed : Allows s.platform s.book (Decided claimed)
   pub tells : Tells s.platform (answer_of claimed).verdict what
   pub entered : t ≡ decided s (answer_of claimed)
   pub put : after ≡ before ++ decision_lines s (answer_of claimed) what
+
+-- a decision that the book allows was entered
+pub record DecidesIn (s t : State) (before after : List ℕ) (old new : Gave) : Type 0 where
+  pub claimed : Claimed
+  pub allowed : Allows s.platform s.book (Decided claimed)
+  pub enters : EntersIn s t claimed before after
+  pub gave : (cs : List Certified) → old cs → new (cs ++ certified s claimed ∷ [])
+
+-- a reply, whose lines are put behind a text
+pub record RepliesIn (number : ℕ) (s : State) (r : CallFacts) (t : State) (before after : List ℕ) : Type 0 where
+  pub reply : Reply
+  pub replies : Replies s r reply t
+  pub put : after ≡ before ++ call_lines number s r reply t

@@ -8,6 +8,7 @@
 //! ```
 #![tactic(auto)]
 
+mod decider;
 mod deciding;
 mod domain_line;
 mod failing;
@@ -18,8 +19,8 @@ mod reply;
 mod report;
 mod runner;
 mod running;
+mod searching;
 mod telling;
 
 pub use fault::RunFault;
-pub use report::{Report, report_of};
 pub use running::{Ended, run};

@@ -1,13 +1,15 @@
 //! The report of a script's calls.
 
-ghost use Rattle.std.specs.Prelude.{◌≡◌, List, map, IfOk, IfSome};
+ghost use Rattle.std.specs.Prelude.{◌≡◌, [], map, IfErr, IfOk, IfSome};
 ghost use Rattle.std.specs.String.{string_bytes};
 ghost use Rattle.script_reading.specs.Seen.{call_seen};
 ghost use Rattle.script_run.specs.Lines.{Puts};
 ghost use Rattle.script_run.specs.Marks.{pending_at};
-ghost use Rattle.script_run.specs.Report.{Certified, IsReport, pending_lines};
+ghost use Rattle.script_run.specs.Report.{IsReported, pending_lines};
+ghost use Rattle.script_run.specs.Stop.{IfObjects, IsStopped};
 ghost use Rattle.sysmem_tree.specs.Domain.{HasDomain};
 
+use crate::decider::{Decider, Stop};
 use crate::domain_line::put_domain;
 use crate::runner::Runner;
 use script_reading::Call;
@@ -25,20 +27,27 @@ pub struct Report {
     pub starved: bool,
 }
 
-/// The report of the calls on a platform, made in their order on one collection. Memory that is refused outside of a
-/// reply or a decision is the `Err`.
-pub fn report_of(
+/// The report of the calls on a platform, made in their order on one collection whose domains are decided so. Memory that is refused outside
+/// of a reply or a decision is the `Err`, and so is an objection to a decision.
+pub(crate) fn report_of<D: Decider>(
     alloc: Global,
     platform: Platform,
     calls: &[Call<'_>],
-) -> Result<Report, AllocError>
-    ensures { IfOk result (λ report. (cs : List Certified)
-        × IsReport platform (map call_seen calls.now) (string_bytes report.text) cs report.starved) }
+    decider: &mut D,
+) -> Result<Report, Stop>
+    requires { D.gave decider.old platform [] }
+    ensures report { IfOk result (λ report. IsReported platform (map call_seen calls.now)
+        (D.gave decider.new platform) (string_bytes report.text) report.starved) }
+    ensures stops { IfErr result (λ stop. IfObjects stop (IsStopped platform
+        (map call_seen calls.now) (D.gave decider.old platform) (D.gave decider.new platform)
+        (D.objects decider.new))) }
 {
     let mut runner = Runner::new(alloc, platform)?;
     let mut text = String::new(alloc);
     for (index, call) in calls.iter().enumerate() {
-        runner.take(alloc, index + 1, call, &mut text)?;
+        if let Err(stop) = runner.take(alloc, index + 1, call, decider, &mut text) {
+            return Err(runner.stopped(stop));
+        }
     }
     put_pending(&mut text, runner.book())?;
     Ok(Report {

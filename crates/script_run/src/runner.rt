@@ -1,23 +1,27 @@
 //! The collection that a script's calls act on: its book, and what their names stand for.
 
-ghost use Rattle.std.specs.Prelude.{◌≡◌, ◌+◌, ◌≤◌, ◌++◌, ◌||◌, ℕ, [], ◌∷◌, Some, None, true, length, option_map, slice_get, unwrap_or, IfOk, IfSome, OnOk};
+ghost use Rattle.std.specs.Prelude.{◌≡◌, ◌+◌, ◌≤◌, ◌++◌, ◌||◌, ℕ, [], ◌∷◌, Some, None, true, false, length, option_map, slice_get, unwrap_or, IfErr, IfOk, IfSome, OnOk};
 ghost use Rattle.std.specs.Arc.{arc_value};
 ghost use Rattle.std.specs.String.{string_bytes};
 ghost use Rattle.serde_json.specs.View.{view};
 ghost use Rattle.script_reading.specs.Call.{states};
 ghost use Rattle.script_reading.specs.Seen.{act_seen, call_seen};
 ghost use Rattle.script_run.specs.Answer.{Asks, Replies, is_want};
-ghost use Rattle.script_run.specs.Report.{DecidesIn, GoesIn, decided};
+ghost use Rattle.script_run.specs.Report.{DecidesIn, EntersIn, GoesIn, RepliesIn, decided};
 ghost use Rattle.script_run.specs.State.{AreThere, first_state, named, node_named};
+ghost use Rattle.script_run.specs.Stop.{IfObjects, StopsIn};
+ghost use Rattle.script_run.specs.declared.decider.Stop.TheVariants.{Refused};
 ghost use Rattle.sysmem_alloc.specs.Decision.{answer_of};
 ghost use Rattle.sysmem_alloc.specs.Entry.{Decided};
 ghost use Rattle.sysmem_alloc.specs.History.{Allows};
 ghost use Rattle.sysmem_alloc.specs.Sound.{MayWait};
 ghost use Rattle.sysmem_alloc.specs.State.{next_ready};
 ghost use Rattle.sysmem_tree.specs.ActionKind.{deed_of};
+ghost use Rattle.sysmem_tree.specs.Domain.{HasDomain};
 ghost use Rattle.sysmem_tree.specs.Nodes.{HasNode};
 
-use crate::deciding::{claim_for, put_decision};
+use crate::decider::{Decider, Stop};
+use crate::deciding::put_decision;
 use crate::failing::{failed_domains, put_failed};
 use crate::line::put_call;
 use crate::reply::Reply;
@@ -76,17 +80,37 @@ impl Runner {
     }
 
     /// Makes a call where no domain waits, decides each domain that waits then, and puts the lines of all that behind the text.
-    pub(crate) fn take(
+    pub(crate) fn take<D: Decider>(
+        &mut self,
+        alloc: Global,
+        number: usize,
+        call: &Call<'_>,
+        decider: &mut D,
+        text: &mut String,
+    ) -> Result<(), Stop>
+        requires idle { next_ready (state_of self.old).book ≡ None }
+        ensures goes { OnOk result (GoesIn number (state_of self.old) (call_seen call.now ∷ [])
+            (state_of self.new) (string_bytes text.old) (string_bytes text.new)
+            (D.gave decider.old self.old.book.platform) (D.gave decider.new self.old.book.platform)) }
+        ensures idle { OnOk result (next_ready (state_of self.new).book ≡ None) }
+        ensures stops { IfErr result (λ stop. IfObjects stop (StopsIn number (state_of self.old)
+            (call_seen call.now ∷ []) (state_of self.new) (D.gave decider.old self.old.book.platform)
+            (D.gave decider.new self.old.book.platform) (D.objects decider.new))) }
+    {
+        self.reply(alloc, number, call, text)?;
+        self.decide_waiting(alloc, decider, text)
+    }
+
+    /// Makes a call, and puts its line and those of the domains that it makes fail behind the text.
+    fn reply(
         &mut self,
         alloc: Global,
         number: usize,
         call: &Call<'_>,
         text: &mut String,
     ) -> Result<(), AllocError>
-        requires idle { next_ready (state_of self.old).book ≡ None }
-        ensures goes { OnOk result (GoesIn number (state_of self.old) (call_seen call.now ∷ [])
+        ensures { OnOk result (RepliesIn number (state_of self.old) (call_seen call.now)
             (state_of self.new) (string_bytes text.old) (string_bytes text.new)) }
-        ensures idle { OnOk result (next_ready (state_of self.new).book ≡ None) }
     {
         legal_is_sound();
         self.book.platform();
@@ -94,39 +118,78 @@ impl Runner {
         let reply = self.answer(alloc, call)?;
         put_call(text, number, call, reply)?;
         put_failed(text, self.book.tree(), &had_failed)?;
-        self.decide_waiting(alloc, text)?;
         Ok(())
     }
 
     /// Decides as long as a domain waits, and puts the lines of the decisions behind the text.
-    fn decide_waiting(&mut self, alloc: Global, text: &mut String) -> Result<(), AllocError>
+    fn decide_waiting<D: Decider>(
+        &mut self,
+        alloc: Global,
+        decider: &mut D,
+        text: &mut String,
+    ) -> Result<(), Stop>
         ensures goes { OnOk result ((number : ℕ) → GoesIn number (state_of self.old) []
-            (state_of self.new) (string_bytes text.old) (string_bytes text.new)) }
+            (state_of self.new) (string_bytes text.old) (string_bytes text.new)
+            (D.gave decider.old self.old.book.platform) (D.gave decider.new self.old.book.platform)) }
         ensures idle { OnOk result (next_ready (state_of self.new).book ≡ None) }
+        ensures stops { IfErr result (λ stop. IfObjects stop (λ objection. (number : ℕ)
+            → StopsIn number (state_of self.old) [] (state_of self.new)
+            (D.gave decider.old self.old.book.platform) (D.gave decider.new self.old.book.platform)
+            (D.objects decider.new) objection)) }
     {
         while let Some(domain) = self.book.next_ready() {
-            self.decide(alloc, domain, text)?;
+            self.decide(alloc, domain, decider, text)?;
         }
         Ok(())
     }
 
     /// Decides the first domain that waits, and puts the lines of the decision behind the text.
-    fn decide(
+    fn decide<D: Decider>(
         &mut self,
         alloc: Global,
         domain: DomainId,
+        decider: &mut D,
         text: &mut String,
-    ) -> Result<(), AllocError>
+    ) -> Result<(), Stop>
         requires next { next_ready (state_of self.old).book ≡ Some domain }
         requires waits { MayWait (state_of self.old).book.tree domain }
         ensures lines { OnOk result (DecidesIn (state_of self.old) (state_of self.new)
-            (string_bytes text.old) (string_bytes text.new)) }
+            (string_bytes text.old) (string_bytes text.new)
+            (D.gave decider.old self.old.book.platform) (D.gave decider.new self.old.book.platform)) }
+        ensures grows { OnOk result (length self.new.book.history
+            ≡ length self.old.book.history + 1) }
+        ensures few { OnOk result (length self.new.book.history ≤ 639) }
+        ensures stops { IfErr result (λ stop. IfObjects stop (λ objection. (number : ℕ)
+            → StopsIn number (state_of self.old) [] (state_of self.new)
+            (D.gave decider.old self.old.book.platform) (D.gave decider.new self.old.book.platform)
+            (D.objects decider.new) objection)) }
+    {
+        let claim = decider.decide(alloc, &self.book, domain)?;
+        self.tell(domain, claim, text)?;
+        Ok(())
+    }
+
+    /// Enters a decision that the book allows, and puts its lines behind the text.
+    fn tell(
+        &mut self,
+        domain: DomainId,
+        claim: Option<Arc<Claim>>,
+        text: &mut String,
+    ) -> Result<(), AllocError>
+        requires there { HasDomain (state_of self.old).book.tree.nodes domain }
+        requires allowed { Allows self.old.book.platform self.old.book.state (Decided (record {
+          domain = domain;
+          claim = option_map (λ shared. arc_value shared) claim;
+        })) }
+        ensures lines { OnOk result (EntersIn (state_of self.old) (state_of self.new) (record {
+          domain = domain;
+          claim = option_map (λ shared. arc_value shared) claim;
+        }) (string_bytes text.old) (string_bytes text.new)) }
         ensures grows { OnOk result (length self.new.book.history
             ≡ length self.old.book.history + 1) }
         ensures few { OnOk result (length self.new.book.history ≤ 639) }
     {
         few_entries();
-        let claim = claim_for(alloc, &self.book, domain);
         put_decision(text, &self.book, domain, &claim)?;
         let had_failed = failed_domains(self.book.tree());
         self.enter(domain, claim);
@@ -150,6 +213,17 @@ impl Runner {
         let wants = claim.is_none();
         self.book.decide(domain, claim);
         self.keep_want(wants);
+    }
+
+    /// A stop after which nothing is said where memory was refused before.
+    pub(crate) fn stopped(&self, stop: Stop) -> Stop
+        ensures { IfObjects result (λ objection.
+            (stop ≡ Refused objection) × ((state_of self.now).starved ≡ false)) }
+    {
+        if self.starved {
+            return Stop::NoMemory;
+        }
+        stop
     }
 
     /// Keeps whether memory was refused.

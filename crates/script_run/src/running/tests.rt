@@ -10,33 +10,13 @@ const SCRIPT: &str =
 const REPORT: &str =
     "1 bind root ok\n2 set_constraints root ok\ndomain / chosen - count 1 size 1 place ram#0 cpu image none\n";
 
-// Counts what is asked of it.
-#[derive(Drop)]
-struct Untouched {
-    calls: usize,
-}
-
-impl Write for Untouched {
-    fn write(&mut self, buf: &[u8]) -> io::Result<usize> {
-        self.calls = self.calls.saturating_add(1);
-        Ok(buf.len())
-    }
-
-    fn flush(&mut self) -> io::Result<()> {
-        self.calls = self.calls.saturating_add(1);
-        Ok(())
-    }
-}
-
 #[test]
-fn leaves_the_certificate_alone(rt: HostRuntime) {
+fn writes_a_report(rt: HostRuntime) {
     let mut reader = Counted::new(SCRIPT.as_bytes());
     let mut writer = Counted::new(Vec::new(rt.alloc()));
-    let mut proof = Counted::new(Untouched { calls: 0 });
-    let ended = run(rt.alloc(), &mut reader, &mut writer, &mut proof);
+    let ended = run(rt.alloc(), &mut reader, &mut writer);
     assert_eq!(rt; ended, Ok(Ended::Done));
     assert_eq!(rt; writer.inner.as_slice(), REPORT.as_bytes());
-    assert_eq!(rt; proof.inner.calls, 0);
 }
 
 // A script that is cut at any length is no JSON, and nothing is printed.
@@ -45,8 +25,7 @@ fn cut_script(rt: HostRuntime) {
     for length in 0..SCRIPT.len() {
         let mut reader = Counted::new(&SCRIPT.as_bytes()[..length]);
         let mut writer = Counted::new(Vec::new(rt.alloc()));
-        let mut proof = Counted::new(io::sink());
-        let ended = run(rt.alloc(), &mut reader, &mut writer, &mut proof);
+        let ended = run(rt.alloc(), &mut reader, &mut writer);
         assert_eq!(rt; ended, Err(RunFault::Script(ScriptFault::NotJson)));
         assert_eq!(rt; writer.inner.len(), 0);
     }
@@ -81,8 +60,7 @@ fn failing_reader(rt: HostRuntime) {
             calls_left,
         });
         let mut writer = Counted::new(Vec::new(rt.alloc()));
-        let mut proof = Counted::new(io::sink());
-        let ended = run(rt.alloc(), &mut reader, &mut writer, &mut proof);
+        let ended = run(rt.alloc(), &mut reader, &mut writer);
         if calls_left == needed {
             assert_eq!(rt; ended, Ok(Ended::Done));
             assert_eq!(rt; reader.failures, 0);
@@ -130,8 +108,7 @@ fn failing_writer(rt: HostRuntime) {
             gives_error: calls_left % 2 == 0,
         });
         let mut reader = Counted::new(SCRIPT.as_bytes());
-        let mut proof = Counted::new(io::sink());
-        let ended = run(rt.alloc(), &mut reader, &mut writer, &mut proof);
+        let ended = run(rt.alloc(), &mut reader, &mut writer);
         if calls_left == REPORT.len() {
             assert_eq!(rt; ended, Ok(Ended::Done));
             assert_eq!(rt; writer.failures, 0);

@@ -1,19 +1,23 @@
-use Rattle.std.specs.Arc.{arc_value}
-use Rattle.std.specs.Prelude.{option_map}
-use Rattle.sysmem_alloc.specs.Decision.{Claimed}
+use Rattle.std.proofs.lemmas.Result.{err_from_is_err_and}
 use Rattle.script_run.specs.Runner.{state_of}
-use Rattle.script_run.specs.State.{tree_of}
-use Rattle.script_run.proofs.Following.{decides_as, few_in}
-use Rattle.script_run.proofs.Told.{failed_put, marked_of}
+use Rattle.script_run.proofs.Stopping.{no_objection, objects_both, passed_on, stops_here}
 use Rattle.script_run.proofs.runner.Runner.decide.Goals as goal
 
 pub returns-clause-lines : goal.returns-clause-lines
-returns-clause-lines c =
-    let d : Claimed = record { domain = c.args.domain; claim = option_map (λ shared. arc_value shared) c.claim_for-claim.result } in
-    let told = c.in_ok-put_decision.ensures in
-    let marked = marked_of (tree_of (state_of c.args.self.now)) c.tree.result.now c.failed_domains-had_failed.result c.tree.ensures c.failed_domains-had_failed.ensures in
-    let failed = failed_put (tree_of (state_of c.enter.new.self)) c.tree-2.result.now c.failed_domains-had_failed.result _ _ c.tree-2.ensures c.in_ok-put_failed.ensures in
-    decides_as (state_of c.args.self.now) (state_of c.enter.new.self) d told.what _ _ _ c.failed_domains-had_failed.result c.claim_for-claim.ensures told.tells told.put marked failed c.enter.ensures.state
+returns-clause-lines g c = record {
+  claimed = _;
+  allowed = c.in_ok-claim.ensures.allowed;
+  enters = c.in_ok-tell.ensures.lines;
+  gave = c.in_ok-claim.ensures.gave;
+}
 
-pub returns-clause-few : goal.returns-clause-few
-returns-clause-few c = few_in c.few_entries.ensures c.enter.new.self.book c.platform.ensures.book
+pub returns-in_err-claim-clause-stops : goal.returns-in_err-claim-clause-stops
+returns-in_err-claim-clause-stops g c =
+    let failed = err_from_is_err_and c.from_residual.result c.from_residual.ensures.1 in
+    passed_on c.from_residual.result c.in_err-claim.field-0.0 _ (cc (failed.1, failed.2))
+    (objects_both c.in_err-claim.field-0.0 _ _ _ (λ o kept object. stops_here (state_of c.args.self.now) _ _ _ c.args.domain o c.requires.next kept object) c.in_err-claim.ensures.kept c.in_err-claim.ensures.objects)
+
+pub returns-in_err-tell-clause-stops : goal.returns-in_err-tell-clause-stops
+returns-in_err-tell-clause-stops g c =
+    let failed = err_from_is_err_and c.from_residual-in_err-tell.result c.from_residual-in_err-tell.ensures.1 in
+    no_objection c.from_residual-in_err-tell.result _ (cc (failed.1, failed.2))

@@ -6,7 +6,8 @@ use Rattle.script_run.specs.Runner.{state_of}
 use Rattle.script_run.proofs.runner.Runner.decide_waiting.Given as goal
 
 abbrev pub decreases-loop-domain : goal.decreases-loop-domain
-decreases-loop-domain l = 639 - length l.self.book.history
+decreases-loop-domain g l = 639 - length l.self.book.history
 
 abbrev pub invariant-loop-domain : goal.invariant-loop-domain
-invariant-loop-domain l = (number : ℕ) → GoesIn number (state_of l.initial.self) [] (state_of l.self) (string_bytes l.initial.text) (string_bytes l.text)
+invariant-loop-domain g l = (number : ℕ) → GoesIn number (state_of l.initial.self) [] (state_of l.self) (string_bytes l.initial.text) (string_bytes l.text)
+    (g.D.Decider.gave l.initial.decider l.initial.self.book.platform) (g.D.Decider.gave l.decider l.initial.self.book.platform)

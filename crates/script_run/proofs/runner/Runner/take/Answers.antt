@@ -1,14 +1,21 @@
+use Rattle.std.proofs.lemmas.Result.{err_from_is_err_and}
 use Rattle.script_run.specs.Runner.{state_of}
-use Rattle.script_run.specs.State.{tree_of}
 use Rattle.script_run.proofs.Answering.{takes_as}
-use Rattle.script_run.proofs.Following.{answered_marks}
-use Rattle.script_run.proofs.Told.{failed_put, marked_of, sound_of}
+use Rattle.script_run.proofs.Results.{on_err, on_ok}
+use Rattle.script_run.proofs.Stopping.{no_objection, objects_so, stops_after}
 use Rattle.script_run.proofs.runner.Runner.take.Goals as goal
 
+pub returns-in_err-reply-clause-stops : goal.returns-in_err-reply-clause-stops
+returns-in_err-reply-clause-stops g c =
+    let failed = err_from_is_err_and c.from_residual.result c.from_residual.ensures.1 in
+    no_objection c.from_residual.result _ (cc (failed.1, failed.2))
+
 pub returns-clause-goes : goal.returns-clause-goes
-returns-clause-goes c =
-    let sound = sound_of c.legal_is_sound.ensures c.args.self.now.book c.platform.ensures.book in
-    let marked = marked_of (tree_of (state_of c.args.self.now)) c.tree.result.now c.failed_domains-had_failed.result c.tree.ensures c.failed_domains-had_failed.ensures in
-    let marks = answered_marks (state_of c.args.self.now) (state_of c.answer.new.self) _ c.in_ok-reply.reply c.failed_domains-had_failed.result sound marked c.in_ok-reply.ensures in
-    let failed = failed_put (tree_of (state_of c.answer.new.self)) c.tree-2.result.now c.failed_domains-had_failed.result _ _ c.tree-2.ensures c.in_ok-put_failed.ensures (tree_of (state_of c.args.self.now)) marks in
-    takes_as _ (state_of c.args.self.now) _ (state_of c.answer.new.self) _ _ _ _ _ c.in_ok-reply.reply c.requires.idle c.in_ok-reply.ensures c.in_ok-put_call.ensures failed c.in_ok-decide_waiting.ensures.goes
+returns-clause-goes g c =
+    on_ok c.decide_waiting.result _ _ (λ on. takes_as c.args.number (state_of c.args.self.now) _ (state_of c.reply.new.self) (state_of c.decide_waiting.new.self) _ _ _ (g.D.Decider.gave c.args.decider.now)
+    (g.D.Decider.gave c.decide_waiting.new.decider) c.requires.idle c.in_ok-reply.ensures on) c.decide_waiting.ensures.goes
+
+pub returns-clause-stops : goal.returns-clause-stops
+returns-clause-stops g c =
+    on_err c.decide_waiting.result _ _ (λ stop. objects_so stop _ _ (λ o on. stops_after c.args.number (state_of c.args.self.now) (state_of c.reply.new.self) (state_of c.decide_waiting.new.self) _ _ _
+    (g.D.Decider.gave c.args.decider.now) (g.D.Decider.gave c.decide_waiting.new.decider) _ o c.requires.idle c.in_ok-reply.ensures on)) c.decide_waiting.ensures.stops

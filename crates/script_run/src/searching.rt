@@ -1,0 +1,30 @@
+//! Domains decided by a search.
+
+ghost use Rattle.std.specs.Prelude.{⊤};
+
+use crate::decider::{Decider, Stop};
+use crate::deciding::claim_for;
+use std::alloc::Global;
+use std::sync::Arc;
+use sysmem_alloc::Book;
+use sysmem_proof::Claim;
+use sysmem_tree::DomainId;
+
+/// Searches for each verdict. Where memory is refused to a search, that is the decision.
+#[derive(Debug, Drop)]
+pub(crate) struct Searching;
+
+impl Decider for Searching {
+    ghost gave = { λ _ platform decisions. ⊤ };
+
+    ghost objects = { λ _ platform book domain objection. ⊥ };
+
+    fn decide(
+        &mut self,
+        alloc: Global,
+        book: &Book,
+        domain: DomainId,
+    ) -> Result<Option<Arc<Claim>>, Stop> {
+        Ok(claim_for(alloc, book, domain))
+    }
+}
