@@ -17,7 +17,7 @@ ghost use Rattle.sysmem_tree.specs.ActionKind.{deed_of};
 ghost use Rattle.sysmem_tree.specs.Nodes.{HasNode};
 
 use crate::deciding::{put_decision, verdict_for};
-use crate::failing::{failed_domains, put_failed};
+use crate::failing::{failed_before, put_failed, put_failed_since};
 use crate::line::put_call;
 use crate::reply::Reply;
 use crate::telling::told;
@@ -87,10 +87,10 @@ impl Runner {
     {
         legal_is_sound();
         self.book.platform();
-        let had_failed = failed_domains(self.book.tree());
+        let had_failed = failed_before(self.book.tree(), &call.act);
         let reply = self.answer(alloc, call)?;
         put_call(text, number, call, reply)?;
-        put_failed(text, self.book.tree(), &had_failed)?;
+        put_failed_since(text, self.book.tree(), &had_failed)?;
         self.decide_waiting(alloc, text)?;
         Ok(())
     }
@@ -124,7 +124,7 @@ impl Runner {
         few_entries();
         let verdict = verdict_for(alloc, &self.book, domain);
         put_decision(text, &self.book, domain, &verdict)?;
-        let had_failed = failed_domains(self.book.tree());
+        let had_failed = self.book.tree().failed_domains();
         self.enter(domain, verdict);
         put_failed(text, self.book.tree(), &had_failed)?;
         self.book.platform();
