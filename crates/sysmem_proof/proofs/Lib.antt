@@ -17,3 +17,14 @@ pub mod Labels
 pub mod Rolls
 pub mod OnRoll
 pub mod Numbering
+pub mod Telling
+pub mod PlacesFirst
+pub mod Gathering
+pub mod Orders
+pub mod Asking
+pub mod Least
+pub mod Meeting
+pub mod OffersFirst
+pub mod Equal
+pub mod Selections
+pub mod Choosing

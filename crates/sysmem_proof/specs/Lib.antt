@@ -16,3 +16,6 @@ pub mod Roll
 pub mod EachLine
 pub mod Checker
 pub mod Fault
+pub mod Asked
+pub mod PlacesBefore
+pub mod Choice

@@ -21,7 +21,7 @@ use sysmem_sanitise::{Constraints, Platform};
 use sysmem_tree::Path;
 
 /// Adds what one more asks of the number of buffers, if there is one.
-fn add_count(counts: &mut CountBounds, asked: Option<&Constraints>)
+pub(crate) fn add_count(counts: &mut CountBounds, asked: Option<&Constraints>)
     requires { sum_of counts.old < 2 ^ 62 }
     ensures added { (ps : List Counted) → IsTallyOf counts.old ps → IsTallyOf counts.new
         (ps ++ counts_asked (cons_option (option_map (λ one. one.now) asked.entry) [])) }
@@ -45,7 +45,7 @@ pub(crate) fn counts_of(roll: &Roll<'_>, paths: &[Path]) -> CountBounds
 }
 
 /// Reads what one more asks of an offer, if there is one.
-fn add_read(read: &mut OfferRead, asked: Option<&Constraints>)
+pub(crate) fn add_read(read: &mut OfferRead, asked: Option<&Constraints>)
     ensures { (o : Offered) (ds : List OfferDemand) → IsOfferRead o ds read.old → IsOfferRead o
         (ds ++ offer_demands (cons_option (option_map (λ one. one.now) asked.entry) [])) read.new }
 {

@@ -5,6 +5,7 @@
 //! ```
 #![tactic(auto)]
 
+mod all_asked;
 mod asked;
 mod base;
 mod certificate;
@@ -15,10 +16,17 @@ pub mod laws;
 mod line;
 mod line_faults;
 mod line_tests;
+mod members;
 mod names;
 mod no;
+mod offer_faults;
+mod offer_lines;
+mod offers_before;
+mod places_before;
 mod refutation;
 mod roll;
+mod selecting;
+mod settings_faults;
 mod verdict;
 
 pub use base::Base;
