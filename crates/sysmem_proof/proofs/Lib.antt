@@ -1,4 +1,10 @@
 pub mod Walks
+pub mod Ways
+pub mod Left
+pub mod Marked
+pub mod Past
+pub mod Seen
+pub mod Telling
 pub mod Growing
 pub mod CallerLemmas
 pub mod Answering
@@ -28,3 +34,4 @@ pub mod OffersFirst
 pub mod Equal
 pub mod Selections
 pub mod Choosing
+pub mod LineByLine

@@ -17,7 +17,7 @@ use Rattle.sysmem_proof.specs.Certificate.{HoldBefore}
 use Rattle.sysmem_proof.specs.Fault.{LineFaults, LinesFault}
 use Rattle.sysmem_proof.specs.Line.{LineFacts}
 use Rattle.sysmem_proof.proofs.Asking.{both_have}
-use Rattle.sysmem_proof.proofs.Telling.{told_all, missing_at, fault_at, too_many, split_at}
+use Rattle.sysmem_proof.proofs.LineByLine.{told_all, missing_at, fault_at, too_many, split_at}
 
 -- a list that has x, behind some elements that aren't it
 record Ahead {X : Type 0} (xs : List X) (x : X) (k : ℕ) : Type 0 where

@@ -18,7 +18,7 @@ use Rattle.sysmem_proof.specs.Conflict.{RefusesPlace}
 use Rattle.sysmem_proof.specs.Fault.{Faults, LineFaults}
 use Rattle.sysmem_proof.specs.Line.{LineFacts}
 use Rattle.sysmem_proof.specs.PlacesBefore.{AreTold, PlaceLinesFault, place_if, places_in, up_to, places_before}
-use Rattle.sysmem_proof.proofs.Telling.{fault_at, front_more, front_split, missing_at, split_at, told_more}
+use Rattle.sysmem_proof.proofs.LineByLine.{fault_at, front_more, front_split, missing_at, split_at, told_more}
 
 put_front : (t : Bool) (x : HeapPlace) (xs : List HeapPlace) → put_if t x xs ≡ put_if t x [] ++ xs
 put_front true x xs = refl

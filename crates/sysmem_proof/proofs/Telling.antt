@@ -1,75 +1,48 @@
--- A line for each of the first of a list, and what fails where one is missing, fails or is too many.
-use Rattle.std.proofs.Common.{◌≡◌, ◌≢◌, ◌<◌, ◌≤◌, ℕ, zero, suc, ◌+◌, List, [], ◌∷◌, ◌++◌, Option, Some, None, length, take, drop, get_or, slice_get, inl, inr, refl, sym, ◌∙◌, ap, subst, arith, append_assoc}
-use Rattle.std.specs.Prelude.{All, Contains, slice_index_or}
+-- What is told of the lines of a conflict in an initial domain is told of the conflict.
+use Rattle.std.proofs.Common.{◌≡◌, ◌∷◌, [], ℕ, Bool, true, false, List, Option, Some, None, length, inl, inr, arith, refl, sym, ◌∙◌, ap, subst}
+use Rattle.std.specs.Prelude.{All, MatchResult, Result, is_none}
 use Rattle.std.specs.List.{AllZip}
-use Rattle.std.proofs.lemmas.List.{take_more, take_all, take-append-drop}
+use Rattle.sysmem_counts.specs.declared.field.Field.{Field}
+use Rattle.sysmem_memory.specs.Listed.{places_of}
+use Rattle.sysmem_sanitise.specs.Platform.{PlatformFacts, offers_of}
+use Rattle.sysmem_tree.specs.Forest.{Forest, choices, settled}
+use Rattle.sysmem_tree.specs.Shape.{Member}
+use Rattle.sysmem_proof.specs.declared.conflict.Conflict.TheVariants.{Places, Offers, Fixed}
 use Rattle.sysmem_proof.specs.declared.no.No.{No}
-use Rattle.sysmem_proof.specs.declared.no.No.TheVariants.{WrongShape, Missing}
-use Rattle.sysmem_proof.specs.Fault.{Faults, EachFaults}
+use Rattle.sysmem_proof.specs.declared.no.No.TheVariants.{WrongNode, NoConflict}
+use Rattle.sysmem_proof.specs.Conflict.{IsConflict, RefusesOffer, RefusesPlace}
+use Rattle.sysmem_proof.specs.EachLine.{LinesOfItem}
+use Rattle.sysmem_proof.specs.Fault.{AreNamed, ConflictFaults, Fails, First}
+use Rattle.sysmem_proof.specs.Line.{LineFacts}
+use Rattle.sysmem_proof.proofs.Numbering.{one_all}
 
-zip_push : {X Y : Type 0} (R : X → Y → Type 0) (xs : List X) (ys : List Y) (x : X) (y : Y) → AllZip R xs ys → R x y → AllZip R (xs ++ x ∷ []) (ys ++ y ∷ [])
-zip_push R [] [] x y zip r = (r, tt)
-zip_push R [] (v ∷ ys) x y zip r = absurd zip
-zip_push R (u ∷ us) [] x y zip r = absurd zip
-zip_push R (u ∷ us) (v ∷ ys) x y zip r = (zip.0, zip_push R us ys x y zip.1 r)
+-- so many lines, which name participants, and aren't all true
+pub untrue_lines : (many : ℕ) (ms : List Member) (True : Type 0) (lines : List LineFacts) (t : Bool) → length lines ≡ many → All (λ line. AreNamed ms line.nodes) lines → t ≡ false → (True → t ≡ true)
+    → LinesOfItem many ms True lines NoConflict
+untrue_lines many ms True lines t long named no' yes' = inr (long, inr (named, ((λ is. (let y = yes' is in absurd (cc))), refl)))
 
-module _ {X Y : Type 0} (R : X → Y → Type 0) where
-  -- one line more
-  pub told_more : (xs : List X) (ys : List Y) (at : ℕ) (x : X) (y : Y) → at < length ys → y ≡ get_or ys at y → R x y → AllZip R xs (take at ys) → AllZip R (xs ++ x ∷ []) (take (at + 1) ys)
-  told_more xs ys at x y less is r zip =
-      subst (AllZip R (xs ++ x ∷ [])) (sym (take_more ys at y less ∙ ap (λ z. take at ys ++ z ∷ []) (sym is))) (zip_push R xs (take at ys) x y zip r)
+module _ {A : Type 0} (r : Result A No) (d : Forest Member) where
+  abbrev OfPlaces : PlatformFacts → List Member → List LineFacts → Type 0
+  OfPlaces p ms lines = MatchResult r (λ _. AllZip (RefusesPlace ms) (places_of p.heaps) lines)
+      (LinesOfItem (length (places_of p.heaps)) ms (AllZip (RefusesPlace ms) (places_of p.heaps) lines) lines)
 
-  pub told_all : (xs : List X) (ys : List Y) (at : ℕ) → length ys ≤ at → AllZip R xs (take at ys) → AllZip R xs ys
-  told_all xs ys at over zip = subst (AllZip R xs) (take_all at ys over) zip
+  pub of_places : (p platform : PlatformFacts) (ms : List Member) (given lines : List LineFacts) → p ≡ platform → given ≡ lines → ms ≡ settled d → OfPlaces p ms given
+      → MatchResult r (λ _. IsConflict platform d (Places lines)) (ConflictFaults platform None d (Places lines))
+  of_places p platform ms given lines one two is told = subst (λ q. OfPlaces q (settled d) lines) one (subst (λ xs. OfPlaces p xs lines) is (subst (OfPlaces p ms) two told))
 
-  module _ (faults : X → Y → Faults) where
-    -- no line is left for x
-    pub missing_at : (xs : List X) (ys : List Y) (at : ℕ) (x : X) (more : List X) → length ys ≤ at → AllZip R xs (take at ys) → EachFaults R faults (xs ++ x ∷ more) ys Missing
-    missing_at xs ys at x more over zip = by xs ys (told_all xs ys at over zip) where
-      by : (xs : List X) (ys : List Y) → AllZip R xs ys → EachFaults R faults (xs ++ x ∷ more) ys Missing
-      by [] [] z = refl
-      by [] (y ∷ ys) z = absurd z
-      by (u ∷ us) [] z = absurd z
-      by (u ∷ us) (y ∷ ys) z = inr (z.0, by us ys z.1)
+  abbrev OfOffers : PlatformFacts → Bool → List Member → List LineFacts → Type 0
+  OfOffers p whole ms lines = MatchResult r (λ _. AllZip (RefusesOffer whole ms) (offers_of p) lines)
+      (LinesOfItem (length (offers_of p)) ms (AllZip (RefusesOffer whole ms) (offers_of p) lines) lines)
 
-    -- that for x fails
-    pub fault_at : (xs : List X) (ys : List Y) (at : ℕ) (x : X) (y : Y) (more : List X) (why : No) → at < length ys → y ≡ get_or ys at y → AllZip R xs (take at ys) → faults x y why
-        → EachFaults R faults (xs ++ x ∷ more) ys why
-    fault_at [] [] at x y more why less is zip f = absurd (omega (arith, less))
-    fault_at [] (v ∷ ys) zero x y more why less is zip f = inl (subst (λ z. faults x z why) is f)
-    fault_at [] (v ∷ ys) (suc at) x y more why less is zip f = absurd zip
-    fault_at (u ∷ us) [] at x y more why less is zip f = absurd (omega (arith, less))
-    fault_at (u ∷ us) (v ∷ ys) zero x y more why less is zip f = absurd zip
-    fault_at (u ∷ us) (v ∷ ys) (suc at) x y more why less is zip f = inr (zip.0, fault_at us ys at x y more why (omega (arith, less)) is zip.1 f)
+  pub of_offers : (p platform : PlatformFacts) (whole : Bool) (ms : List Member) (given lines : List LineFacts) → p ≡ platform → given ≡ lines → ms ≡ settled d → whole ≡ is_none (choices d) → OfOffers p whole ms given
+      → MatchResult r (λ _. IsConflict platform d (Offers lines)) (ConflictFaults platform None d (Offers lines))
+  of_offers p platform whole ms given lines one two is all told =
+      subst (λ q. OfOffers q (is_none (choices d)) (settled d) lines) one (subst (λ w. OfOffers p w (settled d) lines) all (subst (λ xs. OfOffers p whole xs lines) is (subst (OfOffers p whole ms) two told)))
 
-    -- there is a line too many
-    pub too_many : (xs : List X) (ys : List Y) (at : ℕ) → at < length ys → AllZip R xs (take at ys) → EachFaults R faults xs ys WrongShape
-    too_many [] [] at less zip = absurd (omega (arith, less))
-    too_many [] (v ∷ ys) at less zip = refl
-    too_many (u ∷ us) [] at less zip = absurd (omega (arith, less))
-    too_many (u ∷ us) (v ∷ ys) zero less zip = absurd zip
-    too_many (u ∷ us) (v ∷ ys) (suc at) less zip = inr (zip.0, too_many us ys at (omega (arith, less)) zip.1)
-
--- a list, and a front of it, at one of its elements
-pub split_at : {X : Type 0} (xs : List X) (k : ℕ) (x : X) → slice_get xs k ≡ Some x → (behind : List X) × (xs ≡ take k xs ++ x ∷ behind)
-split_at [] k x is = absurd (cc (is))
-split_at (y ∷ xs) zero x is = let same : y ≡ x = cc (is) in (xs, ap (λ z. z ∷ xs) same)
-split_at (y ∷ xs) (suc k) x is = let (behind, e) = split_at xs k x is in (behind, ap (λ zs. y ∷ zs) e)
-
-pub front_split : {X : Type 0} (xs : List X) (k many : ℕ) (x : X) → k < many → slice_get xs k ≡ Some x → (rest : List X) × (take many xs ≡ take k xs ++ x ∷ rest)
-front_split [] k many x less is = absurd (cc (is))
-front_split (y ∷ xs) k zero x less is = absurd (omega (arith, less))
-front_split (y ∷ xs) zero (suc many) x less is = let same : y ≡ x = cc (is) in (take many xs, ap (λ z. z ∷ take many xs) same)
-front_split (y ∷ xs) (suc k) (suc many) x less is = let (rest, e) = front_split xs k many x (omega (arith, less)) is in (rest, ap (λ zs. y ∷ zs) e)
-
--- one element more of a front
-pub front_more : {X : Type 0} (xs : List X) (k : ℕ) (x : X) → slice_get xs k ≡ Some x → take (k + 1) xs ≡ take k xs ++ x ∷ []
-front_more [] k x is = absurd (cc (is))
-front_more (y ∷ xs) zero x is = let same : y ≡ x = cc (is) in ap (λ z. z ∷ []) same
-front_more (y ∷ xs) (suc k) x is = let on : suc k + 1 ≡ suc (k + 1) = omega arith in ap (λ n. take n (y ∷ xs)) on ∙ ap (λ zs. y ∷ zs) (front_more xs k x is)
-
--- a list ends where nothing more is
-pub ends_at : {X : Type 0} (xs : List X) (k : ℕ) → slice_get xs k ≡ None → length xs ≤ k
-ends_at [] k is = omega arith
-ends_at (x ∷ xs) zero is = absurd (cc (is))
-ends_at (x ∷ xs) (suc k) is = let h = ends_at xs k is in omega (arith, h)
+-- a field without settings
+pub of_field : (platform : PlatformFacts) (ms : List Member) (field : Field) (path : List ℕ) (why : No) (d : Forest Member) → ms ≡ settled d
+    → First (AreNamed ms (path ∷ [])) (Fails (AreNamed ms (path ∷ [])) WrongNode) (Fails ⊥ NoConflict) why → ConflictFaults platform None d (Fixed field path) why
+of_field platform ms field path why d is told = by (subst (λ xs. First (AreNamed xs (path ∷ [])) (Fails (AreNamed xs (path ∷ [])) WrongNode) (Fails ⊥ NoConflict) why) is told) where
+  by : First (AreNamed (settled d) (path ∷ [])) (Fails (AreNamed (settled d) (path ∷ [])) WrongNode) (Fails ⊥ NoConflict) why → ConflictFaults platform None d (Fixed field path) why
+  by (inl f) = inr (tt, inl ((λ all. f.0 (all 0 (record { field = field; nodes = path ∷ [] }) (omega arith))), f.1))
+  by (inr f) = inr (tt, inr (one_all (λ line. AreNamed (settled d) line.nodes) (record { field = field; nodes = path ∷ [] }) f.0, f.1))

@@ -13,9 +13,10 @@ pub mod Claim
 pub mod Cannot
 pub mod Finder
 pub mod Roll
+pub mod Fault
 pub mod EachLine
 pub mod Checker
-pub mod Fault
+pub mod Walk
 pub mod Asked
 pub mod PlacesBefore
 pub mod Choice

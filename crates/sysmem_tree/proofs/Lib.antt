@@ -15,6 +15,7 @@ pub mod Steps
 pub mod SameForest
 pub mod Ready
 pub mod Selections
+pub mod Shrinking
 pub mod Labelled
 pub mod Logs
 pub mod Alike

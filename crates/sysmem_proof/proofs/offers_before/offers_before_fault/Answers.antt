@@ -6,7 +6,7 @@ use Rattle.sysmem_proof.specs.Roll.{listed}
 use Rattle.sysmem_sanitise.specs.Platform.{offers_of}
 use Rattle.sysmem_proof.proofs.Equal.{offer_cases}
 use Rattle.sysmem_proof.proofs.OffersFirst.{held, over, missing, fails_at, inside, none_more, offer_read}
-use Rattle.sysmem_proof.proofs.Telling.{told_more, front_more}
+use Rattle.sysmem_proof.proofs.LineByLine.{told_more, front_more}
 use Rattle.sysmem_proof.proofs.offers_before.offers_before_fault.Goals as goal
 
 pub returns-then-is_offer_at : goal.returns-then-is_offer_at
