@@ -23,7 +23,6 @@ pub mod Labels
 pub mod Rolls
 pub mod OnRoll
 pub mod Numbering
-pub mod Telling
 pub mod PlacesFirst
 pub mod Gathering
 pub mod Orders
@@ -35,3 +34,4 @@ pub mod Equal
 pub mod Selections
 pub mod Choosing
 pub mod LineByLine
+pub mod Shown

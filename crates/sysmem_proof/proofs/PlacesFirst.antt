@@ -1,6 +1,7 @@
 -- The places before one of a platform.
 use Rattle.std.proofs.Common.{◌≡◌, ◌≢◌, ◌<◌, ◌≤◌, ℕ, zero, suc, ◌+◌, Bool, true, false, List, [], ◌∷◌, ◌++◌, Some, length, take, drop, get_or, slice_get, refl, sym, ◌∙◌, ap, subst, arith, append_assoc}
-use Rattle.std.specs.Prelude.{All, IsTrue}
+use Rattle.std.specs.Prelude.{All, IsTrue, MatchResult, Ok, Err, Result}
+use Rattle.std.specs.List.{AllZip}
 use Rattle.std.proofs.lemmas.List.{append-nil}
 use Rattle.std.proofs.lemmas.List.Elements.{All-nil, All-cons}
 use Rattle.sysmem_memory.specs.declared.domain.CoherencyDomain.{CoherencyDomain}
@@ -11,14 +12,17 @@ use Rattle.sysmem_memory.specs.Domain.{has_domain, rank}
 use Rattle.sysmem_memory.specs.Heap.{HeapFacts}
 use Rattle.sysmem_memory.specs.Listed.{HeapPlace, put_if, places_from, places_of}
 use Rattle.sysmem_memory.specs.Place.{IsPlace}
+use Rattle.sysmem_merge.specs.declared.settings.Settings.{Settings}
+use Rattle.sysmem_sanitise.specs.Platform.{PlatformFacts}
 use Rattle.sysmem_tree.specs.Shape.{Member}
 use Rattle.sysmem_proof.specs.declared.no.No.{No}
-use Rattle.sysmem_proof.specs.declared.no.No.TheVariants.{Missing}
+use Rattle.sysmem_proof.specs.declared.no.No.TheVariants.{Missing, WrongShape}
+use Rattle.sysmem_proof.specs.Certificate.{RefusePlacesBefore}
 use Rattle.sysmem_proof.specs.Conflict.{RefusesPlace}
-use Rattle.sysmem_proof.specs.Fault.{Faults, LineFaults}
+use Rattle.sysmem_proof.specs.Fault.{Faults, LineFaults, PlacesFault}
 use Rattle.sysmem_proof.specs.Line.{LineFacts}
 use Rattle.sysmem_proof.specs.PlacesBefore.{AreTold, PlaceLinesFault, place_if, places_in, up_to, places_before}
-use Rattle.sysmem_proof.proofs.LineByLine.{fault_at, front_more, front_split, missing_at, split_at, told_more}
+use Rattle.sysmem_proof.proofs.LineByLine.{fault_at, front_more, front_split, missing_at, split_at, told_all, told_more, too_many}
 
 put_front : (t : Bool) (x : HeapPlace) (xs : List HeapPlace) → put_if t x xs ≡ put_if t x [] ++ xs
 put_front true x xs = refl
@@ -46,6 +50,9 @@ from_more i (h ∷ hs) ks =
     ∙ (sym (append_assoc (places_in i h h.domains) (places_from (i + 1) hs) (places_from (i + suc (length hs)) ks))
     ∙ ap (λ xs. xs ++ places_from (i + suc (length hs)) ks) (sym (from_first i h hs))))
 
+from_start : (hs ks : List HeapFacts) → places_of (hs ++ ks) ≡ places_of hs ++ places_from (length hs) ks
+from_start hs ks = let z : 0 + length hs ≡ length hs = omega arith in from_more 0 hs ks ∙ ap (λ n. places_of hs ++ places_from n ks) z
+
 long_front : {X : Type 0} (xs : List X) (k : ℕ) (x : X) → slice_get xs k ≡ Some x → length (take k xs) ≡ k
 long_front [] k x is = absurd (cc (is))
 long_front (y ∷ xs) zero x is = refl
@@ -54,7 +61,7 @@ long_front (y ∷ xs) (suc k) x is = ap suc (long_front xs k x is)
 -- one heap more
 pub heap_more : (heaps : List HeapFacts) (k : ℕ) (h : HeapFacts) → slice_get heaps k ≡ Some h → places_of (take (k + 1) heaps) ≡ places_of (take k heaps) ++ places_in k h h.domains
 heap_more heaps k h is =
-    ap places_of (front_more heaps k h is) ∙ (from_more 0 (take k heaps) (h ∷ [])
+    ap places_of (front_more heaps k h is) ∙ (from_start (take k heaps) (h ∷ [])
     ∙ (ap (λ n. places_of (take k heaps) ++ places_from n (h ∷ [])) (long_front heaps k h is)
     ∙ ap (λ xs. places_of (take k heaps) ++ xs) (from_first k h [] ∙ append-nil (places_in k h h.domains))))
 
@@ -65,7 +72,7 @@ begin_with heaps k h last place less is =
     let (rest, e) = front_split heaps k place.heap h less is in
     let own = places_in place.heap last (up_to last.domains place.coherency) in (
       places_from (k + 1) rest ++ own,
-      ap (λ xs. xs ++ own) (ap places_of e ∙ (from_more 0 (take k heaps) (h ∷ rest)
+      ap (λ xs. xs ++ own) (ap places_of e ∙ (from_start (take k heaps) (h ∷ rest)
       ∙ (ap (λ n. places_of (take k heaps) ++ places_from n (h ∷ rest)) (long_front heaps k h is)
       ∙ (ap (λ xs. places_of (take k heaps) ++ xs) (from_first k h rest) ∙ sym (append_assoc (places_of (take k heaps)) (places_in k h h.domains) (places_from (k + 1) rest))))))
       ∙ append_assoc (places_of (take k heaps) ++ places_in k h h.domains) (places_from (k + 1) rest) own,
@@ -114,7 +121,7 @@ place_split heaps place h is =
     let one : HeapPlace = record { place = place; heap = h } in
     let later = places_from (place.heap + 1) rest in (
       more ++ later,
-      ap places_of e ∙ (from_more 0 (take place.heap heaps) (h ∷ rest)
+      ap places_of e ∙ (from_start (take place.heap heaps) (h ∷ rest)
       ∙ (ap (λ n. front ++ places_from n (h ∷ rest)) (long_front heaps place.heap h is.heap)
       ∙ (ap (λ xs. front ++ xs) (from_first place.heap h rest ∙ (ap (λ xs. xs ++ later) f ∙ append_assoc own (one ∷ more) later))
       ∙ sym (append_assoc front own (one ∷ (more ++ later))))))
@@ -184,3 +191,80 @@ module _ (ms : List Member) (told : List HeapPlace) (lines : List LineFacts) (ma
     pub told_there : (line : LineFacts) → many < length lines → line ≡ get_or lines many line → RefusesPlace ms one line → AreTold ms (told ++ place_if there place h) lines (many + 1)
     told_there line less is r = subst (λ t. AreTold ms (told ++ place_if t place h) lines (many + 1)) (sym yes')
         (record { each = told_more (RefusesPlace ms) told lines many one line less is r are.each; within = omega (arith, less) })
+
+-- lines for all places before that of settings
+module _ (platform : PlatformFacts) (ms : List Member) (s : Settings) (lines : List LineFacts) (h : HeapFacts) (is : IsPlace platform.heaps s.place h) where
+  pub refused_before : AllZip (RefusesPlace ms) (places_before platform.heaps h s.place) lines → RefusePlacesBefore platform ms s lines
+  refused_before each = let (behind, there) = place_split platform.heaps s.place h is in record {
+    at = record { place = s.place; heap = h };
+    same = refl;
+    each = record { before = places_before platform.heaps h s.place; behind = behind; there = there; first = before_differ platform.heaps s.place h is; each = each };
+  }
+
+  pub fails_before : (why : No) → PlaceLinesFault ms (places_before platform.heaps h s.place) lines why → PlacesFault platform ms s lines why
+  fails_before why fault = let (behind, there) = place_split platform.heaps s.place h is in record {
+    at = record { place = s.place; heap = h };
+    same = refl;
+    each = record { before = places_before platform.heaps h s.place; behind = behind; there = there; first = before_differ platform.heaps s.place h is; fault = fault };
+  }
+
+-- of both kinds of result
+pub before_told : {A : Type 0} (platform : PlatformFacts) (ms : List Member) (s : Settings) (lines : List LineFacts) (heaps : List HeapFacts) (result : Result A No) → heaps ≡ platform.heaps
+    → ((h : HeapFacts) → slice_get heaps s.place.heap ≡ Some h → MatchResult result (λ _. AllZip (RefusesPlace ms) (places_before heaps h s.place) lines) (PlaceLinesFault ms (places_before heaps h s.place) lines))
+    → (h : HeapFacts) × IsPlace platform.heaps s.place h → MatchResult result (λ _. RefusePlacesBefore platform ms s lines) (PlacesFault platform ms s lines)
+before_told {A} platform ms s lines heaps result same told (h, is) =
+    by result (subst (λ hs. MatchResult result (λ _. AllZip (RefusesPlace ms) (places_before hs h s.place) lines) (PlaceLinesFault ms (places_before hs h s.place) lines)) same
+    (told h (ap (λ hs. slice_get hs s.place.heap) same ∙ is.heap))) where
+      by : (r : Result A No) → MatchResult r (λ _. AllZip (RefusesPlace ms) (places_before platform.heaps h s.place) lines) (PlaceLinesFault ms (places_before platform.heaps h s.place) lines)
+          → MatchResult r (λ _. RefusePlacesBefore platform ms s lines) (PlacesFault platform ms s lines)
+      by (Ok x) f = refused_before platform ms s lines h is f
+      by (Err why) f = fails_before platform ms s lines h is why f
+
+-- those of one place, and then others
+pub more_fault : (ms : List Member) (told as' bs : List HeapPlace) (lines : List LineFacts) (why : No) → ((more : List HeapPlace) → PlaceLinesFault ms ((told ++ as') ++ more) lines why)
+    → (more : List HeapPlace) → PlaceLinesFault ms ((told ++ (as' ++ bs)) ++ more) lines why
+more_fault ms told as' bs lines why f more =
+    subst (λ xs. PlaceLinesFault ms xs lines why) (sym (append_assoc (told ++ as') bs more) ∙ ap (λ xs. xs ++ more) (append_assoc told as' bs)) (f (bs ++ more))
+
+module _ (ms : List Member) (told cpus rams others : List HeapPlace) (lines : List LineFacts) where
+  pub first_fails : (why : No) → ((more : List HeapPlace) → PlaceLinesFault ms ((told ++ cpus) ++ more) lines why) → (more : List HeapPlace) → PlaceLinesFault ms ((told ++ (cpus ++ (rams ++ others))) ++ more) lines why
+  first_fails why f = more_fault ms told cpus (rams ++ others) lines why f
+
+  pub second_fails : (why : No) → ((more : List HeapPlace) → PlaceLinesFault ms (((told ++ cpus) ++ rams) ++ more) lines why)
+      → (more : List HeapPlace) → PlaceLinesFault ms ((told ++ (cpus ++ (rams ++ others))) ++ more) lines why
+  second_fails why f more = subst (λ xs. PlaceLinesFault ms (xs ++ more) lines why) (append_assoc told cpus (rams ++ others)) (more_fault ms (told ++ cpus) rams others lines why f more)
+
+  pub last_told : (result : Result ℕ No) → MatchResult result (λ next. AreTold ms (((told ++ cpus) ++ rams) ++ others) lines next)
+      (λ why. (more : List HeapPlace) → PlaceLinesFault ms ((((told ++ cpus) ++ rams) ++ others) ++ more) lines why)
+      → MatchResult result (λ next. AreTold ms (told ++ (cpus ++ (rams ++ others))) lines next) (λ why. (more : List HeapPlace) → PlaceLinesFault ms ((told ++ (cpus ++ (rams ++ others))) ++ more) lines why)
+  last_told result h = subst (λ xs. MatchResult result (λ next. AreTold ms xs lines next) (λ why. (more : List HeapPlace) → PlaceLinesFault ms (xs ++ more) lines why))
+      (append_assoc (told ++ cpus) rams others ∙ append_assoc told cpus (rams ++ others)) h
+
+-- all places before one in the last of some heaps
+module _ (ms : List Member) (heaps : List HeapFacts) (lines : List LineFacts) (place : Place) (last : HeapFacts) (here : slice_get heaps place.heap ≡ Some last) where
+  -- one heap more
+  pub heap_told : (k next : ℕ) (h : HeapFacts) (domains : CoherencyDomains) → slice_get heaps k ≡ Some h → domains ≡ h.domains → AreTold ms (places_of (take k heaps) ++ places_in k h domains) lines next
+      → AreTold ms (places_of (take (k + 1) heaps)) lines next
+  heap_told k next h domains is same are = subst (λ xs. AreTold ms xs lines next) (ap (λ d. places_of (take k heaps) ++ places_in k h d) same ∙ sym (heap_more heaps k h is)) are
+
+  pub heap_fails : (k : ℕ) (h : HeapFacts) (domains : CoherencyDomains) (why : No) → k < place.heap → slice_get heaps k ≡ Some h → domains ≡ h.domains
+      → ((more : List HeapPlace) → PlaceLinesFault ms ((places_of (take k heaps) ++ places_in k h domains) ++ more) lines why) → PlaceLinesFault ms (places_before heaps last place) lines why
+  heap_fails k h domains why less is same f =
+      let (more, e) = begin_with heaps k h last place less is in
+      subst (λ xs. PlaceLinesFault ms xs lines why) (ap (λ d. (places_of (take k heaps) ++ places_in k h d) ++ more) same ∙ sym e) (f more)
+
+  -- and those before it in that one
+  pub last_fails : (domains : CoherencyDomains) (why : No) → domains ≡ up_to last.domains place.coherency
+      → ((more : List HeapPlace) → PlaceLinesFault ms ((places_of (take place.heap heaps) ++ places_in place.heap last domains) ++ more) lines why) → PlaceLinesFault ms (places_before heaps last place) lines why
+  last_fails domains why same f =
+      subst (λ xs. PlaceLinesFault ms xs lines why) (append-nil (places_of (take place.heap heaps) ++ places_in place.heap last domains) ∙ ap (λ d. places_of (take place.heap heaps) ++ places_in place.heap last d) same) (f [])
+
+  pub last_all : (domains : CoherencyDomains) (many : ℕ) → domains ≡ up_to last.domains place.coherency → AreTold ms (places_of (take place.heap heaps) ++ places_in place.heap last domains) lines many
+      → AreTold ms (places_before heaps last place) lines many
+  last_all domains many same are = subst (λ d. AreTold ms (places_of (take place.heap heaps) ++ places_in place.heap last d) lines many) same are
+
+  pub all_held : (many : ℕ) → length lines ≤ many → AreTold ms (places_before heaps last place) lines many → AllZip (RefusesPlace ms) (places_before heaps last place) lines
+  all_held many over are = told_all (RefusesPlace ms) (places_before heaps last place) lines many over are.each
+
+  pub one_more : (many : ℕ) → many < length lines → AreTold ms (places_before heaps last place) lines many → PlaceLinesFault ms (places_before heaps last place) lines WrongShape
+  one_more many less are = too_many (RefusesPlace ms) (λ p line. LineFaults ms (RefusesPlace ms p line) line) (places_before heaps last place) lines many less are.each

@@ -1,5 +1,5 @@
 -- Whether choices are a selection, one choice after the other, and how many selections there are.
-use Rattle.std.proofs.Common.{◌≡◌, ◌≢◌, ◌<◌, ◌≤◌, ◌+◌, ◌*◌, ℕ, List, [], ◌∷◌, ◌++◌, Option, Some, None, length, map, take, get_or, slice_get, refl, sym, ◌∙◌, ap, subst, arith}
+use Rattle.std.proofs.Common.{◌≡◌, ◌≢◌, ◌<◌, ◌≤◌, ◌+◌, ◌*◌, Bool, true, is_none, ℕ, List, [], ◌∷◌, ◌++◌, Option, Some, None, length, map, take, get_or, slice_get, min, refl, sym, ◌∙◌, ap, subst, arith}
 use Rattle.std.specs.Prelude.{◌↔◌, IfSome, IsSome, option_map}
 use Rattle.std.proofs.lemmas.Option.{same_Some}
 use Rattle.sysmem_tree.specs.declared.layout.Layout.{Layout}
@@ -11,7 +11,7 @@ use Rattle.sysmem_tree.specs.OpenGroups.{IsFirstOpen}
 use Rattle.sysmem_tree.specs.Selection.{after, IsPrefix, IsSelection}
 use Rattle.sysmem_tree.specs.Shape.{Member, by_number, forest_of, shape_of}
 use Rattle.sysmem_tree.proofs.CallerLemmas.{choices_relabel}
-use Rattle.sysmem_proof.specs.Fault.{IsSelected}
+use Rattle.sysmem_proof.specs.Fault.{AreFew, IsSelected}
 use Rattle.sysmem_proof.proofs.Gathering.{of_some, prefix_more, some_open}
 
 -- other labels change no count
@@ -30,6 +30,13 @@ count_relabel f (Group n kids rest) =
 -- a domain has as many selections by numbers as by its shape
 pub same_count : (nodes : List NodeFacts) (r : ℕ) → AreOneForest nodes r → count (forest_of by_number nodes r []) ≡ count (shape_of nodes r)
 same_count nodes r one = sym (ap count one.numbers) ∙ ((count_relabel (λ l. l.0) _).0 ∙ (sym (count_relabel (λ l. l.1) _).0 ∙ ap count one.members))
+
+-- by what was counted
+pub few_told : (nodes : List NodeFacts) (r counted : ℕ) → AreOneForest nodes r → counted ≡ min (count (forest_of by_number nodes r [])) 18446744073709551615 → counted ≤ 4096 → AreFew (shape_of nodes r)
+few_told nodes r counted one is few = let same = same_count nodes r one in omega (arith, is, few, same)
+
+pub many_told : (nodes : List NodeFacts) (r counted : ℕ) → AreOneForest nodes r → counted ≡ min (count (forest_of by_number nodes r [])) 18446744073709551615 → 4096 < counted → ¬ (AreFew (shape_of nodes r))
+many_told nodes r counted one is many few = let same = same_count nodes r one in omega (arith, is, few, same, many)
 
 -- choices are a selection
 abbrev pub Selects : {A : Type 0} → Forest A → List ℕ → Type 0
@@ -86,3 +93,12 @@ selected_same nodes r cs one = by one.left one.numbers one.members where
     λ (e, s). (relabel member b, record { leads = m; whole = (relabelled member b).1 ((relabelled number b).0 (ap choices (same_Some (relabel number b) e (sym a ∙ s.leads)) ∙ s.whole)) }),
     λ (e, s). (relabel number b, record { leads = a; whole = (relabelled number b).1 ((relabelled member b).0 (ap choices (same_Some (relabel member b) e (sym m ∙ s.leads)) ∙ s.whole)) }),
   )
+
+-- what a test for nothing tells
+pub none_when : {X : Type 0} (o : Option X) (t : Bool) → t ≡ is_none o → t ≡ true → o ≡ None
+none_when None t is yes' = refl
+none_when (Some x) t is yes' = absurd (cc (is, yes'))
+
+pub none_is : {X : Type 0} (o : Option X) (t : Bool) → t ≡ is_none o → o ≡ None → t ≡ true
+none_is None t is e = is
+none_is (Some x) t is e = absurd (cc (e))

@@ -1,21 +1,20 @@
 //! What a checker reads of its domain.
 
-ghost use Rattle.std.specs.Prelude.{◌≡◌, ◌≤◌, ◌↔◌, Some, All, IsPermutation, IsTrue, IfSome, length, option_map};
+ghost use Rattle.std.specs.Prelude.{◌≡◌, ◌≤◌, ◌↔◌, Some, All, IsPermutation, IsTrue, length};
 ghost use Rattle.sysmem_proof.specs.Asked.{asked_in};
 ghost use Rattle.sysmem_proof.specs.Base.{BaseFacts};
 ghost use Rattle.sysmem_proof.specs.Checker.{forest};
 ghost use Rattle.sysmem_proof.specs.Fault.{AreFew, IsSelected};
-ghost use Rattle.sysmem_proof.specs.Members.{members_at, participants};
-ghost use Rattle.sysmem_tree.specs.Forest.{settled};
+ghost use Rattle.sysmem_proof.specs.Members.{participants};
+ghost use Rattle.sysmem_tree.specs.Forest.{Forest, settled};
 ghost use Rattle.sysmem_tree.specs.Nodes.{HasNode};
 ghost use Rattle.sysmem_tree.specs.Selection.{IsPrefix, after};
 ghost use Rattle.sysmem_tree.specs.Shape.{Member};
-ghost use Rattle.sysmem_tree.specs.Forest.{Forest};
 
 use crate::checker::Checker;
 use crate::members::{Members, settled_members};
 use crate::selecting::{are_few, is_selected};
-use sysmem_tree::laws::one_forest;
+use sysmem_tree::laws::{one_forest, one_path};
 use sysmem_tree::layout_laws::choices_leave_one_forest;
 use sysmem_tree::{Prefix, Tree};
 
@@ -51,11 +50,12 @@ impl<'a> Checker<'a> {
     {
         choices_leave_one_forest();
         one_forest();
+        one_path();
         self.tree.nodes();
         settled_members(self.tree, self.domain, prefix)
     }
 
-    /// Those accepted before, where the domain has a base, are nodes of the tree, and at most 128; they ask what their members do.
+    /// Those accepted before, where the domain has a base, are nodes of the tree, and at most 128.
     pub(crate) fn few_accepted(&self)
         ensures there { (b : BaseFacts) → self.now.base ≡ Some b
             → All (HasNode self.now.nodes) b.accepted }

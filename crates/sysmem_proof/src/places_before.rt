@@ -54,10 +54,10 @@ fn line_fault(
     if !is_there {
         return Ok(many);
     }
-    let Some(line) = lines.get(many) else {
+    if many >= lines.len() {
         return Err(No::Missing);
-    };
-    place_fault(roll, place, heap, line)?;
+    }
+    place_fault(roll, place, heap, &lines[many])?;
     Ok(many + 1)
 }
 
@@ -88,9 +88,16 @@ fn heap_lines_fault(
         heap: index,
         coherency: CoherencyDomain::Inaccessible,
     };
-    let many = line_fault(roll, domains.cpu, cpu, heap, lines, many)?;
-    let many = line_fault(roll, domains.ram, ram, heap, lines, many)?;
-    line_fault(roll, domains.inaccessible, inaccessible, heap, lines, many)
+    let past_cpu = line_fault(roll, domains.cpu, cpu, heap, lines, many)?;
+    let past_ram = line_fault(roll, domains.ram, ram, heap, lines, past_cpu)?;
+    line_fault(
+        roll,
+        domains.inaccessible,
+        inaccessible,
+        heap,
+        lines,
+        past_ram,
+    )
 }
 
 /// Of a line for each place before one of these heaps.
@@ -113,8 +120,8 @@ fn place_lines_fault(
     }
     let last = &heaps[place.heap];
     let domains = domains_before(last.domains, place.coherency);
-    let many = heap_lines_fault(roll, place.heap, last, domains, lines, many)?;
-    if many < lines.len() {
+    let all = heap_lines_fault(roll, place.heap, last, domains, lines, many)?;
+    if all < lines.len() {
         return Err(No::WrongShape);
     }
     Ok(())

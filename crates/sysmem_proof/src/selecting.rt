@@ -23,7 +23,10 @@ pub(crate) fn are_few(tree: &Tree, domain: DomainId) -> bool
     ensures { IsTrue result ↔ AreFew (shape_of tree.now.nodes domain) }
 {
     one_forest();
-    tree.count_selections(domain) <= MOST_SELECTIONS
+    if tree.count_selections(domain) > MOST_SELECTIONS {
+        return false;
+    }
+    true
 }
 
 /// Whether the choices are a selection of the forest that is laid out.
