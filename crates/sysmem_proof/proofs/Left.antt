@@ -1,6 +1,6 @@
 -- What is left of a certificate, from one item to the next.
 use Rattle.std.proofs.Common.{◌≡◌, ◌<◌, ◌≤◌, ℕ, zero, suc, ◌+◌, List, [], ◌∷◌, ◌++◌, Option, Some, None, length, drop, take, get_or, slice_get, refl, sym, ◌∙◌, ap, subst, arith, inl, inr}
-use Rattle.std.specs.Prelude.{IsSomeAnd, MatchOption, MatchResult, Result, Ok, Err, option_map}
+use Rattle.std.specs.Prelude.{IsErrAnd, IsSomeAnd, MatchOption, MatchResult, Result, Ok, Err, option_map}
 use Rattle.std.proofs.lemmas.List.{drop_more}
 use Rattle.std.proofs.lemmas.Option.{same_Some}
 use Rattle.sysmem_sanitise.specs.Platform.{PlatformFacts}
@@ -15,6 +15,7 @@ use Rattle.sysmem_proof.specs.Base.{Terms}
 use Rattle.sysmem_proof.specs.Certificate.{Refutes, RefutesEarlier}
 use Rattle.sysmem_proof.specs.Conflict.{IsConflictFor}
 use Rattle.sysmem_proof.specs.Fault.{ConflictFaults, EarlierFaults, Fails, Faults, First, RefutationFaults, no_list}
+use Rattle.sysmem_proof.proofs.Ways.{at_place}
 use Rattle.sysmem_proof.specs.Walk.{IsLeft, AreLeft, RefuteBefore, FaultsBefore}
 
 pub left_all : (P : Type 0) (f : Faults) → IsLeft P P f f
@@ -23,9 +24,17 @@ left_all P f = record { holds = λ p. p; fails = λ why g. g }
 pub left_on : {P Q R : Type 0} {f g h : Faults} → IsLeft P Q f g → IsLeft Q R g h → IsLeft P R f h
 left_on a b = record { holds = λ r. a.holds (b.holds r); fails = λ why x. a.fails why (b.fails why x) }
 
+-- what is told of an error that is passed on
+pub of_err : {T E : Type 0} {S : E → Type 0} (r : Result T E) (P : T → Type 0) (Q : E → Type 0) (e : E) → IsErrAnd r S → ((y : E) → S y → y ≡ e) → Q e → MatchResult r P Q
+of_err (Ok x) P Q e h same q = absurd h
+of_err (Err y) P Q e h same q = subst Q (sym (same y h)) q
+
 -- parts of lists
 pub front_item : {X : Type 0} (xs : List X) (k : ℕ) (x : X) → k < length xs → x ≡ get_or xs k x → drop k xs ≡ x ∷ drop (k + 1) xs
 front_item xs k x less is = drop_more xs k x less ∙ ap (λ y. y ∷ drop (k + 1) xs) (sym is)
+
+pub front_at : {X : Type 0} (xs : List X) (k n : ℕ) (x y : X) → n ≡ k → n < length xs → x ≡ get_or xs n x → y ≡ x → drop k xs ≡ y ∷ drop (k + 1) xs
+front_at xs k n x y one less is two = subst (λ j. drop j xs ≡ y ∷ drop (j + 1) xs) one (front_item xs n x less is ∙ ap (λ z. z ∷ drop (n + 1) xs) (sym two))
 
 pub drop_over : {X : Type 0} (xs : List X) (k : ℕ) → length xs ≤ k → drop k xs ≡ []
 drop_over [] zero over = refl
@@ -37,6 +46,9 @@ pub drop_there : {X : Type 0} (xs : List X) (k : ℕ) (x : X) → slice_get xs k
 drop_there [] k x here = absurd (cc)
 drop_there (y ∷ xs) zero x here = ap (λ z. z ∷ xs) (same_Some y x here)
 drop_there (y ∷ xs) (suc k) x here = let more : suc (k + 1) ≡ suc k + 1 = omega arith in drop_there xs k x here ∙ ap (λ n. x ∷ drop n (y ∷ xs)) more
+
+pub some_front : {X : Type 0} (xs : List X) (k : ℕ) → k < length xs → (x : X) × (drop k xs ≡ x ∷ drop (k + 1) xs)
+some_front xs k less = let (x, here) = at_place xs k less in (x, drop_there xs k x here)
 
 pub within_take : {X : Type 0} (xs : List X) (c k : ℕ) → k < c → slice_get (take c xs) k ≡ slice_get xs k
 within_take [] zero k less = refl

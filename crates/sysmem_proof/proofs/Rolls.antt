@@ -1,6 +1,6 @@
 -- Whom a path names of a roll.
 use Rattle.std.proofs.Common.{eqb, ◌≤◌, rules, tests, ◌≡◌, ◌≢◌, ◌<◌, ℕ, suc, Bool, true, false, List, [], ◌∷◌, ◌++◌, Option, Some, None, length, map, slice_get, refl, sym, ◌∙◌, ap, subst, arith, inl, inr}
-use Rattle.std.specs.Prelude.{◌==◌, ◌||◌, All, AllPairs, slice_index_or, filter, is_some, option_map, option_and_then, unwrap_or, IfSome, IsSome, IsSomeAnd, if◌then◌else◌}
+use Rattle.std.specs.Prelude.{◌==◌, ◌||◌, All, AllPairs, slice_index_or, is_some, option_map, option_and_then, unwrap_or, IsSome, IsSomeAnd, if◌then◌else◌}
 use Rattle.std.specs.List.{AllByRecursion, IsDistinct, cons_option, filter_map, list_any}
 use Rattle.std.proofs.lemmas.Bool.{cases_eq, ne_eqb}
 use Rattle.std.proofs.lemmas.Map.Steps.{length-le_from_distinct_below}
@@ -17,7 +17,7 @@ use Rattle.sysmem_tree.specs.Node.{NodeFacts}
 use Rattle.sysmem_tree.specs.Nodes.{HasNode, IsTree}
 use Rattle.sysmem_tree.specs.Path.{node_at, path_of}
 use Rattle.sysmem_tree.specs.Selection.{after, settled_by, IsPrefix}
-use Rattle.sysmem_tree.specs.Shape.{Member, by_number, by_path, forest_of, shape_of, members_of, participants_of}
+use Rattle.sysmem_tree.specs.Shape.{Member, by_number, by_path, forest_of, shape_of, members_of}
 use Rattle.sysmem_tree.proofs.CallerLemmas.{AllOf, settled_relabel, after_relabel, node_within}
 use Rattle.sysmem_proof.specs.Base.{BaseFacts, IsGivenBase}
 use Rattle.sysmem_proof.specs.Fault.{AreNamed}

@@ -1,5 +1,5 @@
 -- What is told of the lines of a conflict in an initial domain is told of the conflict.
-use Rattle.std.proofs.Common.{◌≡◌, ◌∷◌, [], ℕ, Bool, true, false, List, Option, Some, None, length, inl, inr, arith, refl, sym, ◌∙◌, ap, subst}
+use Rattle.std.proofs.Common.{◌≡◌, ◌∷◌, [], ℕ, Bool, true, false, List, None, length, inl, inr, arith, refl, subst}
 use Rattle.std.specs.Prelude.{All, MatchResult, Result, is_none}
 use Rattle.std.specs.List.{AllZip}
 use Rattle.sysmem_counts.specs.declared.field.Field.{Field}

@@ -1,7 +1,8 @@
 -- Where choices lead in a domain's shape, and which group is next there.
-use Rattle.std.proofs.Common.{◌≡◌, ◌<◌, ◌≤◌, ℕ, zero, suc, ◌+◌, List, [], ◌∷◌, ◌++◌, Option, Some, None, length, drop, take, slice_get, is_some, refl, sym, ◌∙◌, ap, subst, arith, length-append}
+use Rattle.std.proofs.Common.{◌≡◌, ◌<◌, ◌≤◌, ℕ, zero, suc, ◌+◌, List, [], ◌∷◌, ◌++◌, Option, Some, None, length, drop, get_or, take, slice_get, is_some, refl, sym, ◌∙◌, ap, subst, arith, length-append}
 use Rattle.std.specs.Prelude.{IfSome, IsSome, MatchOption, is_none, option_map, option_and_then}
-use Rattle.std.proofs.lemmas.Option.{same_Some, none-some}
+use Rattle.std.proofs.lemmas.List.{take_more, take_all, take-append-drop}
+use Rattle.std.proofs.lemmas.Option.{same_Some, none-some, slice_get_within}
 use Rattle.sysmem_tree.specs.Forest.{Forest, choices, first_group, relabel}
 use Rattle.sysmem_tree.specs.LayoutLaws.{Both, number, member, FewChildren, FewChoices, LeaveOneForest}
 use Rattle.sysmem_tree.specs.Node.{NodeFacts}
@@ -15,7 +16,7 @@ of_some : {X : Type 0} (P : X → Type 0) (o : Option X) (x : X) → o ≡ Some 
 of_some P None x is h = absurd (none-some x is)
 of_some P (Some y) x is h = subst P (same_Some y x is) h
 
-some_of : {X : Type 0} (o : Option X) → IsSome o → (x : X) × (o ≡ Some x)
+pub some_of : {X : Type 0} (o : Option X) → IsSome o → (x : X) × (o ≡ Some x)
 some_of None h = absurd (cc)
 some_of (Some x) h = (x, refl)
 
@@ -39,7 +40,7 @@ module _ (nodes : List NodeFacts) (r : ℕ) (cs : List ℕ) (one : LeaveOneFores
         let by_members : first_group (relabel member b) ≡ option_map (λ (g : Both × ℕ). (member g.0, g.1)) (first_group b) =
         subst (λ o. IfSome o (λ x. first_group (relabel member x) ≡ option_map (λ (g : Both × ℕ). (member g.0, g.1)) (first_group x))) at one.group_member in
         ap (λ x. option_map length (choices x)) (sym same) ∙ (first_many (relabel member b) ∙ (ap (option_map (λ (g : Member × ℕ). g.1)) by_members
-            ∙ (shift (first_group b) ∙ ap (option_map (λ (g : ℕ × ℕ). g.1)) (sym by_numbers ∙ sym first))))
+        ∙ (shift (first_group b) ∙ ap (option_map (λ (g : ℕ × ℕ). g.1)) (sym by_numbers ∙ sym first))))
 
   -- they are few
   pub few_told : FewChildren → IsTree nodes → IsPrefix (shape_of nodes r) cs → (group children : ℕ) → next ≡ Some (group, children) → children ≤ 128
@@ -106,7 +107,7 @@ way_of d (x ∷ cs) c h = by (choose d x) refl (λ y. way_of y cs c) h where
   by None one rest h = absurd (cc)
   by (Some y) one rest h = further_way d y x cs c one (rest y h)
 
-at_place : {X : Type 0} (xs : List X) (c : ℕ) → c < length xs → (x : X) × (slice_get xs c ≡ Some x)
+pub at_place : {X : Type 0} (xs : List X) (c : ℕ) → c < length xs → (x : X) × (slice_get xs c ≡ Some x)
 at_place [] c less = absurd (omega (arith, less))
 at_place (x ∷ xs) zero less = (x, refl)
 at_place (x ∷ xs) (suc c) less = at_place xs c (omega (arith, less))
@@ -165,3 +166,27 @@ opened d e cs c w leads = ap choices (same_Some e w.here (sym leads ∙ w.leads)
 -- where a group has so many children
 pub told_way : (d : Forest Member) (cs : List ℕ) (c n many : ℕ) → IsPrefix d cs → ((e : Forest Member) → after d cs ≡ Some e → (option_map length (choices e) ≡ Some n) × (n ≡ many)) → c < n → IsWay d cs c
 told_way d cs c n many prefix told less = let (e, leads) = some_of (after d cs) prefix in way_by d e cs c n leads (told e leads).0 less
+
+-- a smaller child of the same group
+pub smaller_way : (d : Forest Member) (cs : List ℕ) (c k : ℕ) → IsWay d cs c → k < c → IsWay d cs k
+smaller_way d cs c k w less = let within = slice_get_within w.alternatives c w.child w.is_child in way_to d w.here cs k w.alternatives w.leads w.open' (omega (arith, less, within))
+
+prefix_front : (d : Forest Member) (xs ys : List ℕ) → IsPrefix d (xs ++ ys) → IsPrefix d xs
+prefix_front d [] ys h = refl
+prefix_front d (x ∷ xs) ys h = by (choose d x) (λ y. prefix_front y xs ys) h where
+  by : (o : Option (Forest Member)) → ((y : Forest Member) → IsPrefix y (xs ++ ys) → IsPrefix y xs) → IsSome (option_and_then (λ y. after y (xs ++ ys)) o) → IsSome (option_and_then (λ y. after y xs) o)
+  by None rest h = absurd (cc)
+  by (Some y) rest h = rest y h
+
+-- each choice of a prefix is behind those before it
+pub way_at : (d : Forest Member) (xs : List ℕ) (k : ℕ) → IsPrefix d xs → k < length xs → IsWay d (take k xs) (get_or xs k 0)
+way_at d xs k prefix less =
+    way_of d (take k xs) (get_or xs k 0) (subst (IsPrefix d) (take_more xs k 0 less) (prefix_front d (take (k + 1) xs) (drop (k + 1) xs) (subst (IsPrefix d) (sym (take-append-drop (k + 1) xs)) prefix)))
+
+-- and leads where the choices up to it do
+pub on_way : (d e : Forest Member) (xs : List ℕ) (k : ℕ) (w : IsWay d (take k xs) (get_or xs k 0)) → k < length xs → after d (take (k + 1) xs) ≡ Some e → w.child ≡ e
+on_way d e xs k w less leads = same_Some w.child e (sym w.goes_on ∙ (ap (after d) (sym (take_more xs k 0 less)) ∙ leads))
+
+-- at the end they are all
+pub at_end : (d : Forest Member) (xs ys : List ℕ) (k : ℕ) → xs ≡ ys → IsPrefix d ys → length xs ≤ k → (e : Forest Member) × (after d (take k xs) ≡ Some e)
+at_end d xs ys k same prefix over = let (e, leads) = some_of (after d ys) prefix in (e, ap (after d) (take_all k xs over ∙ same) ∙ leads)

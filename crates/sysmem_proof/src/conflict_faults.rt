@@ -49,12 +49,7 @@ fn places_fault(platform: &Platform, roll: &Roll<'_>, lines: &[Line]) -> Result<
 }
 
 /// Of lines for all offers of the platform; `whole` says that those on the roll are all that a decision has.
-fn offers_fault(
-    platform: &Platform,
-    roll: &Roll<'_>,
-    whole: bool,
-    lines: &[Line],
-) -> Result<(), No>
+fn offers_fault(platform: &Platform, roll: &Roll<'_>, whole: bool, lines: &[Line]) -> Result<(), No>
     ensures { MatchResult result
         (λ _. AllZip (RefusesOffer whole (listed roll.now)) (offers_of platform.now) lines.now)
         (LinesOfItem (length (offers_of platform.now)) (listed roll.now)

@@ -24,9 +24,8 @@ fn is_unnamed(roll: &Roll<'_>, offer: &Offer, field: Field) -> bool
         ↔ IsUnnamedLine field offer.now (offer_demands (participants (listed roll.now))) }
 {
     match field {
-        Field::UnnamedPixelFormat
-        | Field::UnnamedPixelFormatModifier
-        | Field::UnnamedColorSpace => read_all(roll, offer).is_unnamed(field),
+        Field::UnnamedPixelFormat | Field::UnnamedPixelFormatModifier | Field::UnnamedColorSpace =>
+            read_all(roll, offer).is_unnamed(field),
         _ => false,
     }
 }

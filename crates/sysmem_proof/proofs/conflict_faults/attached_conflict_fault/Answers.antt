@@ -1,8 +1,7 @@
 -- The terms are those of the base.
-use Rattle.std.proofs.Common.{◌≡◌, ◌++◌, Some, Option, sym, ◌∙◌, ap, subst}
+use Rattle.std.proofs.Common.{Option, sym, ap, subst}
 use Rattle.std.specs.Prelude.{MatchResult, option_map}
 use Rattle.sysmem_sanitise.specs.Platform.{PlatformFacts}
-use Rattle.sysmem_tree.specs.Forest.{settled}
 use Rattle.sysmem_proof.specs.Base.{Terms, terms_of}
 use Rattle.sysmem_proof.specs.Conflict.{IsConflictFor}
 use Rattle.sysmem_proof.specs.Fault.{ConflictFaults}

@@ -1,7 +1,7 @@
 -- Without a base there are no terms.
-use Rattle.std.proofs.Common.{◌≡◌, None, Option, sym, ◌∙◌, ap, subst}
+use Rattle.std.proofs.Common.{Option, sym, ◌∙◌, ap, subst}
 use Rattle.std.specs.Prelude.{MatchResult, option_map}
-use Rattle.sysmem_proof.specs.Base.{BaseFacts, Terms, terms_of}
+use Rattle.sysmem_proof.specs.Base.{BaseFacts, terms_of}
 use Rattle.sysmem_proof.specs.Conflict.{IsConflictFor}
 use Rattle.sysmem_proof.specs.Fault.{ConflictFaults}
 use Rattle.sysmem_proof.proofs.conflict_faults.conflict_fault.Goals as goal

@@ -1,5 +1,5 @@
 -- One path more.
-use Rattle.std.proofs.Common.{◌≡◌, ◌∙◌, true, false, refl, sym, ap, subst, arith}
+use Rattle.std.proofs.Common.{◌∙◌, true, false, refl, ap, subst, arith}
 use Rattle.std.specs.Prelude.{is_some}
 use Rattle.std.proofs.lemmas.List.{length-set, take_all}
 use Rattle.sysmem_proof.proofs.OnRoll.{named_none, named_more, nobody_named, named_twice}

@@ -1,5 +1,5 @@
 -- Those so far are named, and their numbers are seen.
-use Rattle.std.proofs.Common.{◌≡◌, ◌<◌, ℕ, Some, false, get_or, length, take}
+use Rattle.std.proofs.Common.{◌≡◌, ℕ, Some, false, get_or, length, take}
 use Rattle.std.specs.Prelude.{◌↔◌, Any, IsTrue}
 use Rattle.sysmem_tree.specs.Path.{node_at}
 use Rattle.sysmem_proof.specs.Fault.{AreNamed}

@@ -1,10 +1,10 @@
 -- One offer and its line more.
-use Rattle.std.proofs.Common.{◌≡◌, true, false, refl, sym, ◌∙◌, ap, arith, slice_get}
+use Rattle.std.proofs.Common.{◌≡◌, true, ◌∙◌, ap, arith, slice_get}
 use Rattle.sysmem_sanitise.specs.Platform.{offers_of}
 use Rattle.sysmem_proof.specs.Fault.{AreNamed}
 use Rattle.sysmem_proof.specs.Roll.{listed}
 use Rattle.sysmem_proof.proofs.Numbering.{at_line}
-use Rattle.sysmem_proof.proofs.Past.{same_offers, offer_past, offer_stops, line_without, offers_past, offer_without, if_none}
+use Rattle.sysmem_proof.proofs.Past.{same_offers, offer_past, offer_stops, line_without, if_none}
 use Rattle.sysmem_proof.proofs.offer_lines.refuse_offers.Goals as goal
 
 pub returns-in_default : goal.returns-in_default

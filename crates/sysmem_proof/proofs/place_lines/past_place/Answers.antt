@@ -1,5 +1,4 @@
 -- One line more.
-use Rattle.std.proofs.Common.{true}
 use Rattle.sysmem_proof.specs.Conflict.{RefusesPlace}
 use Rattle.sysmem_proof.specs.Fault.{AreNamed}
 use Rattle.sysmem_proof.specs.Roll.{listed}

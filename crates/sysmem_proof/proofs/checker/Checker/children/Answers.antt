@@ -1,5 +1,5 @@
 -- What is told of the numbers is true of the shape.
-use Rattle.std.proofs.Common.{◌≡◌, Some, None, length, sym, ◌∙◌, ap, subst, arith}
+use Rattle.std.proofs.Common.{◌≡◌, Some, length, sym, ◌∙◌, ap, subst, arith}
 use Rattle.std.specs.Prelude.{option_map}
 use Rattle.sysmem_tree.specs.Selection.{IsPrefix, after}
 use Rattle.sysmem_tree.specs.Shape.{Member}

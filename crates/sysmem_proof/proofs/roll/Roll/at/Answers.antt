@@ -1,5 +1,5 @@
 -- What a node asks that is marked.
-use Rattle.std.proofs.Common.{◌≡◌, None, sym, ◌∙◌, ap, subst}
+use Rattle.std.proofs.Common.{sym, ◌∙◌, ap}
 use Rattle.sysmem_proof.specs.Naming.{asked_at}
 use Rattle.sysmem_proof.specs.Roll.{RollFacts, listed}
 use Rattle.sysmem_proof.proofs.Rolls.{told_nowhere, told_marked}

@@ -1,5 +1,5 @@
 -- A node that is marked and asks something.
-use Rattle.std.proofs.Common.{◌≡◌, None, sym, ◌∙◌, ap}
+use Rattle.std.proofs.Common.{sym, ◌∙◌, ap}
 use Rattle.std.specs.Prelude.{is_some}
 use Rattle.sysmem_proof.specs.Naming.{asked_at}
 use Rattle.sysmem_proof.specs.Roll.{RollFacts, listed}
