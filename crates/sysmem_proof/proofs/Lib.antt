@@ -31,3 +31,15 @@ pub mod FirstOnes
 pub mod TrueOfThose
 pub mod SameOffer
 pub mod FoundConflicts
+pub mod PlacesFirst
+pub mod Gathering
+pub mod Orders
+pub mod Asking
+pub mod Least
+pub mod Meeting
+pub mod OffersFirst
+pub mod Equal
+pub mod Selections
+pub mod Choosing
+pub mod LineByLine
+pub mod Shown

@@ -21,6 +21,7 @@ use Rattle.sysmem_tree.specs.Shape.{Member, by_number, by_path, forest_of, shape
 use Rattle.sysmem_tree.proofs.CallerLemmas.{AllOf, settled_relabel, after_relabel, node_within}
 use Rattle.sysmem_proof.specs.Base.{BaseFacts, IsGivenBase}
 use Rattle.sysmem_proof.specs.Fault.{AreNamed}
+use Rattle.sysmem_proof.specs.Asked.{asked_in}
 use Rattle.sysmem_proof.specs.Members.{members_at, participants}
 use Rattle.sysmem_proof.specs.Naming.{same_path, asked_at}
 use Rattle.sysmem_proof.specs.Roll.{RollFacts, listed}
@@ -133,6 +134,14 @@ module _ (nodes : List NodeFacts) (tree : IsTree nodes) (law : OnePath) where
 
     pub all_settled : AllOf (IsLabel nodes) settled_both
     all_settled = in_settled_by (IsLabel nodes) both cs (labels_are nodes r (path_of nodes r) tree (law nodes r tree there).leads)
+
+    asked_labels : (ms : List (ℕ × Member)) → AllOf (IsLabel nodes) ms → asked_in nodes (map number ms) ≡ participants (map member ms)
+    asked_labels [] all = refl
+    asked_labels (m ∷ ms) all = ap (λ o. cons_option o (asked_in nodes (map number ms))) all.0.asks ∙ ap (cons_option m.1.constraints) (asked_labels ms all.1)
+
+    -- what the settled nodes ask
+    pub asked_settled : asked_in nodes (members_of nodes r cs) ≡ participants (unwrap_or (settled_by (shape_of nodes r) cs) [])
+    asked_settled = ap (asked_in nodes) numbers_settled ∙ (asked_labels settled_both all_settled ∙ ap participants (sym members_settled))
 
     module _ (accepted : List ℕ) (inside : All (λ i. i < length nodes) accepted) where
       abbrev roll : RollFacts

@@ -21,3 +21,6 @@ pub mod Reading
 pub mod Fault
 pub mod Checker
 pub mod Walk
+pub mod Asked
+pub mod PlacesBefore
+pub mod Choice
