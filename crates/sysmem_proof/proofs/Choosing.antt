@@ -1,18 +1,20 @@
 -- A choice fails as its parts do, in their order.
-use Rattle.std.proofs.Common.{◌≡◌, inl, inr, ℕ, List, ◌++◌, Option, Some, None, refl, sym, ◌∙◌, ap, subst}
+use Rattle.std.proofs.Common.{◌≡◌, inl, inr, ℕ, true, List, Option, Some, None, sym, subst}
+use Rattle.std.specs.Prelude.{MatchResult, Ok, Err, Result}
 use Rattle.sysmem_merge.specs.declared.settings.Settings.{Settings}
-use Rattle.sysmem_sanitise.specs.Platform.{PlatformFacts}
+use Rattle.sysmem_sanitise.specs.Platform.{PlatformFacts, offers_of}
 use Rattle.sysmem_tree.specs.Forest.{Forest, settled}
 use Rattle.sysmem_tree.specs.Selection.{IsSelection}
 use Rattle.sysmem_tree.specs.Shape.{Member}
 use Rattle.sysmem_proof.specs.declared.no.No.{No}
 use Rattle.sysmem_proof.specs.Base.{Terms}
-use Rattle.sysmem_proof.specs.Certificate.{RefutesEarlier, RefuseBefore, RefuseBeforeFor}
+use Rattle.sysmem_proof.specs.Certificate.{HoldBefore, RefutesEarlier, RefusePlacesBefore, RefuseBefore, RefuseBeforeFor}
 use Rattle.sysmem_proof.specs.CertificateFacts.{CertificateFacts}
 use Rattle.sysmem_proof.specs.Check.{ChoicePasses, IsLeastFor}
 use Rattle.sysmem_proof.specs.Choice.{FormFaults, SelectedFaults, SelectedPasses}
-use Rattle.sysmem_proof.specs.Conflict.{IsConflictFor}
-use Rattle.sysmem_proof.specs.Fault.{AreFew, ChoiceFaults, EarlierFaults, Faults, HasFittingLines, IsSelected, LinesFaults, NoFault, SettingsFaults}
+use Rattle.sysmem_proof.specs.Conflict.{IsConflictFor, RefusesOffer}
+use Rattle.sysmem_proof.specs.Fault.{AreFew, ChoiceFaults, EarlierFaults, Faults, HasFittingLines, IsSelected, LinesFaults, NoFault, PlacesFault, SettingsFaults}
+use Rattle.sysmem_proof.specs.Line.{LineFacts}
 
 module _ (platform : PlatformFacts) (d : Forest Member) (selection : List ℕ) (s : Settings) (certificate : CertificateFacts) where
   module _ (terms : Option Terms) (e : Forest Member) (selects : IsSelection d selection e) where
@@ -56,3 +58,47 @@ module _ (platform : PlatformFacts) (d : Forest Member) (selection : List ℕ) (
   pub then_fails : (terms : Option Terms) (why : No) → AreFew d × IsSelected d selection × HasFittingLines terms certificate → SelectedFaults platform terms d selection s certificate why
       → ChoiceFaults platform terms d selection s certificate why
   then_fails terms why (few, selected, fitting) f = inr (few, inr (selected, inr (fitting, f)))
+
+-- the lines for offers, and then those for places
+pub lines_both : {A : Type 0} (platform : PlatformFacts) (ms : List Member) (s : Settings) (certificate : CertificateFacts) (offers places : List LineFacts) (result : Result A No) → offers ≡ certificate.offers → places ≡ certificate.places
+    → HoldBefore (RefusesOffer true ms) (offers_of platform) s.offer offers → MatchResult result (λ _. RefusePlacesBefore platform ms s places) (PlacesFault platform ms s places)
+    → MatchResult result (λ _. RefuseBefore platform ms s certificate) (LinesFaults platform None ms s certificate)
+lines_both {A} platform ms s certificate offers places result one two held told = by result (subst (λ ls. MatchResult result (λ _. RefusePlacesBefore platform ms s ls) (PlacesFault platform ms s ls)) two told) where
+  here : HoldBefore (RefusesOffer true ms) (offers_of platform) s.offer certificate.offers
+  here = subst (HoldBefore (RefusesOffer true ms) (offers_of platform) s.offer) one held
+
+  by : (r : Result A No) → MatchResult r (λ _. RefusePlacesBefore platform ms s certificate.places) (PlacesFault platform ms s certificate.places)
+      → MatchResult r (λ _. RefuseBefore platform ms s certificate) (LinesFaults platform None ms s certificate)
+  by (Ok x) f = record { offers = here; places = f }
+  by (Err why) f = inr (here, f)
+
+-- the lines of a choice come last, or what is earlier does where it has none
+module _ {A : Type 0} (platform : PlatformFacts) (d : Forest Member) (selection : List ℕ) (s : Settings) (certificate : CertificateFacts) (e : Forest Member) (selects : IsSelection d selection e) where
+  abbrev Whole : Option Terms → Result A No → Type 0
+  Whole terms result = MatchResult result (λ _. SelectedPasses platform terms d selection s certificate) (SelectedFaults platform terms d selection s certificate)
+
+  pub lines_told : (terms : Option Terms) (result : Result A No) → None ≡ terms → IsLeastFor platform None (settled e) s → RefutesEarlier (IsConflictFor platform terms) d selection certificate.earlier
+      → MatchResult result (λ _. RefuseBefore platform (settled e) s certificate) (LinesFaults platform None (settled e) s certificate) → Whole terms result
+  lines_told terms result none least earlier told =
+      subst (λ t. RefutesEarlier (IsConflictFor platform t) d selection certificate.earlier → Whole t result) none (λ earlier. by result earlier told) earlier where
+        by : (r : Result A No) → RefutesEarlier (IsConflictFor platform None) d selection certificate.earlier
+            → MatchResult r (λ _. RefuseBefore platform (settled e) s certificate) (LinesFaults platform None (settled e) s certificate) → Whole None r
+        by (Ok x) r f = all_pass platform d selection s certificate None e selects least r f
+        by (Err why) r f = lines_fail platform d selection s certificate None e selects least r why f
+
+  pub earlier_told : (terms : Option Terms) (given : Terms) (result : Result A No) → Some given ≡ terms → IsLeastFor platform (Some given) (settled e) s → HasFittingLines terms certificate
+      → MatchResult result (λ _. RefutesEarlier (IsConflictFor platform terms) d selection certificate.earlier) (EarlierFaults platform terms d selection certificate.earlier) → Whole terms result
+  earlier_told terms given result some least fitting told =
+      subst (λ t. HasFittingLines t certificate → MatchResult result (λ _. RefutesEarlier (IsConflictFor platform t) d selection certificate.earlier) (EarlierFaults platform t d selection certificate.earlier)
+      → Whole t result) some (λ fitting told. by result fitting told) fitting told where
+        by : (r : Result A No) → HasFittingLines (Some given) certificate
+            → MatchResult r (λ _. RefutesEarlier (IsConflictFor platform (Some given)) d selection certificate.earlier) (EarlierFaults platform (Some given) d selection certificate.earlier) → Whole (Some given) r
+        by (Ok x) fitting f = all_pass platform d selection s certificate (Some given) e selects least f fitting
+        by (Err why) fitting f = earlier_fails platform d selection s certificate (Some given) e selects least why f
+
+-- the form, and then the rest
+pub form_then : {A : Type 0} (platform : PlatformFacts) (terms : Option Terms) (d : Forest Member) (selection : List ℕ) (s : Settings) (certificate : CertificateFacts) (result : Result A No)
+    → AreFew d × IsSelected d selection × HasFittingLines terms certificate → MatchResult result (λ _. SelectedPasses platform terms d selection s certificate) (SelectedFaults platform terms d selection s certificate)
+    → MatchResult result (λ _. ChoicePasses platform terms d selection s certificate) (ChoiceFaults platform terms d selection s certificate)
+form_then platform terms d selection s certificate (Ok x) form f = (form.0, f.0, f.1)
+form_then platform terms d selection s certificate (Err why) form f = then_fails platform d selection s certificate terms why form f

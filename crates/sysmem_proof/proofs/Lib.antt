@@ -43,3 +43,4 @@ pub mod Selections
 pub mod Choosing
 pub mod LineByLine
 pub mod Shown
+pub mod Claiming

@@ -1,5 +1,5 @@
 -- Whether choices are a selection, one choice after the other, and how many selections there are.
-use Rattle.std.proofs.Common.{◌≡◌, ◌≢◌, ◌<◌, ◌≤◌, ◌+◌, ◌*◌, Bool, true, is_none, ℕ, List, [], ◌∷◌, ◌++◌, Option, Some, None, length, map, take, get_or, slice_get, min, refl, sym, ◌∙◌, ap, subst, arith}
+use Rattle.std.proofs.Common.{◌≡◌, ◌≢◌, ◌<◌, ◌≤◌, ◌+◌, ◌*◌, Bool, true, false, not, is_some, ℕ, List, [], ◌∷◌, ◌++◌, Option, Some, None, length, map, take, get_or, slice_get, min, refl, sym, ◌∙◌, ap, subst, arith}
 use Rattle.std.specs.Prelude.{◌↔◌, IfSome, IsSome, option_map}
 use Rattle.std.proofs.lemmas.Option.{same_Some}
 use Rattle.sysmem_tree.specs.declared.layout.Layout.{Layout}
@@ -95,10 +95,12 @@ selected_same nodes r cs one = by one.left one.numbers one.members where
   )
 
 -- what a test for nothing tells
-pub none_when : {X : Type 0} (o : Option X) (t : Bool) → t ≡ is_none o → t ≡ true → o ≡ None
+pub none_when : {X : Type 0} (o : Option X) (t : Bool) → is_some o ≡ not t → t ≡ true → o ≡ None
 none_when None t is yes' = refl
-none_when (Some x) t is yes' = absurd (cc (is, yes'))
+none_when (Some x) true is yes' = absurd (cc (is))
+none_when (Some x) false is yes' = absurd (cc (yes'))
 
-pub none_is : {X : Type 0} (o : Option X) (t : Bool) → t ≡ is_none o → o ≡ None → t ≡ true
-none_is None t is e = is
+pub none_is : {X : Type 0} (o : Option X) (t : Bool) → is_some o ≡ not t → o ≡ None → t ≡ true
+none_is None true is e = refl
+none_is None false is e = absurd (cc (is))
 none_is (Some x) t is e = absurd (cc (e))
