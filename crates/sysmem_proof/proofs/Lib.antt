@@ -25,3 +25,4 @@ pub mod FirstOnes
 pub mod TrueOfThose
 pub mod SameOffer
 pub mod FoundConflicts
+pub mod BeforeBest
