@@ -44,3 +44,4 @@ pub mod Choosing
 pub mod LineByLine
 pub mod Shown
 pub mod Claiming
+pub mod BeforeBest

@@ -25,6 +25,10 @@ use crate::refusals::{Refusals, refused_offers, refused_places};
 use crate::whom::{Whom, line_of};
 use std::alloc::{AllocError, Global};
 use sysmem_merge::Settings;
+use sysmem_merge::laws::{
+    count_line_leaves_none, offer_line_leaves_none, place_line_leaves_none,
+    unnamed_line_leaves_none,
+};
 use sysmem_sanitise::Platform;
 use sysmem_tree::laws::{members_stand_once, one_forest, one_path};
 use sysmem_tree::layout_laws::choices_leave_one_forest;
@@ -164,6 +168,7 @@ pub fn find_conflict(
         → IfOk result (λ found. IfNone found ((t : Settled) × MeetsSettled platform.now
         (option_map (terms_of tree.now.nodes) (option_map (λ b. b.now) base.entry)) d t)) }
 {
+    choices_leave_one_forest();
     let nodes = settled_at(tree, domain, prefix)?;
     match base {
         Some(base) => find_on_base(alloc, platform, tree, base, &nodes),
@@ -196,6 +201,10 @@ pub fn lines_before(
         (settled members) settings.now
         (record { earlier = earlier; offers = lines.offers; places = lines.places })) }
 {
+    offer_line_leaves_none();
+    place_line_leaves_none();
+    count_line_leaves_none();
+    unnamed_line_leaves_none();
     if base.is_some() {
         return Ok(LinesBefore {
             offers: Lines::new(Vec::new(alloc)),
