@@ -13,7 +13,7 @@ ghost use Rattle.sysmem_merge.specs.Offers.{names_format, names_modifier, names_
 
 use sysmem_counts::Field;
 use sysmem_formats::Offer;
-use sysmem_image::{Entry, FirstMatches, ImageBounds, merge_into, takes_colour};
+use sysmem_image::{Entry, FirstMatches, ImageBounds, merge_bounds, merge_into, takes_colour};
 
 /// What participants ask of an offer's images together.
 #[derive(Clone, Copy, Debug, PartialEq, Eq)]
@@ -76,6 +76,18 @@ impl KeptOffer {
         }
     }
 
+    /// Becomes what is kept for the participants above, then more, whatever it was.
+    pub(crate) fn join_of(&mut self, above: &KeptOffer, more: &KeptOffer)
+        ensures { (o : Offer) (ds es : List OfferDemand) → IsKept o ds above.now
+            → IsKept o es more.now → IsKept o (ds ++ es) self.new }
+    {
+        self.bounds = above.bounds;
+        self.bounds.join(&more.bounds);
+        self.format_named = above.format_named | more.format_named;
+        self.modifier_named = above.modifier_named | more.modifier_named;
+        self.colour_named = above.colour_named | more.colour_named;
+    }
+
     /// Keeps which parts of the offer's name one more entry for it names.
     fn name(&mut self, offer: &Offer, entry: &Entry)
         ensures bounds { self.new.bounds ≡ self.old.bounds }
@@ -120,6 +132,23 @@ impl KeptBounds {
         if let KeptBounds::Merged(bounds) = self {
             if let Err(field) = merge_into(bounds, entry, offer) {
                 *self = KeptBounds::Refused(field);
+            }
+        }
+    }
+
+    /// Joins the bounds for more participants; refused where those of either are, or have no common multiple.
+    pub(crate) fn join(&mut self, more: &KeptBounds)
+        ensures { (o : Offer) (ds es : List OfferDemand) → AreKeptBounds o ds self.old
+            → AreKeptBounds o es more.now → AreKeptBounds o (ds ++ es) self.new }
+    {
+        match more {
+            KeptBounds::Refused(field) => self.refuse(*field),
+            KeptBounds::Merged(more) => {
+                if let KeptBounds::Merged(bounds) = self {
+                    if let Err(field) = merge_bounds(bounds, more) {
+                        *self = KeptBounds::Refused(field);
+                    }
+                }
             }
         }
     }

@@ -10,7 +10,6 @@ ghost use Rattle.sysmem_merge.specs.Offers.{is_named};
 ghost use Rattle.sysmem_merge.specs.Pairs.{ArePlain, IsPairKept};
 
 use crate::colours::Colours;
-use crate::joined::joined_bounds;
 use crate::kept::KeptBounds;
 use sysmem_counts::Field;
 use sysmem_formats::{ColourSpace, Offer, Pair};
@@ -84,24 +83,20 @@ impl KeptPair {
         self.format_named && self.modifier_named && self.named.has(colour)
     }
 
-    /// What is kept for these participants and more.
-    pub(crate) fn joined(&self, more: &KeptPair) -> KeptPair
-        ensures { (pair : APair) (ds es : List OfferDemand) → IsPairKept pair ds self.now
-            → IsPairKept pair es more.now → IsPairKept pair (ds ++ es) result }
+    /// Becomes what is kept for the participants above, then more, whatever it was. Bounds that are plain add nothing.
+    pub(crate) fn join_of(&mut self, above: &KeptPair, more: &KeptPair)
+        ensures { (pair : APair) (ds es : List OfferDemand) → IsPairKept pair ds above.now
+            → IsPairKept pair es more.now → IsPairKept pair (ds ++ es) self.new }
     {
-        let bounds = if more.is_plain {
-            self.bounds
-        } else {
-            joined_bounds(&self.bounds, &more.bounds)
-        };
-        KeptPair {
-            bounds,
-            is_plain: self.is_plain & more.is_plain,
-            format_named: self.format_named | more.format_named,
-            modifier_named: self.modifier_named | more.modifier_named,
-            taken: self.taken.in_both(&more.taken),
-            named: self.named.in_either(&more.named),
+        self.bounds = above.bounds;
+        if !more.is_plain {
+            self.bounds.join(&more.bounds);
         }
+        self.is_plain = above.is_plain & more.is_plain;
+        self.format_named = above.format_named | more.format_named;
+        self.modifier_named = above.modifier_named | more.modifier_named;
+        self.taken = above.taken.in_both(&more.taken);
+        self.named = above.named.in_either(&more.named);
     }
 }
 

@@ -61,7 +61,7 @@ fn join_at(kept: &mut KeptPair, index: usize, above: &[KeptPair], more: &[KeptPa
 {
     if let Some(above) = above.get(index) {
         if let Some(more) = more.get(index) {
-            *kept = above.joined(more);
+            kept.join_of(above, more);
         }
     }
 }

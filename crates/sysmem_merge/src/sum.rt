@@ -7,7 +7,6 @@ ghost use Rattle.sysmem_merge.specs.Share.{IsShareOf};
 ghost use Rattle.sysmem_merge.specs.Sum.{SumsUp, IsMet};
 ghost use Rattle.sysmem_sanitise.specs.Participant.{Participant};
 
-use crate::joined::joined;
 use crate::kept::KeptOffer;
 use crate::pair::KeptPair;
 use crate::pair_walk::first_shared;
@@ -104,7 +103,7 @@ impl Sum {
         self.counts.join(&more.counts);
         self.memory = above.memory;
         self.memory.join(platform.heaps(), &more.memory);
-        self.no_image = joined(&above.no_image, &more.no_image);
+        self.no_image.join_of(&above.no_image, &more.no_image);
         join_pairs(&mut self.pairs, &above.pairs, &more.pairs);
         self.least_size = above.least_size.max(more.least_size);
         self.greatest_size = above.greatest_size.min(more.greatest_size);

@@ -9,7 +9,7 @@ returns-in-Some-get c a b here there pair ds es left right =
     let second = c.in-Some-get.ensures.lookup in
     let same_first = same_Some a c.in-Some.above.now (sym here ∙ slice_get_read c.args.above.now _ c.args.index c.in-Some.above.now refl first.3.0 first.1) in
     let same_second = same_Some b c.in-Some-get.more.now (sym there ∙ slice_get_read c.args.more.now _ c.args.index c.in-Some-get.more.now refl second.3.0 second.1) in
-    c.joined.ensures pair ds es (subst (IsPairKept pair ds) same_first left) (subst (IsPairKept pair es) same_second right)
+    c.join_of.ensures pair ds es (subst (IsPairKept pair ds) same_first left) (subst (IsPairKept pair es) same_second right)
 
 pub returns-in_default-get : goal.returns-in_default-get
 returns-in_default-get c a b here there pair ds es left right =

@@ -18,7 +18,7 @@ returns-clause-sums c others ps qs was above share =
     (sums_both _ _ _ platform ps qs first second
     (c.join.ensures.joined (counts_asked ps) (counts_asked qs) first.counts second.counts)
     ((rw c.heaps.ensures.heaps at c.join-2.ensures) (place_demands ps) (place_demands qs) first.places second.places)
-    (c.joined-self-inside.ensures NoImage (offer_demands ps) (offer_demands qs) first.no_image second.no_image)
+    (c.join_of.ensures NoImage (offer_demands ps) (offer_demands qs) first.no_image second.no_image)
     (c.join_pairs.ensures platform.pairs (offer_demands others) (offer_demands ps) (offer_demands qs)
     (subst (ArePairsKept platform.pairs (offer_demands others)) (sym c.deref_mut.ensures.value) old.pairs)
     (subst (ArePairsKept platform.pairs (offer_demands ps)) (sym c.deref.ensures.value) first.pairs)
