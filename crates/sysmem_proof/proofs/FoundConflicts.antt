@@ -1,5 +1,5 @@
 -- What is found is a conflict, and where nothing is found settings meet what is settled.
-use Rattle.std.proofs.Common.{◌≡◌, ◌≢◌, ◌<◌, ◌≤◌, ◌^◌, ◌⊎◌, inl, inr, ℕ, Bool, true, false, List, [], ◌∷◌, ◌++◌, length, Option, Some, None, map, slice_get, refl, sym, ◌∙◌, ap, subst, arith}
+use Rattle.std.proofs.Common.{◌≡◌, ◌<◌, ◌≤◌, ◌^◌, inl, inr, ℕ, Bool, true, false, List, [], ◌∷◌, ◌++◌, Option, Some, None, map, slice_get, refl, sym, ◌∙◌, ap, subst, arith}
 use Rattle.std.specs.Prelude.{All, Any, Contains, filter, is_none, option_map}
 use Rattle.std.specs.List.{cons_option}
 use Rattle.std.proofs.lemmas.List.Elements.{All-tail, All-weaker, Contains-append_right}
@@ -12,7 +12,6 @@ use Rattle.sysmem_counts.specs.declared.field.Field.{Field}
 use Rattle.sysmem_formats.specs.declared.offer.Offer.{Offer}
 use Rattle.sysmem_memory.specs.Listed.{HeapPlace, places_of}
 use Rattle.sysmem_memory.proofs.CallerLemmas.{listed_is_place}
-use Rattle.sysmem_memory.specs.PlaceTable.{AllowsPlace}
 use Rattle.sysmem_merge.specs.declared.fit.Fit.{Fit}
 use Rattle.sysmem_merge.specs.declared.settings.Settings.{Settings}
 use Rattle.sysmem_merge.specs.Demands.{counts_asked, offer_demand, offer_demands}
@@ -30,7 +29,7 @@ use Rattle.sysmem_proof.specs.declared.whom.Whom.TheVariants as whoms
 use Rattle.sysmem_proof.specs.Base.{Terms}
 use Rattle.sysmem_proof.specs.Finder.{has_count}
 use Rattle.sysmem_proof.specs.Line.{LineFacts}
-use Rattle.sysmem_proof.specs.Members.{participants, member_at, members_at}
+use Rattle.sysmem_proof.specs.Members.{participants, members_at}
 use Rattle.sysmem_proof.specs.Naming.{Names, IsTrueOf}
 use Rattle.sysmem_proof.specs.Refusals.{StandFor, ShareOffer, SharePlace, Ends, EndsAt}
 use Rattle.sysmem_proof.specs.Verdict.{MeetsFixed, MeetsSettled}

@@ -1,16 +1,15 @@
 -- A line that names some of the participants, and what it says of them.
-use Rattle.std.proofs.Common.{◌≡◌, ◌≢◌, ◌<◌, ◌⊎◌, inl, inr, ℕ, zero, suc, Bool, true, false, List, [], ◌∷◌, length, Option, Some, None, map, refl, sym, ◌∙◌, ap, subst, arith}
+use Rattle.std.proofs.Common.{◌≡◌, ◌⊎◌, inl, ℕ, zero, suc, Bool, true, false, List, [], ◌∷◌, Option, Some, None, map, refl, ◌∙◌, ap, subst, arith}
 use Rattle.std.specs.Prelude.{All, Any, Contains, filter, is_some}
 use Rattle.std.specs.Option.{option_map_or}
 use Rattle.std.specs.List.{cons_option, filter_map}
-use Rattle.std.proofs.lemmas.List.Elements.{All-nil, All-cons, All-head, All-tail}
+use Rattle.std.proofs.lemmas.List.Elements.{All-nil, All-cons}
 use Rattle.sysmem_counts.specs.declared.field.Field.{Field}
 use Rattle.sysmem_formats.specs.declared.offer.Offer.{Offer}
 use Rattle.sysmem_memory.specs.declared.place.Place.{Place}
 use Rattle.sysmem_memory.specs.Heap.{HeapFacts}
 use Rattle.sysmem_memory.specs.PlaceTable.{refuses_by}
 use Rattle.sysmem_merge.specs.Demands.{offer_demands}
-use Rattle.sysmem_merge.specs.OfferRead.{IsRefusingLine}
 use Rattle.sysmem_merge.specs.Reasons.{IsOfferLine, IsUnnamedLine}
 use Rattle.sysmem_sanitise.specs.Participant.{Participant}
 use Rattle.sysmem_tree.specs.Node.{NodeFacts}
@@ -24,7 +23,7 @@ use Rattle.sysmem_proof.specs.Naming.{Names}
 use Rattle.sysmem_proof.specs.Refusals.{StandFor}
 use Rattle.sysmem_proof.specs.Whom.{names, named, line_on}
 use Rattle.sysmem_proof.proofs.Finding.{some_are_named}
-use Rattle.sysmem_proof.proofs.Growing.{sub_itself, sub_none, sub_trans}
+use Rattle.sysmem_proof.proofs.Growing.{sub_none, sub_trans}
 use Rattle.sysmem_proof.proofs.OnRoll.{place_told}
 use Rattle.sysmem_proof.proofs.SettledNodes.{filter_sub}
 

@@ -1,6 +1,6 @@
 -- The participants that choices settle, by their numbers, stand for the members that they do.
-use Rattle.std.proofs.Common.{◌≡◌, ◌≢◌, ◌<◌, ◌≤◌, inl, inr, ℕ, zero, suc, Bool, true, false, List, [], ◌∷◌, ◌++◌, length, Option, Some, None, map, slice_get, refl, sym, ◌∙◌, ap, subst, arith}
-use Rattle.std.specs.Prelude.{◌||◌, All, AllPairs, filter, is_some, option_map, option_and_then, unwrap_or, IsSome, IsSomeAnd, IfSome, IfOk, Ok, Err, Result, is_none, not}
+use Rattle.std.proofs.Common.{◌≡◌, ◌≢◌, ◌<◌, ◌≤◌, inl, inr, ℕ, suc, Bool, true, false, List, [], ◌∷◌, ◌++◌, length, Option, Some, None, map, slice_get, refl, sym, ◌∙◌, ap, subst, arith}
+use Rattle.std.specs.Prelude.{◌||◌, All, AllPairs, filter, is_some, option_map, unwrap_or, IsSome, IsSomeAnd, IfSome, IfOk, Ok, Err, Result, is_none, not}
 use Rattle.std.proofs.Common.{eqb}
 use Rattle.std.specs.List.{AllByRecursion, IsDistinct, cons_option, list_any}
 use Rattle.std.proofs.lemmas.Bool.{cases_eq, ne_eqb}
@@ -17,8 +17,8 @@ use Rattle.sysmem_tree.specs.LayoutLaws.{Both, LeaveOneForest, number as one_num
 use Rattle.sysmem_tree.specs.Members.{AreItsNodes}
 use Rattle.sysmem_tree.specs.Node.{NodeFacts}
 use Rattle.sysmem_tree.specs.Nodes.{HasNode, IsTree}
-use Rattle.sysmem_tree.specs.Path.{node_at, path_of}
-use Rattle.sysmem_tree.specs.Selection.{after, settled_by}
+use Rattle.sysmem_tree.specs.Path.{node_at}
+use Rattle.sysmem_tree.specs.Selection.{after}
 use Rattle.sysmem_tree.specs.Shape.{Member, by_number, by_path, forest_of, shape_of, members_of, participants_of}
 use Rattle.sysmem_tree.specs.Sublist.{IsSublist, ended, taken, left_out}
 use Rattle.sysmem_tree.proofs.CallerLemmas.{AllOf, node_within, first_many}

@@ -13,7 +13,6 @@ use Rattle.sysmem_merge.specs.Offers.{bounds_asked, is_named}
 use Rattle.sysmem_merge.specs.Reasons.{IsOfferLine, IsUnnamedLine}
 use Rattle.sysmem_sanitise.specs.Participant.{Participant}
 use Rattle.sysmem_tree.specs.Shape.{Member}
-use Rattle.sysmem_proof.specs.declared.whom.Whom.{Whom}
 use Rattle.sysmem_proof.specs.declared.whom.Whom.TheVariants.{All, WithEntry}
 use Rattle.sysmem_proof.specs.Finder.{has_entry}
 use Rattle.sysmem_proof.specs.Members.{participants}

@@ -1,5 +1,5 @@
 -- What is found of an initial domain, or on the base of an attached one.
-use Rattle.std.proofs.Common.{◌≡◌, ℕ, [], ◌++◌, Option, Some, sym, ap, subst}
+use Rattle.std.proofs.Common.{[], Option, sym, ap, subst}
 use Rattle.std.specs.Prelude.{IfNone, IfOk, IfSome, option_map}
 use Rattle.sysmem_merge.specs.declared.settings.Settings.{Settings}
 use Rattle.sysmem_tree.specs.Selection.{after}

@@ -1,5 +1,5 @@
 -- A count line of all, or settings of the count, the first place and the first offer that are shared.
-use Rattle.std.proofs.Common.{None, refl, sym, subst}
+use Rattle.std.proofs.Common.{None, refl, subst}
 use Rattle.sysmem_merge.specs.Demands.{counts_asked}
 use Rattle.sysmem_memory.specs.Listed.{HeapPlace, places_of}
 use Rattle.sysmem_formats.specs.declared.offer.Offer.{Offer}

@@ -1,5 +1,5 @@
 -- A count line of all who take part, a participant whom the settings fail, or settings that meet.
-use Rattle.std.proofs.Common.{◌++◌, [], ◌∷◌, sym, ◌∙◌, ap, subst}
+use Rattle.std.proofs.Common.{◌++◌, [], ◌∷◌, ◌∙◌, ap, subst}
 use Rattle.std.specs.Prelude.{All, Any}
 use Rattle.std.proofs.lemmas.List.Elements.{All-contains}
 use Rattle.sysmem_counts.specs.Counts.{IsCounted, IsFixedCountLine}

@@ -1,5 +1,5 @@
 -- The lines end at the offer and the place of the settings.
-use Rattle.std.proofs.Common.{◌≡◌, [], false, sym, ◌∙◌, subst}
+use Rattle.std.proofs.Common.{◌≡◌, [], sym, ◌∙◌, subst}
 use Rattle.std.proofs.lemmas.Option.{same_Some}
 use Rattle.sysmem_tree.specs.Forest.{settled}
 use Rattle.sysmem_proof.specs.Base.{IsElsewhere}

@@ -1,7 +1,7 @@
 -- One more whom the settings don't fail.
 use Rattle.std.proofs.Common.{arith}
 use Rattle.sysmem_merge.specs.Settings.{CoversOn}
-use Rattle.sysmem_proof.proofs.FirstOnes.{all_more, all_have, one_here}
+use Rattle.sysmem_proof.proofs.FirstOnes.{all_more, all_have}
 use Rattle.sysmem_proof.proofs.first_refusing.first_failing.Goals as goal
 
 pub loop-node-preserved : goal.loop-node-preserved

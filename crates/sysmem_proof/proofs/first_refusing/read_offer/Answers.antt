@@ -1,12 +1,7 @@
 -- What one more asks is read, and whether it is the first who refuses.
-use Rattle.std.proofs.Common.{◌≡◌, true, false, [], ◌∷◌, take, ◌+◌, sym, ◌∙◌, subst}
-use Rattle.std.specs.Prelude.{Contains, MatchOption}
-use Rattle.sysmem_counts.specs.declared.field.Field.TheVariants.{PixelFormat, ColorSpaces}
-use Rattle.sysmem_merge.specs.Demands.{OfferDemand, offer_demands}
-use Rattle.sysmem_merge.specs.OfferRead.{IsOfferRead}
+use Rattle.std.proofs.Common.{◌≡◌, false}
+use Rattle.sysmem_merge.specs.Demands.{OfferDemand}
 use Rattle.sysmem_merge.specs.Offers.{has_format, has_colour}
-use Rattle.sysmem_merge.specs.Reasons.{IsOfferLine}
-use Rattle.sysmem_proof.specs.Members.{members_at, participants}
 use Rattle.sysmem_proof.proofs.FirstOnes.{contained_at, last_one, read_more, still_known, still_none, unsuited, was_none}
 use Rattle.sysmem_proof.proofs.first_refusing.read_offer.Goals as goal
 use Rattle.sysmem_proof.proofs.first_refusing.read_offer.Goals.{then-is_none+then-is_line-2, else-is_none, else-is_none-via-then-is_none+else-is_line-2, else-is_none-via-else-is_none}

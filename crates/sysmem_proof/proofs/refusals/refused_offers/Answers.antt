@@ -1,5 +1,5 @@
 -- One offer more is refused, or the lines end.
-use Rattle.std.proofs.Common.{◌≡◌, ◌≢◌, ◌<◌, length, Some, None, inl, inr, sym, ◌∙◌, ap, subst, arith}
+use Rattle.std.proofs.Common.{◌≡◌, ◌≢◌, ◌<◌, length, Some, inl, inr, sym, ◌∙◌, ap, subst, arith}
 use Rattle.std.proofs.Common.{length-append}
 use Rattle.std.specs.List.{AllZip}
 use Rattle.std.proofs.lemmas.Option.{slice_get_within}

@@ -1,10 +1,10 @@
 -- One heap more.
-use Rattle.std.proofs.Common.{length, ◌<◌, sym, ◌∙◌, ap, subst, drop, ◌+◌, arith}
+use Rattle.std.proofs.Common.{length, sym, ap, subst, drop, ◌+◌, arith}
 use Rattle.std.specs.List.{AllZip}
 use Rattle.sysmem_memory.specs.Listed.{HeapPlace, places_of}
 use Rattle.sysmem_proof.specs.Conflict.{RefusesPlace}
 use Rattle.sysmem_proof.specs.Refusals.{AreSoFar, Ends, EndsAt, SharePlace}
-use Rattle.sysmem_proof.proofs.Sofar.{all_done, heap_first, next_heap, no_heap, none_yet, they_end, they_go_on}
+use Rattle.sysmem_proof.proofs.Sofar.{all_done, next_heap, no_heap, none_yet, they_end, they_go_on}
 use Rattle.sysmem_proof.proofs.refusals.refused_places.Goals as goal
 
 pub returns-then-not-branch : goal.returns-then-not-branch

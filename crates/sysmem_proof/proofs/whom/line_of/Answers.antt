@@ -1,5 +1,5 @@
 -- One node more, named or not.
-use Rattle.std.proofs.Common.{sym, ◌∙◌, ap}
+use Rattle.std.proofs.Common.{◌∙◌, ap}
 use Rattle.sysmem_proof.proofs.AskedNodes.{named_push, named_past}
 use Rattle.sysmem_proof.proofs.whom.line_of.Goals as goal
 use Rattle.sysmem_proof.proofs.whom.line_of.Goals.{then-is_named+in_ok-path_of+in_ok-push, else-is_named}
