@@ -1,20 +1,24 @@
 -- A choice fails as its parts do, in their order.
-use Rattle.std.proofs.Common.{◌≡◌, inl, inr, ℕ, true, List, Option, Some, None, sym, subst}
-use Rattle.std.specs.Prelude.{MatchResult, Ok, Err, Result}
+use Rattle.std.proofs.Common.{◌≡◌, inl, inr, ℕ, true, List, Option, Some, None, sym, ap, subst}
+use Rattle.std.specs.Prelude.{◌↔◌, MatchResult, Ok, Err, Result, option_map}
 use Rattle.sysmem_merge.specs.declared.settings.Settings.{Settings}
 use Rattle.sysmem_sanitise.specs.Platform.{PlatformFacts, offers_of}
 use Rattle.sysmem_tree.specs.Forest.{Forest, settled}
+use Rattle.sysmem_tree.specs.Node.{NodeFacts}
 use Rattle.sysmem_tree.specs.Selection.{IsSelection}
 use Rattle.sysmem_tree.specs.Shape.{Member}
 use Rattle.sysmem_proof.specs.declared.no.No.{No}
-use Rattle.sysmem_proof.specs.Base.{Terms}
-use Rattle.sysmem_proof.specs.Certificate.{HoldBefore, RefutesEarlier, RefusePlacesBefore, RefuseBefore, RefuseBeforeFor}
+use Rattle.sysmem_proof.specs.Base.{BaseFacts, Terms, terms_of}
+use Rattle.sysmem_proof.specs.Certificate.{HasNoLines, HoldBefore, RefutesEarlier, RefusePlacesBefore, RefuseBefore, RefuseBeforeFor}
 use Rattle.sysmem_proof.specs.CertificateFacts.{CertificateFacts}
-use Rattle.sysmem_proof.specs.Check.{ChoicePasses, IsLeastFor}
+use Rattle.sysmem_proof.specs.Check.{ChoicePasses, IsLeastAt, IsLeastFor}
 use Rattle.sysmem_proof.specs.Choice.{FormFaults, SelectedFaults, SelectedPasses}
 use Rattle.sysmem_proof.specs.Conflict.{IsConflictFor, RefusesOffer}
 use Rattle.sysmem_proof.specs.Fault.{AreFew, ChoiceFaults, EarlierFaults, Faults, HasFittingLines, IsSelected, LinesFaults, NoFault, PlacesFault, SettingsFaults}
 use Rattle.sysmem_proof.specs.Line.{LineFacts}
+use Rattle.sysmem_proof.specs.Members.{participants}
+use Rattle.sysmem_proof.specs.Verdict.{MeetsFixed}
+use Rattle.sysmem_proof.specs.declared.refutation.Item.{Item}
 
 module _ (platform : PlatformFacts) (d : Forest Member) (selection : List ℕ) (s : Settings) (certificate : CertificateFacts) where
   module _ (terms : Option Terms) (e : Forest Member) (selects : IsSelection d selection e) where
@@ -102,3 +106,63 @@ pub form_then : {A : Type 0} (platform : PlatformFacts) (terms : Option Terms) (
     → MatchResult result (λ _. ChoicePasses platform terms d selection s certificate) (ChoiceFaults platform terms d selection s certificate)
 form_then platform terms d selection s certificate (Ok x) form f = (form.0, f.0, f.1)
 form_then platform terms d selection s certificate (Err why) form f = then_fails platform d selection s certificate terms why form f
+
+-- whether a certificate has lines only where there are some to have
+pub fitting_none : (nodes : List NodeFacts) (base : Option BaseFacts) (certificate : CertificateFacts) → None ≡ base → HasFittingLines (option_map (terms_of nodes) base) certificate
+fitting_none nodes base certificate is = subst (λ b. HasFittingLines (option_map (terms_of nodes) b) certificate) is tt
+
+pub fitting_some : (nodes : List NodeFacts) (base : Option BaseFacts) (b : BaseFacts) (certificate : CertificateFacts) → Some b ≡ base → HasNoLines certificate ↔ HasFittingLines (option_map (terms_of nodes) base) certificate
+fitting_some nodes base b certificate is = subst (λ x. HasNoLines certificate ↔ HasFittingLines (option_map (terms_of nodes) x) certificate) is ((λ h. h), (λ h. h))
+
+-- what is told of the settings of a choice, by what they are read from
+module _ (platform p : PlatformFacts) (d : Forest Member) (selection : List ℕ) (s t : Settings) (certificate : CertificateFacts) (e : Forest Member) (selects : IsSelection d selection e) (one : p ≡ platform) (two : t ≡ s) where
+  pub initial_fails : (terms : Option Terms) (why : No) → None ≡ terms → SettingsFaults p None (settled e) t NoFault why → SelectedFaults platform terms d selection s certificate why
+  initial_fails terms why none f = subst (λ x. SelectedFaults platform x d selection s certificate why) none (settings_fail platform d selection s certificate None e selects why
+      (subst (λ (x : Settings). SettingsFaults platform None (settled e) x NoFault why) two (subst (λ x. SettingsFaults x None (settled e) t NoFault why) one f)))
+
+  pub least_told : IsLeastAt p (participants (settled e)) t → IsLeastAt platform (participants (settled e)) s
+  least_told least = subst (λ (x : Settings). IsLeastAt platform (participants (settled e)) x) two (subst (λ x. IsLeastAt x (participants (settled e)) t) one least)
+
+  pub attached_fails : (terms : Option Terms) (given : Terms) (why : No) → Some given ≡ terms → SettingsFaults p (Some given) (settled e) t NoFault why → SelectedFaults platform terms d selection s certificate why
+  attached_fails terms given why some f = subst (λ x. SelectedFaults platform x d selection s certificate why) some (settings_fail platform d selection s certificate (Some given) e selects why
+      (subst (λ (x : Settings). SettingsFaults platform (Some given) (settled e) x NoFault why) two (subst (λ x. SettingsFaults x (Some given) (settled e) t NoFault why) one f)))
+
+  pub kept_told : (given : Terms) → MeetsFixed p given (settled e) t → MeetsFixed platform given (settled e) s
+  kept_told given met = subst (λ (x : Settings). MeetsFixed platform given (settled e) x) two (subst (λ x. MeetsFixed x given (settled e) t) one met)
+
+  -- the lines
+  pub lines_read : {A : Type 0} (ms : List Member) (result : Result A No) → ms ≡ settled e → MatchResult result (λ _. RefuseBefore p ms t certificate) (LinesFaults p None ms t certificate)
+      → MatchResult result (λ _. RefuseBefore platform (settled e) s certificate) (LinesFaults platform None (settled e) s certificate)
+  lines_read ms result three told =
+      subst (λ xs. MatchResult result (λ _. RefuseBefore platform xs s certificate) (LinesFaults platform None xs s certificate)) three
+      (subst (λ (x : Settings). MatchResult result (λ _. RefuseBefore platform ms x certificate) (LinesFaults platform None ms x certificate)) two
+      (subst (λ x. MatchResult result (λ _. RefuseBefore x ms t certificate) (LinesFaults x None ms t certificate)) one told))
+
+-- what is told of earlier selections
+pub earlier_read : {A : Type 0} (platform : PlatformFacts) (terms : Option Terms) (d : Forest Member) (xs selection : List ℕ) (rs earlier : List (List (List Item))) (result : Result A No) → xs ≡ selection → rs ≡ earlier
+    → MatchResult result (λ _. RefutesEarlier (IsConflictFor platform terms) d xs rs) (EarlierFaults platform terms d xs rs)
+    → MatchResult result (λ _. RefutesEarlier (IsConflictFor platform terms) d selection earlier) (EarlierFaults platform terms d selection earlier)
+earlier_read platform terms d xs selection rs earlier result one two told =
+    subst (λ x. MatchResult result (λ _. RefutesEarlier (IsConflictFor platform terms) d selection x) (EarlierFaults platform terms d selection x)) two
+    (subst (λ x. MatchResult result (λ _. RefutesEarlier (IsConflictFor platform terms) d x rs) (EarlierFaults platform terms d x rs)) one told)
+
+-- what is earlier, of an initial domain
+pub earlier_wrong : (platform : PlatformFacts) (terms : Option Terms) (d : Forest Member) (selection : List ℕ) (s : Settings) (certificate : CertificateFacts) (e : Forest Member) → IsSelection d selection e
+    → None ≡ terms → IsLeastAt platform (participants (settled e)) s → (xs : List ℕ) (rs : List (List (List Item))) (why : No) → xs ≡ selection → rs ≡ certificate.earlier
+    → EarlierFaults platform terms d xs rs why → SelectedFaults platform terms d selection s certificate why
+earlier_wrong platform terms d selection s certificate e selects none least xs rs why one two f =
+    subst (λ t. EarlierFaults platform t d selection certificate.earlier why → SelectedFaults platform t d selection s certificate why) none
+    (λ f. earlier_fails platform d selection s certificate None e selects least why f)
+    (subst (λ x. EarlierFaults platform terms d selection x why) two (subst (λ x. EarlierFaults platform terms d x rs why) one f))
+
+pub earlier_holds : (platform : PlatformFacts) (terms : Option Terms) (d : Forest Member) (selection : List ℕ) (certificate : CertificateFacts) (xs : List ℕ) (rs : List (List (List Item))) → xs ≡ selection
+    → rs ≡ certificate.earlier → RefutesEarlier (IsConflictFor platform terms) d xs rs → RefutesEarlier (IsConflictFor platform terms) d selection certificate.earlier
+earlier_holds platform terms d selection certificate xs rs one two h =
+    subst (λ x. RefutesEarlier (IsConflictFor platform terms) d selection x) two (subst (λ x. RefutesEarlier (IsConflictFor platform terms) d x rs) one h)
+
+-- the terms of a domain without a base, and with one
+pub no_terms : (nodes : List NodeFacts) (base : Option BaseFacts) → base ≡ None → None ≡ option_map (terms_of nodes) base
+no_terms nodes base is = sym (ap (option_map (terms_of nodes)) is)
+
+pub some_terms : (nodes : List NodeFacts) (base : Option BaseFacts) (b : BaseFacts) → base ≡ Some b → Some (terms_of nodes b) ≡ option_map (terms_of nodes) base
+some_terms nodes base b is = sym (ap (option_map (terms_of nodes)) is)

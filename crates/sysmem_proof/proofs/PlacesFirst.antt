@@ -3,6 +3,7 @@ use Rattle.std.proofs.Common.{◌≡◌, ◌≢◌, ◌<◌, ◌≤◌, ℕ, zer
 use Rattle.std.specs.Prelude.{All, IsTrue, MatchResult, Ok, Err, Result}
 use Rattle.std.specs.List.{AllZip}
 use Rattle.std.proofs.lemmas.List.{append-nil}
+use Rattle.std.proofs.lemmas.Option.{same_Some}
 use Rattle.std.proofs.lemmas.List.Elements.{All-nil, All-cons}
 use Rattle.sysmem_memory.specs.declared.domain.CoherencyDomain.{CoherencyDomain}
 use Rattle.sysmem_memory.specs.declared.domain.CoherencyDomain.TheVariants.{Cpu, Ram, Inaccessible}
@@ -240,13 +241,19 @@ module _ (ms : List Member) (told cpus rams others : List HeapPlace) (lines : Li
   last_told result h = subst (λ xs. MatchResult result (λ next. AreTold ms xs lines next) (λ why. (more : List HeapPlace) → PlaceLinesFault ms (xs ++ more) lines why))
       (append_assoc (told ++ cpus) rams others ∙ append_assoc told cpus (rams ++ others)) h
 
+-- one heap more
+pub heap_told : (ms : List Member) (heaps : List HeapFacts) (lines : List LineFacts) (k next : ℕ) (h : HeapFacts) (domains : CoherencyDomains) → slice_get heaps k ≡ Some h → domains ≡ h.domains
+    → AreTold ms (places_of (take k heaps) ++ places_in k h domains) lines next → AreTold ms (places_of (take (k + 1) heaps)) lines next
+heap_told ms heaps lines k next h domains is same are = subst (λ xs. AreTold ms xs lines next) (ap (λ d. places_of (take k heaps) ++ places_in k h d) same ∙ sym (heap_more heaps k h is)) are
+
+-- what is read of heaps
+pub read_heap : (heaps : List HeapFacts) (k : ℕ) (h : HeapFacts) → h ≡ get_or heaps k h → k < length heaps → slice_get heaps k ≡ Some h
+read_heap [] k h is less = absurd (omega (arith, less))
+read_heap (x ∷ heaps) zero h is less = ap Some (sym is)
+read_heap (x ∷ heaps) (suc k) h is less = read_heap heaps k h is (omega (arith, less))
+
 -- all places before one in the last of some heaps
 module _ (ms : List Member) (heaps : List HeapFacts) (lines : List LineFacts) (place : Place) (last : HeapFacts) (here : slice_get heaps place.heap ≡ Some last) where
-  -- one heap more
-  pub heap_told : (k next : ℕ) (h : HeapFacts) (domains : CoherencyDomains) → slice_get heaps k ≡ Some h → domains ≡ h.domains → AreTold ms (places_of (take k heaps) ++ places_in k h domains) lines next
-      → AreTold ms (places_of (take (k + 1) heaps)) lines next
-  heap_told k next h domains is same are = subst (λ xs. AreTold ms xs lines next) (ap (λ d. places_of (take k heaps) ++ places_in k h d) same ∙ sym (heap_more heaps k h is)) are
-
   pub heap_fails : (k : ℕ) (h : HeapFacts) (domains : CoherencyDomains) (why : No) → k < place.heap → slice_get heaps k ≡ Some h → domains ≡ h.domains
       → ((more : List HeapPlace) → PlaceLinesFault ms ((places_of (take k heaps) ++ places_in k h domains) ++ more) lines why) → PlaceLinesFault ms (places_before heaps last place) lines why
   heap_fails k h domains why less is same f =
@@ -254,14 +261,19 @@ module _ (ms : List Member) (heaps : List HeapFacts) (lines : List LineFacts) (p
       subst (λ xs. PlaceLinesFault ms xs lines why) (ap (λ d. (places_of (take k heaps) ++ places_in k h d) ++ more) same ∙ sym e) (f more)
 
   -- and those before it in that one
-  pub last_fails : (domains : CoherencyDomains) (why : No) → domains ≡ up_to last.domains place.coherency
-      → ((more : List HeapPlace) → PlaceLinesFault ms ((places_of (take place.heap heaps) ++ places_in place.heap last domains) ++ more) lines why) → PlaceLinesFault ms (places_before heaps last place) lines why
-  last_fails domains why same f =
-      subst (λ xs. PlaceLinesFault ms xs lines why) (append-nil (places_of (take place.heap heaps) ++ places_in place.heap last domains) ∙ ap (λ d. places_of (take place.heap heaps) ++ places_in place.heap last d) same) (f [])
+  module _ (k : ℕ) (h : HeapFacts) (domains : CoherencyDomains) (end : k ≡ place.heap) (is : slice_get heaps place.heap ≡ Some h) (up : domains ≡ up_to h.domains place.coherency) where
+    same : places_of (take k heaps) ++ places_in place.heap h domains ≡ places_before heaps last place
+    same =
+        let one : h ≡ last = same_Some h last (sym is ∙ here) in
+        ap (λ n. places_of (take n heaps) ++ places_in place.heap h domains) end ∙ (ap (λ d. places_of (take place.heap heaps) ++ places_in place.heap h d) up
+        ∙ ap (λ (x : HeapFacts). places_of (take place.heap heaps) ++ places_in place.heap x (up_to x.domains place.coherency)) one)
 
-  pub last_all : (domains : CoherencyDomains) (many : ℕ) → domains ≡ up_to last.domains place.coherency → AreTold ms (places_of (take place.heap heaps) ++ places_in place.heap last domains) lines many
-      → AreTold ms (places_before heaps last place) lines many
-  last_all domains many same are = subst (λ d. AreTold ms (places_of (take place.heap heaps) ++ places_in place.heap last d) lines many) same are
+    pub last_fails : (why : No) → ((more : List HeapPlace) → PlaceLinesFault ms ((places_of (take k heaps) ++ places_in place.heap h domains) ++ more) lines why)
+        → PlaceLinesFault ms (places_before heaps last place) lines why
+    last_fails why f = subst (λ xs. PlaceLinesFault ms xs lines why) (append-nil (places_of (take k heaps) ++ places_in place.heap h domains) ∙ same) (f [])
+
+    pub last_all : (many : ℕ) → AreTold ms (places_of (take k heaps) ++ places_in place.heap h domains) lines many → AreTold ms (places_before heaps last place) lines many
+    last_all many are = subst (λ xs. AreTold ms xs lines many) same are
 
   pub all_held : (many : ℕ) → length lines ≤ many → AreTold ms (places_before heaps last place) lines many → AllZip (RefusesPlace ms) (places_before heaps last place) lines
   all_held many over are = told_all (RefusesPlace ms) (places_before heaps last place) lines many over are.each

@@ -42,7 +42,7 @@ many_told nodes r counted one is many few = let same = same_count nodes r one in
 abbrev pub Selects : {A : Type 0} → Forest A → List ℕ → Type 0
 Selects {A} d cs = (e : Forest A) × IsSelection d cs e
 
-selects_prefix : {A : Type 0} (d : Forest A) (cs : List ℕ) → Selects d cs → IsPrefix d cs
+pub selects_prefix : {A : Type 0} (d : Forest A) (cs : List ℕ) → Selects d cs → IsPrefix d cs
 selects_prefix d cs (e, s) = subst IsSome (sym s.leads) refl
 
 module _ (layout : Layout) (d : Forest ℕ) (cs : List ℕ) (k : ℕ) (laws : PrefixOfPrefix) where

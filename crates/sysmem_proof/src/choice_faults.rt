@@ -2,7 +2,7 @@
 
 ghost use Rattle.std.specs.Prelude.{◌≡◌, ◌↔◌, [], Some, None, IsTrue, MatchResult};
 ghost use Rattle.sysmem_merge.specs.Settings.{Meets};
-ghost use Rattle.sysmem_proof.specs.Certificate.{RefuseBefore};
+ghost use Rattle.sysmem_proof.specs.Certificate.{HasNoLines, RefuseBefore};
 ghost use Rattle.sysmem_proof.specs.Check.{ChoicePasses};
 ghost use Rattle.sysmem_proof.specs.Checker.{forest, terms};
 ghost use Rattle.sysmem_proof.specs.Choice.{FormFaults, SelectedFaults, SelectedPasses};
@@ -24,17 +24,20 @@ use sysmem_merge::Settings;
 use sysmem_sanitise::Platform;
 use sysmem_tree::Prefix;
 
+/// Whether the certificate has no lines.
+fn has_no_lines(certificate: &Certificate) -> bool
+    ensures { IsTrue result ↔ HasNoLines certificate.now }
+{
+    certificate.offers().as_slice().is_empty() && certificate.places().as_slice().is_empty()
+}
+
 /// Whether the certificate has lines only where a choice in the domain has some: an attached one has none.
 fn has_fitting_lines(checker: &Checker<'_>, certificate: &Certificate) -> bool
     ensures { IsTrue result ↔ HasFittingLines (terms checker.now) certificate.now }
 {
     match checker.base() {
         None => true,
-        Some(_) => {
-            let offers = certificate.offers().as_slice();
-            let places = certificate.places().as_slice();
-            offers.is_empty() && places.is_empty()
-        }
+        Some(_) => has_no_lines(certificate),
     }
 }
 

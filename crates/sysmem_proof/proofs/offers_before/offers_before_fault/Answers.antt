@@ -4,6 +4,7 @@ use Rattle.std.specs.List.{AllZip}
 use Rattle.sysmem_proof.specs.Conflict.{RefusesOffer}
 use Rattle.sysmem_proof.specs.Roll.{listed}
 use Rattle.sysmem_sanitise.specs.Platform.{offers_of}
+use Rattle.sysmem_proof.proofs.Left.{of_err}
 use Rattle.sysmem_proof.proofs.Equal.{offer_cases}
 use Rattle.sysmem_proof.proofs.OffersFirst.{held, over, missing, fails_at, inside, none_more, offer_read}
 use Rattle.sysmem_proof.proofs.LineByLine.{told_more, front_more}
@@ -21,7 +22,7 @@ returns-in_default c = absurd (inside offer_cases c.args.settings.now.offer (off
 pub returns-in_err-offer_fault : goal.returns-in_err-offer_fault
 returns-in_err-offer_fault c =
     let here = offer_read c.args.platform.now _ _ c.loop-index.index (Some c.in-Some.offer) c.pairs.ensures.pairs c.colours.ensures.colours c.in-Some.ensures in
-    (fails_at offer_cases c.args.settings.now.offer (offers_of c.args.platform.now) c.requires (RefusesOffer true (listed c.args.roll.now)) (listed c.args.roll.now) c.args.lines.now
+    of_err c.from_residual.result _ _ _ c.from_residual.ensures.1 (λ y same. same) (fails_at offer_cases c.args.settings.now.offer (offers_of c.args.platform.now) c.requires (RefusesOffer true (listed c.args.roll.now)) (listed c.args.roll.now) c.args.lines.now
     c.loop-index.index c.loop-index.invariant.none c.loop-index.invariant.told c.in-Some.offer c.index-lines-index.result _ here
     (λ is. (let yes' = c.is_offer_at.ensures.1 is in let no' = c.if-is_offer_at.false in absurd (cc))) c.loop-index-test.true c.index-lines-index.is c.in_err-offer_fault.ensures)
 
