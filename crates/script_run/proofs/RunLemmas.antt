@@ -16,36 +16,36 @@ use Rattle.script_run.specs.declared.report.Report.{Report}
 use Rattle.script_run.specs.declared.running.Ended.{Ended}
 use Rattle.script_run.specs.declared.running.Ended.TheVariants.{Done, MemoryRefused}
 use Rattle.script_run.specs.Faults.{fault_of_parse, fault_of_read}
-use Rattle.script_run.specs.Outcome.{ReportFacts, RunsTo, report_seen}
+use Rattle.script_run.specs.Outcome.{ReportFacts, RunsTo, RunsWith, SaysOf, anyhow, report_seen}
 use Rattle.script_run.specs.Run.{Ran, Writes, WritesPart}
 
 whole-read : (input rest bytes : List ℕ) → input ≡ bytes ++ rest → (length bytes ≤ longest → rest ≡ []) → length bytes ≤ longest → input ≡ bytes
 whole-read input rest bytes e all short = e ∙ (ap (λ (t : List ℕ). bytes ++ t) (all short) ∙ append-nil bytes)
 
-runs-read : (input rest bytes : List ℕ) (said : Result ReportFacts ScriptFault) → input ≡ bytes ++ rest → (length bytes ≤ longest → rest ≡ [])
-    → RunsTo bytes said → RunsTo input said
-runs-read input rest bytes _ e all (too_long long) = rw e (too_long (omega (arith, length-append bytes rest)))
-runs-read input rest bytes _ e all (not_json short none) = rw (whole-read input rest bytes e all short) (not_json short none)
-runs-read input rest bytes _ e all (spelled value short json answer said) = rw (whole-read input rest bytes e all short) (spelled value short json answer said)
+runs-read : (says : SaysOf) (input rest bytes : List ℕ) (said : Result ReportFacts ScriptFault) → input ≡ bytes ++ rest → (length bytes ≤ longest → rest ≡ [])
+    → RunsWith says bytes said → RunsWith says input said
+runs-read says input rest bytes _ e all (too_long long) = rw e (too_long (omega (arith, length-append bytes rest)))
+runs-read says input rest bytes _ e all (not_json short none) = rw (whole-read input rest bytes e all short) (not_json short none)
+runs-read says input rest bytes _ e all (spelled value short json answer said) = rw (whole-read input rest bytes e all short) (spelled value short json answer said)
 
 -- what holds of the bytes that were read holds of the input
-runs-input : (old new : Option (List ℕ)) (bytes : List ℕ) (said : Result ReportFacts ScriptFault) → ReadsToLimit longest old new bytes → RunsTo bytes said
-    → IfSome old (λ input. RunsTo input said)
-runs-input None new bytes said read runs = tt
-runs-input (Some input) None bytes said read runs = absurd read.taken
-runs-input (Some input) (Some rest) bytes said read runs = runs-read input rest bytes said read.taken read.all runs
+pub runs-input : (says : SaysOf) (old new : Option (List ℕ)) (bytes : List ℕ) (said : Result ReportFacts ScriptFault) → ReadsToLimit longest old new bytes → RunsWith says bytes said
+    → IfSome old (λ input. RunsWith says input said)
+runs-input says None new bytes said read runs = tt
+runs-input says (Some input) None bytes said read runs = absurd read.taken
+runs-input says (Some input) (Some rest) bytes said read runs = runs-read says input rest bytes said read.taken read.all runs
 
 part-input : (old new before after : Option (List ℕ)) (bytes : List ℕ) (report : ReportFacts) → ReadsToLimit longest old new bytes
     → RunsTo bytes (Ok report) → WritesFront before after report.text → IfSome old (λ input. WritesPart input before after)
 part-input None new before after bytes report read runs front = tt
 part-input (Some input) new before after bytes report read runs front = record {
   report = report;
-  runs = runs-input (Some input) new bytes (Ok report) read runs;
+  runs = runs-input anyhow (Some input) new bytes (Ok report) read runs;
   front = front;
 }
 
 -- nothing behind what is held leaves it as it is
-Appends-nothing : (hold : Option (List ℕ)) → Appends hold hold []
+pub Appends-nothing : (hold : Option (List ℕ)) → Appends hold hold []
 Appends-nothing None = tt
 Appends-nothing (Some bytes) = sym (append-nil bytes)
 
@@ -75,7 +75,7 @@ pub ran-refused : (result : Result Ended RunFault) (fault : ParseFault) (old new
 ran-refused result parsing.NoMemory old new hold bytes e read said = rw e (ran-early NoMemory old hold (λ is. absurd (cc)) (λ found is. absurd (cc)))
 ran-refused result (parsing.Refused fault) old new hold bytes e read said =
     rw e (ran-early (Script fault) old hold (λ is. absurd (cc))
-    (λ found is. let same : fault ≡ found = (cc) in runs-input old new bytes (Err found) read (rw (← same) said)))
+    (λ found is. let same : fault ≡ found = (cc) in runs-input anyhow old new bytes (Err found) read (rw (← same) said)))
 
 module _ (old new before after : Option (List ℕ)) (bytes : List ℕ) (report : ReportFacts)
     (read : ReadsToLimit longest old new bytes) (runs : RunsTo bytes (Ok report)) where
@@ -99,7 +99,7 @@ module _ (old new before after : Option (List ℕ)) (bytes : List ℕ) (report :
   pub ran-starved : report.starved ≡ true → Appends before after report.text → Ran (Ok MemoryRefused) old before after
   ran-starved e written = record {
     done = λ is. absurd (cc);
-    starved = λ is. writes old true e written (runs-input old new bytes (Ok report) read runs);
+    starved = λ is. writes old true e written (runs-input anyhow old new bytes (Ok report) read runs);
     unchecked = λ is. absurd (cc);
     refused = λ found is. absurd (cc);
     front = λ is. absurd (cc);
@@ -109,7 +109,7 @@ module _ (old new before after : Option (List ℕ)) (bytes : List ℕ) (report :
   -- a run that wrote a report in which memory was not refused
   pub ran-done : report.starved ≡ false → Appends before after report.text → Ran (Ok Done) old before after
   ran-done e written = record {
-    done = λ is. writes old false e written (runs-input old new bytes (Ok report) read runs);
+    done = λ is. writes old false e written (runs-input anyhow old new bytes (Ok report) read runs);
     starved = λ is. absurd (cc);
     unchecked = λ is. absurd (cc);
     refused = λ found is. absurd (cc);

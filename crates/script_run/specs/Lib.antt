@@ -1,4 +1,5 @@
 pub mod Answer
+pub mod Certificate
 pub mod Deciding
 pub mod Faults
 pub mod Laws

@@ -69,8 +69,10 @@ pub(crate) trait Decider {
             }))) }
         ensures gave { IfOk result (λ claim. (cs : List Certified)
             → gave self.old book.now.platform cs
-            → gave self.new book.now.platform (cs ++ (path_of book.now.state.tree.nodes domain,
-                option_map (λ shared. arc_value shared) claim) ∷ [])) }
+            → gave self.new book.now.platform (cs ++ (
+              path_of book.now.state.tree.nodes domain,
+              option_map (λ shared. arc_value shared) claim,
+            ) ∷ [])) }
         ensures kept { IfErr result (λ stop. IfObjects stop (λ objection. (cs : List Certified)
             → gave self.old book.now.platform cs → gave self.new book.now.platform cs)) }
         ensures objects { IfErr result (λ stop. IfObjects stop

@@ -42,7 +42,7 @@ pub(crate) fn claim_for(alloc: Global, book: &Book, domain: DomainId) -> Option<
     };
     let claim = Claim {
         verdict: found.verdict,
-        proof: sysmem_proof::Proof::Nothing,
+        proof: found.proof,
     };
     let Ok(shared) = Arc::new(alloc, claim) else {
         return None;

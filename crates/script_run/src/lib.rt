@@ -3,11 +3,11 @@
 //! ```
 //! let mut reader = Counted::new(file);
 //! let mut writer = Counted::new(io::writer(&rt));
-//! let mut proof = Counted::new(io::sink());
-//! let ended = run(rt.alloc(), &mut reader, &mut writer, &mut proof)?;
+//! let ended = run(rt.alloc(), &mut reader, &mut writer)?;
 //! ```
 #![tactic(auto)]
 
+mod certifying;
 mod decider;
 mod deciding;
 mod domain_line;
@@ -23,4 +23,4 @@ mod searching;
 mod telling;
 
 pub use fault::RunFault;
-pub use running::{Ended, run};
+pub use running::{Ended, run, run_with_proof};

@@ -1,20 +1,23 @@
 //! A script's run, from its bytes to its report.
 
-ghost use Rattle.std.specs.Prelude.{◌≡◌, [], Err, IfOk, IfErr};
+ghost use Rattle.std.specs.Prelude.{◌≡◌, ◌≢◌, [], Err, IfOk, IfErr, OnErr, OnOk};
+ghost use Rattle.std.specs.Io.KnownBytes.{Appends};
 ghost use Rattle.std.specs.String.{string_bytes};
 ghost use Rattle.serde_json.specs.View.{view};
 ghost use Rattle.script_reading.specs.Faults.{GivesOneOf};
 ghost use Rattle.script_reading.specs.Seen.{script_seen};
 ghost use Rattle.script_run.specs.Outcome.{RunsWith, ValueRunsTo, report_seen};
 ghost use Rattle.script_run.specs.Report.{IsReported};
-ghost use Rattle.script_run.specs.Run.{IsCausedBy, Ran};
+ghost use Rattle.script_run.specs.Run.{IsCausedBy, Ran, RanWithProof, WritesFronts, both_counts};
+ghost use Rattle.script_run.specs.Certificate.{CertifiesTo, certified_seen};
 ghost use Rattle.sysmem_sanitise.specs.Platform.{PlatformFacts};
 
+use crate::certifying::Certifying;
 use crate::decider::Decider;
 use crate::fault::RunFault;
 use crate::report::{Report, report_of};
 use crate::searching::Searching;
-use byte_transfer::{Sink, Source, read_up_to_limit, write_fully};
+use byte_transfer::{Sink, Source, WriteFault, read_up_to_limit, write_fully};
 use script_reading::{LONGEST, ParseFault, Script, parse_script, read_script};
 use serde_json::Value;
 use std::alloc::Global;
@@ -55,12 +58,88 @@ pub fn run<R: Source, W: Sink>(
     Ok(Ended::Done)
 }
 
-/// The report of a script's bytes, whose domains are decided so.
-fn report_on<D: Decider>(
+/// Reads a script, makes its calls, and writes their report, and then the certificate of its decisions to `proof`.
+///
+/// Any failure of the reader is the fault `Read`, and any of a writer the fault `Write`; what was written then is a prefix of
+/// the report, or the whole report and a prefix of the certificate. No other fault is called so. The certificate is made
+/// before anything is written: where memory is refused to it, nothing is, as where the script is refused.
+pub fn run_with_proof<R: Source, W: Sink, P: Sink>(
     alloc: Global,
-    bytes: &[u8],
-    decider: &mut D,
-) -> Result<Report, ParseFault>
+    reader: &mut R,
+    writer: &mut W,
+    proof: &mut P,
+) -> Result<Ended, RunFault>
+    ensures ran { RanWithProof result (R.remaining reader.old)
+        (W.contents writer.old) (W.contents writer.new)
+        (P.contents proof.old) (P.contents proof.new) }
+    ensures read_fault { IsCausedBy (result ≡ Err RunFault.Read)
+        (R.failures reader.old) (R.failures reader.new) }
+    ensures write_fault { IsCausedBy (result ≡ Err RunFault.Write)
+        (both_counts (W.failures writer.old) (P.failures proof.old))
+        (both_counts (W.failures writer.new) (P.failures proof.new)) }
+{
+    let bytes = read_up_to_limit(alloc, reader, LONGEST)?;
+    let certified = certified_report(alloc, &bytes)?;
+    let text = certified.report.text.as_bytes();
+    write_both(writer, text, proof, &certified.certificate)?;
+    if certified.report.starved {
+        return Ok(Ended::MemoryRefused);
+    }
+    Ok(Ended::Done)
+}
+
+/// A report, and the certificate of its decisions.
+#[derive(Debug, Drop)]
+struct CertifiedReport {
+    report: Report,
+    certificate: Vec<u8>,
+}
+
+/// The report of a script's bytes with its certificate.
+fn certified_report(alloc: Global, bytes: &[u8]) -> Result<CertifiedReport, ParseFault>
+    ensures { GivesOneOf certified_seen result (CertifiesTo bytes.now) }
+{
+    let Ok(mut certifying) = Certifying::new(alloc) else {
+        return Err(ParseFault::NoMemory);
+    };
+    let report = match report_on(alloc, bytes, &mut certifying) {
+        Ok(report) => report,
+        Err(fault) => return Err(fault),
+    };
+    let Ok(certificate) = certifying.finish() else {
+        return Err(ParseFault::NoMemory);
+    };
+    Ok(CertifiedReport {
+        report,
+        certificate,
+    })
+}
+
+/// Writes a text, and then another.
+fn write_both<W: Sink, P: Sink>(
+    writer: &mut W,
+    text: &[u8],
+    other: &mut P,
+    proof: &[u8],
+) -> Result<(), WriteFault>
+    ensures first { OnOk result
+        (Appends (W.contents writer.old) (W.contents writer.new) text.now) }
+    ensures then { OnOk result
+        (Appends (P.contents other.old) (P.contents other.new) proof.now) }
+    ensures fronts { OnErr result (WritesFronts (W.contents writer.old) (W.contents writer.new)
+        (P.contents other.old) (P.contents other.new) text.now proof.now) }
+    ensures worked { OnOk result (both_counts (W.failures writer.new) (P.failures other.new)
+        ≡ both_counts (W.failures writer.old) (P.failures other.old)) }
+    ensures failed { OnErr result (both_counts (W.failures writer.new) (P.failures other.new)
+        ≢ both_counts (W.failures writer.old) (P.failures other.old)) }
+{
+    write_fully(writer, text)?;
+    write_fully(other, proof)?;
+    Ok(())
+}
+
+/// The report of a script's bytes, whose domains are decided so.
+fn report_on<D: Decider>(alloc: Global, bytes: &[u8], decider: &mut D) -> Result<Report, ParseFault>
     requires { (platform : PlatformFacts) → D.gave decider.old platform [] }
     ensures { GivesOneOf report_seen result (RunsWith (D.gave decider.new) bytes.now) }
 {

@@ -8,7 +8,7 @@ mod words;
 use byte_transfer::Counted;
 use clap::Error;
 pub use ending::{Ending, ending_of, refusal_ending};
-pub use script_run::{Ended, RunFault, run};
+pub use script_run::{Ended, RunFault, run, run_with_proof};
 use std::fs::File;
 use std::process::ExitCode;
 use std::{env, io};
@@ -69,7 +69,6 @@ fn run_file(rt: &HostRuntime, file: &str) -> Result<Ended, RunFault> {
         rt.alloc(),
         &mut Counted::new(script),
         &mut Counted::new(io::writer(rt)),
-        &mut Counted::new(io::sink()),
     )
 }
 

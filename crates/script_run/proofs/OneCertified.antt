@@ -1,0 +1,18 @@
+-- One decision more in a certificate.
+use Rattle.std.proofs.Common.{◌≡◌, ℕ, ◌++◌, List, [], ◌∷◌, Option, sym, ◌∙◌, ap}
+use Rattle.std.proofs.lemmas.List.{map-append}
+use Rattle.certificate_text.specs.Told.{decision_data}
+use Rattle.serde_json.specs.Data.{Data}
+use Rattle.sysmem_proof.specs.declared.certificate.Claim.{Claim}
+use Rattle.sysmem_sanitise.specs.Platform.{PlatformFacts}
+use Rattle.script_run.specs.Certificate.{data_of}
+use Rattle.script_run.specs.Report.{Certified}
+
+-- the data of decisions with one more, however it was lent
+pub data_push : (platform p : PlatformFacts) (cs : List Certified) (path given : List ℕ) (claim lent : Option Claim) → p ≡ platform → given ≡ path → lent ≡ claim
+    → data_of platform cs ++ decision_data p given lent ∷ [] ≡ data_of platform (cs ++ (path, claim) ∷ [])
+data_push platform p cs path given claim lent a b d =
+    let one : Certified = (path, claim) in
+    let same : decision_data p given lent ≡ decision_data platform path claim = ap (λ (q : PlatformFacts). decision_data q given lent) a
+    ∙ (ap (λ (g : List ℕ). decision_data platform g lent) b ∙ ap (λ (o : Option Claim). decision_data platform path o) d) in
+    ap (λ (x : Data). data_of platform cs ++ x ∷ []) same ∙ sym (map-append (λ (c : Certified). decision_data platform c.0 c.1) cs (one ∷ []))

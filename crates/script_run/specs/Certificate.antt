@@ -1,0 +1,38 @@
+-- The certificate of a script's decisions.
+use Rattle.std.specs.Prelude.{◌≡◌, ℕ, List, map, Bool, Result, Ok, Err}
+use Rattle.certificate_text.specs.Certificate.{certificate_text}
+use Rattle.certificate_text.specs.Told.{decision_data}
+use Rattle.serde_json.specs.Data.{Data}
+use Rattle.sysmem_sanitise.specs.Platform.{PlatformFacts}
+use Rattle.script_reading.specs.declared.fault.ScriptFault.{ScriptFault}
+use Rattle.script_run.specs.declared.running.CertifiedReport.{CertifiedReport}
+use Rattle.script_run.specs.Outcome.{RunsTo, RunsWith, SaysOf}
+use Rattle.script_run.specs.Report.{Certified}
+use Rattle.std.specs.String.{string_bytes}
+
+-- decisions as data, each with its path
+abbrev pub data_of : PlatformFacts → List Certified → List Data
+data_of platform decisions = map (λ c. decision_data platform c.0 c.1) decisions
+
+-- their text
+abbrev pub certificate_of : PlatformFacts → List Certified → List ℕ
+certificate_of platform decisions = certificate_text (data_of platform decisions)
+
+-- a text is that of the decisions
+abbrev pub certified_by : List ℕ → SaysOf
+certified_by certificate platform decisions = certificate ≡ certificate_of platform decisions
+
+-- a report, the certificate of its decisions, and whether memory was refused
+pub record CertifiedFacts : Type 0 where
+  pub text : List ℕ
+  pub certificate : List ℕ
+  pub starved : Bool
+
+-- what the program's stands for
+abbrev pub certified_seen : CertifiedReport → CertifiedFacts
+certified_seen c = record { text = string_bytes c.report.text; certificate = c.certificate.items; starved = c.report.starved }
+
+-- what the bytes of a script give: a fault of theirs, or a report with its certificate
+abbrev pub CertifiesTo : List ℕ → Result CertifiedFacts ScriptFault → Type 0
+CertifiesTo input (Ok c) = RunsWith (certified_by c.certificate) input (Ok (record { text = c.text; starved = c.starved }))
+CertifiesTo input (Err fault) = RunsTo input (Err fault)
