@@ -1,5 +1,5 @@
 -- The settings, then what is earlier.
-use Rattle.std.proofs.Common.{◌≡◌, ◌≤◌, Some, All, length, sym, ◌∙◌, ap, subst}
+use Rattle.std.proofs.Common.{◌≡◌, ◌≤◌, Some, All, length, sym, subst}
 use Rattle.std.specs.Prelude.{IsPermutation}
 use Rattle.sysmem_tree.specs.Forest.{settled}
 use Rattle.sysmem_tree.specs.Nodes.{HasNode}

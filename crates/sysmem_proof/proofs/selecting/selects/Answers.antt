@@ -1,5 +1,5 @@
 -- One choice more.
-use Rattle.std.proofs.Common.{◌≡◌, ◌∷◌, ◌++◌, [], Some, None, take, get_or, sym, ◌∙◌, ap, subst, arith}
+use Rattle.std.proofs.Common.{take, get_or, sym, subst, arith}
 use Rattle.std.proofs.lemmas.List.{take_more, take_all}
 use Rattle.sysmem_tree.specs.OpenGroups.{IsFirstOpen}
 use Rattle.sysmem_proof.proofs.Selections.{none_for, no_child, a_child, whole_where, none_when, none_is}
