@@ -66,9 +66,3 @@ pub front_more : {X : Type 0} (xs : List X) (k : ℕ) (x : X) → slice_get xs k
 front_more [] k x is = absurd (cc (is))
 front_more (y ∷ xs) zero x is = let same : y ≡ x = cc (is) in ap (λ z. z ∷ []) same
 front_more (y ∷ xs) (suc k) x is = let on : suc k + 1 ≡ suc (k + 1) = omega arith in ap (λ n. take n (y ∷ xs)) on ∙ ap (λ zs. y ∷ zs) (front_more xs k x is)
-
--- a list ends where nothing more is
-pub ends_at : {X : Type 0} (xs : List X) (k : ℕ) → slice_get xs k ≡ None → length xs ≤ k
-ends_at [] k is = omega arith
-ends_at (x ∷ xs) zero is = absurd (cc (is))
-ends_at (x ∷ xs) (suc k) is = let h = ends_at xs k is in omega (arith, h)

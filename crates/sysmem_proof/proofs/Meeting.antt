@@ -38,21 +38,6 @@ named_same (Image pair colour) ds es order =
     ∙ (ap (λ t. format_named o es && t && colour_named o ds) (any_in_order (λ (d : OfferDemand). names_modifier (first_match o d.entries)) ds es order)
     ∙ ap (λ t. format_named o es && modifier_named o es && t) (any_in_order (λ (d : OfferDemand). names_colour o (first_match o d.entries)) ds es order))
 
--- the parts of an image's name are all named where none is unnamed
-all_true : (a b c : Bool) → (a ≡ false → ⊥) → (b ≡ false → ⊥) → (c ≡ false → ⊥) → (a && b && c) ≡ true
-all_true true true true x y z = refl
-all_true false b c x y z = absurd (x refl)
-all_true true false c x y z = absurd (y refl)
-all_true true true false x y z = absurd (z refl)
-
-some_image : (pair : _) (colour : _) → Image pair colour ≢ NoImage
-some_image pair colour same = cc (same)
-
-pub named_by : (o : Offer) (ds : List OfferDemand) → ¬ (IsUnnamedLine UnnamedPixelFormat o ds) → ¬ (IsUnnamedLine UnnamedPixelFormatModifier o ds) → ¬ (IsUnnamedLine UnnamedColorSpace o ds) → is_named o ds ≡ true
-named_by NoImage ds x y z = refl
-named_by (Image pair colour) ds x y z = all_true (format_named (Image pair colour) ds) (modifier_named (Image pair colour) ds) (colour_named (Image pair colour) ds)
-    (λ e. x (some_image pair colour, e)) (λ e. y (some_image pair colour, e)) (λ e. z (some_image pair colour, e))
-
 module _ (platform : PlatformFacts) (s : Settings) where
   -- sound settings that each participant accepts, with a count that suits all, and an image that is named
   pub meets_parts : (ps : List Participant) → (heap : HeapFacts) × IsSound platform heap s → All (CoversOn platform s) ps → IsCounted (counts_asked ps) s.count → IsNamed s.offer ps → Meets platform ps s
