@@ -4,17 +4,16 @@ use Rattle.std.specs.Prelude.{◌↔◌, ◌||◌, All, IfSome, IsPermutation, I
 use Rattle.std.specs.List.{cons_option, list_any}
 use Rattle.std.proofs.lemmas.List.{take_more, take_all, take-append-drop, map-append}
 use Rattle.std.proofs.lemmas.List.Elements.{All-nil, All-cons, All-head, All-tail, filter_map-append}
-use Rattle.std.proofs.lemmas.List.Sorted.{All-permutation, IsPermutation-refl, IsPermutation-sym, IsPermutation-map, IsPermutation-append}
+use Rattle.std.proofs.lemmas.List.Sorted.{All-permutation, IsPermutation-sym, IsPermutation-map}
 use Rattle.list_lemmas.proofs.CallerLemmas.{slice_get_some, some_in_order}
 use Rattle.sysmem_counts.proofs.CallerLemmas.{counted_some}
-use Rattle.sysmem_counts.specs.Counts.{IsCounted, IsLeastCount}
+use Rattle.sysmem_counts.specs.Counts.{IsCounted}
 use Rattle.sysmem_counts.specs.declared.constraints.CountConstraints.{CountConstraints}
-use Rattle.sysmem_merge.specs.Demands.{counts_asked, offer_demand, offer_demands}
+use Rattle.sysmem_merge.specs.Demands.{counts_asked}
 use Rattle.sysmem_sanitise.specs.Participant.{Participant}
 use Rattle.sysmem_tree.specs.Node.{NodeFacts}
 use Rattle.sysmem_tree.specs.Nodes.{HasNode}
 use Rattle.sysmem_proof.specs.Asked.{asks_at, asked_in}
-use Rattle.sysmem_proof.proofs.Orders.{taken_in_order}
 
 -- what a node that is there was told to ask
 pub told : (nodes : List NodeFacts) (n : ℕ) (o : Option Participant) → n < length nodes → IfSome (slice_get nodes n) (λ x. o ≡ x.constraints) → o ≡ asks_at nodes n

@@ -1,5 +1,5 @@
 -- Whether settings meet participants, part by part and in any order of them.
-use Rattle.std.proofs.Common.{◌≡◌, ◌≢◌, Bool, true, false, ◌&&◌, ℕ, List, ◌++◌, All, refl, sym, ◌∙◌, ap, subst}
+use Rattle.std.proofs.Common.{◌≡◌, true, ◌&&◌, ℕ, List, ◌++◌, All, refl, sym, ◌∙◌, ap, subst}
 use Rattle.std.specs.Prelude.{IsPermutation}
 use Rattle.std.proofs.lemmas.List.Elements.{All-weaker, filter_map-append}
 use Rattle.std.proofs.lemmas.List.Sorted.{All-permutation, IsPermutation-append, IsPermutation-map, IsPermutation-refl, IsPermutation-sym}
@@ -7,7 +7,6 @@ use Rattle.std.proofs.lemmas.Option.{same_Some}
 use Rattle.list_lemmas.proofs.CallerLemmas.{some_itself}
 use Rattle.sysmem_counts.specs.Counts.{IsCounted, IsCountLine}
 use Rattle.sysmem_counts.specs.declared.field.Field.{Field}
-use Rattle.sysmem_counts.specs.declared.field.Field.TheVariants.{UnnamedPixelFormat, UnnamedPixelFormatModifier, UnnamedColorSpace}
 use Rattle.sysmem_formats.specs.declared.offer.Offer.{Offer}
 use Rattle.sysmem_formats.specs.declared.offer.Offer.TheVariants.{NoImage, Image}
 use Rattle.sysmem_image.specs.Entries.{first_match}
@@ -16,7 +15,7 @@ use Rattle.sysmem_merge.specs.declared.settings.Settings.{Settings}
 use Rattle.sysmem_merge.specs.Demands.{OfferDemand, counts_asked, offer_demand, offer_demands}
 use Rattle.sysmem_merge.specs.Laws.{OfferLineLeavesNone, CountLineLeavesNone}
 use Rattle.sysmem_merge.specs.Offers.{is_named, names_format, names_modifier, names_colour, format_named, modifier_named, colour_named}
-use Rattle.sysmem_merge.specs.Reasons.{IsOfferLine, IsUnnamedLine}
+use Rattle.sysmem_merge.specs.Reasons.{IsOfferLine}
 use Rattle.sysmem_merge.specs.Settings.{Covers, CoversOn, IsNamed, IsSound, Meets}
 use Rattle.sysmem_sanitise.specs.Participant.{Participant}
 use Rattle.sysmem_sanitise.specs.Platform.{PlatformFacts}
