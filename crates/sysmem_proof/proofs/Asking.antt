@@ -1,26 +1,19 @@
 -- What the participants among nodes ask, one by one and all together.
-use Rattle.std.proofs.Common.{◌≡◌, ◌<◌, ◌≤◌, ℕ, zero, suc, ◌+◌, Bool, true, false, List, [], ◌∷◌, ◌++◌, Option, Some, None, length, take, drop, get_or, map, slice_get, inl, inr, refl, sym, ◌∙◌, ap, subst, arith, append_assoc, length-append}
+use Rattle.std.proofs.Common.{◌≡◌, ◌<◌, ◌≤◌, ℕ, zero, suc, ◌+◌, Bool, true, false, List, [], ◌∷◌, ◌++◌, Option, Some, None, length, take, drop, get_or, slice_get, refl, sym, ◌∙◌, ap, subst, arith, append_assoc}
 use Rattle.std.specs.Prelude.{◌↔◌, ◌||◌, All, IfSome, IsPermutation, IsTrue, option_and_then}
-use Rattle.std.specs.List.{cons_option, filter_map, list_any}
+use Rattle.std.specs.List.{cons_option, list_any}
 use Rattle.std.proofs.lemmas.List.{take_more, take_all, take-append-drop, map-append}
-use Rattle.std.proofs.lemmas.List.Elements.{All-nil, All-cons, All-head, All-tail, All-map, filter_map-append}
-use Rattle.std.proofs.lemmas.List.Sorted.{All-permutation, IsPermutation-refl, IsPermutation-sym, IsPermutation-map, IsPermutation-append}
+use Rattle.std.proofs.lemmas.List.Elements.{All-nil, All-cons, All-head, All-tail, filter_map-append}
+use Rattle.std.proofs.lemmas.List.Sorted.{All-permutation, IsPermutation-sym, IsPermutation-map}
 use Rattle.list_lemmas.proofs.CallerLemmas.{slice_get_some, some_in_order}
-use Rattle.list_lemmas.specs.Some.{AreSomeOf}
 use Rattle.sysmem_counts.proofs.CallerLemmas.{counted_some}
-use Rattle.sysmem_counts.specs.Bounds.{IsTallyOf}
-use Rattle.sysmem_counts.specs.Counts.{IsCounted, IsLeastCount}
-use Rattle.sysmem_counts.specs.Tally.{Tally}
+use Rattle.sysmem_counts.specs.Counts.{IsCounted}
 use Rattle.sysmem_counts.specs.declared.constraints.CountConstraints.{CountConstraints}
-use Rattle.sysmem_merge.specs.Demands.{counts_asked, offer_demand, offer_demands}
-use Rattle.sysmem_merge.specs.OfferRead.{IsOfferRead}
-use Rattle.sysmem_merge.specs.declared.offer_read.OfferRead.{OfferRead}
-use Rattle.sysmem_formats.specs.declared.offer.Offer.{Offer}
+use Rattle.sysmem_merge.specs.Demands.{counts_asked}
 use Rattle.sysmem_sanitise.specs.Participant.{Participant}
 use Rattle.sysmem_tree.specs.Node.{NodeFacts}
 use Rattle.sysmem_tree.specs.Nodes.{HasNode}
 use Rattle.sysmem_proof.specs.Asked.{asks_at, asked_in}
-use Rattle.sysmem_proof.proofs.Orders.{taken_in_order}
 
 -- what a node that is there was told to ask
 pub told : (nodes : List NodeFacts) (n : ℕ) (o : Option Participant) → n < length nodes → IfSome (slice_get nodes n) (λ x. o ≡ x.constraints) → o ≡ asks_at nodes n
@@ -43,9 +36,6 @@ asked_whole nodes ns k over = ap (asked_in nodes) (take_all k ns over)
 -- what one more asks of counts and of an offer
 pub counted_more : (ps : List CountConstraints) (xs ys zs : List Participant) → zs ≡ xs ++ ys → (ps ++ counts_asked xs) ++ counts_asked ys ≡ ps ++ counts_asked zs
 counted_more ps xs ys zs is = append_assoc ps (counts_asked xs) (counts_asked ys) ∙ ap (λ cs. ps ++ cs) (sym (ap counts_asked is ∙ map-append (λ p. p.counts) xs ys))
-
-pub demanded_more : (ds : List _) (xs ys zs : List Participant) → zs ≡ xs ++ ys → (ds ++ offer_demands xs) ++ offer_demands ys ≡ ds ++ offer_demands zs
-demanded_more ds xs ys zs is = append_assoc ds (offer_demands xs) (offer_demands ys) ∙ ap (λ cs. ds ++ cs) (sym (ap offer_demands is ∙ map-append offer_demand xs ys))
 
 -- all that both have
 pub both_have : {X : Type 0} (P : X → Type 0) (xs ys : List X) → All P xs → All P ys → All P (xs ++ ys)
@@ -85,13 +75,6 @@ asked_both nodes xs ys = filter_map-append (asks_at nodes) xs ys
 pub counts_both : (nodes : List NodeFacts) (xs ys : List ℕ) → counts_asked (asked_in nodes xs) ++ counts_asked (asked_in nodes ys) ≡ counts_asked (asked_in nodes (xs ++ ys))
 counts_both nodes xs ys = sym (ap counts_asked (asked_both nodes xs ys) ∙ map-append (λ p. p.counts) (asked_in nodes xs) (asked_in nodes ys))
 
-pub demands_both : (nodes : List NodeFacts) (xs ys : List ℕ) → offer_demands (asked_in nodes xs) ++ offer_demands (asked_in nodes ys) ≡ offer_demands (asked_in nodes (xs ++ ys))
-demands_both nodes xs ys = sym (ap offer_demands (asked_both nodes xs ys) ∙ map-append offer_demand (asked_in nodes xs) (asked_in nodes ys))
-
--- the same nodes in another order ask the same in another order
-pub asked_in_order : (nodes : List NodeFacts) (xs ys zs : List ℕ) → IsPermutation ys zs → IsPermutation (asked_in nodes (xs ++ ys)) (asked_in nodes (xs ++ zs))
-asked_in_order nodes xs ys zs order = taken_in_order (asks_at nodes) (xs ++ ys) (xs ++ zs) (IsPermutation-append xs xs ys zs (IsPermutation-refl xs) order)
-
 -- a test finds the same in any order
 none_found : {X : Type 0} (p : X → Bool) (xs : List X) → list_any p xs ≡ false → All (λ x. p x ≡ false) xs
 none_found p [] is = All-nil (λ x. p x ≡ false)
@@ -117,9 +100,3 @@ any_in_order p xs ys order = by (list_any p xs) (list_any p ys) refl refl where
 -- counts suit in any order
 pub counted_in_order : (ps qs : List Participant) (n : ℕ) → IsPermutation ps qs → IsCounted (counts_asked qs) n → IsCounted (counts_asked ps) n
 counted_in_order ps qs n order is = counted_some (counts_asked ps) (counts_asked qs) n (some_in_order (counts_asked ps) (counts_asked qs) (IsPermutation-map (λ p. p.counts) ps qs order)) is
-
-pub least_in_order : (ps qs : List Participant) (n : ℕ) → IsPermutation ps qs → IsLeastCount (counts_asked ps) n → IsLeastCount (counts_asked qs) n
-least_in_order ps qs n order is = record {
-  counted = counted_in_order qs ps n (IsPermutation-sym ps qs order) is.counted;
-  least = λ m suits. is.least m (counted_in_order ps qs m order suits);
-}

@@ -1,5 +1,5 @@
 -- What `==` calls equal is equal.
-use Rattle.std.proofs.Common.{rules, ◌≡◌, ◌≢◌, ◌⊎◌, inl, inr, Bool, true, false, not, refl, sym, ◌∙◌, ap, Decides}
+use Rattle.std.proofs.Common.{rules, ◌≡◌, ◌≢◌, ◌⊎◌, inl, inr, Bool, true, false, not, refl, ap, Decides}
 use Rattle.std.proofs.lemmas.Bool.Decides.{Decides-and, Decides-like, Decides-eqb}
 use Rattle.sysmem_formats.specs.contracts.offer.OfferPartialEq.TheImpl as offer
 use Rattle.sysmem_formats.specs.declared.offer.Offer.{Offer}

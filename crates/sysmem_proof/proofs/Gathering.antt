@@ -1,9 +1,9 @@
 -- Which nodes a walk over a layout gives, and those that choices settle, one choice after the other.
-use Rattle.std.proofs.Common.{◌≡◌, ◌≢◌, ◌<◌, ◌≤◌, ◌||◌, true, false, eqb, inl, inr, ℕ, zero, suc, ◌+◌, List, [], ◌∷◌, ◌++◌, Option, Some, None, length, take, drop, get_or, slice_get, refl, sym, ◌∙◌, ap, subst, arith, append_assoc, length-append}
+use Rattle.std.proofs.Common.{◌≡◌, ◌≢◌, ◌<◌, ◌≤◌, ◌||◌, true, false, eqb, inl, inr, ℕ, suc, ◌+◌, List, [], ◌∷◌, ◌++◌, Option, Some, None, length, take, drop, get_or, slice_get, refl, sym, ◌∙◌, ap, subst, arith, append_assoc, length-append}
 use Rattle.std.specs.Prelude.{All, AllPairs, IfSome, IsSome, IsSomeAnd, IsPermutation, MatchOption, option_map, option_and_then, slice_index_or, unwrap_or}
 use Rattle.std.specs.List.{AllByRecursion, IsDistinct, list_any}
 use Rattle.std.proofs.lemmas.Bool.{cases_eq, ne_eqb}
-use Rattle.std.proofs.lemmas.List.{append-nil, take_more, take_all, take-append-drop}
+use Rattle.std.proofs.lemmas.List.{take_more, take-append-drop}
 use Rattle.std.proofs.lemmas.List.Sorted.{All-permutation, IsPermutation-refl, IsPermutation-sym, IsPermutation-trans, IsPermutation-append, length_permutation}
 use Rattle.std.proofs.lemmas.Map.Steps.{length-le_from_distinct_below}
 use Rattle.std.proofs.lemmas.Option.{same_Some, slice_get_within, option_and_then_some}
@@ -67,21 +67,6 @@ pub room_for : (layout : Layout) (old now : List ℕ) (walk walk' : SettledNodes
 room_for layout old now walk walk' o node steps ns t next one =
     let (more, is, left) = subst (λ x. MatchOption x ((t.rest ≡ []) × HasLeft layout walk' []) (λ node. (rest : List ℕ) × (t.rest ≡ node ∷ rest) × HasLeft layout walk' rest)) one (next t.rest t.left) in
     let long = ap length is in omega (arith, long, t.few)
-
-none_left : (old now ns rest : List ℕ) → old ++ ns ≡ now ++ rest → rest ≡ [] → now ≡ old ++ ns
-none_left old now ns rest same none = sym (append-nil now) ∙ (ap (λ xs. now ++ xs) (sym none) ∙ sym same)
-
-pub took_last : (layout : Layout) (old now : List ℕ) (walk walk' : SettledNodes) (o : Option ℕ) (steps : ℕ) (ns : List ℕ) → IsTaken layout old now walk steps ns
-    → Next layout walk walk' o → o ≡ None → now ≡ old ++ ns
-took_last layout old now walk walk' o steps ns t next one =
-    let h = subst (λ x. MatchOption x ((t.rest ≡ []) × HasLeft layout walk' []) (λ node. (rest : List ℕ) × (t.rest ≡ node ∷ rest) × HasLeft layout walk' rest)) one (next t.rest t.left) in
-    none_left old now ns t.rest t.same h.0
-
-pub took_all : (layout : Layout) (old now : List ℕ) (walk : SettledNodes) (steps : ℕ) (ns : List ℕ) → IsTaken layout old now walk steps ns → 128 ≤ steps → now ≡ old ++ ns
-took_all layout old now walk steps ns t over = by t.rest t.same t.within where
-  by : (rest : List ℕ) → old ++ ns ≡ now ++ rest → steps + length rest ≤ 128 → now ≡ old ++ ns
-  by [] same few = none_left old now ns [] same refl
-  by (x ∷ rest) same few = absurd (omega (arith, few, over))
 
 -- different numbers below one are no more than it
 other_heads : (x : ℕ) (ys : List ℕ) → ((k d : ℕ) → k < length ys → x ≢ slice_index_or ys k d) → AllByRecursion (λ y. eqb x y ≡ false) ys

@@ -1,5 +1,5 @@
 -- The least settings of an offer in a place are those of its best fit and the least count.
-use Rattle.std.proofs.Common.{◌≡◌, arith, ℕ, List, All, Contains, Some, slice_get, get_or, sym, ◌∙◌, ap, subst}
+use Rattle.std.proofs.Common.{◌≡◌, arith, List, Contains, Some, slice_get, get_or, sym, ◌∙◌, ap, subst}
 use Rattle.std.proofs.Math.Nat.{le_antisymm}
 use Rattle.std.proofs.lemmas.List.Elements.{All-map, All-weaker}
 use Rattle.list_lemmas.proofs.CallerLemmas.{All-unmap}
@@ -13,7 +13,7 @@ use Rattle.sysmem_merge.specs.declared.fit.Fit.{Fit}
 use Rattle.sysmem_merge.specs.declared.settings.Settings.{Settings}
 use Rattle.sysmem_merge.specs.Best.{IsEarlierOffer}
 use Rattle.sysmem_merge.specs.Demands.{counts_asked, offer_demand, offer_demands}
-use Rattle.sysmem_merge.specs.Fit.{fit_of, CoversFit, IsBestFit, IsNoBetterFit, MeetsFit}
+use Rattle.sysmem_merge.specs.Fit.{fit_of, CoversFit, IsBestFit, MeetsFit}
 use Rattle.sysmem_merge.specs.Laws.{OneFit}
 use Rattle.sysmem_merge.specs.Settings.{Covers, IsNamed, Meets, MeetsLoosely}
 use Rattle.sysmem_sanitise.specs.Participant.{Participant}

@@ -1,8 +1,7 @@
 -- A line for each of the first of a list, and what fails where one is missing, fails or is too many.
-use Rattle.std.proofs.Common.{◌≡◌, ◌≢◌, ◌<◌, ◌≤◌, ℕ, zero, suc, ◌+◌, List, [], ◌∷◌, ◌++◌, Option, Some, None, length, take, drop, get_or, slice_get, inl, inr, refl, sym, ◌∙◌, ap, subst, arith, append_assoc}
-use Rattle.std.specs.Prelude.{All, Contains, slice_index_or}
+use Rattle.std.proofs.Common.{◌≡◌, ◌<◌, ◌≤◌, ℕ, zero, suc, ◌+◌, List, [], ◌∷◌, ◌++◌, Some, length, take, get_or, slice_get, inl, inr, refl, sym, ◌∙◌, ap, subst, arith}
 use Rattle.std.specs.List.{AllZip}
-use Rattle.std.proofs.lemmas.List.{take_more, take_all, take-append-drop}
+use Rattle.std.proofs.lemmas.List.{take_more, take_all}
 use Rattle.sysmem_proof.specs.declared.no.No.{No}
 use Rattle.sysmem_proof.specs.declared.no.No.TheVariants.{WrongShape, Missing}
 use Rattle.sysmem_proof.specs.Fault.{Faults, EachFaults}
@@ -67,9 +66,3 @@ pub front_more : {X : Type 0} (xs : List X) (k : ℕ) (x : X) → slice_get xs k
 front_more [] k x is = absurd (cc (is))
 front_more (y ∷ xs) zero x is = let same : y ≡ x = cc (is) in ap (λ z. z ∷ []) same
 front_more (y ∷ xs) (suc k) x is = let on : suc k + 1 ≡ suc (k + 1) = omega arith in ap (λ n. take n (y ∷ xs)) on ∙ ap (λ zs. y ∷ zs) (front_more xs k x is)
-
--- a list ends where nothing more is
-pub ends_at : {X : Type 0} (xs : List X) (k : ℕ) → slice_get xs k ≡ None → length xs ≤ k
-ends_at [] k is = omega arith
-ends_at (x ∷ xs) zero is = absurd (cc (is))
-ends_at (x ∷ xs) (suc k) is = let h = ends_at xs k is in omega (arith, h)

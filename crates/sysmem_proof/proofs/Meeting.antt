@@ -1,13 +1,12 @@
 -- Whether settings meet participants, part by part and in any order of them.
-use Rattle.std.proofs.Common.{◌≡◌, ◌≢◌, inl, inr, Bool, true, false, ◌&&◌, ℕ, List, ◌++◌, Option, Some, None, All, refl, sym, ◌∙◌, ap, subst}
-use Rattle.std.specs.Prelude.{◌↔◌, IsPermutation, IsTrue, IfNone, IfErr, Result, Ok, Err}
+use Rattle.std.proofs.Common.{◌≡◌, true, ◌&&◌, ℕ, List, ◌++◌, All, refl, sym, ◌∙◌, ap, subst}
+use Rattle.std.specs.Prelude.{IsPermutation}
 use Rattle.std.proofs.lemmas.List.Elements.{All-weaker, filter_map-append}
 use Rattle.std.proofs.lemmas.List.Sorted.{All-permutation, IsPermutation-append, IsPermutation-map, IsPermutation-refl, IsPermutation-sym}
 use Rattle.std.proofs.lemmas.Option.{same_Some}
 use Rattle.list_lemmas.proofs.CallerLemmas.{some_itself}
 use Rattle.sysmem_counts.specs.Counts.{IsCounted, IsCountLine}
 use Rattle.sysmem_counts.specs.declared.field.Field.{Field}
-use Rattle.sysmem_counts.specs.declared.field.Field.TheVariants.{UnnamedPixelFormat, UnnamedPixelFormatModifier, UnnamedColorSpace}
 use Rattle.sysmem_formats.specs.declared.offer.Offer.{Offer}
 use Rattle.sysmem_formats.specs.declared.offer.Offer.TheVariants.{NoImage, Image}
 use Rattle.sysmem_image.specs.Entries.{first_match}
@@ -16,7 +15,7 @@ use Rattle.sysmem_merge.specs.declared.settings.Settings.{Settings}
 use Rattle.sysmem_merge.specs.Demands.{OfferDemand, counts_asked, offer_demand, offer_demands}
 use Rattle.sysmem_merge.specs.Laws.{OfferLineLeavesNone, CountLineLeavesNone}
 use Rattle.sysmem_merge.specs.Offers.{is_named, names_format, names_modifier, names_colour, format_named, modifier_named, colour_named}
-use Rattle.sysmem_merge.specs.Reasons.{IsOfferLine, IsUnnamedLine}
+use Rattle.sysmem_merge.specs.Reasons.{IsOfferLine}
 use Rattle.sysmem_merge.specs.Settings.{Covers, CoversOn, IsNamed, IsSound, Meets}
 use Rattle.sysmem_sanitise.specs.Participant.{Participant}
 use Rattle.sysmem_sanitise.specs.Platform.{PlatformFacts}
@@ -37,21 +36,6 @@ named_same (Image pair colour) ds es order =
     ap (λ t. t && modifier_named o ds && colour_named o ds) (any_in_order (λ (d : OfferDemand). names_format (first_match o d.entries)) ds es order)
     ∙ (ap (λ t. format_named o es && t && colour_named o ds) (any_in_order (λ (d : OfferDemand). names_modifier (first_match o d.entries)) ds es order)
     ∙ ap (λ t. format_named o es && modifier_named o es && t) (any_in_order (λ (d : OfferDemand). names_colour o (first_match o d.entries)) ds es order))
-
--- the parts of an image's name are all named where none is unnamed
-all_true : (a b c : Bool) → (a ≡ false → ⊥) → (b ≡ false → ⊥) → (c ≡ false → ⊥) → (a && b && c) ≡ true
-all_true true true true x y z = refl
-all_true false b c x y z = absurd (x refl)
-all_true true false c x y z = absurd (y refl)
-all_true true true false x y z = absurd (z refl)
-
-some_image : (pair : _) (colour : _) → Image pair colour ≢ NoImage
-some_image pair colour same = cc (same)
-
-pub named_by : (o : Offer) (ds : List OfferDemand) → ¬ (IsUnnamedLine UnnamedPixelFormat o ds) → ¬ (IsUnnamedLine UnnamedPixelFormatModifier o ds) → ¬ (IsUnnamedLine UnnamedColorSpace o ds) → is_named o ds ≡ true
-named_by NoImage ds x y z = refl
-named_by (Image pair colour) ds x y z = all_true (format_named (Image pair colour) ds) (modifier_named (Image pair colour) ds) (colour_named (Image pair colour) ds)
-    (λ e. x (some_image pair colour, e)) (λ e. y (some_image pair colour, e)) (λ e. z (some_image pair colour, e))
 
 module _ (platform : PlatformFacts) (s : Settings) where
   -- sound settings that each participant accepts, with a count that suits all, and an image that is named

@@ -1,5 +1,5 @@
 -- The places before one of a platform.
-use Rattle.std.proofs.Common.{◌≡◌, ◌≢◌, ◌<◌, ◌≤◌, ℕ, zero, suc, ◌+◌, Bool, true, false, List, [], ◌∷◌, ◌++◌, Some, length, take, drop, get_or, slice_get, refl, sym, ◌∙◌, ap, subst, arith, append_assoc}
+use Rattle.std.proofs.Common.{◌≡◌, ◌≢◌, ◌<◌, ◌≤◌, ℕ, zero, suc, ◌+◌, Bool, true, false, List, [], ◌∷◌, ◌++◌, Some, length, take, get_or, slice_get, refl, sym, ◌∙◌, ap, subst, arith, append_assoc}
 use Rattle.std.specs.Prelude.{All, IsTrue, MatchResult, Ok, Err, Result}
 use Rattle.std.specs.List.{AllZip}
 use Rattle.std.proofs.lemmas.List.{append-nil}
@@ -74,9 +74,9 @@ begin_with heaps k h last place less is =
     let own = places_in place.heap last (up_to last.domains place.coherency) in (
       places_from (k + 1) rest ++ own,
       ap (λ xs. xs ++ own) (ap places_of e ∙ (from_start (take k heaps) (h ∷ rest)
-      ∙ (ap (λ n. places_of (take k heaps) ++ places_from n (h ∷ rest)) (long_front heaps k h is)
-      ∙ (ap (λ xs. places_of (take k heaps) ++ xs) (from_first k h rest) ∙ sym (append_assoc (places_of (take k heaps)) (places_in k h h.domains) (places_from (k + 1) rest))))))
-      ∙ append_assoc (places_of (take k heaps) ++ places_in k h h.domains) (places_from (k + 1) rest) own,
+          ∙ (ap (λ n. places_of (take k heaps) ++ places_from n (h ∷ rest)) (long_front heaps k h is)
+          ∙ (ap (λ xs. places_of (take k heaps) ++ xs) (from_first k h rest) ∙ sym (append_assoc (places_of (take k heaps)) (places_in k h h.domains) (places_from (k + 1) rest))))))
+          ∙ append_assoc (places_of (take k heaps) ++ places_in k h h.domains) (places_from (k + 1) rest) own,
     )
 
 -- the places of a heap are those before one of its domains, that one, and others
@@ -94,8 +94,10 @@ in_split i h s Ram has = by s.ram has where
 
   by : (t : Bool) → IsTrue t → (behind : List HeapPlace) × (cpus ++ (place_if t (record { heap = i; coherency = Ram }) h ++ place_if s.inaccessible (record { heap = i; coherency = Inaccessible }) h)
       ≡ (cpus ++ []) ++ record { place = record { heap = i; coherency = Ram }; heap = h } ∷ behind)
-  by true t = (place_if s.inaccessible (record { heap = i; coherency = Inaccessible }) h,
-    ap (λ xs. xs ++ record { place = record { heap = i; coherency = Ram }; heap = h } ∷ place_if s.inaccessible (record { heap = i; coherency = Inaccessible }) h) (sym (append-nil cpus)))
+  by true t = (
+    place_if s.inaccessible (record { heap = i; coherency = Inaccessible }) h,
+    ap (λ xs. xs ++ record { place = record { heap = i; coherency = Ram }; heap = h } ∷ place_if s.inaccessible (record { heap = i; coherency = Inaccessible }) h) (sym (append-nil cpus)),
+  )
   by false t = absurd (cc (t))
 in_split i h s Inaccessible has = by s.inaccessible has where
   cpus : List HeapPlace
@@ -106,9 +108,11 @@ in_split i h s Inaccessible has = by s.inaccessible has where
 
   by : (t : Bool) → IsTrue t → (behind : List HeapPlace) × (cpus ++ (rams ++ place_if t (record { heap = i; coherency = Inaccessible }) h)
       ≡ (cpus ++ (rams ++ [])) ++ record { place = record { heap = i; coherency = Inaccessible }; heap = h } ∷ behind)
-  by true t = ([],
+  by true t = (
+    [],
     sym (append_assoc cpus rams (record { place = record { heap = i; coherency = Inaccessible }; heap = h } ∷ []))
-    ∙ ap (λ xs. (cpus ++ xs) ++ record { place = record { heap = i; coherency = Inaccessible }; heap = h } ∷ []) (sym (append-nil rams)))
+        ∙ ap (λ xs. (cpus ++ xs) ++ record { place = record { heap = i; coherency = Inaccessible }; heap = h } ∷ []) (sym (append-nil rams)),
+  )
   by false t = absurd (cc (t))
 
 -- a place of a platform stands behind those before it
@@ -123,9 +127,9 @@ place_split heaps place h is =
     let later = places_from (place.heap + 1) rest in (
       more ++ later,
       ap places_of e ∙ (from_start (take place.heap heaps) (h ∷ rest)
-      ∙ (ap (λ n. front ++ places_from n (h ∷ rest)) (long_front heaps place.heap h is.heap)
-      ∙ (ap (λ xs. front ++ xs) (from_first place.heap h rest ∙ (ap (λ xs. xs ++ later) f ∙ append_assoc own (one ∷ more) later))
-      ∙ sym (append_assoc front own (one ∷ (more ++ later))))))
+          ∙ (ap (λ n. front ++ places_from n (h ∷ rest)) (long_front heaps place.heap h is.heap)
+          ∙ (ap (λ xs. front ++ xs) (from_first place.heap h rest ∙ (ap (λ xs. xs ++ later) f ∙ append_assoc own (one ∷ more) later))
+          ∙ sym (append_assoc front own (one ∷ (more ++ later)))))),
     )
 
 all_both : {X : Type 0} (P : X → Type 0) (xs ys : List X) → All P xs → All P ys → All P (xs ++ ys)

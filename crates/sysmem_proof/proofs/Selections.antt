@@ -1,5 +1,5 @@
 -- Whether choices are a selection, one choice after the other, and how many selections there are.
-use Rattle.std.proofs.Common.{◌≡◌, ◌≢◌, ◌<◌, ◌≤◌, ◌+◌, ◌*◌, Bool, true, false, not, is_some, ℕ, List, [], ◌∷◌, ◌++◌, Option, Some, None, length, map, take, get_or, slice_get, min, refl, sym, ◌∙◌, ap, subst, arith}
+use Rattle.std.proofs.Common.{◌≡◌, ◌<◌, ◌≤◌, ◌+◌, ◌*◌, Bool, true, false, not, is_some, ℕ, List, [], ◌∷◌, ◌++◌, Option, Some, None, length, map, take, get_or, min, refl, sym, ◌∙◌, ap, subst, arith}
 use Rattle.std.specs.Prelude.{◌↔◌, IfSome, IsSome, option_map}
 use Rattle.std.proofs.lemmas.Option.{same_Some}
 use Rattle.sysmem_tree.specs.declared.layout.Layout.{Layout}
@@ -9,7 +9,7 @@ use Rattle.sysmem_tree.specs.LayoutLaws.{Both, ChildrenAreChoices, LeaveOneFores
 use Rattle.sysmem_tree.specs.Node.{NodeFacts}
 use Rattle.sysmem_tree.specs.OpenGroups.{IsFirstOpen}
 use Rattle.sysmem_tree.specs.Selection.{after, IsPrefix, IsSelection}
-use Rattle.sysmem_tree.specs.Shape.{Member, by_number, forest_of, shape_of}
+use Rattle.sysmem_tree.specs.Shape.{by_number, forest_of, shape_of}
 use Rattle.sysmem_tree.proofs.CallerLemmas.{choices_relabel}
 use Rattle.sysmem_proof.specs.Fault.{AreFew, IsSelected}
 use Rattle.sysmem_proof.proofs.Gathering.{of_some, prefix_more, some_open}

@@ -1,5 +1,5 @@
 -- What nodes ask, and what their members do.
-use Rattle.std.proofs.Common.{◌≡◌, ◌≤◌, ◌<◌, ℕ, List, [], ◌∷◌, Option, Some, None, All, length, slice_get, refl, sym, ◌∙◌, ap, subst, arith}
+use Rattle.std.proofs.Common.{◌≡◌, ◌≤◌, ℕ, List, [], ◌∷◌, Option, Some, None, All, length, slice_get, refl, ◌∙◌, ap, subst, arith}
 use Rattle.std.specs.Prelude.{IsPermutation, option_map, option_and_then, unwrap_or}
 use Rattle.std.specs.List.{cons_option}
 use Rattle.sysmem_sanitise.specs.Platform.{PlatformFacts}

@@ -38,7 +38,8 @@ pub(crate) fn count_nodes(tree: &Tree, accepted: &[NodeId], nodes: &[NodeId]) ->
     requires few_accepted { length accepted.now ≤ 128 }
     requires there { All (HasNode tree.now.nodes) nodes.now }
     requires few { length nodes.now ≤ 128 }
-    ensures { IsTallyOf result (counts_asked (asked_in tree.now.nodes (accepted.now ++ nodes.now))) }
+    ensures { IsTallyOf result
+        (counts_asked (asked_in tree.now.nodes (accepted.now ++ nodes.now))) }
 {
     let mut counts = CountBounds::new();
     add_counts(tree, accepted, &mut counts);

@@ -100,7 +100,12 @@ fn initial_choice_fault(
     let platform = checker.platform();
     initial_fault(checker.tree(), members.as_slice(), platform, &settings)?;
     earlier_fault(checker, selection, certificate.earlier())?;
-    lines_fault(&checker.settled(selection), platform, &settings, certificate)
+    lines_fault(
+        &checker.settled(selection),
+        platform,
+        &settings,
+        certificate,
+    )
 }
 
 /// Of a choice in an attached domain on this base behind its form.

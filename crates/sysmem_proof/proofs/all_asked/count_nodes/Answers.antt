@@ -1,5 +1,5 @@
 -- Those accepted before, and then the others.
-use Rattle.std.proofs.Common.{[], ◌++◌, ap, subst}
+use Rattle.std.proofs.Common.{[], subst}
 use Rattle.sysmem_counts.specs.Bounds.{IsTallyOf}
 use Rattle.sysmem_proof.proofs.Asking.{counts_both}
 use Rattle.sysmem_proof.proofs.all_asked.count_nodes.Goals as goal

@@ -1,5 +1,5 @@
 -- The settings, then what is earlier, then the lines.
-use Rattle.std.proofs.Common.{◌≡◌, ◌≤◌, Some, None, All, length, sym, ◌∙◌, ap, subst}
+use Rattle.std.proofs.Common.{◌≡◌, ◌≤◌, Some, All, length, sym, subst}
 use Rattle.std.specs.Prelude.{IsPermutation}
 use Rattle.sysmem_tree.specs.Forest.{settled}
 use Rattle.sysmem_tree.specs.Nodes.{HasNode}
@@ -39,7 +39,7 @@ returns-in_err-initial_fault c =
     let order = subst (λ ns. IsPermutation (asked_in ns slice) (participants (settled e))) (sym c.tree.ensures)
     (subst (λ xs. IsPermutation (asked_in checker.nodes xs) (participants (settled e))) (sym c.as_slice.ensures) (c.members-members.ensures.asks e lead)) in
     of_err c.from_residual.result _ _ _ c.from_residual.ensures.1 (λ y same. same)
-    (initial_fails checker.platform _ d _ c.args.chosen.now.settings _ c.args.certificate.now e selects c.platform-platform.ensures c.settings-settings.ensures (terms checker) _
+    (initial_fails checker.platform _ d _ c.args.chosen.now.settings _ c.args.certificate.now e selects c.platform-platform.ensures c.settings-settings.ensures (terms checker) c.in_err-initial_fault.field-0.0
     (no_terms checker.nodes checker.base c.requires.initial) (c.in_err-initial_fault.ensures (settled e) order))
 
 pub returns-in_err-earlier_fault : goal.returns-in_err-earlier_fault
@@ -52,9 +52,9 @@ returns-in_err-earlier_fault c =
     let order = subst (λ ns. IsPermutation (asked_in ns slice) (participants (settled e))) (sym c.tree.ensures)
     (subst (λ xs. IsPermutation (asked_in checker.nodes xs) (participants (settled e))) (sym c.as_slice.ensures) (c.members-members.ensures.asks e lead)) in
     let least = least_told checker.platform _ d _ c.args.chosen.now.settings _ c.args.certificate.now e selects c.platform-platform.ensures c.settings-settings.ensures (c.in_ok-initial_fault.ensures (settled e) order) in
-    of_err c.from_residual.result _ _ _ c.from_residual.ensures.1 (λ y same. same)
+    of_err c.from_residual-in_err-earlier_fault.result _ _ _ c.from_residual-in_err-earlier_fault.ensures.1 (λ y same. same)
     (earlier_wrong checker.platform (terms checker) d c.args.chosen.now.selection c.args.chosen.now.settings c.args.certificate.now e selects (no_terms checker.nodes checker.base c.requires.initial) least
-    _ _ _ c.selection-selection.ensures c.earlier.ensures c.in_err-earlier_fault.ensures)
+    _ _ c.in_err-earlier_fault.field-0.0 c.selection-selection.ensures c.earlier.ensures c.in_err-earlier_fault.ensures)
 
 pub lines_fault-requires : goal.lines_fault-requires
 lines_fault-requires c =

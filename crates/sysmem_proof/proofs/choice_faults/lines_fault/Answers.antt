@@ -17,7 +17,7 @@ places_before_fault-requires c = (c.requires.loosely.heap, c.requires.loosely.so
 pub returns-in_err-offers_before_fault : goal.returns-in_err-offers_before_fault
 returns-in_err-offers_before_fault c =
     of_err c.from_residual.result _ _ _ c.from_residual.ensures.1 (λ y same. same)
-    (inl (subst (λ ls. LinesFault (RefusesOffer true (listed c.args.roll.now)) (listed c.args.roll.now) (offers_of c.args.platform.now) c.args.settings.now.offer ls _)
+    (inl (subst (λ ls. LinesFault (RefusesOffer true (listed c.args.roll.now)) (listed c.args.roll.now) (offers_of c.args.platform.now) c.args.settings.now.offer ls c.in_err-offers_before_fault.field-0.0)
     (c.as_slice.ensures ∙ c.offers.ensures) c.in_err-offers_before_fault.ensures))
 
 pub returns : goal.returns

@@ -1,5 +1,5 @@
 -- What is told of the checker's domain is told of this one.
-use Rattle.std.proofs.Common.{◌≡◌, subst}
+use Rattle.std.proofs.Common.{subst}
 use Rattle.std.specs.Prelude.{MatchResult, option_map}
 use Rattle.sysmem_proof.specs.Check.{VerdictPasses}
 use Rattle.sysmem_proof.specs.Checker.{CheckerFacts, forest, terms}

@@ -1,6 +1,6 @@
 -- One node more of the walk.
-use Rattle.std.proofs.Common.{◌≤◌, ◌+◌, length, refl, sym, ap, subst, arith}
-use Rattle.sysmem_proof.proofs.Gathering.{IsTaken, gives_same, take_one, took_last, took_all, room_for}
+use Rattle.std.proofs.Common.{◌+◌, length, refl, sym, ap, subst, arith}
+use Rattle.sysmem_proof.proofs.Gathering.{IsTaken, gives_same, take_one, room_for}
 use Rattle.sysmem_proof.proofs.members.gather.Goals as goal
 
 pub loop-step-init : goal.loop-step-init

@@ -1,5 +1,5 @@
 -- The nodes that were taken of the walk stand behind those of before.
-use Rattle.std.proofs.Common.{ℕ, List, ◌≤◌, ◌+◌, length}
+use Rattle.std.proofs.Common.{ℕ, List}
 use Rattle.sysmem_proof.proofs.Gathering.{IsTaken}
 use Rattle.sysmem_tree.specs.OpenGroups.{HasLeft}
 use Rattle.sysmem_proof.proofs.members.gather.Given as goal

@@ -1,5 +1,5 @@
 -- One choice more.
-use Rattle.std.proofs.Common.{◌≤◌, ◌+◌, [], ◌∷◌, ◌++◌, Some, None, length, take, get_or, refl, sym, ◌∙◌, ap, subst, arith}
+use Rattle.std.proofs.Common.{[], length, take, get_or, refl, sym, ◌∙◌, ap, subst, arith}
 use Rattle.std.proofs.lemmas.List.{take_more, take_all}
 use Rattle.sysmem_proof.proofs.Gathering.{AreGathered, first_gathered, more_gathered, more_few, few_settled, all_gathered, members_there, prefix_more, some_open}
 use Rattle.sysmem_tree.specs.OpenGroups.{IsFirstOpen, share_of}

@@ -1,5 +1,5 @@
 -- One offer more.
-use Rattle.std.proofs.Common.{◌≡◌, true, ◌+◌, [], ◌∷◌, ◌++◌, Some, None, All, length, slice_get, take, sym, ◌∙◌, ap, subst, arith}
+use Rattle.std.proofs.Common.{◌≡◌, true, ◌+◌, Some, None, length, slice_get, take, sym, subst, arith}
 use Rattle.std.specs.List.{AllZip}
 use Rattle.sysmem_proof.specs.Conflict.{RefusesOffer}
 use Rattle.sysmem_proof.specs.Roll.{listed}

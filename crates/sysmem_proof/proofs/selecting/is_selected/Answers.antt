@@ -1,7 +1,6 @@
 -- By numbers and by the shape.
 use Rattle.std.proofs.Common.{[], sym, subst}
 use Rattle.sysmem_tree.specs.Shape.{by_number, forest_of}
-use Rattle.sysmem_proof.specs.Fault.{IsSelected}
 use Rattle.sysmem_proof.proofs.Selections.{Selects, selected_same}
 use Rattle.sysmem_proof.proofs.selecting.is_selected.Goals as goal
 

@@ -1,5 +1,5 @@
 -- One choice more.
-use Rattle.std.proofs.Common.{◌≡◌, ◌∷◌, ◌++◌, [], Some, None, take, get_or, sym, ◌∙◌, ap, subst, arith}
+use Rattle.std.proofs.Common.{take, get_or, sym, subst, arith}
 use Rattle.std.proofs.lemmas.List.{take_more, take_all}
 use Rattle.sysmem_tree.specs.OpenGroups.{IsFirstOpen}
 use Rattle.sysmem_proof.proofs.Selections.{none_for, no_child, a_child, whole_where, none_when, none_is}
@@ -31,9 +31,13 @@ pub child_at-requires : goal.child_at-requires
 child_at-requires c =
     let (d, laid) = c.requires in
     let front = take c.loop-choice.choice-index c.args.choices.now in
-    let open' = subst (IsFirstOpen c.args.layout.now d front) c.in-Some.is (c.loop-choice.invariant d laid) in
-    (d, front, open', a_child c.args.layout.now d c.args.choices.now c.loop-choice.choice-index c.prefix_of_prefix.ensures _ open' c.none_open_is_selection.ensures c.children_are_choices.ensures _ _
-    (c.group_at-children.ensures.group d front open') (omega (arith, c.from.ensures, c.if-from-children.false)))
+    let open' = subst (IsFirstOpen c.args.layout.now d front) c.in-Some.is (c.loop-choice.invariant d laid) in (
+      d,
+      front,
+      open',
+      a_child c.args.layout.now d c.args.choices.now c.loop-choice.choice-index c.prefix_of_prefix.ensures _ open' c.none_open_is_selection.ensures c.children_are_choices.ensures _ _
+          (c.group_at-children.ensures.group d front open') (omega (arith, c.from.ensures, c.if-from-children.false)),
+    )
 
 pub open_after-group-requires : goal.open_after-group-requires
 open_after-group-requires c =

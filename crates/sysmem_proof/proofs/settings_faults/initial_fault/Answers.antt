@@ -18,12 +18,15 @@ returns-then-not-is_met c = λ ms order. inl (
 pub returns-then-not-is_least : goal.returns-then-not-is_least
 returns-then-not-is_least c = λ ms order.
     let asked = asked_in c.args.tree.now.nodes c.args.nodes.now in
-    inr (meets_in_order c.args.platform.now c.args.settings.now asked (participants ms) order (c.is_met.ensures.0 c.if-not-is_met.false), inl (
-      (λ least.
-          let yes' = c.is_least.ensures.1 (least_in_order c.args.platform.now c.args.settings.now (participants ms) asked (IsPermutation-sym asked (participants ms) order) least) in
-          let no' = c.if-not-is_least.true in absurd (cc)),
-      refl,
-    ))
+    inr (
+      meets_in_order c.args.platform.now c.args.settings.now asked (participants ms) order (c.is_met.ensures.0 c.if-not-is_met.false),
+      inl (
+        (λ least.
+            let yes' = c.is_least.ensures.1 (least_in_order c.args.platform.now c.args.settings.now (participants ms) asked (IsPermutation-sym asked (participants ms) order) least) in
+            let no' = c.if-not-is_least.true in absurd (cc)),
+        refl,
+      ),
+    )
 
 pub returns : goal.returns
 returns c = λ ms order. least_in_order c.args.platform.now c.args.settings.now (asked_in c.args.tree.now.nodes c.args.nodes.now) (participants ms) order (c.is_least.ensures.0 c.if-not-is_least.false)

@@ -1,6 +1,5 @@
 -- The settings given, and what is asked of them.
-use Rattle.std.proofs.Common.{◌≡◌, Bool, true, false, sym, ◌∙◌}
-use Rattle.sysmem_proof.proofs.Equal.{same_settings, equal_where, differ_where}
+use Rattle.sysmem_proof.proofs.Equal.{equal_where, differ_where}
 use Rattle.sysmem_proof.proofs.settings_faults.is_kept.Goals as goal
 
 pub returns-then-ne : goal.returns-then-ne

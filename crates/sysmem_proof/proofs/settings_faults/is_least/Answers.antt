@@ -1,5 +1,5 @@
 -- What is computed is the least.
-use Rattle.std.proofs.Common.{◌≡◌, refl, sym, ◌∙◌, subst}
+use Rattle.std.proofs.Common.{refl}
 use Rattle.std.proofs.lemmas.Bool.Decides.{Decides-at}
 use Rattle.sysmem_merge.specs.Demands.{counts_asked, offer_demands}
 use Rattle.sysmem_proof.specs.Asked.{asked_in}
