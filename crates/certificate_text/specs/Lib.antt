@@ -6,3 +6,5 @@ pub mod Fields
 pub mod Reading
 pub mod SettingsSaid
 pub mod Said
+pub mod Put
+pub mod Laws

@@ -31,6 +31,10 @@ impl Part for u8 {
         out.u64(u64::from(*self))
     }
 
+    fn value(&self, _alloc: Global) -> Result<Value, AllocError> {
+        Ok(Value::from(*self))
+    }
+
     fn read(_alloc: Global, value: &Value) -> Result<u8, Unread> {
         match number_to(value, u64::from(u8::MAX)) {
             Some(choice) => Ok(choice as u8),
@@ -83,7 +87,7 @@ fn put_claim(
     out.end_object()
 }
 
-fn verdict_name(verdict: &Verdict) -> &'static str
+pub(crate) fn verdict_name(verdict: &Verdict) -> &'static str
     ensures { result.now ≡ verdict_name verdict.now }
 {
     match verdict {

@@ -10,6 +10,7 @@
 mod bounds;
 mod claim;
 mod item;
+pub mod laws;
 mod line;
 mod member;
 mod part;
@@ -17,8 +18,10 @@ mod path;
 mod reading;
 mod settings;
 mod unread;
+mod value;
 mod writer;
 
 pub use claim::read_proof;
 pub use unread::Unread;
+pub use value::write_proof;
 pub use writer::CertificateWriter;

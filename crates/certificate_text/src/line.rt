@@ -1,18 +1,21 @@
 //! Lines of the conflict table.
 
 ghost use Rattle.certificate_text.specs.Certificate.{Puts};
-ghost use Rattle.std.specs.Prelude.{◌≡◌};
+ghost use Rattle.std.specs.Prelude.{◌≡◌, codes, IfOk};
+ghost use Rattle.std.specs.Cmp.Lexicographic.{slice_cmp};
+ghost use Rattle.std.specs.Ordering.{nat_cmp};
+ghost use Rattle.std.proofs.Common.{Greater};
 ghost use Rattle.certificate_text.specs.Fields.{field_named};
 ghost use Rattle.certificate_text.specs.Reading.{named_at, Gives};
 ghost use Rattle.certificate_text.specs.Said.{line_said, named_said};
 ghost use Rattle.certificate_text.specs.Told.{line_data, named_data};
 ghost use Rattle.serde_json.specs.View.{view};
 
-use crate::part::{Part, put_list};
+use crate::part::{Part, list_value, put_list};
 use crate::reading::{expect_object, list_at, text_at};
 use crate::unread::Unread;
 use json::Writer;
-use serde_json::Value;
+use serde_json::{Map, Value, put};
 use std::alloc::{AllocError, Global};
 use sysmem_counts::Field;
 use sysmem_proof::Line;
@@ -25,6 +28,10 @@ impl Part for Line {
 
     fn put(&self, out: &mut Writer, text: &mut String) -> Result<(), AllocError> {
         put_named(out, text, "field", self.field(), self.nodes())
+    }
+
+    fn value(&self, alloc: Global) -> Result<Value, AllocError> {
+        named_value(alloc, "field", self.field(), self.nodes())
     }
 
     fn read(alloc: Global, value: &Value) -> Result<Line, Unread> {
@@ -49,6 +56,27 @@ pub(crate) fn put_named(
     out.key("nodes")?;
     put_list(out, text, nodes)?;
     out.end_object()
+}
+
+/// A field under a kind, and the paths of nodes, as a value.
+pub(crate) fn named_value(
+    alloc: Global,
+    kind: &str,
+    field: Field,
+    nodes: &[Path],
+) -> Result<Value, AllocError>
+    requires { slice_cmp nat_cmp (codes "nodes") kind.now ≡ Greater }
+    ensures { IfOk result (λ value. view value ≡ named_data kind.now field nodes.now) }
+{
+    let mut map = Map::new(alloc);
+    put(
+        &mut map,
+        alloc,
+        kind,
+        Value::try_from_str(alloc, field.name())?,
+    )?;
+    put(&mut map, alloc, "nodes", list_value(alloc, nodes)?)?;
+    Ok(Value::Object(map))
 }
 
 /// The field of a name.

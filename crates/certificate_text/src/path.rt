@@ -26,6 +26,12 @@ impl Part for Path {
         out.string(text.as_str())
     }
 
+    fn value(&self, alloc: Global) -> Result<Value, AllocError> {
+        let mut text = String::new(alloc);
+        push_path(&mut text, self.ordinals())?;
+        Ok(Value::String(text))
+    }
+
     fn read(alloc: Global, value: &Value) -> Result<Path, Unread> {
         match value.as_str() {
             Some(text) => path_of(alloc, text),

@@ -52,7 +52,7 @@ fn put_image_bounds(out: &mut Writer, offer: Offer, bounds: ImageBounds) -> Resu
     }
 }
 
-fn heap_at(platform: &Platform, index: usize) -> Option<&HeapInfo>
+pub(crate) fn heap_at(platform: &Platform, index: usize) -> Option<&HeapInfo>
     ensures { option_map (λ info. info.now) result ≡ slice_get platform.now.heaps index }
 {
     platform.heaps().get(index)
