@@ -1,19 +1,18 @@
 -- The corner of decided settings: there is one.
-use Rattle.std.proofs.Common.{◌≡◌, ℕ, ◌+◌, ◌==◌, ◌≤◌, Bool, true, false, List, [], ◌∷◌, ◌++◌, Option, Some, None, Result, Ok, Err, refl, sym, ◌∙◌, ap, subst, arith}
+use Rattle.std.proofs.Common.{◌≡◌, ℕ, ◌==◌, ◌≤◌, Bool, true, false, List, [], ◌∷◌, ◌++◌, Option, Some, None, Result, Ok, Err, refl, sym, ◌∙◌, ap, subst, arith}
 use Rattle.std.specs.Prelude.{IfSome, option_map, option_and_then, if◌then◌else◌}
 use Rattle.std.proofs.lemmas.Option.{same_Some}
 use Rattle.sysmem_alloc.specs.Book.{BookFacts, IsBook}
 use Rattle.sysmem_alloc.proofs.CallerLemmas.{claims_optimal}
 use Rattle.sysmem_alloc.specs.Decision.{Decision, answer_of, decision_for, settings_for, settings_of}
 use Rattle.sysmem_alloc.specs.Entry.{BookEntry, Acted, Decided}
-use Rattle.sysmem_alloc.specs.History.{Allows, AreAllowed, after_answer, after_entry, replay, replay_from}
+use Rattle.sysmem_alloc.specs.History.{Allows, AreAllowed, after_answer, after_entry, replay_from}
 use Rattle.sysmem_alloc.specs.State.{State, base_of, first_state}
-use Rattle.sysmem_counts.specs.declared.field.Field.{Field}
 use Rattle.sysmem_formats.specs.declared.offer.Offer.{Offer}
 use Rattle.sysmem_formats.specs.Layout.{image_bytes_of}
 use Rattle.sysmem_image.specs.declared.bounds.ImageBounds.{ImageBounds}
 use Rattle.sysmem_image.specs.declared.size.Corner.{Corner}
-use Rattle.sysmem_image.specs.Corners.{IsCorner, RefusesCorner, image_of}
+use Rattle.sysmem_image.specs.Corners.{IsCorner, image_of}
 use Rattle.sysmem_image.specs.Laws.{CornerIsLeast, IsUpTo, NoCorner}
 use Rattle.sysmem_merge.specs.declared.settings.Settings.{Settings}
 use Rattle.sysmem_merge.specs.Best.{IsBest}

@@ -1,5 +1,5 @@
 -- Calls have one report, where memory is not refused.
-use Rattle.std.proofs.Common.{◌≡◌, ℕ, ◌+◌, ◌++◌, ◌||◌, List, [], Bool, true, false, Option, Some, None, Result, Ok, Err, refl, sym, ◌∙◌, ap, subst}
+use Rattle.std.proofs.Common.{◌≡◌, ℕ, ◌+◌, ◌++◌, ◌||◌, List, Bool, true, false, Option, Some, None, Result, Ok, Err, refl, sym, ◌∙◌, ap, subst}
 use Rattle.std.specs.Prelude.{IfSome, is_none}
 use Rattle.std.proofs.lemmas.Option.{same_Some}
 use Rattle.sysmem_alloc.proofs.CallerLemmas.{claims_optimal}
@@ -12,7 +12,6 @@ use Rattle.sysmem_image.specs.Laws.{CornerIsLeast}
 use Rattle.sysmem_merge.specs.declared.settings.Settings.{Settings}
 use Rattle.sysmem_proof.specs.declared.verdict.Verdict.{Verdict}
 use Rattle.sysmem_proof.specs.declared.verdict.Verdict.TheVariants.{Chosen, IntersectionEmpty, TooMany, Failed, NoMemory}
-use Rattle.sysmem_proof.specs.Base.{terms_of}
 use Rattle.sysmem_proof.specs.Chosen.{ChosenFacts}
 use Rattle.sysmem_proof.specs.Laws.{OneAnswer}
 use Rattle.sysmem_proof.specs.Verdict.{IsOptimalIn, IsSameAnswer}
@@ -31,8 +30,8 @@ use Rattle.script_run.specs.declared.reply.Reply.{Reply}
 use Rattle.script_run.specs.declared.reply.Reply.TheVariants.{Accepted, Refused, Misread, Skipped}
 use Rattle.script_run.specs.Answer.{Asks, to_duplicate, to_create_group, to_bind, to_create_child, to_complete, to_set_none, to_set, to_attach_token, to_release, to_close, AsksVerdict, to_check, to_wait, Replies, skips, misreads, starves, lacks, refuses, accepts, tells, told}
 use Rattle.script_run.specs.Laws.{OneReport}
-use Rattle.script_run.specs.Lines.{call_line, chosen_text}
-use Rattle.script_run.specs.Report.{Certified, Tells, chose, none_meet, too_many, wants_memory, call_lines, certified, decided, decision_lines, failed_lines, pending_lines, Goes, stays, calls, decides, IsReport}
+use Rattle.script_run.specs.Lines.{chosen_text}
+use Rattle.script_run.specs.Report.{Certified, Tells, chose, none_meet, too_many, wants_memory, call_lines, decided, decision_lines, pending_lines, Goes, stays, calls, decides}
 use Rattle.script_run.specs.State.{State, tree_of, first_state, node_named, unmade, acted}
 use Rattle.script_run.proofs.Corners.{one_corner}
 

@@ -47,7 +47,8 @@ pub(crate) fn choices_of(claim: &Option<Arc<Claim>>) -> Option<&[u8]>
 /// decisions that are asked for are mostly late ones.
 pub(crate) fn entered_for(history: &[Entry], domain: DomainId) -> Option<&Option<Arc<Claim>>>
     requires { AreApart (map (λ d. d.domain) (filter_map decision_in history.now)) }
-    ensures { option_map (λ claim. verdict_in (option_map (λ shared. arc_value shared) claim.now)) result
+    ensures { option_map
+        (λ claim. verdict_in (option_map (λ shared. arc_value shared) claim.now)) result
         ≡ option_map (λ d. d.verdict) (decision_for (filter_map decision_in history.now) domain) }
 {
     for index in (0..history.len()).rev() {
