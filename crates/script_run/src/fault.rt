@@ -7,7 +7,7 @@ use byte_transfer::{ReadFault, WriteFault};
 use script_reading::{ParseFault, ScriptFault};
 use thiserror::Error;
 
-/// Why a run ended before its report was written.
+/// Why a run ended before all was written.
 #[derive(Clone, Copy, Debug, PartialEq, Eq, Error)]
 pub enum RunFault {
     /// A reader gave an error.

@@ -1,7 +1,8 @@
-//! Verdicts on the domains of a collection, and when they are optimal.
+//! Verdicts on the domains of a collection, what proves them, and whether it does.
 //!
 //! ```
-//! let verdict = Verdict::Chosen(Chosen::new(selection, settings));
+//! let conflict = find_conflict(rt.alloc(), &platform, &tree, domain, None, &Prefix::new())?;
+//! let answer = check(&platform, &tree, domain, None, &claim);
 //! ```
 #![tactic(auto)]
 

@@ -5,7 +5,8 @@
 pub enum No {
     /// N1: the wrong shape, or a verdict that can't be checked or doesn't fit the number of selections.
     WrongShape,
-    /// N2: a participant that isn't there, has no constraints, isn't settled or is named twice.
+    /// N2: a participant that isn't there, has no constraints, isn't settled (nor, in the count of an attached domain, accepted before)
+    /// or is named twice.
     WrongNode,
     /// N3: a conflict that isn't one.
     NoConflict,
