@@ -127,7 +127,8 @@ fn find_on_base(
         → StandFor (members_at tree.now.nodes (base.now.accepted ++ nodes.now))
         (members_at tree.now.nodes base.now.accepted ++ settled d)
         → IfOk result (λ found. IfNone found
-        ((t : Settled) × MeetsFixed platform.now (terms_of tree.now.nodes base.now) (settled d) t)) }
+        ((t : Settled) × MeetsFixed platform.now (terms_of tree.now.nodes base.now)
+        (settled d) t)) }
 {
     let settings = base.settings();
     let everyone = joined(alloc, base.accepted(), nodes)?;

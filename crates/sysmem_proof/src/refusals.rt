@@ -186,7 +186,8 @@ fn push_heap(
 ) -> Result<bool, AllocError>
     requires { All (HasNode tree.now.nodes) nodes.now }
     ensures { (ms : List Member) → StandFor (members_at tree.now.nodes nodes.now) ms
-        → (xs : List HeapPlace) (heaps : List HeapFacts) → AreSoFar (RefusesPlace ms) xs lines.old.items
+        → (xs : List HeapPlace) (heaps : List HeapFacts)
+        → AreSoFar (RefusesPlace ms) xs lines.old.items
         (places_from index (heap.now ∷ heaps))
         → IfOk result (GoOn (RefusesPlace ms)
         (Ends until (λ (p : HeapPlace). p.place) (SharePlace ms)) xs lines.new.items

@@ -54,8 +54,8 @@ pub fn search<G: Gate>(
         IsProofIn platform.now tree.now.nodes domain (option_map (λ b. b.now) base.entry)
         found.verdict found.proof) }
     ensures visits { IfOk result (λ found.
-        AreVisitsIn platform.now tree.now.nodes domain (option_map (λ b. b.now) base.entry) found.verdict
-        found.visits) }
+        AreVisitsIn platform.now tree.now.nodes domain (option_map (λ b. b.now) base.entry)
+        found.verdict found.visits) }
 {
     if tree.count_selections(domain) > MOST_SELECTIONS {
         return Ok(Found {
