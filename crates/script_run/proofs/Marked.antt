@@ -1,5 +1,5 @@
 -- Marks of domains that have failed, set one after the other.
-use Rattle.std.proofs.Common.{◌≡◌, ◌≤◌, ℕ, length, Option, refl, ap, ◌∙◌, false, arith, None, List, zero, suc, [], ◌∷◌, slice_get}
+use Rattle.std.proofs.Common.{◌≡◌, ◌≤◌, ℕ, length, refl, ap, false, arith, None, List, zero, suc, [], ◌∷◌, slice_get}
 use Rattle.std.specs.Prelude.{option_map, unwrap_or}
 use Rattle.sysmem_alloc.specs.Sound.{roots_of}
 use Rattle.sysmem_tree.specs.Domain.{TreeFacts, has_failed}

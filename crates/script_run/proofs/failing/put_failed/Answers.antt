@@ -1,12 +1,11 @@
 -- One domain after the other.
-use Rattle.std.proofs.Common.{◌<◌, ◌≤◌, ◌&&◌, ◌++◌, ℕ, Bool, List, not, Some, None, codes, length, refl, sym, ◌∙◌, arith}
+use Rattle.std.proofs.Common.{◌<◌, ◌≤◌, ◌&&◌, not, codes, length, refl, sym, ◌∙◌, arith}
 use Rattle.std.specs.String.{string_bytes}
 use Rattle.sysmem_alloc.specs.Sound.{roots_of}
 use Rattle.sysmem_alloc.proofs.CallerLemmas.{many_roots}
-use Rattle.sysmem_tree.specs.Domain.{TreeFacts, has_failed}
+use Rattle.sysmem_tree.specs.Domain.{has_failed}
 use Rattle.sysmem_tree.specs.Path.{path_of}
 use Rattle.script_run.specs.Lines.{domain_line}
-use Rattle.script_run.specs.Report.{failed_lines}
 use Rattle.script_run.proofs.Failures.{unmarked_is}
 use Rattle.script_run.proofs.Walking.{all_put, passes_by, puts_one}
 use Rattle.script_run.proofs.failing.put_failed.Goals as goal

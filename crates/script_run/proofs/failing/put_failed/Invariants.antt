@@ -1,5 +1,5 @@
 -- The text so far lacks the lines of the domains that are left.
-use Rattle.std.specs.Prelude.{◌&&◌, ◌++◌, codes, filter, not}
+use Rattle.std.specs.Prelude.{◌&&◌, ◌++◌, codes, not}
 use Rattle.std.specs.String.{string_bytes}
 use Rattle.sysmem_alloc.specs.Sound.{roots_of}
 use Rattle.sysmem_tree.specs.Domain.{TreeFacts, has_failed}

@@ -2,7 +2,6 @@ use Rattle.script_run.specs.Runner.{state_of}
 use Rattle.script_run.specs.State.{tree_of}
 use Rattle.script_run.proofs.Answering.{replies_as}
 use Rattle.script_run.proofs.Following.{answered_marks}
-use Rattle.script_run.proofs.Results.{on_ok}
 use Rattle.script_run.proofs.Told.{failed_put, marked_of, sound_of}
 use Rattle.script_run.proofs.runner.Runner.reply.Goals as goal
 
