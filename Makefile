@@ -26,6 +26,7 @@ built-test:
 	tests/refusals
 	tests/records
 	tests/run_command
+	tests/certificates
 	tests/want_of_memory
 
 # Times the proved program beside the reading of the same bytes as a JSON value, and calls on small and large trees.

@@ -1,1 +1,5 @@
+pub mod BoundsLemmas
+pub mod Members
+pub mod Names
+pub mod PathsBack
 pub mod Putting

@@ -2,3 +2,9 @@ pub mod Paths
 pub mod Bounds
 pub mod Told
 pub mod Certificate
+pub mod Fields
+pub mod Reading
+pub mod SettingsSaid
+pub mod Said
+pub mod Put
+pub mod Laws

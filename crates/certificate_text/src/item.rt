@@ -1,18 +1,29 @@
 //! Items of refutations, and refutations.
 
+ghost use Rattle.std.specs.Prelude.{◌≡◌, IfOk};
 ghost use Rattle.certificate_text.specs.Certificate.{Puts};
+ghost use Rattle.certificate_text.specs.Reading.{Says};
+ghost use Rattle.certificate_text.specs.Said.{conflict_said, earlier_said, fixed_by, item_said, lines_said, refutation_said, split_said};
+ghost use Rattle.serde_json.specs.View.{view};
 ghost use Rattle.certificate_text.specs.Told.{conflict_data, earlier_data, item_data, refutation_data, lines_data};
 ghost use Rattle.serde_json.specs.Data.{object, member, no_members};
 
-use crate::line::put_named;
-use crate::part::{Part, put_list};
+use crate::line::{named_value, put_named, read_named};
+use crate::part::{Part, list_value, put_list};
+use crate::reading::{expect_object, has_key, list_at, list_of, number_at};
+use crate::unread::Unread;
 use json::Writer;
-use std::alloc::AllocError;
+use serde_json::{Map, Value, put};
+use std::alloc::{AllocError, Global};
 use std::slice;
-use sysmem_proof::{Conflict, EarlierChoices, Item, Lines, Refutation};
+use sysmem_counts::Field;
+use sysmem_proof::{Conflict, EarlierChoices, Item, Line, Lines, Refutation};
+use sysmem_tree::Path;
 
 impl Part for Item {
     ghost told = { item_data };
+
+    ghost said = { item_said };
 
     fn put(&self, out: &mut Writer, text: &mut String) -> Result<(), AllocError> {
         match self {
@@ -20,21 +31,55 @@ impl Part for Item {
             Item::Leaf(conflict) => put_conflict(out, text, conflict),
         }
     }
+
+    fn value(&self, alloc: Global) -> Result<Value, AllocError> {
+        match self {
+            Item::Split(children) => split_value(alloc, *children),
+            Item::Leaf(conflict) => conflict_value(alloc, conflict),
+        }
+    }
+
+    fn read(alloc: Global, value: &Value) -> Result<Item, Unread> {
+        if has_key(value, "split") {
+            return split_of(value).ok_or(Unread::WrongForm);
+        }
+        Ok(Item::Leaf(conflict_of(alloc, value)?))
+    }
 }
 
 impl Part for Refutation {
     ghost told = { refutation_data };
 
+    ghost said = { refutation_said };
+
     fn put(&self, out: &mut Writer, text: &mut String) -> Result<(), AllocError> {
         put_list(out, text, self.items())
+    }
+
+    fn value(&self, alloc: Global) -> Result<Value, AllocError> {
+        list_value(alloc, self.items())
+    }
+
+    fn read(alloc: Global, value: &Value) -> Result<Refutation, Unread> {
+        Ok(Refutation::new(list_of(alloc, value)?))
     }
 }
 
 impl Part for EarlierChoices {
     ghost told = { earlier_data };
 
+    ghost said = { earlier_said };
+
     fn put(&self, out: &mut Writer, text: &mut String) -> Result<(), AllocError> {
         put_list(out, text, self.refutations())
+    }
+
+    fn value(&self, alloc: Global) -> Result<Value, AllocError> {
+        list_value(alloc, self.refutations())
+    }
+
+    fn read(alloc: Global, value: &Value) -> Result<EarlierChoices, Unread> {
+        Ok(EarlierChoices::new(list_of(alloc, value)?))
     }
 }
 
@@ -78,4 +123,75 @@ fn put_lines(
     out.key(kind)?;
     put_list(out, text, lines.as_slice())?;
     out.end_object()
+}
+
+fn split_value(alloc: Global, children: u64) -> Result<Value, AllocError>
+    ensures { IfOk result (λ value. view value ≡ item_data (Item.Split children)) }
+{
+    let mut map = Map::new(alloc);
+    put(&mut map, alloc, "split", Value::from(children))?;
+    Ok(Value::Object(map))
+}
+
+fn conflict_value(alloc: Global, conflict: &Conflict) -> Result<Value, AllocError>
+    ensures { IfOk result (λ value. view value ≡ conflict_data conflict.now) }
+{
+    match conflict {
+        Conflict::Count(line) => named_value(alloc, "count", line.field(), line.nodes()),
+        Conflict::Fixed(field, node) => named_value(alloc, "fixed", *field, slice::from_ref(node)),
+        Conflict::Places(lines) => lines_value(alloc, "places", lines),
+        Conflict::Offers(lines) => lines_value(alloc, "offers", lines),
+    }
+}
+
+fn lines_value(alloc: Global, kind: &str, lines: &Lines) -> Result<Value, AllocError>
+    ensures { IfOk result (λ value. view value
+        ≡ object (member kind.now (lines_data lines.now) no_members)) }
+{
+    let mut map = Map::new(alloc);
+    put(&mut map, alloc, kind, list_value(alloc, lines.as_slice())?)?;
+    Ok(Value::Object(map))
+}
+
+fn split_of(value: &Value) -> Option<Item>
+    ensures { result ≡ split_said (view value.now) }
+{
+    expect_object(value, 1)?;
+    Some(Item::Split(number_at(value, "split", u64::MAX)?))
+}
+
+fn conflict_of(alloc: Global, value: &Value) -> Result<Conflict, Unread>
+    ensures { Says result (conflict_said (view value.now)) }
+{
+    if has_key(value, "count") {
+        let (field, nodes) = read_named(alloc, value, "count")?;
+        Ok(Conflict::Count(Line::new(field, nodes)))
+    } else if has_key(value, "fixed") {
+        let (field, nodes) = read_named(alloc, value, "fixed")?;
+        fixed_by(field, nodes).ok_or(Unread::WrongForm)
+    } else if has_key(value, "places") {
+        Ok(Conflict::Places(lines_of(alloc, value, "places")?))
+    } else {
+        Ok(Conflict::Offers(lines_of(alloc, value, "offers")?))
+    }
+}
+
+/// The conflict of a field and one node.
+fn fixed_by(field: Field, mut nodes: Vec<Path>) -> Option<Conflict>
+    ensures { result ≡ fixed_by field nodes.items }
+{
+    let node = nodes.pop()?;
+    if nodes.is_empty() {
+        Some(Conflict::Fixed(field, node))
+    } else {
+        None
+    }
+}
+
+/// The lines that an object has alone, under a kind.
+fn lines_of(alloc: Global, value: &Value, kind: &str) -> Result<Lines, Unread>
+    ensures { Says result (lines_said kind.now (view value.now)) }
+{
+    expect_object(value, 1).ok_or(Unread::WrongForm)?;
+    Ok(Lines::new(list_at(alloc, value, kind)?))
 }

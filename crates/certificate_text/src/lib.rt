@@ -10,11 +10,18 @@
 mod bounds;
 mod claim;
 mod item;
+pub mod laws;
 mod line;
 mod member;
 mod part;
 mod path;
+mod reading;
 mod settings;
+mod unread;
+mod value;
 mod writer;
 
+pub use claim::read_proof;
+pub use unread::Unread;
+pub use value::write_proof;
 pub use writer::CertificateWriter;

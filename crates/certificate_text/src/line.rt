@@ -1,11 +1,22 @@
 //! Lines of the conflict table.
 
 ghost use Rattle.certificate_text.specs.Certificate.{Puts};
-ghost use Rattle.certificate_text.specs.Told.{field_data, line_data, named_data};
+ghost use Rattle.std.specs.Prelude.{◌≡◌, codes, IfOk};
+ghost use Rattle.std.specs.Cmp.Lexicographic.{slice_cmp};
+ghost use Rattle.std.specs.Ordering.{nat_cmp};
+ghost use Rattle.std.proofs.Common.{Greater};
+ghost use Rattle.certificate_text.specs.Fields.{field_named};
+ghost use Rattle.certificate_text.specs.Reading.{named_at, Gives};
+ghost use Rattle.certificate_text.specs.Said.{line_said, named_said};
+ghost use Rattle.certificate_text.specs.Told.{line_data, named_data};
+ghost use Rattle.serde_json.specs.View.{view};
 
-use crate::part::{Part, put_list};
+use crate::part::{Part, list_value, put_list};
+use crate::reading::{expect_object, list_at, text_at};
+use crate::unread::Unread;
 use json::Writer;
-use std::alloc::AllocError;
+use serde_json::{Map, Value, put};
+use std::alloc::{AllocError, Global};
 use sysmem_counts::Field;
 use sysmem_proof::Line;
 use sysmem_tree::Path;
@@ -13,8 +24,19 @@ use sysmem_tree::Path;
 impl Part for Line {
     ghost told = { line_data };
 
+    ghost said = { line_said };
+
     fn put(&self, out: &mut Writer, text: &mut String) -> Result<(), AllocError> {
         put_named(out, text, "field", self.field(), self.nodes())
+    }
+
+    fn value(&self, alloc: Global) -> Result<Value, AllocError> {
+        named_value(alloc, "field", self.field(), self.nodes())
+    }
+
+    fn read(alloc: Global, value: &Value) -> Result<Line, Unread> {
+        let (field, nodes) = read_named(alloc, value, "field")?;
+        Ok(Line::new(field, nodes))
     }
 }
 
@@ -34,4 +56,54 @@ pub(crate) fn put_named(
     out.key("nodes")?;
     put_list(out, text, nodes)?;
     out.end_object()
+}
+
+/// A field under a kind, and the paths of nodes, as a value.
+pub(crate) fn named_value(
+    alloc: Global,
+    kind: &str,
+    field: Field,
+    nodes: &[Path],
+) -> Result<Value, AllocError>
+    requires { slice_cmp nat_cmp (codes "nodes") kind.now ≡ Greater }
+    ensures { IfOk result (λ value. view value ≡ named_data kind.now field nodes.now) }
+{
+    let mut map = Map::new(alloc);
+    put(
+        &mut map,
+        alloc,
+        kind,
+        Value::try_from_str(alloc, field.name())?,
+    )?;
+    put(&mut map, alloc, "nodes", list_value(alloc, nodes)?)?;
+    Ok(Value::Object(map))
+}
+
+/// The field of a name.
+fn field_of(name: &str) -> Option<Field>
+    ensures { result ≡ field_named name.now }
+{
+    Field::from_name(name)
+}
+
+/// The field that is named at a key.
+fn field_at(value: &Value, key: &str) -> Option<Field>
+    ensures { result ≡ named_at key.now field_named (view value.now) }
+{
+    field_of(text_at(value, key)?)
+}
+
+/// The field under a kind, and the paths of nodes.
+pub(crate) fn read_named(
+    alloc: Global,
+    value: &Value,
+    kind: &str,
+) -> Result<(Field, Vec<Path>), Unread>
+    ensures { Gives (λ named. record { field = named.0; nodes = named.1.items }) result
+        (named_said kind.now (view value.now)) }
+{
+    expect_object(value, 2).ok_or(Unread::WrongForm)?;
+    let field = field_at(value, kind).ok_or(Unread::WrongForm)?;
+    let nodes = list_at(alloc, value, "nodes")?;
+    Ok((field, nodes))
 }

@@ -2,18 +2,33 @@
 
 ghost use Rattle.certificate_text.specs.Certificate.{Puts, PutsMember};
 ghost use Rattle.certificate_text.specs.Told.{list_data};
+ghost use Rattle.certificate_text.specs.Reading.{Says};
 ghost use Rattle.serde_json.specs.Data.{Data};
+ghost use Rattle.serde_json.specs.View.{view, items_view, items_of};
+ghost use Rattle.std.specs.Prelude.{◌≡◌, map, IfOk, Option};
 
+use crate::unread::Unread;
 use json::Writer;
-use std::alloc::AllocError;
+use serde_json::Value;
+use std::alloc::{AllocError, Global};
 
 /// A part of a certificate, which stands for JSON data.
-pub(crate) trait Part: Sized {
+pub(crate) trait Part: Sized + Drop {
     ghost told: { Self → Data };
+
+    ghost said: { Data → Option Self };
 
     /// Puts it behind what is written. The text is one to write a path in.
     fn put(&self, out: &mut Writer, text: &mut String) -> Result<(), AllocError>
         ensures { Puts result out.old out.new (told self.now) };
+
+    /// It as a value.
+    fn value(&self, alloc: Global) -> Result<Value, AllocError>
+        ensures { IfOk result (λ value. view value ≡ told self.now) };
+
+    /// Reads it from a value.
+    fn read(alloc: Global, value: &Value) -> Result<Self, Unread>
+        ensures { Says result (said (view value.now)) };
 }
 
 /// Puts a list of parts behind what is written.
@@ -42,4 +57,24 @@ pub(crate) fn put_list_at<T: Part>(
 {
     out.key(key)?;
     put_list(out, text, parts)
+}
+
+/// The parts of a list as values.
+fn values_of<T: Part>(alloc: Global, parts: &[T]) -> Result<Vec<Value>, AllocError>
+    ensures { IfOk result (λ values. items_view values.items
+        ≡ items_of (map T.told parts.now)) }
+{
+    let mut values = Vec::with_capacity(alloc, parts.len())?;
+    for part in parts {
+        let value = part.value(alloc)?;
+        values.push(value)?;
+    }
+    Ok(values)
+}
+
+/// A list of parts as a value.
+pub(crate) fn list_value<T: Part>(alloc: Global, parts: &[T]) -> Result<Value, AllocError>
+    ensures { IfOk result (λ value. view value ≡ list_data T.told parts.now) }
+{
+    Ok(Value::Array(values_of(alloc, parts)?))
 }

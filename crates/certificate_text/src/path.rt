@@ -1,23 +1,42 @@
 //! Paths.
 
-ghost use Rattle.std.specs.Prelude.{◌≡◌, ◌++◌, codes, OnOk};
+ghost use Rattle.std.specs.Prelude.{◌≡◌, ◌++◌, ◌≤◌, None, codes, OnOk};
 ghost use Rattle.std.specs.Fmt.{decimal};
 ghost use Rattle.std.specs.String.{string_bytes};
-ghost use Rattle.certificate_text.specs.Paths.{path_text, steps_text};
+ghost use Rattle.certificate_text.specs.Paths.{path_said, path_text, path_behind, steps_said, steps_text, with_byte, with_digit};
+ghost use Rattle.certificate_text.specs.Reading.{Gives, Says};
+ghost use Rattle.certificate_text.specs.Said.{node_said};
 ghost use Rattle.certificate_text.specs.Told.{path_data};
 
 use crate::part::Part;
+use crate::unread::Unread;
 use json::Writer;
-use std::alloc::AllocError;
+use serde_json::Value;
+use std::alloc::{AllocError, Global};
 use sysmem_tree::Path;
 
 impl Part for Path {
     ghost told = { path_data };
 
+    ghost said = { node_said };
+
     fn put(&self, out: &mut Writer, text: &mut String) -> Result<(), AllocError> {
         text.clear();
         push_path(text, self.ordinals())?;
         out.string(text.as_str())
+    }
+
+    fn value(&self, alloc: Global) -> Result<Value, AllocError> {
+        let mut text = String::new(alloc);
+        push_path(&mut text, self.ordinals())?;
+        Ok(Value::String(text))
+    }
+
+    fn read(alloc: Global, value: &Value) -> Result<Path, Unread> {
+        match value.as_str() {
+            Some(text) => path_of(alloc, text),
+            None => Err(Unread::WrongForm),
+        }
     }
 }
 
@@ -49,4 +68,68 @@ fn push_step(text: &mut String, ordinal: u32) -> Result<(), AllocError>
     let mut digits = itoa::Buffer::new();
     text.push_str("/")?;
     text.push_str(digits.format(ordinal))
+}
+
+/// The path of a text: `/` is the root's.
+fn path_of(alloc: Global, text: &str) -> Result<Path, Unread>
+    ensures { Says result (path_said text.now) }
+{
+    match text.as_bytes().split_first() {
+        Some((first, behind)) if *first == b'/' => path_behind(alloc, behind),
+        _ => Err(Unread::WrongForm),
+    }
+}
+
+/// The path whose text has this behind its first slash.
+fn path_behind(alloc: Global, bytes: &[u8]) -> Result<Path, Unread>
+    ensures { Says result (path_behind bytes.now) }
+{
+    if bytes.is_empty() {
+        return Ok(Path::new(Vec::new(alloc)));
+    }
+    Ok(Path::new(steps_of(alloc, bytes)?))
+}
+
+/// The ordinals between slashes.
+fn steps_of(alloc: Global, bytes: &[u8]) -> Result<Vec<u32>, Unread>
+    ensures { Gives (λ ordinals. ordinals.items) result (steps_said None bytes.now) }
+{
+    let mut ordinals = Vec::new(alloc);
+    let mut ordinal = None;
+    for byte in bytes {
+        if *byte == b'/' {
+            ordinals.push(ordinal.ok_or(Unread::WrongForm)?)?;
+            ordinal = None;
+        } else {
+            ordinal = Some(with_byte(ordinal, *byte).ok_or(Unread::WrongForm)?);
+        }
+    }
+    ordinals.push(ordinal.ok_or(Unread::WrongForm)?)?;
+    Ok(ordinals)
+}
+
+/// An ordinal with a further digit.
+fn with_byte(ordinal: Option<u32>, byte: u8) -> Option<u32>
+    ensures { result ≡ with_byte ordinal byte }
+{
+    if byte.is_ascii_digit() {
+        with_digit(ordinal, byte - b'0')
+    } else {
+        None
+    }
+}
+
+/// An ordinal with a further digit from 0 to 9. None follows a 0, and the greatest number stands for all that are greater.
+fn with_digit(ordinal: Option<u32>, digit: u8) -> Option<u32>
+    requires { digit ≤ 9 }
+    ensures { result ≡ with_digit ordinal digit }
+{
+    match ordinal {
+        None => Some(u32::from(digit)),
+        Some(0) => None,
+        Some(number) => {
+            let longer = 10 * u64::from(number) + u64::from(digit);
+            Some(longer.min(u64::from(u32::MAX)) as u32)
+        }
+    }
 }

@@ -12,7 +12,7 @@ use Rattle.sysmem_sanitise.specs.Faults.{wrong}
 use Rattle.sysmem_sanitise.specs.Reading.Fields.{is_key_of, named, passing, read_each}
 use Rattle.sysmem_sanitise.specs.Reading.Heaps.{heaps_of}
 use Rattle.sysmem_sanitise.specs.Reading.Names.{format_named, modifier_named, colour_named}
-use Rattle.sysmem_sanitise.specs.Reading.Pairs.{same_pair, has_pair, same_colour, has_colour, is_misfit}
+use Rattle.sysmem_sanitise.specs.Reading.Pairs.{same_pair, has_pair, same_colour, has_colour, is_tiled_misfit}
 use Rattle.sysmem_sanitise.specs.Reading.Platform.{pair_of, with_pair, pairs_of, with_colour, colours_of}
 use Rattle.record_laws.specs.Laws.{EachPlatformIsStated}
 use Rattle.record_laws.specs.Records.{list, heap_record, pair_record, colour_record}
@@ -20,11 +20,11 @@ use Rattle.record_laws.proofs.Each.{passes, next, each_stated, item_has, none_be
 use Rattle.record_laws.proofs.Heaps.{heaps_list}
 use Rattle.record_laws.proofs.Names.{named_stated, format_stated, modifier_stated, colour_stated}
 
-pub misfit_tells : (p : Pair) → Decides (is_misfit p) (IsTiledMisfit p)
+pub misfit_tells : (p : Pair) → Decides (is_tiled_misfit p) (IsTiledMisfit p)
 misfit_tells p = search (rules, tests)
 
-pub no_misfit : (p : Pair) → (IsTiledMisfit p → ⊥) → is_misfit p ≡ false
-no_misfit p fits = by_test (is_misfit p) (misfit_tells p) where
+pub no_misfit : (p : Pair) → (IsTiledMisfit p → ⊥) → is_tiled_misfit p ≡ false
+no_misfit p fits = by_test (is_tiled_misfit p) (misfit_tells p) where
   by_test : (b : Bool) → Decides b (IsTiledMisfit p) → b ≡ false
   by_test true decides = absurd (fits (decides.0 refl))
   by_test false decides = refl
@@ -50,7 +50,7 @@ pairs_list ps some distinct fits =
     next (read_each (with_pair None) [] _) ps _ (Ok ps)
     (each_stated pair_record (with_pair None) ps (λ front back p is.
     next (pair_of (pair_record p)) p _ (Ok (front ++ p ∷ [])) (pair_stated p)
-    (next (passing (wrong code.TiledMisfit field.Pairs) (λ pair. not (is_misfit pair)) p) p _ (Ok (front ++ p ∷ [])) (passes _ (λ pair. not (is_misfit pair)) p (refused_not _ (no_misfit p (item_has (λ p. IsTiledMisfit p → ⊥) ps front back p is fits))))
+    (next (passing (wrong code.TiledMisfit field.Pairs) (λ pair. not (is_tiled_misfit pair)) p) p _ (Ok (front ++ p ∷ [])) (passes _ (λ pair. not (is_tiled_misfit pair)) p (refused_not _ (no_misfit p (item_has (λ p. IsTiledMisfit p → ⊥) ps front back p is fits))))
     (next (passing (wrong code.BadPlatformList field.Pairs) (λ pair. not (has_pair front pair)) p) p _ (Ok (front ++ p ∷ []))
     (passes _ (λ pair. not (has_pair front pair)) p (refused_not _ (none_before (λ a b. a ≢ b) same_pair (λ a b differ. apart (same_pair a b) (a ≡ b) (pair_tells a b) differ) ps front back p is distinct))) refl))) [] ps refl)
     (passes _ (λ ps. not (length ps == 0)) ps (not_empty ps some))

@@ -19,7 +19,7 @@ use Rattle.sysmem_sanitise.specs.Reading.Entries.{entry_object, colour_set_of, e
 use Rattle.sysmem_sanitise.specs.Reading.Fields.{◌>>=◌, object_of, list_of, number_or, flag_or, kept, passing, text_of, named, same_field, optional, read_or, read_each, stated, required}
 use Rattle.sysmem_sanitise.specs.Reading.Heaps.{name_fields, heap_info_fields, is_heap_type, has_heap, has_permitted, heap_type_of, heap_name_of, heap_of, with_heap, heaps_of, permitted_heap, with_permitted, permitted_of}
 use Rattle.sysmem_sanitise.specs.Reading.Names.{colour_named}
-use Rattle.sysmem_sanitise.specs.Reading.Pairs.{pair_fields, is_misfit, has_pair, has_colour}
+use Rattle.sysmem_sanitise.specs.Reading.Pairs.{pair_fields, is_tiled_misfit, has_pair, has_colour}
 use Rattle.sysmem_sanitise.specs.Reading.Platform.{platform_fields, pair_of, with_pair, pairs_of, with_colour, colours_of}
 use Rattle.record_laws.specs.Laws.{IsOrWants, ParticipantOrWants, PlatformOrWants}
 
@@ -87,7 +87,7 @@ heaps_wants lack d =
 with_pair_wants : (lack : Field) (ps : List _) (d : Data) → IsOrWants lack (with_pair (Some lack) ps d) (with_pair None ps d)
 with_pair_wants lack ps d =
     after lack (pair_of d) _ _ (λ pair.
-    after lack (passing (wrong code.TiledMisfit field.Pairs) (λ pair. not (is_misfit pair)) pair) _ _ (λ fitting.
+    after lack (passing (wrong code.TiledMisfit field.Pairs) (λ pair. not (is_tiled_misfit pair)) pair) _ _ (λ fitting.
     after lack (passing (wrong code.BadPlatformList field.Pairs) (λ pair. not (has_pair ps pair)) fitting) _ _ (λ new. kept_wants lack field.Pairs (ps ++ new ∷ []))))
 
 pairs_wants : (lack : Field) (d : Data) → IsOrWants lack (pairs_of (Some lack) d) (pairs_of None d)

@@ -1,5 +1,5 @@
 -- Domains that have failed and weren't marked as failed are those that an event made fail.
-use Rattle.std.proofs.Common.{◌≡◌, ◌≢◌, ◌⊎◌, inl, inr, ℕ, zero, suc, ◌==◌, ◌&&◌, ◌||◌, not, Bool, true, false, List, [], ◌∷◌, ◌++◌, length, Option, Some, None, Ok, get_or, slice_get, refl, sym, ◌∙◌, ap, subst, append-nil}
+use Rattle.std.proofs.Common.{◌≡◌, ◌⊎◌, inl, inr, ℕ, zero, suc, ◌==◌, ◌&&◌, ◌||◌, not, Bool, false, List, [], ◌∷◌, ◌++◌, length, Option, Some, None, Ok, get_or, slice_get, refl, sym, ◌∙◌, ap, subst, append-nil}
 use Rattle.std.specs.Prelude.{IsSomeAnd, map, option_and_then, option_map, unwrap_or, if◌then◌else◌}
 use Rattle.std.specs.List.{list_any}
 use Rattle.std.proofs.lemmas.Bool.{ne_eqb}
@@ -10,11 +10,8 @@ use Rattle.sysmem_tree.proofs.CallerLemmas.{accepted}
 use Rattle.sysmem_tree.specs.declared.action.ActionKind.{ActionKind}
 use Rattle.sysmem_tree.specs.declared.action.ActionKind.TheVariants.{Duplicate, CreateGroup, Bind, CreateChild, AllChildrenPresent, SetConstraints, AttachToken, Release, Close}
 use Rattle.sysmem_tree.specs.declared.domain.Domain.{Domain}
-use Rattle.sysmem_tree.specs.declared.domain.Decision.{Decision}
-use Rattle.sysmem_tree.specs.declared.domain.Decision.TheVariants.{Undecided, Chosen, NoneChosen}
-use Rattle.sysmem_tree.specs.declared.fate.Fate.TheVariants as fates
 use Rattle.sysmem_tree.specs.ActionKind.{Deed, kind_of}
-use Rattle.sysmem_tree.specs.Domain.{TreeFacts, HasDomain, IsSoundTree, decision_of, fails, fate_by, fate_of, has_failed, host_node, is_host_lost, up_from, was_closed_early}
+use Rattle.sysmem_tree.specs.Domain.{TreeFacts, HasDomain, IsSoundTree, fails, has_failed, host_node, is_host_lost, up_from, was_closed_early}
 use Rattle.sysmem_tree.specs.Node.{NodeFacts}
 use Rattle.sysmem_tree.specs.Tree.{Applied, applied, decided}
 use Rattle.script_run.specs.Marks.{AreMarksOf, failed_at, unmarked_at}
@@ -103,21 +100,3 @@ unmarked_is old t marks k are = by (slice_get (roots_of t) k) refl where
       → picked (λ r. has_failed t r && not (has_failed old r)) o ≡ option_and_then (λ r. if has_failed t r && not (get_or marks k false) then Some r else None) o
   by None here = refl
   by (Some r) here = ap (λ b. if has_failed t r && not b then Some r else None) (sym (are k r here))
-
-not_failed : (d : Decision) → fate_by d ≡ fates.Failed → ⊥
-not_failed Undecided e = absurd (cc)
-not_failed Chosen e = absurd (cc)
-not_failed NoneChosen e = absurd (cc)
-
--- what became of a domain says whether it has failed
-pub failed_if : (t : TreeFacts) (r : ℕ) → fate_of t r ≡ fates.Failed → true ≡ has_failed t r
-failed_if t r is = by (has_failed t r) is where
-  by : (b : Bool) → (if b then fates.Failed else fate_by (decision_of t.domains r)) ≡ fates.Failed → true ≡ b
-  by true e = refl
-  by false e = absurd (not_failed (decision_of t.domains r) e)
-
-pub unfailed_if : (t : TreeFacts) (r : ℕ) → fate_of t r ≢ fates.Failed → false ≡ has_failed t r
-unfailed_if t r other = by (has_failed t r) other where
-  by : (b : Bool) → (if b then fates.Failed else fate_by (decision_of t.domains r)) ≢ fates.Failed → false ≡ b
-  by true n = absurd (n refl)
-  by false n = refl

@@ -5,9 +5,9 @@ pub mod OneCertified
 pub mod Corners
 pub mod Failures
 pub mod Following
+pub mod Since
 pub mod Growing
 pub mod Reaching
-pub mod Marked
 pub mod Results
 pub mod RunLemmas
 pub mod Spelling

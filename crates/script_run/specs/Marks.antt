@@ -1,12 +1,9 @@
 -- Domains by their places among the roots: which have failed, and which of them weren't marked.
-use Rattle.std.specs.Prelude.{◌≡◌, ℕ, Bool, false, ◌&&◌, not, List, Option, Some, None, option_and_then, option_map, unwrap_or, get_or, is_none, slice_get, if◌then◌else◌}
+use Rattle.std.specs.Prelude.{◌≡◌, ℕ, Bool, false, ◌&&◌, not, List, Option, Some, None, option_and_then, get_or, is_none, slice_get, if◌then◌else◌}
 use Rattle.sysmem_alloc.specs.Sound.{roots_of}
 use Rattle.sysmem_alloc.specs.State.{State, verdict_of}
 use Rattle.sysmem_tree.specs.Domain.{TreeFacts, has_failed}
-
--- whether the k-th domain has failed
-abbrev pub failed_at : TreeFacts → ℕ → Bool
-failed_at t k = unwrap_or (option_map (has_failed t) (slice_get (roots_of t) k)) false
+pub use Rattle.sysmem_tree.specs.Sweep.{failed_at}
 
 -- the marks of the domains say which of them had failed in an earlier tree
 abbrev pub AreMarksOf : TreeFacts → TreeFacts → List Bool → Type 0

@@ -1,56 +1,46 @@
 //! Which domains have failed, and the lines of those that an event made fail.
 
-ghost use Rattle.std.specs.Prelude.{◌≡◌, ◌<◌, ℕ, false, get_or, IfSome};
+ghost use Rattle.std.specs.Prelude.{◌≡◌, ◌<◌, ℕ, None, false, get_or, IfSome};
+ghost use Rattle.script_reading.specs.Seen.{act_seen};
+ghost use Rattle.script_run.specs.Answer.{AsksVerdict};
 ghost use Rattle.script_run.specs.Lines.{Puts};
 ghost use Rattle.script_run.specs.Marks.{AreMarksOf, failed_at, unmarked_at};
 ghost use Rattle.script_run.specs.Report.{failed_lines};
-ghost use Rattle.sysmem_tree.specs.Domain.{HasDomain, TreeFacts, has_failed};
+ghost use Rattle.sysmem_tree.specs.Domain.{HasDomain, TreeFacts};
 
 use crate::domain_line::put_domain;
+use script_reading::Act;
 use std::alloc::AllocError;
-use sysmem_tree::{DomainId, Fate, Tree};
+use sysmem_tree::{DomainId, Tree};
 
-/// Whether a domain of the tree has failed.
-fn has_failed(tree: &Tree, domain: DomainId) -> bool
-    requires { HasDomain tree.now.nodes domain }
-    ensures { result ≡ has_failed tree.now domain }
+/// The domains that have failed, marked in order of creation of their roots; `None` before an act that only asks for the verdict, as it
+/// makes none fail.
+pub(crate) fn failed_before(tree: &Tree, act: &Act<'_>) -> Option<[bool; 128]>
+    ensures marks { IfSome result
+        (λ marks. (k : ℕ) → get_or marks k false ≡ failed_at tree.now k) }
+    ensures asks { result ≡ None → AsksVerdict (act_seen act.now) }
 {
-    matches!(tree.fate(domain), Fate::Failed)
-}
-
-/// Whether the domain of this index has failed.
-fn has_failed_at(tree: &Tree, index: u32) -> bool
-    ensures { result ≡ failed_at tree.now index }
-{
-    match tree.domain_at(index) {
-        Some(domain) => has_failed(tree, domain),
-        None => false,
+    match act {
+        Act::Check => None,
+        Act::Wait => None,
+        _ => Some(tree.failed_domains()),
     }
 }
 
-/// The domains that have failed, marked in order of creation of their roots.
-pub(crate) fn failed_domains(tree: &Tree) -> [bool; 128]
-    ensures { (k : ℕ) → get_or result k false ≡ failed_at tree.now k }
-{
-    let mut marks = [false; 128];
-    for index in 0..tree.domains() {
-        marks[index as usize] = has_failed_at(tree, index);
-    }
-    marks
-}
-
-/// The domain of this index, if it has failed and isn't marked.
-fn newly_failed_at(tree: &Tree, marks: &[bool; 128], index: u32) -> Option<DomainId>
-    requires { index < 128 }
-    ensures domain { result ≡ unmarked_at tree.now marks.now index }
+/// The domain of this index, if it has failed and hadn't, both by marks.
+fn newly_failed_at(
+    tree: &Tree,
+    have_failed: &[bool; 128],
+    had_failed: &[bool; 128],
+    index: u32,
+) -> Option<DomainId>
+    requires small { index < 128 }
+    requires marks { (k : ℕ) → get_or have_failed.now k false ≡ failed_at tree.now k }
+    ensures domain { result ≡ unmarked_at tree.now had_failed.now index }
     ensures there { IfSome result (HasDomain tree.now.nodes) }
 {
-    let domain = tree.domain_at(index)?;
-    if has_failed(tree, domain) && !marks[index as usize] {
-        Some(domain)
-    } else {
-        None
-    }
+    let is_new = have_failed[index as usize] && !had_failed[index as usize];
+    if is_new { tree.domain_at(index) } else { None }
 }
 
 /// Puts the line of each domain that has failed and isn't marked behind the text, in order of creation of their roots.
@@ -62,11 +52,28 @@ pub(crate) fn put_failed(
     ensures { (old : TreeFacts) → AreMarksOf old tree.now marks.now
         → Puts result text.old text.new (failed_lines old tree.now) }
 {
+    let have_failed = tree.failed_domains();
     for index in 0..tree.domains() {
-        let Some(domain) = newly_failed_at(tree, marks, index) else {
+        let Some(domain) = newly_failed_at(tree, &have_failed, marks, index) else {
             continue;
         };
         put_domain(text, tree, domain, "failed")?;
     }
     Ok(())
+}
+
+/// The same where there are marks; without any it leaves the text.
+pub(crate) fn put_failed_since(
+    text: &mut String,
+    tree: &Tree,
+    marks: &Option<[bool; 128]>,
+) -> Result<(), AllocError>
+    ensures some { IfSome marks.now (λ set. (old : TreeFacts) → AreMarksOf old tree.now set
+        → Puts result text.old text.new (failed_lines old tree.now)) }
+    ensures none { marks.now ≡ None → text.new ≡ text.old }
+{
+    match marks {
+        Some(set) => put_failed(text, tree, set),
+        None => Ok(()),
+    }
 }

@@ -22,7 +22,7 @@ ghost use Rattle.sysmem_tree.specs.Nodes.{HasNode};
 
 use crate::decider::{Decider, Stop};
 use crate::deciding::put_decision;
-use crate::failing::{failed_domains, put_failed};
+use crate::failing::{failed_before, put_failed, put_failed_since};
 use crate::line::put_call;
 use crate::reply::Reply;
 use crate::telling::told;
@@ -114,10 +114,10 @@ impl Runner {
     {
         legal_is_sound();
         self.book.platform();
-        let had_failed = failed_domains(self.book.tree());
+        let had_failed = failed_before(self.book.tree(), &call.act);
         let reply = self.answer(alloc, call)?;
         put_call(text, number, call, reply)?;
-        put_failed(text, self.book.tree(), &had_failed)?;
+        put_failed_since(text, self.book.tree(), &had_failed)?;
         Ok(())
     }
 
@@ -191,7 +191,7 @@ impl Runner {
     {
         few_entries();
         put_decision(text, &self.book, domain, &claim)?;
-        let had_failed = failed_domains(self.book.tree());
+        let had_failed = self.book.tree().failed_domains();
         self.enter(domain, claim);
         put_failed(text, self.book.tree(), &had_failed)?;
         self.book.platform();

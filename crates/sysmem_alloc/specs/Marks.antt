@@ -1,11 +1,8 @@
 -- Domains that are ready, by their places among the roots, and which of them weren't marked.
-use Rattle.std.specs.Prelude.{ℕ, ◌+◌, Bool, false, ◌&&◌, not, List, [], ◌∷◌, Option, Some, None, option_map, option_and_then, unwrap_or, get_or, slice_get, if◌then◌else◌}
+use Rattle.std.specs.Prelude.{ℕ, ◌+◌, Bool, false, ◌&&◌, not, List, [], ◌∷◌, Option, Some, None, option_and_then, get_or, slice_get, if◌then◌else◌}
 use Rattle.sysmem_tree.specs.Domain.{TreeFacts, is_ready}
+pub use Rattle.sysmem_tree.specs.Sweep.{ready_at}
 use Rattle.sysmem_alloc.specs.Sound.{roots_of}
-
--- whether the k-th domain is ready
-abbrev pub ready_at : TreeFacts → ℕ → Bool
-ready_at t k = unwrap_or (option_map (is_ready t) (slice_get (roots_of t) k)) false
 
 -- a domain, if it is ready and its mark isn't set
 abbrev pub if_unmarked : TreeFacts → Bool → ℕ → Option ℕ

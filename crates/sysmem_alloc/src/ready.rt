@@ -18,28 +18,32 @@ fn is_ready_at(tree: &Tree, index: u32) -> bool
     }
 }
 
-/// The domains that are ready, marked in order of creation of their roots.
+/// The domains that are ready, marked in order of creation of their roots. Whether a single one is ends at the first of its nodes that
+/// is awaited; several are asked for at once.
 pub(crate) fn ready_domains(tree: &Tree) -> [bool; 128]
     ensures { (k : ℕ) → get_or result k false ≡ ready_at tree.now k }
 {
-    let mut marks = [false; 128];
-    for index in 0..tree.domains() {
-        marks[index as usize] = is_ready_at(tree, index);
+    if tree.domains() > 1 {
+        return tree.ready_domains();
     }
+    let mut marks = [false; 128];
+    marks[0] = is_ready_at(tree, 0);
     marks
 }
 
-/// The domain of this index, if it is ready and isn't marked.
-fn newly_ready_at(tree: &Tree, marks: &[bool; 128], index: u32) -> Option<DomainId>
-    requires { index < 128 }
-    ensures { result ≡ unmarked_at tree.now marks.now index }
+/// The domain of this index, if it is ready and wasn't, both by marks.
+fn newly_ready_at(
+    tree: &Tree,
+    are_ready: &[bool; 128],
+    were_ready: &[bool; 128],
+    index: u32,
+) -> Option<DomainId>
+    requires small { index < 128 }
+    requires marks { (k : ℕ) → get_or are_ready.now k false ≡ ready_at tree.now k }
+    ensures { result ≡ unmarked_at tree.now were_ready.now index }
 {
-    let domain = tree.domain_at(index)?;
-    if tree.ready(domain) && !marks[index as usize] {
-        Some(domain)
-    } else {
-        None
-    }
+    let is_new = are_ready[index as usize] && !were_ready[index as usize];
+    if is_new { tree.domain_at(index) } else { None }
 }
 
 /// Adds the domains that are ready and aren't marked, in order of creation of their roots.
@@ -51,8 +55,9 @@ pub(crate) fn add_ready(tree: &Tree, marks: &[bool; 128], waiting: &mut Vec<Doma
         ≡ waiting.old.items ++ ready_unmarked tree.now marks.now 0 (roots_of tree.now) }
     ensures reserved { vec_capacity waiting.new ≡ vec_capacity waiting.old }
 {
+    let are_ready = ready_domains(tree);
     for index in 0..tree.domains() {
-        let Some(domain) = newly_ready_at(tree, marks, index) else {
+        let Some(domain) = newly_ready_at(tree, &are_ready, marks, index) else {
             continue;
         };
         waiting.push_reserved(domain);

@@ -6,24 +6,34 @@ use Rattle.std.specs.Int.{◌∣◌}
 use Rattle.std.specs.List.{list_all}
 use Rattle.std.specs.List.Sorted.{IsPermutation}
 use Rattle.sysmem_counts.proofs.CallerLemmas.{tally_in_order}
+use Rattle.sysmem_counts.specs.Bounds as counts
+use Rattle.sysmem_counts.specs.Tally.{Tally}
 use Rattle.sysmem_counts.specs.declared.constraints.CountConstraints.{CountConstraints}
 use Rattle.sysmem_counts.specs.declared.field.Field.TheVariants.{PixelFormat, ColorSpaces, SizeAlignment, BytesPerRowDivisor, StartOffsetDivisor, DisplayRectAlignment}
 use Rattle.sysmem_formats.specs.declared.offer.Offer.{Offer}
+use Rattle.sysmem_formats.specs.declared.offer.Offer.TheVariants.{NoImage, Image}
+use Rattle.sysmem_formats.specs.declared.offer.Pair.{Pair}
 use Rattle.sysmem_image.specs.declared.bounds.ImageBounds.{ImageBounds}
 use Rattle.sysmem_image.specs.Entries.{first_match}
 use Rattle.sysmem_image.specs.Fields as bound
 use Rattle.sysmem_image.specs.Fields.{Bound, Keeps, rule_of, value, own_value}
 use Rattle.sysmem_image.specs.Lines.{MeetsIn}
 use Rattle.sysmem_image.specs.Merged.{IsMergeOf, MergedOf}
+use Rattle.sysmem_memory.specs.declared.domain.CoherencyDomains.{CoherencyDomains}
 use Rattle.sysmem_memory.specs.Domain.{has_domain}
+use Rattle.sysmem_memory.specs.Place as places
 use Rattle.sysmem_merge.specs.declared.kept.KeptBounds.{KeptBounds}
 use Rattle.sysmem_merge.specs.declared.kept.KeptBounds.TheVariants.{Merged, Refused}
 use Rattle.sysmem_merge.specs.declared.kept.KeptOffer.{KeptOffer}
+use Rattle.sysmem_merge.specs.declared.pair.KeptPair.{KeptPair}
 use Rattle.sysmem_merge.specs.Aggregate.{AreSizes, IsListed, AreKeptBounds, IsKept}
 use Rattle.sysmem_merge.specs.Demands.{OfferDemand, counts_asked, place_demand, place_demands, offer_demand, offer_demands}
 use Rattle.sysmem_merge.specs.Laws.{StandsInAnyOrder}
 use Rattle.sysmem_merge.specs.Offers.{has_format, has_colour, Asks, bounds_asked, names_format, names_modifier, names_colour}
+use Rattle.sysmem_merge.specs.Pairs.{in_colour, IsPairKept}
+use Rattle.sysmem_merge.specs.Sum.{SumsInAnyOrder}
 use Rattle.sysmem_sanitise.specs.Participant.{Participant}
+use Rattle.sysmem_sanitise.specs.Platform.{PlatformFacts}
 use Rattle.sysmem_merge.proofs.Asked.{asked_all, asked_each}
 
 -- two tests that pass together are one
@@ -116,25 +126,56 @@ sizes_in_order ds es low high order s = record {
   );
 }
 
+-- and of counts
+counts_in_order : (kept : Tally) (ps qs : List Participant) → IsPermutation ps qs → counts.IsTallyOf kept (counts_asked ps) → counts.IsTallyOf kept (counts_asked qs)
+counts_in_order kept ps qs order is =
+    let asked = IsPermutation-map (λ (p : Participant). p.counts) ps qs order in record {
+      tallied = is.tallied ∙ tally_in_order (counts_asked ps) (counts_asked qs) asked;
+      fits = All-permutation (λ (q : CountConstraints). q.max_buffer_count < 2 ^ 32) (counts_asked ps) (counts_asked qs) asked is.fits;
+    }
+
+-- and of places
+places_in_order : (kept : List CoherencyDomains) (platform : PlatformFacts) (ps qs : List Participant) → IsPermutation ps qs
+    → places.AreDomainsLeft kept platform.heaps (place_demands ps) → places.AreDomainsLeft kept platform.heaps (place_demands qs)
+places_in_order kept platform ps qs order is = record {
+  limit = is.limit;
+  exactly = λ k h s d here got. is.exactly k h s d here got
+      ∙ ap (λ b. has_domain h.domains d && b) (all_in_order _ (place_demands ps) (place_demands qs) (IsPermutation-map place_demand ps qs order));
+}
+
 -- what stands for participants stands for them in any order
 pub stands_in_order : StandsInAnyOrder
 stands_in_order kept platform ps qs order stands =
-    let asked = IsPermutation-map (λ (p : Participant). p.counts) ps qs order in
     let offered = IsPermutation-map offer_demand ps qs order in record {
       on = stands.on;
-      counts = record {
-        tallied = stands.counts.tallied ∙ tally_in_order (counts_asked ps) (counts_asked qs) asked;
-        fits = All-permutation (λ (q : CountConstraints). q.max_buffer_count < 2 ^ 32) (counts_asked ps) (counts_asked qs) asked stands.counts.fits;
-      };
-      places = record {
-        limit = stands.places.limit;
-        exactly = λ k h s d here got. stands.places.exactly k h s d here got
-            ∙ ap (λ b. has_domain h.domains d && b) (all_in_order _ (place_demands ps) (place_demands qs) (IsPermutation-map place_demand ps qs order));
-      };
+      counts = counts_in_order kept.counts ps qs order stands.counts;
+      places = places_in_order kept.places platform ps qs order stands.places;
       offers = record {
         many = stands.offers.many;
         each = λ k o one here got. kept_in_order o (offer_demands ps) (offer_demands qs) one offered (stands.offers.each k o one here got);
       };
       sizes = sizes_in_order (offer_demands ps) (offer_demands qs) kept.least_size kept.greatest_size offered stands.sizes;
       many = stands.many ∙ sym (length_permutation ps qs order);
+    }
+
+-- and of a pair
+pair_in_order : (pair : Pair) (ds es : List OfferDemand) (kept : KeptPair) → IsPermutation ds es → IsPairKept pair ds kept → IsPairKept pair es kept
+pair_in_order pair ds es kept order is = record {
+  each = λ c. kept_in_order (Image pair c) ds es (in_colour kept c) order (is.each c);
+  plain = is.plain;
+}
+
+-- a sum of participants is their sum in any order
+pub sums_in_order : SumsInAnyOrder
+sums_in_order sum platform ps qs order sums =
+    let offered = IsPermutation-map offer_demand ps qs order in record {
+      counts = counts_in_order sum.counts ps qs order sums.counts;
+      places = places_in_order sum.places platform ps qs order sums.places;
+      no_image = kept_in_order NoImage (offer_demands ps) (offer_demands qs) sum.no_image offered sums.no_image;
+      pairs = record {
+        many = sums.pairs.many;
+        each = λ k pair one here got. pair_in_order pair (offer_demands ps) (offer_demands qs) one offered (sums.pairs.each k pair one here got);
+      };
+      sizes = sizes_in_order (offer_demands ps) (offer_demands qs) sum.least_size sum.greatest_size offered sums.sizes;
+      many = sums.many ∙ sym (length_permutation ps qs order);
     }

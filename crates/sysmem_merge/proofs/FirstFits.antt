@@ -77,7 +77,7 @@ pub place_of : (os : List Offer) (o : Offer) → Contains os o → (k : ℕ) × 
 place_of os o has = (has.0, has.1, slice_get_read os (length os) has.0 o refl has.1 (sym has.2))
 
 -- and what has a place is contained
-contained_at : (os : List Offer) (k : ℕ) (o : Offer) → slice_get os k ≡ Some o → Contains os o
+pub contained_at : (os : List Offer) (k : ℕ) (o : Offer) → slice_get os k ≡ Some o → Contains os o
 contained_at os k o here = (k, slice_get_within os k o here, get_or_from_slice_get os k o o here)
 
 -- the best fit of an offer is the first one, where each offer before it is refused

@@ -1,5 +1,5 @@
 -- What is kept of an offer for the participants of two lists.
-use Rattle.std.proofs.Common.{arith, ℕ, ◌+◌, ◌<◌, ◌≤◌, ◌≡◌, ◌||◌, Bool, false, List, ◌++◌, Any, Some, length, slice_get, slice_set, sym, ap, ◌∙◌, subst, below_more}
+use Rattle.std.proofs.Common.{arith, ℕ, ◌+◌, ◌<◌, ◌≤◌, ◌≡◌, ◌||◌, Bool, false, List, ◌++◌, Any, Some, length, slice_get, slice_set, refl, sym, ap, ◌∙◌, subst, below_more}
 use Rattle.std.specs.List.{list_any}
 use Rattle.std.proofs.lemmas.List.{length-set}
 use Rattle.std.proofs.lemmas.List.Elements.{All-append, filter_map-append, Contains-append_left, Contains-append_right}
@@ -21,7 +21,7 @@ use Rattle.sysmem_merge.specs.Aggregate.{IsLasting, IsListed, AreKeptBounds, IsK
 use Rattle.sysmem_merge.specs.Demands.{OfferDemand}
 use Rattle.sysmem_merge.specs.Offers.{has_format, has_colour, entry_bounds, bounds_asked, names_format, names_modifier, names_colour}
 use Rattle.sysmem_merge.specs.Reasons.{IsOfferLine}
-use Rattle.sysmem_merge.proofs.Keeping.{steady_lasts}
+use Rattle.sysmem_merge.proofs.Keeping.{steady_lasts, IsRefusing}
 use Rattle.sysmem_merge.proofs.Many.{IsKeptAt}
 
 -- the bounds that two lists ask
@@ -133,3 +133,9 @@ joined_at i os ds es above more new kept_above kept_more joins o there =
     let a = slice_get_some above i (omega (arith, within, kept_above.many)) in
     let b = slice_get_some more i (omega (arith, within, kept_more.many)) in
     joins a.0 b.0 a.1 b.1 o ds es (kept_above.each i o a.0 there a.1) (kept_more.each i o b.0 there b.1)
+
+-- where the second is refused, both are, for its field if the first wasn't
+pub refused_by_second : (f : Field) (o : Offer) (ds es : List OfferDemand) (old new : KeptBounds) → IsRefusing f old new → AreKeptBounds o ds old → AreKeptBounds o es (Refused f)
+    → AreKeptBounds o (ds ++ es) new
+refused_by_second f o ds es (Merged b) new refusing left right = rw (refusing.first b refl) (refused_second f o ds es right)
+refused_by_second f o ds es (Refused earlier) new refusing left right = rw (refusing.still earlier refl) (refused_first earlier o ds es left)

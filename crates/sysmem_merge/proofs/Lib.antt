@@ -1,7 +1,9 @@
 pub mod Accepting
 pub mod Adding
+pub mod AnyColour
 pub mod AnyOrder
 pub mod Asked
+pub mod ColourBits
 pub mod FirstFits
 pub mod Fits
 pub mod Joining
@@ -11,6 +13,9 @@ pub mod Many
 pub mod OfferReading
 pub mod OneBest
 pub mod OneLine
+pub mod PairFits
+pub mod PairKeeping
+pub mod PairLists
 pub mod Reasons
 pub mod Sizes
 pub mod SomeMet

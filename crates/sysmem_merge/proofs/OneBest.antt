@@ -18,9 +18,10 @@ use Rattle.sysmem_image.specs.Bounds.{IsTighter}
 use Rattle.sysmem_image.specs.Fields.{MinSize, MaxSize, SizeAlignment, MinBytesPerRow, MaxBytesPerRow, BytesPerRowDivisor, StartOffsetDivisor, DisplayRectAlignment, RequiredMinSize, RequiredMaxSize, MaxWidthTimesHeight, Width, Height}
 use Rattle.sysmem_image.proofs.CallerLemmas.{tighter_both}
 use Rattle.sysmem_memory.proofs.CallerLemmas.{places_are_in_one_order}
+use Rattle.sysmem_merge.specs.contracts.fit.Fit.{the_type as fit_type}
 use Rattle.sysmem_merge.specs.contracts.settings.Settings.{the_type as settings_type}
 use Rattle.sysmem_merge.specs.Best.{IsEarlierOffer, IsNoBetter}
-use Rattle.sysmem_merge.specs.Laws.{OneBest}
+use Rattle.sysmem_merge.specs.Laws.{OneBest, OneFit}
 use Rattle.sysmem_merge.specs.Settings.{MeetsLoosely}
 use Rattle.sysmem_sanitise.specs.Platform.{offers_of}
 use Rattle.sysmem_merge.proofs.FirstFits.{place_of}
@@ -114,6 +115,13 @@ same_bounds a b up down =
     let required_max_size = same_sizes a.required_max_size b.required_max_size (same RequiredMaxSize Width) (same RequiredMaxSize Height) in
     let max_width_times_height : a.max_width_times_height ≡ b.max_width_times_height = same MaxWidthTimesHeight Width in
     bounds_type.to_one a b (cc)
+
+-- two fits that aren't better than each other are one
+pub one_fit : OneFit
+one_fit a b offer up down =
+    let size : a.size_bytes ≡ b.size_bytes = le_antisymm down.size up.size in
+    let bounds = same_bounds a.bounds b.bounds up.bounds down.bounds in
+    fit_type.to_one a b (cc)
 
 -- two best settings are one, part by part
 pub one_best : OneBest

@@ -1,14 +1,18 @@
 -- What stands for participants and for more of them stands for both together.
-use Rattle.std.proofs.Common.{arith, ℕ, ◌≡◌, ◌≤◌, ◌+◌, max, min, refl, List, [], ◌∷◌, ◌++◌, All, length-append}
+use Rattle.std.proofs.Common.{arith, ℕ, ◌≡◌, ◌≤◌, ◌+◌, max, min, List, [], ◌∷◌, ◌++◌, All, length-append}
 use Rattle.std.proofs.lemmas.List.{map-append}
 use Rattle.std.proofs.lemmas.List.Elements.{All-append, All-nil, All-cons, All-head, All-tail}
 use Rattle.sysmem_counts.specs.Bounds as counts
 use Rattle.sysmem_memory.specs.Place as places
-use Rattle.sysmem_merge.specs.Aggregate.{AreSizes, AreKept}
-use Rattle.sysmem_merge.specs.Demands.{OfferDemand, counts_asked, place_demands, offer_demands}
+use Rattle.sysmem_formats.specs.declared.offer.Offer.TheVariants.{NoImage}
+use Rattle.sysmem_merge.specs.Aggregate.{AreSizes, IsKept}
+use Rattle.sysmem_merge.specs.Demands.{OfferDemand, counts_asked, place_demand, place_demands, offer_demand, offer_demands}
+use Rattle.sysmem_merge.specs.Pairs.{ArePairsKept}
 use Rattle.sysmem_merge.specs.Sum.{SumFacts, SumsUp}
 use Rattle.sysmem_sanitise.specs.Participant.{Participant}
-use Rattle.sysmem_sanitise.specs.Platform.{PlatformFacts, offers_of}
+use Rattle.sysmem_sanitise.specs.Platform.{PlatformFacts}
+use Rattle.sysmem_merge.proofs.Adding.{map_push}
+use Rattle.sysmem_merge.proofs.Sizes.{sizes_push}
 
 -- what holds of each of two lists together holds of each of both
 all_parts : {X : Type 0} (P : X → Type 0) (xs ys : List X) → All P (xs ++ ys) → All P xs × All P ys
@@ -33,14 +37,29 @@ sizes_both ds es least greatest more_least more_greatest first second = record {
 -- each part stands for both lists, so the whole does
 pub sums_both : (above more new : SumFacts) (platform : PlatformFacts) (ps qs : List Participant) → SumsUp above platform ps → SumsUp more platform qs
     → counts.IsTallyOf new.counts (counts_asked ps ++ counts_asked qs) → places.AreDomainsLeft new.places platform.heaps (place_demands ps ++ place_demands qs)
-    → AreKept (offers_of platform) (offer_demands ps ++ offer_demands qs) new.offers
+    → IsKept NoImage (offer_demands ps ++ offer_demands qs) new.no_image → ArePairsKept platform.pairs (offer_demands ps ++ offer_demands qs) new.pairs
     → new.least_size ≡ max above.least_size more.least_size → new.greatest_size ≡ min above.greatest_size more.greatest_size → new.added ≡ above.added + more.added
     → SumsUp new platform (ps ++ qs)
-sums_both above more new platform ps qs first second counted placed offered least greatest many = record {
-  on = refl;
+sums_both above more new platform ps qs first second counted placed imageless paired least greatest many = record {
   counts = rw map-append counted;
   places = rw map-append placed;
-  offers = rw map-append offered;
+  no_image = rw map-append imageless;
+  pairs = rw map-append paired;
   sizes = rw (map-append, least, greatest) (sizes_both (offer_demands ps) (offer_demands qs) above.least_size above.greatest_size more.least_size more.greatest_size first.sizes second.sizes);
   many = omega (arith, many, first.many, second.many, length-append ps qs);
+}
+
+-- each part stands for one more, so the whole does
+pub sums_push : (kept new : SumFacts) (platform : PlatformFacts) (ps : List Participant) (p : Participant) → SumsUp kept platform ps
+    → counts.IsTallyOf new.counts (counts_asked ps ++ p.counts ∷ []) → places.AreDomainsLeft new.places platform.heaps (place_demands ps ++ place_demand p ∷ [])
+    → IsKept NoImage (offer_demands ps ++ offer_demand p ∷ []) new.no_image → ArePairsKept platform.pairs (offer_demands ps ++ offer_demand p ∷ []) new.pairs
+    → new.least_size ≡ max kept.least_size p.memory.min_size_bytes → new.greatest_size ≡ min kept.greatest_size p.memory.max_size_bytes → new.added ≡ kept.added + 1
+    → SumsUp new platform (ps ++ p ∷ [])
+sums_push kept new platform ps p sums counted placed imageless paired least greatest many = record {
+  counts = rw map_push counted;
+  places = rw map_push placed;
+  no_image = rw map_push imageless;
+  pairs = rw map_push paired;
+  sizes = rw (map_push, least, greatest) (sizes_push (offer_demands ps) (offer_demand p) kept.least_size kept.greatest_size sums.sizes);
+  many = omega (arith, many, sums.many, length-append ps (p ∷ []));
 }

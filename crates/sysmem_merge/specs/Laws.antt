@@ -12,7 +12,7 @@ use Rattle.sysmem_merge.specs.declared.reason.Reason.{Reason}
 use Rattle.sysmem_merge.specs.declared.settings.Settings.{Settings}
 use Rattle.sysmem_merge.specs.Best.{IsBest, IsUnmet}
 use Rattle.sysmem_merge.specs.declared.fit.Fit.{Fit}
-use Rattle.sysmem_merge.specs.Fit.{IsSoundFit}
+use Rattle.sysmem_merge.specs.Fit.{IsSoundFit, IsNoBetterFit}
 use Rattle.sysmem_merge.specs.Demands.{OfferDemand, counts_asked, place_demands, offer_demands}
 use Rattle.sysmem_merge.specs.Offers.{bounds_asked}
 use Rattle.sysmem_merge.specs.Aggregate.{StandsFor}
@@ -26,6 +26,10 @@ use Rattle.sysmem_sanitise.specs.Platform.{PlatformFacts}
 abbrev pub OneBest : Type 0
 OneBest = (whole : Bool) (platform : PlatformFacts) (ps : List Participant) (a b : Settings)
     → IsBest whole platform ps a → IsBest whole platform ps b → a ≡ b
+
+-- two fits of one offer, neither of which is better, are one
+abbrev pub OneFit : Type 0
+OneFit = (a b : Fit) → a.offer ≡ b.offer → IsNoBetterFit a b → IsNoBetterFit b a → a ≡ b
 
 -- a reason that is true of participants leaves them no settings
 abbrev pub ReasonLeavesNone : Type 0

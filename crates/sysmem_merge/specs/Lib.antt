@@ -9,6 +9,7 @@ pub mod Kept
 pub mod Laws
 pub mod OfferRead
 pub mod Offers
+pub mod Pairs
 pub mod Reasons
 pub mod Settings
 pub mod Share

@@ -1,39 +1,38 @@
 -- What is kept of participants apart from their platform: of those that a prefix settles, and of those that one choice does.
-use Rattle.std.specs.Prelude.{ℕ, List, Bool, IsPermutation}
+use Rattle.std.specs.Prelude.{◌≡◌, ℕ, List, length, Bool, IsPermutation}
+use Rattle.sysmem_counts.specs.Bounds as counts
 use Rattle.sysmem_counts.specs.Tally.{Tally}
 use Rattle.sysmem_memory.specs.declared.domain.CoherencyDomains.{CoherencyDomains}
+use Rattle.sysmem_formats.specs.declared.offer.Offer.TheVariants.{NoImage}
+use Rattle.sysmem_memory.specs.Place as places
 use Rattle.sysmem_merge.specs.declared.kept.KeptOffer.{KeptOffer}
+use Rattle.sysmem_merge.specs.declared.pair.KeptPair.{KeptPair}
 use Rattle.sysmem_merge.specs.declared.settings.Settings.{Settings}
-use Rattle.sysmem_merge.specs.Aggregate.{StandsFor}
-use Rattle.sysmem_merge.specs.Kept.{Kept}
+use Rattle.sysmem_merge.specs.Aggregate.{AreSizes, IsKept}
+use Rattle.sysmem_merge.specs.Demands.{counts_asked, place_demands, offer_demands}
+use Rattle.sysmem_merge.specs.Pairs.{ArePairsKept}
 use Rattle.sysmem_merge.specs.Settings.{MeetsAs}
 use Rattle.sysmem_sanitise.specs.Participant.{Participant}
 use Rattle.sysmem_sanitise.specs.Platform.{PlatformFacts}
 
--- what is kept of counts, of places, of offers and of sizes; how many participants they are
+-- what is kept of counts, of places, of the offer of no image, of pairs and of sizes; how many participants they are
 pub record SumFacts : Type 0 where
   pub counts : Tally
   pub places : List CoherencyDomains
-  pub offers : List KeptOffer
+  pub no_image : KeptOffer
+  pub pairs : List KeptPair
   pub least_size : ℕ
   pub greatest_size : ℕ
   pub added : ℕ
 
--- the same, kept on a platform
-abbrev pub kept_on : PlatformFacts → SumFacts → Kept
-kept_on platform sum = record {
-  platform = platform;
-  counts = sum.counts;
-  places = sum.places;
-  offers = sum.offers;
-  least_size = sum.least_size;
-  greatest_size = sum.greatest_size;
-  added = sum.added;
-}
-
--- the sum is that of these participants on the platform
-abbrev pub SumsUp : SumFacts → PlatformFacts → List Participant → Type 0
-SumsUp sum platform ps = StandsFor (kept_on platform sum) platform ps
+-- the sum is that of these participants on the platform, part by part
+pub record SumsUp (sum : SumFacts) (platform : PlatformFacts) (ps : List Participant) : Type 0 where
+  pub counts : counts.IsTallyOf sum.counts (counts_asked ps)
+  pub places : places.AreDomainsLeft sum.places platform.heaps (place_demands ps)
+  pub no_image : IsKept NoImage (offer_demands ps) sum.no_image
+  pub pairs : ArePairsKept platform.pairs (offer_demands ps) sum.pairs
+  pub sizes : AreSizes (offer_demands ps) sum.least_size sum.greatest_size
+  pub many : sum.added ≡ length ps
 
 -- some settings meet these participants
 abbrev pub IsMet : Bool → PlatformFacts → List Participant → Type 0

@@ -1,67 +1,9 @@
-//! What is kept of each offer, copied, or joined for the participants of two lists.
+//! A copy of what is kept of each offer.
 
-ghost use Rattle.std.specs.Prelude.{◌≡◌, List, ◌++◌, Some, slice_get, IfOk};
-ghost use Rattle.sysmem_formats.specs.declared.offer.Offer.{Offer};
-ghost use Rattle.sysmem_merge.specs.Aggregate.{AreKept, AreKeptBounds, IsKept};
-ghost use Rattle.sysmem_merge.specs.Demands.{OfferDemand};
+ghost use Rattle.std.specs.Prelude.{◌≡◌, IfOk};
 
-use crate::kept::{KeptBounds, KeptOffer};
+use crate::kept::KeptOffer;
 use std::alloc::{AllocError, Global};
-use sysmem_image::merge_bounds;
-
-/// Keeps of each offer what those above ask, then more participants, whatever was kept of it.
-pub(crate) fn join_offers(kept: &mut [KeptOffer], above: &[KeptOffer], more: &[KeptOffer])
-    ensures { (os : List Offer) (others ds es : List OfferDemand) → AreKept os others kept.old
-        → AreKept os ds above.now → AreKept os es more.now → AreKept os (ds ++ es) kept.new }
-{
-    for (index, one) in kept.iter_mut().enumerate() {
-        join_at(one, index, above, more);
-    }
-}
-
-/// Keeps of the offer at this index what those above ask, then more participants.
-fn join_at(kept: &mut KeptOffer, index: usize, above: &[KeptOffer], more: &[KeptOffer])
-    ensures { (a b : _) → slice_get above.now index ≡ Some a → slice_get more.now index ≡ Some b
-        → (o : Offer) (ds es : List OfferDemand) → IsKept o ds a → IsKept o es b
-        → IsKept o (ds ++ es) kept.new }
-{
-    if let Some(above) = above.get(index) {
-        if let Some(more) = more.get(index) {
-            *kept = joined(above, more);
-        }
-    }
-}
-
-/// What is kept of an offer for the participants above, then more.
-fn joined(above: &KeptOffer, more: &KeptOffer) -> KeptOffer
-    ensures { (o : Offer) (ds es : List OfferDemand) → IsKept o ds above.now → IsKept o es more.now
-        → IsKept o (ds ++ es) result }
-{
-    KeptOffer {
-        bounds: joined_bounds(&above.bounds, &more.bounds),
-        format_named: above.format_named | more.format_named,
-        modifier_named: above.modifier_named | more.modifier_named,
-        colour_named: above.colour_named | more.colour_named,
-    }
-}
-
-/// The bounds for the participants above, then more; refused where those of either are, or have no common multiple.
-fn joined_bounds(above: &KeptBounds, more: &KeptBounds) -> KeptBounds
-    ensures { (o : Offer) (ds es : List OfferDemand) → AreKeptBounds o ds above.now
-        → AreKeptBounds o es more.now → AreKeptBounds o (ds ++ es) result }
-{
-    match (above, more) {
-        (KeptBounds::Refused(field), _) => KeptBounds::Refused(*field),
-        (_, KeptBounds::Refused(field)) => KeptBounds::Refused(*field),
-        (KeptBounds::Merged(above), KeptBounds::Merged(more)) => {
-            let mut both = *above;
-            match merge_bounds(&mut both, more) {
-                Ok(()) => KeptBounds::Merged(both),
-                Err(field) => KeptBounds::Refused(field),
-            }
-        }
-    }
-}
 
 /// A copy of what is kept of each offer, in memory of its own.
 pub(crate) fn copied_offers(alloc: Global, kept: &[KeptOffer]) -> Result<Vec<KeptOffer>, AllocError>

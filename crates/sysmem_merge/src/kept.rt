@@ -8,11 +8,12 @@ ghost use Rattle.sysmem_image.specs.Entries.{first_match};
 ghost use Rattle.sysmem_merge.specs.Aggregate.{AreKeptBounds, IsKept};
 ghost use Rattle.sysmem_merge.specs.declared.kept.KeptBounds.TheVariants.{Merged, Refused};
 ghost use Rattle.sysmem_merge.specs.Demands.{OfferDemand};
+ghost use Rattle.sysmem_merge.specs.Pairs.{IsMergedWith};
 ghost use Rattle.sysmem_merge.specs.Offers.{names_format, names_modifier, names_colour, is_named};
 
 use sysmem_counts::Field;
 use sysmem_formats::Offer;
-use sysmem_image::{Entry, FirstMatches, ImageBounds, merge_into, takes_colour};
+use sysmem_image::{Entry, FirstMatches, ImageBounds, merge_bounds, merge_into, takes_colour};
 
 /// What participants ask of an offer's images together.
 #[derive(Clone, Copy, Debug, PartialEq, Eq)]
@@ -75,6 +76,18 @@ impl KeptOffer {
         }
     }
 
+    /// Becomes what is kept for the participants above, then more, whatever it was.
+    pub(crate) fn join_of(&mut self, above: &KeptOffer, more: &KeptOffer)
+        ensures { (o : Offer) (ds es : List OfferDemand) → IsKept o ds above.now
+            → IsKept o es more.now → IsKept o (ds ++ es) self.new }
+    {
+        self.bounds = above.bounds;
+        self.bounds.join(&more.bounds);
+        self.format_named = above.format_named | more.format_named;
+        self.modifier_named = above.modifier_named | more.modifier_named;
+        self.colour_named = above.colour_named | more.colour_named;
+    }
+
     /// Keeps which parts of the offer's name one more entry for it names.
     fn name(&mut self, offer: &Offer, entry: &Entry)
         ensures bounds { self.new.bounds ≡ self.old.bounds }
@@ -109,8 +122,39 @@ impl KeptBounds {
         }
     }
 
+    /// Keeps the bounds of one more participant's entry for the offer, whatever its colour spaces are.
+    pub(crate) fn merge(&mut self, offer: &Offer, entry: &Entry)
+        ensures merged { (b : ImageBounds) → self.old ≡ Merged b
+            → IsMergedWith offer.now entry.now b self.new }
+        ensures still { (earlier : Field) → self.old ≡ Refused earlier
+            → self.new ≡ Refused earlier }
+    {
+        if let KeptBounds::Merged(bounds) = self {
+            if let Err(field) = merge_into(bounds, entry, offer) {
+                *self = KeptBounds::Refused(field);
+            }
+        }
+    }
+
+    /// Joins the bounds for more participants; refused where those of either are, or have no common multiple.
+    pub(crate) fn join(&mut self, more: &KeptBounds)
+        ensures { (o : Offer) (ds es : List OfferDemand) → AreKeptBounds o ds self.old
+            → AreKeptBounds o es more.now → AreKeptBounds o (ds ++ es) self.new }
+    {
+        match more {
+            KeptBounds::Refused(field) => self.refuse(*field),
+            KeptBounds::Merged(more) => {
+                if let KeptBounds::Merged(bounds) = self {
+                    if let Err(field) = merge_bounds(bounds, more) {
+                        *self = KeptBounds::Refused(field);
+                    }
+                }
+            }
+        }
+    }
+
     /// Refuses the offer for a field, if it isn't refused already.
-    fn refuse(&mut self, field: Field)
+    pub(crate) fn refuse(&mut self, field: Field)
         ensures first { (bounds : ImageBounds) → self.old ≡ Merged bounds
             → self.new ≡ Refused field }
         ensures still { (earlier : Field) → self.old ≡ Refused earlier

@@ -1,6 +1,6 @@
 //! What is true of settings, whoever works them out.
 
-ghost use Rattle.sysmem_merge.specs.Laws.{OneBest, ReasonLeavesNone, ReasonOfSomeLeavesNone};
+ghost use Rattle.sysmem_merge.specs.Laws.{OneBest, OneFit, ReasonLeavesNone, ReasonOfSomeLeavesNone};
 ghost use Rattle.sysmem_merge.specs.Laws.{OfferLineLeavesNone, PlaceLineLeavesNone, CountLineLeavesNone, SizeLineHolds};
 ghost use Rattle.sysmem_merge.specs.Laws.{StandsInAnyOrder, SomeAreMet, UnmetBySome, UnnamedLineLeavesNone};
 ghost use Rattle.sysmem_merge.specs.Sum.{SumsInAnyOrder};
@@ -8,6 +8,11 @@ ghost use Rattle.sysmem_merge.specs.Sum.{SumsInAnyOrder};
 /// Participants have at most one best settings.
 pub fn one_best()
     ensures { OneBest }
+{}
+
+/// Two fits of one offer, neither of which is better than the other, are one.
+pub fn one_fit()
+    ensures { OneFit }
 {}
 
 /// A reason that is true of participants leaves them no settings; nor to more participants, whatever their order, if it

@@ -9,6 +9,7 @@
 #![tactic(auto)]
 
 mod aggregate;
+mod colours;
 mod failing;
 mod fit;
 mod joined;
@@ -17,6 +18,9 @@ pub mod laws;
 mod meets;
 mod offer_read;
 mod offers;
+mod pair;
+mod pair_walk;
+mod pairs;
 mod reason;
 mod settings;
 mod share;

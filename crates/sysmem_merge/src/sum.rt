@@ -7,16 +7,18 @@ ghost use Rattle.sysmem_merge.specs.Share.{IsShareOf};
 ghost use Rattle.sysmem_merge.specs.Sum.{SumsUp, IsMet};
 ghost use Rattle.sysmem_sanitise.specs.Participant.{Participant};
 
-use crate::joined::join_offers;
 use crate::kept::KeptOffer;
-use crate::offers::{add_to_offers, kept_offers};
+use crate::pair::KeptPair;
+use crate::pair_walk::first_shared;
+use crate::pairs::{add_to_pairs, join_pairs, kept_pairs};
 use crate::reason::Reason;
 use crate::settings::Settings;
 use crate::share::Share;
-use crate::walk::first_fit;
 use std::alloc::{AllocError, Global};
 use std::marker::Model;
 use sysmem_counts::CountBounds;
+use sysmem_formats::Offer;
+use sysmem_image::FirstMatches;
 use sysmem_memory::MemoryBounds;
 use sysmem_sanitise::{Constraints, Platform};
 
@@ -25,7 +27,8 @@ use sysmem_sanitise::{Constraints, Platform};
 pub struct Sum {
     counts: CountBounds,
     memory: MemoryBounds,
-    offers: Vec<KeptOffer>,
+    no_image: KeptOffer,
+    pairs: Vec<KeptPair>,
     least_size: u64,
     greatest_size: u64,
     added: u64,
@@ -41,7 +44,8 @@ impl Model for Sum {
     ghost view = { λ s. record {
       counts = s.counts;
       places = s.memory;
-      offers = s.offers.items;
+      no_image = s.no_image;
+      pairs = s.pairs.items;
       least_size = s.least_size;
       greatest_size = s.greatest_size;
       added = s.added;
@@ -55,11 +59,12 @@ impl Sum {
     pub fn new(alloc: Global, platform: &Platform) -> Result<Sum, AllocError>
         ensures { IfOk result (λ made. SumsUp made platform.now []) }
     {
-        let offers = kept_offers(alloc, platform)?;
+        let pairs = kept_pairs(alloc, platform.pairs())?;
         Ok(Sum {
             counts: CountBounds::new(),
             memory: MemoryBounds::new(platform.heaps()),
-            offers,
+            no_image: KeptOffer::new(&Offer::NoImage),
+            pairs,
             least_size: 0,
             greatest_size: u64::MAX,
             added: 0,
@@ -76,7 +81,9 @@ impl Sum {
         let memory = asked.memory();
         self.counts.add(asked.counts());
         self.memory.add(platform.heaps(), memory, asked.usage());
-        add_to_offers(&mut self.offers, platform, asked.entries());
+        let matches = FirstMatches::of(asked.entries());
+        self.no_image.add(&Offer::NoImage, &matches);
+        add_to_pairs(&mut self.pairs, platform.pairs(), &matches);
         self.least_size = self.least_size.max(memory.min_size_bytes);
         self.greatest_size = self.greatest_size.min(memory.max_size_bytes);
         self.added += 1;
@@ -96,7 +103,8 @@ impl Sum {
         self.counts.join(&more.counts);
         self.memory = above.memory;
         self.memory.join(platform.heaps(), &more.memory);
-        join_offers(&mut self.offers, &above.offers, &more.offers);
+        self.no_image.join_of(&above.no_image, &more.no_image);
+        join_pairs(&mut self.pairs, &above.pairs, &more.pairs);
         self.least_size = above.least_size.max(more.least_size);
         self.greatest_size = above.greatest_size.min(more.greatest_size);
         self.added = above.added + more.added;
@@ -120,7 +128,14 @@ impl Sum {
             return Err(Reason::NoPlace);
         };
         let (least, greatest) = (self.least_size, self.greatest_size);
-        let Some(fit) = first_fit(platform, &self.offers, least, greatest, whole) else {
+        let Some(fit) = first_shared(
+            platform,
+            &self.no_image,
+            &self.pairs,
+            least,
+            greatest,
+            whole,
+        ) else {
             return Err(Reason::NoOffer);
         };
         Ok(Settings {

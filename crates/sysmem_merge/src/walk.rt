@@ -62,7 +62,7 @@ fn fit_at(
 }
 
 /// The least size and bounds of an offer that suit the participants, if it is named where that is asked for.
-fn fit_of(
+pub(crate) fn fit_of(
     kept: &KeptOffer,
     offer: &Offer,
     least_size: u64,

@@ -11,7 +11,7 @@ use Rattle.sysmem_tree.specs.Node.{NodeFacts}
 use Rattle.sysmem_tree.specs.Nodes.{IsTree, ordinal_under}
 use Rattle.sysmem_tree.specs.Path.{node_at}
 use Rattle.sysmem_tree.specs.Selection.{after, settled_by}
-use Rattle.sysmem_tree.specs.Shape.{Member, kid_of, before, tree_of, kids_from, rooted, forest_of}
+use Rattle.sysmem_tree.specs.Shape.{Member, by_path, kid_of, before, tree_of, kids_from, rooted, forest_of}
 use Rattle.sysmem_tree.proofs.CallerLemmas.{AllOf, all_mapped, all_at, led_kid, is_under}
 
 -- what a node asks, if it has constraints
@@ -71,13 +71,18 @@ module _ {A : Type 0} (P : A → Type 0) where
   in_tree kinds.Collection n kids rest p a b = (p, a, b)
   in_tree kinds.Group n kids rest p a b = (p, a, b)
 
--- the member's path leads to the number's node, which has its constraints
+-- the member's path leads to the number's node, which has its constraints and shows as it
 pub record IsLabel (nodes : List NodeFacts) (l : ℕ × Member) : Type 0 where
   pub leads : node_at nodes l.1.path ≡ Some l.0
   pub asks : node_asks nodes l.0 ≡ l.1.constraints
+  pub shows : option_map (by_path l.0 l.1.path) (slice_get nodes l.0) ≡ Some l.1
 
 label_is : (all : List NodeFacts) (i : ℕ) (n : NodeFacts) (path : List ℕ) → slice_get all i ≡ Some n → node_at all path ≡ Some i → IsLabel all (by_both i path n)
-label_is all i n path here leads = record { leads = leads; asks = ap (option_and_then (λ (x : NodeFacts). x.constraints)) here }
+label_is all i n path here leads = record {
+  leads = leads;
+  asks = ap (option_and_then (λ (x : NodeFacts). x.constraints)) here;
+  shows = ap (option_map (by_path i path)) here;
+}
 
 -- a kid has its ordinal under its parent
 kid_under : (domain p o : ℕ) (n : NodeFacts) → kid_of domain p n ≡ Some o → ordinal_under p n.birth ≡ Some o

@@ -61,7 +61,7 @@ pub all_whole : {X : Type 0} (P : X → Type 0) (xs : List X) (k : ℕ) → leng
 all_whole P xs k over all = subst (All P) (take_all k xs over) all
 
 -- a single line is all lines
-one_all : {X : Type 0} (P : X → Type 0) (x : X) → P x → All P (x ∷ [])
+pub one_all : {X : Type 0} (P : X → Type 0) (x : X) → P x → All P (x ∷ [])
 one_all P x p zero d less = p
 one_all P x p (suc k) d less = absurd (omega (arith, less))
 
@@ -96,3 +96,7 @@ pub offers_told : (platform : PlatformFacts) (ms : List Member) (given lines : L
     → length given ≡ length (offers_of platform) → Misplaced ms given why → (terms : Terms) (d : Forest Member) → ms ≡ settled d → ConflictFaults platform (Some terms) d (Offers lines) why
 offers_told platform ms given lines why same long told terms d is =
     inr (ap length (sym same) ∙ long, subst (λ xs. Misplaced xs lines why) is (subst (λ ls. Misplaced ms ls why) same told))
+
+-- what all lines have, one of them has
+pub at_line : {X : Type 0} (P : X → Type 0) (xs : List X) (k : ℕ) (x : X) → k < length xs → x ≡ get_or xs k x → All P xs → P x
+at_line P xs k x less is all = subst P (sym is) (all k x less)

@@ -54,7 +54,7 @@ named_push ms xs p q named asks new' = (
 )
 
 -- some of both are some of one or the other
-any_parts : {X : Type 0} (P : X → Type 0) (xs ys : List X) → Any P (xs ++ ys) → Any P xs ⊎ Any P ys
+pub any_parts : {X : Type 0} (P : X → Type 0) (xs ys : List X) → Any P (xs ++ ys) → Any P xs ⊎ Any P ys
 any_parts P [] ys any = inr any
 any_parts P (x ∷ xs) ys (zero, y, less, same, p) = inl (Any-here P x xs (subst P (sym same) p))
 any_parts P (x ∷ xs) ys (suc k, y, less, same, p) = elim (any_parts P xs ys (k, y, omega (arith, less), same, p)) as (λ _. Any P (x ∷ xs) ⊎ Any P ys) [
@@ -62,12 +62,12 @@ any_parts P (x ∷ xs) ys (suc k, y, less, same, p) = elim (any_parts P xs ys (k
   | inr b ↦ inr b
 ]
 
-any_front : {X : Type 0} (P : X → Type 0) (xs ys : List X) → Any P xs → Any P (xs ++ ys)
+pub any_front : {X : Type 0} (P : X → Type 0) (xs ys : List X) → Any P xs → Any P (xs ++ ys)
 any_front P [] ys (k, y, less, same, p) = absurd (omega (arith, less))
 any_front P (x ∷ xs) ys (zero, y, less, same, p) = Any-here P x (xs ++ ys) (subst P (sym same) p)
 any_front P (x ∷ xs) ys (suc k, y, less, same, p) = Any-later P x (xs ++ ys) (any_front P xs ys (k, y, omega (arith, less), same, p))
 
-any_back : {X : Type 0} (P : X → Type 0) (xs ys : List X) → Any P ys → Any P (xs ++ ys)
+pub any_back : {X : Type 0} (P : X → Type 0) (xs ys : List X) → Any P ys → Any P (xs ++ ys)
 any_back P [] ys any = any
 any_back P (x ∷ xs) ys any = Any-later P x (xs ++ ys) (any_back P xs ys any)
 

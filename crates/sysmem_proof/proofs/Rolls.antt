@@ -1,34 +1,37 @@
 -- Whom a path names of a roll.
 use Rattle.std.proofs.Common.{eqb, ◌≤◌, rules, tests, ◌≡◌, ◌≢◌, ◌<◌, ℕ, suc, Bool, true, false, List, [], ◌∷◌, ◌++◌, Option, Some, None, length, map, slice_get, refl, sym, ◌∙◌, ap, subst, arith, inl, inr}
-use Rattle.std.specs.Prelude.{◌==◌, ◌||◌, All, AllPairs, slice_index_or, filter, is_some, option_map, option_and_then, unwrap_or, IfSome, IsSome, IsSomeAnd, if◌then◌else◌}
-use Rattle.std.specs.List.{AllByRecursion, IsDistinct, cons_option, list_any}
+use Rattle.std.specs.Prelude.{◌==◌, ◌||◌, All, AllPairs, slice_index_or, is_some, option_map, option_and_then, unwrap_or, IsSome, IsSomeAnd, if◌then◌else◌}
+use Rattle.std.specs.List.{AllByRecursion, IsDistinct, cons_option, filter_map, list_any}
 use Rattle.std.proofs.lemmas.Bool.{cases_eq, ne_eqb}
 use Rattle.std.proofs.lemmas.Map.Steps.{length-le_from_distinct_below}
 use Rattle.std.proofs.lemmas.List.{length-map, map-append}
 use Rattle.std.proofs.lemmas.Option.{same_Some, none-some, slice_get_within}
 use Rattle.list_lemmas.proofs.CallerLemmas.{slice_get_some}
 use Rattle.sysmem_sanitise.specs.Participant.{Participant}
+use Rattle.sysmem_sanitise.specs.Platform.{PlatformFacts}
 use Rattle.sysmem_tree.specs.Domain.{HasDomain}
 use Rattle.sysmem_tree.specs.Forest.{Forest, settled, relabel}
 use Rattle.sysmem_tree.specs.Laws.{by_both, AreOneForest, OnePath}
 use Rattle.sysmem_tree.specs.LayoutLaws.{Both, LeaveOneForest}
 use Rattle.sysmem_tree.specs.Node.{NodeFacts}
-use Rattle.sysmem_tree.specs.Nodes.{IsTree}
+use Rattle.sysmem_tree.specs.Nodes.{HasNode, IsTree}
 use Rattle.sysmem_tree.specs.Path.{node_at, path_of}
 use Rattle.sysmem_tree.specs.Selection.{after, settled_by, IsPrefix}
-use Rattle.sysmem_tree.specs.Shape.{Member, by_number, by_path, forest_of, shape_of, members_of, participants_of}
+use Rattle.sysmem_tree.specs.Shape.{Member, by_number, by_path, forest_of, shape_of, members_of}
 use Rattle.sysmem_tree.proofs.CallerLemmas.{AllOf, settled_relabel, after_relabel, node_within}
+use Rattle.sysmem_proof.specs.Base.{BaseFacts, IsGivenBase}
 use Rattle.sysmem_proof.specs.Fault.{AreNamed}
-use Rattle.sysmem_proof.specs.Members.{members_at}
+use Rattle.sysmem_proof.specs.Asked.{asked_in}
+use Rattle.sysmem_proof.specs.Members.{members_at, participants}
 use Rattle.sysmem_proof.specs.Naming.{same_path, asked_at}
 use Rattle.sysmem_proof.specs.Roll.{RollFacts, listed}
 use Rattle.sysmem_proof.proofs.Labels.{IsLabel, node_asks, both_all, in_settled_by, labels_are}
 use Rattle.sysmem_proof.proofs.Naming.{asked_here, asked_later, one_path, path_itself}
 
-abbrev number : ℕ × Member → ℕ
+abbrev pub number : ℕ × Member → ℕ
 number l = l.0
 
-abbrev member : ℕ × Member → Member
+abbrev pub member : ℕ × Member → Member
 member l = l.1
 
 -- what is found of the participant with the number i, where it may be there
@@ -73,15 +76,15 @@ module _ (nodes : List NodeFacts) (tree : IsTree nodes) (law : OnePath) where
     by rest false other = asked_later l.1 (map member ls) path other ∙ rest
 
   -- nodes that are there as labels
-  abbrev label_at : (i : ℕ) → Option NodeFacts → List (ℕ × Member)
+  abbrev pub label_at : (i : ℕ) → Option NodeFacts → List (ℕ × Member)
   label_at i None = []
   label_at i (Some n) = by_both i (path_of nodes i) n ∷ []
 
-  abbrev labels_at : List ℕ → List (ℕ × Member)
+  abbrev pub labels_at : List ℕ → List (ℕ × Member)
   labels_at [] = []
   labels_at (i ∷ is) = label_at i (slice_get nodes i) ++ labels_at is
 
-  members_labelled : (is : List ℕ) → map member (labels_at is) ≡ members_at nodes is
+  pub members_labelled : (is : List ℕ) → map member (labels_at is) ≡ members_at nodes is
   members_labelled [] = refl
   members_labelled (i ∷ is) = by (slice_get nodes i) (members_labelled is) where
     by : (o : Option NodeFacts) → map member (labels_at is) ≡ members_at nodes is
@@ -89,25 +92,32 @@ module _ (nodes : List NodeFacts) (tree : IsTree nodes) (law : OnePath) where
     by None h = h
     by (Some n) h = ap (λ ms. by_path i (path_of nodes i) n ∷ ms) h
 
-  numbers_labelled : (is : List ℕ) → All (λ i. i < length nodes) is → map number (labels_at is) ≡ is
+  pub numbers_labelled : (is : List ℕ) → All (λ i. i < length nodes) is → map number (labels_at is) ≡ is
   numbers_labelled [] all = refl
   numbers_labelled (i ∷ is) all = by (slice_get nodes i) (slice_get_some nodes i (all 0 i (omega arith))).1 (numbers_labelled is (λ k d less. all (suc k) d (omega (arith, less)))) where
     by : (o : Option NodeFacts) → o ≡ Some (slice_get_some nodes i (all 0 i (omega arith))).0 → map number (labels_at is) ≡ is → map number (label_at i o ++ labels_at is) ≡ i ∷ is
     by None e h = absurd (cc)
     by (Some n) e h = ap (λ js. i ∷ js) h
 
-  all_labelled : (is : List ℕ) → All (λ i. i < length nodes) is → AllOf (IsLabel nodes) (labels_at is)
+  pub all_labelled : (is : List ℕ) → All (λ i. i < length nodes) is → AllOf (IsLabel nodes) (labels_at is)
   all_labelled [] all = tt
   all_labelled (i ∷ is) all = by (slice_get nodes i) refl (all_labelled is (λ k d less. all (suc k) d (omega (arith, less)))) where
     by : (o : Option NodeFacts) → slice_get nodes i ≡ o → AllOf (IsLabel nodes) (labels_at is) → AllOf (IsLabel nodes) (label_at i o ++ labels_at is)
     by None e h = h
-    by (Some n) e h = (record { leads = (law nodes i tree (all 0 i (omega arith))).leads; asks = ap (option_and_then (λ (x : NodeFacts). x.constraints)) e }, h)
+    by (Some n) e h = (
+      record {
+        leads = (law nodes i tree (all 0 i (omega arith))).leads;
+        asks = ap (option_and_then (λ (x : NodeFacts). x.constraints)) e;
+        shows = ap (option_map (by_path i (path_of nodes i))) e;
+      },
+      h,
+    )
 
   module _ (r : ℕ) (there : r < length nodes) (one : AreOneForest nodes r) (cs : List ℕ) where
-    abbrev both : Forest (ℕ × Member)
+    abbrev pub both : Forest (ℕ × Member)
     both = forest_of by_both nodes r (path_of nodes r)
 
-    abbrev settled_both : List (ℕ × Member)
+    abbrev pub settled_both : List (ℕ × Member)
     settled_both = unwrap_or (settled_by both cs) []
 
     mapped : {B : Type 0} (f : ℕ × Member → B) → unwrap_or (settled_by (relabel f both) cs) [] ≡ map f settled_both
@@ -116,14 +126,22 @@ module _ (nodes : List NodeFacts) (tree : IsTree nodes) (law : OnePath) where
       by None = refl
       by (Some e) = settled_relabel f e
 
-    numbers_settled : members_of nodes r cs ≡ map number settled_both
+    pub numbers_settled : members_of nodes r cs ≡ map number settled_both
     numbers_settled = ap (λ d. unwrap_or (settled_by d cs) []) (sym one.numbers) ∙ mapped number
 
-    members_settled : unwrap_or (settled_by (shape_of nodes r) cs) [] ≡ map member settled_both
+    pub members_settled : unwrap_or (settled_by (shape_of nodes r) cs) [] ≡ map member settled_both
     members_settled = ap (λ d. unwrap_or (settled_by d cs) []) (sym one.members) ∙ mapped member
 
-    all_settled : AllOf (IsLabel nodes) settled_both
+    pub all_settled : AllOf (IsLabel nodes) settled_both
     all_settled = in_settled_by (IsLabel nodes) both cs (labels_are nodes r (path_of nodes r) tree (law nodes r tree there).leads)
+
+    asked_labels : (ms : List (ℕ × Member)) → AllOf (IsLabel nodes) ms → asked_in nodes (map number ms) ≡ participants (map member ms)
+    asked_labels [] all = refl
+    asked_labels (m ∷ ms) all = ap (λ o. cons_option o (asked_in nodes (map number ms))) all.0.asks ∙ ap (cons_option m.1.constraints) (asked_labels ms all.1)
+
+    -- what the settled nodes ask
+    pub asked_settled : asked_in nodes (members_of nodes r cs) ≡ participants (unwrap_or (settled_by (shape_of nodes r) cs) [])
+    asked_settled = ap (asked_in nodes) numbers_settled ∙ (asked_labels settled_both all_settled ∙ ap participants (sym members_settled))
 
     module _ (accepted : List ℕ) (inside : All (λ i. i < length nodes) accepted) where
       abbrev roll : RollFacts
@@ -149,47 +167,6 @@ module _ (nodes : List NodeFacts) (tree : IsTree nodes) (law : OnePath) where
       pub names_node : (path : List ℕ) (i : ℕ) → i < length nodes → node_at nodes path ≡ Some i → asked_at (listed roll) path ≡ told_of nodes (accepted ++ members_of nodes r cs) i
       names_node path i less leads = ap (λ ms. asked_at ms path) (sym listed_ls) ∙ (at_node path i less leads ls all_ls ∙ ap (λ ns. told_of nodes ns i) numbers_ls)
 
--- with constraints or without
-has_asks : List NodeFacts → ℕ → Bool
-has_asks nodes i = is_some (node_asks nodes i)
-
-kept_with : (nodes : List NodeFacts) (i : ℕ) (ns : List ℕ) → is_some (node_asks nodes i) ≡ true
-    → list_any (λ j. j == i) (filter (λ j. is_some (node_asks nodes j)) ns) ≡ list_any (λ j. j == i) ns
-kept_with nodes i [] has = refl
-kept_with nodes i (n ∷ ns) has = by (is_some (node_asks nodes n)) refl (kept_with nodes i ns has) where
-  by : (t : Bool) → is_some (node_asks nodes n) ≡ t → list_any (λ j. j == i) (filter (λ j. is_some (node_asks nodes j)) ns) ≡ list_any (λ j. j == i) ns
-      → list_any (λ j. j == i) (filter (λ j. is_some (node_asks nodes j)) (n ∷ ns)) ≡ list_any (λ j. j == i) (n ∷ ns)
-  by true is h = rw is (ap (λ t. (n == i) || t) h)
-  by false is h = elim (cases_eq n i) [
-    | inl same ↦ (let e : is_some (node_asks nodes n) ≡ true = ap (λ j. is_some (node_asks nodes j)) same ∙ has in absurd (cc))
-    | inr other ↦ (let no' : (n == i) ≡ false = search (rules, tests, other) in rw (is, no') h)
-  ]
-
-any_append : (i : ℕ) (xs ys : List ℕ) → list_any (λ j. j == i) (xs ++ ys) ≡ (list_any (λ j. j == i) xs || list_any (λ j. j == i) ys)
-any_append i [] ys = refl
-any_append i (x ∷ xs) ys = by (x == i) (any_append i xs ys) where
-  by : (t : Bool) → list_any (λ j. j == i) (xs ++ ys) ≡ (list_any (λ j. j == i) xs || list_any (λ j. j == i) ys)
-      → (t || list_any (λ j. j == i) (xs ++ ys)) ≡ ((t || list_any (λ j. j == i) xs) || list_any (λ j. j == i) ys)
-  by true h = refl
-  by false h = h
-
--- what is told of a node, by whether it is a participant of the roll
-pub told_by : (nodes : List NodeFacts) (r : ℕ) (cs accepted : List ℕ) (i : ℕ) (found : Bool) → found ≡ list_any (λ j. j == i) (accepted ++ participants_of nodes r cs)
-    → (if found then node_asks nodes i else None) ≡ told_of nodes (accepted ++ members_of nodes r cs) i
-told_by nodes r cs accepted i found is = by (node_asks nodes i) refl where
-  same : is_some (node_asks nodes i) ≡ true → list_any (λ j. j == i) (accepted ++ members_of nodes r cs) ≡ found
-  same has = any_append i accepted (members_of nodes r cs) ∙ (ap (λ t. list_any (λ j. j == i) accepted || t) (sym (kept_with nodes i (members_of nodes r cs) has))
-      ∙ (sym (any_append i accepted (participants_of nodes r cs)) ∙ sym is))
-
-  nothing : (t : Bool) → ◌≡◌ {A = Option Participant} None (if t then None else None)
-  nothing true = refl
-  nothing false = refl
-
-  by : (o : Option Participant) → node_asks nodes i ≡ o → (if found then node_asks nodes i else None) ≡ told_of nodes (accepted ++ members_of nodes r cs) i
-  by None empty = ap (λ o. if found then o else None) empty ∙ (sym (nothing found) ∙ (nothing (list_any (λ j. j == i) (accepted ++ members_of nodes r cs))
-      ∙ ap (λ o. if list_any (λ j. j == i) (accepted ++ members_of nodes r cs) then o else None) (sym empty)))
-  by (Some p) here = ap (λ t. if t then node_asks nodes i else None) (sym (same (ap is_some here)))
-
 -- the root of a domain is one of the nodes
 pub root_within : (nodes : List NodeFacts) (r : ℕ) → HasDomain nodes r → r < length nodes
 root_within nodes r h = by (slice_get nodes r) refl h where
@@ -213,22 +190,10 @@ module _ (nodes : List NodeFacts) (tree : IsTree nodes) (law : OnePath) (r : ℕ
   pub told_nowhere : node_at nodes path ≡ None → None ≡ asked_at (listed these) path
   told_nowhere none = sym (names_nobody nodes tree law r (root_within nodes r has) one cs accepted inside path none)
 
-  module _ (i : ℕ) (less : i < length nodes) (leads : node_at nodes path ≡ Some i) (found : Bool) (is : found ≡ list_any (λ j. j == i) (accepted ++ participants_of nodes r cs)) where
-    told_found : (if found then node_asks nodes i else None) ≡ asked_at (listed these) path
-    told_found = told_by nodes r cs accepted i found is ∙ sym (names_node nodes tree law r (root_within nodes r has) one cs accepted inside path i less leads)
-
-    -- nor where the node there isn't one of the roll
-    pub told_others : found ≡ false → None ≡ asked_at (listed these) path
-    told_others no' = ap (λ t. if t then node_asks nodes i else None) (sym no') ∙ told_found
-
-    -- a participant that is one is told
-    pub told_here : (o : Option Participant) → IfSome (slice_get nodes i) (λ n. o ≡ n.constraints) → found ≡ true → o ≡ asked_at (listed these) path
-    told_here o asks yes' = by (slice_get nodes i) refl asks ∙ (ap (λ t. if t then node_asks nodes i else None) (sym yes') ∙ told_found) where
-      by : (u : Option NodeFacts) → slice_get nodes i ≡ u → IfSome u (λ n. o ≡ n.constraints) → o ≡ node_asks nodes i
-      by None at h = let (n, here) = slice_get_some nodes i less in absurd (clash (sym here ∙ at)) where
-        clash : {n : NodeFacts} → Some n ≡ None → ⊥
-        clash e = absurd (cc)
-      by (Some n) at h = h ∙ sym (ap (option_and_then (λ (x : NodeFacts). x.constraints)) at)
+  -- of a node that is there, what it asks if it is marked
+  pub told_marked : (i : ℕ) → i < length nodes → node_at nodes path ≡ Some i → (marked : Bool) → marked ≡ list_any (λ j. j == i) (accepted ++ members_of nodes r cs)
+      → (if marked then node_asks nodes i else None) ≡ asked_at (listed these) path
+  told_marked i less leads marked is = ap (λ b. if b then node_asks nodes i else None) is ∙ sym (names_node nodes tree law r (root_within nodes r has) one cs accepted inside path i less leads)
 
   -- a node is where a path names somebody
   node_named : asked_at (listed these) path ≢ None → (i : ℕ) × (node_at nodes path ≡ Some i) × (i < length nodes)
@@ -296,3 +261,39 @@ module _ (nodes : List NodeFacts) (tree : IsTree nodes) (law : OnePath) where
     -- participants that are named, each once, are at most as many as the nodes
     pub few_named : (xs : List (List ℕ)) → AreNamed (listed (record { nodes = nodes; domain = r; choices = cs; accepted = accepted })) xs → length xs ≤ 128
     few_named xs named = few_there xs (all_there xs named.0 named.1.each) named.1.once
+
+-- what all on a roll ask, by their numbers
+all_asked : (nodes : List NodeFacts) (ls : List (ℕ × Member)) → AllOf (IsLabel nodes) ls → participants (map member ls) ≡ filter_map (node_asks nodes) (map number ls)
+all_asked nodes [] all = refl
+all_asked nodes (l ∷ ls) all = ap (λ o. cons_option o (participants (map member ls))) (sym all.0.asks) ∙ ap (cons_option (node_asks nodes l.0)) (all_asked nodes ls all.1)
+
+pub asked_by_numbers : (nodes : List NodeFacts) (tree : IsTree nodes) (law : OnePath) (r : ℕ) → HasDomain nodes r → AreOneForest nodes r → (cs accepted : List ℕ) → All (λ i. i < length nodes) accepted
+    → participants (listed (record { nodes = nodes; domain = r; choices = cs; accepted = accepted })) ≡ filter_map (node_asks nodes) (accepted ++ members_of nodes r cs)
+asked_by_numbers nodes tree law r has one cs accepted inside =
+    ap participants (sym (listed_ls nodes tree law r (root_within nodes r has) one cs accepted inside))
+    ∙ (all_asked nodes (ls nodes tree law r (root_within nodes r has) one cs accepted inside) (all_ls nodes tree law r (root_within nodes r has) one cs accepted inside)
+    ∙ ap (filter_map (node_asks nodes)) (numbers_ls nodes tree law r (root_within nodes r has) one cs accepted inside))
+
+-- whom choices settle, alone or behind those accepted
+pub listed_with : (nodes : List NodeFacts) (r : ℕ) (cs accepted : List ℕ) (d : Forest Member) → after (shape_of nodes r) cs ≡ Some d
+    → listed (record { nodes = nodes; domain = r; choices = cs; accepted = accepted }) ≡ members_at nodes accepted ++ settled d
+listed_with nodes r cs accepted d leads = ap (λ o. members_at nodes accepted ++ unwrap_or (option_map settled o) []) leads
+
+pub listed_settled : (nodes : List NodeFacts) (r : ℕ) (cs : List ℕ) (d : Forest Member) → after (shape_of nodes r) cs ≡ Some d
+    → listed (record { nodes = nodes; domain = r; choices = cs; accepted = [] }) ≡ settled d
+listed_settled nodes r cs d leads = listed_with nodes r cs [] d leads
+
+-- those accepted before are nodes
+pub accepted_there : (platform : PlatformFacts) (nodes : List NodeFacts) (domain : ℕ) (given : Option BaseFacts) (base : BaseFacts) → IsGivenBase platform nodes domain given → given ≡ Some base
+    → All (HasNode nodes) base.accepted
+accepted_there platform nodes domain given base is some k d less =
+    let one = (subst (IsGivenBase platform nodes domain) some is).1 in
+    by (slice_index_or base.accepted k d) (slice_get nodes (slice_index_or base.accepted k d)) refl (one.elsewhere k d less) where
+      by : (i : ℕ) (o : Option NodeFacts) → slice_get nodes i ≡ o → IsSomeAnd o (λ n. n.domain ≢ domain) → i < length nodes
+      by i None at h = absurd h
+      by i (Some n) at h = slice_get_within nodes i n at
+
+-- what is made of an option is there where it is
+pub some_mapped : {X Y : Type 0} (f : X → Y) (o : Option X) → is_some (option_map f o) ≡ is_some o
+some_mapped f None = refl
+some_mapped f (Some x) = refl

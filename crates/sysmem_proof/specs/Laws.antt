@@ -1,7 +1,12 @@
 -- What is true of verdicts, whoever works them out.
 use Rattle.std.specs.Prelude.{◌≡◌, ◌↔◌, ◌<◌, ◌++◌, ℕ, List, [], ◌∷◌, Option, Some, None, length, take, slice_get}
 use Rattle.std.specs.List.{AllZip, flat_map}
+use Rattle.sysmem_counts.specs.Counts.{IsLeastCount}
 use Rattle.sysmem_merge.specs.declared.settings.Settings.{Settings}
+use Rattle.sysmem_merge.specs.Demands.{counts_asked, offer_demands}
+use Rattle.sysmem_merge.specs.Fit.{fit_of, IsBestFit}
+use Rattle.sysmem_merge.specs.Settings.{Meets}
+use Rattle.sysmem_sanitise.specs.Participant.{Participant}
 use Rattle.sysmem_sanitise.specs.Platform.{PlatformFacts}
 use Rattle.sysmem_tree.specs.Forest.{Forest, choices, settled}
 use Rattle.sysmem_tree.specs.Selection.{after, IsSelection, IsEarlierSelection}
@@ -14,7 +19,7 @@ use Rattle.sysmem_proof.specs.CertificateFacts.{CertificateFacts}
 use Rattle.sysmem_proof.specs.Certificate.{IsCertificate, IsRefutation, RefutesEarlier}
 use Rattle.sysmem_proof.specs.declared.certificate.Proof.{Proof}
 use Rattle.sysmem_proof.specs.declared.refutation.Item.TheVariants.{Split}
-use Rattle.sysmem_proof.specs.Check.{ChoicePasses, RefutationPasses, VerdictPasses, IsProof}
+use Rattle.sysmem_proof.specs.Check.{ChoicePasses, RefutationPasses, VerdictPasses, IsLeastAt, IsProof}
 use Rattle.sysmem_proof.specs.Chosen.{ChosenFacts}
 use Rattle.sysmem_proof.specs.declared.conflict.Conflict.{Conflict}
 use Rattle.sysmem_proof.specs.Conflict.{IsConflictFor}
@@ -111,3 +116,9 @@ pub record RefutationsGrow (platform : PlatformFacts) (terms : Option Terms) (d 
 
 abbrev pub AllRefutationsGrow : Type 0
 AllRefutationsGrow = (platform : PlatformFacts) (terms : Option Terms) (d : Forest Member) → RefutationsGrow platform terms d
+
+-- settings that meet participants are the least of their offer in their place exactly where they are those of the offer's best fit and the least
+-- count
+abbrev pub LeastIsComputed : Type 0
+LeastIsComputed = (platform : PlatformFacts) (ps : List Participant) (s r : Settings) → r.place ≡ s.place → Meets platform ps s
+    → IsBestFit s.offer (offer_demands ps) (fit_of r) → IsLeastCount (counts_asked ps) r.count → (s ≡ r) ↔ IsLeastAt platform ps s

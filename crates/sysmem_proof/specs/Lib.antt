@@ -15,4 +15,12 @@ pub mod Finder
 pub mod Found
 pub mod Roll
 pub mod EachLine
+pub mod Whom
+pub mod Refusals
+pub mod Reading
 pub mod Fault
+pub mod Checker
+pub mod Walk
+pub mod Asked
+pub mod PlacesBefore
+pub mod Choice

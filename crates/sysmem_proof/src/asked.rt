@@ -5,11 +5,14 @@ ghost use Rattle.std.specs.List.{cons_option};
 ghost use Rattle.sysmem_counts.specs.Bounds.{IsTallyOf};
 ghost use Rattle.sysmem_counts.specs.Tally.{sum_of};
 ghost use Rattle.sysmem_counts.specs.declared.constraints.CountConstraints.{CountConstraints as Counted};
+ghost use Rattle.sysmem_counts.specs.declared.field.Field.{Field as Asked};
 ghost use Rattle.sysmem_formats.specs.declared.offer.Offer.{Offer as Offered};
 ghost use Rattle.sysmem_memory.specs.PlaceTable.{refuses_by};
 ghost use Rattle.sysmem_merge.specs.Demands.{OfferDemand, counts_asked, offer_demands};
 ghost use Rattle.sysmem_merge.specs.Failing.{FailsOn};
 ghost use Rattle.sysmem_merge.specs.OfferRead.{IsOfferRead};
+ghost use Rattle.sysmem_merge.specs.Reasons.{IsUnnamedLine};
+ghost use Rattle.sysmem_proof.specs.Members.{participants};
 ghost use Rattle.sysmem_proof.specs.Roll.{asked_by, listed};
 
 use crate::roll::Roll;
@@ -21,7 +24,7 @@ use sysmem_sanitise::{Constraints, Platform};
 use sysmem_tree::Path;
 
 /// Adds what one more asks of the number of buffers, if there is one.
-fn add_count(counts: &mut CountBounds, asked: Option<&Constraints>)
+pub(crate) fn add_count(counts: &mut CountBounds, asked: Option<&Constraints>)
     requires { sum_of counts.old < 2 ^ 62 }
     ensures added { (ps : List Counted) → IsTallyOf counts.old ps → IsTallyOf counts.new
         (ps ++ counts_asked (cons_option (option_map (λ one. one.now) asked.entry) [])) }
@@ -45,7 +48,7 @@ pub(crate) fn counts_of(roll: &Roll<'_>, paths: &[Path]) -> CountBounds
 }
 
 /// Reads what one more asks of an offer, if there is one.
-fn add_read(read: &mut OfferRead, asked: Option<&Constraints>)
+pub(crate) fn add_read(read: &mut OfferRead, asked: Option<&Constraints>)
     ensures { (o : Offered) (ds : List OfferDemand) → IsOfferRead o ds read.old → IsOfferRead o
         (ds ++ offer_demands (cons_option (option_map (λ one. one.now) asked.entry) [])) read.new }
 {
@@ -61,6 +64,20 @@ pub(crate) fn read_of(roll: &Roll<'_>, offer: &Offer, paths: &[Path]) -> OfferRe
     let mut read = OfferRead::new(offer);
     for path in paths {
         add_read(&mut read, roll.at(path));
+    }
+    read
+}
+
+/// What all on the roll ask of an offer, in some order: what nobody of them names is told by it.
+pub(crate) fn read_all(roll: &Roll<'_>, offer: &Offer) -> OfferRead
+    ensures { (ds : List OfferDemand) × IsOfferRead offer.now ds result
+        × ((field : Asked) → IsUnnamedLine field offer.now ds
+        ↔ IsUnnamedLine field offer.now (offer_demands (participants (listed roll.now)))) }
+{
+    roll.by_numbers();
+    let mut read = OfferRead::new(offer);
+    for number in 0..roll.nodes() {
+        add_read(&mut read, roll.at_number(number));
     }
     read
 }

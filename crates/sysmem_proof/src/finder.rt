@@ -1,25 +1,38 @@
 //! Why no settings meet what is settled, and what is refused before what was chosen.
 
-ghost use Rattle.std.specs.Prelude.{◌≡◌, List, Some, option_map, IfOk, IfSome, IfNone};
+ghost use Rattle.std.specs.Prelude.{◌≡◌, ◌≢◌, ◌≤◌, ◌<◌, ◌++◌, ℕ, List, All, AllPairs, Some, None, is_none, length, option_map, IfOk, IfSome, IfNone};
 ghost use Rattle.sysmem_merge.specs.declared.settings.Settings.{Settings as Settled};
-ghost use Rattle.sysmem_proof.specs.Base.{IsGivenBase, terms_of};
+ghost use Rattle.sysmem_proof.specs.Base.{IsElsewhere, IsGivenBase, terms_of};
 ghost use Rattle.sysmem_proof.specs.Certificate.{RefuseBeforeFor};
-ghost use Rattle.sysmem_proof.specs.Conflict.{IsConflictFor};
-ghost use Rattle.sysmem_proof.specs.Found.{IsBestChoice};
-ghost use Rattle.sysmem_proof.specs.Verdict.{MeetsSettled};
+ghost use Rattle.sysmem_proof.specs.Conflict.{IsConflict, IsConflictFor, IsFixedConflict};
+ghost use Rattle.sysmem_proof.specs.Found.{AreSettledAt, IsBestChoice};
+ghost use Rattle.sysmem_proof.specs.Members.{members_at};
+ghost use Rattle.sysmem_proof.specs.Refusals.{StandFor};
+ghost use Rattle.sysmem_proof.specs.Verdict.{MeetsFixed, MeetsSettled};
 ghost use Rattle.sysmem_proof.specs.declared.refutation.Item.{Item};
 ghost use Rattle.sysmem_tree.specs.Domain.{HasDomain};
-ghost use Rattle.sysmem_tree.specs.Forest.{Forest, settled};
+ghost use Rattle.sysmem_tree.specs.Forest.{Forest, choices, settled};
+ghost use Rattle.sysmem_tree.specs.Nodes.{HasNode};
 ghost use Rattle.sysmem_tree.specs.Selection.{IsPrefix, IsSelection, after};
 ghost use Rattle.sysmem_tree.specs.Shape.{Member, shape_of};
 
 use crate::base::Base;
 use crate::conflict::Conflict;
+use crate::count_lines::{counts_at, fixed_line};
+use crate::first_refusing::first_failing;
 use crate::line::Lines;
+use crate::refusals::{Refusals, refused_offers, refused_places};
+use crate::whom::{Whom, line_of};
 use std::alloc::{AllocError, Global};
 use sysmem_merge::Settings;
+use sysmem_merge::laws::{
+    count_line_leaves_none, offer_line_leaves_none, place_line_leaves_none,
+    unnamed_line_leaves_none,
+};
 use sysmem_sanitise::Platform;
-use sysmem_tree::{DomainId, Prefix, Tree};
+use sysmem_tree::laws::{members_stand_once, one_forest, one_path};
+use sysmem_tree::layout_laws::choices_leave_one_forest;
+use sysmem_tree::{DomainId, NodeId, Prefix, Tree};
 
 /// Lines for what stands before settings in a platform's order: these refuse it.
 #[derive(Debug, Drop)]
@@ -28,6 +41,107 @@ pub struct LinesBefore {
     pub offers: Lines,
     /// One for each place of the platform before that of the settings.
     pub places: Lines,
+}
+
+/// The participants that these choices settle in a domain of the tree, in pre-order.
+fn settled_at(tree: &Tree, domain: DomainId, prefix: &Prefix) -> Result<Vec<NodeId>, AllocError>
+    requires domain { HasDomain tree.now.nodes domain }
+    requires prefix { IsPrefix (shape_of tree.now.nodes domain) prefix.now }
+    ensures { (d : Forest Member) (accepted : List ℕ)
+        → after (shape_of tree.now.nodes domain) prefix.now ≡ Some d
+        → All (IsElsewhere tree.now.nodes domain) accepted
+        → AllPairs (λ i j. i ≢ j) accepted
+        → IfOk result (λ found. AreSettledAt tree.now.nodes d accepted found.items) }
+{
+    one_path();
+    one_forest();
+    members_stand_once();
+    choices_leave_one_forest();
+    tree.nodes();
+    tree.participants(domain, prefix.choices())
+}
+
+/// These nodes, then those.
+fn joined(alloc: Global, first: &[NodeId], second: &[NodeId]) -> Result<Vec<NodeId>, AllocError>
+    ensures { IfOk result (λ both. both.items ≡ first.now ++ second.now) }
+{
+    let mut both = Vec::new(alloc);
+    both.extend_from_slice(first)?;
+    both.extend_from_slice(second)?;
+    Ok(both)
+}
+
+/// Looks for a conflict of the participants at these nodes, which are settled in an initial domain.
+fn find_initial(
+    alloc: Global,
+    platform: &Platform,
+    tree: &Tree,
+    nodes: &[NodeId],
+    whole: bool,
+) -> Result<Option<Conflict>, AllocError>
+    requires there { All (HasNode tree.now.nodes) nodes.now }
+    requires few { length nodes.now ≤ 128 }
+    ensures conflict { (d : Forest Member)
+        → StandFor (members_at tree.now.nodes nodes.now) (settled d)
+        → whole ≡ is_none (choices d)
+        → IfOk result (λ found. IfSome found (IsConflict platform.now d)) }
+    ensures none { (d : Forest Member)
+        → StandFor (members_at tree.now.nodes nodes.now) (settled d)
+        → whole ≡ is_none (choices d)
+        → IfOk result (λ found. IfNone found ((t : Settled) × MeetsSettled platform.now None d t)) }
+{
+    if let Err(field) = counts_at(tree, nodes).least_count() {
+        let line = line_of(alloc, tree, nodes, field, Whom::WithCount)?;
+        return Ok(Some(Conflict::Count(line)));
+    }
+    if let Refusals::Whole(lines) = refused_places(alloc, platform, tree, nodes, None)? {
+        return Ok(Some(Conflict::Places(lines)));
+    }
+    match refused_offers(alloc, platform, tree, nodes, whole, None)? {
+        Refusals::Whole(lines) => Ok(Some(Conflict::Offers(lines))),
+        Refusals::UpTo(_) => Ok(None),
+    }
+}
+
+/// Looks for a conflict of the participants at these nodes, which are settled in an attached domain; in counts those of its base take part.
+fn find_on_base(
+    alloc: Global,
+    platform: &Platform,
+    tree: &Tree,
+    base: &Base,
+    nodes: &[NodeId],
+) -> Result<Option<Conflict>, AllocError>
+    requires there { All (HasNode tree.now.nodes) (base.now.accepted ++ nodes.now) }
+    requires few { length (base.now.accepted ++ nodes.now) ≤ 128 }
+    requires heap { base.now.settings.place.heap < length platform.now.heaps }
+    requires some { 1 ≤ base.now.settings.count }
+    requires limit { base.now.settings.count ≤ 128 }
+    ensures conflict { (d : Forest Member)
+        → StandFor (members_at tree.now.nodes nodes.now) (settled d)
+        → StandFor (members_at tree.now.nodes (base.now.accepted ++ nodes.now))
+        (members_at tree.now.nodes base.now.accepted ++ settled d)
+        → IfOk result (λ found. IfSome found
+        (IsFixedConflict platform.now (terms_of tree.now.nodes base.now) d)) }
+    ensures none { (d : Forest Member)
+        → StandFor (members_at tree.now.nodes nodes.now) (settled d)
+        → StandFor (members_at tree.now.nodes (base.now.accepted ++ nodes.now))
+        (members_at tree.now.nodes base.now.accepted ++ settled d)
+        → IfOk result (λ found. IfNone found
+        ((t : Settled) × MeetsFixed platform.now (terms_of tree.now.nodes base.now) (settled d) t)) }
+{
+    let settings = base.settings();
+    let everyone = joined(alloc, base.accepted(), nodes)?;
+    if let Some(field) = fixed_line(&counts_at(tree, &everyone), settings.count) {
+        let line = line_of(alloc, tree, &everyone, field, Whom::WithCount)?;
+        return Ok(Some(Conflict::Count(line)));
+    }
+    match first_failing(platform, &settings, tree, nodes) {
+        Some(first) => {
+            let path = tree.path_of(first.node)?;
+            Ok(Some(Conflict::Fixed(first.field, path)))
+        }
+        None => Ok(None),
+    }
 }
 
 /// Looks for a conflict of the participants that these choices settle in a domain of the tree, for an attached one on the base that is given.
@@ -54,7 +168,15 @@ pub fn find_conflict(
         → IfOk result (λ found. IfNone found ((t : Settled) × MeetsSettled platform.now
         (option_map (terms_of tree.now.nodes) (option_map (λ b. b.now) base.entry)) d t)) }
 {
-    Err(AllocError)
+    choices_leave_one_forest();
+    let nodes = settled_at(tree, domain, prefix)?;
+    match base {
+        Some(base) => find_on_base(alloc, platform, tree, base, &nodes),
+        None => {
+            let whole = tree.next_group(domain, prefix).is_none();
+            find_initial(alloc, platform, tree, &nodes, whole)
+        }
+    }
 }
 
 /// Lines that refuse each offer and each place before those of the settings to the members of a selection for which they are the best;
@@ -79,5 +201,22 @@ pub fn lines_before(
         (settled members) settings.now
         (record { earlier = earlier; offers = lines.offers; places = lines.places })) }
 {
-    Err(AllocError)
+    offer_line_leaves_none();
+    place_line_leaves_none();
+    count_line_leaves_none();
+    unnamed_line_leaves_none();
+    if base.is_some() {
+        return Ok(LinesBefore {
+            offers: Lines::new(Vec::new(alloc)),
+            places: Lines::new(Vec::new(alloc)),
+        });
+    }
+    let nodes = settled_at(tree, domain, selection)?;
+    let (offer, place) = (settings.offer, settings.place);
+    let offers = refused_offers(alloc, platform, tree, &nodes, true, Some(offer))?;
+    let places = refused_places(alloc, platform, tree, &nodes, Some(place))?;
+    Ok(LinesBefore {
+        offers: offers.into_lines(),
+        places: places.into_lines(),
+    })
 }

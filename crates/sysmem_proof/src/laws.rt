@@ -2,11 +2,11 @@
 
 ghost use Rattle.sysmem_proof.specs.Cannot.{LinesSay};
 ghost use Rattle.sysmem_proof.specs.Finder.{SomeAreNamed, CountsAreOfSome, FixedCountsAreOfSome, BoundsAreOfSome, ReasonsAreConflicts};
-ghost use Rattle.sysmem_proof.specs.Laws.{OneAnswer, CutsLoseNothing, SelectionsSplit, EarlierGoesBy, ConflictsAreTrue, TestsAreExact, FaultsAreFirst, AllRefutationsGrow};
+ghost use Rattle.sysmem_proof.specs.Laws.{OneAnswer, CutsLoseNothing, SelectionsSplit, EarlierGoesBy, ConflictsAreTrue, TestsAreExact, FaultsAreFirst, AllRefutationsGrow, LeastIsComputed};
 
 use sysmem_merge::laws::{
-    count_line_leaves_none, offer_line_leaves_none, one_best, place_line_leaves_none, some_are_met,
-    unnamed_line_leaves_none,
+    count_line_leaves_none, offer_line_leaves_none, one_best, one_fit, place_line_leaves_none,
+    some_are_met, unnamed_line_leaves_none,
 };
 
 /// Two optimal verdicts of one domain, initial or attached on the same base, are equal in kind, selection and settings.
@@ -83,3 +83,11 @@ pub fn faults_are_first()
 pub fn refutations_grow()
     ensures { AllRefutationsGrow }
 {}
+
+/// Settings that meet participants are the least of their offer in their place exactly where they are those of the offer's best fit and the
+/// least count.
+pub fn least_is_computed()
+    ensures { LeastIsComputed }
+{
+    one_fit();
+}

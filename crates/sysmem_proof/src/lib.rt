@@ -5,24 +5,45 @@
 //! ```
 #![tactic(auto)]
 
+mod all_asked;
 mod asked;
 mod base;
 mod certificate;
+mod checker;
+mod checking;
+mod choice_faults;
+mod claims;
 mod conflict;
+mod conflict_faults;
+mod count_lines;
+mod earlier;
 mod finder;
+mod first_refusing;
 mod fixed_faults;
 pub mod laws;
 mod line;
 mod line_faults;
 mod line_tests;
+mod members;
 mod names;
 mod no;
+mod offer_faults;
+mod offer_lines;
+mod offers_before;
+mod place_lines;
+mod places_before;
+mod refusals;
 mod refutation;
+mod refutations;
 mod roll;
+mod selecting;
+mod settings_faults;
 mod verdict;
+mod whom;
 
 pub use base::Base;
 pub use certificate::{Certificate, Claim, EarlierChoices, Proof};
+pub use claims::check;
 pub use conflict::Conflict;
 pub use finder::{LinesBefore, find_conflict, lines_before};
 pub use line::{Line, Lines};

@@ -1,14 +1,16 @@
 //! Whom a line may name.
 
-ghost use Rattle.std.specs.Prelude.{◌≡◌, ◌≤◌, ◌==◌, ◌++◌, [], All, is_some, length, option_map};
-ghost use Rattle.std.specs.List.{list_any};
+ghost use Rattle.std.specs.Prelude.{◌≡◌, ◌≤◌, ◌<◌, ◌==◌, ◌||◌, ◌++◌, ℕ, false, None, All, IfSome, get_or, is_some, length, option_and_then, option_map, slice_get, if◌then◌else◌};
+ghost use Rattle.std.specs.List.{filter_map, list_any};
 ghost use Rattle.sysmem_proof.specs.Fault.{AreNamed};
+ghost use Rattle.sysmem_proof.specs.Members.{participants};
 ghost use Rattle.sysmem_proof.specs.Naming.{asked_at};
-ghost use Rattle.sysmem_proof.specs.Roll.{listed};
+ghost use Rattle.sysmem_proof.specs.Roll.{asked_on, listed, numbers_on};
 ghost use Rattle.sysmem_tree.specs.Domain.{HasDomain};
+ghost use Rattle.sysmem_tree.specs.Laws.{IsOnlyPath};
 ghost use Rattle.sysmem_tree.specs.Nodes.{HasNode};
 ghost use Rattle.sysmem_tree.specs.Selection.{IsPrefix};
-ghost use Rattle.sysmem_tree.specs.Shape.{by_number, forest_of, participants_of, shape_of};
+ghost use Rattle.sysmem_tree.specs.Shape.{shape_of};
 
 use std::marker::Model;
 use sysmem_sanitise::Constraints;
@@ -23,15 +25,17 @@ pub(crate) struct Roll<'a> {
     domain: DomainId,
     prefix: &'a Prefix,
     accepted: &'a [NodeId],
+    /// Which nodes are on it, by their numbers.
+    marks: [bool; 128],
 }
 
 impl<'a> Model for Roll<'a> {
-    ghost use Rattle.std.specs.Prelude.{◌≤◌, [], All, length};
+    ghost use Rattle.std.specs.Prelude.{◌≡◌, ◌==◌, ◌++◌, ℕ, false, All, get_or};
+    ghost use Rattle.std.specs.List.{list_any};
     ghost use Rattle.sysmem_proof.specs.Roll.{RollFacts};
     ghost use Rattle.sysmem_tree.specs.Domain.{HasDomain, IsSoundTree};
     ghost use Rattle.sysmem_tree.specs.Nodes.{HasNode};
-    ghost use Rattle.sysmem_tree.specs.Selection.{IsPrefix};
-    ghost use Rattle.sysmem_tree.specs.Shape.{by_number, forest_of};
+    ghost use Rattle.sysmem_tree.specs.Shape.{members_of};
 
     ghost Value = { RollFacts };
 
@@ -43,8 +47,9 @@ impl<'a> Model for Roll<'a> {
     } };
 
     ghost invariant = { λ r. HasDomain r.tree.now.nodes r.domain × IsSoundTree r.tree.now
-        × IsPrefix (forest_of by_number r.tree.now.nodes r.domain []) r.prefix.now
-        × All (HasNode r.tree.now.nodes) r.accepted.now × (length r.accepted.now ≤ 128) };
+        × All (HasNode r.tree.now.nodes) r.accepted.now
+        × ((k : ℕ) → get_or r.marks k false ≡ list_any (λ i. i == k)
+        (r.accepted.now ++ members_of r.tree.now.nodes r.domain r.prefix.now)) };
 }
 
 impl<'a> Roll<'a> {
@@ -58,7 +63,6 @@ impl<'a> Roll<'a> {
         requires domain { HasDomain tree.now.nodes domain }
         requires prefix { IsPrefix (shape_of tree.now.nodes domain) prefix.now }
         requires there { All (HasNode tree.now.nodes) accepted.now }
-        requires few { length accepted.now ≤ 128 }
         ensures { result ≡ record {
           nodes = tree.now.nodes;
           domain = domain;
@@ -68,11 +72,14 @@ impl<'a> Roll<'a> {
     {
         tree.nodes();
         choices_leave_one_forest();
+        let mut marks = tree.settled_marks(domain, prefix);
+        mark_all(tree, accepted, &mut marks);
         Roll {
             tree,
             domain,
             prefix,
             accepted,
+            marks,
         }
     }
 
@@ -80,7 +87,49 @@ impl<'a> Roll<'a> {
     pub(crate) fn at(&self, path: &Path) -> Option<&'a Constraints>
         ensures { option_map (λ asked. asked.now) result ≡ asked_at (listed self.now) path.now }
     {
-        named(self.tree, self.domain, self.prefix, self.accepted, path)
+        one_path();
+        one_forest();
+        let node = self.tree.node_at(path)?;
+        marked(self.tree, &self.marks, node)
+    }
+
+    /// What the node of this number asks, if it is one of them.
+    pub(crate) fn at_number(&self, number: u32) -> Option<&'a Constraints>
+        ensures { option_map (λ asked. asked.now) result ≡ asked_on self.now number }
+    {
+        let node = self.tree.node(number)?;
+        marked(self.tree, &self.marks, node)
+    }
+
+    /// The number of the participant at the path, if it is one of them.
+    pub(crate) fn number_of(&self, path: &Path) -> Option<usize>
+        ensures named { is_some result ≡ is_some (asked_at (listed self.now) path.now) }
+        ensures at { IfSome result (λ n. IsOnlyPath self.now.nodes n path.now) }
+        ensures few { IfSome result (λ n. n < 128) }
+    {
+        one_path();
+        one_forest();
+        let node = self.tree.node_at(path)?;
+        marked(self.tree, &self.marks, node)?;
+        Some(self.tree.number_of(node) as usize)
+    }
+
+    /// What all of them ask is what the nodes of their numbers ask.
+    pub(crate) fn by_numbers(&self)
+        ensures { participants (listed self.now)
+            ≡ filter_map (λ i. option_and_then (λ n. n.constraints) (slice_get self.now.nodes i))
+            (numbers_on self.now) }
+    {
+        one_path();
+        one_forest();
+        self.tree.nodes();
+    }
+
+    /// How many nodes the tree has.
+    pub(crate) fn nodes(&self) -> u32
+        ensures { result ≡ length self.now.nodes }
+    {
+        self.tree.nodes()
     }
 
     /// Participants that are named, each once, are at most as many as a tree has nodes.
@@ -97,6 +146,29 @@ impl<'a> Roll<'a> {
     {
         is_there(self.at(path))
     }
+}
+
+/// Marks these nodes too.
+fn mark_all(tree: &Tree, nodes: &[NodeId], marks: &mut [bool; 128])
+    requires { All (HasNode tree.now.nodes) nodes.now }
+    ensures { (k : ℕ) → get_or marks.new k false
+        ≡ (list_any (λ i. i == k) nodes.now || get_or marks.old k false) }
+{
+    for node in nodes {
+        marks[tree.number_of(*node) as usize] = true;
+    }
+}
+
+/// What a node asks, if it is marked and has constraints.
+fn marked<'a>(tree: &'a Tree, marks: &[bool; 128], node: NodeId) -> Option<&'a Constraints>
+    requires { HasNode tree.now.nodes node }
+    ensures { option_map (λ asked. asked.now) result ≡ (if get_or marks.now node false
+        then option_and_then (λ n. n.constraints) (slice_get tree.now.nodes node) else None) }
+{
+    if !marks[tree.number_of(node) as usize] {
+        return None;
+    }
+    tree.constraints_of(node)
 }
 
 /// Paths that name participants, each once, are at most as many as a tree has nodes.
@@ -121,56 +193,4 @@ fn is_there(asked: Option<&Constraints>) -> bool
     ensures { result ≡ is_some (option_map (λ one. one.now) asked.entry) }
 {
     asked.is_some()
-}
-
-/// Whether the node is among these.
-fn is_among(nodes: &[NodeId], node: NodeId) -> bool
-    ensures { result ≡ list_any (λ i. i == node) nodes.now }
-{
-    nodes.iter().any(|one| *one == node)
-}
-
-/// Whether the node is a participant that the choices settle, or was accepted before.
-fn is_listed(
-    tree: &Tree,
-    domain: DomainId,
-    prefix: &Prefix,
-    accepted: &[NodeId],
-    node: NodeId,
-) -> bool
-    requires domain { HasDomain tree.now.nodes domain }
-    requires prefix { IsPrefix (forest_of by_number tree.now.nodes domain []) prefix.now }
-    requires node { HasNode tree.now.nodes node }
-    ensures { result ≡ list_any (λ i. i == node)
-        (accepted.now ++ participants_of tree.now.nodes domain prefix.now) }
-{
-    is_among(accepted, node) || tree.settled(domain, prefix, node)
-}
-
-/// What the participant at the path asks, if the choices settle it or it was accepted before.
-fn named<'a>(
-    tree: &'a Tree,
-    domain: DomainId,
-    prefix: &Prefix,
-    accepted: &[NodeId],
-    path: &Path,
-) -> Option<&'a Constraints>
-    requires domain { HasDomain tree.now.nodes domain }
-    requires prefix { IsPrefix (forest_of by_number tree.now.nodes domain []) prefix.now }
-    requires there { All (HasNode tree.now.nodes) accepted.now }
-    ensures { option_map (λ asked. asked.now) result ≡ asked_at (listed (record {
-      nodes = tree.now.nodes;
-      domain = domain;
-      choices = prefix.now;
-      accepted = accepted.now;
-    })) path.now }
-{
-    one_path();
-    one_forest();
-    tree.nodes();
-    let node = tree.node_at(path)?;
-    if !is_listed(tree, domain, prefix, accepted, node) {
-        return None;
-    }
-    tree.constraints_of(node)
 }

@@ -12,7 +12,7 @@ use Rattle.sysmem_memory.specs.Heap.{HeapFacts, same_heap}
 use Rattle.sysmem_sanitise.specs.Reading.Fields.{passing, list_of, named, read_each}
 use Rattle.sysmem_sanitise.specs.Reading.Heaps.{heap_of, has_heap, with_heap, heaps_of}
 use Rattle.sysmem_sanitise.specs.Reading.Names.{colour_named}
-use Rattle.sysmem_sanitise.specs.Reading.Pairs.{same_pair, has_pair, same_colour, has_colour, is_misfit}
+use Rattle.sysmem_sanitise.specs.Reading.Pairs.{same_pair, has_pair, same_colour, has_colour, is_tiled_misfit}
 use Rattle.sysmem_sanitise.specs.Reading.Platform.{pair_of, with_pair, pairs_of, with_colour, colours_of}
 use Rattle.sysmem_sanitise.specs.Platform.{IsHeap}
 use Rattle.sysmem_sanitise.proofs.Heaps.{heap_of-is}
@@ -77,11 +77,11 @@ distinct_colour : (a b : ColourSpace) → same_colour a b ≡ false → a ≢ b
 distinct_colour a b h e = let t : same_colour a b ≡ true = subst (λ (x : ColourSpace). same_colour a x ≡ true) e (same_colour-itself a) in absurd (cc)
 
 -- the test tells what is a tiled misfit
-is_misfit-decides : (p : Pair) → Decides (is_misfit p) (IsTiledMisfit p)
-is_misfit-decides p = search (rules, tests)
+is_tiled_misfit-decides : (p : Pair) → Decides (is_tiled_misfit p) (IsTiledMisfit p)
+is_tiled_misfit-decides p = search (rules, tests)
 
-pub fitting : (p : Pair) → is_misfit p ≡ false → IsTiledMisfit p → ⊥
-fitting p h misfit = let holds = (is_misfit-decides p).1 misfit in absurd (cc)
+pub fitting : (p : Pair) → is_tiled_misfit p ≡ false → IsTiledMisfit p → ⊥
+fitting p h misfit = let holds = (is_tiled_misfit-decides p).1 misfit in absurd (cc)
 
 -- the pairs so far
 record Pairs (ps : List Pair) : Type 0 where
@@ -91,11 +91,11 @@ record Pairs (ps : List Pair) : Type 0 where
 with_pair-keeps : (ps ts : List Pair) (d : Data) → Pairs ps → with_pair None ps d ≡ Ok ts → Pairs ts
 with_pair-keeps ps ts d kept gives =
     let (pair, read, after) = bind-ok (pair_of d) _ ts gives in
-    let (fits, tested, after2) = bind-ok (passing _ (λ pair. not (is_misfit pair)) pair) _ ts after in
+    let (fits, tested, after2) = bind-ok (passing _ (λ pair. not (is_tiled_misfit pair)) pair) _ ts after in
     let (new, passes, made) = bind-ok (passing _ (λ pair. not (has_pair ps pair)) fits) _ ts after2 in
-    let fit = passing-ok _ (λ pair. not (is_misfit pair)) pair fits tested in
+    let fit = passing-ok _ (λ pair. not (is_tiled_misfit pair)) pair fits tested in
     let passed = passing-ok _ (λ pair. not (has_pair ps pair)) fits new passes in
-    let fits-new : is_misfit new ≡ false = not-true _ (subst (λ (x : Pair). not (is_misfit x) ≡ true) passed.same fit.holds) in
+    let fits-new : is_tiled_misfit new ≡ false = not-true _ (subst (λ (x : Pair). not (is_tiled_misfit x) ≡ true) passed.same fit.holds) in
     let absent = not-true _ passed.holds in
     let is : ps ++ new ∷ [] ≡ ts = ok-same _ _ made in
     subst Pairs is (record {

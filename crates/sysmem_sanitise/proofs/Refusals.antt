@@ -30,7 +30,7 @@ use Rattle.sysmem_sanitise.specs.Reading.Constraints.{usage_of, counts_of, memor
 use Rattle.sysmem_sanitise.specs.Reading.Entries.{asks_misfit, asked_of, has_entry, has_asked, with_asked, no_pair, own_pair, with_further, further_of, asked_pairs, colour_set_of, entry_object, entry_with, with_entry, entries_of}
 use Rattle.sysmem_sanitise.specs.Reading.Heaps.{is_heap_type, heap_type_of, heap_name_of, domains_of, heap_info_fields, heap_of, has_heap, with_heap, heaps_of, name_fields, permitted_heap, has_permitted, with_permitted, permitted_of}
 use Rattle.sysmem_sanitise.specs.Reading.Names.{colour_named}
-use Rattle.sysmem_sanitise.specs.Reading.Pairs.{pair_fields, has_pair, has_colour, is_misfit}
+use Rattle.sysmem_sanitise.specs.Reading.Pairs.{pair_fields, has_pair, has_colour, is_tiled_misfit}
 use Rattle.sysmem_sanitise.specs.Reading.Platform.{pair_of, with_pair, pairs_of, with_colour, colours_of, platform_fields, platform_with}
 use Rattle.sysmem_sanitise.proofs.Members.{each_step}
 use Rattle.sysmem_sanitise.proofs.Steps.{bind-ok}
@@ -159,7 +159,7 @@ steady-heaps d =
 pub steady-pair : (pairs : List Pair) (d : Data) → IsSteady (λ lack. with_pair lack pairs d)
 steady-pair pairs d =
     steady-after (pair_of d) _ (λ pair.
-    steady-after (passing (wrong code.TiledMisfit field.Pairs) (λ pair. not (is_misfit pair)) pair) _ (λ fitting.
+    steady-after (passing (wrong code.TiledMisfit field.Pairs) (λ pair. not (is_tiled_misfit pair)) pair) _ (λ fitting.
     steady-after (passing (wrong code.BadPlatformList field.Pairs) (λ pair. not (has_pair pairs pair)) fitting) _ (λ new. steady-kept field.Pairs _)))
 
 pub steady-pairs : (d : Data) → IsSteady (λ lack. pairs_of lack d)

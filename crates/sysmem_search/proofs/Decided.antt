@@ -19,7 +19,7 @@ use Rattle.sysmem_proof.specs.Verdict.{IsChosen, IsOptimalIn}
 use Rattle.sysmem_sanitise.specs.Platform.{PlatformFacts}
 use Rattle.sysmem_search.specs.Live.{IsLiveUpTo}
 use Rattle.sysmem_search.specs.declared.trail.Trail.{Trail}
-use Rattle.sysmem_search.specs.Question.{Matter, forest, terms, Meets, MeetsSoFar, IsBest}
+use Rattle.sysmem_search.specs.Question.{Matter, forest, terms, MeetsOf, MeetsSoFar, IsBestOf}
 use Rattle.sysmem_search.specs.Searching.{IsFoundOf}
 use Rattle.sysmem_search.specs.Trail.{GroupPassed, items_of, sizes_of, IsLeft}
 use Rattle.sysmem_search.specs.Visits.{IsRaised, AreVisitsIn}
@@ -78,22 +78,22 @@ module _ (platform : PlatformFacts) (nodes : List NodeFacts) (domain : ℕ) (bas
       → IsOptimalIn platform nodes domain base (verdicts.Chosen chosen) × AreVisitsIn platform nodes domain base (verdicts.Chosen chosen) to
   decided_chosen q old new to found s chosen same empty some few h is =
       let f = subst (λ o. IsFoundOf matter (shape_of nodes domain) [] new 0 to o) some (from_none q old new to found same empty h) in
-      let all : (count (shape_of nodes domain) ≤ 4096) × IsChosen (Meets matter) (IsBest matter) (shape_of nodes domain) new s
+      let all : (count (shape_of nodes domain) ≤ 4096) × IsChosen (MeetsOf matter) (IsBestOf matter) (shape_of nodes domain) new s
       × IsRaised (IsLiveUpTo (MeetsSoFar matter) (shape_of nodes domain) new) 0 to = (
         few,
-        subst (λ xs. IsChosen (Meets matter) (IsBest matter) (shape_of nodes domain) xs s) (sym f.goes_on) f.chosen,
+        subst (λ xs. IsChosen (MeetsOf matter) (IsBestOf matter) (shape_of nodes domain) xs s) (sym f.goes_on) f.chosen,
         subst (λ xs. IsRaised (IsLiveUpTo (MeetsSoFar matter) (shape_of nodes domain) xs) 0 to) (sym f.goes_on) f.visited,
       ) in
       subst (λ (c : ChosenFacts). IsOptimalIn platform nodes domain base (verdicts.Chosen c) × AreVisitsIn platform nodes domain base (verdicts.Chosen c) to) (sym is) ((all.0, all.1), all.2)
 
   -- what was found from no choices on is chosen
   pub chosen_from : (q : Matter) (old new : List ℕ) (to : ℕ) (found : Option Settings) (s : Settings) (selection : List ℕ) → q ≡ matter → old ≡ [] → found ≡ Some s
-      → IfSome (after (forest q) old) (λ d. IsFoundOf q d old new 0 to found) → selection ≡ new → IsChosen (Meets matter) (IsBest matter) (shape_of nodes domain) selection s
+      → IfSome (after (forest q) old) (λ d. IsFoundOf q d old new 0 to found) → selection ≡ new → IsChosen (MeetsOf matter) (IsBestOf matter) (shape_of nodes domain) selection s
   chosen_from q old new to found s selection same empty some h is =
       let f = subst (λ o. IsFoundOf matter (shape_of nodes domain) [] new 0 to o) some (from_none q old new to found same empty h) in
-      subst (λ xs. IsChosen (Meets matter) (IsBest matter) (shape_of nodes domain) xs s) (sym (is ∙ f.goes_on)) f.chosen
+      subst (λ xs. IsChosen (MeetsOf matter) (IsBestOf matter) (shape_of nodes domain) xs s) (sym (is ∙ f.goes_on)) f.chosen
 
-  pub best_choice : (selection : List ℕ) (s : Settings) → IsChosen (Meets matter) (IsBest matter) (shape_of nodes domain) selection s
+  pub best_choice : (selection : List ℕ) (s : Settings) → IsChosen (MeetsOf matter) (IsBestOf matter) (shape_of nodes domain) selection s
       → IsBestChoice platform (terms matter) (shape_of nodes domain) selection s
   best_choice selection s chosen = record { members = chosen.members; selects = chosen.selects; best = chosen.best }
 
@@ -112,7 +112,7 @@ module _ (platform : PlatformFacts) (nodes : List NodeFacts) (domain : ℕ) (bas
 
   -- where something was found they are of what is earlier
   pub proved_chosen : (q : Matter) (old new : List ℕ) (trail trail' : Trail) (found : Option Settings) (s : Settings) (selection : List ℕ) (certificate : CertificateFacts)
-      → IsChosen (Meets matter) (IsBest matter) (shape_of nodes domain) selection s → q ≡ matter → old ≡ [] → found ≡ Some s
+      → IsChosen (MeetsOf matter) (IsBestOf matter) (shape_of nodes domain) selection s → q ≡ matter → old ≡ [] → found ≡ Some s
       → IfSome (after (forest q) old) (λ d. IsLeft q d old new trail trail' found) → trail.items.items ≡ [] → trail.sizes.items ≡ [] → selection ≡ new
       → ((groups : List GroupPassed) → trail'.items.items ≡ items_of groups → trail'.sizes.items ≡ sizes_of groups → map (λ g. length g.refutations) groups ≡ selection
       → certificate.earlier ≡ map (λ g. g.refutations) groups)

@@ -14,8 +14,8 @@ use Rattle.sysmem_sanitise.specs.Participant.{Participant}
 use Rattle.sysmem_sanitise.specs.Platform.{PlatformFacts}
 use Rattle.sysmem_search.specs.declared.kept.Part.{Part}
 use Rattle.sysmem_search.specs.declared.levels.Level.{Level}
-use Rattle.sysmem_search.specs.Kept.{IsKept, IsPart, HaveRoom}
-use Rattle.sysmem_search.specs.Question.{Matter, HasBase, forest, asked_at, asked_of}
+use Rattle.sysmem_search.specs.Kept.{IsKeptOf, IsPart, HaveRoom}
+use Rattle.sysmem_search.specs.Question.{Matter, HasBase, forest, node_asks, nodes_ask}
 use Rattle.sysmem_search.specs.Standing.{LaysOut, IsLevel, AreLevels, AreMade, AreParts, Keeps, numbers}
 use Rattle.sysmem_search.proofs.Keeping.{kept_in_order, have_room}
 use Rattle.sysmem_search.proofs.Orders.{taken_in_order}
@@ -76,8 +76,8 @@ module _ (m : Matter) (layout : Layout) where
       subst (λ xs. length xs < length levels) (sym same) (slice_get_within levels (length cs) l here)
 
   -- what is kept there is of what the choices settle
-  pub kept_at : (cs : List ℕ) (level : Level) → IsLevel m layout cs level → (d : Forest Member) → after (forest m) cs ≡ Some d → IsKept m.platform m.nodes m.base level.kept (participants (settled d))
-  kept_at cs level is d leads = subst (λ x. IsKept m.platform m.nodes m.base level.kept (participants (settled x))) (same_Some is.left d (sym is.leads ∙ leads)) is.kept
+  pub kept_at : (cs : List ℕ) (level : Level) → IsLevel m layout cs level → (d : Forest Member) → after (forest m) cs ≡ Some d → IsKeptOf m.platform m.nodes m.base level.kept (participants (settled d))
+  kept_at cs level is d leads = subst (λ x. IsKeptOf m.platform m.nodes m.base level.kept (participants (settled x))) (same_Some is.left d (sym is.leads ∙ leads)) is.kept
 
   -- with more parts, and with more levels
   pub more_kept : (parts parts' : List (Option Part)) (levels levels' : List Level) (items cs : List ℕ) → items ≡ cs → Keeps m layout parts levels cs → length parts' ≡ length parts
@@ -103,7 +103,7 @@ module _ (m : Matter) (layout : Layout) where
     fronts = levels;
   } where
     made : AreMade m.platform m.nodes m.base (level ∷ [])
-    made zero l is = (participants (settled first.left), subst (λ x. IsKept m.platform m.nodes m.base x.kept (participants (settled first.left))) (same_Some level l is) first.kept)
+    made zero l is = (participants (settled first.left), subst (λ x. IsKeptOf m.platform m.nodes m.base x.kept (participants (settled first.left))) (same_Some level l is) first.kept)
     made (suc k) l is = absurd (cc)
 
     levels : AreLevels m layout [] (level ∷ [])
@@ -140,7 +140,7 @@ module _ (m : Matter) (layout : Layout) where
       | inl here ↦
           let (l, one, is') = there (IsLevel m layout longer) (slice_get levels' (length cs + 1)) last in (
             participants (settled is'.left),
-            subst (λ x. IsKept m.platform m.nodes m.base x.kept (participants (settled is'.left))) (same_Some l level (sym one ∙ (ap (slice_get levels') (sym here) ∙ at))) is'.kept,
+            subst (λ x. IsKeptOf m.platform m.nodes m.base x.kept (participants (settled is'.left))) (same_Some l level (sym one ∙ (ap (slice_get levels') (sym here) ∙ at))) is'.kept,
           )
       | inr other ↦ between_made k level (sym (same k other) ∙ at)
     ]
@@ -162,19 +162,19 @@ module _ (m : Matter) (layout : Layout) where
       (numbers_left : (e : Forest ℕ) × (after (numbers m) cs ≡ Some e)) where
     -- what one choice more settles asks what was asked before, and what its share asks
     pub settles_more : (d : Forest Member) → after (forest m) (cs ++ c ∷ []) ≡ Some d
-        → IsPermutation (participants (settled is.left) ++ asked_of m.nodes (share_of layout at)) (participants (settled d))
+        → IsPermutation (participants (settled is.left) ++ nodes_ask m.nodes (share_of layout at)) (participants (settled d))
     settles_more d leads =
         let s = law layout (numbers m) cs c at child in
         let (e, here) = numbers_left in
-        let order = taken_in_order (asked_at m.nodes) (settled e ++ share_of layout at) (settled s.left)
+        let order = taken_in_order (node_asks m.nodes) (settled e ++ share_of layout at) (settled s.left)
         (of_some (λ x. IsPermutation (settled x ++ share_of layout at) (settled s.left)) (after (numbers m) cs) e here s.adds) in
-        let before = filter_map-append (asked_at m.nodes) (settled e) (share_of layout at) ∙ ap (λ xs. xs ++ asked_of m.nodes (share_of layout at)) (same_asked m.nodes m.domain cs e is.left here is.leads) in
+        let before = filter_map-append (node_asks m.nodes) (settled e) (share_of layout at) ∙ ap (λ xs. xs ++ nodes_ask m.nodes (share_of layout at)) (same_asked m.nodes m.domain cs e is.left here is.leads) in
         subst (λ xs. IsPermutation xs (participants (settled d))) before
-        (subst (IsPermutation (asked_of m.nodes (settled e ++ share_of layout at))) (same_asked m.nodes m.domain (cs ++ c ∷ []) s.left d s.leads leads) order)
+        (subst (IsPermutation (nodes_ask m.nodes (settled e ++ share_of layout at))) (same_asked m.nodes m.domain (cs ++ c ∷ []) s.left d s.leads leads) order)
 
     -- so the level of one choice more is joined
     pub joined_level : SumsInAnyOrder → (longer : List ℕ) (level : Level) (next : Option ℕ) → longer ≡ cs ++ c ∷ [] → IsPrefix (forest m) (cs ++ c ∷ [])
-        → (level.group ≡ next) × IsKept m.platform m.nodes m.base level.kept (participants (settled is.left) ++ asked_of m.nodes (share_of layout at))
+        → (level.group ≡ next) × IsKeptOf m.platform m.nodes m.base level.kept (participants (settled is.left) ++ nodes_ask m.nodes (share_of layout at))
         → IsFirstOpen layout (numbers m) (cs ++ c ∷ []) next → IsLevel m layout longer level
     joined_level sums longer level next long prefix made open' =
         let (d, leads) = some_of (after (forest m) (cs ++ c ∷ [])) prefix in
@@ -188,9 +188,9 @@ module _ (m : Matter) (layout : Layout) where
 -- a level of one choice more was joined, from that above it and from a part
 abbrev pub IsJoined : PlatformFacts → List Level → List Level → ℕ → Part → Option ℕ → Type 0
 IsJoined platform between levels' depth part next = (nodes : List NodeFacts) (base : Option BaseFacts) (ps qs : List Participant) (above old : Level)
-    → slice_get between depth ≡ Some above → slice_get between (depth + 1) ≡ Some old → IsKept platform nodes base above.kept ps → IsPart platform base part qs
-    → (others : List Participant) → IsKept platform nodes base old.kept others
-    → IsSomeAnd (slice_get levels' (depth + 1)) (λ level. (level.group ≡ next) × IsKept platform nodes base level.kept (ps ++ qs))
+    → slice_get between depth ≡ Some above → slice_get between (depth + 1) ≡ Some old → IsKeptOf platform nodes base above.kept ps → IsPart platform base part qs
+    → (others : List Participant) → IsKeptOf platform nodes base old.kept others
+    → IsSomeAnd (slice_get levels' (depth + 1)) (λ level. (level.group ≡ next) × IsKeptOf platform nodes base level.kept (ps ++ qs))
 
 at_length : {X : Type 0} (xs : List X) (k : ℕ) → k < length xs → (x : X) × (slice_get xs k ≡ Some x)
 at_length [] k less = absurd (omega (arith, less))
@@ -214,7 +214,7 @@ module _ (m : Matter) (layout : Layout) (parts parts' : List (Option Part)) (lev
       entered_keeps m layout parts parts' levels between levels' cs longer c long keeps places are kept made others
       (some_weaker _ (IsLevel m layout longer) (slice_get levels' (length cs + 1))
       (λ l h. joined_level m layout cs c at above level law child numbers_here sums longer l next long prefix h open')
-      (joined m.nodes m.base (participants (settled level.left)) (asked_of m.nodes (share_of layout at)) above old (kept (length cs) (omega arith) ∙ is) old_is level.kept (are at part here) ps old_kept))
+      (joined m.nodes m.base (participants (settled level.left)) (nodes_ask m.nodes (share_of layout at)) above old (kept (length cs) (omega arith) ∙ is) old_is level.kept (are at part here) ps old_kept))
 
   -- where a search stands after one choice more
   pub entered : (items : List ℕ) → items ≡ cs → longer ≡ cs ++ c ∷ [] → Keeps m layout parts levels cs → length parts' ≡ length parts → AreParts m.platform m.nodes m.base layout parts'
@@ -240,12 +240,12 @@ some_there (Some x) b is yes' = (x, refl)
 
 -- a part that is kept now, beside those of before
 pub part_kept : (platform : PlatformFacts) (nodes : List NodeFacts) (base : Option BaseFacts) (layout : Layout) (parts : List (Option Part)) (place : ℕ) (part : Part)
-    → IsPart platform base part (asked_of nodes (share_of layout place)) → AreParts platform nodes base layout parts → AreParts platform nodes base layout (slice_set parts place (Some part))
+    → IsPart platform base part (nodes_ask nodes (share_of layout place)) → AreParts platform nodes base layout parts → AreParts platform nodes base layout (slice_set parts place (Some part))
 part_kept platform nodes base layout parts place part is are at other there' = elim (cases_eq at place) [
   | inl here ↦
       let same = slice_get-set_same parts place (Some part) (Some other) (within parts place at other here there') (ap (slice_get (slice_set parts place (Some part))) (sym here) ∙ there') in
-      subst (λ k. IsPart platform base other (asked_of nodes (share_of layout k))) (sym here)
-      (subst (λ p. IsPart platform base p (asked_of nodes (share_of layout place))) (same_Some part other same) is)
+      subst (λ k. IsPart platform base other (nodes_ask nodes (share_of layout k))) (sym here)
+      (subst (λ p. IsPart platform base p (nodes_ask nodes (share_of layout place))) (same_Some part other same) is)
   | inr elsewhere ↦ are at other (slice_get-set_other parts place at (Some part) (Some other) elsewhere there')
 ] where
   within : (parts : List (Option Part)) (place at : ℕ) (other : Part) → at ≡ place → slice_get (slice_set parts place (Some part)) at ≡ Some (Some other) → place < length parts
@@ -295,15 +295,15 @@ share_few layout d cs c at law child here few =
 -- where a search stands, a choice's participants fit beside those of before
 pub room_for : (m : Matter) (layout : Layout) (parts : List (Option Part)) (levels between : List Level) (items cs : List ℕ) (above : Level) (part : Part) (share : List ℕ) → items ≡ cs
     → Keeps m layout parts levels cs → ((k : ℕ) → k ≤ length items → slice_get between k ≡ slice_get levels k) → slice_get between (length items) ≡ Some above
-    → IsPart m.platform m.base part (asked_of m.nodes share) → length share ≤ 128 → IsTree m.nodes → HasDomain m.nodes m.domain → HaveRoom above.kept part
+    → IsPart m.platform m.base part (nodes_ask m.nodes share) → length share ≤ 128 → IsTree m.nodes → HasDomain m.nodes m.domain → HaveRoom above.kept part
 room_for m layout parts levels between items cs above part share same keeps kept is part_is few tree domain =
     let (l, here, level) = there (IsLevel m layout cs) (slice_get levels (length cs)) (level_here m layout cs levels keeps.fronts) in
     let is_above : l ≡ above = same_Some l above (sym here ∙ subst (λ xs. slice_get levels (length xs) ≡ Some above) same (sym (kept (length items) (omega arith)) ∙ is)) in
     let root = root_there m.nodes m.domain domain in
     let (e, leads) = numbers_left m.nodes m.domain cs tree root (ap is_some level.leads) in
     let long = ap length (same_asked m.nodes m.domain cs e level.left leads level.leads) in
-    have_room m.platform m.nodes m.base above.kept part (participants (settled level.left)) (asked_of m.nodes share)
-    (subst (λ x. IsKept m.platform m.nodes m.base x.kept (participants (settled level.left))) is_above level.kept) part_is
+    have_room m.platform m.nodes m.base above.kept part (participants (settled level.left)) (nodes_ask m.nodes share)
+    (subst (λ x. IsKeptOf m.platform m.nodes m.base x.kept (participants (settled level.left))) is_above level.kept) part_is
     (few_accepted m.platform m.nodes m.domain m.base tree.few keeps.given)
     (omega (arith, long, few_asked_of m.nodes (settled e), few_settled m.nodes m.domain cs e tree root leads))
     (omega (arith, few_asked_of m.nodes share, few))

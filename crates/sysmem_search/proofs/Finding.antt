@@ -6,8 +6,8 @@ use Rattle.std.proofs.lemmas.List.{append-nil}
 use Rattle.sysmem_merge.specs.declared.settings.Settings.{Settings}
 use Rattle.sysmem_proof.specs.Laws.{CutsLoseNothing}
 use Rattle.sysmem_proof.proofs.CallerLemmas.{whole_unmet, chosen_here}
-use Rattle.sysmem_search.specs.Live.{IsMet, choose, IsLive, IsLiveUpTo}
-use Rattle.sysmem_search.specs.Question.{Matter, forest, terms, Meets, MeetsSoFar, IsBest}
+use Rattle.sysmem_search.specs.Live.{SomeMeet, choose, IsLive, IsLiveUpTo}
+use Rattle.sysmem_search.specs.Question.{Matter, forest, terms, MeetsOf, MeetsSoFar, IsBestOf}
 use Rattle.sysmem_search.specs.Standing.{Standing}
 use Rattle.sysmem_search.specs.Searching.{NothingFound, FirstFound, IsFoundOf}
 use Rattle.sysmem_search.proofs.Raising.{raised_once}
@@ -30,35 +30,35 @@ module _ (m : Matter) where
     by (Some e) is h = none-some e (sym is)
 
   here : (d : Forest Member) (old : List ℕ) (from to : ℕ) (best : Option Settings) → choices d ≡ None → to ≡ min (from + 1) 18446744073709551615
-      → MatchOption best ((t : Settings) → ¬ (Meets m (settled d) t)) (IsBest m (settled d)) → IsFoundOf m d old old from to best
+      → MatchOption best ((t : Settings) → ¬ (MeetsOf m (settled d) t)) (IsBestOf m (settled d)) → IsFoundOf m d old old from to best
   here d old from to None none is h = record {
     same = refl;
-    unmet = whole_unmet (Meets m) d none h;
+    unmet = whole_unmet (MeetsOf m) d none h;
     visited = raised_once (IsLive (MeetsSoFar m) d) from to tt (only_none d none) is;
   }
   here d old from to (Some s) none is h = record {
     selection = [];
     goes_on = sym (append-nil old);
-    chosen = chosen_here (Meets m) (IsBest m) d s none h;
+    chosen = chosen_here (MeetsOf m) (IsBestOf m) d s none h;
     visited = raised_once (IsLiveUpTo (MeetsSoFar m) d []) from to (record { live = tt; not_later = tt }) (λ q up. only_none d none q up.live) is;
   }
 
   -- at a whole selection
   pub found_here : (o : Option (Forest Member)) (old : List ℕ) (from to : ℕ) (best : Option Settings) → IfSome o (λ d. option_map length (choices d) ≡ None) → to ≡ min (from + 1) 18446744073709551615
-      → IfSome o (λ d. MatchOption best ((t : Settings) → ¬ (Meets m (settled d) t)) (IsBest m (settled d))) → IfSome o (λ d. IsFoundOf m d old old from to best)
+      → IfSome o (λ d. MatchOption best ((t : Settings) → ¬ (MeetsOf m (settled d) t)) (IsBestOf m (settled d))) → IfSome o (λ d. IsFoundOf m d old old from to best)
   found_here None old from to best none is h = tt
   found_here (Some d) old from to best none is h = here d old from to best (none_many (choices d) none) is h
 
   -- where what is settled can't be met
   pub found_cut : (o : Option (Forest Member)) (old : List ℕ) (from to : ℕ) (met : Bool) → CutsLoseNothing → met ≡ false → to ≡ min (from + 1) 18446744073709551615
-      → IfSome o (λ d. IsTrue met ↔ IsMet (MeetsSoFar m) d) → IfSome o (λ d. NothingFound (Meets m) (MeetsSoFar m) d old old from to)
+      → IfSome o (λ d. IsTrue met ↔ SomeMeet (MeetsSoFar m) d) → IfSome o (λ d. NothingFound (MeetsOf m) (MeetsSoFar m) d old old from to)
   found_cut None old from to met cuts no' is h = tt
   found_cut (Some d) old from to met cuts no' is h = record {
     same = refl;
     unmet = cuts m.platform (terms m) d (λ t meets. unmet (t, meets));
     visited = raised_once (IsLive (MeetsSoFar m) d) from to tt only is;
   } where
-    unmet : IsMet (MeetsSoFar m) d → ⊥
+    unmet : SomeMeet (MeetsSoFar m) d → ⊥
     unmet met' = by met no' (h.1 met') where
       by : (b : Bool) → b ≡ false → IsTrue b → ⊥
       by true e t = absurd (cc)
@@ -70,7 +70,7 @@ module _ (m : Matter) where
 
   -- the first choices for the first group were gone through
   abbrev pub GoneThrough : Forest Member → ℕ → ℕ → ℕ → Type 0
-  GoneThrough d c from to = (es : List (Forest Member)) × (choices d ≡ Some es) × Sofar (Meets m) (MeetsSoFar m) d es c from to
+  GoneThrough d c from to = (es : List (Forest Member)) × (choices d ≡ Some es) × Sofar (MeetsOf m) (MeetsSoFar m) d es c from to
 
   -- nothing was gone through yet
   pub begun : (o : Option (Forest Member)) (n from to : ℕ) → IfSome o (λ d. option_map length (choices d) ≡ Some n) → to ≡ min (from + 1) 18446744073709551615
@@ -79,11 +79,11 @@ module _ (m : Matter) where
   begun (Some d) n from to many is = by (choices d) refl many where
     by : (o : Option (List (Forest Member))) → choices d ≡ o → option_map length o ≡ Some n → GoneThrough d 0 from to
     by None is' e = absurd (cc)
-    by (Some es) is' e = (es, is', none_yet (Meets m) (IsBest m) (MeetsSoFar m) d es is' from to is)
+    by (Some es) is' e = (es, is', none_yet (MeetsOf m) (IsBestOf m) (MeetsSoFar m) d es is' from to is)
 
   -- the results of a search at a whole selection are those of the question
   pub whole_found : {E : Type 0} (r : Result (Option Settings) E) (o : Option (Forest Member)) (old : List ℕ) (from to : ℕ) → IfSome o (λ d. option_map length (choices d) ≡ None)
-      → to ≡ min (from + 1) 18446744073709551615 → IfOk r (λ best. IfSome o (λ d. MatchOption best ((t : Settings) → ¬ (Meets m (settled d) t)) (IsBest m (settled d))))
+      → to ≡ min (from + 1) 18446744073709551615 → IfOk r (λ best. IfSome o (λ d. MatchOption best ((t : Settings) → ¬ (MeetsOf m (settled d) t)) (IsBestOf m (settled d))))
       → IfOk r (λ found. IfSome o (λ d. IsFoundOf m d old old from to found))
   whole_found (Ok best) o old from to none is h = found_here o old from to best none is h
   whole_found (Err e) o old from to none is h = tt
@@ -167,25 +167,25 @@ module _ (m : Matter) (old pushed : List ℕ) (c n from : ℕ) (prefix : IsPrefi
   pub pushed_prefix : IsPrefix (forest m) pushed
   pushed_prefix = ap is_some child.goes_on
 
-  module _ (met : Bool) (yes' : met ≡ true) (asked : IfSome (after (forest m) old) (λ d. IsTrue met ↔ IsMet (MeetsSoFar m) d)) where
-    is_met : IsMet (MeetsSoFar m) child.forest_here
-    is_met = (of_some (λ d. IsTrue met ↔ IsMet (MeetsSoFar m) d) (after (forest m) old) child.forest_here child.leads asked).0 yes'
+  module _ (met : Bool) (yes' : met ≡ true) (asked : IfSome (after (forest m) old) (λ d. IsTrue met ↔ SomeMeet (MeetsSoFar m) d)) where
+    is_met : SomeMeet (MeetsSoFar m) child.forest_here
+    is_met = (of_some (λ d. IsTrue met ↔ SomeMeet (MeetsSoFar m) d) (after (forest m) old) child.forest_here child.leads asked).0 yes'
 
     module _ (between to : ℕ) (new : List ℕ) (gone : IfSome (after (forest m) old) (λ d. GoneThrough m d c from between)) where
-      sofar : Sofar (Meets m) (MeetsSoFar m) child.forest_here child.alternatives c from between
+      sofar : Sofar (MeetsOf m) (MeetsSoFar m) child.forest_here child.alternatives c from between
       sofar =
           let (es, open', so) = of_some (λ d. GoneThrough m d c from between) (after (forest m) old) child.forest_here child.leads gone in
-          subst (λ xs. Sofar (Meets m) (MeetsSoFar m) child.forest_here xs c from between) (same_Some es child.alternatives (sym open' ∙ child.open')) so
+          subst (λ xs. Sofar (MeetsOf m) (MeetsSoFar m) child.forest_here xs c from between) (same_Some es child.alternatives (sym open' ∙ child.open')) so
 
       -- the child's first selection is that of the whole
       pub found_below : (s : Settings) → IfSome (after (forest m) pushed) (λ e. IsFoundOf m e pushed new between to (Some s)) → IfSome (after (forest m) old) (λ d. IsFoundOf m d old new from to (Some s))
       found_below s found = if_some (λ d. IsFoundOf m d old new from to (Some s)) (after (forest m) old) (λ d leads.
           subst (λ x. IsFoundOf m x old new from to (Some s)) (same_Some child.forest_here d (sym child.leads ∙ leads))
-          (one_found (Meets m) (IsBest m) (MeetsSoFar m) child.forest_here child.alternatives child.open' child.child c from between to old new s is_met child.here sofar
-          (subst (λ p. FirstFound (Meets m) (IsBest m) (MeetsSoFar m) child.child p new between to s) is
+          (one_found (MeetsOf m) (IsBestOf m) (MeetsSoFar m) child.forest_here child.alternatives child.open' child.child c from between to old new s is_met child.here sofar
+          (subst (λ p. FirstFound (MeetsOf m) (IsBestOf m) (MeetsSoFar m) child.child p new between to s) is
           (of_some (λ e. IsFoundOf m e pushed new between to (Some s)) (after (forest m) pushed) child.child child.goes_on found))))
 
-      nothing : IfSome (after (forest m) pushed) (λ e. IsFoundOf m e pushed new between to None) → NothingFound (Meets m) (MeetsSoFar m) child.child pushed new between to
+      nothing : IfSome (after (forest m) pushed) (λ e. IsFoundOf m e pushed new between to None) → NothingFound (MeetsOf m) (MeetsSoFar m) child.child pushed new between to
       nothing found = of_some (λ e. IsFoundOf m e pushed new between to None) (after (forest m) pushed) child.child child.goes_on found
 
       -- a child that can't be met is gone through, and the choices are as before
@@ -194,7 +194,7 @@ module _ (m : Matter) (old pushed : List ℕ) (c n from : ℕ) (prefix : IsPrefi
           subst (λ x. GoneThrough m x (c + 1) from to) (same_Some child.forest_here d (sym child.leads ∙ leads)) (
             child.alternatives,
             child.open',
-            one_more (Meets m) (IsBest m) (MeetsSoFar m) child.forest_here child.alternatives child.open' child.child c from between to is_met child.here sofar
+            one_more (MeetsOf m) (IsBestOf m) (MeetsSoFar m) child.forest_here child.alternatives child.open' child.child c from between to is_met child.here sofar
                 (nothing found).unmet (nothing found).visited,
           ))
 
@@ -208,7 +208,7 @@ all_below m None old new c n from to over up many same gone = tt
 all_below m (Some d) old new c n from to over up many same gone =
     let long : Some (length gone.0) ≡ Some n = ap (option_map length) (sym gone.1) ∙ many in
     let l : length gone.0 ≡ n = same_Some (length gone.0) n long in
-    all_gone (Meets m) (IsBest m) (MeetsSoFar m) d gone.0 gone.1 c from to old new (omega (arith, l, over, up)) same gone.2
+    all_gone (MeetsOf m) (IsBestOf m) (MeetsSoFar m) d gone.0 gone.1 c from to old new (omega (arith, l, over, up)) same gone.2
 
 -- without the last choice the choices are as before
 pub popped : (o : Option ℕ) (longer new old : List ℕ) (c : ℕ) → MatchOption o ((longer ≡ []) × (new ≡ [])) (λ x. longer ≡ new ++ x ∷ []) → longer ≡ old ++ c ∷ [] → new ≡ old

@@ -85,7 +85,7 @@ module _ {A : Type 0} (rs taken : List (List A)) (ys : List A) (ns : List ℕ) (
       let one = one_left rs taken so.left k many so.taken_then at long less in
       let e : size ∷ sizes' ≡ length one.first ∷ (map length one.more ++ ns) = sym is ∙ (so.lengths ∙ ap (λ zs. map length zs ++ ns) one.left_is) in
       let begins : items ≡ one.first ++ (flat_map (λ xs. xs) one.more ++ ys) =
-          so.rest ∙ (ap (λ zs. flat_map (λ xs. xs) zs ++ ys) one.left_is ∙ append_assoc one.first (flat_map (λ xs. xs) one.more) ys) in
+      so.rest ∙ (ap (λ zs. flat_map (λ xs. xs) zs ++ ys) one.left_is ∙ append_assoc one.first (flat_map (λ xs. xs) one.more) ys) in
       let (piece_is, rest) = cut one.first (flat_map (λ xs. xs) one.more ++ ys) begins (sym (heads size (length one.first) sizes' (map length one.more ++ ns) e)) in
       record {
         left = one.more;

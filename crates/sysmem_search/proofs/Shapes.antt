@@ -4,7 +4,7 @@ use Rattle.std.specs.Prelude.{IsSome, option_map, option_and_then}
 use Rattle.std.proofs.lemmas.List.{length-drop, length-map}
 use Rattle.std.proofs.lemmas.Option.{same_Some, option_and_then_some}
 use Rattle.sysmem_sanitise.specs.Participant.{Participant}
-use Rattle.sysmem_search.specs.Question.{asked_at}
+use Rattle.sysmem_search.specs.Question.{node_asks}
 use Rattle.sysmem_tree.specs.declared.state.NodeKind.{NodeKind}
 use Rattle.sysmem_tree.specs.declared.state.NodeKind.TheVariants as kinds
 use Rattle.sysmem_tree.specs.Forest.{Forest, Empty, Plain, Group, each, kids_else_rest, choices, settled, relabel, count, count_each, first_group}
@@ -17,8 +17,8 @@ use Rattle.sysmem_tree.specs.Shape.{Member, tree_of, kid_of, before, kids_from, 
 use Rattle.sysmem_tree.proofs.CallerLemmas.{few_numbers, forest_here, size_tree, numbers, front, AllOf, IfAny, all_mapped, all_at, settled_relabel, choices_relabel, after_relabel, first_many}
 
 -- what a member asks
-abbrev pub asked_by : Member → Option Participant
-asked_by m = m.constraints
+abbrev pub member_asks : Member → Option Participant
+member_asks m = m.constraints
 
 at_front : (nodes : List NodeFacts) (s : ℕ) (x : NodeFacts) (xs : List NodeFacts) → x ∷ xs ≡ drop s nodes → (slice_get nodes s ≡ Some x) × (xs ≡ drop (s + 1) nodes)
 at_front [] zero x xs is = absurd (cc)
@@ -30,23 +30,23 @@ at_front (n ∷ nodes) (suc s) x xs is =
 
 -- by what is asked, the numbers and the shape are one forest
 module _ (nodes : List NodeFacts) where
-  same_tree : (k : NodeKind) (i : ℕ) (m : Member) (a b : Forest ℕ) (c d : Forest Member) → asked_at nodes i ≡ asked_by m → relabel (asked_at nodes) a ≡ relabel asked_by c
-      → relabel (asked_at nodes) b ≡ relabel asked_by d → relabel (asked_at nodes) (tree_of k i a b) ≡ relabel asked_by (tree_of k m c d)
-  same_tree kinds.Token i m a b c d l k r = ap (λ x. Plain x (relabel (asked_at nodes) a) (relabel (asked_at nodes) b)) l
-      ∙ (ap (λ x. Plain (asked_by m) x (relabel (asked_at nodes) b)) k ∙ ap (λ x. Plain (asked_by m) (relabel asked_by c) x) r)
-  same_tree kinds.Group i m a b c d l k r = ap (λ x. Group x (relabel (asked_at nodes) a) (relabel (asked_at nodes) b)) l
-      ∙ (ap (λ x. Group (asked_by m) x (relabel (asked_at nodes) b)) k ∙ ap (λ x. Group (asked_by m) (relabel asked_by c) x) r)
-  same_tree kinds.Collection i m a b c d l k r = ap (λ x. Plain x (relabel (asked_at nodes) a) (relabel (asked_at nodes) b)) l
-      ∙ (ap (λ x. Plain (asked_by m) x (relabel (asked_at nodes) b)) k ∙ ap (λ x. Plain (asked_by m) (relabel asked_by c) x) r)
+  same_tree : (k : NodeKind) (i : ℕ) (m : Member) (a b : Forest ℕ) (c d : Forest Member) → node_asks nodes i ≡ member_asks m → relabel (node_asks nodes) a ≡ relabel member_asks c
+      → relabel (node_asks nodes) b ≡ relabel member_asks d → relabel (node_asks nodes) (tree_of k i a b) ≡ relabel member_asks (tree_of k m c d)
+  same_tree kinds.Token i m a b c d l k r = ap (λ x. Plain x (relabel (node_asks nodes) a) (relabel (node_asks nodes) b)) l
+      ∙ (ap (λ x. Plain (member_asks m) x (relabel (node_asks nodes) b)) k ∙ ap (λ x. Plain (member_asks m) (relabel member_asks c) x) r)
+  same_tree kinds.Group i m a b c d l k r = ap (λ x. Group x (relabel (node_asks nodes) a) (relabel (node_asks nodes) b)) l
+      ∙ (ap (λ x. Group (member_asks m) x (relabel (node_asks nodes) b)) k ∙ ap (λ x. Group (member_asks m) (relabel member_asks c) x) r)
+  same_tree kinds.Collection i m a b c d l k r = ap (λ x. Plain x (relabel (node_asks nodes) a) (relabel (node_asks nodes) b)) l
+      ∙ (ap (λ x. Plain (member_asks m) x (relabel (node_asks nodes) b)) k ∙ ap (λ x. Plain (member_asks m) (relabel member_asks c) x) r)
 
   same_before : (u : Option ℕ) (f : ℕ → Forest ℕ → Forest ℕ) (g : ℕ → Forest Member → Forest Member) (a : Forest ℕ) (b : Forest Member)
-      → relabel (asked_at nodes) a ≡ relabel asked_by b → ((o : ℕ) → relabel (asked_at nodes) (f o a) ≡ relabel asked_by (g o b))
-      → relabel (asked_at nodes) (before u f a) ≡ relabel asked_by (before u g b)
+      → relabel (node_asks nodes) a ≡ relabel member_asks b → ((o : ℕ) → relabel (node_asks nodes) (f o a) ≡ relabel member_asks (g o b))
+      → relabel (node_asks nodes) (before u f a) ≡ relabel member_asks (before u g b)
   same_before None f g a b rest one = rest
   same_before (Some o) f g a b rest one = one o
 
   same_kids : (xs : List NodeFacts) (domain s p : ℕ) (q r : List ℕ) → xs ≡ drop s nodes
-      → relabel (asked_at nodes) (kids_from by_number domain s xs p q) ≡ relabel asked_by (kids_from by_path domain s xs p r)
+      → relabel (node_asks nodes) (kids_from by_number domain s xs p q) ≡ relabel member_asks (kids_from by_path domain s xs p r)
   same_kids [] domain s p q r is = refl
   same_kids (x ∷ xs) domain s p q r is =
       let (here, rest) = at_front nodes s x xs is in
@@ -61,33 +61,33 @@ module _ (nodes : List NodeFacts) where
       (same_kids xs domain (s + 1) s (q ++ o ∷ []) (r ++ o ∷ []) rest) behind)
 
   same_rooted : (r : ℕ) (path : List ℕ) (o : Option NodeFacts) → slice_get nodes r ≡ o
-      → relabel (asked_at nodes) (rooted by_number nodes r [] o) ≡ relabel asked_by (rooted by_path nodes r path o)
+      → relabel (node_asks nodes) (rooted by_number nodes r [] o) ≡ relabel member_asks (rooted by_path nodes r path o)
   same_rooted r path None is = refl
   same_rooted r path (Some n) is = same_tree n.state.kind r (by_path r path n) _ _ _ _ (ap (option_and_then (λ (x : NodeFacts). x.constraints)) is) (same_kids nodes r 0 r [] path refl) refl
 
-  one_asked : (r : ℕ) → relabel (asked_at nodes) (forest_of by_number nodes r []) ≡ relabel asked_by (shape_of nodes r)
+  one_asked : (r : ℕ) → relabel (node_asks nodes) (forest_of by_number nodes r []) ≡ relabel member_asks (shape_of nodes r)
   one_asked r = same_rooted r (path_of nodes r) (slice_get nodes r) refl
 
-  both_after : (r : ℕ) (cs : List ℕ) → option_map (relabel (asked_at nodes)) (after (forest_of by_number nodes r []) cs) ≡ option_map (relabel asked_by) (after (shape_of nodes r) cs)
-  both_after r cs = sym (after_relabel (asked_at nodes) cs (forest_of by_number nodes r [])) ∙ (ap (λ d. after d cs) (one_asked r) ∙ after_relabel asked_by cs (shape_of nodes r))
+  both_after : (r : ℕ) (cs : List ℕ) → option_map (relabel (node_asks nodes)) (after (forest_of by_number nodes r []) cs) ≡ option_map (relabel member_asks) (after (shape_of nodes r) cs)
+  both_after r cs = sym (after_relabel (node_asks nodes) cs (forest_of by_number nodes r [])) ∙ (ap (λ d. after d cs) (one_asked r) ∙ after_relabel member_asks cs (shape_of nodes r))
 
   -- choices for a domain's shape are choices for its numbers
   pub prefix_of_numbers : (r : ℕ) (cs : List ℕ) → IsPrefix (shape_of nodes r) cs → IsPrefix (forest_of by_number nodes r []) cs
   prefix_of_numbers r cs h = by (after (forest_of by_number nodes r []) cs) (after (shape_of nodes r) cs) (both_after r cs) h where
-    by : (o : Option (Forest ℕ)) (u : Option (Forest Member)) → option_map (relabel (asked_at nodes)) o ≡ option_map (relabel asked_by) u → IsSome u → IsSome o
+    by : (o : Option (Forest ℕ)) (u : Option (Forest Member)) → option_map (relabel (node_asks nodes)) o ≡ option_map (relabel member_asks) u → IsSome u → IsSome o
     by None None e h = h
     by None (Some d) e h = absurd (cc)
     by (Some x) u e h = refl
 
   same_left : (r : ℕ) (cs : List ℕ) (e : Forest ℕ) (d : Forest Member) → after (forest_of by_number nodes r []) cs ≡ Some e → after (shape_of nodes r) cs ≡ Some d
-      → relabel (asked_at nodes) e ≡ relabel asked_by d
-  same_left r cs e d one two = same_Some (relabel (asked_at nodes) e) (relabel asked_by d)
-      (sym (ap (option_map (relabel (asked_at nodes))) one) ∙ (both_after r cs ∙ ap (option_map (relabel asked_by)) two))
+      → relabel (node_asks nodes) e ≡ relabel member_asks d
+  same_left r cs e d one two = same_Some (relabel (node_asks nodes) e) (relabel member_asks d)
+      (sym (ap (option_map (relabel (node_asks nodes))) one) ∙ (both_after r cs ∙ ap (option_map (relabel member_asks)) two))
 
   -- what is settled asks the same, in the same order
   pub same_settled : (r : ℕ) (cs : List ℕ) (e : Forest ℕ) (d : Forest Member) → after (forest_of by_number nodes r []) cs ≡ Some e → after (shape_of nodes r) cs ≡ Some d
-      → map (asked_at nodes) (settled e) ≡ map asked_by (settled d)
-  same_settled r cs e d one two = sym (settled_relabel (asked_at nodes) e) ∙ (ap settled (same_left r cs e d one two) ∙ settled_relabel asked_by d)
+      → map (node_asks nodes) (settled e) ≡ map member_asks (settled d)
+  same_settled r cs e d one two = sym (settled_relabel (node_asks nodes) e) ∙ (ap settled (same_left r cs e d one two) ∙ settled_relabel member_asks d)
 
   long_mapped : {A B : Type 0} (f : A → B) (o : Option (List A)) → option_map length (option_map (map f) o) ≡ option_map length o
   long_mapped f None = refl
@@ -97,9 +97,9 @@ module _ (nodes : List NodeFacts) where
   pub same_choices : (r : ℕ) (cs : List ℕ) (e : Forest ℕ) (d : Forest Member) → after (forest_of by_number nodes r []) cs ≡ Some e → after (shape_of nodes r) cs ≡ Some d
       → option_map length (choices d) ≡ option_map (λ (g : ℕ × ℕ). g.1) (first_group e)
   same_choices r cs e d one two =
-      sym (long_mapped (relabel asked_by) (choices d))
-      ∙ (ap (option_map length) (sym (choices_relabel asked_by d) ∙ (ap choices (sym (same_left r cs e d one two)) ∙ choices_relabel (asked_at nodes) e))
-      ∙ (long_mapped (relabel (asked_at nodes)) (choices e) ∙ first_many e))
+      sym (long_mapped (relabel member_asks) (choices d))
+      ∙ (ap (option_map length) (sym (choices_relabel member_asks d) ∙ (ap choices (sym (same_left r cs e d one two)) ∙ choices_relabel (node_asks nodes) e))
+      ∙ (long_mapped (relabel (node_asks nodes)) (choices e) ∙ first_many e))
 
 -- how many groups a forest has
 abbrev groups : {A : Type 0} → Forest A → ℕ
@@ -242,4 +242,4 @@ count_relabel f (Group n kids rest) =
 
 -- a domain has as many selections by numbers as by its shape
 pub same_count : (nodes : List NodeFacts) (r : ℕ) → count (forest_of by_number nodes r []) ≡ count (shape_of nodes r)
-same_count nodes r = sym (count_relabel (asked_at nodes) (forest_of by_number nodes r [])).0 ∙ (ap count (one_asked nodes r) ∙ (count_relabel asked_by (shape_of nodes r)).0)
+same_count nodes r = sym (count_relabel (node_asks nodes) (forest_of by_number nodes r [])).0 ∙ (ap count (one_asked nodes r) ∙ (count_relabel member_asks (shape_of nodes r)).0)

@@ -6,7 +6,7 @@ use Rattle.std.proofs.lemmas.Option.{same_Some, slice_get_within}
 use Rattle.sysmem_merge.specs.declared.settings.Settings.{Settings}
 use Rattle.sysmem_proof.specs.Verdict.{Meeting, IsUnmet}
 use Rattle.sysmem_proof.proofs.CallerLemmas.{AreUnmet, no_choice_unmet, next_choice_unmet, split_unmet, chosen_below}
-use Rattle.sysmem_search.specs.Live.{IsMet, choose, IsLive, IsNotLater, IsLiveUpTo}
+use Rattle.sysmem_search.specs.Live.{SomeMeet, choose, IsLive, IsNotLater, IsLiveUpTo}
 use Rattle.sysmem_search.specs.Searching.{NothingFound, FirstFound}
 use Rattle.sysmem_search.specs.Visits.{IsRaised}
 use Rattle.sysmem_search.proofs.Raising.{raised_as, raised_once, raised_more}
@@ -66,7 +66,7 @@ module _ (Met Best Loosely : Meeting) (d : Forest Member) (es : List (Forest Mem
     below c less = omega (arith, less)
 
   -- one choice more that can't be met
-  pub one_more : (e : Forest Member) (c from between to : ℕ) → IsMet Loosely d → slice_get es c ≡ Some e → Sofar Met Loosely d es c from between
+  pub one_more : (e : Forest Member) (c from between to : ℕ) → SomeMeet Loosely d → slice_get es c ≡ Some e → Sofar Met Loosely d es c from between
       → IsUnmet Met e → IsRaised (IsLive Loosely e) between to → Sofar Met Loosely d es (c + 1) from to
   one_more e c from between to met is so unmet visited = record {
     unmet = next_choice_unmet Met es c e so.unmet is unmet;
@@ -107,7 +107,7 @@ module _ (Met Best Loosely : Meeting) (d : Forest Member) (es : List (Forest Mem
     }
 
   -- the first that can be met
-  pub one_found : (e : Forest Member) (c from between to : ℕ) (old new : List ℕ) (s : Settings) → IsMet Loosely d → slice_get es c ≡ Some e → Sofar Met Loosely d es c from between
+  pub one_found : (e : Forest Member) (c from between to : ℕ) (old new : List ℕ) (s : Settings) → SomeMeet Loosely d → slice_get es c ≡ Some e → Sofar Met Loosely d es c from between
       → FirstFound Met Best Loosely e (old ++ c ∷ []) new between to s → FirstFound Met Best Loosely d old new from to s
   one_found e c from between to old new s met is so found = record {
     selection = c ∷ found.selection;

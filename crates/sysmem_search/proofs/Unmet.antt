@@ -7,8 +7,8 @@ use Rattle.sysmem_proof.specs.Base.{Terms}
 use Rattle.sysmem_proof.specs.declared.conflict.Conflict.{Conflict}
 use Rattle.sysmem_proof.specs.Members.{participants}
 use Rattle.sysmem_proof.specs.Verdict.{MeetsFor, MeetsLooselyFor, MeetsSettled}
-use Rattle.sysmem_search.specs.Live.{IsMet}
-use Rattle.sysmem_search.specs.Question.{Matter, forest, terms, Meets, MeetsHere, MeetsSoFar, IsBest}
+use Rattle.sysmem_search.specs.Live.{SomeMeet}
+use Rattle.sysmem_search.specs.Question.{Matter, forest, terms, MeetsOf, MeetsHere, MeetsSoFar, IsBestOf}
 use Rattle.sysmem_search.proofs.AskedMembers.{if_some, of_some, some_of}
 use Rattle.sysmem_tree.specs.Forest.{Forest, choices, settled}
 use Rattle.sysmem_tree.specs.Selection.{IsPrefix, after}
@@ -29,27 +29,26 @@ none_before m d es open' unmet = by (terms m) unmet where
   by None unmet t met = unmet t (subst (λ x. MeetsAs (is_none x) m.platform (participants (settled d)) t) open' met)
   by (Some terms) unmet t met = unmet t met
 
-
 -- where no settings are best for a selection, none meet it
 pub unmet_selection : (m : Matter) (o : Option (Forest Member)) (best : Option Settings) → best ≡ None → IfSome o (λ d. choices d ≡ None)
-    → IfSome o (λ d. MatchOption best ((t : Settings) → ¬ (Meets m (settled d) t)) (IsBest m (settled d))) → IfSome o (λ d. (t : Settings) → ¬ (MeetsHere m d t))
+    → IfSome o (λ d. MatchOption best ((t : Settings) → ¬ (MeetsOf m (settled d) t)) (IsBestOf m (settled d))) → IfSome o (λ d. (t : Settings) → ¬ (MeetsHere m d t))
 unmet_selection m o best none whole asked = if_some _ o (λ d here.
     none_at_selection m d (of_some (λ x. choices x ≡ None) o d here whole)
-    (subst (λ b. MatchOption b ((t : Settings) → ¬ (Meets m (settled d) t)) (IsBest m (settled d))) none
-    (of_some (λ x. MatchOption best ((t : Settings) → ¬ (Meets m (settled x) t)) (IsBest m (settled x))) o d here asked)))
+    (subst (λ b. MatchOption b ((t : Settings) → ¬ (MeetsOf m (settled d) t)) (IsBestOf m (settled d))) none
+    (of_some (λ x. MatchOption best ((t : Settings) → ¬ (MeetsOf m (settled x) t)) (IsBestOf m (settled x))) o d here asked)))
 
 -- where what is settled before a group can't be met, none meet it
 pub unmet_prefix : (m : Matter) (o : Option (Forest Member)) (n : ℕ) (met : Bool) → met ≡ false → IfSome o (λ d. option_map length (choices d) ≡ Some n)
-    → IfSome o (λ d. IsTrue met ↔ IsMet (MeetsSoFar m) d) → IfSome o (λ d. (t : Settings) → ¬ (MeetsHere m d t))
+    → IfSome o (λ d. IsTrue met ↔ SomeMeet (MeetsSoFar m) d) → IfSome o (λ d. (t : Settings) → ¬ (MeetsHere m d t))
 unmet_prefix m o n met no' many asked = if_some _ o (λ d here. by d (choices d) refl (of_some (λ x. option_map length (choices x) ≡ Some n) o d here many)
-    (of_some (λ x. IsTrue met ↔ IsMet (MeetsSoFar m) x) o d here asked)) where
-  not_true : (b : Bool) → b ≡ false → IsTrue b → ⊥
-  not_true true e h = absurd (cc)
-  not_true false e h = absurd (cc)
+    (of_some (λ x. IsTrue met ↔ SomeMeet (MeetsSoFar m) x) o d here asked)) where
+      not_true : (b : Bool) → b ≡ false → IsTrue b → ⊥
+      not_true true e h = absurd (cc)
+      not_true false e h = absurd (cc)
 
-  by : (d : Forest Member) (es : Option (List (Forest Member))) → choices d ≡ es → option_map length es ≡ Some n → (IsTrue met ↔ IsMet (MeetsSoFar m) d) → (t : Settings) → ¬ (MeetsHere m d t)
-  by d None open' e asked = absurd (cc)
-  by d (Some es) open' e asked = none_before m d es open' (λ t meets. not_true met no' (asked.1 (t, meets)))
+      by : (d : Forest Member) (es : Option (List (Forest Member))) → choices d ≡ es → option_map length es ≡ Some n → (IsTrue met ↔ SomeMeet (MeetsSoFar m) d) → (t : Settings) → ¬ (MeetsHere m d t)
+      by d None open' e asked = absurd (cc)
+      by d (Some es) open' e asked = none_before m d es open' (λ t meets. not_true met no' (asked.1 (t, meets)))
 
 -- then there is a conflict
 pub no_conflict : (m : Matter) (cs : List ℕ) (found : Option Conflict) → IsPrefix (forest m) cs → found ≡ None → IfSome (after (forest m) cs) (λ d. (t : Settings) → ¬ (MeetsHere m d t))

@@ -6,8 +6,8 @@ use Rattle.sysmem_tree.specs.Forest.{Forest, choices, settled}
 use Rattle.sysmem_tree.specs.Shape.{Member}
 
 -- some settings meet what is settled
-abbrev pub IsMet : Meeting → Forest Member → Type 0
-IsMet Met d = (t : Settings) × Met (settled d) t
+abbrev pub SomeMeet : Meeting → Forest Member → Type 0
+SomeMeet Met d = (t : Settings) × Met (settled d) t
 
 -- the forest after a choice for its first group; none where that is no child, or no group is left
 abbrev pub choose : Forest Member → ℕ → Option (Forest Member)
@@ -16,7 +16,7 @@ choose d c = option_and_then (λ es. slice_get es c) (choices d)
 -- the choices can be made, and before each of them what is settled can be met
 abbrev pub IsLive : Meeting → Forest Member → List ℕ → Type 0
 IsLive Met d [] = Unit {0}
-IsLive Met d (c ∷ cs) = IsMet Met d × IsSomeAnd (choose d c) (λ e. IsLive Met e cs)
+IsLive Met d (c ∷ cs) = SomeMeet Met d × IsSomeAnd (choose d c) (λ e. IsLive Met e cs)
 
 -- the choices begin the selection, or are earlier
 abbrev pub IsNotLater : List ℕ → List ℕ → Type 0

@@ -26,8 +26,8 @@ abbrev pub terms : Matter → Option Terms
 terms m = option_map (terms_of m.nodes) m.base
 
 -- settings that meet the members of a selection
-abbrev pub Meets : Matter → Meeting
-Meets m = MeetsFor m.platform (terms m)
+abbrev pub MeetsOf : Matter → Meeting
+MeetsOf m = MeetsFor m.platform (terms m)
 
 -- settings that meet members as long as more may come
 abbrev pub MeetsSoFar : Matter → Meeting
@@ -38,17 +38,17 @@ abbrev pub MeetsHere : Matter → Forest Member → Settings → Type 0
 MeetsHere m = MeetsSettled m.platform (terms m)
 
 -- the best settings for the members of a selection
-abbrev pub IsBest : Matter → Meeting
-IsBest m = IsBestFor m.platform (terms m)
+abbrev pub IsBestOf : Matter → Meeting
+IsBestOf m = IsBestFor m.platform (terms m)
 
 -- a base is given exactly where the domain is an attached one
 abbrev pub HasBase : Matter → Type 0
 HasBase m = IsGivenBase m.platform m.nodes m.domain m.base
 
 -- what a node asks, if it has constraints
-abbrev pub asked_at : List NodeFacts → ℕ → Option Participant
-asked_at nodes i = option_and_then (λ n. n.constraints) (slice_get nodes i)
+abbrev pub node_asks : List NodeFacts → ℕ → Option Participant
+node_asks nodes i = option_and_then (λ n. n.constraints) (slice_get nodes i)
 
 -- what the participants among nodes ask, in the order of the nodes
-abbrev pub asked_of : List NodeFacts → List ℕ → List Participant
-asked_of nodes ns = filter_map (asked_at nodes) ns
+abbrev pub nodes_ask : List NodeFacts → List ℕ → List Participant
+nodes_ask nodes ns = filter_map (node_asks nodes) ns

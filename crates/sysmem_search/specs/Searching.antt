@@ -3,7 +3,7 @@ use Rattle.std.specs.Prelude.{◌≡◌, ◌++◌, ℕ, List, Option, Some, None
 use Rattle.sysmem_merge.specs.declared.settings.Settings.{Settings}
 use Rattle.sysmem_proof.specs.Verdict.{Meeting, IsUnmet, IsChosen}
 use Rattle.sysmem_search.specs.Live.{IsLive, IsLiveUpTo}
-use Rattle.sysmem_search.specs.Question.{Matter, Meets, MeetsSoFar, IsBest}
+use Rattle.sysmem_search.specs.Question.{Matter, MeetsOf, MeetsSoFar, IsBestOf}
 use Rattle.sysmem_search.specs.Visits.{IsRaised}
 use Rattle.sysmem_tree.specs.Forest.{Forest}
 use Rattle.sysmem_tree.specs.Shape.{Member}
@@ -27,4 +27,4 @@ IsFound Met Best Loosely d old new from to (Some s) = FirstFound Met Best Loosel
 
 -- of a matter
 abbrev pub IsFoundOf : Matter → Forest Member → List ℕ → List ℕ → ℕ → ℕ → Option Settings → Type 0
-IsFoundOf m = IsFound (Meets m) (IsBest m) (MeetsSoFar m)
+IsFoundOf m = IsFound (MeetsOf m) (IsBestOf m) (MeetsSoFar m)

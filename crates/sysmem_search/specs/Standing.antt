@@ -6,8 +6,8 @@ use Rattle.sysmem_sanitise.specs.Participant.{Participant}
 use Rattle.sysmem_sanitise.specs.Platform.{PlatformFacts}
 use Rattle.sysmem_search.specs.declared.kept.Part.{Part}
 use Rattle.sysmem_search.specs.declared.levels.Level.{Level}
-use Rattle.sysmem_search.specs.Kept.{IsKept, IsPart}
-use Rattle.sysmem_search.specs.Question.{Matter, HasBase, forest, asked_of}
+use Rattle.sysmem_search.specs.Kept.{IsKeptOf, IsPart}
+use Rattle.sysmem_search.specs.Question.{Matter, HasBase, forest, nodes_ask}
 use Rattle.sysmem_tree.specs.declared.layout.Layout.{Layout}
 use Rattle.sysmem_tree.specs.Forest.{Forest, settled}
 use Rattle.sysmem_tree.specs.Layout.{IsLayout}
@@ -34,7 +34,7 @@ pub record LaysOut (m : Matter) (layout : Layout) : Type 0 where
 pub record IsLevel (m : Matter) (layout : Layout) (cs : List ℕ) (level : Level) : Type 0 where
   pub left : Forest Member
   pub leads : after (forest m) cs ≡ Some left
-  pub kept : IsKept m.platform m.nodes m.base level.kept (participants (settled left))
+  pub kept : IsKeptOf m.platform m.nodes m.base level.kept (participants (settled left))
   pub group : IsFirstOpen layout (numbers m) cs level.group
 
 -- there is a level for each front of the choices
@@ -43,11 +43,11 @@ AreLevels m layout cs levels = (k : ℕ) → k ≤ length cs → IsSomeAnd (slic
 
 -- each level stands for some participants
 abbrev pub AreMade : PlatformFacts → List NodeFacts → Option BaseFacts → List Level → Type 0
-AreMade platform nodes base levels = (k : ℕ) (level : Level) → slice_get levels k ≡ Some level → (ps : List Participant) × IsKept platform nodes base level.kept ps
+AreMade platform nodes base levels = (k : ℕ) (level : Level) → slice_get levels k ≡ Some level → (ps : List Participant) × IsKeptOf platform nodes base level.kept ps
 
 -- what is kept at a place is of the child that stands there: of the participants that the choice of it settles
 abbrev pub AreParts : PlatformFacts → List NodeFacts → Option BaseFacts → Layout → List (Option Part) → Type 0
-AreParts platform nodes base layout parts = (at : ℕ) (part : Part) → slice_get parts at ≡ Some (Some part) → IsPart platform base part (asked_of nodes (share_of layout at))
+AreParts platform nodes base layout parts = (at : ℕ) (part : Part) → slice_get parts at ≡ Some (Some part) → IsPart platform base part (nodes_ask nodes (share_of layout at))
 
 -- what a search keeps where it stands
 pub record Keeps (m : Matter) (layout : Layout) (parts : List (Option Part)) (levels : List Level) (cs : List ℕ) : Type 0 where

@@ -7,7 +7,7 @@ ghost use Rattle.sysmem_proof.specs.Members.{participants};
 ghost use Rattle.sysmem_proof.specs.Verdict.{MeetsFor, MeetsLooselyFor, IsBestFor};
 ghost use Rattle.sysmem_sanitise.specs.Participant.{Participant};
 ghost use Rattle.sysmem_sanitise.specs.Platform.{PlatformFacts};
-ghost use Rattle.sysmem_search.specs.Kept.{IsKept, IsPart, TakesBase, HasRoom, HaveRoom};
+ghost use Rattle.sysmem_search.specs.Kept.{IsKeptOf, IsPart, TakesBase, HasRoom, HaveRoom};
 ghost use Rattle.sysmem_search.specs.declared.kept.Kept.TheVariants as kept_as;
 ghost use Rattle.sysmem_tree.specs.Node.{NodeFacts};
 ghost use Rattle.sysmem_tree.specs.Shape.{Member};
@@ -83,7 +83,7 @@ impl Kept {
     ) -> Result<Kept, AllocError>
         requires { IsGivenBase platform.now tree.now.nodes domain (option_map (λ b. b.now) base) }
         ensures { IfOk result (λ made.
-            IsKept platform.now tree.now.nodes (option_map (λ b. b.now) base.entry) made []) }
+            IsKeptOf platform.now tree.now.nodes (option_map (λ b. b.now) base.entry) made []) }
     {
         tree.nodes();
         match base {
@@ -97,9 +97,9 @@ impl Kept {
         requires { HaveRoom above.now part.now }
         ensures { (nodes : List NodeFacts) (base : Option BaseFacts)
             (others ps qs : List Participant)
-            → IsKept platform.now nodes base self.old others
-            → IsKept platform.now nodes base above.now ps → IsPart platform.now base part.now qs
-            → IsKept platform.now nodes base self.new (ps ++ qs) }
+            → IsKeptOf platform.now nodes base self.old others
+            → IsKeptOf platform.now nodes base above.now ps → IsPart platform.now base part.now qs
+            → IsKeptOf platform.now nodes base self.new (ps ++ qs) }
     {
         match self {
             Kept::Sum(sum) => join_sum(sum, platform, above, part),
@@ -109,7 +109,7 @@ impl Kept {
 
     /// Whether some settings meet the participants, as long as more may come. It takes no memory.
     pub(crate) fn is_met(&self, platform: &Platform, base: Option<&Base>) -> bool
-        ensures { (nodes : List NodeFacts) (ms : List Member) → IsKept platform.now nodes
+        ensures { (nodes : List NodeFacts) (ms : List Member) → IsKeptOf platform.now nodes
             (option_map (λ b. b.now) base.entry) self.now (participants ms)
             → IsTrue result ↔ ((t : Settled) × MeetsLooselyFor platform.now
             (option_map (terms_of nodes) (option_map (λ b. b.now) base.entry)) ms t) }
@@ -127,7 +127,7 @@ impl Kept {
 
     /// The best settings for the participants, who are all that there are; `None` where none meet them. It takes no memory.
     pub(crate) fn best(&self, platform: &Platform, base: Option<&Base>) -> Option<Settings>
-        ensures { (nodes : List NodeFacts) (ms : List Member) → IsKept platform.now nodes
+        ensures { (nodes : List NodeFacts) (ms : List Member) → IsKeptOf platform.now nodes
             (option_map (λ b. b.now) base.entry) self.now (participants ms) → MatchOption result
             ((t : Settled) → ¬ (MeetsFor platform.now
             (option_map (terms_of nodes) (option_map (λ b. b.now) base.entry)) ms t))
@@ -152,9 +152,9 @@ impl Kept {
 fn join_sum(sum: &mut Sum, platform: &Platform, above: &Kept, part: &Part)
     requires { HaveRoom above.now part.now }
     ensures { (nodes : List NodeFacts) (base : Option BaseFacts) (others ps qs : List Participant)
-        → IsKept platform.now nodes base (kept_as.Sum sum.old) others
-        → IsKept platform.now nodes base above.now ps → IsPart platform.now base part.now qs
-        → IsKept platform.now nodes base (kept_as.Sum sum.new) (ps ++ qs) }
+        → IsKeptOf platform.now nodes base (kept_as.Sum sum.old) others
+        → IsKeptOf platform.now nodes base above.now ps → IsPart platform.now base part.now qs
+        → IsKeptOf platform.now nodes base (kept_as.Sum sum.new) (ps ++ qs) }
 {
     if let Kept::Sum(above) = above {
         if let Part::Share(share) = part {
@@ -168,9 +168,9 @@ fn join_on_base(kept: &mut OnBase, above: &Kept, part: &Part)
     requires { HaveRoom above.now part.now }
     ensures { (platform : PlatformFacts) (nodes : List NodeFacts) (base : Option BaseFacts)
         (others ps qs : List Participant)
-        → IsKept platform nodes base (kept_as.OnBase kept.old) others
-        → IsKept platform nodes base above.now ps → IsPart platform base part.now qs
-        → IsKept platform nodes base (kept_as.OnBase kept.new) (ps ++ qs) }
+        → IsKeptOf platform nodes base (kept_as.OnBase kept.old) others
+        → IsKeptOf platform nodes base above.now ps → IsPart platform base part.now qs
+        → IsKeptOf platform nodes base (kept_as.OnBase kept.new) (ps ++ qs) }
 {
     if let Kept::OnBase(above) = above {
         if let Part::OnBase(part) = part {

@@ -3,7 +3,7 @@
 ghost use Rattle.std.specs.Prelude.{◌≡◌, ◌≢◌, ◌<◌, ◌≤◌, ◌+◌, ◌++◌, ℕ, List, [], Option, Some, IfOk, IsSomeAnd, OnOk, length, option_map, slice_get};
 ghost use Rattle.sysmem_proof.specs.Base.{BaseFacts, IsGivenBase};
 ghost use Rattle.sysmem_sanitise.specs.Participant.{Participant};
-ghost use Rattle.sysmem_search.specs.Kept.{IsKept, IsPart, HaveRoom};
+ghost use Rattle.sysmem_search.specs.Kept.{IsKeptOf, IsPart, HaveRoom};
 ghost use Rattle.sysmem_search.specs.Standing.{AreMade, AreParts, IsLevel};
 ghost use Rattle.sysmem_search.specs.declared.kept.Part.{Part as APart};
 ghost use Rattle.sysmem_search.specs.declared.levels.Level.{Level as ALevel};
@@ -46,10 +46,10 @@ pub(crate) fn join_level(
         (above old : ALevel)
         → slice_get levels.old.items depth ≡ Some above
         → slice_get levels.old.items (depth + 1) ≡ Some old
-        → IsKept platform.now nodes base above.kept ps → IsPart platform.now base part.now qs
-        → (others : List Participant) → IsKept platform.now nodes base old.kept others
+        → IsKeptOf platform.now nodes base above.kept ps → IsPart platform.now base part.now qs
+        → (others : List Participant) → IsKeptOf platform.now nodes base old.kept others
         → IsSomeAnd (slice_get levels.new.items (depth + 1)) (λ level. (level.group ≡ group)
-        × IsKept platform.now nodes base level.kept (ps ++ qs)) }
+        × IsKeptOf platform.now nodes base level.kept (ps ++ qs)) }
 {
     let (above, below) = levels.split_at_mut(depth + 1);
     let level = &mut below[0];

@@ -2,9 +2,9 @@
 
 ghost use Rattle.std.specs.Prelude.{◌≡◌, ◌≤◌, ◌<◌, ◌↔◌, ◌++◌, [], ◌∷◌, ℕ, List, length, option_map, IfOk, IfSome, IsTrue, MatchOption, OnOk};
 ghost use Rattle.sysmem_merge.specs.declared.settings.Settings.{Settings as Settled};
-ghost use Rattle.sysmem_search.specs.Live.{IsMet};
+ghost use Rattle.sysmem_search.specs.Live.{SomeMeet};
 ghost use Rattle.sysmem_proof.specs.Conflict.{IsConflictFor};
-ghost use Rattle.sysmem_search.specs.Question.{forest, terms, Meets, MeetsHere, MeetsSoFar, IsBest};
+ghost use Rattle.sysmem_search.specs.Question.{forest, terms, MeetsOf, MeetsHere, MeetsSoFar, IsBestOf};
 ghost use Rattle.sysmem_search.specs.Standing.{Standing};
 ghost use Rattle.sysmem_tree.specs.Forest.{choices, settled};
 ghost use Rattle.sysmem_tree.specs.Selection.{IsPrefix, after};
@@ -138,7 +138,7 @@ impl<'a> Question<'a> {
     /// Whether some settings meet the participants that the choices settle, as long as more may come. It takes no memory.
     pub(crate) fn is_met(&self) -> bool
         ensures { IfSome (after (forest self.now.matter) self.now.choices)
-            (λ d. IsTrue result ↔ IsMet (MeetsSoFar self.now.matter) d) }
+            (λ d. IsTrue result ↔ SomeMeet (MeetsSoFar self.now.matter) d) }
     {
         let level = &self.levels[self.prefix.choices().len()];
         level.kept.is_met(self.platform, self.base)
@@ -147,8 +147,8 @@ impl<'a> Question<'a> {
     /// The best settings for the participants of a selection; `None` where none meet them. It takes no memory.
     pub(crate) fn best(&self) -> Option<Settings>
         ensures { IfSome (after (forest self.now.matter) self.now.choices) (λ d. MatchOption result
-            ((t : Settled) → ¬ (Meets self.now.matter (settled d) t))
-            (IsBest self.now.matter (settled d))) }
+            ((t : Settled) → ¬ (MeetsOf self.now.matter (settled d) t))
+            (IsBestOf self.now.matter (settled d))) }
     {
         let level = &self.levels[self.prefix.choices().len()];
         level.kept.best(self.platform, self.base)

@@ -2,7 +2,7 @@
 
 ghost use Rattle.std.specs.Prelude.{◌≡◌, ◌<◌, ◌≤◌, None, length, IfOk, IfSome, MatchOption, OnOk};
 ghost use Rattle.sysmem_merge.specs.declared.settings.Settings.{Settings as Settled};
-ghost use Rattle.sysmem_search.specs.Question.{forest, Meets, MeetsHere, IsBest};
+ghost use Rattle.sysmem_search.specs.Question.{forest, MeetsOf, MeetsHere, IsBestOf};
 ghost use Rattle.sysmem_search.specs.Searching.{IsFoundOf};
 ghost use Rattle.sysmem_search.specs.Trail.{AddsRefutation, IsLeft};
 ghost use Rattle.sysmem_tree.specs.Forest.{choices, settled};
@@ -36,8 +36,8 @@ fn search_selection(
         (λ d. choices d ≡ None) }
     ensures best { IfOk result (λ best.
         IfSome (after (forest question.now.matter) question.now.choices)
-        (λ d. MatchOption best ((t : Settled) → ¬ (Meets question.now.matter (settled d) t))
-        (IsBest question.now.matter (settled d)))) }
+        (λ d. MatchOption best ((t : Settled) → ¬ (MeetsOf question.now.matter (settled d) t))
+        (IsBestOf question.now.matter (settled d)))) }
     ensures trail { IfOk result (λ best.
         IfSome (after (forest question.now.matter) question.now.choices)
         (λ d. IsLeft question.now.matter d question.now.choices question.now.choices trail.old

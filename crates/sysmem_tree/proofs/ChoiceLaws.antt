@@ -150,7 +150,7 @@ module _ {A : Type 0} where
       (λ x one on. let a = groups_after cs x e on in let b = one_fewer d x c one in omega (arith, a, b))
 
 -- a domain has no more groups than nodes
-size_by : (nodes : List NodeFacts) (r : ℕ) → IsTree nodes → (o : Option NodeFacts) → slice_get nodes r ≡ o → size (forest_of by_number nodes r []) ≤ 128
+pub size_by : (nodes : List NodeFacts) (r : ℕ) → IsTree nodes → (o : Option NodeFacts) → slice_get nodes r ≡ o → size (forest_of by_number nodes r []) ≤ 128
 size_by nodes r tree None is = let e : size (forest_of by_number nodes r []) ≡ 0 = ap (λ o. size (rooted by_number nodes r [] o)) is in omega (arith, e)
 size_by nodes r tree (Some n) is =
     let there = slice_get_within nodes r n is in

@@ -29,7 +29,7 @@ pub record IsClimbed (t : TreeFacts) (r index : ℕ) (h : NodeFacts) : Type 0 wh
   pub own : one.root ≡ h.domain
 
 -- a number is less than another, or it, or more
-nat_cases : (a b : ℕ) → (a < b) ⊎ ((a ≡ b) ⊎ (b < a))
+pub nat_cases : (a b : ℕ) → (a < b) ⊎ ((a ≡ b) ⊎ (b < a))
 nat_cases zero zero = inr (inl refl)
 nat_cases zero (suc b) = inl (omega arith)
 nat_cases (suc a) zero = inr (inr (omega arith))
@@ -51,7 +51,7 @@ last_at : (many : ℕ) (ds : List Domain) → 0 < many → many ≤ length ds �
 last_at many ds some all = slice_get-get_or ds (many - 1) (new_domain 0) (omega (arith, some, all))
 
 -- roots rise
-abbrev Rising : List Domain → Type 0
+abbrev pub Rising : List Domain → Type 0
 Rising ds = (i j : ℕ) (d e : Domain) → slice_get ds i ≡ Some d → slice_get ds j ≡ Some e → i < j → d.root < e.root
 
 roots_rise : (s : ℕ) (nodes : List NodeFacts) (i j x y : ℕ) → slice_get (roots_from s nodes) i ≡ Some x → slice_get (roots_from s nodes) j ≡ Some y → i < j → x < y
@@ -67,17 +67,17 @@ roots_rise s (n ∷ nodes) i j x y a b less = at (n.domain == s) (λ k l c d mor
   at true rest (suc i) (suc j) a b less = rest i j a b (omega (arith, less))
   at false rest i j a b less = rest i j a b less
 
-root_at : (ds : List Domain) (k : ℕ) (d : Domain) → slice_get ds k ≡ Some d → slice_get (map (λ (x : Domain). x.root) ds) k ≡ Some d.root
+pub root_at : (ds : List Domain) (k : ℕ) (d : Domain) → slice_get ds k ≡ Some d → slice_get (map (λ (x : Domain). x.root) ds) k ≡ Some d.root
 root_at [] k d e = absurd (cc)
 root_at (x ∷ ds) zero d e = ap (option_map (λ (x : Domain). x.root)) e
 root_at (x ∷ ds) (suc k) d e = root_at ds k d e
 
-rising : (t : TreeFacts) → AreDomains t → Rising t.domains
+pub rising : (t : TreeFacts) → AreDomains t → Rising t.domains
 rising t domains i j d e a b less =
     roots_rise 0 t.nodes i j d.root e.root (ap (λ rs. slice_get rs i) (sym domains) ∙ root_at t.domains i d a) (ap (λ rs. slice_get rs j) (sym domains) ∙ root_at t.domains j e b) less
 
 -- each root is listed
-root_listed : (s : ℕ) (nodes : List NodeFacts) (m r : ℕ) → r ≡ s + m → IsSomeAnd (slice_get nodes m) (λ n. n.domain ≡ r) → (k : ℕ) × (slice_get (roots_from s nodes) k ≡ Some r)
+pub root_listed : (s : ℕ) (nodes : List NodeFacts) (m r : ℕ) → r ≡ s + m → IsSomeAnd (slice_get nodes m) (λ n. n.domain ≡ r) → (k : ℕ) × (slice_get (roots_from s nodes) k ≡ Some r)
 root_listed s [] m r is own = absurd own
 root_listed s (n ∷ nodes) zero r is own =
     let same : s ≡ r = omega (arith, is) in
@@ -90,7 +90,7 @@ root_listed s (n ∷ nodes) (suc m) r is own =
       by true k at = (suc k, at)
       by false k at = (k, at)
 
-domain_at : (ds : List Domain) (k r : ℕ) → slice_get (map (λ (x : Domain). x.root) ds) k ≡ Some r → (d : Domain) × (slice_get ds k ≡ Some d) × (d.root ≡ r)
+pub domain_at : (ds : List Domain) (k r : ℕ) → slice_get (map (λ (x : Domain). x.root) ds) k ≡ Some r → (d : Domain) × (slice_get ds k ≡ Some d) × (d.root ≡ r)
 domain_at [] k r e = absurd (cc)
 domain_at (d ∷ ds) zero r e = (d, refl, same_Some d.root r e)
 domain_at (d ∷ ds) (suc k) r e = domain_at ds k r e
@@ -108,7 +108,7 @@ alike a b e = search (rules, tests, e)
 tail_rises : (x : Domain) (ds : List Domain) → Rising (x ∷ ds) → Rising ds
 tail_rises x ds up i j d e a b less = up (suc i) (suc j) d e a b (omega (arith, less))
 
-decision_here : (ds : List Domain) (k r : ℕ) (d : Domain) → Rising ds → slice_get ds k ≡ Some d → d.root ≡ r → decision_of ds r ≡ d.decision
+pub decision_here : (ds : List Domain) (k r : ℕ) (d : Domain) → Rising ds → slice_get ds k ≡ Some d → d.root ≡ r → decision_of ds r ≡ d.decision
 decision_here [] k r d up at own = absurd (cc)
 decision_here (x ∷ ds) zero r d up at own =
     let is : x ≡ d = same_Some x d at in
@@ -130,7 +130,7 @@ or_none : (b : Bool) → (b || false) ≡ b
 or_none true = refl
 or_none false = refl
 
-closed_here : (ds : List Domain) (k r : ℕ) (d : Domain) → Rising ds → slice_get ds k ≡ Some d → d.root ≡ r → was_closed_early ds r ≡ d.is_closed_early
+pub closed_here : (ds : List Domain) (k r : ℕ) (d : Domain) → Rising ds → slice_get ds k ≡ Some d → d.root ≡ r → was_closed_early ds r ≡ d.is_closed_early
 closed_here [] k r d up at own = absurd (cc)
 closed_here (x ∷ ds) zero r d up at own =
     let is : x ≡ d = same_Some x d at in
@@ -143,7 +143,7 @@ closed_here (x ∷ ds) (suc k) r d up at own =
     ∙ closed_here ds k r d (tail_rises x ds up) at own
 
 -- a host is a node made before the root that hangs on it
-hosted : (nodes : List NodeFacts) → IsTree nodes → (r : ℕ) (h : NodeFacts) → host_node nodes r ≡ Some h → (k : ℕ) × (k < r) × (r < length nodes) × (slice_get nodes k ≡ Some h)
+pub hosted : (nodes : List NodeFacts) → IsTree nodes → (r : ℕ) (h : NodeFacts) → host_node nodes r ≡ Some h → (k : ℕ) × (k < r) × (r < length nodes) × (slice_get nodes k ≡ Some h)
 hosted nodes tree r h up = by (slice_get nodes r) refl up where
   born : (z : NodeFacts) → slice_get nodes r ≡ Some z → (b : Option Birth) → z.birth ≡ b → option_and_then (λ (x : Birth). slice_get nodes x.parent) b ≡ Some h
       → (k : ℕ) × (k < r) × (r < length nodes) × (slice_get nodes k ≡ Some h)

@@ -5,6 +5,7 @@ pub mod Soundness
 pub mod Entering
 pub mod Upwards
 pub mod Climbing
+pub mod Sweeping
 pub mod Writes
 pub mod Places
 pub mod Kids
@@ -15,6 +16,7 @@ pub mod Steps
 pub mod SameForest
 pub mod Ready
 pub mod Selections
+pub mod Shrinking
 pub mod Labelled
 pub mod Logs
 pub mod Alike

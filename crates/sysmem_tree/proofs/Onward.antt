@@ -122,7 +122,7 @@ fertile_tree kinds.Token i a b some fa fb = (fa, fb)
 fertile_tree kinds.Group i a b some fa fb = (some refl, fa, fb)
 fertile_tree kinds.Collection i a b some fa fb = (fa, fb)
 
-nothing_left : {X : Type 0} (xs : List X) (i : ℕ) → length xs ≤ i → drop i xs ≡ []
+pub nothing_left : {X : Type 0} (xs : List X) (i : ℕ) → length xs ≤ i → drop i xs ≡ []
 nothing_left [] zero less = refl
 nothing_left [] (suc i) less = refl
 nothing_left (x ∷ xs) zero less = absurd (omega (arith, less))

@@ -18,7 +18,7 @@ or_false true b is = absurd (cc)
 or_false false b is = refl
 
 -- whether one above does, of so many, where this is the host
-abbrev above : ℕ → TreeFacts → Option NodeFacts → Bool
+abbrev pub above : ℕ → TreeFacts → Option NodeFacts → Bool
 above many t host = list_any (fails t) (unwrap_or (option_map (λ one. up_from many t.nodes one.domain) host) [])
 
 -- where this one does, one of them does

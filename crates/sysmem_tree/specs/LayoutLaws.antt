@@ -45,6 +45,11 @@ FirstGroupIsSettled = (d : Forest ℕ) (group children : ℕ) → first_group d 
 abbrev pub FewChoices : Type 0
 FewChoices = (nodes : List NodeFacts) (r : ℕ) (cs : List ℕ) → IsTree nodes → IsPrefix (forest_of by_number nodes r []) cs → length cs ≤ 128
 
+-- a group of a domain has at most 128 children
+abbrev pub FewChildren : Type 0
+FewChildren = (nodes : List NodeFacts) (r : ℕ) (cs : List ℕ) (e : Forest ℕ) (group children : ℕ) → IsTree nodes → after (forest_of by_number nodes r []) cs ≡ Some e
+    → first_group e ≡ Some (group, children) → children ≤ 128
+
 -- a number and a member of a shape, for one node
 abbrev pub Both : Type 0
 Both = ℕ × Member

@@ -19,3 +19,4 @@ pub mod Prefix
 pub mod OpenGroups
 pub mod LayoutLaws
 pub mod Members
+pub mod Sweep

@@ -1,6 +1,6 @@
 //! What a search over a domain's layout may rest on, and where the choices in a domain lead.
 
-ghost use Rattle.sysmem_tree.specs.LayoutLaws.{ActionAnswers, ChildrenAreChoices, ChoiceSettlesShare, ChoicesLeaveOneForest, FewChoices, FirstGroupIsSettled, NoneOpenIsSelection, PrefixesLeadOn};
+ghost use Rattle.sysmem_tree.specs.LayoutLaws.{ActionAnswers, ChildrenAreChoices, ChoiceSettlesShare, ChoicesLeaveOneForest, FewChildren, FewChoices, FirstGroupIsSettled, NoneOpenIsSelection, PrefixesLeadOn};
 
 /// The choice of a child leads on, and settles that child's share beside what was settled before,
 /// whatever was chosen elsewhere; the order of the settled nodes aside.
@@ -27,6 +27,11 @@ pub fn first_group_is_settled()
 /// A domain of a tree has at most 128 choices one after the other.
 pub fn few_choices()
     ensures { FewChoices }
+{}
+
+/// A group of a domain has at most 128 children.
+pub fn few_children()
+    ensures { FewChildren }
 {}
 
 /// Choices lead to one forest by the numbers of a domain's nodes and by its shape, under two kinds

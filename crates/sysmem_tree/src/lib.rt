@@ -34,6 +34,7 @@ mod selecting;
 mod settled;
 mod standing;
 mod state;
+mod sweep;
 mod table;
 mod tree;
 

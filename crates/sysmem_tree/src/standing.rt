@@ -47,7 +47,7 @@ pub(crate) fn is_selected(domains: &[Domain], node: &Node) -> bool
 }
 
 /// Whether this decision of the node's domain is one without the node.
-fn is_lost_by(decision: Decision, node: &Node) -> bool
+pub(crate) fn is_lost_by(decision: Decision, node: &Node) -> bool
     ensures { result
         ≡ domain.is_none_chosen decision || (domain.is_chosen decision && node.now.is_left_out) }
 {
@@ -87,11 +87,28 @@ pub(crate) fn has_failed(nodes: &[Node], domains: &[Domain], root: usize) -> boo
     false
 }
 
-/// Whether no node of the domain is awaited.
+/// Whether no node of the domain is awaited. Those made last are asked first, since they are mostly
+/// awaited the longest.
 fn is_complete(nodes: &[Node], root: usize) -> bool
     ensures { result ≡ domain.is_complete nodes.now root }
 {
-    nodes.iter().all(|node| !(node.domain() == root && node.state().is_awaited()))
+    for number in (0..nodes.len()).rev() {
+        let node = &nodes[number];
+        if node.domain() == root && node.state().is_awaited() {
+            return false;
+        }
+    }
+    true
+}
+
+/// Whether the host of a domain, where it has one, is selected.
+pub(crate) fn is_host_selected(nodes: &[Node], domains: &[Domain], root: usize) -> bool
+    ensures { result ≡ domain.is_host_selected domains.now (domain.host_node nodes.now root) }
+{
+    match host_of(nodes, root) {
+        Some(host) => is_selected(domains, host),
+        None => true,
+    }
 }
 
 /// Whether a domain is ready: its nodes are complete, it hasn't failed, and its host, where it has
@@ -103,10 +120,7 @@ pub(crate) fn is_ready(nodes: &[Node], domains: &[Domain], root: usize) -> bool
 {
     is_complete(nodes, root)
         && !has_failed(nodes, domains, root)
-        && match host_of(nodes, root) {
-            Some(host) => is_selected(domains, host),
-            None => true,
-        }
+        && is_host_selected(nodes, domains, root)
 }
 
 /// Marks the domain of this root as closed early.

@@ -10,7 +10,7 @@ use std::cell::Cell;
 use std::process::Abort;
 use std::sync::Arc;
 use std::test::Fail;
-use sysmem_proof::Verdict;
+use sysmem_proof::{Item, Proof, Verdict};
 use sysmem_sanitise::{Platform, read_constraints, read_platform};
 use sysmem_search::{Found, Gate, search};
 use sysmem_tree::{Action, DomainId, Event, NodeId, Path, Tree};
@@ -161,6 +161,52 @@ fn chose(found: &Found, choices: &[u8]) -> bool {
     }
 }
 
+// Whether the items are splits for these numbers of children, with a conflict for each 0.
+fn has_shape(items: &[Item], shape: &[u64]) -> bool {
+    if items.len() != shape.len() {
+        return false;
+    }
+    for k in 0..items.len() {
+        let children = match &items[k] {
+            Item::Split(children) => *children,
+            Item::Leaf(_) => 0,
+        };
+        if children != shape[k] {
+            return false;
+        }
+    }
+    true
+}
+
+// Whether a refutation of this shape proves that nothing can be met.
+fn refuted(found: &Found, shape: &[u64]) -> bool {
+    match &found.proof {
+        Proof::Empty(refutation) => has_shape(refutation.items(), shape),
+        _ => false,
+    }
+}
+
+// Whether so many groups were chosen for, and the choices before that for one of them are refuted in these shapes.
+fn refuted_before(found: &Found, groups: usize, group: usize, shapes: &[&[u64]]) -> bool {
+    let Proof::Choice(certificate) = &found.proof else {
+        return false;
+    };
+    let earlier = certificate.earlier();
+    if earlier.len() != groups || group >= groups {
+        return false;
+    }
+    let refutations = earlier[group].refutations();
+    if refutations.len() != shapes.len() {
+        return false;
+    }
+    for k in 0..refutations.len() {
+        if !has_shape(refutations[k].items(), shapes[k]) {
+            return false;
+        }
+    }
+    true
+}
+
 // Two groups below a bound root, with two children and one; the second group's child sets these constraints.
 fn two_groups(alloc: Global, last: &'static str) -> Result<Tree, Fail> {
     let mut tree = Tree::new(alloc)?;
@@ -194,6 +240,7 @@ fn a_later_group_names_the_format(rt: HostRuntime) -> Result<(), Fail> {
     let found = decide(rt.alloc(), &tree, 2)?;
     assert_eq!(&rt; found.visits, 3);
     assert!(&rt; chose(&found, &[0, 0]));
+    assert!(&rt; refuted_before(&found, 2, 1, &[]));
     Ok(())
 }
 
@@ -203,6 +250,7 @@ fn nothing_named(rt: HostRuntime) -> Result<(), Fail> {
     let found = decide(rt.alloc(), &tree, 2)?;
     assert_eq!(&rt; found.visits, 5);
     assert!(&rt; matches!(found.verdict, Verdict::IntersectionEmpty));
+    assert!(&rt; refuted(&found, &[2, 1, 0, 1, 0]));
     Ok(())
 }
 
@@ -238,6 +286,8 @@ fn the_first_of_two_selections(rt: HostRuntime) -> Result<(), Fail> {
     let found = decide(rt.alloc(), &tree, 2)?;
     assert_eq!(&rt; found.visits, 5);
     assert!(&rt; chose(&found, &[0, 2]));
+    assert!(&rt; refuted_before(&found, 2, 0, &[]));
+    assert!(&rt; refuted_before(&found, 2, 1, &[&[0], &[0]]));
     Ok(())
 }
 
@@ -269,6 +319,7 @@ fn one_group_inside_another(rt: HostRuntime) -> Result<(), Fail> {
     let found = decide(rt.alloc(), &tree, 2)?;
     assert_eq!(&rt; found.visits, 5);
     assert!(&rt; chose(&found, &[1]));
+    assert!(&rt; refuted_before(&found, 1, 0, &[&[2, 0, 0]]));
     Ok(())
 }
 
@@ -290,6 +341,7 @@ fn twelve_groups_with_one_cut(rt: HostRuntime) -> Result<(), Fail> {
     let found = decide(rt.alloc(), &tree, 12)?;
     assert_eq!(&rt; found.visits, 14);
     assert!(&rt; chose(&found, &[1, 0, 0, 0, 0, 0, 0, 0, 0, 0, 0, 0]));
+    assert!(&rt; refuted_before(&found, 12, 0, &[&[0]]));
     Ok(())
 }
 
@@ -300,5 +352,6 @@ fn thirteen_groups_are_too_many(rt: HostRuntime) -> Result<(), Fail> {
     let found = decide(rt.alloc(), &tree, 0)?;
     assert_eq!(&rt; found.visits, 0);
     assert!(&rt; matches!(found.verdict, Verdict::TooMany));
+    assert!(&rt; matches!(found.proof, Proof::Nothing));
     Ok(())
 }

@@ -25,7 +25,7 @@ use Rattle.sysmem_sanitise.specs.Faults.{wrong}
 use Rattle.sysmem_sanitise.specs.Reading.Bounds.{bounds_of}
 use Rattle.sysmem_sanitise.specs.Reading.Fields.{◌>>=◌, passing, kept, read_each, object_of, optional, required, stated, list_of, has_items, named}
 use Rattle.sysmem_sanitise.specs.Reading.Names.{format_named, modifier_named, colour_named, choice_named}
-use Rattle.sysmem_sanitise.specs.Reading.Pairs.{pair_fields, is_misfit}
+use Rattle.sysmem_sanitise.specs.Reading.Pairs.{pair_fields, is_tiled_misfit}
 
 -- DO_NOT_CARE is the same as itself alone
 abbrev pub same_format : Option PixelFormat → Option PixelFormat → Bool
@@ -39,7 +39,7 @@ same_asked a b = same_format a.format b.format && same_modifier a.modifier b.mod
 
 -- a tiled modifier with a named format that isn't of 4 bytes
 abbrev pub asks_misfit : Option PixelFormat → Option Modifier → Bool
-asks_misfit (Some format) (Some modifier) = is_misfit (record { format = format; modifier = modifier })
+asks_misfit (Some format) (Some modifier) = is_tiled_misfit (record { format = format; modifier = modifier })
 asks_misfit _ _ = false
 
 -- the modifier beside a format: if it is missing, LINEAR, or DO_NOT_CARE if the format is

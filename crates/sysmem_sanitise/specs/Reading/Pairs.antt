@@ -29,5 +29,5 @@ abbrev pub has_colour : List ColourSpace → ColourSpace → Bool
 has_colour colours new = list_any (λ colour. same_colour colour new) colours
 
 -- a tiled modifier with a format that isn't of 4 bytes: the test of IsTiledMisfit
-abbrev pub is_misfit : Pair → Bool
-is_misfit pair = not (modifier_code pair.modifier == modifier_code Linear) && not (pixel_bytes pair.format == 4)
+abbrev pub is_tiled_misfit : Pair → Bool
+is_tiled_misfit pair = not (modifier_code pair.modifier == modifier_code Linear) && not (pixel_bytes pair.format == 4)

@@ -14,7 +14,7 @@ use Rattle.sysmem_sanitise.specs.Platform.{PlatformFacts}
 use Rattle.sysmem_sanitise.specs.Reading.Fields.{◌>>=◌, passing, kept, read_each, object_of, optional, required, list_of, named}
 use Rattle.sysmem_sanitise.specs.Reading.Heaps.{heaps_of}
 use Rattle.sysmem_sanitise.specs.Reading.Names.{format_named, modifier_named, colour_named}
-use Rattle.sysmem_sanitise.specs.Reading.Pairs.{pair_fields, has_pair, has_colour, is_misfit}
+use Rattle.sysmem_sanitise.specs.Reading.Pairs.{pair_fields, has_pair, has_colour, is_tiled_misfit}
 
 -- a format and its modifier, LINEAR if it is missing
 abbrev pub pair_of : Data → Result Pair Fault
@@ -28,7 +28,7 @@ pair_of d = do
 abbrev pub with_pair : Option Field → List Pair → Data → Result (List Pair) Fault
 with_pair lack pairs d = do
   pair ← pair_of d
-  fitting ← passing (wrong code.TiledMisfit field.Pairs) (λ pair. not (is_misfit pair)) pair
+  fitting ← passing (wrong code.TiledMisfit field.Pairs) (λ pair. not (is_tiled_misfit pair)) pair
   new ← passing (wrong code.BadPlatformList field.Pairs) (λ pair. not (has_pair pairs pair)) fitting
   kept lack field.Pairs (pairs ++ new ∷ [])
 

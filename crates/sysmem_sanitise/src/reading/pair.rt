@@ -6,7 +6,7 @@ ghost use Rattle.sysmem_counts.specs.declared.field.Field.TheVariants.{PixelForm
 ghost use Rattle.sysmem_formats.specs.declared.modifier.Modifier.TheVariants.{Linear};
 ghost use Rattle.sysmem_sanitise.specs.Reading.Fields.{seen_by, read_each, Reads, optional, named};
 ghost use Rattle.sysmem_sanitise.specs.Reading.Names.{modifier_named};
-ghost use Rattle.sysmem_sanitise.specs.Reading.Pairs.{same_pair, has_pair, has_colour, is_misfit};
+ghost use Rattle.sysmem_sanitise.specs.Reading.Pairs.{same_pair, has_pair, has_colour, is_tiled_misfit};
 ghost use Rattle.sysmem_sanitise.specs.Reading.Platform.{pair_of, with_pair, pairs_of, with_colour, colours_of};
 
 use super::field::{add, expect_object, list_of, stated};
@@ -16,7 +16,7 @@ use crate::fault::{Code, Fault, FaultPlace};
 use serde_json::Value;
 use std::alloc::Global;
 use sysmem_counts::Field;
-use sysmem_formats::{ColourSpace, Modifier, Pair, is_tiled_misfit};
+use sysmem_formats::{ColourSpace, Modifier, Pair};
 
 fn modifier_in(object: &Value) -> Result<Modifier, Fault>
     ensures { result
@@ -56,10 +56,10 @@ fn is_same(a: Pair, b: Pair) -> bool
     a == b
 }
 
-fn is_misfit(pair: Pair) -> bool
-    ensures { result ≡ is_misfit pair }
+fn is_tiled_misfit(pair: Pair) -> bool
+    ensures { result ≡ is_tiled_misfit pair }
 {
-    is_tiled_misfit(pair)
+    sysmem_formats::is_tiled_misfit(pair)
 }
 
 impl Listed for Pair {
@@ -67,7 +67,7 @@ impl Listed for Pair {
 
     fn add(_: Global, pairs: &mut Vec<Pair>, value: &Value) -> Result<(), Fault> {
         let pair = pair_of(value)?;
-        if is_misfit(pair) {
+        if is_tiled_misfit(pair) {
             return Err(Fault::of(Code::TiledMisfit, Field::Pairs));
         }
         if has_pair(pairs, pair) {

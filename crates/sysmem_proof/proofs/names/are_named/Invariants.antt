@@ -1,8 +1,14 @@
--- Those so far are named.
-use Rattle.std.proofs.Common.{take}
+-- Those so far are named, and their numbers are seen.
+use Rattle.std.proofs.Common.{◌≡◌, ℕ, Some, false, get_or, length, take}
+use Rattle.std.specs.Prelude.{◌↔◌, Any, IsTrue}
+use Rattle.sysmem_tree.specs.Path.{node_at}
 use Rattle.sysmem_proof.specs.Fault.{AreNamed}
 use Rattle.sysmem_proof.specs.Roll.{listed}
 use Rattle.sysmem_proof.proofs.names.are_named.Given as goal
 
-abbrev pub invariant-loop-index : goal.invariant-loop-index
-invariant-loop-index l = AreNamed (listed l.roll) (take l.index l.paths)
+abbrev pub invariant-loop-path : goal.invariant-loop-path
+invariant-loop-path l = record {
+  long : length l.seen ≡ 128;
+  named : AreNamed (listed l.roll) (take l.path-index l.paths);
+  seen : (k : ℕ) → IsTrue (get_or l.seen k false) ↔ Any (λ p. node_at l.roll.nodes p ≡ Some k) (take l.path-index l.paths);
+}

@@ -2,7 +2,7 @@
 use Rattle.std.proofs.Common.{◌≡◌, Some, slice_get, slice_set, sym, ◌∙◌, ap, subst, arith}
 use Rattle.std.specs.Prelude.{option_map}
 use Rattle.sysmem_search.specs.Kept.{IsPart}
-use Rattle.sysmem_search.specs.Question.{asked_of}
+use Rattle.sysmem_search.specs.Question.{nodes_ask}
 use Rattle.sysmem_search.proofs.Entering.{at_index, some_there, part_kept, part_there}
 use Rattle.sysmem_tree.specs.OpenGroups.{share_of}
 use Rattle.sysmem_search.proofs.levels.keep_part.Goals as goal
@@ -15,7 +15,7 @@ returns-then-is_some-clause-there c =
 
 pub returns-clause-parts : goal.returns-clause-parts
 returns-clause-parts c = part_kept c.args.platform.now c.args.tree.now.nodes (option_map (λ b. b.now) c.args.base) c.args.layout.now c.args.parts.now.items c.number-place.result c.in_ok-part.part
-    (subst (λ k. IsPart c.args.platform.now (option_map (λ b. b.now) c.args.base) c.in_ok-part.part (asked_of c.args.tree.now.nodes (share_of c.args.layout.now k))) (sym c.number-place.ensures)
+    (subst (λ k. IsPart c.args.platform.now (option_map (λ b. b.now) c.args.base) c.in_ok-part.part (nodes_ask c.args.tree.now.nodes (share_of c.args.layout.now k))) (sym c.number-place.ensures)
     (c.in_ok-part.ensures (share_of c.args.layout.now c.args.child) c.settled_with-walk.ensures))
 
 pub returns-clause-there : goal.returns-clause-there

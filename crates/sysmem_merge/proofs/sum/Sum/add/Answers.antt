@@ -1,24 +1,29 @@
-use Rattle.std.proofs.Common.{arith, ◌≡◌, length, refl, sym, ap, ◌∙◌, subst}
+use Rattle.std.proofs.Common.{arith, ◌≡◌, ◌++◌, ◌∷◌, [], length, refl, sym, ap, ◌∙◌, subst}
 use Rattle.sysmem_memory.specs.Wishes.{MemoryWishes}
-use Rattle.sysmem_merge.specs.Aggregate.{AreKept}
-use Rattle.sysmem_merge.specs.Demands.{offer_demand}
+use Rattle.sysmem_merge.specs.Demands.{counts_asked, place_demands, offer_demand, offer_demands}
+use Rattle.sysmem_merge.specs.Pairs.{ArePairsKept}
 use Rattle.sysmem_merge.specs.Sum.{SumFacts, SumsUp}
-use Rattle.sysmem_sanitise.specs.Platform.{offers_of}
-use Rattle.sysmem_merge.proofs.Adding.{all_written, stands_push}
+use Rattle.sysmem_merge.proofs.Adding.{all_written}
+use Rattle.sysmem_merge.proofs.Summing.{sums_push}
 use Rattle.sysmem_merge.proofs.sum.Sum.add.Goals as goal
 
 pub returns-clause-sums : goal.returns-clause-sums
 returns-clause-sums c ps sums =
     let platform = c.args.platform.now in
+    let ds = offer_demands ps in
+    let d = offer_demand c.args.asked.now in
     let kept = subst (λ (s : SumFacts). SumsUp s platform ps) (sym c.self.view_is) sums in
     let wishes = c.memory.view_is ∙ c.memory-memory.ensures.memory in
     let low = ap (λ (m : MemoryWishes). m.min_size_bytes) wishes in
     let high = ap (λ (m : MemoryWishes). m.max_size_bytes) wishes in
-    let many : c.self.inside.offers.len ≡ length c.add_to_offers.new.kept = omega (arith, c.add_to_offers.auto.kept, c.deref_mut.ensures.len) in
-    rw (all_written c.self.inside.offers.len c.self.inside.offers.items c.add_to_offers.new.kept many)
-    (stands_push _ _ platform ps c.args.asked.now kept refl
-    (rw c.counts.ensures at c.add.ensures.added)
-    (rw (c.heaps.ensures.heaps, c.memory-memory.ensures.memory, c.usage.ensures.usage) at c.add-2.ensures)
-    (λ ds are. c.add_to_offers.ensures ds (offer_demand c.args.asked.now) (sym c.entries.ensures.entries)
-    (subst (AreKept (offers_of platform) ds) (sym c.deref_mut.ensures.value) are))
+    let same : d.entries ≡ c.of-matches.result = sym c.entries.ensures.entries ∙ sym c.of-matches.ensures in
+    let many : c.self.inside.pairs.len ≡ length c.add_to_pairs.new.kept = omega (arith, c.add_to_pairs.auto.kept, c.deref_mut.ensures.len) in
+    rw (all_written c.self.inside.pairs.len c.self.inside.pairs.items c.add_to_pairs.new.kept many)
+    (sums_push _ _ platform ps c.args.asked.now kept
+    ((rw c.counts.ensures at c.add.ensures.added) (counts_asked ps) kept.counts)
+    ((rw (c.heaps.ensures.heaps, c.memory-memory.ensures.memory, c.usage.ensures.usage) at c.add-2.ensures) (place_demands ps) kept.places)
+    (c.add-3.ensures ds d same kept.no_image)
+    (subst (λ pairs. ArePairsKept pairs (ds ++ d ∷ []) c.add_to_pairs.new.kept) c.pairs.ensures.pairs
+    (c.add_to_pairs.ensures ds d same (subst (λ pairs. ArePairsKept pairs ds c.deref_mut.result.now) (sym c.pairs.ensures.pairs)
+    (subst (ArePairsKept platform.pairs ds) (sym c.deref_mut.ensures.value) kept.pairs))))
     (omega (arith, c.max-self-inside.ensures, low)) (omega (arith, c.min-self-inside.ensures, high)) refl)

@@ -1,13 +1,7 @@
-use Rattle.std.proofs.Common.{List, sym, subst}
-use Rattle.sysmem_memory.specs.Heap.{HeapFacts}
-use Rattle.sysmem_memory.specs.Place.{IsFirstPlace, HasNoPlace}
+use Rattle.std.proofs.Common.{sym, subst}
 use Rattle.sysmem_merge.specs.Sum.{SumFacts, SumsUp}
 use Rattle.sysmem_merge.specs.Demands.{counts_asked, place_demands, offer_demands}
-use Rattle.sysmem_merge.specs.FirstFit.{IsFirstFit}
-use Rattle.sysmem_merge.specs.Reasons.{AreOffersRefused}
-use Rattle.sysmem_sanitise.specs.Platform.{PlatformFacts, offers_of}
-use Rattle.sysmem_merge.proofs.Adding.{heaps_read, places_kept}
-use Rattle.sysmem_merge.proofs.FirstFits.{offers_kept}
+use Rattle.sysmem_merge.specs.Pairs.{ArePairsKept}
 use Rattle.sysmem_merge.proofs.Reasons.{first_no_place, first_no_offer}
 use Rattle.sysmem_merge.proofs.Together.{best_together, unmet_by_count, unmet_by_place, unmet_by_offer}
 use Rattle.sysmem_merge.proofs.sum.Sum.best_settings.Goals as goal
@@ -22,47 +16,38 @@ pub returns-in_default-clause-none : goal.returns-in_default-clause-none
 returns-in_default-clause-none c ps sums =
     let platform = c.args.platform.now in
     let kept = subst (λ (s : SumFacts). SumsUp s platform ps) (sym c.self.view_is) sums in
-    let same = heaps_read _ platform ps c.heaps.result.now kept c.heaps.ensures.heaps in
     unmet_by_place c.args.whole platform ps
-    (subst (λ (hs : List HeapFacts). HasNoPlace hs (place_demands ps)) same
-    (c.in_default.ensures.none (place_demands ps) (places_kept _ platform ps c.heaps.result.now kept c.heaps.ensures.heaps)))
+    ((rw c.heaps.ensures.heaps at c.in_default.ensures.none) (place_demands ps) kept.places)
 
 pub returns-in_default-clause-reason : goal.returns-in_default-clause-reason
 returns-in_default-clause-reason c ps sums =
     let platform = c.args.platform.now in
     let kept = subst (λ (s : SumFacts). SumsUp s platform ps) (sym c.self.view_is) sums in
-    let same = heaps_read _ platform ps c.heaps.result.now kept c.heaps.ensures.heaps in
     first_no_place c.args.whole platform ps c.in-Ok.count (c.in-Ok.ensures.cases (counts_asked ps) kept.counts)
-    (subst (λ (hs : List HeapFacts). HasNoPlace hs (place_demands ps)) same
-    (c.in_default.ensures.none (place_demands ps) (places_kept _ platform ps c.heaps.result.now kept c.heaps.ensures.heaps)))
+    ((rw c.heaps.ensures.heaps at c.in_default.ensures.none) (place_demands ps) kept.places)
 
-pub returns-in_default-first_fit-clause-none : goal.returns-in_default-first_fit-clause-none
-returns-in_default-first_fit-clause-none c ps sums =
+pub returns-in_default-first_shared-clause-none : goal.returns-in_default-first_shared-clause-none
+returns-in_default-first_shared-clause-none c ps sums =
     let platform = c.args.platform.now in
     let kept = subst (λ (s : SumFacts). SumsUp s platform ps) (sym c.self.view_is) sums in
-    unmet_by_offer c.args.whole platform ps
-    (subst (λ (f : PlatformFacts). AreOffersRefused c.args.whole (offers_of f) (offer_demands ps)) kept.on
-    (c.in_default-first_fit.ensures.none (offer_demands ps) (offers_kept _ platform ps c.deref.result.now kept c.deref.ensures.value) kept.sizes))
+    let paired = subst (ArePairsKept platform.pairs (offer_demands ps)) (sym c.deref.ensures.value) kept.pairs in
+    unmet_by_offer c.args.whole platform ps (c.in_default-first_shared.ensures.none (offer_demands ps) kept.no_image paired kept.sizes)
 
-pub returns-in_default-first_fit-clause-reason : goal.returns-in_default-first_fit-clause-reason
-returns-in_default-first_fit-clause-reason c ps sums =
+pub returns-in_default-first_shared-clause-reason : goal.returns-in_default-first_shared-clause-reason
+returns-in_default-first_shared-clause-reason c ps sums =
     let platform = c.args.platform.now in
     let kept = subst (λ (s : SumFacts). SumsUp s platform ps) (sym c.self.view_is) sums in
-    let same = heaps_read _ platform ps c.heaps.result.now kept c.heaps.ensures.heaps in
+    let paired = subst (ArePairsKept platform.pairs (offer_demands ps)) (sym c.deref.ensures.value) kept.pairs in
     first_no_offer c.args.whole platform ps c.in-Ok.count c.in-Some.place (c.in-Ok.ensures.cases (counts_asked ps) kept.counts)
-    (subst (λ (hs : List HeapFacts). IsFirstPlace hs (place_demands ps) c.in-Some.place) same
-    (c.in-Some.ensures.first (place_demands ps) (places_kept _ platform ps c.heaps.result.now kept c.heaps.ensures.heaps)))
-    (subst (λ (f : PlatformFacts). AreOffersRefused c.args.whole (offers_of f) (offer_demands ps)) kept.on
-    (c.in_default-first_fit.ensures.none (offer_demands ps) (offers_kept _ platform ps c.deref.result.now kept c.deref.ensures.value) kept.sizes))
+    ((rw c.heaps.ensures.heaps at c.in-Some.ensures.first) (place_demands ps) kept.places)
+    (c.in_default-first_shared.ensures.none (offer_demands ps) kept.no_image paired kept.sizes)
 
 pub returns-clause-best : goal.returns-clause-best
 returns-clause-best c ps sums =
     let platform = c.args.platform.now in
     let kept = subst (λ (s : SumFacts). SumsUp s platform ps) (sym c.self.view_is) sums in
-    let same = heaps_read _ platform ps c.heaps.result.now kept c.heaps.ensures.heaps in
-    best_together c.args.whole platform ps c.in-Some-first_fit.fit c.in-Some.place c.in-Ok.count
-    (subst (λ (f : PlatformFacts). IsFirstFit c.args.whole (offers_of f) (offer_demands ps) c.in-Some-first_fit.fit) kept.on
-    (c.in-Some-first_fit.ensures.first (offer_demands ps) (offers_kept _ platform ps c.deref.result.now kept c.deref.ensures.value) kept.sizes))
-    (subst (λ (hs : List HeapFacts). IsFirstPlace hs (place_demands ps) c.in-Some.place) same
-    (c.in-Some.ensures.first (place_demands ps) (places_kept _ platform ps c.heaps.result.now kept c.heaps.ensures.heaps)))
+    let paired = subst (ArePairsKept platform.pairs (offer_demands ps)) (sym c.deref.ensures.value) kept.pairs in
+    best_together c.args.whole platform ps c.in-Some-first_shared.fit c.in-Some.place c.in-Ok.count
+    (c.in-Some-first_shared.ensures.first (offer_demands ps) kept.no_image paired kept.sizes)
+    ((rw c.heaps.ensures.heaps at c.in-Some.ensures.first) (place_demands ps) kept.places)
     (c.in-Ok.ensures.cases (counts_asked ps) kept.counts)

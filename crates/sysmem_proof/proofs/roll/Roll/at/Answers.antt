@@ -1,8 +1,17 @@
--- The roll is that of its parts.
-use Rattle.std.proofs.Common.{◌∙◌, ap}
+-- What a node asks that is marked.
+use Rattle.std.proofs.Common.{sym, ◌∙◌, ap}
 use Rattle.sysmem_proof.specs.Naming.{asked_at}
-use Rattle.sysmem_proof.specs.Roll.{listed}
+use Rattle.sysmem_proof.specs.Roll.{RollFacts, listed}
+use Rattle.sysmem_proof.proofs.Rolls.{told_nowhere, told_marked}
 use Rattle.sysmem_proof.proofs.roll.Roll.at.Goals as goal
 
+pub returns-in_err-node : goal.returns-in_err-node
+returns-in_err-node c = rw c.from_residual.ensures (told_nowhere c.self.inside.tree.now.nodes c.self.invariant.1.tree c.one_path.ensures c.self.inside.domain c.self.invariant.0
+    (c.one_forest.ensures c.self.inside.tree.now.nodes c.self.inside.domain) c.self.inside.prefix.now c.self.inside.accepted.now c.self.invariant.2 c.args.path.now (sym c.node_at.ensures.node ∙ c.in_err-node.was)
+    ∙ ap (λ (r : RollFacts). asked_at (listed r) c.args.path.now) c.self.view_is)
+
 pub returns : goal.returns
-returns c = c.named.ensures ∙ ap (λ r. asked_at (listed r) c.args.path.now) c.self.view_is
+returns c = c.marked.ensures ∙ (told_marked c.self.inside.tree.now.nodes c.self.invariant.1.tree c.one_path.ensures c.self.inside.domain c.self.invariant.0
+    (c.one_forest.ensures c.self.inside.tree.now.nodes c.self.inside.domain) c.self.inside.prefix.now c.self.inside.accepted.now c.self.invariant.2 c.args.path.now
+    c.in_ok-node.node c.in_ok-node.ensures.there (sym c.node_at.ensures.node ∙ c.in_ok-node.was) _ (c.self.invariant.3 c.in_ok-node.node)
+    ∙ ap (λ (r : RollFacts). asked_at (listed r) c.args.path.now) c.self.view_is)

@@ -1,12 +1,16 @@
 -- The choices are choices for the numbers of the nodes too.
+use Rattle.sysmem_proof.proofs.Marked.{both_marked}
 use Rattle.sysmem_proof.proofs.Rolls.{prefix_numbers}
 use Rattle.sysmem_proof.proofs.roll.Roll.new.Goals as goal
+
+pub settled_marks-marks-requires-clause-prefix : goal.settled_marks-marks-requires-clause-prefix
+settled_marks-marks-requires-clause-prefix c =
+    prefix_numbers c.args.tree.now.nodes c.args.domain c.args.prefix.now (c.choices_leave_one_forest.ensures c.args.tree.now.nodes c.args.domain c.args.prefix.now) c.requires.prefix
 
 pub invariant_of-result : goal.invariant_of-result
 invariant_of-result c = (
   c.requires.domain,
   c.nodes.ensures.sound,
-  prefix_numbers c.args.tree.now.nodes c.args.domain c.args.prefix.now (c.choices_leave_one_forest.ensures c.args.tree.now.nodes c.args.domain c.args.prefix.now) c.requires.prefix,
   c.requires.there,
-  c.requires.few,
+  both_marked _ _ c.args.accepted.now _ c.mark_all.ensures c.settled_marks-marks.ensures,
 )

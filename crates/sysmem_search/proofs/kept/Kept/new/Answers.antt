@@ -3,8 +3,8 @@ use Rattle.std.proofs.Common.{◌≤◌, [], sym, ap, subst, length, arith}
 use Rattle.std.specs.Prelude.{option_map}
 use Rattle.sysmem_proof.specs.Base.{IsGivenBase}
 use Rattle.sysmem_search.specs.declared.kept.Kept.TheVariants as kept_as
-use Rattle.sysmem_search.specs.Kept.{IsKept, TakesBase}
-use Rattle.sysmem_search.specs.Question.{asked_of}
+use Rattle.sysmem_search.specs.Kept.{IsKeptOf, TakesBase}
+use Rattle.sysmem_search.specs.Question.{nodes_ask}
 use Rattle.sysmem_search.proofs.Walking.{elsewhere_there, few_different}
 use Rattle.sysmem_search.proofs.kept.Kept.new.Goals as goal
 
@@ -15,5 +15,5 @@ behind-requires-clause-few c =
     subst (λ xs. length xs ≤ 128) (sym c.accepted.ensures) (omega (arith, few, c.nodes.ensures.sound.tree.few))
 
 pub returns-in-Some : goal.returns-in-Some
-returns-in-Some c = subst (λ o. IsKept c.args.platform.now c.args.tree.now.nodes o (kept_as.OnBase c.behind.result) []) (sym (ap (option_map (λ b. b.now)) c.in-Some.is))
-    (subst (λ xs. TakesBase c.args.platform.now c.in-Some.base.now.settings (asked_of c.args.tree.now.nodes xs) c.behind.result []) c.accepted.ensures (c.behind.ensures c.args.platform.now c.in-Some.base.now.settings))
+returns-in-Some c = subst (λ o. IsKeptOf c.args.platform.now c.args.tree.now.nodes o (kept_as.OnBase c.behind.result) []) (sym (ap (option_map (λ b. b.now)) c.in-Some.is))
+    (subst (λ xs. TakesBase c.args.platform.now c.in-Some.base.now.settings (nodes_ask c.args.tree.now.nodes xs) c.behind.result []) c.accepted.ensures (c.behind.ensures c.args.platform.now c.in-Some.base.now.settings))

@@ -2,7 +2,7 @@
 use Rattle.std.proofs.Common.{subst}
 use Rattle.std.specs.Prelude.{IfSome, MatchOption, option_map}
 use Rattle.sysmem_merge.specs.declared.settings.Settings.{Settings}
-use Rattle.sysmem_search.specs.Question.{Matter, forest, Meets, IsBest}
+use Rattle.sysmem_search.specs.Question.{Matter, forest, MeetsOf, IsBestOf}
 use Rattle.sysmem_search.proofs.AskedMembers.{if_some}
 use Rattle.sysmem_search.proofs.Entering.{level_at, kept_at}
 use Rattle.sysmem_tree.specs.Forest.{settled}
@@ -14,5 +14,5 @@ returns c =
     let m : Matter = record { platform = c.self.inside.platform.now; nodes = c.self.inside.tree.now.nodes; domain = c.self.inside.domain; base = option_map (λ b. b.now) c.self.inside.base } in
     let cs = c.self.inside.prefix in
     let level = level_at m c.self.inside.layout c.self.inside.parts.items c.self.inside.levels.items c.choices.result.now cs c.index-level.result.now c.choices.ensures c.self.invariant.2 c.index-level.ensures in
-    subst (λ s. IfSome (after (forest s.matter) s.choices) (λ d. MatchOption c.best.result ((t : Settings) → ¬ (Meets s.matter (settled d) t)) (IsBest s.matter (settled d)))) c.self.view_is
+    subst (λ s. IfSome (after (forest s.matter) s.choices) (λ d. MatchOption c.best.result ((t : Settings) → ¬ (MeetsOf s.matter (settled d) t)) (IsBestOf s.matter (settled d)))) c.self.view_is
     (if_some _ (after (forest m) cs) (λ d leads. c.best.ensures m.nodes (settled d) (kept_at m c.self.inside.layout cs c.index-level.result.now level d leads)))

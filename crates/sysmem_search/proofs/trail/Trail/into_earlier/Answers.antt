@@ -22,7 +22,7 @@ loop-choice-preserved c = λ groups items sizes each.
     let so = c.loop-choice.invariant groups items sizes each in
     let begins : drop k c.args.selection.now ≡ get_or cs k 0 ∷ drop (k + 1) c.args.selection.now =
     ap (drop k) (sym c.choices-choice-items.ensures) ∙ (drop-cons cs k 0 (omega (arith, c.loop-choice-test.true))
-        ∙ (ap (λ n. get_or cs k 0 ∷ drop n cs) (sym (add-one k)) ∙ ap (λ xs. get_or cs k 0 ∷ drop (k + 1) xs) c.choices-choice-items.ensures)) in
+    ∙ (ap (λ n. get_or cs k 0 ∷ drop n cs) (sym (add-one k)) ∙ ap (λ xs. get_or cs k 0 ∷ drop (k + 1) xs) c.choices-choice-items.ensures)) in
     let (item, first) = next_there c.next.result (into_iter_items c.loop-choice.items) (into_iter_items c.next.new.self) c.loop-choice.items.rest.len c.next.new.self.rest.len c.next.ensures.cases c.loop-choice.items.rest.ok.0
     (split_there groups c.loop-choice.earlier.items (drop k c.args.selection.now) (into_iter_items c.loop-choice.items) (into_iter_items c.loop-choice.sizes) so (get_or cs k 0) (drop (k + 1) c.args.selection.now) begins) in
     group_taken groups c.loop-choice.earlier.items (drop k c.args.selection.now) (into_iter_items c.loop-choice.items) (into_iter_items c.loop-choice.sizes) so (get_or cs k 0) (drop (k + 1) c.args.selection.now) item

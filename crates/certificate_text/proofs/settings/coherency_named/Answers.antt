@@ -1,0 +1,5 @@
+use Rattle.certificate_text.proofs.Names.{domain_found}
+use Rattle.certificate_text.proofs.settings.coherency_named.Goals as goal
+
+pub returns : goal.returns
+returns c = domain_found _ _ c.from_name.ensures

@@ -1,0 +1,241 @@
+-- The settings that an object of a certificate says.
+use Rattle.std.specs.Prelude.{ℕ, ◌≤◌, ◌+◌, ◌-◌, ◌^◌, ◌&&◌, ◌==◌, max, Bool, List, Option, Some, None, codes, bytes_eq, is_some, option_map, position, slice_get, nat_le, if◌then◌else◌}
+use Rattle.std.proofs.Common.{arith}
+use Rattle.serde_json.specs.Data.{Data}
+use Rattle.serde_json.specs.Find.{get, as_null, as_str}
+use Rattle.sysmem_counts.specs.declared.field.Field.{Field}
+use Rattle.sysmem_counts.specs.declared.field.Field.TheVariants as field
+use Rattle.sysmem_counts.specs.Field.{field_name}
+use Rattle.sysmem_formats.specs.declared.offer.Offer.{Offer}
+use Rattle.sysmem_formats.specs.declared.offer.Offer.TheVariants.{NoImage, Image}
+use Rattle.sysmem_image.specs.declared.bounds.ImageBounds.{ImageBounds}
+use Rattle.sysmem_image.specs.declared.size.Size.{Size}
+use Rattle.sysmem_image.specs.Size.{most_number}
+use Rattle.sysmem_memory.specs.declared.domain.CoherencyDomain.{CoherencyDomain}
+use Rattle.sysmem_memory.specs.declared.place.Place.{Place}
+use Rattle.sysmem_memory.specs.Domain.{has_domain}
+use Rattle.sysmem_memory.specs.Heap.{HeapFacts}
+use Rattle.sysmem_merge.specs.declared.settings.Settings.{Settings}
+use Rattle.sysmem_sanitise.specs.Platform.{PlatformFacts}
+use Rattle.sysmem_sanitise.specs.Reading.Names.{format_named, modifier_named, colour_named, domain_named}
+use Rattle.sysmem_sanitise.specs.Reading.Pairs.{has_pair, has_colour}
+use Rattle.certificate_text.specs.Reading.{◌>>=◌, object_of, number_to, at_key, named_at}
+
+-- ---- bounds
+
+-- a number of 32 bits
+abbrev pub any_number : Field → Data → Option ℕ
+any_number field d = at_key (field_name field) (number_to most_number) d
+
+abbrev pub unless_zero : ℕ → Option ℕ
+unless_zero n = if nat_le 1 n then Some n else None
+
+-- one that isn't 0
+abbrev pub some_number : Field → Data → Option ℕ
+some_number field d = any_number field d >>= unless_zero
+
+-- a height and a width of 32 bits
+abbrev pub size_said : Data → Option Size
+size_said d = do
+  _ ← object_of 2 d
+  width ← at_key (codes "width") (number_to most_number) d
+  height ← at_key (codes "height") (number_to most_number) d
+  Some (record { width = width; height = height })
+
+abbrev pub any_size : Field → Data → Option Size
+any_size field d = at_key (field_name field) size_said d
+
+abbrev pub unless_flat : Size → Option Size
+unless_flat size = if nat_le 1 size.width && nat_le 1 size.height then Some size else None
+
+-- neither is 0
+abbrev pub some_size : Field → Data → Option Size
+some_size field d = any_size field d >>= unless_flat
+
+-- the product that was added to the format: where it is missing it is the greatest number
+abbrev pub product_said : Option Data → Option ℕ
+product_said None = Some (2 ^ 64 - 1)
+product_said (Some d) = number_to (2 ^ 64 - 1) d
+
+-- how many fields an object of bounds has
+abbrev pub bounds_len : Option Data → ℕ
+bounds_len None = 10
+bounds_len (Some d) = 11
+
+-- the numbers of bounds, field by field
+pub record Numbers : Type 0 where
+  pub min_size : Size
+  pub max_size : Size
+  pub size_alignment : Size
+  pub min_bytes_per_row : ℕ
+  pub max_bytes_per_row : ℕ
+  pub bytes_per_row_divisor : ℕ
+  pub start_offset_divisor : ℕ
+  pub display_rect_alignment : Size
+  pub required_min_size : Size
+  pub required_max_size : Size
+  pub max_width_times_height : ℕ
+
+abbrev pub numbers_said : Data → Option Numbers
+numbers_said d = do
+  _ ← object_of (bounds_len (get (field_name field.MaxWidthTimesHeight) d)) d
+  min_size ← some_size field.MinSize d
+  max_size ← any_size field.MaxSize d
+  size_alignment ← some_size field.SizeAlignment d
+  min_bytes_per_row ← some_number field.MinBytesPerRow d
+  max_bytes_per_row ← any_number field.MaxBytesPerRow d
+  bytes_per_row_divisor ← some_number field.BytesPerRowDivisor d
+  start_offset_divisor ← some_number field.StartOffsetDivisor d
+  display_rect_alignment ← some_size field.DisplayRectAlignment d
+  required_min_size ← any_size field.RequiredMinSize d
+  required_max_size ← any_size field.RequiredMaxSize d
+  max_width_times_height ← product_said (get (field_name field.MaxWidthTimesHeight) d)
+  Some (record {
+    min_size = min_size;
+    max_size = max_size;
+    size_alignment = size_alignment;
+    min_bytes_per_row = min_bytes_per_row;
+    max_bytes_per_row = max_bytes_per_row;
+    bytes_per_row_divisor = bytes_per_row_divisor;
+    start_offset_divisor = start_offset_divisor;
+    display_rect_alignment = display_rect_alignment;
+    required_min_size = required_min_size;
+    required_max_size = required_max_size;
+    max_width_times_height = max_width_times_height;
+  })
+
+pub some_max : (n : ℕ) → 1 ≤ max n 1
+some_max n = omega arith
+
+abbrev pub some_sides : Size → Size
+some_sides size = record { width = max size.width 1; height = max size.height 1 }
+
+-- the bounds of these numbers: those that must be 1 or more are, as they are read
+abbrev pub bounds_by : Numbers → ImageBounds
+bounds_by s = record {
+  min_size = some_sides s.min_size;
+  max_size = s.max_size;
+  size_alignment = some_sides s.size_alignment;
+  min_bytes_per_row = max s.min_bytes_per_row 1;
+  max_bytes_per_row = s.max_bytes_per_row;
+  bytes_per_row_divisor = max s.bytes_per_row_divisor 1;
+  start_offset_divisor = max s.start_offset_divisor 1;
+  display_rect_alignment = some_sides s.display_rect_alignment;
+  required_min_size = s.required_min_size;
+  required_max_size = s.required_max_size;
+  max_width_times_height = s.max_width_times_height;
+  min_width_some = some_max s.min_size.width;
+  min_height_some = some_max s.min_size.height;
+  width_alignment_some = some_max s.size_alignment.width;
+  height_alignment_some = some_max s.size_alignment.height;
+  min_row_some = some_max s.min_bytes_per_row;
+  row_divisor_some = some_max s.bytes_per_row_divisor;
+  start_divisor_some = some_max s.start_offset_divisor;
+  display_width_some = some_max s.display_rect_alignment.width;
+  display_height_some = some_max s.display_rect_alignment.height;
+}
+
+-- the numbers of bounds
+abbrev pub numbers_of : ImageBounds → Numbers
+numbers_of b = record {
+  min_size = b.min_size;
+  max_size = b.max_size;
+  size_alignment = b.size_alignment;
+  min_bytes_per_row = b.min_bytes_per_row;
+  max_bytes_per_row = b.max_bytes_per_row;
+  bytes_per_row_divisor = b.bytes_per_row_divisor;
+  start_offset_divisor = b.start_offset_divisor;
+  display_rect_alignment = b.display_rect_alignment;
+  required_min_size = b.required_min_size;
+  required_max_size = b.required_max_size;
+  max_width_times_height = b.max_width_times_height;
+}
+
+-- both sides the same
+abbrev pub square : ℕ → Size
+square n = record { width = n; height = n }
+
+-- the bounds of no entry on no image
+abbrev pub no_bounds : Numbers
+no_bounds = record {
+  min_size = square 1;
+  max_size = square most_number;
+  size_alignment = square 1;
+  min_bytes_per_row = 1;
+  max_bytes_per_row = most_number;
+  bytes_per_row_divisor = 1;
+  start_offset_divisor = 1;
+  display_rect_alignment = square 1;
+  required_min_size = square most_number;
+  required_max_size = square 0;
+  max_width_times_height = 2 ^ 64 - 1;
+}
+
+-- bounds stand exactly beside an image; without one they are those of no entry
+abbrev pub bounds_beside : Offer → Data → Option ImageBounds
+bounds_beside NoImage d = option_map (λ _. bounds_by no_bounds) (as_null d)
+bounds_beside (Image pair colour) d = option_map bounds_by (numbers_said d)
+
+-- ---- offer and place
+
+-- the platform has it
+abbrev pub offered : PlatformFacts → Offer → Option Offer
+offered platform NoImage = Some NoImage
+offered platform (Image pair colour) =
+    if has_pair platform.pairs pair && has_colour platform.colours colour then Some (Image pair colour) else None
+
+abbrev pub image_said : Data → Option Offer
+image_said d = do
+  _ ← object_of 3 d
+  colour ← named_at (codes "color_space") colour_named d
+  format ← named_at (field_name field.PixelFormat) format_named d
+  modifier ← named_at (field_name field.PixelFormatModifier) modifier_named d
+  Some (Image (record { format = format; modifier = modifier }) colour)
+
+-- null is no image
+abbrev pub offer_said : PlatformFacts → Data → Option Offer
+offer_said platform d = if is_some (as_null d) then Some NoImage else image_said d >>= offered platform
+
+-- a heap's number may be left out, and is 0 then
+abbrev pub id_said : Option Data → Option ℕ
+id_said None = Some 0
+id_said (Some d) = number_to (2 ^ 64 - 1) d
+
+abbrev pub heap_len : Option Data → ℕ
+heap_len None = 1
+heap_len (Some d) = 2
+
+-- the heap has this name
+abbrev pub is_heap : List ℕ → ℕ → HeapFacts → Bool
+is_heap heap_type id h = bytes_eq h.heap.heap_type heap_type && h.heap.id == id
+
+-- the index of the heap that is named
+abbrev pub heap_said : PlatformFacts → Data → Option ℕ
+heap_said platform d = do
+  _ ← object_of (heap_len (get (field_name field.Id) d)) d
+  heap_type ← at_key (field_name field.HeapType) as_str d
+  id ← id_said (get (field_name field.Id) d)
+  position (is_heap heap_type id) platform.heaps
+
+-- the platform has this place
+abbrev pub place_at : PlatformFacts → ℕ → CoherencyDomain → Option Place
+place_at platform heap coherency = do
+  h ← slice_get platform.heaps heap
+  if has_domain h.domains coherency then Some (record { heap = heap; coherency = coherency }) else None
+
+abbrev pub place_said : PlatformFacts → Data → Option Place
+place_said platform d = do
+  coherency ← named_at (codes "domain") domain_named d
+  heap ← at_key (codes "heap") (heap_said platform) d
+  place_at platform heap coherency
+
+-- the settings that an object says
+abbrev pub settings_said : PlatformFacts → Data → Option Settings
+settings_said platform d = do
+  _ ← object_of 6 d
+  count ← at_key (codes "count") (number_to most_number) d
+  size_bytes ← at_key (codes "size_bytes") (number_to (2 ^ 64 - 1)) d
+  place ← place_said platform d
+  offer ← at_key (codes "image") (offer_said platform) d
+  bounds ← at_key (codes "bounds") (bounds_beside offer) d
+  Some (record { offer = offer; place = place; count = count; size_bytes = size_bytes; bounds = bounds })

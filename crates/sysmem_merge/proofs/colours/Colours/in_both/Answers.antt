@@ -1,0 +1,6 @@
+use Rattle.sysmem_merge.specs.Pairs.{colour_bit}
+use Rattle.sysmem_merge.proofs.ColourBits.{bit_of_both}
+use Rattle.sysmem_merge.proofs.colours.Colours.in_both.Goals as goal
+
+pub returns : goal.returns
+returns c colour = bit_of_both c.args.self.now.bits c.args.other.now.bits (colour_bit colour)

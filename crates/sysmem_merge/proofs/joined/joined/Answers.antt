@@ -1,6 +1,0 @@
-use Rattle.sysmem_merge.proofs.Joining.{kept_together}
-use Rattle.sysmem_merge.proofs.joined.joined.Goals as goal
-
-pub returns : goal.returns
-returns c o ds es left right =
-    kept_together o ds es c.args.above.now c.args.more.now c.joined_bounds.result (c.joined_bounds.ensures o ds es left.bounds right.bounds) left right

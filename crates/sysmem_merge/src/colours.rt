@@ -1,0 +1,90 @@
+//! Sets of colour spaces, in one word each.
+
+ghost use Rattle.std.specs.Prelude.{◌≡◌, ◌&&◌, ◌||◌, ◌<◌, true, false};
+ghost use Rattle.sysmem_formats.specs.declared.colour_space.ColourSpace.{ColourSpace as Colour};
+ghost use Rattle.sysmem_image.specs.Colours.{lists, accepts};
+ghost use Rattle.sysmem_merge.specs.Pairs.{colour_bit, has};
+
+use sysmem_formats::ColourSpace;
+use sysmem_image::ColourSet;
+
+/// Some of the eight colour spaces.
+#[derive(Clone, Copy, Debug, PartialEq, Eq)]
+pub(crate) struct Colours {
+    bits: u32,
+}
+
+impl Colours {
+    /// All of them.
+    pub(crate) fn all() -> Colours
+        ensures { (c : Colour) → has result c ≡ true }
+    {
+        Colours { bits: 255 }
+    }
+
+    /// None of them.
+    pub(crate) fn none() -> Colours
+        ensures { (c : Colour) → has result c ≡ false }
+    {
+        Colours { bits: 0 }
+    }
+
+    /// Those that an entry lists themselves.
+    pub(crate) fn listed(set: &ColourSet) -> Colours
+        ensures { (c : Colour) → has result c ≡ lists set.now c }
+    {
+        let bits = u32::from(set.lists(ColourSpace::Srgb))
+            + 2 * u32::from(set.lists(ColourSpace::Rec601Ntsc))
+            + 4 * u32::from(set.lists(ColourSpace::Rec601NtscFullRange))
+            + 8 * u32::from(set.lists(ColourSpace::Rec601Pal))
+            + 16 * u32::from(set.lists(ColourSpace::Rec601PalFullRange))
+            + 32 * u32::from(set.lists(ColourSpace::Rec709))
+            + 64 * u32::from(set.lists(ColourSpace::Rec2020))
+            + 128 * u32::from(set.lists(ColourSpace::Rec2100));
+        Colours { bits }
+    }
+
+    /// Those that an entry takes: all, where it lists `DO_NOT_CARE`.
+    pub(crate) fn taken(set: &ColourSet) -> Colours
+        ensures { (c : Colour) → has result c ≡ accepts set.now c }
+    {
+        if set.lists_any() {
+            Colours::all()
+        } else {
+            Colours::listed(set)
+        }
+    }
+
+    /// Whether the colour space is one of them.
+    pub(crate) fn has(&self, colour: ColourSpace) -> bool
+        ensures { result ≡ has self.now colour }
+    {
+        (self.bits >> bit_of(colour)) & 1 == 1
+    }
+
+    /// Those that are in both sets.
+    pub(crate) fn in_both(&self, other: &Colours) -> Colours
+        ensures { (c : Colour) → has result c ≡ (has self.now c && has other.now c) }
+    {
+        Colours {
+            bits: self.bits & other.bits,
+        }
+    }
+
+    /// Those that are in either set.
+    pub(crate) fn in_either(&self, other: &Colours) -> Colours
+        ensures { (c : Colour) → has result c ≡ (has self.now c || has other.now c) }
+    {
+        Colours {
+            bits: self.bits | other.bits,
+        }
+    }
+}
+
+/// The colour space's bit, 0 to 7.
+fn bit_of(colour: ColourSpace) -> u32
+    ensures is { result ≡ colour_bit colour }
+    ensures below { result < 8 }
+{
+    colour as u32
+}

@@ -1,0 +1,8 @@
+-- Those so far whom the line names.
+use Rattle.std.proofs.Common.{◌≡◌, map, take}
+use Rattle.sysmem_proof.specs.Members.{members_at}
+use Rattle.sysmem_proof.specs.Whom.{named}
+use Rattle.sysmem_proof.proofs.whom.line_of.Given as goal
+
+abbrev pub invariant-loop-node : goal.invariant-loop-node
+invariant-loop-node l = l.paths.items ≡ map (λ m. m.path) (named l.whom (members_at l.tree.nodes (take l.node-index l.nodes)))

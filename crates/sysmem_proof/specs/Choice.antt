@@ -1,0 +1,27 @@
+-- What is tested of a choice behind its form.
+use Rattle.std.specs.Prelude.{ℕ, List, Option}
+use Rattle.sysmem_merge.specs.declared.settings.Settings.{Settings}
+use Rattle.sysmem_sanitise.specs.Platform.{PlatformFacts}
+use Rattle.sysmem_tree.specs.Forest.{Forest}
+use Rattle.sysmem_tree.specs.Shape.{Member}
+use Rattle.sysmem_proof.specs.declared.no.No.TheVariants.{WrongShape}
+use Rattle.sysmem_proof.specs.Base.{Terms}
+use Rattle.sysmem_proof.specs.Certificate.{IsCertificate, RefutesEarlier}
+use Rattle.sysmem_proof.specs.CertificateFacts.{CertificateFacts}
+use Rattle.sysmem_proof.specs.Check.{IsFit}
+use Rattle.sysmem_proof.specs.Conflict.{IsConflictFor}
+use Rattle.sysmem_proof.specs.Fault.{AreFew, EarlierFaults, Fails, Faults, First, HasFittingLines, IsSelected, LinesFaults, MembersFault, SettingsFaults}
+
+-- its form
+abbrev pub FormFaults : Option Terms → Forest Member → List ℕ → CertificateFacts → Faults
+FormFaults terms d selection certificate = First (AreFew d) (Fails (AreFew d) WrongShape)
+    (First (IsSelected d selection) (Fails (IsSelected d selection) WrongShape) (Fails (HasFittingLines terms certificate) WrongShape))
+
+-- its settings are the least for its members, and its certificate is one
+abbrev pub SelectedPasses : PlatformFacts → Option Terms → Forest Member → List ℕ → Settings → CertificateFacts → Type 0
+SelectedPasses platform terms d selection s certificate = IsFit platform terms d selection s × IsCertificate platform terms d selection s certificate
+
+abbrev pub SelectedFaults : PlatformFacts → Option Terms → Forest Member → List ℕ → Settings → CertificateFacts → Faults
+SelectedFaults platform terms d selection s certificate = MembersFault d selection (λ ms. SettingsFaults platform terms ms s
+    (First (RefutesEarlier (IsConflictFor platform terms) d selection certificate.earlier) (EarlierFaults platform terms d selection certificate.earlier)
+    (LinesFaults platform terms ms s certificate)))

@@ -1,0 +1,238 @@
+//! Lines that refuse the offers of a platform, or its places, one after another.
+
+ghost use Rattle.std.specs.Prelude.{◌≡◌, ◌⊎◌, ◌+◌, true, List, ◌∷◌, All, Some, IfOk, IfSome, IfNone, filter, option_map, slice_get};
+ghost use Rattle.sysmem_formats.specs.declared.offer.Offer.{Offer as Offered};
+ghost use Rattle.sysmem_memory.specs.Domain.{has_domain};
+ghost use Rattle.sysmem_memory.specs.Heap.{HeapFacts};
+ghost use Rattle.sysmem_memory.specs.Listed.{HeapPlace, places_from, places_of, put_if};
+ghost use Rattle.sysmem_merge.specs.Demands.{offer_demands};
+ghost use Rattle.sysmem_merge.specs.OfferRead.{IsRefusingLine};
+ghost use Rattle.sysmem_merge.specs.Reasons.{IsOfferLine, IsUnnamedLine};
+ghost use Rattle.sysmem_proof.specs.Conflict.{RefusesOffer, RefusesPlace};
+ghost use Rattle.sysmem_proof.specs.Members.{members_at};
+ghost use Rattle.sysmem_proof.specs.Refusals.{AreRefusals, AreSoFar, Ends, GoOn, ShareOffer, SharePlace, StandFor};
+ghost use Rattle.sysmem_proof.specs.Whom.{names};
+ghost use Rattle.sysmem_sanitise.specs.Participant.{Participant};
+ghost use Rattle.sysmem_sanitise.specs.Platform.{offers_of};
+ghost use Rattle.sysmem_tree.specs.Nodes.{HasNode};
+ghost use Rattle.sysmem_tree.specs.Shape.{Member};
+
+use crate::first_refusing::{Reading, first_refused, read_offer};
+use crate::line::{Line, Lines};
+use crate::whom::{Whom, line_of};
+use std::alloc::{AllocError, Global};
+use sysmem_counts::Field;
+use sysmem_formats::{Offer, offer_at};
+use sysmem_memory::{CoherencyDomain, HeapInfo, Place};
+use sysmem_sanitise::Platform;
+use sysmem_tree::{NodeId, Tree};
+
+/// Lines for the first of a platform's offers, or of its places, which refuse them.
+#[derive(Debug, Drop)]
+pub(crate) enum Refusals {
+    /// A line for each.
+    Whole(Lines),
+    /// A line for each before one.
+    UpTo(Lines),
+}
+
+impl Refusals {
+    /// The lines.
+    pub(crate) fn into_lines(self) -> Lines
+        ensures { (self ≡ Refusals.Whole result) ⊎ (self ≡ Refusals.UpTo result) }
+    {
+        match self {
+            Refusals::Whole(lines) | Refusals::UpTo(lines) => lines,
+        }
+    }
+}
+
+/// Whom the line of this field names, of participants of whom it is true for the offer.
+fn whom_for(field: Field, offer: &Offer) -> Whom
+    ensures { (whole : _) (ps : List Participant)
+        → IsRefusingLine whole offer.now (offer_demands ps) field
+        → IsOfferLine field offer.now (offer_demands (filter (names result) ps))
+        ⊎ ((whole ≡ true) × IsUnnamedLine field offer.now (offer_demands ps)) }
+{
+    match field {
+        Field::UnnamedPixelFormat | Field::UnnamedPixelFormatModifier | Field::UnnamedColorSpace =>
+            Whom::Nobody,
+        Field::PixelFormat | Field::ColorSpaces | Field::MaxSizeBytes => Whom::All,
+        _ => Whom::WithEntry(*offer),
+    }
+}
+
+/// The first line of the table that is true for the offer of the participants at these nodes, `None` where they share it.
+fn offer_line(
+    alloc: Global,
+    tree: &Tree,
+    nodes: &[NodeId],
+    offer: &Offer,
+    whole: bool,
+) -> Result<Option<Line>, AllocError>
+    requires { All (HasNode tree.now.nodes) nodes.now }
+    ensures line { (ms : List Member) → StandFor (members_at tree.now.nodes nodes.now) ms
+        → IfOk result (λ line. IfSome line (RefusesOffer whole ms offer.now)) }
+    ensures share { (ms : List Member) → StandFor (members_at tree.now.nodes nodes.now) ms
+        → IfOk result (λ line. IfNone line (ShareOffer whole ms offer.now)) }
+{
+    match read_offer(tree, nodes, offer) {
+        Reading::Refused(field, node) => {
+            let line = line_of(alloc, tree, &[node], field, Whom::All)?;
+            Ok(Some(line))
+        }
+        Reading::Read(read) => {
+            let Some(field) = read.first_line(whole) else {
+                return Ok(None);
+            };
+            let line = line_of(alloc, tree, nodes, field, whom_for(field, offer))?;
+            Ok(Some(line))
+        }
+    }
+}
+
+/// Lines that refuse each offer of the platform to the participants at these nodes, or each before the first that they share; where it
+/// is given, at most those before `until`. `whole` says that they are all that a decision has.
+pub(crate) fn refused_offers(
+    alloc: Global,
+    platform: &Platform,
+    tree: &Tree,
+    nodes: &[NodeId],
+    whole: bool,
+    until: Option<Offer>,
+) -> Result<Refusals, AllocError>
+    requires { All (HasNode tree.now.nodes) nodes.now }
+    ensures { (ms : List Member) → StandFor (members_at tree.now.nodes nodes.now) ms
+        → IfOk result (AreRefusals (RefusesOffer whole ms)
+        (Ends until (λ (o : Offered). o) (ShareOffer whole ms)) (offers_of platform.now)) }
+{
+    let mut lines = Vec::new(alloc);
+    while let Some(offer) = offer_at(platform.pairs(), platform.colours(), lines.len()) {
+        if until == Some(offer) {
+            return Ok(Refusals::UpTo(Lines::new(lines)));
+        }
+        let Some(line) = offer_line(alloc, tree, nodes, &offer, whole)? else {
+            return Ok(Refusals::UpTo(Lines::new(lines)));
+        };
+        lines.push(line)?;
+    }
+    Ok(Refusals::Whole(Lines::new(lines)))
+}
+
+/// The line of the first of the participants at these nodes to whom the place is refused, `None` where they share it or it is `until`.
+fn place_line(
+    alloc: Global,
+    tree: &Tree,
+    nodes: &[NodeId],
+    place: Place,
+    heap: &HeapInfo,
+    until: Option<Place>,
+) -> Result<Option<Line>, AllocError>
+    requires { All (HasNode tree.now.nodes) nodes.now }
+    ensures line { (ms : List Member) → StandFor (members_at tree.now.nodes nodes.now) ms
+        → IfOk result (λ line. IfSome line
+        (RefusesPlace ms (record { place = place; heap = heap.now }))) }
+    ensures end { (ms : List Member) → StandFor (members_at tree.now.nodes nodes.now) ms
+        → IfOk result (λ line. IfNone line (Ends until (λ (p : HeapPlace). p.place) (SharePlace ms)
+        (record { place = place; heap = heap.now }))) }
+{
+    if until == Some(place) {
+        return Ok(None);
+    }
+    let Some(first) = first_refused(tree, nodes, heap, place.coherency) else {
+        return Ok(None);
+    };
+    let line = line_of(alloc, tree, &[first.node], first.field, Whom::All)?;
+    Ok(Some(line))
+}
+
+/// Puts the line for a place behind the lines so far, if the heap has it; false where they end at it.
+fn push_place(
+    alloc: Global,
+    tree: &Tree,
+    nodes: &[NodeId],
+    place: Place,
+    heap: &HeapInfo,
+    until: Option<Place>,
+    lines: &mut Vec<Line>,
+) -> Result<bool, AllocError>
+    requires { All (HasNode tree.now.nodes) nodes.now }
+    ensures { (ms : List Member) → StandFor (members_at tree.now.nodes nodes.now) ms
+        → (xs left : List HeapPlace) → AreSoFar (RefusesPlace ms) xs lines.old.items
+        (put_if (has_domain heap.now.domains place.coherency)
+        (record { place = place; heap = heap.now }) left)
+        → IfOk result (GoOn (RefusesPlace ms)
+        (Ends until (λ (p : HeapPlace). p.place) (SharePlace ms)) xs lines.new.items left) }
+{
+    if !heap.domains.has(place.coherency) {
+        return Ok(true);
+    }
+    let Some(line) = place_line(alloc, tree, nodes, place, heap, until)? else {
+        return Ok(false);
+    };
+    lines.push(line)?;
+    Ok(true)
+}
+
+/// Puts the lines for the places of a heap behind the lines so far; false where they end at one of them.
+fn push_heap(
+    alloc: Global,
+    tree: &Tree,
+    nodes: &[NodeId],
+    index: usize,
+    heap: &HeapInfo,
+    until: Option<Place>,
+    lines: &mut Vec<Line>,
+) -> Result<bool, AllocError>
+    requires { All (HasNode tree.now.nodes) nodes.now }
+    ensures { (ms : List Member) → StandFor (members_at tree.now.nodes nodes.now) ms
+        → (xs : List HeapPlace) (heaps : List HeapFacts) → AreSoFar (RefusesPlace ms) xs lines.old.items
+        (places_from index (heap.now ∷ heaps))
+        → IfOk result (GoOn (RefusesPlace ms)
+        (Ends until (λ (p : HeapPlace). p.place) (SharePlace ms)) xs lines.new.items
+        (places_from (index + 1) heaps)) }
+{
+    let cpu = Place {
+        heap: index,
+        coherency: CoherencyDomain::Cpu,
+    };
+    if !push_place(alloc, tree, nodes, cpu, heap, until, lines)? {
+        return Ok(false);
+    }
+    let ram = Place {
+        heap: index,
+        coherency: CoherencyDomain::Ram,
+    };
+    if !push_place(alloc, tree, nodes, ram, heap, until, lines)? {
+        return Ok(false);
+    }
+    let inaccessible = Place {
+        heap: index,
+        coherency: CoherencyDomain::Inaccessible,
+    };
+    push_place(alloc, tree, nodes, inaccessible, heap, until, lines)
+}
+
+/// Lines that refuse each place of the platform to the participants at these nodes, or each before the first that they share; where it
+/// is given, at most those before `until`.
+pub(crate) fn refused_places(
+    alloc: Global,
+    platform: &Platform,
+    tree: &Tree,
+    nodes: &[NodeId],
+    until: Option<Place>,
+) -> Result<Refusals, AllocError>
+    requires { All (HasNode tree.now.nodes) nodes.now }
+    ensures { (ms : List Member) → StandFor (members_at tree.now.nodes nodes.now) ms
+        → IfOk result (AreRefusals (RefusesPlace ms)
+        (Ends until (λ (p : HeapPlace). p.place) (SharePlace ms))
+        (places_of platform.now.heaps)) }
+{
+    let mut lines = Vec::new(alloc);
+    for (index, heap) in platform.heaps().iter().enumerate() {
+        if !push_heap(alloc, tree, nodes, index, heap, until, &mut lines)? {
+            return Ok(Refusals::UpTo(Lines::new(lines)));
+        }
+    }
+    Ok(Refusals::Whole(Lines::new(lines)))
+}

@@ -1,0 +1,47 @@
+-- What a search keeps at no choice.
+use Rattle.std.proofs.Common.{arith, ◌≡◌, ◌≤◌, ℕ, zero, suc, List, [], ◌∷◌, Some, length, slice_get, take, subst}
+use Rattle.std.specs.Prelude.{IsSomeAnd}
+use Rattle.std.proofs.lemmas.Option.{slice_get_within, same_Some}
+use Rattle.sysmem_proof.specs.Members.{participants}
+use Rattle.sysmem_search.specs.declared.levels.Level.{Level}
+use Rattle.sysmem_search.specs.Kept.{IsKept}
+use Rattle.sysmem_search.specs.Question.{Matter}
+use Rattle.sysmem_search.specs.Standing.{AreLevels, AreMade, IsLevel}
+use Rattle.sysmem_tree.specs.declared.layout.Layout.{Layout}
+use Rattle.sysmem_tree.specs.Forest.{settled}
+use Rattle.sysmem_search.proofs.question.Question.new.Goals as goal
+
+module _ (m : Matter) (layout : Layout) (first : Level) (is : IsLevel m layout [] first) where
+  only : (k : ℕ) (level : Level) → slice_get (first ∷ []) k ≡ Some level → first ≡ level
+  only zero level here = same_Some first level here
+  only (suc k) level here = absurd (omega (arith, slice_get_within (first ∷ []) (suc k) level here))
+
+  -- one level stands for some participants
+  one_made : (levels : List Level) → levels ≡ first ∷ [] → AreMade m.platform m.nodes m.base levels
+  one_made levels same k level here = (
+    participants (settled is.left),
+    subst (λ (l : Level). IsKept m.platform m.nodes m.base l.kept (participants (settled is.left)))
+        (only k level (subst (λ (ls : List Level). slice_get ls k ≡ Some level) same here)) is.kept,
+  )
+
+  front : (k : ℕ) → k ≤ 0 → IsSomeAnd (slice_get (first ∷ []) k) (IsLevel m layout (take k []))
+  front zero small = is
+  front (suc k) small = absurd (omega (arith, small))
+
+  -- and is that of no choice
+  one_front : (levels : List Level) (cs : List ℕ) → levels ≡ first ∷ [] → cs ≡ [] → AreLevels m layout cs levels
+  one_front levels cs same none = rw (same, none) front
+
+pub invariant_of-result : goal.invariant_of-result
+invariant_of-result c = (
+  c.requires.domain,
+  c.nodes.ensures.sound,
+  record {
+    given = c.requires.base;
+    laid = record { lays = c.layout-layout.ensures.lays; nodes = c.layout-layout.ensures.nodes };
+    places = c.in_ok-parts.ensures.many;
+    shares = λ at part here. absurd (c.in_ok-parts.ensures.none at part here);
+    made = one_made _ c.layout-layout.result c.in_ok-first.first c.in_ok-first.ensures c.in_ok-levels.levels.items c.in_ok-levels.ensures.items;
+    fronts = one_front _ c.layout-layout.result c.in_ok-first.first c.in_ok-first.ensures c.in_ok-levels.levels.items _ c.in_ok-levels.ensures.items c.new.ensures;
+  },
+)
