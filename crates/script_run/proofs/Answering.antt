@@ -1,6 +1,5 @@
 -- How a reply answers a call, from what the runner's functions say.
-use Rattle.std.proofs.Common.{◌≡◌, ℕ, ◌+◌, ◌++◌, ◌||◌, List, [], ◌∷◌, Bool, true, false, Option, Some, None, Result, Ok, Err, slice_get, refl, sym, ◌∙◌, ap, subst, append_assoc}
-use Rattle.std.specs.Prelude.{IfSome}
+use Rattle.std.proofs.Common.{◌≡◌, ℕ, ◌+◌, ◌++◌, ◌||◌, List, [], ◌∷◌, Bool, true, false, Option, Some, None, Ok, Err, refl, ◌∙◌, ap, subst, append_assoc}
 use Rattle.serde_json.specs.Data.{Data}
 use Rattle.sysmem_alloc.specs.Book.{BookFacts, entered}
 use Rattle.sysmem_alloc.specs.Entry.{Acted}
@@ -16,7 +15,6 @@ use Rattle.sysmem_tree.specs.declared.refusal.Refusal.{Refusal}
 use Rattle.sysmem_tree.specs.declared.refusal.Refusal.TheVariants as refusals
 use Rattle.sysmem_tree.specs.ActionKind.{Deed}
 use Rattle.sysmem_tree.specs.ActionKind as deeds
-use Rattle.sysmem_tree.specs.Domain.{TreeFacts}
 use Rattle.sysmem_tree.specs.Tree.{applied}
 use Rattle.script_reading.specs.Call.{ActFacts, states}
 use Rattle.script_reading.specs.Script.{CallFacts}
@@ -25,7 +23,7 @@ use Rattle.script_run.specs.declared.reply.Reply.TheVariants.{Accepted, Refused,
 use Rattle.script_run.specs.Answer.{Asks, to_set, Replies, skips, misreads, starves, lacks, refuses, accepts, is_want}
 use Rattle.script_run.specs.Lines.{call_line}
 use Rattle.script_run.specs.Report.{Gave, GoesIn, RepliesIn, calls, call_lines, failed_lines}
-use Rattle.script_run.specs.State.{State, tree_of, acted, named, node_named, unmade}
+use Rattle.script_run.specs.State.{State, tree_of, named, node_named, unmade}
 use Rattle.script_run.proofs.Following.{replies_platform, state_at}
 
 pub skipped_as : (s t : State) (r : CallFacts) → node_named s r ≡ None → t ≡ unmade s r.act → Replies s r Skipped t

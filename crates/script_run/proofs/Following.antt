@@ -1,5 +1,5 @@
 -- What follows a reply: decisions, one after the other, and what they and the call made fail.
-use Rattle.std.proofs.Common.{◌≡◌, ◌≤◌, ℕ, suc, ◌+◌, ◌++◌, ◌||◌, Bool, true, false, not, List, [], ◌∷◌, length, length-append, Option, Some, None, Result, Ok, Err, get_or, refl, sym, ◌∙◌, ap, subst, arith, append-nil, append_assoc}
+use Rattle.std.proofs.Common.{◌≡◌, ◌≤◌, ℕ, suc, ◌+◌, ◌++◌, ◌||◌, Bool, true, false, not, List, [], ◌∷◌, length, length-append, Option, Some, None, get_or, refl, sym, ◌∙◌, ap, subst, arith, append-nil, append_assoc}
 use Rattle.std.specs.Prelude.{is_none, option_map}
 use Rattle.sysmem_alloc.specs.Book.{BookFacts, IsBook, entered}
 use Rattle.sysmem_alloc.specs.Decision.{Claimed, Decision, answer_of, choices_of}

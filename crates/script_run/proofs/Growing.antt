@@ -1,5 +1,5 @@
 -- Actions and decisions leave the nodes that were there, and the domains in their order.
-use Rattle.std.proofs.Common.{◌≡◌, ◌≤◌, ◌<◌, ◌⊎◌, inl, inr, ℕ, zero, suc, ◌+◌, ◌==◌, ◌&&◌, ◌||◌, not, Bool, true, false, List, [], ◌∷◌, ◌++◌, length, Option, Some, None, Result, Ok, Err, slice_get, slice_set, refl, sym, ◌∙◌, ap, subst, arith, length-append}
+use Rattle.std.proofs.Common.{◌≡◌, ◌≤◌, ◌<◌, ◌⊎◌, inl, inr, ℕ, zero, suc, ◌+◌, List, [], ◌∷◌, ◌++◌, length, Option, Some, None, Result, Ok, Err, slice_get, slice_set, refl, sym, ap, subst, arith, length-append}
 use Rattle.std.specs.Prelude.{IfOk, IfSome, OnErr, is_some, unwrap_or, if◌then◌else◌}
 use Rattle.std.proofs.lemmas.List.{length-set}
 use Rattle.std.proofs.lemmas.Option.{same_Some, slice_get_within}
@@ -16,7 +16,7 @@ use Rattle.sysmem_tree.specs.Node.{NodeFacts}
 use Rattle.sysmem_tree.specs.Nodes.{HasNode}
 use Rattle.sysmem_tree.specs.Shape.{members_of}
 use Rattle.sysmem_tree.specs.Table.{makes}
-use Rattle.sysmem_tree.specs.Tree.{Applied, applied, decided, left_out_but, new_node, node_after, nodes_made, number_after}
+use Rattle.sysmem_tree.specs.Tree.{Applied, applied, decided, left_out_but, new_node, node_after, nodes_made}
 use Rattle.script_run.specs.State.{AreThere}
 
 -- an accepted action leaves as many nodes or one more, and what it made or acted on is one of them

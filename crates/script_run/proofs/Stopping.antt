@@ -1,5 +1,5 @@
 -- Where decisions stop.
-use Rattle.std.proofs.Common.{◌≡◌, ℕ, ◌+◌, ◌++◌, List, [], ◌∷◌, length, Some, None, Result, Ok, Err, false, refl, sym, ◌∙◌, ap, subst, append-nil, append_assoc}
+use Rattle.std.proofs.Common.{◌≡◌, ℕ, ◌+◌, ◌++◌, List, [], ◌∷◌, length, Some, None, Result, Err, refl, sym, ◌∙◌, ap, subst, append-nil, append_assoc}
 use Rattle.std.specs.Prelude.{IfErr}
 use Rattle.sysmem_alloc.specs.State.{next_ready}
 use Rattle.sysmem_sanitise.specs.Platform.{PlatformFacts}

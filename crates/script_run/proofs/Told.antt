@@ -1,5 +1,5 @@
 -- The line of a decision.
-use Rattle.std.proofs.Common.{◌≡◌, ℕ, ◌++◌, List, Bool, false, Option, Some, None, Result, Ok, Err, get_or, refl, sym, ◌∙◌, ap, subst}
+use Rattle.std.proofs.Common.{◌≡◌, ℕ, ◌++◌, List, Bool, false, Option, Some, None, Result, Ok, Err, get_or, sym, ◌∙◌, ap, subst}
 use Rattle.std.specs.Prelude.{IfSome, OnOk, option_map}
 use Rattle.sysmem_alloc.specs.Book.{BookFacts, IsBook}
 use Rattle.sysmem_alloc.specs.Laws.{LegalIsSound}

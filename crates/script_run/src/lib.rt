@@ -8,6 +8,7 @@
 #![tactic(auto)]
 
 mod certifying;
+mod check_file;
 mod decider;
 mod deciding;
 mod domain_line;
@@ -22,5 +23,6 @@ mod running;
 mod searching;
 mod telling;
 
+pub use check_file::check_file;
 pub use fault::RunFault;
 pub use running::{Ended, run, run_with_proof};

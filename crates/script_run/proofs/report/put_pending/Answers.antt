@@ -1,5 +1,5 @@
 -- One domain after the other.
-use Rattle.std.proofs.Common.{◌<◌, ◌≤◌, ◌≡◌, ◌++◌, ℕ, Some, None, codes, length, refl, sym, ◌∙◌, ap, arith}
+use Rattle.std.proofs.Common.{◌<◌, ◌≤◌, ◌≡◌, ◌++◌, ℕ, codes, length, sym, ◌∙◌, ap, arith}
 use Rattle.std.specs.Prelude.{is_none}
 use Rattle.std.specs.String.{string_bytes}
 use Rattle.sysmem_alloc.specs.Sound.{roots_of}

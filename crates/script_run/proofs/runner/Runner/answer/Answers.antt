@@ -1,4 +1,4 @@
-use Rattle.std.proofs.Common.{refl, sym, ◌∙◌}
+use Rattle.std.proofs.Common.{sym}
 use Rattle.script_run.specs.Answer.{to_duplicate, to_create_group, to_bind, to_create_child, to_complete, to_attach_token, to_release, to_close, to_check, to_wait, tells}
 use Rattle.script_run.proofs.Answering.{skipped_as}
 use Rattle.script_run.proofs.runner.Runner.answer.Goals as goal

@@ -2,7 +2,7 @@ use Rattle.std.proofs.Common.{sym, ◌∙◌, ap}
 use Rattle.std.specs.Arc.{arc_value}
 use Rattle.std.specs.Prelude.{is_some, length, option_map}
 use Rattle.sysmem_alloc.specs.Book.{BookFacts}
-use Rattle.sysmem_alloc.specs.Decision.{Claimed, answer_of}
+use Rattle.sysmem_alloc.specs.Decision.{Claimed}
 use Rattle.script_run.specs.Runner.{state_of}
 use Rattle.script_run.proofs.Following.{entered_as, none_mapped, one_longer, turned}
 use Rattle.script_run.proofs.Growing.{decided_there}
