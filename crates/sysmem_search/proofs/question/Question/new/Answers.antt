@@ -4,7 +4,7 @@ use Rattle.std.specs.Prelude.{IsSomeAnd}
 use Rattle.std.proofs.lemmas.Option.{slice_get_within, same_Some}
 use Rattle.sysmem_proof.specs.Members.{participants}
 use Rattle.sysmem_search.specs.declared.levels.Level.{Level}
-use Rattle.sysmem_search.specs.Kept.{IsKept}
+use Rattle.sysmem_search.specs.Kept.{IsKeptOf}
 use Rattle.sysmem_search.specs.Question.{Matter}
 use Rattle.sysmem_search.specs.Standing.{AreLevels, AreMade, IsLevel}
 use Rattle.sysmem_tree.specs.declared.layout.Layout.{Layout}
@@ -20,7 +20,7 @@ module _ (m : Matter) (layout : Layout) (first : Level) (is : IsLevel m layout [
   one_made : (levels : List Level) → levels ≡ first ∷ [] → AreMade m.platform m.nodes m.base levels
   one_made levels same k level here = (
     participants (settled is.left),
-    subst (λ (l : Level). IsKept m.platform m.nodes m.base l.kept (participants (settled is.left)))
+    subst (λ (l : Level). IsKeptOf m.platform m.nodes m.base l.kept (participants (settled is.left)))
         (only k level (subst (λ (ls : List Level). slice_get ls k ≡ Some level) same here)) is.kept,
   )
 
