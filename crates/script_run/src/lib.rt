@@ -8,7 +8,6 @@
 #![tactic(auto)]
 
 mod certifying;
-mod check_file;
 mod decider;
 mod deciding;
 mod domain_line;
@@ -23,6 +22,5 @@ mod running;
 mod searching;
 mod telling;
 
-pub use check_file::check_file;
 pub use fault::RunFault;
 pub use running::{Ended, run, run_with_proof};

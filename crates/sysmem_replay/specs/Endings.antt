@@ -3,7 +3,7 @@ use Rattle.std.specs.Prelude.{ℕ, Option, Some, None, Result, Ok, Err}
 use Rattle.clap.specs.declared.error.kind.ErrorKind.{ErrorKind}
 use Rattle.clap.specs.declared.error.kind.ErrorKind.TheVariants.{DisplayHelp, DisplayVersion, OutOfMemory}
 use Rattle.script_run.specs.declared.fault.RunFault.{RunFault}
-use Rattle.script_run.specs.declared.fault.RunFault.TheVariants.{Read, Write, NoMemory, Script, Proof}
+use Rattle.script_run.specs.declared.fault.RunFault.TheVariants.{Read, Write, NoMemory, Script}
 use Rattle.script_run.specs.declared.running.Ended.{Ended}
 use Rattle.script_run.specs.declared.running.Ended.TheVariants.{Done, MemoryRefused, CheckedNo}
 
@@ -13,7 +13,6 @@ run_code (Ok Done) = 0
 run_code (Err Read) = 1
 run_code (Err Write) = 1
 run_code (Err (Script fault)) = 3
-run_code (Err Proof) = 3
 run_code (Ok MemoryRefused) = 4
 run_code (Err NoMemory) = 4
 run_code (Ok CheckedNo) = 6
