@@ -15,8 +15,8 @@ use Rattle.sysmem_sanitise.specs.Platform.{PlatformFacts}
 use Rattle.sysmem_search.specs.declared.kept.Part.{Part}
 use Rattle.sysmem_search.specs.declared.levels.Level.{Level}
 use Rattle.sysmem_search.specs.Kept.{IsKeptOf, IsPart, HaveRoom}
-use Rattle.sysmem_search.specs.Question.{Matter, HasBase, forest, node_asks, nodes_ask}
-use Rattle.sysmem_search.specs.Standing.{LaysOut, IsLevel, AreLevels, AreMade, AreParts, Keeps, numbers}
+use Rattle.sysmem_search.specs.Question.{Matter, forest, node_asks, nodes_ask}
+use Rattle.sysmem_search.specs.Standing.{IsLevel, AreLevels, AreMade, AreParts, IsSlot, Keeps, numbers}
 use Rattle.sysmem_search.proofs.Keeping.{kept_in_order, have_room}
 use Rattle.sysmem_search.proofs.Orders.{taken_in_order}
 use Rattle.sysmem_search.proofs.AskedMembers.{root_there, numbers_left, same_asked, of_some, some_of, if_some}
@@ -80,42 +80,21 @@ module _ (m : Matter) (layout : Layout) where
   kept_at cs level is d leads = subst (λ x. IsKeptOf m.platform m.nodes m.base level.kept (participants (settled x))) (same_Some is.left d (sym is.leads ∙ leads)) is.kept
 
   -- with more parts, and with more levels
-  pub more_kept : (parts parts' : List (Option Part)) (levels levels' : List Level) (items cs : List ℕ) → items ≡ cs → Keeps m layout parts levels cs → length parts' ≡ length parts
+  pub more_kept : (parts parts' : List (Option Part)) (levels levels' : List Level) (items cs : List ℕ) → items ≡ cs → Keeps m layout parts levels cs
       → AreParts m.platform m.nodes m.base layout parts' → ((k : ℕ) → k ≤ length items → slice_get levels' k ≡ slice_get levels k) → AreMade m.platform m.nodes m.base levels' → Keeps m layout parts' levels' cs
-  more_kept parts parts' levels levels' items cs at keeps long are same made = record {
+  more_kept parts parts' levels levels' items cs at keeps are same made = record {
     given = keeps.given;
     laid = keeps.laid;
-    places = long ∙ keeps.places;
     shares = are;
     made = made;
     fronts = λ k within. subst (λ o. IsSomeAnd o (IsLevel m layout (take k cs))) (sym (same k (subst (λ xs. k ≤ length xs) (sym at) within))) (keeps.fronts k within);
   }
-
-  -- before any choice
-  pub first_keeps : (parts : List (Option Part)) (level : Level) → HasBase m → LaysOut m layout → length parts ≡ 128 → ((at : ℕ) (part : Part) → slice_get parts at ≢ Some (Some part))
-      → IsLevel m layout [] level → Keeps m layout parts (level ∷ []) []
-  first_keeps parts level base lays places none first = record {
-    given = base;
-    laid = lays;
-    places = places;
-    shares = λ at part is. absurd (none at part is);
-    made = made;
-    fronts = levels;
-  } where
-    made : AreMade m.platform m.nodes m.base (level ∷ [])
-    made zero l is = (participants (settled first.left), subst (λ x. IsKeptOf m.platform m.nodes m.base x.kept (participants (settled first.left))) (same_Some level l is) first.kept)
-    made (suc k) l is = absurd (cc)
-
-    levels : AreLevels m layout [] (level ∷ [])
-    levels zero within = first
-    levels (suc k) within = absurd (omega (arith, within))
 
   -- without the last choice
   pub left_keeps : (parts : List (Option Part)) (levels : List Level) (longer cs : List ℕ) (c : ℕ) → longer ≡ cs ++ c ∷ [] → Keeps m layout parts levels longer → Keeps m layout parts levels cs
   left_keeps parts levels longer cs c is keeps = record {
     given = keeps.given;
     laid = keeps.laid;
-    places = keeps.places;
     shares = keeps.shares;
     made = keeps.made;
     fronts = λ k within. subst (λ xs. IsSomeAnd (slice_get levels k) (IsLevel m layout xs)) (ap (take k) is ∙ front_of cs c k within)
@@ -124,13 +103,12 @@ module _ (m : Matter) (layout : Layout) where
 
   -- with one choice more, below whose level nothing changed
   pub entered_keeps : (parts parts' : List (Option Part)) (levels between levels' : List Level) (cs longer : List ℕ) (c : ℕ) → longer ≡ cs ++ c ∷ [] → Keeps m layout parts levels cs
-      → length parts' ≡ length parts → AreParts m.platform m.nodes m.base layout parts' → ((k : ℕ) → k ≤ length cs → slice_get between k ≡ slice_get levels k)
+      → AreParts m.platform m.nodes m.base layout parts' → ((k : ℕ) → k ≤ length cs → slice_get between k ≡ slice_get levels k)
       → AreMade m.platform m.nodes m.base between → ((k : ℕ) → k ≢ length cs + 1 → slice_get levels' k ≡ slice_get between k)
       → IsSomeAnd (slice_get levels' (length cs + 1)) (IsLevel m layout longer) → Keeps m layout parts' levels' longer
-  entered_keeps parts parts' levels between levels' cs longer c is keeps long are kept between_made same last = record {
+  entered_keeps parts parts' levels between levels' cs longer c is keeps are kept between_made same last = record {
     given = keeps.given;
     laid = keeps.laid;
-    places = long ∙ keeps.places;
     shares = are;
     made = made;
     fronts = each;
@@ -201,37 +179,43 @@ some_weaker : {X : Type 0} (P Q : X → Type 0) (o : Option X) → ((x : X) → 
 some_weaker P Q None h p = absurd p
 some_weaker P Q (Some x) h p = h x p
 
-module _ (m : Matter) (layout : Layout) (parts parts' : List (Option Part)) (levels between levels' : List Level) (cs longer : List ℕ) (c at : ℕ) (part : Part) (next : Option ℕ) where
-  entered_at : longer ≡ cs ++ c ∷ [] → Keeps m layout parts levels cs → length parts' ≡ length parts → AreParts m.platform m.nodes m.base layout parts'
+module _ (m : Matter) (layout : Layout) (parts parts' : List (Option Part)) (levels between levels' : List Level) (cs longer : List ℕ) (c at slot : ℕ) (part : Part) (next : Option ℕ) where
+  entered_at : longer ≡ cs ++ c ∷ [] → Keeps m layout parts levels cs → AreParts m.platform m.nodes m.base layout parts'
       → ((k : ℕ) → k ≤ length cs → slice_get between k ≡ slice_get levels k) → AreMade m.platform m.nodes m.base between → length cs + 1 < length between
-      → ((k : ℕ) → k ≢ length cs + 1 → slice_get levels' k ≡ slice_get between k) → IsJoined m.platform between levels' (length cs) part next → slice_get parts' at ≡ Some (Some part)
-      → SumsInAnyOrder → ChoiceSettlesShare → IsChildPlace layout (numbers m) cs c at → (e : Forest ℕ) × (after (numbers m) cs ≡ Some e) → IsPrefix (forest m) (cs ++ c ∷ [])
+      → ((k : ℕ) → k ≢ length cs + 1 → slice_get levels' k ≡ slice_get between k) → IsJoined m.platform between levels' (length cs) part next → IsSlot at slot
+      → slice_get parts' slot ≡ Some (Some part) → SumsInAnyOrder → ChoiceSettlesShare → IsChildPlace layout (numbers m) cs c at → (e : Forest ℕ) × (after (numbers m) cs ≡ Some e) → IsPrefix (forest m) (cs ++ c ∷ [])
       → IsFirstOpen layout (numbers m) (cs ++ c ∷ []) next → Keeps m layout parts' levels' longer
-  entered_at long keeps places are kept made room others joined here sums law child numbers_here prefix open' =
+  entered_at long keeps are kept made room others joined own here sums law child numbers_here prefix open' =
       let (above, is, level) = there (IsLevel m layout cs) (slice_get levels (length cs)) (level_here m layout cs levels keeps.fronts) in
       let (old, old_is) = at_length between (length cs + 1) room in
       let (ps, old_kept) = made (length cs + 1) old old_is in
-      entered_keeps m layout parts parts' levels between levels' cs longer c long keeps places are kept made others
+      entered_keeps m layout parts parts' levels between levels' cs longer c long keeps are kept made others
       (some_weaker _ (IsLevel m layout longer) (slice_get levels' (length cs + 1))
       (λ l h. joined_level m layout cs c at above level law child numbers_here sums longer l next long prefix h open')
-      (joined m.nodes m.base (participants (settled level.left)) (nodes_ask m.nodes (share_of layout at)) above old (kept (length cs) (omega arith) ∙ is) old_is level.kept (are at part here) ps old_kept))
+      (joined m.nodes m.base (participants (settled level.left)) (nodes_ask m.nodes (share_of layout at)) above old (kept (length cs) (omega arith) ∙ is) old_is level.kept (are at slot part own here) ps old_kept))
 
   -- where a search stands after one choice more
-  pub entered : (items : List ℕ) → items ≡ cs → longer ≡ cs ++ c ∷ [] → Keeps m layout parts levels cs → length parts' ≡ length parts → AreParts m.platform m.nodes m.base layout parts'
+  pub entered : (items : List ℕ) → items ≡ cs → longer ≡ cs ++ c ∷ [] → Keeps m layout parts levels cs → AreParts m.platform m.nodes m.base layout parts'
       → ((k : ℕ) → k ≤ length items → slice_get between k ≡ slice_get levels k) → AreMade m.platform m.nodes m.base between → length items + 1 < length between
-      → ((k : ℕ) → k ≢ length items + 1 → slice_get levels' k ≡ slice_get between k) → IsJoined m.platform between levels' (length items) part next → slice_get parts' at ≡ Some (Some part)
-      → SumsInAnyOrder → ChoiceSettlesShare → IsChildPlace layout (numbers m) cs c at → (e : Forest ℕ) × (after (numbers m) cs ≡ Some e) → IsPrefix (forest m) (cs ++ c ∷ [])
+      → ((k : ℕ) → k ≢ length items + 1 → slice_get levels' k ≡ slice_get between k) → IsJoined m.platform between levels' (length items) part next → IsSlot at slot
+      → slice_get parts' slot ≡ Some (Some part) → SumsInAnyOrder → ChoiceSettlesShare → IsChildPlace layout (numbers m) cs c at → (e : Forest ℕ) × (after (numbers m) cs ≡ Some e) → IsPrefix (forest m) (cs ++ c ∷ [])
       → IsFirstOpen layout (numbers m) (cs ++ c ∷ []) next → Keeps m layout parts' levels' longer
-  entered items same long keeps places are kept made room others joined = entered_at long keeps places are
+  entered items same long keeps are kept made room others joined = entered_at long keeps are
       (subst (λ xs. (k : ℕ) → k ≤ length xs → slice_get between k ≡ slice_get levels k) same kept) made (subst (λ xs. length xs + 1 < length between) same room)
       (subst (λ xs. (k : ℕ) → k ≢ length xs + 1 → slice_get levels' k ≡ slice_get between k) same others) (subst (λ xs. IsJoined m.platform between levels' (length xs) part next) same joined)
 
--- a place for nothing more
-pub none_more : (xs : List (Option Part)) → ((at : ℕ) (part : Part) → slice_get xs at ≢ Some (Some part)) → (at : ℕ) (part : Part) → slice_get (xs ++ None ∷ []) at ≢ Some (Some part)
-none_more [] none zero part is = absurd (cc)
-none_more [] none (suc at) part is = absurd (cc)
-none_more (x ∷ xs) none zero part is = none zero part is
-none_more (x ∷ xs) none (suc at) part is = none_more xs (λ k p e. none (suc k) p e) at part is
+-- what is kept beside a slot for nothing more was kept before
+pub kept_before : (xs : List (Option Part)) (at : ℕ) (part : Part) → slice_get (xs ++ None ∷ []) at ≡ Some (Some part) → slice_get xs at ≡ Some (Some part)
+kept_before [] zero part is = absurd (cc)
+kept_before [] (suc at) part is = absurd (cc)
+kept_before (x ∷ xs) zero part is = is
+kept_before (x ∷ xs) (suc at) part is = kept_before xs at part is
+
+-- a child has one slot
+pub only_slot : (parts : List (Option Part)) (place slot own : ℕ) (kept : Option Part) → IsSlot place slot → IsSlot place own → slice_get parts own ≡ Some kept → slice_get parts slot ≡ Some kept
+only_slot parts place slot own kept one two is =
+    let same : own ≡ slot = omega (arith, one, two) in
+    subst (λ k. slice_get parts k ≡ Some kept) same is
 
 -- what is there where a test says so
 pub some_there : {X : Type 0} (o : Option X) (b : Bool) → b ≡ is_some o → b ≡ true → (x : X) × (o ≡ Some x)
@@ -239,19 +223,20 @@ some_there None b is yes' = absurd (cc)
 some_there (Some x) b is yes' = (x, refl)
 
 -- a part that is kept now, beside those of before
-pub part_kept : (platform : PlatformFacts) (nodes : List NodeFacts) (base : Option BaseFacts) (layout : Layout) (parts : List (Option Part)) (place : ℕ) (part : Part)
-    → IsPart platform base part (nodes_ask nodes (share_of layout place)) → AreParts platform nodes base layout parts → AreParts platform nodes base layout (slice_set parts place (Some part))
-part_kept platform nodes base layout parts place part is are at other there' = elim (cases_eq at place) [
-  | inl here ↦
-      let same = slice_get-set_same parts place (Some part) (Some other) (within parts place at other here there') (ap (slice_get (slice_set parts place (Some part))) (sym here) ∙ there') in
-      subst (λ k. IsPart platform base other (nodes_ask nodes (share_of layout k))) (sym here)
+pub part_kept : (platform : PlatformFacts) (nodes : List NodeFacts) (base : Option BaseFacts) (layout : Layout) (parts : List (Option Part)) (place slot : ℕ) (part : Part) → IsSlot place slot
+    → IsPart platform base part (nodes_ask nodes (share_of layout place)) → AreParts platform nodes base layout parts → AreParts platform nodes base layout (slice_set parts slot (Some part))
+part_kept platform nodes base layout parts place slot part own is are at s other here there' = elim (cases_eq s slot) [
+  | inl equal ↦
+      let same = slice_get-set_same parts slot (Some part) (Some other) (within parts slot s other equal there') (ap (slice_get (slice_set parts slot (Some part))) (sym equal) ∙ there') in
+      let places : place ≡ at = omega (arith, own, here, equal) in
+      subst (λ k. IsPart platform base other (nodes_ask nodes (share_of layout k))) places
       (subst (λ p. IsPart platform base p (nodes_ask nodes (share_of layout place))) (same_Some part other same) is)
-  | inr elsewhere ↦ are at other (slice_get-set_other parts place at (Some part) (Some other) elsewhere there')
+  | inr elsewhere ↦ are at s other here (slice_get-set_other parts slot s (Some part) (Some other) elsewhere there')
 ] where
-  within : (parts : List (Option Part)) (place at : ℕ) (other : Part) → at ≡ place → slice_get (slice_set parts place (Some part)) at ≡ Some (Some other) → place < length parts
-  within parts place at other here there' = by (slice_get_within (slice_set parts place (Some part)) at (Some other) there') where
-    by : at < length (slice_set parts place (Some part)) → place < length parts
-    by less = omega (arith, here, less, length-set parts place (Some part))
+  within : (parts : List (Option Part)) (slot s : ℕ) (other : Part) → s ≡ slot → slice_get (slice_set parts slot (Some part)) s ≡ Some (Some other) → slot < length parts
+  within parts slot s other equal there' = by (slice_get_within (slice_set parts slot (Some part)) s (Some other) there') where
+    by : s < length (slice_set parts slot (Some part)) → slot < length parts
+    by less = omega (arith, equal, less, length-set parts slot (Some part))
 
 pub part_there : (parts : List (Option Part)) (place : ℕ) (part : Part) → place < length parts → slice_get (slice_set parts place (Some part)) place ≡ Some (Some part)
 part_there [] place part less = absurd (omega (arith, less))

@@ -1,5 +1,5 @@
 -- Where a search stands, and what it keeps there.
-use Rattle.std.specs.Prelude.{◌≡◌, ◌≤◌, ℕ, List, [], Option, Some, IsSomeAnd, length, slice_get, take}
+use Rattle.std.specs.Prelude.{◌≡◌, ◌≤◌, ◌+◌, ℕ, List, [], Option, Some, IsSomeAnd, length, slice_get, take}
 use Rattle.sysmem_proof.specs.Base.{BaseFacts}
 use Rattle.sysmem_proof.specs.Members.{participants}
 use Rattle.sysmem_sanitise.specs.Participant.{Participant}
@@ -45,15 +45,19 @@ AreLevels m layout cs levels = (k : ℕ) → k ≤ length cs → IsSomeAnd (slic
 abbrev pub AreMade : PlatformFacts → List NodeFacts → Option BaseFacts → List Level → Type 0
 AreMade platform nodes base levels = (k : ℕ) (level : Level) → slice_get levels k ≡ Some level → (ps : List Participant) × IsKeptOf platform nodes base level.kept ps
 
--- what is kept at a place is of the child that stands there: of the participants that the choice of it settles
+-- what is kept of the child at a place stands in this slot: the last place has the first slot
+abbrev pub IsSlot : ℕ → ℕ → Type 0
+IsSlot place slot = slot + place ≡ 127
+
+-- what is kept in a slot is of the child whose slot it is: of the participants that the choice of it settles
 abbrev pub AreParts : PlatformFacts → List NodeFacts → Option BaseFacts → Layout → List (Option Part) → Type 0
-AreParts platform nodes base layout parts = (at : ℕ) (part : Part) → slice_get parts at ≡ Some (Some part) → IsPart platform base part (nodes_ask nodes (share_of layout at))
+AreParts platform nodes base layout parts = (place slot : ℕ) (part : Part) → IsSlot place slot → slice_get parts slot ≡ Some (Some part)
+    → IsPart platform base part (nodes_ask nodes (share_of layout place))
 
 -- what a search keeps where it stands
 pub record Keeps (m : Matter) (layout : Layout) (parts : List (Option Part)) (levels : List Level) (cs : List ℕ) : Type 0 where
   pub given : HasBase m
   pub laid : LaysOut m layout
-  pub places : length parts ≡ 128
   pub shares : AreParts m.platform m.nodes m.base layout parts
   pub made : AreMade m.platform m.nodes m.base levels
   pub fronts : AreLevels m layout cs levels

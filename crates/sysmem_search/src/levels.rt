@@ -4,7 +4,7 @@ ghost use Rattle.std.specs.Prelude.{◌≡◌, ◌≢◌, ◌<◌, ◌≤◌, �
 ghost use Rattle.sysmem_proof.specs.Base.{BaseFacts, IsGivenBase};
 ghost use Rattle.sysmem_sanitise.specs.Participant.{Participant};
 ghost use Rattle.sysmem_search.specs.Kept.{IsKeptOf, IsPart, HaveRoom};
-ghost use Rattle.sysmem_search.specs.Standing.{AreMade, AreParts, IsLevel};
+ghost use Rattle.sysmem_search.specs.Standing.{AreMade, AreParts, IsLevel, IsSlot};
 ghost use Rattle.sysmem_search.specs.declared.kept.Part.{Part as APart};
 ghost use Rattle.sysmem_search.specs.declared.levels.Level.{Level as ALevel};
 ghost use Rattle.sysmem_tree.specs.Domain.{HasDomain};
@@ -114,17 +114,25 @@ pub(crate) fn reserve_level(
     Ok(())
 }
 
-/// A place for what is kept of each child, where nothing is kept yet.
-pub(crate) fn no_parts(alloc: Global) -> Result<Vec<Option<Part>>, AllocError>
-    ensures many { IfOk result (λ parts. length parts.items ≡ 128) }
-    ensures none { IfOk result (λ parts. (at : ℕ) (part : APart)
-        → slice_get parts.items at ≢ Some (Some part)) }
+/// The slot in which what is kept of a child stands. The places of a domain are the last ones, so that those of its children need few slots.
+pub(crate) fn slot_of(child: ChildPlace) -> usize
+    requires { child < 128 }
+    ensures { IsSlot child result }
 {
-    let mut parts = Vec::new(alloc);
-    for _place in 0..MOST_NODES {
+    MOST_NODES - 1 - child.number()
+}
+
+/// Has this slot, whatever is kept there; in a new one nothing is.
+fn reserve_slot(parts: &mut Vec<Option<Part>>, slot: usize) -> Result<(), AllocError>
+    requires { slot < 128 }
+    ensures there { OnOk result (slot < length parts.new.items) }
+    ensures kept { (at : ℕ) (part : APart) → slice_get parts.new.items at ≡ Some (Some part)
+        → slice_get parts.old.items at ≡ Some (Some part) }
+{
+    for _more in parts.len()..slot + 1 {
         parts.push(None)?;
     }
-    Ok(parts)
+    Ok(())
 }
 
 /// Keeps what the choice of a child settles, if that isn't kept yet.
@@ -137,24 +145,23 @@ pub(crate) fn keep_part(
     base: Option<&Base>,
     layout: &Layout,
 ) -> Result<(), AllocError>
-    requires places { length parts.old.items ≡ 128 }
     requires within { child < 128 }
     requires child { HasChild layout.now child }
     requires few { length (share_of layout.now child) ≤ 128 }
     requires nodes { HoldsNodes layout.now tree.now.nodes }
-    ensures places { length parts.new.items ≡ length parts.old.items }
     ensures parts { AreParts platform.now tree.now.nodes (option_map (λ b. b.now) base.entry)
         layout.now parts.old.items → AreParts platform.now tree.now.nodes
         (option_map (λ b. b.now) base.entry) layout.now parts.new.items }
-    ensures there { OnOk result ((part : APart)
-        × (slice_get parts.new.items child ≡ Some (Some part))) }
+    ensures there { OnOk result ((slot : ℕ) → IsSlot child slot → (part : APart)
+        × (slice_get parts.new.items slot ≡ Some (Some part))) }
 {
-    let place = child.number();
-    if parts[place].is_some() {
+    let slot = slot_of(child);
+    reserve_slot(parts, slot)?;
+    if parts[slot].is_some() {
         return Ok(());
     }
     let walk = layout.settled_with(child);
     let part = part_of(alloc, platform, tree, base, layout, walk)?;
-    parts[place] = Some(part);
+    parts[slot] = Some(part);
     Ok(())
 }

@@ -10,7 +10,7 @@ ghost use Rattle.sysmem_tree.specs.Forest.{choices, settled};
 ghost use Rattle.sysmem_tree.specs.Selection.{IsPrefix, after};
 
 use crate::kept::Part;
-use crate::levels::{Level, first_level, join_level, keep_part, no_parts, reserve_level};
+use crate::levels::{Level, first_level, join_level, keep_part, reserve_level, slot_of};
 use std::alloc::{AllocError, Global};
 use std::marker::Model;
 use sysmem_merge::Settings;
@@ -31,7 +31,7 @@ pub(crate) struct Question<'a> {
     base: Option<&'a Base>,
     layout: Layout,
     prefix: Prefix,
-    /// By the place of the child that is chosen.
+    /// By the slot of the child that is chosen; none before the first choice.
     parts: Vec<Option<Part>>,
     /// By the number of choices.
     levels: Vec<Level>,
@@ -90,7 +90,6 @@ impl<'a> Question<'a> {
     {
         tree.nodes();
         let layout = tree.layout(domain);
-        let parts = no_parts(alloc)?;
         let first = first_level(alloc, platform, tree, domain, base, &layout)?;
         let levels = Vec::from_array(alloc, [first])?;
         Ok(Question {
@@ -101,7 +100,7 @@ impl<'a> Question<'a> {
             base,
             layout,
             prefix: Prefix::new(),
-            parts,
+            parts: Vec::new(alloc),
             levels,
         })
     }
@@ -209,7 +208,7 @@ impl<'a> Question<'a> {
             self.domain,
             self.base,
         )?;
-        let Some(part) = &self.parts[child.number()] else {
+        let Some(part) = &self.parts[slot_of(child)] else {
             return Ok(());
         };
         let next = self.layout.open_after(child);

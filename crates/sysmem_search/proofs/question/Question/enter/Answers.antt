@@ -1,5 +1,5 @@
 -- One choice more: what its child settles is kept, and the level below is joined.
-use Rattle.std.proofs.Common.{◌≡◌, ◌∷◌, ◌++◌, [], Some, is_some, slice_get, refl, sym, ◌∙◌, ap, subst}
+use Rattle.std.proofs.Common.{◌≡◌, ◌∷◌, ◌++◌, [], Some, is_some, refl, sym, ◌∙◌, ap, subst, arith}
 use Rattle.std.specs.Prelude.{option_map}
 use Rattle.std.proofs.lemmas.Option.{same_Some, none-some, slice_get_within}
 use Rattle.sysmem_search.specs.Question.{Matter, forest}
@@ -55,7 +55,7 @@ invariant_of-self c =
       c.self.invariant.0,
       c.self.invariant.1,
       more_kept m c.self.inside.layout c.self.inside.parts.items c.keep_part.new.parts.items c.self.inside.levels.items c.self.inside.levels.items c.choices-depth.result.now c.self.inside.prefix c.choices-depth.ensures
-          keeps c.keep_part.ensures.places (c.keep_part.ensures.parts keeps.shares) (λ k within. refl) keeps.made,
+          keeps (c.keep_part.ensures.parts keeps.shares) (λ k within. refl) keeps.made,
     )
 
 pub reserve_level-requires-clause-there : goal.reserve_level-requires-clause-there
@@ -70,7 +70,7 @@ invariant_of-self-in_err-reserve_level c =
       c.self.invariant.0,
       c.self.invariant.1,
       more_kept m c.self.inside.layout c.self.inside.parts.items c.keep_part.new.parts.items c.self.inside.levels.items c.reserve_level.new.levels.items c.choices-depth.result.now c.self.inside.prefix c.choices-depth.ensures
-          keeps c.keep_part.ensures.places (c.keep_part.ensures.parts keeps.shares) c.reserve_level.ensures.kept (c.reserve_level.ensures.made keeps.made),
+          keeps (c.keep_part.ensures.parts keeps.shares) c.reserve_level.ensures.kept (c.reserve_level.ensures.made keeps.made),
     )
 
 pub invariant_of-self-in_default-index : goal.invariant_of-self-in_default-index
@@ -80,15 +80,20 @@ invariant_of-self-in_default-index c =
       c.self.invariant.0,
       c.self.invariant.1,
       more_kept m c.self.inside.layout c.self.inside.parts.items c.keep_part.new.parts.items c.self.inside.levels.items c.reserve_level.new.levels.items c.choices-depth.result.now c.self.inside.prefix c.choices-depth.ensures
-          keeps c.keep_part.ensures.places (c.keep_part.ensures.parts keeps.shares) c.reserve_level.ensures.kept (c.reserve_level.ensures.made keeps.made),
+          keeps (c.keep_part.ensures.parts keeps.shares) c.reserve_level.ensures.kept (c.reserve_level.ensures.made keeps.made),
     )
+
+pub index-requires-2 : goal.index-requires-2
+index-requires-2 c =
+    let (kept, kept_is) = c.in_ok-keep_part.ensures.there c.slot_of.result c.slot_of.ensures in
+    let within = slice_get_within c.keep_part.new.parts.items c.slot_of.result (Some kept) kept_is in
+    omega (arith, within, c.keep_part.new.parts.ok)
 
 pub returns-in_default-index : goal.returns-in_default-index
 returns-in_default-index c =
-    let (kept, kept_is) = c.in_ok-keep_part.ensures.there in
-    let at = subst (λ k. slice_get c.keep_part.new.parts.items k ≡ Some (Some kept)) (sym c.number.ensures) kept_is in
-    let read = at_index c.keep_part.new.parts.items c.number.result c.index-2.result.now c.index-2.ensures (slice_get_within c.keep_part.new.parts.items c.number.result (Some kept) at) in
-    let same : Some kept ≡ c.index-2.result.now = same_Some (Some kept) c.index-2.result.now (sym at ∙ read) in
+    let (kept, kept_is) = c.in_ok-keep_part.ensures.there c.slot_of.result c.slot_of.ensures in
+    let read = at_index c.keep_part.new.parts.items c.slot_of.result c.index-2.result.now c.index-2.ensures (slice_get_within c.keep_part.new.parts.items c.slot_of.result (Some kept) kept_is) in
+    let same : Some kept ≡ c.index-2.result.now = same_Some (Some kept) c.index-2.result.now (sym kept_is ∙ read) in
     absurd (none-some kept (sym c.in_default-index.is ∙ sym same))
 
 pub open_after-next-requires : goal.open_after-next-requires
@@ -117,13 +122,12 @@ join_level-requires-clause-room c =
     let here = numbers_left m.nodes m.domain cs c.self.invariant.1.tree root (ap is_some level.leads) in
     let few = share_few c.self.inside.layout (numbers m) cs c.args.choice c.child_at-child.result c.choice_settles_share.ensures child here
     (λ xs e leads. few_settled m.nodes m.domain xs e c.self.invariant.1.tree root leads) in
-    let (kept, kept_is) = c.in_ok-keep_part.ensures.there in
-    let at = subst (λ k. slice_get c.keep_part.new.parts.items k ≡ Some (Some kept)) (sym c.number.ensures) kept_is in
-    let read = at_index c.keep_part.new.parts.items c.number.result c.index-2.result.now c.index-2.ensures (slice_get_within c.keep_part.new.parts.items c.number.result (Some kept) at) in
-    let same : Some kept ≡ c.index-2.result.now = same_Some (Some kept) c.index-2.result.now (sym at ∙ read) in
+    let (kept, kept_is) = c.in_ok-keep_part.ensures.there c.slot_of.result c.slot_of.ensures in
+    let read = at_index c.keep_part.new.parts.items c.slot_of.result c.index-2.result.now c.index-2.ensures (slice_get_within c.keep_part.new.parts.items c.slot_of.result (Some kept) kept_is) in
+    let same : Some kept ≡ c.index-2.result.now = same_Some (Some kept) c.index-2.result.now (sym kept_is ∙ read) in
     λ above above_is. room_for m c.self.inside.layout c.self.inside.parts.items c.self.inside.levels.items c.reserve_level.new.levels.items c.choices-depth.result.now cs above c.in-Some-index.part
     (share_of c.self.inside.layout c.child_at-child.result) c.choices-depth.ensures keeps c.reserve_level.ensures.kept above_is
-    (c.keep_part.ensures.parts keeps.shares c.child_at-child.result c.in-Some-index.part (kept_is ∙ ap Some (same ∙ c.in-Some-index.is))) few c.self.invariant.1.tree c.self.invariant.0
+    (c.keep_part.ensures.parts keeps.shares c.child_at-child.result c.slot_of.result c.in-Some-index.part c.slot_of.ensures (kept_is ∙ ap Some (same ∙ c.in-Some-index.is))) few c.self.invariant.1.tree c.self.invariant.0
 
 pub invariant_of-self-2 : goal.invariant_of-self-2
 invariant_of-self-2 c =
@@ -139,15 +143,14 @@ invariant_of-self-2 c =
     let here = numbers_left m.nodes m.domain cs c.self.invariant.1.tree root (ap is_some level.leads) in
     let few = share_few c.self.inside.layout (numbers m) cs c.args.choice c.child_at-child.result c.choice_settles_share.ensures child here
     (λ xs e leads. few_settled m.nodes m.domain xs e c.self.invariant.1.tree root leads) in
-    let (kept, kept_is) = c.in_ok-keep_part.ensures.there in
-    let at = subst (λ k. slice_get c.keep_part.new.parts.items k ≡ Some (Some kept)) (sym c.number.ensures) kept_is in
-    let read = at_index c.keep_part.new.parts.items c.number.result c.index-2.result.now c.index-2.ensures (slice_get_within c.keep_part.new.parts.items c.number.result (Some kept) at) in
-    let same : Some kept ≡ c.index-2.result.now = same_Some (Some kept) c.index-2.result.now (sym at ∙ read) in (
+    let (kept, kept_is) = c.in_ok-keep_part.ensures.there c.slot_of.result c.slot_of.ensures in
+    let read = at_index c.keep_part.new.parts.items c.slot_of.result c.index-2.result.now c.index-2.ensures (slice_get_within c.keep_part.new.parts.items c.slot_of.result (Some kept) kept_is) in
+    let same : Some kept ≡ c.index-2.result.now = same_Some (Some kept) c.index-2.result.now (sym kept_is ∙ read) in (
       c.self.invariant.0,
       c.self.invariant.1,
       entered m c.self.inside.layout c.self.inside.parts.items c.keep_part.new.parts.items c.self.inside.levels.items c.reserve_level.new.levels.items c.join_level.new.levels.items cs c.push.new.self
-          c.args.choice c.child_at-child.result c.in-Some-index.part c.open_after-next.result c.choices-depth.result.now c.choices-depth.ensures c.push.ensures keeps c.keep_part.ensures.places
+          c.args.choice c.child_at-child.result c.slot_of.result c.in-Some-index.part c.open_after-next.result c.choices-depth.result.now c.choices-depth.ensures c.push.ensures keeps
           (c.keep_part.ensures.parts keeps.shares) c.reserve_level.ensures.kept (c.reserve_level.ensures.made keeps.made) c.in_ok-reserve_level.ensures.there c.join_level.ensures.same
-          c.join_level.ensures.joined (kept_is ∙ ap Some (same ∙ c.in-Some-index.is)) c.sums_in_any_order.ensures c.choice_settles_share.ensures child here shape_prefix
+          c.join_level.ensures.joined c.slot_of.ensures (kept_is ∙ ap Some (same ∙ c.in-Some-index.is)) c.sums_in_any_order.ensures c.choice_settles_share.ensures child here shape_prefix
           (c.open_after-next.ensures (numbers m) cs c.args.choice child),
     )

@@ -1,8 +1,9 @@
 -- What a search keeps at no choice.
-use Rattle.std.proofs.Common.{arith, ◌≡◌, ◌≤◌, ℕ, zero, suc, List, [], ◌∷◌, Some, length, slice_get, take, subst}
+use Rattle.std.proofs.Common.{arith, ◌≡◌, ◌≤◌, ℕ, zero, suc, List, [], ◌∷◌, Option, Some, slice_get, take, subst}
 use Rattle.std.specs.Prelude.{IsSomeAnd}
 use Rattle.std.proofs.lemmas.Option.{slice_get_within, same_Some}
 use Rattle.sysmem_proof.specs.Members.{participants}
+use Rattle.sysmem_search.specs.declared.kept.Part.{Part}
 use Rattle.sysmem_search.specs.declared.levels.Level.{Level}
 use Rattle.sysmem_search.specs.Kept.{IsKeptOf}
 use Rattle.sysmem_search.specs.Question.{Matter}
@@ -32,6 +33,11 @@ module _ (m : Matter) (layout : Layout) (first : Level) (is : IsLevel m layout [
   one_front : (levels : List Level) (cs : List ℕ) → levels ≡ first ∷ [] → cs ≡ [] → AreLevels m layout cs levels
   one_front levels cs same none = rw (same, none) front
 
+-- nothing is kept where there is no slot
+none_kept : {X : Type 0} (parts : List (Option Part)) (slot : ℕ) (part : Part) → parts ≡ [] → slice_get parts slot ≡ Some (Some part) → X
+none_kept [] slot part none here = absurd (cc)
+none_kept (x ∷ parts) slot part none here = absurd (cc)
+
 pub invariant_of-result : goal.invariant_of-result
 invariant_of-result c = (
   c.requires.domain,
@@ -39,8 +45,7 @@ invariant_of-result c = (
   record {
     given = c.requires.base;
     laid = record { lays = c.layout-layout.ensures.lays; nodes = c.layout-layout.ensures.nodes };
-    places = c.in_ok-parts.ensures.many;
-    shares = λ at part here. absurd (c.in_ok-parts.ensures.none at part here);
+    shares = λ place slot part own here. none_kept c.new-2.result.items slot part c.new-2.ensures.items here;
     made = one_made _ c.layout-layout.result c.in_ok-first.first c.in_ok-first.ensures c.in_ok-levels.levels.items c.in_ok-levels.ensures.items;
     fronts = one_front _ c.layout-layout.result c.in_ok-first.first c.in_ok-first.ensures c.in_ok-levels.levels.items _ c.in_ok-levels.ensures.items c.new.ensures;
   },
