@@ -2,4 +2,5 @@ pub mod BoundsLemmas
 pub mod Members
 pub mod Names
 pub mod PathsBack
+pub mod RefutationsBack
 pub mod Putting

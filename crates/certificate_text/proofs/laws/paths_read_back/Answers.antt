@@ -1,3 +1,4 @@
+use Rattle.certificate_text.proofs.RefutationsBack.{earlier_back, conflict_back, lines_back}
 use Rattle.certificate_text.proofs.PathsBack.{path_back}
 use Rattle.certificate_text.proofs.laws.paths_read_back.Goals as goal
 
