@@ -1,4 +1,3 @@
-use Rattle.certificate_text.proofs.RefutationsBack.{earlier_back, conflict_back, lines_back}
 use Rattle.certificate_text.proofs.PathsBack.{path_back}
 use Rattle.certificate_text.proofs.laws.paths_read_back.Goals as goal
 
