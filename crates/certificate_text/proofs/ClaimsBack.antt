@@ -1,5 +1,5 @@
 -- A claim is read of what is told of it.
-use Rattle.std.proofs.Common.{◌≡◌, ℕ, ◌≤◌, List, length, All, AllPairs, false, Option, Some, codes, nat_le, refl, ap, ◌∙◌, le-leb}
+use Rattle.std.proofs.Common.{◌≡◌, ℕ, ◌≤◌, List, length, All, AllPairs, false, Some, codes, refl, le-leb}
 use Rattle.serde_json.specs.Data.{Data, string}
 use Rattle.serde_json.specs.Find.{get, as_str}
 use Rattle.sysmem_memory.specs.Heap.{same_heap}
@@ -14,10 +14,10 @@ use Rattle.sysmem_proof.specs.CertificateFacts.{CertificateFacts}
 use Rattle.sysmem_proof.specs.Chosen.{ChosenFacts}
 use Rattle.certificate_text.specs.Bounds.{count_data}
 use Rattle.certificate_text.specs.CanBeRead.{HasSteps, IsReadableRefutation, IsReadableCertificate, IsReadableChoice, CanBeRead}
-use Rattle.certificate_text.specs.Reading.{◌>>=◌, number_to, list_said, at_key}
+use Rattle.certificate_text.specs.Reading.{number_to, list_said, at_key}
 use Rattle.certificate_text.specs.Said.{node_said, line_said, refutation_said, earlier_said, certificate_said, unless_many, selection_said, chosen_said, empty_said, claim_by, claim_said}
 use Rattle.certificate_text.specs.SettingsSaid.{settings_said}
-use Rattle.certificate_text.specs.Told.{list_data, path_data, lines_data, refutation_data, earlier_data, settings_data, verdict_name, claim_data}
+use Rattle.certificate_text.specs.Told.{list_data, path_data, lines_data, refutation_data, earlier_data, settings_data, claim_data}
 use Rattle.certificate_text.proofs.PathsBack.{path_back}
 use Rattle.certificate_text.proofs.RefutationsBack.{first, at_back, each_back, number_back, lines_back, refutation_back, earlier_back}
 use Rattle.certificate_text.proofs.SettingsBack.{settings_back}

@@ -1,5 +1,5 @@
 -- The text of a path is read as the path.
-use Rattle.std.proofs.Common.{◌≡◌, ℕ, zero, suc, ◌+◌, ◌-◌, ◌*◌, ◌/◌, ◌%◌, ◌<◌, ◌≤◌, ◌++◌, List, [], ◌∷◌, length, All, Option, Some, None, min, option_map, option_and_then, decimal, refl, ap, ◌∙◌, arith, append_assoc, le-leb, ne_eqb}
+use Rattle.std.proofs.Common.{◌≡◌, ℕ, zero, suc, ◌+◌, ◌-◌, ◌*◌, ◌/◌, ◌%◌, ◌<◌, ◌≤◌, ◌++◌, List, [], ◌∷◌, length, Option, Some, None, min, option_map, option_and_then, decimal, refl, ap, ◌∙◌, arith, append_assoc, le-leb, ne_eqb}
 use Rattle.std.proofs.lemmas.Fmt.{decimal_by_steps, decimal_nonempty}
 use Rattle.sysmem_image.specs.Size.{most_number}
 use Rattle.certificate_text.specs.CanBeRead.{HasSteps}

@@ -1,6 +1,6 @@
 -- Lines, conflicts, refutations and certificates are read of what is told of them.
-use Rattle.std.proofs.Common.{◌≡◌, ℕ, ◌-◌, ◌^◌, ◌≤◌, List, [], ◌∷◌, length, map, All, Option, Some, None, codes, nat_le, option_map, if◌then◌else◌, refl, sym, ap, ◌∙◌, arith, le-leb}
-use Rattle.std.proofs.lemmas.List.Elements.{All-head, All-tail, All-cons, All-nil}
+use Rattle.std.proofs.Common.{◌≡◌, ℕ, ◌-◌, ◌^◌, ◌≤◌, List, [], ◌∷◌, map, All, Option, Some, codes, option_map, refl, ap, ◌∙◌, arith, le-leb}
+use Rattle.std.proofs.lemmas.List.Elements.{All-head, All-tail, All-cons}
 use Rattle.serde_json.specs.Data.{Data}
 use Rattle.serde_json.specs.Find.{get, as_str}
 use Rattle.serde_json.specs.View.{items_of}
@@ -9,13 +9,12 @@ use Rattle.sysmem_proof.specs.declared.conflict.Conflict.{Conflict}
 use Rattle.sysmem_proof.specs.declared.conflict.Conflict.TheVariants.{Count, Places, Offers, Fixed}
 use Rattle.sysmem_proof.specs.declared.refutation.Item.{Item}
 use Rattle.sysmem_proof.specs.declared.refutation.Item.TheVariants.{Split, Leaf}
-use Rattle.sysmem_proof.specs.CertificateFacts.{CertificateFacts}
 use Rattle.sysmem_proof.specs.Line.{LineFacts}
 use Rattle.certificate_text.specs.Bounds.{count_data}
 use Rattle.certificate_text.specs.CanBeRead.{HasSteps, NamesNodes, IsReadableConflict, IsReadableItem, IsReadableRefutation}
 use Rattle.certificate_text.specs.Fields.{field_named}
 use Rattle.certificate_text.specs.Reading.{◌>>=◌, object_of, number_to, each_said, list_said, at_key, named_at}
-use Rattle.certificate_text.specs.Said.{node_said, named_said, line_said, lines_said, fixed_by, conflict_said, item_said, refutation_said, earlier_said}
+use Rattle.certificate_text.specs.Said.{node_said, named_said, line_said, fixed_by, conflict_said, item_said, refutation_said, earlier_said}
 use Rattle.certificate_text.specs.Told.{list_data, path_data, paths_data, field_data, line_data, lines_data, conflict_data, item_data, refutation_data, earlier_data}
 use Rattle.certificate_text.proofs.Names.{own_name}
 use Rattle.certificate_text.proofs.PathsBack.{path_back}

@@ -1,11 +1,10 @@
 -- Settings are read of what is told of them.
-use Rattle.std.proofs.Common.{◌≡◌, ℕ, zero, suc, ◌+◌, ◌-◌, ◌^◌, ◌<◌, ◌≤◌, ◌==◌, ◌&&◌, Bool, true, false, cond, not, List, [], ◌∷◌, length, get_or, max, All, AllPairs, Contains, position, slice_get, bytes_eq, Option, Some, None, codes, nat_le, nat_lt, option_map, if◌then◌else◌, Decides, refl, sym, ap, subst, ◌∙◌, arith, rules, tests, le-leb, lt-ltb, eq-eqb}
+use Rattle.std.proofs.Common.{◌≡◌, ℕ, zero, suc, ◌+◌, ◌-◌, ◌^◌, ◌<◌, ◌≤◌, ◌&&◌, Bool, true, false, cond, not, List, [], ◌∷◌, length, get_or, AllPairs, Contains, position, slice_get, Option, Some, None, codes, nat_lt, option_map, if◌then◌else◌, Decides, refl, sym, ap, subst, ◌∙◌, arith, rules, tests, le-leb, lt-ltb, eq-eqb}
 use Rattle.std.specs.List.{list_any, position_or_len}
-use Rattle.std.proofs.lemmas.List.Elements.{Decides-contains}
 use Rattle.std.proofs.lemmas.List.Folds.{Any-from_list_any, list_any_at}
 use Rattle.std.proofs.lemmas.Option.{same_Some, none-some, slice_get_within, get_or_from_slice_get}
 use Rattle.std.proofs.lemmas.Slice.Eq.{bytes_eq-Decides}
-use Rattle.serde_json.specs.Data.{Data, object, string}
+use Rattle.serde_json.specs.Data.{Data, string}
 use Rattle.serde_json.specs.Find.{get, as_str}
 use Rattle.sysmem_counts.specs.declared.field.Field.{Field}
 use Rattle.sysmem_counts.specs.declared.field.Field.TheVariants as field
@@ -20,9 +19,8 @@ use Rattle.sysmem_image.specs.declared.size.Size.{Size}
 use Rattle.sysmem_image.specs.Bounds.{IsInRange, IsOwn}
 use Rattle.sysmem_image.specs.Fields as f
 use Rattle.sysmem_image.specs.Size.{most_number}
-use Rattle.sysmem_memory.specs.declared.domain.CoherencyDomain.{CoherencyDomain}
 use Rattle.sysmem_memory.specs.declared.place.Place.{Place}
-use Rattle.sysmem_memory.specs.Domain.{domain_name, has_domain}
+use Rattle.sysmem_memory.specs.Domain.{domain_name}
 use Rattle.sysmem_memory.specs.Heap.{HeapFacts, same_heap}
 use Rattle.sysmem_memory.specs.Place.{IsPlace}
 use Rattle.sysmem_merge.specs.declared.settings.Settings.{Settings}
@@ -32,8 +30,8 @@ use Rattle.sysmem_sanitise.specs.Reading.Names.{format_named, modifier_named, co
 use Rattle.sysmem_sanitise.specs.Reading.Pairs.{same_pair, has_pair, same_colour, has_colour}
 use Rattle.certificate_text.specs.Bounds.{count_data, size_data, bounds_data}
 use Rattle.certificate_text.specs.CanBeRead.{AreReadableSettings}
-use Rattle.certificate_text.specs.Reading.{◌>>=◌, object_of, number_to, at_key, named_at}
-use Rattle.certificate_text.specs.SettingsSaid.{any_number, unless_zero, some_number, size_said, any_size, unless_flat, some_size, product_said, bounds_len, numbers_said, bounds_by, numbers_of, no_bounds, bounds_beside, offered, image_said, offer_said, id_said, heap_len, is_heap, heap_said, place_at, place_said, settings_said}
+use Rattle.certificate_text.specs.Reading.{◌>>=◌, number_to, at_key, named_at}
+use Rattle.certificate_text.specs.SettingsSaid.{any_number, unless_zero, some_number, size_said, any_size, unless_flat, some_size, product_said, numbers_said, bounds_by, numbers_of, bounds_beside, offered, image_said, offer_said, is_heap, heap_said, place_at, place_said, settings_said}
 use Rattle.certificate_text.specs.Told.{heap_data, image_data, image_bounds_data, settings_data}
 use Rattle.certificate_text.proofs.BoundsLemmas.{bounds_by-numbers_of, own_is_no_bounds}
 use Rattle.certificate_text.proofs.Names.{own_format_name, own_modifier_name, own_colour_name, own_domain_name}
