@@ -7,4 +7,5 @@ pub mod Reading
 pub mod SettingsSaid
 pub mod Said
 pub mod Put
+pub mod CanBeRead
 pub mod Laws
