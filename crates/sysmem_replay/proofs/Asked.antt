@@ -2,7 +2,7 @@
 use Rattle.std.proofs.Common.{◌≡◌, ◌||◌, Bool, cond, true, false, not, refl, List, [], Option, Some, None, codes, is_some, IfSome, IsSomeAnd}
 use Rattle.std.specs.Prelude.{option_map}
 use Rattle.std.specs.Option.{option_map_or}
-use Rattle.clap.specs.Walk.{Names, Row, Text, answers_to, nothing_held, rows_after, stop_after}
+use Rattle.clap.specs.Walk.{Names, Row, Text, answers_to, first_of, nothing_held, rows_after, stop_after}
 use Rattle.clap.specs.Simple.{Shape, built, built_leaf, entered, inherited, label_of, marked_built, names_of, rows_at, subcommand_of, with_leaf_noted}
 use Rattle.clap.specs.Takes.{is_given}
 use Rattle.clap.specs.Kinds.{check_kinds}
@@ -15,7 +15,7 @@ run_shape : Shape
 run_shape = built_leaf (inherited (with_leaf_noted (marked_built replay_app.top)) run_app.top)
 
 abbrev IsAskedRun : Text × List Row → Type 0
-IsAskedRun e = (file : Text) × IsRunOf e file
+IsAskedRun e = (file : Text) × (proof : Option Text) × IsRunOf e file proof
 
 -- where nothing is wrong with what was found, FILE was given
 file_given : (rows : List Row) → check_fault run_shape rows false ≡ [] → is_given (codes "FILE") rows ≡ true
@@ -32,7 +32,7 @@ unfolding run_shape
 run_asked words none =
     let given = file_given (rows_after run_shape.rules [] words) (level_parts run_shape [] words false [] none).1 in
     let read = given_is_read (codes "FILE") (rows_after run_shape.rules [] words) (each_has_value run_shape words [] refl none) given in
-    (read.0, (refl, read.1))
+    (read.0, (first_of (codes "proof") (rows_after run_shape.rules [] words), (refl, (read.1, refl))))
 
 -- the words ask for a job
 pub job_asked : (words : List Text) → fault_of replay_app words ≡ [] → IsSomeAnd (subcommand_of replay_app words) IsAskedRun
@@ -71,4 +71,4 @@ job_asked words none =
 -- entries that ask for no job are none of those
 pub none_asked : (o : Option (Text × List Row)) → IfSome o AsksForNone → IsSomeAnd o IsAskedRun → ⊥
 none_asked None h asked = asked
-none_asked (Some e) h asked = h asked.0 asked.1
+none_asked (Some e) h asked = h asked.0 asked.1.0 asked.1.1

@@ -1,5 +1,5 @@
 -- The command line: what clap is given of it, and which job its entries ask for.
-use Rattle.std.specs.Prelude.{◌≡◌, List, true, Some, codes}
+use Rattle.std.specs.Prelude.{◌≡◌, List, true, Option, Some, codes, option_map}
 use Rattle.clap.specs.Words.{App, Row, Rule, Shape, Text, first_of, new_app, new_rule, with_rule}
 use Rattle.clap.specs.Words.{with_subcommand}
 use Rattle.clap.specs.Simple.{on_top}
@@ -10,9 +10,16 @@ use Rattle.sysmem_replay.specs.declared.words.Job.TheVariants.{Run}
 abbrev pub file_rule : Rule
 file_rule = record (new_rule (codes "FILE")) { required = true }
 
--- run FILE
+-- --proof OUT, which may be left out
+abbrev pub proof_rule : Rule
+proof_rule = record (new_rule (codes "proof")) {
+  long = Some (codes "proof");
+  value_names = 1;
+}
+
+-- run FILE [--proof OUT]
 abbrev pub run_app : App
-run_app = with_rule (new_app (codes "run")) file_rule
+run_app = with_rule (with_rule (new_app (codes "run")) file_rule) proof_rule
 
 -- the words begin with no program's name, and have to name a job
 abbrev pub settings : Shape → Shape
@@ -26,15 +33,16 @@ settings s = record s {
 abbrev pub replay_app : App
 replay_app = with_subcommand (on_top settings (new_app (codes "sysmem_replay"))) run_app.top
 
--- a subcommand's name and entries are `run` and this FILE
-abbrev pub IsRunOf : Text × List Row → Text → Type 0
-IsRunOf entries file =
+-- a subcommand's name and entries are `run`, this FILE, and this OUT or none
+abbrev pub IsRunOf : Text × List Row → Text → Option Text → Type 0
+IsRunOf entries file proof =
     (entries.0 ≡ codes "run") × (first_of (codes "FILE") entries.1 ≡ Some file)
+    × (first_of (codes "proof") entries.1 ≡ proof)
 
 -- they are this job and its files
 abbrev pub AsksFor : Text × List Row → Job → Type 0
-AsksFor entries (Run file) = IsRunOf entries file.now
+AsksFor entries (Run file proof) = IsRunOf entries file.now (option_map (λ s. s.now) proof)
 
 -- they are no job's
 abbrev pub AsksForNone : Text × List Row → Type 0
-AsksForNone entries = (file : Text) → ¬ IsRunOf entries file
+AsksForNone entries = (file : Text) (proof : Option Text) → ¬ IsRunOf entries file proof

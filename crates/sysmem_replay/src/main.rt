@@ -1,5 +1,5 @@
 //! `sysmem_replay run FILE` replays a script of calls on shared buffer collections and prints its
-//! report.
+//! report; with `--proof OUT` it also writes the certificate of its decisions.
 #![tactic(auto)]
 
 mod ending;
@@ -44,7 +44,7 @@ fn given_words(rt: &HostRuntime) -> Result<Vec<String>, Ending> {
 /// Does what the words ask for.
 fn obey(rt: &HostRuntime, words: &[String]) -> Ending {
     match read_words(rt.alloc(), words) {
-        Ok(Job::Run { file }) => ending_of(run_file(rt, file)),
+        Ok(Job::Run { file, proof }) => ending_of(run_file(rt, file, proof)),
         Err(refusal) => tell(rt, &refusal),
     }
 }
@@ -61,15 +61,21 @@ fn tell(rt: &HostRuntime, refusal: &Error) -> Ending {
     }
 }
 
-fn run_file(rt: &HostRuntime, file: &str) -> Result<Ended, RunFault> {
+/// Opens the script, then empties the certificate's file where one is asked for, and replays.
+fn run_file(rt: &HostRuntime, file: &str, proof: Option<&str>) -> Result<Ended, RunFault> {
     let Ok(script) = File::open(rt, file) else {
         return Err(RunFault::Read);
     };
-    run(
-        rt.alloc(),
-        &mut Counted::new(script),
-        &mut Counted::new(io::writer(rt)),
-    )
+    let mut reader = Counted::new(script);
+    let mut writer = Counted::new(io::writer(rt));
+    let Some(out) = proof else {
+        return run(rt.alloc(), &mut reader, &mut writer);
+    };
+    let Ok(certificate) = File::create(rt, out) else {
+        return Err(RunFault::Write);
+    };
+    let mut certificate = Counted::new(certificate);
+    run_with_proof(rt.alloc(), &mut reader, &mut writer, &mut certificate)
 }
 
 fn unread_words(rt: &HostRuntime, kind: io::ErrorKind) -> Ending {

@@ -11,8 +11,11 @@ use std::alloc::{AllocError, Global};
 /// What a command line asks for, with the files that it names.
 #[derive(Clone, Copy, Debug, PartialEq, Eq)]
 pub enum Job<'a> {
-    /// Replay a script and print its report.
-    Run { file: &'a str },
+    /// Replay a script and print its report; with `proof` also write its certificate there.
+    Run {
+        file: &'a str,
+        proof: Option<&'a str>,
+    },
 }
 
 /// Reads the words behind the program's name. It answers a request for help by an `Err` of the kind
@@ -38,9 +41,11 @@ fn job_in<'a>(matches: &ArgMatches<'a>) -> Option<Job<'a>>
 {
     let (name, entries) = matches.subcommand()?;
     match name {
-        "run" => Some(Job::Run {
-            file: entries.get_str("FILE")?,
-        }),
+        "run" => {
+            let file = entries.get_str("FILE")?;
+            let proof = entries.get_str("proof");
+            Some(Job::Run { file, proof })
+        }
         _ => None,
     }
 }
@@ -68,8 +73,12 @@ fn run_command<'a>(alloc: Global) -> Result<Command<'a>, AllocError>
     let file = Arg::new(alloc, "FILE").required(true).help(
         "A JSON script, of at most 4194304 bytes: a platform, and the calls to replay on it",
     );
+    let proof = Arg::new(alloc, "proof")
+        .long("proof")
+        .value_name("OUT")
+        .help("Also writes the certificate of the decisions to OUT, which is emptied first");
     let command = Command::new(alloc, "run").about(
         "Replays a script, and prints a line for each call and each decision",
     );
-    command.arg(file)
+    command.arg(file)?.arg(proof)
 }
