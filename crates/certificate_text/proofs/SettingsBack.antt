@@ -95,7 +95,7 @@ among same tells xs x = (
       let any = Any-from_list_any (λ y. same y x) xs yes in
       let e : any.1 ≡ x = (tells any.1 x).0 any.4 in
       (any.0, any.2, subst (λ z. get_or xs any.0 z ≡ z) e any.3),
-  λ has. list_any_at (λ y. same y x) xs has.0 x has.1 ((tells _ x).1 has.2)
+  λ has. list_any_at (λ y. same y x) xs has.0 x has.1 ((tells _ x).1 has.2),
 )
 
 image_offered : (platform : PlatformFacts) (pair : Pair) (colour : ColourSpace) → Contains (offers_of platform) (Image pair colour) → (has_pair platform.pairs pair && has_colour platform.colours colour) ≡ true

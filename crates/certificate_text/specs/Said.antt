@@ -1,5 +1,5 @@
 -- What an object of a certificate says: a path and a claim, or nothing where a name, a kind, a key or a range is wrong.
-use Rattle.std.specs.Prelude.{ℕ, ◌-◌, ◌^◌, ◌||◌, List, [], ◌∷◌, Bool, Option, Some, None, length, codes, bytes_eq, nat_le, is_some, option_map, if◌then◌else◌}
+use Rattle.std.specs.Prelude.{ℕ, ◌-◌, ◌^◌, List, [], ◌∷◌, Bool, Option, Some, None, length, codes, bytes_eq, nat_le, is_some, option_map, if◌then◌else◌}
 use Rattle.serde_json.specs.Data.{Data}
 use Rattle.serde_json.specs.Find.{get, as_str}
 use Rattle.sysmem_counts.specs.declared.field.Field.{Field}
@@ -13,7 +13,6 @@ use Rattle.sysmem_proof.specs.declared.refutation.Item.TheVariants.{Split, Leaf}
 use Rattle.sysmem_proof.specs.declared.verdict.Verdict.{Verdict}
 use Rattle.sysmem_proof.specs.declared.verdict.Verdict.TheVariants as verdicts
 use Rattle.sysmem_proof.specs.CertificateFacts.{CertificateFacts}
-use Rattle.sysmem_proof.specs.Chosen.{ChosenFacts}
 use Rattle.sysmem_proof.specs.Line.{LineFacts}
 use Rattle.certificate_text.specs.Fields.{field_named}
 use Rattle.certificate_text.specs.Paths.{path_said}
