@@ -5,20 +5,23 @@ use Rattle.sysmem_replay.specs.CommandLine.{AsksForNone, IsRunOf}
 use Rattle.sysmem_replay.proofs.Entries.{entered_is, none_entered, some_entered, some≢none}
 use Rattle.sysmem_replay.proofs.words.job_in.Goals as goal
 
-pub returns-in_err-get_str-in-run-clause-none : goal.returns-in_err-get_str-in-run-clause-none
-returns-in_err-get_str-in-run-clause-none c =
+pub returns-in_err-file-in-run-clause-none : goal.returns-in_err-file-in-run-clause-none
+returns-in_err-file-in-run-clause-none c =
     let rows = rows_of (found_of c.in_ok-name.entries.now) in
     let unread : first_of (codes "FILE") rows ≡ None =
-    sym (first_value-rows (found_of c.in_ok-name.entries.now) (codes "FILE")) ∙ sym c.get_str.ensures ∙ ap (option_map (λ s. s.now)) (c.in_err-get_str-in-run.was) in
+    sym (first_value-rows (found_of c.in_ok-name.entries.now) (codes "FILE")) ∙ sym c.get_str-file.ensures ∙ ap (option_map (λ s. s.now)) (c.in_err-file-in-run.was) in
     none_entered _ c.args.matches.now (c.in_ok-name.name.now, rows) AsksForNone
     (entered_is c.args.matches.now c.in_ok-name.name.now rows c.in_ok-name.ensures.name c.in_ok-name.ensures.rows)
-    (λ file h. some≢none file (sym h.1 ∙ unread))
+    (λ file proof h. some≢none file (sym h.1 ∙ unread))
 
-pub returns-in_ok-get_str-in-run-clause-some : goal.returns-in_ok-get_str-in-run-clause-some
-returns-in_ok-get_str-in-run-clause-some c =
+pub returns-in_ok-file-in-run-clause-some : goal.returns-in_ok-file-in-run-clause-some
+returns-in_ok-file-in-run-clause-some c =
     let rows = rows_of (found_of c.in_ok-name.entries.now) in
-    let file = c.in_ok-get_str-in-run.field-0.now in
+    let file = c.in_ok-file-in-run.file.now in
+    let out = option_map (λ s. s.now) c.get_str-proof.result in
     let read : first_of (codes "FILE") rows ≡ Some file =
-    sym (first_value-rows (found_of c.in_ok-name.entries.now) (codes "FILE")) ∙ sym c.get_str.ensures ∙ ap (option_map (λ s. s.now)) (c.in_ok-get_str-in-run.was) in
-    some_entered c.args.matches.now (c.in_ok-name.name.now, rows) (λ e. IsRunOf e file)
-    (entered_is c.args.matches.now c.in_ok-name.name.now rows c.in_ok-name.ensures.name c.in_ok-name.ensures.rows) (c.in-run.is, read)
+    sym (first_value-rows (found_of c.in_ok-name.entries.now) (codes "FILE")) ∙ sym c.get_str-file.ensures ∙ ap (option_map (λ s. s.now)) (c.in_ok-file-in-run.was) in
+    let kept : first_of (codes "proof") rows ≡ out =
+    sym (first_value-rows (found_of c.in_ok-name.entries.now) (codes "proof")) ∙ sym c.get_str-proof.ensures in
+    some_entered c.args.matches.now (c.in_ok-name.name.now, rows) (λ e. IsRunOf e file out)
+    (entered_is c.args.matches.now c.in_ok-name.name.now rows c.in_ok-name.ensures.name c.in_ok-name.ensures.rows) (c.in-run.is, (read, kept))
