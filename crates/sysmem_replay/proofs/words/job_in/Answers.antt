@@ -9,7 +9,7 @@ pub returns-in_err-file-in-run-clause-none : goal.returns-in_err-file-in-run-cla
 returns-in_err-file-in-run-clause-none c =
     let rows = rows_of (found_of c.in_ok-name.entries.now) in
     let unread : first_of (codes "FILE") rows ≡ None =
-    sym (first_value-rows (found_of c.in_ok-name.entries.now) (codes "FILE")) ∙ sym c.get_str-file.ensures ∙ ap (option_map (λ s. s.now)) (c.in_err-file-in-run.was) in
+    sym (first_value-rows (found_of c.in_ok-name.entries.now) (codes "FILE")) ∙ sym c.get_str.ensures ∙ ap (option_map (λ s. s.now)) (c.in_err-file-in-run.was) in
     none_entered _ c.args.matches.now (c.in_ok-name.name.now, rows) AsksForNone
     (entered_is c.args.matches.now c.in_ok-name.name.now rows c.in_ok-name.ensures.name c.in_ok-name.ensures.rows)
     (λ file proof h. some≢none file (sym h.1 ∙ unread))
@@ -20,7 +20,7 @@ returns-in_ok-file-in-run-clause-some c =
     let file = c.in_ok-file-in-run.file.now in
     let out = option_map (λ s. s.now) c.get_str-proof.result in
     let read : first_of (codes "FILE") rows ≡ Some file =
-    sym (first_value-rows (found_of c.in_ok-name.entries.now) (codes "FILE")) ∙ sym c.get_str-file.ensures ∙ ap (option_map (λ s. s.now)) (c.in_ok-file-in-run.was) in
+    sym (first_value-rows (found_of c.in_ok-name.entries.now) (codes "FILE")) ∙ sym c.get_str.ensures ∙ ap (option_map (λ s. s.now)) (c.in_ok-file-in-run.was) in
     let kept : first_of (codes "proof") rows ≡ out =
     sym (first_value-rows (found_of c.in_ok-name.entries.now) (codes "proof")) ∙ sym c.get_str-proof.ensures in
     some_entered c.args.matches.now (c.in_ok-name.name.now, rows) (λ e. IsRunOf e file out)
