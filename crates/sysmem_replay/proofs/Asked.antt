@@ -32,7 +32,7 @@ unfolding run_shape
 run_asked words none =
     let given = file_given (rows_after run_shape.rules [] words) (level_parts run_shape [] words false [] none).1 in
     let read = given_is_read (codes "FILE") (rows_after run_shape.rules [] words) (each_has_value run_shape words [] refl none) given in
-    (read.0, (first_of (codes "proof") (rows_after run_shape.rules [] words), (refl, (read.1, refl))))
+    (read.0, first_of (codes "proof") (rows_after run_shape.rules [] words), (refl, read.1, refl))
 
 -- the words ask for a job
 pub job_asked : (words : List Text) → fault_of replay_app words ≡ [] → IsSomeAnd (subcommand_of replay_app words) IsAskedRun
@@ -71,4 +71,4 @@ job_asked words none =
 -- entries that ask for no job are none of those
 pub none_asked : (o : Option (Text × List Row)) → IfSome o AsksForNone → IsSomeAnd o IsAskedRun → ⊥
 none_asked None h asked = asked
-none_asked (Some e) h asked = h asked.0 asked.1.0 asked.1.1
+none_asked (Some e) h asked = h asked.0 asked.1 asked.2

@@ -24,4 +24,4 @@ returns-in_ok-file-in-run-clause-some c =
     let kept : first_of (codes "proof") rows ≡ out =
     sym (first_value-rows (found_of c.in_ok-name.entries.now) (codes "proof")) ∙ sym c.get_str-proof.ensures in
     some_entered c.args.matches.now (c.in_ok-name.name.now, rows) (λ e. IsRunOf e file out)
-    (entered_is c.args.matches.now c.in_ok-name.name.now rows c.in_ok-name.ensures.name c.in_ok-name.ensures.rows) (c.in-run.is, (read, kept))
+    (entered_is c.args.matches.now c.in_ok-name.name.now rows c.in_ok-name.ensures.name c.in_ok-name.ensures.rows) (c.in-run.is, read, kept)
