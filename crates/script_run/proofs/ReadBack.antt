@@ -44,20 +44,20 @@ allowed_more platform s [] e all one = (one, tt)
 allowed_more platform s (x ∷ es) e all one = (all.0, allowed_more platform (after_entry s x) es e all.1 one)
 
 -- what a decision chose can be read
-abbrev IsReadable : PlatformFacts → Decision → Type 0
-IsReadable platform d = IfSome (settings_of d.verdict) (AreReadableSettings platform)
+abbrev ChoseReadable : PlatformFacts → Decision → Type 0
+ChoseReadable platform d = IfSome (settings_of d.verdict) (AreReadableSettings platform)
 
 -- a state that a legal history leads to, and what its decisions chose can be read
 record Stands (platform : PlatformFacts) (b : BookState) : Type 0 where
   history : List BookEntry
   legal : IsLegal platform history
   replayed : b ≡ replay history
-  readable : AllOf (IsReadable platform) b.decisions
+  readable : AllOf (ChoseReadable platform) b.decisions
 
 starts : (platform : PlatformFacts) → Stands platform books.first_state
 starts platform = record { history = []; legal = tt; replayed = refl; readable = tt }
 
-goes_on : (platform : PlatformFacts) (b : BookState) (e : BookEntry) → Stands platform b → Allows platform b e → AllOf (IsReadable platform) (after_entry b e).decisions → Stands platform (after_entry b e)
+goes_on : (platform : PlatformFacts) (b : BookState) (e : BookEntry) → Stands platform b → Allows platform b e → AllOf (ChoseReadable platform) (after_entry b e).decisions → Stands platform (after_entry b e)
 goes_on platform b e stands allowed readable = record {
   history = stands.history ++ e ∷ [];
   legal = allowed_more platform books.first_state stands.history e stands.legal (subst (λ (x : BookState). Allows platform x e) stands.replayed allowed);
@@ -69,7 +69,7 @@ goes_on platform b e stands allowed readable = record {
 after_act : (platform : PlatformFacts) (b : BookState) (k made : ℕ) (deed : Deed) (tree : TreeFacts) → Stands platform b → applied b.tree k deed ≡ Ok (record { tree = tree; node = made })
     → Stands platform (after_entry b (Acted k deed))
 after_act platform b k made deed tree stands done = goes_on platform b (Acted k deed) stands (subst IsOk (sym done) refl)
-    (subst (AllOf (IsReadable platform)) (sym (ap (λ r. (after_answer b r).decisions) done)) stands.readable)
+    (subst (AllOf (ChoseReadable platform)) (sym (ap (λ r. (after_answer b r).decisions) done)) stands.readable)
 
 after_reply : (platform : PlatformFacts) (s t : RunState) (r : CallFacts) (reply : Reply) → Stands platform s.book → Replies s r reply t → Stands platform t.book
 after_reply platform s _ r _ stands (skips none) = stands
@@ -91,7 +91,7 @@ replied_platform s _ r _ (accepts k made deed tree here asks done) = refl
 replied_platform s _ r _ (tells k here asks) = refl
 
 -- what was chosen for a domain can be read
-settings_read : (platform : PlatformFacts) (ds : List Decision) (r : ℕ) → AllOf (IsReadable platform) ds → IfSome (settings_for ds r) (AreReadableSettings platform)
+settings_read : (platform : PlatformFacts) (ds : List Decision) (r : ℕ) → AllOf (ChoseReadable platform) ds → IfSome (settings_for ds r) (AreReadableSettings platform)
 settings_read platform [] r all = tt
 settings_read platform (d ∷ ds) r all = by (d.domain == r) (settings_read platform ds r all.1) where
   by : (t : Bool) → IfSome (settings_for ds r) (AreReadableSettings platform)
@@ -100,7 +100,7 @@ settings_read platform (d ∷ ds) r all = by (d.domain == r) (settings_read plat
   by false rest = rest
 
 -- so can what a domain is decided on
-base_read : (platform : PlatformFacts) (b : BookState) (r : ℕ) → AllOf (IsReadable platform) b.decisions → IsReadableBase platform (base_of b r)
+base_read : (platform : PlatformFacts) (b : BookState) (r : ℕ) → AllOf (ChoseReadable platform) b.decisions → IsReadableBase platform (base_of b r)
 base_read platform b r all = by (host_node b.tree.nodes r) where
   on : (o : Option Settings) → IfSome o (AreReadableSettings platform) → IsReadableBase platform (option_map (λ settings. record { settings = settings; accepted = b.accepted }) o)
   on None can = tt
@@ -143,7 +143,7 @@ module _ (paths : NodePathsCanBeRead) (claims : TrueClaimsCanBeRead) (sound : Le
 
   after_decided : (s : RunState) (c : Claimed) → Stands platform s.book → Allows platform s.book (Decided c) → Stands platform (with_decision s (answer_of c)).book
   after_decided s c stands allowed = goes_on platform s.book (Decided c) stands allowed
-      (all_more (IsReadable platform) s.book.decisions (answer_of c) stands.readable (decision_read c.claim (claim_read s.book c stands allowed)))
+      (all_more (ChoseReadable platform) s.book.decisions (answer_of c) stands.readable (decision_read c.claim (claim_read s.book c stands allowed)))
 
   abbrev CanReadOne : Certified → Type 0
   CanReadOne c = IsReadableDecision platform c.0 c.1
