@@ -1,5 +1,5 @@
 -- Each decision of a report can be read of its certificate.
-use Rattle.std.proofs.Common.{◌≡◌, ◌==◌, ◌++◌, ℕ, ◌+◌, All, Bool, true, false, List, [], ◌∷◌, Option, Some, None, IfSome, IsOk, Ok, map, option_map, option_and_then, refl, sym, ◌∙◌, ap, subst}
+use Rattle.std.proofs.Common.{◌≡◌, ◌==◌, ◌++◌, ℕ, ◌+◌, All, Bool, true, false, List, [], ◌∷◌, Option, Some, None, IfSome, IsOk, Ok, option_map, option_and_then, refl, sym, ◌∙◌, ap, subst}
 use Rattle.std.specs.Prelude.{if◌then◌else◌}
 use Rattle.std.proofs.lemmas.List.Elements.{All-nil, All-cons, All-weaker}
 use Rattle.sysmem_merge.specs.declared.settings.Settings.{Settings}
@@ -8,7 +8,6 @@ use Rattle.sysmem_tree.specs.ActionKind.{Deed}
 use Rattle.sysmem_tree.specs.Domain.{TreeFacts, host_node}
 use Rattle.sysmem_tree.specs.Node.{NodeFacts}
 use Rattle.sysmem_tree.specs.Nodes.{IsTree}
-use Rattle.sysmem_tree.specs.Path.{path_of}
 use Rattle.sysmem_tree.specs.Tree.{applied}
 use Rattle.sysmem_proof.specs.declared.certificate.Claim.{Claim}
 use Rattle.sysmem_proof.specs.declared.certificate.Proof.{Proof}
