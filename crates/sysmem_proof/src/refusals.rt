@@ -17,7 +17,7 @@ ghost use Rattle.sysmem_sanitise.specs.Platform.{offers_of};
 ghost use Rattle.sysmem_tree.specs.Nodes.{HasNode};
 ghost use Rattle.sysmem_tree.specs.Shape.{Member};
 
-use crate::first_refusing::{Lacking, Reading, first_refused, read_next};
+use crate::first_refusing::{Lacking, Reading, first_refused, read_offer};
 use crate::line::{Line, Lines};
 use crate::whom::{Whom, line_of};
 use std::alloc::{AllocError, Global};
@@ -78,7 +78,7 @@ fn offer_line(
     ensures share { (ms : List Member) → StandFor (members_at tree.now.nodes nodes.now) ms
         → IfOk result (λ line. IfNone line (ShareOffer whole ms offer.now)) }
 {
-    match read_next(tree, nodes, offer, lacking) {
+    match read_offer(tree, nodes, offer, lacking) {
         Reading::Refused(field, node) => {
             let line = line_of(alloc, tree, &[node], field, Whom::All)?;
             Ok(Some(line))
