@@ -1,7 +1,8 @@
 //! Runs whose script is cut, and whose reader or writer fails. What whole scripts print is in `tests/`.
-use super::*;
+
 use byte_transfer::Counted;
 use script_reading::ScriptFault;
+use script_run::{Ended, RunFault, run};
 use std::io::{self, Read, Write};
 
 const SCRIPT: &str =
