@@ -1,25 +1,144 @@
--- One object more that is a decision, and what a check of a file has done.
-use Rattle.std.proofs.Common.{◌≡◌, ℕ, ◌+◌, ◌<◌, ◌++◌, List, [], ◌∷◌, length, map, take, get_or, Some, sym, ◌∙◌, ap, subst, refl}
-use Rattle.std.proofs.lemmas.List.{map-append, take_more}
+-- One object more that is taken as a decision, and what a certificate's objects have answered.
+use Rattle.std.proofs.Common.{◌≡◌, ℕ, zero, suc, ◌+◌, ◌<◌, ◌≤◌, ◌++◌, List, [], ◌∷◌, length, map, take, drop, Bool, false, Option, Some, None, slice_get, sym, ◌∙◌, ap, subst, refl, arith}
+use Rattle.std.proofs.lemmas.List.{map-append, length-map, take-append-drop, at_drop_all}
+use Rattle.std.specs.Prelude.{IsSomeAnd}
 use Rattle.std.specs.List.{AllZip}
+use Rattle.serde_json.specs.Data.{Data}
 use Rattle.serde_json.specs.View.{view}
 use Rattle.serde_json.specs.declared.value.Value.{Value}
+use Rattle.sysmem_alloc.specs.State.{State as BookState}
 use Rattle.sysmem_proof.specs.declared.certificate.Claim.{Claim}
 use Rattle.sysmem_sanitise.specs.Platform.{PlatformFacts}
-use Rattle.script_run.specs.Checked.{IsOf}
-use Rattle.script_run.specs.Report.{Certified}
+use Rattle.sysmem_tree.specs.Path.{path_of}
+use Rattle.script_reading.specs.Script.{CallFacts}
+use Rattle.script_run.specs.Checked.{Answers, AreTaken, ClaimFails, FailsAtDomain, FailsNext, IsOf, NextFails, TakesClaim, accepts, has_more, objects_to, too_many}
+use Rattle.script_run.specs.declared.checked_file.CheckAnswer.{CheckAnswer}
+use Rattle.script_run.specs.declared.checked_file.CheckAnswer.TheVariants as answers
+use Rattle.script_run.specs.declared.decider.Objection.{Objection}
+use Rattle.script_run.specs.Report.{Certified, IsReported}
+use Rattle.script_run.specs.Stop.{IsStopped}
+use Rattle.script_run.proofs.Following.{goes_platform}
+use Rattle.sysmem_proof.specs.declared.no.No.{No}
+use Rattle.sysmem_proof.specs.declared.no.No.TheVariants.{WrongShape}
 
--- one more at the end of both
-pub zip_push : {X Y : Type 0} (R : X → Y → Type 0) (xs : List X) (ys : List Y) (x : X) (y : Y) → AllZip R xs ys → R x y → AllZip R (xs ++ x ∷ []) (ys ++ y ∷ [])
-zip_push R [] [] x y all one = (one, tt)
-zip_push R [] (b ∷ ys) x y all one = absurd all
-zip_push R (a ∷ xs) [] x y all one = absurd all
-zip_push R (a ∷ xs) (b ∷ ys) x y all one = (all.0, zip_push R xs ys x y all.1 one)
+-- one more of both
+pub zip_more : {V X Y : Type 0} (R : X → Y → Type 0) (f : V → X) (vs : List V) (k : ℕ) (v : V) (ys : List Y) (y : Y) → slice_get vs k ≡ Some v → R (f v) y
+    → AllZip R (map f (take k vs)) ys → AllZip R (map f (take (suc k) vs)) (ys ++ y ∷ [])
+zip_more R f [] k v ys y here one all = absurd (cc)
+zip_more R f (x ∷ vs) zero v [] y here one all = let same : x ≡ v = cc in (subst (λ z. R (f z) y) (sym same) one, tt)
+zip_more R f (x ∷ vs) zero v (b ∷ ys) y here one all = absurd all
+zip_more R f (x ∷ vs) (suc k) v [] y here one all = absurd all
+zip_more R f (x ∷ vs) (suc k) v (b ∷ ys) y here one all = (all.0, zip_more R f vs k v ys y here one all.1)
 
--- the next object is that of the next decision
-pub taken_more : (platform : PlatformFacts) (objects : List Value) (taken : ℕ) (object : Value) (cs : List Certified) (c : Certified) → taken < length objects → object ≡ get_or objects taken object
-    → AllZip (IsOf platform) (map view (take taken objects)) cs → IsOf platform (view object) c → AllZip (IsOf platform) (map view (take (taken + 1) objects)) (cs ++ c ∷ [])
-taken_more platform objects taken object cs c within is all one =
-    let more = take_more objects taken object within ∙ ap (λ (v : Value). take taken objects ++ v ∷ []) (sym is) in
-    subst (λ (ds : List _). AllZip (IsOf platform) ds (cs ++ c ∷ [])) (sym (ap (map view) more ∙ map-append view (take taken objects) (object ∷ [])))
-    (zip_push (IsOf platform) (map view (take taken objects)) cs (view object) c all one)
+taken_at : (platform : PlatformFacts) (old : List Value) (k : ℕ) (b : BookState) (r : ℕ) (claim : Claim) (o : Option Value) → slice_get old k ≡ o
+    → IsSomeAnd o (λ object. TakesClaim platform b r (view object) claim) → (cs : List Certified) → AllZip (IsOf platform) (map view (take k old)) cs
+    → AllZip (IsOf platform) (map view (take (suc k) old)) (cs ++ (path_of b.tree.nodes r, Some claim) ∷ [])
+taken_at platform old k b r claim None here takes cs all = absurd takes
+taken_at platform old k b r claim (Some object) here takes cs all =
+    zip_more (IsOf platform) view old k object cs (path_of b.tree.nodes r, Some claim) here (record { claim = claim; says = takes.says; taken = refl }) all
+
+-- the claim of the next object is taken
+pub takes_one : (platform : PlatformFacts) (old new : List Value) (k j : ℕ) (b : BookState) (r : ℕ) (claim : Claim) → IsSomeAnd (slice_get old k) (λ object. TakesClaim platform b r (view object) claim)
+    → j ≡ k + 1 → new ≡ old → (cs : List Certified) → AllZip (IsOf platform) (map view (take k old)) cs
+    → AllZip (IsOf platform) (map view (take j new)) (cs ++ (path_of b.tree.nodes r, Some claim) ∷ [])
+takes_one platform old new k j b r claim takes more same cs all =
+    let next : suc k ≡ j = omega (arith, more) in
+    subst (λ n. AllZip (IsOf platform) (map view (take n new)) (cs ++ (path_of b.tree.nodes r, Some claim) ∷ [])) next
+    (subst (λ vs. AllZip (IsOf platform) (map view (take (suc k) vs)) (cs ++ (path_of b.tree.nodes r, Some claim) ∷ [])) (sym same)
+    (taken_at platform old k b r claim (slice_get old k) refl takes cs all))
+
+-- where none is taken, the objects that were taken stay so
+pub takes_none : (platform : PlatformFacts) (old new : List Value) (k j : ℕ) → j ≡ k → new ≡ old → (cs : List Certified) → AllZip (IsOf platform) (map view (take k old)) cs
+    → AllZip (IsOf platform) (map view (take j new)) cs
+takes_none platform old new k j same objects cs all = rw (same, objects) all
+
+-- ---- what is left
+
+there_left : (vs : List Value) (k : ℕ) (v : Value) → slice_get vs k ≡ Some v → map view (drop k vs) ≡ view v ∷ map view (drop (suc k) vs)
+there_left [] k v here = absurd (cc)
+there_left (x ∷ vs) zero v here = let same : x ≡ v = cc in ap (λ z. view z ∷ map view vs) same
+there_left (x ∷ vs) (suc k) v here = there_left vs k v here
+
+none_left : (vs : List Value) (k : ℕ) → slice_get vs k ≡ None → map view (drop k vs) ≡ []
+none_left [] zero here = refl
+none_left [] (suc k) here = refl
+none_left (x ∷ vs) zero here = absurd (cc)
+none_left (x ∷ vs) (suc k) here = none_left vs k here
+
+-- the next object fails, or it is missing
+pub fails_there : (platform : PlatformFacts) (b : BookState) (r : ℕ) (vs : List Value) (k : ℕ) (v : Value) (o : Objection) → slice_get vs k ≡ Some v → o.path ≡ path_of b.tree.nodes r
+    → ClaimFails platform b r (view v) o.no → FailsNext (map view (drop k vs)) platform b r o
+fails_there platform b r vs k v o here path fails = record {
+  path = path;
+  no = subst (λ left. NextFails platform b r left o.no) (sym (there_left vs k v here)) fails;
+}
+
+pub fails_missing : (platform : PlatformFacts) (b : BookState) (r : ℕ) (vs : List Value) (k : ℕ) (o : Objection) → slice_get vs k ≡ None → o.path ≡ path_of b.tree.nodes r → o.no ≡ WrongShape
+    → FailsNext (map view (drop k vs)) platform b r o
+fails_missing platform b r vs k o here path no = record {
+  path = path;
+  no = subst (λ left. NextFails platform b r left o.no) (sym (none_left vs k here)) no;
+}
+
+-- ---- all objects
+
+split_at : (vs : List Value) (k : ℕ) → map view vs ≡ map view (take k vs) ++ map view (drop k vs)
+split_at vs k = ap (map view) (sym (take-append-drop k vs)) ∙ map-append view (take k vs) (drop k vs)
+
+long_as : (vs ws : List Value) → map view vs ≡ map view ws → length vs ≡ length ws
+long_as vs ws same = sym (length-map vs view) ∙ (ap length same ∙ length-map ws view)
+
+take_all : {X : Type 0} (xs : List X) (k : ℕ) → length xs ≤ k → take k xs ≡ xs
+take_all [] zero more = refl
+take_all [] (suc k) more = refl
+take_all (x ∷ xs) zero more = absurd (omega (arith, more))
+take_all (x ∷ xs) (suc k) more = ap (λ ys. x ∷ ys) (take_all xs k (omega (arith, more)))
+
+head_left : (vs : List Value) (k : ℕ) → k < length vs → (object : Data) × (left : List Data) × (map view (drop k vs) ≡ object ∷ left)
+head_left [] k less = absurd (omega (arith, less))
+head_left (x ∷ vs) zero less = (view x, map view vs, refl)
+head_left (x ∷ vs) (suc k) less = head_left vs k (omega (arith, less))
+
+module _ (platform : PlatformFacts) (rs : List CallFacts) (objects now : List Value) (k : ℕ) (same : map view now ≡ map view objects) (text : List ℕ) where
+  Said : Bool → Type 0
+  Said starved = IsReported platform rs (AllZip (IsOf platform) (map view (take k now))) text starved
+
+  taken : (starved : Bool) → starved ≡ false → Said starved → AreTaken platform rs (map view (take k now))
+  taken starved fed said = record { text = text; report = subst Said fed said }
+
+  -- all were taken
+  pub all_accepted : (starved : Bool) → starved ≡ false → Said starved → length objects ≤ k → Answers platform rs (map view objects) answers.Yes
+  all_accepted starved fed said all =
+      let whole : map view (take k now) ≡ map view objects = ap (map view) (take_all now k (omega (arith, long_as now objects same, all))) ∙ same in
+      accepts (subst (AreTaken platform rs) whole (taken starved fed said))
+
+  -- there are more
+  pub more_left : (starved : Bool) → starved ≡ false → Said starved → k < length objects → Answers platform rs (map view objects) too_many
+  more_left starved fed said less =
+      let (object, left, head) = head_left now k (omega (arith, long_as now objects same, less)) in
+      has_more (map view (take k now)) left object (sym same ∙ (split_at now k ∙ ap (λ ds. map view (take k now) ++ ds) head)) (taken starved fed said)
+
+-- the next one fails
+pub stopped_at : (platform : PlatformFacts) (rs : List CallFacts) (objects first now : List Value) (j k : ℕ) (o : Objection) → first ≡ objects → j ≡ 0 → map view now ≡ map view objects
+    → IsStopped platform rs (AllZip (IsOf platform) (map view (take j first))) (AllZip (IsOf platform) (map view (take k now)))
+    (λ p b r objection. FailsNext (map view (drop k now)) p b r objection) o
+    → Answers platform rs (map view objects) (answers.No o)
+stopped_at platform rs objects first now j k o is none same stopped =
+    let none_taken : AllZip (IsOf platform) (map view (take j first)) [] = rw none tt in
+    objects_to o (record {
+      made = stopped.stops.made;
+      rest = stopped.stops.left;
+      in_order = stopped.stops.split;
+      taken = map view (take k now);
+      left = map view (drop k now);
+      split = sym same ∙ split_at now k;
+      lines = stopped.stops.lines;
+      decisions = stopped.stops.decisions;
+      last = stopped.last;
+      goes = stopped.stops.goes;
+      are_of = stopped.stops.gave [] none_taken;
+      fed = stopped.fed;
+      domain = stopped.stops.domain;
+      next = stopped.stops.next;
+      fails = subst (λ p. FailsNext (map view (drop k now)) p stopped.last.book stopped.stops.domain o) (goes_platform 1 _ _ _ _ _ stopped.stops.goes) stopped.stops.object;
+    })

@@ -1,6 +1,7 @@
 pub mod AnswerLemmas
 pub mod Answering
 pub mod BothLemmas
+pub mod CheckedLemmas
 pub mod Checks
 pub mod OneCertified
 pub mod Corners

@@ -37,8 +37,8 @@ pub record AreTaken (platform : PlatformFacts) (rs : List CallFacts) (objects : 
 -- that its claim fails
 abbrev pub SaidFails : PlatformFacts → BookState → ℕ → Option (List ℕ × Claim) → Faults
 SaidFails platform b r None why = why ≡ WrongShape
-SaidFails platform b r (Some (path, claim)) why = First (path ≡ path_of b.tree.nodes r) (Fails (path ≡ path_of b.tree.nodes r) WrongShape)
-    (VerdictFaults platform (option_map (terms_of b.tree.nodes) (base_of b r)) (shape_of b.tree.nodes r) claim.verdict claim.proof) why
+SaidFails platform b r (Some c) why = First (c.0 ≡ path_of b.tree.nodes r) (Fails (c.0 ≡ path_of b.tree.nodes r) WrongShape)
+    (VerdictFaults platform (option_map (terms_of b.tree.nodes) (base_of b r)) (shape_of b.tree.nodes r) c.1.verdict c.1.proof) why
 
 abbrev pub ClaimFails : PlatformFacts → BookState → ℕ → Data → Faults
 ClaimFails platform b r object = SaidFails platform b r (claim_said platform object)
@@ -58,7 +58,7 @@ pub record FailsNext (left : List Data) (platform : PlatformFacts) (b : BookStat
 pub record FailsAtDomain (platform : PlatformFacts) (rs : List CallFacts) (objects : List Data) (objection : Objection) : Type 0 where
   pub made : List CallFacts
   pub rest : List CallFacts
-  pub calls : rs ≡ made ++ rest
+  pub in_order : rs ≡ made ++ rest
   pub taken : List Data
   pub left : List Data
   pub split : objects ≡ taken ++ left

@@ -67,7 +67,7 @@ IsRefusal bytes fault = ⊥
 pub record AnswersIn (script : ScriptFacts) (certificate : List ℕ) (answer : CheckAnswer) (text : List ℕ) : Type 0 where
   pub objects : List Data
   pub lists : IsListOf certificate objects
-  pub answers : Answers script.platform script.calls objects answer
+  pub holds : Answers script.platform script.calls objects answer
   pub says : text ≡ answer_text answer (length objects)
 
 -- a certificate's answer for the bytes of a script was written
