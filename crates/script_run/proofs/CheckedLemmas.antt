@@ -167,13 +167,13 @@ module _ (had left proof proof_left : Option (List ℕ)) (bytes certificate : Li
       script = λ found is. absurd (cc);
       proof_refused = λ is. absurd (cc);
       front = λ is. both_of had proof (λ input. IsScriptOf input script) (λ c. AnswersIn script c answer text) (λ input c. WritesAnswerPart input c before after)
-          (λ input c a b. record { script = script; reads = a; answer = answer; text = text; holds = b; front = front }) reads answered;
+          (λ input c a b. record { answer = answer; text = text; checks = record { script = script; reads = a; holds = b }; front = front }) reads answered;
       unwritten = λ found is not. absurd (not (cc));
     })
 
     written_as : Appends before after text → IfBoth had proof (λ input c. WritesAnswer input c answer before after)
     written_as written = both_of had proof (λ input. IsScriptOf input script) (λ c. AnswersIn script c answer text) (λ input c. WritesAnswer input c answer before after)
-        (λ input c a b. record { script = script; reads = a; text = text; holds = b; written = written }) reads answered
+        (λ input c a b. record { text = text; checks = record { script = script; reads = a; holds = b }; written = written }) reads answered
 
   -- one that says yes
   pub check-yes : (before after : Option (List ℕ)) (answer : CheckAnswer) (text : List ℕ) → AnswersIn script certificate answer text → answer ≡ answers.Yes → Appends before after text
@@ -198,7 +198,7 @@ module _ (had left proof proof_left : Option (List ℕ)) (bytes certificate : Li
       record {
         yes = λ e. absurd (cc);
         no = λ e. both_of had proof (λ input. IsScriptOf input script) (λ c. AnswersIn script c (answers.No objection) text) (λ input c. WritesNo input c before after)
-            (λ input c a b. record { objection = objection; writes = record { script = script; reads = a; text = text; holds = b; written = written } })
+            (λ input c a b. record { objection = objection; writes = record { text = text; checks = record { script = script; reads = a; holds = b }; written = written } })
             reads (answered before after (answers.No objection) text holds_no);
         fed = λ e. absurd (cc);
         script = λ found e. absurd (cc);

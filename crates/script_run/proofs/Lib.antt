@@ -4,6 +4,7 @@ pub mod BothLemmas
 pub mod CheckedLemmas
 pub mod Checks
 pub mod OneCertified
+pub mod OneCheck
 pub mod Corners
 pub mod Failures
 pub mod Following

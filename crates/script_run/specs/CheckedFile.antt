@@ -70,26 +70,28 @@ pub record AnswersIn (script : ScriptFacts) (certificate : List ℕ) (answer : C
   pub holds : Answers script.platform script.calls objects answer
   pub says : text ≡ answer_text answer (length objects)
 
--- a certificate's answer for the bytes of a script was written
-pub record WritesAnswer (input certificate : List ℕ) (answer : CheckAnswer) (before after : Option (List ℕ)) : Type 0 where
+-- the bytes of a script and of a certificate give this answer, in this text
+pub record ChecksTo (input certificate : List ℕ) (answer : CheckAnswer) (text : List ℕ) : Type 0 where
   pub script : ScriptFacts
   pub reads : IsScriptOf input script
-  pub text : List ℕ
   pub holds : AnswersIn script certificate answer text
+
+-- their answer was written
+pub record WritesAnswer (input certificate : List ℕ) (answer : CheckAnswer) (before after : Option (List ℕ)) : Type 0 where
+  pub text : List ℕ
+  pub checks : ChecksTo input certificate answer text
   pub written : Appends before after text
 
--- it objects, and that was written
+-- it is no, and was written
 pub record WritesNo (input certificate : List ℕ) (before after : Option (List ℕ)) : Type 0 where
   pub objection : Objection
   pub writes : WritesAnswer input certificate (answers.No objection) before after
 
--- a prefix of its answer was written
+-- a prefix of their answer was written
 pub record WritesAnswerPart (input certificate : List ℕ) (before after : Option (List ℕ)) : Type 0 where
-  pub script : ScriptFacts
-  pub reads : IsScriptOf input script
   pub answer : CheckAnswer
   pub text : List ℕ
-  pub holds : AnswersIn script certificate answer text
+  pub checks : ChecksTo input certificate answer text
   pub front : WritesFront before after text
 
 -- the bytes are a script, and those of the certificate no list

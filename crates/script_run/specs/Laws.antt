@@ -2,6 +2,8 @@
 use Rattle.std.specs.Prelude.{◌≡◌, ℕ, List, false, Result, Ok, Err}
 use Rattle.sysmem_sanitise.specs.Platform.{PlatformFacts}
 use Rattle.script_reading.specs.declared.fault.ScriptFault.{ScriptFault}
+use Rattle.script_run.specs.declared.checked_file.CheckAnswer.{CheckAnswer}
+use Rattle.script_run.specs.CheckedFile.{ChecksTo}
 use Rattle.script_run.specs.Outcome.{ReportFacts, RunsTo}
 use Rattle.script_run.specs.Report.{Certified, IsReport}
 use Rattle.script_reading.specs.Script.{CallFacts}
@@ -23,3 +25,7 @@ OneAnswer = (input : List ℕ) (a b : Result ReportFacts ScriptFault) → RunsTo
 -- bytes with a fault give that fault and nothing else, whether or not memory is refused
 abbrev pub FaultIsAlone : Type 0
 FaultIsAlone = (input : List ℕ) (fault : ScriptFault) (b : Result ReportFacts ScriptFault) → RunsTo input (Err fault) → RunsTo input b → b ≡ Err fault
+
+-- the bytes of a script and of a certificate give one answer, in one text
+abbrev pub OneCheck : Type 0
+OneCheck = (input certificate : List ℕ) (a b : CheckAnswer) (s t : List ℕ) → ChecksTo input certificate a s → ChecksTo input certificate b t → (a ≡ b) × (s ≡ t)

@@ -1,9 +1,9 @@
 //! What is true of reports, whoever writes them.
 
-ghost use Rattle.script_run.specs.Laws.{FaultIsAlone, OneAnswer, OneReport};
+ghost use Rattle.script_run.specs.Laws.{FaultIsAlone, OneAnswer, OneCheck, OneReport};
 
 use sysmem_image::laws::corner_is_least;
-use sysmem_proof::laws;
+use sysmem_proof::laws::{self, faults_are_first, tests_are_exact};
 
 /// The calls of a script have one report on a platform, where memory is not refused.
 pub fn one_report()
@@ -24,3 +24,11 @@ pub fn one_answer()
 pub fn fault_is_alone()
     ensures { FaultIsAlone }
 {}
+
+/// The bytes of a script and of a certificate give one answer: yes, or one number at one path.
+pub fn one_check()
+    ensures { OneCheck }
+{
+    tests_are_exact();
+    faults_are_first();
+}
