@@ -18,16 +18,16 @@ use Rattle.sysmem_image.specs.declared.bounds.ImageBounds.{ImageBounds}
 use Rattle.sysmem_image.specs.declared.size.Size.{Size}
 use Rattle.sysmem_image.specs.Bounds.{IsInRange, IsOwn}
 use Rattle.sysmem_image.specs.Fields as f
-use Rattle.sysmem_image.specs.Size.{most_number}
+use Rattle.sysmem_counts.specs.Bounds.{most_number}
 use Rattle.sysmem_memory.specs.declared.place.Place.{Place}
 use Rattle.sysmem_memory.specs.Domain.{domain_name}
 use Rattle.sysmem_memory.specs.Heap.{HeapFacts, same_heap}
 use Rattle.sysmem_memory.specs.Place.{IsPlace}
 use Rattle.sysmem_merge.specs.declared.settings.Settings.{Settings}
-use Rattle.sysmem_merge.proofs.SoundSettings.{offered_test}
+use Rattle.sysmem_merge.proofs.CallerLemmas.{offered_test}
 use Rattle.sysmem_sanitise.specs.Platform.{PlatformFacts, offers_of}
 use Rattle.sysmem_sanitise.specs.Reading.Names.{format_named, modifier_named, colour_named, domain_named}
-use Rattle.sysmem_sanitise.specs.Reading.Pairs.{same_pair, has_pair, same_colour, has_colour}
+use Rattle.sysmem_sanitise.specs.Reading.Pairs.{same_pair, has_pair, same_colour, lists_colour}
 use Rattle.certificate_text.specs.Bounds.{count_data, size_data, bounds_data}
 use Rattle.certificate_text.specs.CanBeRead.{AreReadableSettings}
 use Rattle.certificate_text.specs.Reading.{◌>>=◌, number_to, at_key, named_at}
@@ -98,9 +98,9 @@ among same tells xs x = (
   λ has. list_any_at (λ y. same y x) xs has.0 x has.1 ((tells _ x).1 has.2),
 )
 
-image_offered : (platform : PlatformFacts) (pair : Pair) (colour : ColourSpace) → Contains (offers_of platform) (Image pair colour) → (has_pair platform.pairs pair && has_colour platform.colours colour) ≡ true
+image_offered : (platform : PlatformFacts) (pair : Pair) (colour : ColourSpace) → Contains (offers_of platform) (Image pair colour) → (has_pair platform.pairs pair && lists_colour platform.colours colour) ≡ true
 image_offered platform pair colour has =
-    (offered_test platform (Image pair colour) platform.pairs platform.colours pair colour (has_pair platform.pairs pair) (has_colour platform.colours colour) refl refl refl
+    (offered_test platform (Image pair colour) platform.pairs platform.colours pair colour (has_pair platform.pairs pair) (lists_colour platform.colours colour) refl refl refl
     (among same_pair pair_tells platform.pairs pair) (among same_colour colour_tells platform.colours colour)).1 has
 
 image_back : (pair : Pair) (colour : ColourSpace) → image_said (image_data (Image pair colour)) ≡ Some (Image pair colour)

@@ -48,11 +48,11 @@ abbrev pub named_at : {A : Type 0} → List ℕ → (List ℕ → Option A) → 
 named_at key named d = at_key key as_str d >>= named
 
 -- a result, seen so, is what is said, or memory was refused
-abbrev pub Gives : {X A : Type 0} → (X → A) → Result X Unread → Option A → Type 0
-Gives seen (Ok x) said = said ≡ Some (seen x)
-Gives seen (Err WrongForm) said = said ≡ None
-Gives seen (Err NoMemory) said = ⊤
+abbrev pub ReadsAs : {X A : Type 0} → (X → A) → Result X Unread → Option A → Type 0
+ReadsAs seen (Ok x) said = said ≡ Some (seen x)
+ReadsAs seen (Err WrongForm) said = said ≡ None
+ReadsAs seen (Err NoMemory) said = ⊤
 
 -- the same of what is seen as itself
 abbrev pub Says : {A : Type 0} → Result A Unread → Option A → Type 0
-Says result said = Gives (λ a. a) result said
+Says result said = ReadsAs (λ a. a) result said

@@ -10,7 +10,7 @@ use Rattle.sysmem_formats.specs.declared.offer.Offer.{Offer}
 use Rattle.sysmem_formats.specs.declared.offer.Offer.TheVariants.{NoImage, Image}
 use Rattle.sysmem_image.specs.declared.bounds.ImageBounds.{ImageBounds}
 use Rattle.sysmem_image.specs.declared.size.Size.{Size}
-use Rattle.sysmem_image.specs.Size.{most_number}
+use Rattle.sysmem_counts.specs.Bounds.{most_number}
 use Rattle.sysmem_memory.specs.declared.domain.CoherencyDomain.{CoherencyDomain}
 use Rattle.sysmem_memory.specs.declared.place.Place.{Place}
 use Rattle.sysmem_memory.specs.Domain.{has_domain}
@@ -18,7 +18,7 @@ use Rattle.sysmem_memory.specs.Heap.{HeapFacts}
 use Rattle.sysmem_merge.specs.declared.settings.Settings.{Settings}
 use Rattle.sysmem_sanitise.specs.Platform.{PlatformFacts}
 use Rattle.sysmem_sanitise.specs.Reading.Names.{format_named, modifier_named, colour_named, domain_named}
-use Rattle.sysmem_sanitise.specs.Reading.Pairs.{has_pair, has_colour}
+use Rattle.sysmem_sanitise.specs.Reading.Pairs.{has_pair, lists_colour}
 use Rattle.certificate_text.specs.Reading.{◌>>=◌, object_of, number_to, at_key, named_at}
 
 -- ---- bounds
@@ -182,7 +182,7 @@ bounds_beside (Image pair colour) d = option_map bounds_by (numbers_said d)
 abbrev pub offered : PlatformFacts → Offer → Option Offer
 offered platform NoImage = Some NoImage
 offered platform (Image pair colour) =
-    if has_pair platform.pairs pair && has_colour platform.colours colour then Some (Image pair colour) else None
+    if has_pair platform.pairs pair && lists_colour platform.colours colour then Some (Image pair colour) else None
 
 abbrev pub image_said : Data → Option Offer
 image_said d = do

@@ -6,7 +6,7 @@ ghost use Rattle.certificate_text.specs.Reading.{named_at};
 ghost use Rattle.certificate_text.specs.SettingsSaid.{heap_len, heap_said, id_said, image_said, is_heap, offer_said, offered, place_at, place_said, settings_said};
 ghost use Rattle.serde_json.specs.View.{view};
 ghost use Rattle.sysmem_sanitise.specs.Reading.Names.{colour_named, domain_named, format_named, modifier_named};
-ghost use Rattle.sysmem_sanitise.specs.Reading.Pairs.{has_colour, has_pair, same_pair};
+ghost use Rattle.sysmem_sanitise.specs.Reading.Pairs.{lists_colour, has_pair, same_pair};
 ghost use Rattle.certificate_text.specs.Told.{heap_data, image_bounds_data, image_data, settings_data};
 
 use crate::bounds::{bounds_beside, put_bounds};
@@ -204,7 +204,7 @@ fn offered(platform: &Platform, offer: Offer) -> Option<Offer>
     match offer {
         Offer::NoImage => Some(offer),
         Offer::Image(pair, colour) => {
-            if has_pair(platform.pairs(), pair) && has_colour(platform.colours(), colour) {
+            if has_pair(platform.pairs(), pair) && lists_colour(platform.colours(), colour) {
                 Some(offer)
             } else {
                 None
@@ -225,8 +225,8 @@ fn is_same(a: Pair, b: Pair) -> bool
     a == b
 }
 
-fn has_colour(colours: &[ColourSpace], colour: ColourSpace) -> bool
-    ensures { result ≡ has_colour colours.now colour }
+fn lists_colour(colours: &[ColourSpace], colour: ColourSpace) -> bool
+    ensures { result ≡ lists_colour colours.now colour }
 {
     colours.contains(&colour)
 }

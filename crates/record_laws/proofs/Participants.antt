@@ -17,8 +17,8 @@ use Rattle.sysmem_sanitise.specs.Faults.{wrong}
 use Rattle.sysmem_sanitise.specs.Participant.{Participant, IsEntry, AreApart}
 use Rattle.sysmem_sanitise.specs.Reading.Bounds.{bounds_of}
 use Rattle.sysmem_sanitise.specs.Reading.Constraints.{usage_of, counts_of, memory_of}
-use Rattle.sysmem_sanitise.specs.Reading.Entries.{same_format, same_modifier, same_asked, asks_misfit, asked_of, asked_by, has_entry, has_asked, with_asked, own_pair, asked_pairs, colour_set_of, with_entry, entries_of}
-use Rattle.sysmem_sanitise.specs.Reading.Fields.{is_key_of, passing, named, number_of}
+use Rattle.sysmem_sanitise.specs.Reading.Entries.{same_format, same_modifier, same_asked, asks_misfit, asked_of, pair_asked, is_asked_already, has_asked, with_asked, own_pair, asked_pairs, colour_set_of, with_entry, entries_of}
+use Rattle.sysmem_sanitise.specs.Reading.Fields.{is_key_of, passing, named, number_up_to}
 use Rattle.sysmem_sanitise.specs.Reading.Heaps.{IsHeapName, permitted_of}
 use Rattle.sysmem_sanitise.specs.Reading.Names.{format_named, modifier_named, choice_named}
 use Rattle.record_laws.specs.Laws.{EachParticipantIsStated}
@@ -36,8 +36,8 @@ pub memory_stated : (w : MemoryWishes) → AreWishes w → length w.permitted_he
     → memory_of None (memory_record w) ≡ Ok w
 unfolding is_key_of
 memory_stated w small few distinct each =
-    next (number_of field.MinSizeBytes (2 ^ 64 - 1) (natural w.min_size_bytes)) w.min_size_bytes _ (Ok w) (number_stated field.MinSizeBytes (2 ^ 64 - 1) w.min_size_bytes small.min_size)
-    (next (number_of field.MaxSizeBytes (2 ^ 64 - 1) (natural w.max_size_bytes)) w.max_size_bytes _ (Ok w) (number_stated field.MaxSizeBytes (2 ^ 64 - 1) w.max_size_bytes small.max_size)
+    next (number_up_to field.MinSizeBytes (2 ^ 64 - 1) (natural w.min_size_bytes)) w.min_size_bytes _ (Ok w) (number_stated field.MinSizeBytes (2 ^ 64 - 1) w.min_size_bytes small.min_size)
+    (next (number_up_to field.MaxSizeBytes (2 ^ 64 - 1) (natural w.max_size_bytes)) w.max_size_bytes _ (Ok w) (number_stated field.MaxSizeBytes (2 ^ 64 - 1) w.max_size_bytes small.max_size)
     (next (permitted_of None (list heap_name_record w.permitted_heaps)) w.permitted_heaps _ (Ok w) (permitted_list w.permitted_heaps few distinct each small.ids) refl))
 
 format_tells : (a b : Option PixelFormat) → Decides (same_format a b) (a ≡ b)
@@ -51,7 +51,7 @@ apart_by true true a b formats modifiers apart = absurd (apart (formats.0 refl) 
 apart_by true false a b formats modifiers apart = refl
 apart_by false m a b formats modifiers apart = refl
 
-not_same : (a b : Entry) → AreApart a b → same_asked (asked_by a) (asked_by b) ≡ false
+not_same : (a b : Entry) → AreApart a b → same_asked (pair_asked a) (pair_asked b) ≡ false
 not_same a b apart = apart_by _ _ a b (format_tells a.format b.format) (modifier_tells a.modifier b.modifier) apart
 
 asks_none : (f : Option PixelFormat) (m : Option Modifier) → ((pair : Pair) → f ≡ Some pair.format → m ≡ Some pair.modifier → IsTiledMisfit pair → ⊥) → asks_misfit f m ≡ false
@@ -62,28 +62,28 @@ asks_none (Some f) (Some m) fits = no_misfit (record { format = f; modifier = m 
 room_left : (n : ℕ) → nat_lt n 64 ≡ true → nat_lt (n + 0) 64 ≡ true
 room_left n h = search (rules, tests)
 
-asked_stated : (e : Entry) → asked_of (entry_record e) ≡ Ok (asked_by e)
+asked_stated : (e : Entry) → asked_of (entry_record e) ≡ Ok (pair_asked e)
 asked_stated e =
-    next (named (choice_named format_named) field.PixelFormat (choice format_name e.format)) e.format _ (Ok (asked_by e)) (format_choice field.PixelFormat e.format)
-    (next (named (choice_named modifier_named) field.PixelFormatModifier (choice modifier_name e.modifier)) e.modifier _ (Ok (asked_by e)) (modifier_choice field.PixelFormatModifier e.modifier) refl)
+    next (named (choice_named format_named) field.PixelFormat (choice format_name e.format)) e.format _ (Ok (pair_asked e)) (format_choice field.PixelFormat e.format)
+    (next (named (choice_named modifier_named) field.PixelFormatModifier (choice modifier_name e.modifier)) e.modifier _ (Ok (pair_asked e)) (modifier_choice field.PixelFormatModifier e.modifier) refl)
 
-pair_stated : (front : List Entry) (e : Entry) → IsEntry e → nat_lt (length front) 64 ≡ true → has_entry front (asked_by e) ≡ false
-    → with_asked None field.PixelFormat front [] (asked_by e) ≡ Ok (asked_by e ∷ [])
+pair_stated : (front : List Entry) (e : Entry) → IsEntry e → nat_lt (length front) 64 ≡ true → is_asked_already front (pair_asked e) ≡ false
+    → with_asked None field.PixelFormat front [] (pair_asked e) ≡ Ok (pair_asked e ∷ [])
 pair_stated front e is room new =
-    next (passing (wrong code.TiledMisfit field.PixelFormat) (λ pair. not (asks_misfit pair.format pair.modifier)) (asked_by e)) (asked_by e) _ (Ok (asked_by e ∷ []))
-    (passes _ (λ pair. not (asks_misfit pair.format pair.modifier)) (asked_by e) (refused_not _ (asks_none e.format e.modifier is.fitting)))
-    (next (passing (wrong code.TooMany field.PixelFormat) (λ _. nat_lt (length front + 0) 64) (asked_by e)) (asked_by e) _ (Ok (asked_by e ∷ []))
-    (passes _ (λ _. nat_lt (length front + 0) 64) (asked_by e) (room_left (length front) room))
-    (next (passing (wrong code.RepeatedPair field.PixelFormat) (λ pair. not (has_entry front pair || has_asked [] pair)) (asked_by e)) (asked_by e) _ (Ok (asked_by e ∷ []))
-    (passes _ (λ pair. not (has_entry front pair || has_asked [] pair)) (asked_by e) (ap (λ b. not (b || false)) new)) refl))
+    next (passing (wrong code.TiledMisfit field.PixelFormat) (λ pair. not (asks_misfit pair.format pair.modifier)) (pair_asked e)) (pair_asked e) _ (Ok (pair_asked e ∷ []))
+    (passes _ (λ pair. not (asks_misfit pair.format pair.modifier)) (pair_asked e) (refused_not _ (asks_none e.format e.modifier is.fitting)))
+    (next (passing (wrong code.TooMany field.PixelFormat) (λ _. nat_lt (length front + 0) 64) (pair_asked e)) (pair_asked e) _ (Ok (pair_asked e ∷ []))
+    (passes _ (λ _. nat_lt (length front + 0) 64) (pair_asked e) (room_left (length front) room))
+    (next (passing (wrong code.RepeatedPair field.PixelFormat) (λ pair. not (is_asked_already front pair || has_asked [] pair)) (pair_asked e)) (pair_asked e) _ (Ok (pair_asked e ∷ []))
+    (passes _ (λ pair. not (is_asked_already front pair || has_asked [] pair)) (pair_asked e) (ap (λ b. not (b || false)) new)) refl))
 
-pub entry_stated : (front : List Entry) (e : Entry) → IsEntry e → IsInRange e.bounds.asked → nat_lt (length front) 64 ≡ true → has_entry front (asked_by e) ≡ false
+pub entry_stated : (front : List Entry) (e : Entry) → IsEntry e → IsInRange e.bounds.asked → nat_lt (length front) 64 ≡ true → is_asked_already front (pair_asked e) ≡ false
     → with_entry None front (entry_record e) ≡ Ok (front ++ e ∷ [])
 unfolding is_key_of
 entry_stated front e is small room new =
-    next (asked_pairs None front (entry_record e)) (asked_by e ∷ []) _ (Ok (front ++ e ∷ []))
-    (next (own_pair None front (entry_record e)) (asked_by e ∷ []) _ (Ok (asked_by e ∷ []))
-    (next (asked_of (entry_record e)) (asked_by e) _ (Ok (asked_by e ∷ [])) (asked_stated e) (pair_stated front e is room new)) refl)
+    next (asked_pairs None front (entry_record e)) (pair_asked e ∷ []) _ (Ok (front ++ e ∷ []))
+    (next (own_pair None front (entry_record e)) (pair_asked e ∷ []) _ (Ok (pair_asked e ∷ []))
+    (next (asked_of (entry_record e)) (pair_asked e) _ (Ok (pair_asked e ∷ [])) (asked_stated e) (pair_stated front e is room new)) refl)
     (next (colour_set_of (array (colour_items e.colours))) e.colours _ (Ok (front ++ e ∷ [])) (colour_set_stated e.colours is.some_colours)
     (next (bounds_of (entry_record e)) e.bounds _ (Ok (front ++ e ∷ [])) (bounds_stated e is small) refl))
 
@@ -91,16 +91,16 @@ entries_list : (es : List Entry) → length es ≤ 64 → AllPairs AreApart es �
 entries_list es few distinct each small =
     each_stated entry_record (with_entry None) es (λ front back e is.
     entry_stated front e (item_has IsEntry es front back e is each) (item_has (λ e. IsInRange e.bounds.asked) es front back e is small) (has_room es front back e is few)
-    (none_before AreApart (λ a b. same_asked (asked_by a) (asked_by b)) not_same es front back e is distinct)) [] es refl
+    (none_before AreApart (λ a b. same_asked (pair_asked a) (pair_asked b)) not_same es front back e is distinct)) [] es refl
 
 counts_stated : (p : Participant) → AreCounts p.counts → counts_of (participant_record p) ≡ Ok p.counts
 counts_stated p small =
     let c = p.counts in
-    next (number_of field.MinBufferCountForCamping _ (natural c.min_buffer_count_for_camping)) c.min_buffer_count_for_camping _ (Ok c) (number_stated field.MinBufferCountForCamping _ c.min_buffer_count_for_camping small.camping)
-    (next (number_of field.MinBufferCountForDedicatedSlack _ (natural c.min_buffer_count_for_dedicated_slack)) c.min_buffer_count_for_dedicated_slack _ (Ok c) (number_stated field.MinBufferCountForDedicatedSlack _ c.min_buffer_count_for_dedicated_slack small.dedicated)
-    (next (number_of field.MinBufferCountForSharedSlack _ (natural c.min_buffer_count_for_shared_slack)) c.min_buffer_count_for_shared_slack _ (Ok c) (number_stated field.MinBufferCountForSharedSlack _ c.min_buffer_count_for_shared_slack small.shared)
-    (next (number_of field.MinBufferCount _ (natural c.min_buffer_count)) c.min_buffer_count _ (Ok c) (number_stated field.MinBufferCount _ c.min_buffer_count small.minimum)
-    (next (number_of field.MaxBufferCount _ (natural c.max_buffer_count)) c.max_buffer_count _ (Ok c) (number_stated field.MaxBufferCount _ c.max_buffer_count small.maximum) refl))))
+    next (number_up_to field.MinBufferCountForCamping _ (natural c.min_buffer_count_for_camping)) c.min_buffer_count_for_camping _ (Ok c) (number_stated field.MinBufferCountForCamping _ c.min_buffer_count_for_camping small.camping)
+    (next (number_up_to field.MinBufferCountForDedicatedSlack _ (natural c.min_buffer_count_for_dedicated_slack)) c.min_buffer_count_for_dedicated_slack _ (Ok c) (number_stated field.MinBufferCountForDedicatedSlack _ c.min_buffer_count_for_dedicated_slack small.dedicated)
+    (next (number_up_to field.MinBufferCountForSharedSlack _ (natural c.min_buffer_count_for_shared_slack)) c.min_buffer_count_for_shared_slack _ (Ok c) (number_stated field.MinBufferCountForSharedSlack _ c.min_buffer_count_for_shared_slack small.shared)
+    (next (number_up_to field.MinBufferCount _ (natural c.min_buffer_count)) c.min_buffer_count _ (Ok c) (number_stated field.MinBufferCount _ c.min_buffer_count small.minimum)
+    (next (number_up_to field.MaxBufferCount _ (natural c.max_buffer_count)) c.max_buffer_count _ (Ok c) (number_stated field.MaxBufferCount _ c.max_buffer_count small.maximum) refl))))
 
 pub participant_stated : EachParticipantIsStated
 unfolding is_key_of

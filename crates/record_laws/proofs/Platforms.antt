@@ -12,8 +12,8 @@ use Rattle.sysmem_sanitise.specs.Faults.{wrong}
 use Rattle.sysmem_sanitise.specs.Reading.Fields.{is_key_of, named, passing, read_each}
 use Rattle.sysmem_sanitise.specs.Reading.Heaps.{heaps_of}
 use Rattle.sysmem_sanitise.specs.Reading.Names.{format_named, modifier_named, colour_named}
-use Rattle.sysmem_sanitise.specs.Reading.Pairs.{same_pair, has_pair, same_colour, has_colour, is_tiled_misfit}
-use Rattle.sysmem_sanitise.specs.Reading.Platform.{pair_of, with_pair, pairs_of, with_colour, colours_of}
+use Rattle.sysmem_sanitise.specs.Reading.Pairs.{same_pair, has_pair, same_colour, lists_colour, is_tiled_misfit}
+use Rattle.sysmem_sanitise.specs.Reading.Platform.{pair_of, with_pair, pairs_of, with_new_colour, colours_of}
 use Rattle.record_laws.specs.Laws.{EachPlatformIsStated}
 use Rattle.record_laws.specs.Records.{list, heap_record, pair_record, colour_record}
 use Rattle.record_laws.proofs.Each.{passes, next, each_stated, item_has, none_before, not_empty, refused_not}
@@ -57,11 +57,11 @@ pairs_list ps some distinct fits =
 
 colours_list : (cs : List ColourSpace) → 1 ≤ length cs → AllPairs (λ a b. a ≢ b) cs → colours_of None (list colour_record cs) ≡ Ok cs
 colours_list cs some distinct =
-    next (read_each (with_colour None) [] _) cs _ (Ok cs)
-    (each_stated colour_record (with_colour None) cs (λ front back c is.
+    next (read_each (with_new_colour None) [] _) cs _ (Ok cs)
+    (each_stated colour_record (with_new_colour None) cs (λ front back c is.
     next (named colour_named field.ColorSpaces (colour_record c)) c _ (Ok (front ++ c ∷ [])) (named_stated colour_named field.ColorSpaces (colour_name c) c (colour_stated c))
-    (next (passing (wrong code.BadPlatformList field.ColorSpaces) (λ colour. not (has_colour front colour)) c) c _ (Ok (front ++ c ∷ []))
-    (passes _ (λ colour. not (has_colour front colour)) c (refused_not _ (none_before (λ a b. a ≢ b) same_colour (λ a b differ. apart (same_colour a b) (a ≡ b) (colour_tells a b) differ) cs front back c is distinct))) refl)) [] cs refl)
+    (next (passing (wrong code.BadPlatformList field.ColorSpaces) (λ colour. not (lists_colour front colour)) c) c _ (Ok (front ++ c ∷ []))
+    (passes _ (λ colour. not (lists_colour front colour)) c (refused_not _ (none_before (λ a b. a ≢ b) same_colour (λ a b differ. apart (same_colour a b) (a ≡ b) (colour_tells a b) differ) cs front back c is distinct))) refl)) [] cs refl)
     (passes _ (λ cs. not (length cs == 0)) cs (not_empty cs some))
 
 pub platform_stated : EachPlatformIsStated

@@ -15,12 +15,12 @@ use Rattle.sysmem_sanitise.specs.declared.fault.FaultPlace.TheVariants.{Whole, A
 use Rattle.sysmem_sanitise.specs.Faults.{wrong}
 use Rattle.sysmem_sanitise.specs.Reading.Bounds.{bounds_of}
 use Rattle.sysmem_sanitise.specs.Reading.Constraints.{memory_fields, memory_of, constraints_fields, usage_of, counts_of}
-use Rattle.sysmem_sanitise.specs.Reading.Entries.{entry_object, colour_set_of, entry_with, asks_misfit, has_entry, has_asked, with_asked, own_pair, no_pair, asked_of, with_further, further_of, asked_pairs, with_entry, entries_of}
+use Rattle.sysmem_sanitise.specs.Reading.Entries.{entry_object, colour_set_of, entry_with, asks_misfit, is_asked_already, has_asked, with_asked, own_pair, no_pair, asked_of, with_further, further_of, asked_pairs, with_entry, entries_of}
 use Rattle.sysmem_sanitise.specs.Reading.Fields.{◌>>=◌, object_of, list_of, number_or, flag_or, kept, passing, text_of, named, same_field, optional, read_or, read_each, stated, required}
 use Rattle.sysmem_sanitise.specs.Reading.Heaps.{name_fields, heap_info_fields, is_heap_type, has_heap, has_permitted, heap_type_of, heap_name_of, heap_of, with_heap, heaps_of, permitted_heap, with_permitted, permitted_of}
 use Rattle.sysmem_sanitise.specs.Reading.Names.{colour_named}
-use Rattle.sysmem_sanitise.specs.Reading.Pairs.{pair_fields, is_tiled_misfit, has_pair, has_colour}
-use Rattle.sysmem_sanitise.specs.Reading.Platform.{platform_fields, pair_of, with_pair, pairs_of, with_colour, colours_of}
+use Rattle.sysmem_sanitise.specs.Reading.Pairs.{pair_fields, is_tiled_misfit, has_pair, lists_colour}
+use Rattle.sysmem_sanitise.specs.Reading.Platform.{platform_fields, pair_of, with_pair, pairs_of, with_new_colour, colours_of}
 use Rattle.record_laws.specs.Laws.{IsOrWants, ParticipantOrWants, PlatformOrWants}
 
 -- one answer, and then the next
@@ -95,15 +95,15 @@ pairs_wants lack d =
     after lack (list_of field.Pairs d) _ _ (λ items.
     after_each lack (with_pair (Some lack)) (with_pair None) items (λ xs. passing (wrong code.BadPlatformList field.Pairs) (λ xs. not (length xs == 0)) xs) (with_pair_wants lack))
 
-with_colour_wants : (lack : Field) (cs : List _) (d : Data) → IsOrWants lack (with_colour (Some lack) cs d) (with_colour None cs d)
+with_colour_wants : (lack : Field) (cs : List _) (d : Data) → IsOrWants lack (with_new_colour (Some lack) cs d) (with_new_colour None cs d)
 with_colour_wants lack cs d =
     after lack (named colour_named field.ColorSpaces d) _ _ (λ colour.
-    after lack (passing (wrong code.BadPlatformList field.ColorSpaces) (λ colour. not (has_colour cs colour)) colour) _ _ (λ new. kept_wants lack field.ColorSpaces (cs ++ new ∷ [])))
+    after lack (passing (wrong code.BadPlatformList field.ColorSpaces) (λ colour. not (lists_colour cs colour)) colour) _ _ (λ new. kept_wants lack field.ColorSpaces (cs ++ new ∷ [])))
 
 colours_wants : (lack : Field) (d : Data) → IsOrWants lack (colours_of (Some lack) d) (colours_of None d)
 colours_wants lack d =
     after lack (list_of field.ColorSpaces d) _ _ (λ items.
-    after_each lack (with_colour (Some lack)) (with_colour None) items (λ xs. passing (wrong code.BadPlatformList field.ColorSpaces) (λ xs. not (length xs == 0)) xs) (with_colour_wants lack))
+    after_each lack (with_new_colour (Some lack)) (with_new_colour None) items (λ xs. passing (wrong code.BadPlatformList field.ColorSpaces) (λ xs. not (length xs == 0)) xs) (with_colour_wants lack))
 
 required_wants : {A : Type 0} (lack at : Field) (read full : Data → Result A Fault) (d : Data)
     → ((v : Data) → IsOrWants lack (read v) (full v)) → IsOrWants lack (required at read d) (required at full d)
@@ -146,7 +146,7 @@ with_asked_wants : (lack at : Field) (entries : List Entry) (pairs : List _) (as
 with_asked_wants lack at entries pairs asked =
     after lack (passing (wrong code.TiledMisfit at) (λ pair. not (asks_misfit pair.format pair.modifier)) asked) _ _ (λ fitting.
     after lack (passing (wrong code.TooMany at) (λ _. nat_lt (length entries + length pairs) 64) fitting) _ _ (λ roomy.
-    after lack (passing (wrong code.RepeatedPair at) (λ pair. not (has_entry entries pair || has_asked pairs pair)) roomy) _ _ (λ new. kept_wants lack at (pairs ++ new ∷ []))))
+    after lack (passing (wrong code.RepeatedPair at) (λ pair. not (is_asked_already entries pair || has_asked pairs pair)) roomy) _ _ (λ new. kept_wants lack at (pairs ++ new ∷ []))))
 
 own_by : (lack : Field) (entries : List Entry) (d : Data) (b : Bool)
     → IsOrWants lack (if b then (asked_of d >>= with_asked (Some lack) field.PixelFormat entries []) else no_pair d) (if b then (asked_of d >>= with_asked None field.PixelFormat entries []) else no_pair d)

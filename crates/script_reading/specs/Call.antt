@@ -2,8 +2,9 @@
 use Rattle.std.specs.Prelude.{ℕ, ◌∷◌, [], ◌&&◌, ◌||◌, Bool, List, bytes_eq, codes, Option, Some, None, option_map, option_and_then, if◌then◌else◌}
 use Rattle.std.specs.List.{list_all}
 use Rattle.std.specs.Option.{option_map_or}
-use Rattle.serde_json.specs.Data.{Data, null, Members, no_members, member}
+use Rattle.serde_json.specs.Data.{Data, null, Members}
 use Rattle.serde_json.specs.Find.{get, as_str, as_object}
+use Rattle.sysmem_sanitise.specs.Reading.Fields.{keys_of}
 use Rattle.script_reading.specs.Names.{main_actor}
 
 -- What a call does to the node that it is made on.
@@ -47,10 +48,6 @@ infixl 10 ◌>>=◌
 abbrev pub ◌>>=◌ : {A B : Type 0} → Option A → (A → Option B) → Option B
 None >>= next = None
 Some a >>= next = next a
-
-abbrev pub keys_of : Members → List (List ℕ)
-keys_of no_members = []
-keys_of (member key value ms) = key ∷ keys_of ms
 
 -- the text at a key
 abbrev pub text_at : List ℕ → Data → Option (List ℕ)

@@ -5,7 +5,8 @@ use Rattle.serde_json.specs.Data.{Data, Items, no_items, item}
 use Rattle.serde_json.specs.Find.{get, as_array, as_object}
 use Rattle.script_reading.specs.declared.fault.ScriptFault.{ScriptFault}
 use Rattle.script_reading.specs.declared.fault.ScriptFault.TheVariants.{Misshapen, CallMisshapen, BadName, TooManyCalls, TooManyActors}
-use Rattle.script_reading.specs.Call.{ActFacts, name_made, FormFacts, keys_of, form_of}
+use Rattle.script_reading.specs.Call.{ActFacts, name_made, FormFacts, form_of}
+use Rattle.sysmem_sanitise.specs.Reading.Fields.{keys_of}
 use Rattle.script_reading.specs.Names.{is_name, is_among, with_actor, root}
 use Rattle.script_reading.specs.Platform.{platform_said}
 use Rattle.sysmem_sanitise.specs.Platform.{PlatformFacts}

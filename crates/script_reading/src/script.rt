@@ -2,7 +2,7 @@
 ghost use Rattle.std.specs.Prelude.{◌≡◌, map, option_map};
 ghost use Rattle.std.specs.List.{list_all};
 ghost use Rattle.serde_json.specs.View.{items_view, members_view, view};
-ghost use Rattle.script_reading.specs.Call.{keys_of};
+ghost use Rattle.sysmem_sanitise.specs.Reading.Fields.{keys_of};
 ghost use Rattle.script_reading.specs.Faults.{Gives};
 ghost use Rattle.script_reading.specs.Script.{is_part, parts_of, script_of};
 ghost use Rattle.script_reading.specs.Seen.{script_seen};

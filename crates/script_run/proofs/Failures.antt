@@ -14,7 +14,7 @@ use Rattle.sysmem_tree.specs.ActionKind.{Deed, kind_of}
 use Rattle.sysmem_tree.specs.Domain.{TreeFacts, HasDomain, IsSoundTree, fails, has_failed, host_node, is_host_lost, up_from, was_closed_early}
 use Rattle.sysmem_tree.specs.Node.{NodeFacts}
 use Rattle.sysmem_tree.specs.Tree.{Applied, applied, decided}
-use Rattle.script_run.specs.Marks.{AreMarksOf, failed_at, unmarked_at}
+use Rattle.script_run.specs.Marks.{AreMarksOf, failed_at, failed_unmarked_at}
 use Rattle.script_run.proofs.Walking.{picked}
 
 -- a node that isn't there roots no domain that was closed early
@@ -94,7 +94,7 @@ marks_decided t r choices marks marked = marks_after t (decided t r choices) mar
 
 -- the marked way of asking is the plain one
 pub unmarked_is : (old t : TreeFacts) (marks : List Bool) (k : ℕ) → AreMarksOf old t marks
-    → picked (λ r. has_failed t r && not (has_failed old r)) (slice_get (roots_of t) k) ≡ unmarked_at t marks k
+    → picked (λ r. has_failed t r && not (has_failed old r)) (slice_get (roots_of t) k) ≡ failed_unmarked_at t marks k
 unmarked_is old t marks k are = by (slice_get (roots_of t) k) refl where
   by : (o : Option ℕ) → slice_get (roots_of t) k ≡ o
       → picked (λ r. has_failed t r && not (has_failed old r)) o ≡ option_and_then (λ r. if has_failed t r && not (get_or marks k false) then Some r else None) o

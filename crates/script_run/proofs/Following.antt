@@ -13,21 +13,21 @@ use Rattle.script_run.specs.declared.reply.Reply.{Reply}
 use Rattle.script_run.specs.Answer.{Replies, skips, misreads, starves, lacks, refuses, accepts, tells}
 use Rattle.script_run.specs.Lines.{domain_line}
 use Rattle.script_run.specs.Marks.{AreMarksOf, failed_at}
-use Rattle.script_run.specs.Report.{Certified, DecidesIn, EntersIn, Gave, Goes, GoesIn, Tells, calls, call_lines, certified, decided, decides, decision_lines, failed_lines, stays}
-use Rattle.script_run.specs.State.{State, tree_of}
+use Rattle.script_run.specs.Report.{Certified, DecidesIn, EntersIn, Gave, Goes, GoesIn, Tells, calls, call_lines, certified, with_decision, decides, decision_lines, failed_lines, stays}
+use Rattle.script_run.specs.State.{RunState, collection_tree}
 use Rattle.script_run.proofs.Failures.{marks_same, marks_acted, marks_decided}
 
 -- the domains that had failed before a call are marks for what the call made fail
-pub answered_marks : (s t : State) (r : CallFacts) (reply : Reply) (marks : List Bool) → IsSoundTree (tree_of s) → ((k : ℕ) → get_or marks k false ≡ failed_at (tree_of s) k)
-    → Replies s r reply t → AreMarksOf (tree_of s) (tree_of t) marks
-answered_marks s _ r _ marks sound marked (skips none) = marks_same (tree_of s) marks marked
-answered_marks s _ r _ marks sound marked (misreads k d fault here act read) = marks_same (tree_of s) marks marked
-answered_marks s _ r _ marks sound marked (starves k d fault here act want lack) = marks_same (tree_of s) marks marked
-answered_marks s _ r _ marks sound marked (lacks k d asked here act read) = marks_same (tree_of s) marks marked
-answered_marks s _ r _ marks sound marked (refuses k deed refusal here asks why) = marks_same (tree_of s) marks marked
+pub answered_marks : (s t : RunState) (r : CallFacts) (reply : Reply) (marks : List Bool) → IsSoundTree (collection_tree s) → ((k : ℕ) → get_or marks k false ≡ failed_at (collection_tree s) k)
+    → Replies s r reply t → AreMarksOf (collection_tree s) (collection_tree t) marks
+answered_marks s _ r _ marks sound marked (skips none) = marks_same (collection_tree s) marks marked
+answered_marks s _ r _ marks sound marked (misreads k d fault here act read) = marks_same (collection_tree s) marks marked
+answered_marks s _ r _ marks sound marked (starves k d fault here act want lack) = marks_same (collection_tree s) marks marked
+answered_marks s _ r _ marks sound marked (lacks k d asked here act read) = marks_same (collection_tree s) marks marked
+answered_marks s _ r _ marks sound marked (refuses k deed refusal here asks why) = marks_same (collection_tree s) marks marked
 answered_marks s _ r _ marks sound marked (accepts k made deed tree here asks done) =
-    rw done (marks_acted (tree_of s) k deed (record { tree = tree; node = made }) marks sound marked done)
-answered_marks s _ r _ marks sound marked (tells k here asks) = marks_same (tree_of s) marks marked
+    rw done (marks_acted (collection_tree s) k deed (record { tree = tree; node = made }) marks sound marked done)
+answered_marks s _ r _ marks sound marked (tells k here asks) = marks_same (collection_tree s) marks marked
 
 -- where memory was refused, no verdict is there
 pub none_mapped : {X Y : Type 0} (f : X → Y) (o : Option X) → is_none (option_map f o) ≡ is_none o
@@ -40,31 +40,31 @@ turned a true e = sym (ap not e)
 turned a false e = sym (ap not e)
 
 -- a decision with its lines
-pub enters_as : (s t : State) (c : Claimed) (what before between after : List ℕ) (marks : List Bool)
-    → Tells s.platform (answer_of c).verdict what → between ≡ before ++ domain_line (path_of (tree_of s).nodes c.domain) what
-    → ((k : ℕ) → get_or marks k false ≡ failed_at (tree_of s) k)
-    → ((old : TreeFacts) → AreMarksOf old (tree_of t) marks → after ≡ between ++ failed_lines old (tree_of t)) → t ≡ decided s (answer_of c) → EntersIn s t c before after
+pub enters_as : (s t : RunState) (c : Claimed) (what before between after : List ℕ) (marks : List Bool)
+    → Tells s.platform (answer_of c).verdict what → between ≡ before ++ domain_line (path_of (collection_tree s).nodes c.domain) what
+    → ((k : ℕ) → get_or marks k false ≡ failed_at (collection_tree s) k)
+    → ((old : TreeFacts) → AreMarksOf old (collection_tree t) marks → after ≡ between ++ failed_lines old (collection_tree t)) → t ≡ with_decision s (answer_of c) → EntersIn s t c before after
 enters_as s t c what before between after marks said line marked failed is = record {
   what = what;
   tells = said;
   entered = is;
-  put = all ∙ (ap (λ ts. ts ++ failed_lines (tree_of s) (tree_of (decided s d))) line
-      ∙ append_assoc before (domain_line (path_of (tree_of s).nodes d.domain) what) (failed_lines (tree_of s) (tree_of (decided s d))));
+  put = all ∙ (ap (λ ts. ts ++ failed_lines (collection_tree s) (collection_tree (with_decision s d))) line
+      ∙ append_assoc before (domain_line (path_of (collection_tree s).nodes d.domain) what) (failed_lines (collection_tree s) (collection_tree (with_decision s d))));
 } where
   d : Decision
   d = answer_of c
 
-  all : after ≡ between ++ failed_lines (tree_of s) (tree_of (decided s d))
-  all = (subst (λ (x : State). (old : TreeFacts) → AreMarksOf old (tree_of x) marks → after ≡ between ++ failed_lines old (tree_of x)) is failed)
-      (tree_of s) (marks_decided (tree_of s) d.domain (choices_of d.verdict) marks marked)
+  all : after ≡ between ++ failed_lines (collection_tree s) (collection_tree (with_decision s d))
+  all = (subst (λ (x : RunState). (old : TreeFacts) → AreMarksOf old (collection_tree x) marks → after ≡ between ++ failed_lines old (collection_tree x)) is failed)
+      (collection_tree s) (marks_decided (collection_tree s) d.domain (choices_of d.verdict) marks marked)
 
 -- how a script stands with this book
-abbrev pub state_at : BookFacts → List (Option ℕ) → Bool → State
+abbrev pub state_at : BookFacts → List (Option ℕ) → Bool → RunState
 state_at b names starved = record { platform = b.platform; book = b.state; names = names; starved = starved }
 
 -- a decision that was entered, with whether memory was refused to it
-pub entered_as : (old b : BookFacts) (names : List (Option ℕ)) (starved wants : Bool) (t : State) (c : Claimed) → t ≡ state_at b names (starved || wants) → b ≡ entered old (Decided c)
-    → wants ≡ is_none (answer_of c).verdict → t ≡ decided (state_at old names starved) (answer_of c)
+pub entered_as : (old b : BookFacts) (names : List (Option ℕ)) (starved wants : Bool) (t : RunState) (c : Claimed) → t ≡ state_at b names (starved || wants) → b ≡ entered old (Decided c)
+    → wants ≡ is_none (answer_of c).verdict → t ≡ with_decision (state_at old names starved) (answer_of c)
 entered_as old b names starved wants t c is same short =
     is ∙ (ap (λ (x : BookFacts). state_at x names (starved || wants)) same ∙ ap (λ (w : Bool). state_at (entered old (Decided c)) names (starved || w)) short)
 
@@ -77,7 +77,7 @@ pub few_in : FewEntries → (b : BookFacts) → IsBook b → length b.history �
 few_in few b is = few b.platform b.history is.legal
 
 -- calls and decisions, and others that go on from there
-pub goes_on : (number : ℕ) (s t u : State) (rs qs : List CallFacts) (a b : List ℕ) (cs ds : List Certified) → Goes number s rs a cs t → Goes (number + length rs) t qs b ds u
+pub goes_on : (number : ℕ) (s t u : RunState) (rs qs : List CallFacts) (a b : List ℕ) (cs ds : List Certified) → Goes number s rs a cs t → Goes (number + length rs) t qs b ds u
     → Goes number s (rs ++ qs) (a ++ b) (cs ++ ds) u
 goes_on _ _ _ u _ qs _ b _ ds (stays number s) on = let z : number + 0 ≡ number = omega arith in subst (λ k. Goes k s qs b ds u) z on
 goes_on _ _ _ u _ qs _ b _ ds (calls number s answered t r rs reply text cs idle replied rest) on =
@@ -86,10 +86,10 @@ goes_on _ _ _ u _ qs _ b _ ds (calls number s answered t r rs reply text cs idle
     (calls number s answered u r (rs ++ qs) reply (text ++ b) (cs ++ ds) idle replied (goes_on (number + 1) answered t u rs qs text b cs ds rest (subst (λ k. Goes k t qs b ds u) z on)))
 goes_on _ _ _ u _ qs _ b _ ds (decides number s t c rs what text cs allowed said rest) on =
     subst (λ ts. Goes number s (rs ++ qs) ts (certified s c ∷ cs ++ ds) u) (sym (append_assoc (decision_lines s (answer_of c) what) text b))
-    (decides number s u c (rs ++ qs) what (text ++ b) (cs ++ ds) allowed said (goes_on number (decided s (answer_of c)) t u rs qs text b cs ds rest on))
+    (decides number s u c (rs ++ qs) what (text ++ b) (cs ++ ds) allowed said (goes_on number (with_decision s (answer_of c)) t u rs qs text b cs ds rest on))
 
 -- the same of lines that are put behind a text
-pub goes_in : (number : ℕ) (s t u : State) (rs qs : List CallFacts) (before now next : List ℕ) (G H K : Gave) → GoesIn number s rs t before now G H → GoesIn (number + length rs) t qs u now next H K
+pub goes_in : (number : ℕ) (s t u : RunState) (rs qs : List CallFacts) (before now next : List ℕ) (G H K : Gave) → GoesIn number s rs t before now G H → GoesIn (number + length rs) t qs u now next H K
     → GoesIn number s (rs ++ qs) u before next G K
 goes_in number s t u rs qs before now next G H K first on = record {
   lines = first.lines ++ on.lines;
@@ -99,10 +99,10 @@ goes_in number s t u rs qs before now next G H K first on = record {
   gave = λ cs g. subst K (append_assoc cs first.decisions on.decisions) (on.gave (cs ++ first.decisions) (first.gave cs g));
 }
 
-pub starts : (number : ℕ) (s : State) (before : List ℕ) (G : Gave) → GoesIn number s [] s before before G G
+pub starts : (number : ℕ) (s : RunState) (before : List ℕ) (G : Gave) → GoesIn number s [] s before before G G
 starts number s before G = record { lines = []; decisions = []; goes = stays number s; put = sym (append-nil before); gave = λ cs g. subst G (sym (append-nil cs)) g }
 
-one_decision : (number : ℕ) (s t : State) (before after : List ℕ) (G H : Gave) → DecidesIn s t before after G H → GoesIn number s [] t before after G H
+one_decision : (number : ℕ) (s t : RunState) (before after : List ℕ) (G H : Gave) → DecidesIn s t before after G H → GoesIn number s [] t before after G H
 one_decision number s t before after G H d = record {
   lines = decision_lines s (answer_of d.claimed) d.enters.what ++ [];
   decisions = certified s d.claimed ∷ [];
@@ -112,7 +112,7 @@ one_decision number s t before after G H d = record {
 }
 
 -- a reply leaves the platform
-pub replies_platform : (s t : State) (r : CallFacts) (reply : Reply) → Replies s r reply t → t.platform ≡ s.platform
+pub replies_platform : (s t : RunState) (r : CallFacts) (reply : Reply) → Replies s r reply t → t.platform ≡ s.platform
 replies_platform s _ r _ (skips none) = refl
 replies_platform s _ r _ (misreads k d fault here act read) = refl
 replies_platform s _ r _ (starves k d fault here act want lack) = refl
@@ -122,13 +122,13 @@ replies_platform s _ r _ (accepts k made deed tree here asks done) = refl
 replies_platform s _ r _ (tells k here asks) = refl
 
 -- the platform stays
-pub goes_platform : (number : ℕ) (s t : State) (rs : List CallFacts) (a : List ℕ) (cs : List Certified) → Goes number s rs a cs t → t.platform ≡ s.platform
+pub goes_platform : (number : ℕ) (s t : RunState) (rs : List CallFacts) (a : List ℕ) (cs : List Certified) → Goes number s rs a cs t → t.platform ≡ s.platform
 goes_platform _ _ _ _ _ _ (stays number s) = refl
 goes_platform _ _ _ _ _ _ (calls number s answered t r rs reply text cs idle replied rest) = goes_platform (number + 1) answered t rs text cs rest ∙ replies_platform s answered r reply replied
-goes_platform _ _ _ _ _ _ (decides number s t c rs what text cs allowed said rest) = goes_platform number (decided s (answer_of c)) t rs text cs rest
+goes_platform _ _ _ _ _ _ (decides number s t c rs what text cs allowed said rest) = goes_platform number (with_decision s (answer_of c)) t rs text cs rest
 
 -- one decision more
-pub one_more : (s t u : State) (before now next : List ℕ) (G : Gave) (H K : PlatformFacts → Gave) → DecidesIn t u now next (H t.platform) (K t.platform)
+pub one_more : (s t u : RunState) (before now next : List ℕ) (G : Gave) (H K : PlatformFacts → Gave) → DecidesIn t u now next (H t.platform) (K t.platform)
     → ((number : ℕ) → GoesIn number s [] t before now G (H s.platform)) → (number : ℕ) → GoesIn number s [] u before next G (K s.platform)
 one_more s t u before now next G H K d on number =
     let first = on number in

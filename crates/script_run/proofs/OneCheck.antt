@@ -27,8 +27,8 @@ use Rattle.script_run.specs.Answer.{Replies}
 use Rattle.script_run.specs.Checked.{Answers, AreTaken, ClaimFails, FailsNext, IsOf, NextFails, SaidFails, accepts, has_more, objects_to, too_many}
 use Rattle.script_run.specs.CheckedFile.{AnswersIn, ChecksTo, IsListOf, IsScriptOf, answer_text}
 use Rattle.script_run.specs.Laws.{OneCheck}
-use Rattle.script_run.specs.Report.{Certified, Goes, calls, certified, decided, decides, stays}
-use Rattle.script_run.specs.State.{State, first_state, node_named}
+use Rattle.script_run.specs.Report.{Certified, Goes, calls, certified, with_decision, decides, stays}
+use Rattle.script_run.specs.State.{RunState, first_run_state, node_named}
 use Rattle.script_run.specs.declared.checked_file.CheckAnswer.{CheckAnswer}
 use Rattle.script_run.specs.declared.checked_file.CheckAnswer.TheVariants as answers
 use Rattle.script_run.specs.declared.decider.Objection.{Objection}
@@ -38,13 +38,13 @@ use Rattle.script_run.proofs.Following.{replies_platform}
 use Rattle.script_run.proofs.Unique.{answer_for, is_answer, unstarved_before}
 
 -- where the calls and the objects end: all are there, an object is left, or the next one fails
-data Ends (platform : PlatformFacts) (rest : List CallFacts) (left : List Data) (t : State) : CheckAnswer → Type 0 where
+data Ends (platform : PlatformFacts) (rest : List CallFacts) (left : List Data) (t : RunState) : CheckAnswer → Type 0 where
   all : next_ready t.book ≡ None → rest ≡ [] → left ≡ [] → Ends platform rest left t answers.Yes
   more : (object : Data) (others : List Data) → next_ready t.book ≡ None → rest ≡ [] → left ≡ object ∷ others → Ends platform rest left t too_many
   fails : (r : ℕ) (o : Objection) → next_ready t.book ≡ Some r → FailsNext left platform t.book r o → Ends platform rest left t (answers.No o)
 
 -- calls and decisions from a state to such an end
-record Way (platform : PlatformFacts) (number : ℕ) (s : State) (rs : List CallFacts) (objects : List Data) (a : CheckAnswer) : Type 0 where
+record Way (platform : PlatformFacts) (number : ℕ) (s : RunState) (rs : List CallFacts) (objects : List Data) (a : CheckAnswer) : Type 0 where
   made : List CallFacts
   rest : List CallFacts
   in_order : rs ≡ made ++ rest
@@ -53,13 +53,13 @@ record Way (platform : PlatformFacts) (number : ℕ) (s : State) (rs : List Call
   split : objects ≡ taken ++ left
   lines : List ℕ
   decisions : List Certified
-  last : State
+  last : RunState
   goes : Goes number s made lines decisions last
   are_of : AllZip (IsOf platform) taken decisions
   fed : last.starved ≡ false
   ends : Ends platform rest left last a
 
-way_of : (platform : PlatformFacts) (rs : List CallFacts) (objects : List Data) (a : CheckAnswer) → Answers platform rs objects a → Way platform 1 (first_state platform) rs objects a
+way_of : (platform : PlatformFacts) (rs : List CallFacts) (objects : List Data) (a : CheckAnswer) → Answers platform rs objects a → Way platform 1 (first_run_state platform) rs objects a
 way_of platform rs objects _ (accepts taken) = record {
   made = rs;
   rest = [];
@@ -148,7 +148,7 @@ module _ (exact : TestsAreExact) (law : FaultsAreFirst) (platform : PlatformFact
       let faults = subst (λ (c : Claim). VerdictFaults platform (option_map (terms_of b.tree.nodes) (base_of b r)) (shape_of b.tree.nodes r) c.verdict c.proof why) same h.1 in
       (law platform (option_map (terms_of b.tree.nodes) (base_of b r)) (shape_of b.tree.nodes r)).verdict claim.verdict claim.proof why faults passes
 
-  true_claim : (s : State) (c : Claimed) (claim : Claim) → s.platform ≡ platform → Allows s.platform s.book (Decided c) → c.claim ≡ Some claim
+  true_claim : (s : RunState) (c : Claimed) (claim : Claim) → s.platform ≡ platform → Allows s.platform s.book (Decided c) → c.claim ≡ Some claim
       → IsTrueClaim platform s.book.tree.nodes c.domain (base_of s.book c.domain) claim
   true_claim s c claim same allowed is =
       let there : IsTrueClaim s.platform s.book.tree.nodes c.domain (base_of s.book c.domain) claim =
@@ -156,7 +156,7 @@ module _ (exact : TestsAreExact) (law : FaultsAreFirst) (platform : PlatformFact
       subst (λ p. IsTrueClaim p s.book.tree.nodes c.domain (base_of s.book c.domain) claim) same there
 
   -- an object that was taken doesn't fail
-  not_both : (s : State) (c : Claimed) (object : Data) (left : List Data) (r : ℕ) (o : Objection) → s.platform ≡ platform → Allows s.platform s.book (Decided c)
+  not_both : (s : RunState) (c : Claimed) (object : Data) (left : List Data) (r : ℕ) (o : Objection) → s.platform ≡ platform → Allows s.platform s.book (Decided c)
       → IsOf platform object (certified s c) → next_ready s.book ≡ Some r → FailsNext (object ∷ left) platform s.book r o → ⊥
   not_both s c object left r o same allowed of next h =
       let own : r ≡ c.domain = same_Some r c.domain (sym next ∙ allowed.0) in
@@ -164,12 +164,12 @@ module _ (exact : TestsAreExact) (law : FaultsAreFirst) (platform : PlatformFact
       true_said s.book c.domain of.claim (claim_said platform object) o.no of.says (true_claim s c of.claim same allowed of.taken) no
 
   -- a state at which there is an end isn't gone on from
-  no_call_on : (s : State) (r : CallFacts) (rs rest : List CallFacts) (left : List Data) (a : CheckAnswer) → next_ready s.book ≡ None → rest ≡ r ∷ rs → Ends platform rest left s a → ⊥
+  no_call_on : (s : RunState) (r : CallFacts) (rs rest : List CallFacts) (left : List Data) (a : CheckAnswer) → next_ready s.book ≡ None → rest ≡ r ∷ rs → Ends platform rest left s a → ⊥
   no_call_on s r rs rest left _ idle some (all next none empty) = no_rest r rs rest none some
   no_call_on s r rs rest left _ idle some (more object others next none empty) = no_rest r rs rest none some
   no_call_on s r rs rest left _ idle some (fails k o next h) = no_next s.book k idle next
 
-  no_decision_on : (s : State) (c : Claimed) (rest : List CallFacts) (left held kept : List Data) (cs : List Certified) (a : CheckAnswer) → s.platform ≡ platform
+  no_decision_on : (s : RunState) (c : Claimed) (rest : List CallFacts) (left held kept : List Data) (cs : List Certified) (a : CheckAnswer) → s.platform ≡ platform
       → Allows s.platform s.book (Decided c) → AllZip (IsOf platform) held (certified s c ∷ cs) → left ≡ held ++ kept → Ends platform rest left s a → ⊥
   no_decision_on s c rest left [] kept cs a same allowed zip split ends = absurd zip
   no_decision_on s c rest left (x ∷ held) kept cs _ same allowed zip split (all next none empty) = no_next s.book c.domain next allowed.0
@@ -178,7 +178,7 @@ module _ (exact : TestsAreExact) (law : FaultsAreFirst) (platform : PlatformFact
       not_both s c x (held ++ kept) r o same allowed zip.0 next (subst (λ l. FailsNext l platform s.book r o) split h)
 
   -- at one state there is one end
-  one_end : (s : State) (rest other : List CallFacts) (left kept : List Data) (a b : CheckAnswer) → rest ≡ other → left ≡ kept → Ends platform rest left s a → Ends platform other kept s b → a ≡ b
+  one_end : (s : RunState) (rest other : List CallFacts) (left kept : List Data) (a b : CheckAnswer) → rest ≡ other → left ≡ kept → Ends platform rest left s a → Ends platform other kept s b → a ≡ b
   one_end s rest other left kept _ _ e f (all next none empty) (all next' none' empty') = refl
   one_end s rest other left kept _ _ e f (all next none empty) (more object others next' none' empty') = absurd (no_rest object others kept (sym f ∙ empty) empty')
   one_end s rest other left kept _ _ e f (all next none empty) (fails r o next' h) = absurd (no_next s.book r next next')
@@ -193,14 +193,14 @@ module _ (exact : TestsAreExact) (law : FaultsAreFirst) (platform : PlatformFact
       ap answers.No (same_objection o q (one_next left s.book r o.no q.no h.no there.no) (h.path ∙ sym there.path))
 
   -- the claims that one object makes are one
-  one_claim : (object : Data) (s : State) (c e : Claimed) → c.domain ≡ e.domain → IsOf platform object (certified s c) → IsOf platform object (certified s e) → c ≡ e
+  one_claim : (object : Data) (s : RunState) (c e : Claimed) → c.domain ≡ e.domain → IsOf platform object (certified s c) → IsOf platform object (certified s e) → c ≡ e
   one_claim object s c e own of of' =
       let said : of.claim ≡ of'.claim = ap (λ p. p.1) (same_Some _ _ (sym of.says ∙ of'.says)) in
       let claim : c.claim ≡ e.claim = of.taken ∙ (ap Some said ∙ sym of'.taken) in
       let first : c ≡ record { domain = e.domain; claim = c.claim } = ap (λ (r : ℕ). let z : Claimed = record { domain = r; claim = c.claim } in z) own in
       first ∙ ap (λ (v : Option Claim). let z : Claimed = record { domain = e.domain; claim = v } in z) claim
 
-  one_answer : (number : ℕ) (s t u : State) (made rest many other : List CallFacts) (xs ys : List ℕ) (cs ds : List Certified) (taken left held kept : List Data) (a b : CheckAnswer)
+  one_answer : (number : ℕ) (s t u : RunState) (made rest many other : List CallFacts) (xs ys : List ℕ) (cs ds : List Certified) (taken left held kept : List Data) (a b : CheckAnswer)
       → Goes number s made xs cs t → Goes number s many ys ds u → s.platform ≡ platform → made ++ rest ≡ many ++ other → taken ++ left ≡ held ++ kept
       → AllZip (IsOf platform) taken cs → AllZip (IsOf platform) held ds → t.starved ≡ false → u.starved ≡ false
       → Ends platform rest left t a → Ends platform other kept u b → a ≡ b
@@ -225,8 +225,8 @@ module _ (exact : TestsAreExact) (law : FaultsAreFirst) (platform : PlatformFact
       let first : (reply, mid) ≡ answer_for s r (node_named s r) = is_answer s r reply mid replied (unstarved_before (number + 1) mid t rs text cs on p) in
       let there : Replies s r reply' mid' = subst (λ k. Replies s k reply' mid') call replied' in
       let second : (reply', mid') ≡ answer_for s r (node_named s r) = is_answer s r reply' mid' there (unstarved_before (number + 1) mid' u qs text' ds on' q) in
-      let same_mid : mid' ≡ mid = ap (λ (p : Reply × State). p.1) (second ∙ sym first) in
-      one_answer (number + 1) mid t u rs rest qs other text text' cs ds taken left held kept a b on (subst (λ (m : State). Goes (number + 1) m qs text' ds u) same_mid on')
+      let same_mid : mid' ≡ mid = ap (λ (p : Reply × RunState). p.1) (second ∙ sym first) in
+      one_answer (number + 1) mid t u rs rest qs other text text' cs ds taken left held kept a b on (subst (λ (m : RunState). Goes (number + 1) m qs text' ds u) same_mid on')
       (replies_platform s mid r reply replied ∙ same) after f zip zap p q x y
   one_answer _ _ _ _ _ rest _ other _ _ _ _ [] left held kept a b (decides number s t c rs what text cs allowed said on) (decides _ _ u c' qs what' text' ds allowed' said' on') same e f zip zap p q x y = absurd zip
   one_answer _ _ _ _ _ rest _ other _ _ _ _ (o ∷ taken) left [] kept a b (decides number s t c rs what text cs allowed said on) (decides _ _ u c' qs what' text' ds allowed' said' on') same e f zip zap p q x y = absurd zap
@@ -235,14 +235,14 @@ module _ (exact : TestsAreExact) (law : FaultsAreFirst) (platform : PlatformFact
       let own : c.domain ≡ c'.domain = same_Some c.domain c'.domain (sym allowed.0 ∙ allowed'.0) in
       let of' : IsOf platform o (certified s c') = subst (λ d. IsOf platform d (certified s c')) object zap.0 in
       let claimed : c' ≡ c = sym (one_claim o s c c' own zip.0 of') in
-      one_answer number (decided s (answer_of c)) t u rs rest qs other text text' cs ds taken left held kept a b on
-      (subst (λ (z : Claimed). Goes number (decided s (answer_of z)) qs text' ds u) claimed on') same e (tails o o' (taken ++ left) (held ++ kept) f) zip.1 zap.1 p q x y
+      one_answer number (with_decision s (answer_of c)) t u rs rest qs other text text' cs ds taken left held kept a b on
+      (subst (λ (z : Claimed). Goes number (with_decision s (answer_of z)) qs text' ds u) claimed on') same e (tails o o' (taken ++ left) (held ++ kept) f) zip.1 zap.1 p q x y
 
   one_way : (rs : List CallFacts) (objects : List Data) (a b : CheckAnswer) → Answers platform rs objects a → Answers platform rs objects b → a ≡ b
   one_way rs objects a b x y =
       let v = way_of platform rs objects a x in
       let w = way_of platform rs objects b y in
-      one_answer 1 (first_state platform) v.last w.last v.made v.rest w.made w.rest v.lines w.lines v.decisions w.decisions v.taken v.left w.taken w.left a b v.goes w.goes refl
+      one_answer 1 (first_run_state platform) v.last w.last v.made v.rest w.made w.rest v.lines w.lines v.decisions w.decisions v.taken v.left w.taken w.left a b v.goes w.goes refl
       (sym v.in_order ∙ w.in_order) (sym v.split ∙ w.split) v.are_of w.are_of v.fed w.fed v.ends w.ends
 
 -- ---- of bytes

@@ -8,33 +8,33 @@ use Rattle.script_reading.specs.Script.{CallFacts}
 use Rattle.script_reading.specs.Seen.{call_seen}
 use Rattle.script_run.specs.declared.decider.Objection.{Objection}
 use Rattle.script_run.specs.Report.{Gave, GoesIn, IsReported, pending_lines}
-use Rattle.script_run.specs.State.{State, first_state}
+use Rattle.script_run.specs.State.{RunState, first_run_state}
 use Rattle.script_run.specs.Stop.{IsStopped, Objects, StopsIn}
 use Rattle.script_run.proofs.Following.{goes_in, goes_platform, starts}
 use Rattle.script_run.proofs.Stopping.{stops_behind}
 
 -- the calls before this place were made, and lead to a state in which no domain waits
-pub record Reaches (platform : PlatformFacts) (rs : List CallFacts) (place : ℕ) (s : State) (text : List ℕ) (old new : Gave) : Type 0 where
+pub record Reaches (platform : PlatformFacts) (rs : List CallFacts) (place : ℕ) (s : RunState) (text : List ℕ) (old new : Gave) : Type 0 where
   pub made : List CallFacts
   pub split : rs ≡ made ++ drop place rs
   pub many : length made ≡ place
-  pub goes : GoesIn 1 (first_state platform) made s [] text old new
+  pub goes : GoesIn 1 (first_run_state platform) made s [] text old new
   pub idle : next_ready s.book ≡ None
 
-pub reaches-start : (platform : PlatformFacts) (rs : List CallFacts) (s : State) (text : List ℕ) (G : Gave) → s ≡ first_state platform → text ≡ [] → Reaches platform rs 0 s text G G
-reaches-start platform rs s text G is empty = subst (λ x. Reaches platform rs 0 x text G G) (sym is) (subst (λ ts. Reaches platform rs 0 (first_state platform) ts G G) (sym empty) (record {
+pub reaches-start : (platform : PlatformFacts) (rs : List CallFacts) (s : RunState) (text : List ℕ) (G : Gave) → s ≡ first_run_state platform → text ≡ [] → Reaches platform rs 0 s text G G
+reaches-start platform rs s text G is empty = subst (λ x. Reaches platform rs 0 x text G G) (sym is) (subst (λ ts. Reaches platform rs 0 (first_run_state platform) ts G G) (sym empty) (record {
   made = [];
   split = refl;
   many = refl;
-  goes = starts 1 (first_state platform) [] G;
+  goes = starts 1 (first_run_state platform) [] G;
   idle = refl;
 }))
 
 -- the platform is the first state's
-pub reached-platform : (platform : PlatformFacts) (rs : List CallFacts) (place : ℕ) (s : State) (text : List ℕ) (G H : Gave) → Reaches platform rs place s text G H → s.platform ≡ platform
-reached-platform platform rs place s text G H reached = goes_platform 1 (first_state platform) s reached.made reached.goes.lines reached.goes.decisions reached.goes.goes
+pub reached-platform : (platform : PlatformFacts) (rs : List CallFacts) (place : ℕ) (s : RunState) (text : List ℕ) (G H : Gave) → Reaches platform rs place s text G H → s.platform ≡ platform
+reached-platform platform rs place s text G H reached = goes_platform 1 (first_run_state platform) s reached.made reached.goes.lines reached.goes.decisions reached.goes.goes
 
-pub reaches-take : (platform : PlatformFacts) (rs : List CallFacts) (place : ℕ) (s t : State) (r : CallFacts) (before after : List ℕ) (G : Gave) (H K : PlatformFacts → Gave)
+pub reaches-take : (platform : PlatformFacts) (rs : List CallFacts) (place : ℕ) (s t : RunState) (r : CallFacts) (before after : List ℕ) (G : Gave) (H K : PlatformFacts → Gave)
     → drop place rs ≡ r ∷ drop (place + 1) rs → GoesIn (place + 1) s (r ∷ []) t before after (H s.platform) (K s.platform) → next_ready t.book ≡ None
     → Reaches platform rs place s before G (H platform) → Reaches platform rs (place + 1) t after G (K platform)
 reaches-take platform rs place s t r before after G H K here taken idle reached =
@@ -44,13 +44,13 @@ reaches-take platform rs place s t r before after G H K here taken idle reached 
       made = reached.made ++ r ∷ [];
       split = reached.split ∙ (ap (λ qs. reached.made ++ qs) here ∙ sym (append_assoc reached.made (r ∷ []) (drop (place + 1) rs)));
       many = length-append reached.made (r ∷ []) ∙ ap (λ n. n + 1) reached.many;
-      goes = goes_in 1 (first_state platform) s t reached.made (r ∷ []) [] before after G (H platform) (K platform) reached.goes
+      goes = goes_in 1 (first_run_state platform) s t reached.made (r ∷ []) [] before after G (H platform) (K platform) reached.goes
           (subst (λ n. GoesIn n s (r ∷ []) t before after (H platform) (K platform)) number (subst (λ p. GoesIn (place + 1) s (r ∷ []) t before after (H p) (K p)) same taken));
       idle = idle;
     }
 
 -- an objection after them
-pub reaches-stop : (platform : PlatformFacts) (rs : List CallFacts) (place : ℕ) (s t : State) (r : CallFacts) (before : List ℕ) (G : Gave) (H K : PlatformFacts → Gave) (objects : Objects) (o : Objection)
+pub reaches-stop : (platform : PlatformFacts) (rs : List CallFacts) (place : ℕ) (s t : RunState) (r : CallFacts) (before : List ℕ) (G : Gave) (H K : PlatformFacts → Gave) (objects : Objects) (o : Objection)
     → drop place rs ≡ r ∷ drop (place + 1) rs → t.starved ≡ false → StopsIn (place + 1) s (r ∷ []) t (H s.platform) (K s.platform) objects o
     → Reaches platform rs place s before G (H platform) → IsStopped platform rs G (K platform) objects o
 reaches-stop platform rs place s t r before G H K objects o here fed stops reached =
@@ -58,7 +58,7 @@ reaches-stop platform rs place s t r before G H K objects o here fed stops reach
     let same = reached-platform platform rs place s before G (H platform) reached in
     record {
       last = t;
-      stops = stops_behind (first_state platform) s t rs reached.made (r ∷ []) (drop (place + 1) rs) [] before G (H platform) (K platform) objects o (reached.split ∙ ap (λ qs. reached.made ++ qs) here) reached.goes
+      stops = stops_behind (first_run_state platform) s t rs reached.made (r ∷ []) (drop (place + 1) rs) [] before G (H platform) (K platform) objects o (reached.split ∙ ap (λ qs. reached.made ++ qs) here) reached.goes
           (subst (λ n. StopsIn n s (r ∷ []) t (H platform) (K platform) objects o) number (subst (λ p. StopsIn (place + 1) s (r ∷ []) t (H p) (K p) objects o) same stops));
       fed = fed;
     }
@@ -71,13 +71,13 @@ drop-call_seen calls place call within e =
     ∙ (ap (λ (c : Call). call_seen c ∷ map call_seen (drop (place + 1) calls)) (sym e) ∙ ap (λ (l : List CallFacts). call_seen call ∷ l) (sym (drop-map call_seen (place + 1) calls))))
 
 -- behind all calls the report ends
-pub reaches-end : (platform : PlatformFacts) (calls : List Call) (place : ℕ) (s : State) (before after : List ℕ) (G H : Gave) → length calls ≤ place → G []
+pub reaches-end : (platform : PlatformFacts) (calls : List Call) (place : ℕ) (s : RunState) (before after : List ℕ) (G H : Gave) → length calls ≤ place → G []
     → Reaches platform (map call_seen calls) place s before G H → after ≡ before ++ pending_lines s.book
     → IsReported platform (map call_seen calls) H after s.starved
 reaches-end platform calls place s before after G H all given reached e =
     let none : drop place (map call_seen calls) ≡ [] = at_drop_all (λ (l : List CallFacts). l) (map call_seen calls) place (rw length-map all) in
     let whole : reached.made ≡ map call_seen calls = sym (append-nil reached.made) ∙ (ap (λ qs. reached.made ++ qs) (sym none) ∙ sym reached.split) in
-    let goes : GoesIn 1 (first_state platform) (map call_seen calls) s [] before G H = subst (λ qs. GoesIn 1 (first_state platform) qs s [] before G H) whole reached.goes in
+    let goes : GoesIn 1 (first_run_state platform) (map call_seen calls) s [] before G H = subst (λ qs. GoesIn 1 (first_run_state platform) qs s [] before G H) whole reached.goes in
     record {
       decisions = goes.decisions;
       report = record {

@@ -7,10 +7,10 @@ use Rattle.sysmem_tree.specs.Domain.{TreeFacts, IsSoundTree, has_failed}
 use Rattle.script_reading.specs.Call.{ActFacts, checks, waits}
 use Rattle.script_reading.specs.Script.{CallFacts}
 use Rattle.script_run.specs.declared.reply.Reply.{Reply}
-use Rattle.script_run.specs.Answer.{Asks, AsksVerdict, Replies, to_duplicate, to_create_group, to_bind, to_create_child, to_complete, to_set_none, to_set, to_attach_token, to_release, to_close, to_check, to_wait, skips, misreads, starves, lacks, refuses, accepts, tells}
+use Rattle.script_run.specs.Answer.{AsksFor, AsksVerdict, Replies, to_duplicate, to_create_group, to_bind, to_create_child, to_complete, to_set_none, to_set, to_attach_token, to_release, to_close, to_check, to_wait, skips, misreads, starves, lacks, refuses, accepts, tells}
 use Rattle.script_run.specs.Marks.{AreMarksOf, failed_at}
 use Rattle.script_run.specs.Report.{domain_lines, failed_lines}
-use Rattle.script_run.specs.State.{State, tree_of}
+use Rattle.script_run.specs.State.{RunState, collection_tree}
 use Rattle.script_run.proofs.Following.{answered_marks}
 
 -- an act that asks for an action
@@ -19,7 +19,7 @@ IsDeed checks = ⊥
 IsDeed waits = ⊥
 IsDeed _ = Unit {0}
 
-is_deed : (act : ActFacts) (deed : Deed) → Asks act deed → IsDeed act
+is_deed : (act : ActFacts) (deed : Deed) → AsksFor act deed → IsDeed act
 is_deed _ _ (to_duplicate name) = tt
 is_deed _ _ (to_create_group name) = tt
 is_deed _ _ to_bind = tt
@@ -36,7 +36,7 @@ no_deed _ to_check deed = deed
 no_deed _ to_wait deed = deed
 
 -- it leaves the tree
-same_tree : (s t : State) (r : CallFacts) (reply : Reply) → AsksVerdict r.act → Replies s r reply t → tree_of t ≡ tree_of s
+same_tree : (s t : RunState) (r : CallFacts) (reply : Reply) → AsksVerdict r.act → Replies s r reply t → collection_tree t ≡ collection_tree s
 same_tree s _ r _ asks (skips none) = refl
 same_tree s _ r _ asks (misreads k d fault here act read) = refl
 same_tree s _ r _ asks (starves k d fault here act want lack) = refl
@@ -57,12 +57,12 @@ no_lines t u same =
     ap (failed_lines t) same ∙ ap (domain_lines t (codes "failed")) (none_new t (roots_of t))
 
 -- the lines of what failed since the marks were set, where any were
-pub since_put : (s t : State) (r : CallFacts) (reply : Reply) (u v : TreeFacts) (marks : Option (List Bool)) (before after : List ℕ) → IsSoundTree (tree_of s) → u ≡ tree_of s → v ≡ tree_of t
+pub since_put : (s t : RunState) (r : CallFacts) (reply : Reply) (u v : TreeFacts) (marks : Option (List Bool)) (before after : List ℕ) → IsSoundTree (collection_tree s) → u ≡ collection_tree s → v ≡ collection_tree t
     → IfSome marks (λ ms. (k : ℕ) → get_or ms k false ≡ failed_at u k) → (marks ≡ None → AsksVerdict r.act) → Replies s r reply t
     → IfSome marks (λ ms. (old : TreeFacts) → AreMarksOf old v ms → after ≡ before ++ failed_lines old v) → (marks ≡ None → after ≡ before)
-    → after ≡ before ++ failed_lines (tree_of s) (tree_of t)
+    → after ≡ before ++ failed_lines (collection_tree s) (collection_tree t)
 since_put s t r reply u v (Some ms) before after sound was is marked asks replies put none =
     let old = answered_marks s t r reply ms sound (λ k. marked k ∙ ap (λ (x : TreeFacts). failed_at x k) was) replies in
-    (subst (λ (x : TreeFacts). (old : TreeFacts) → AreMarksOf old x ms → after ≡ before ++ failed_lines old x) is put) (tree_of s) old
+    (subst (λ (x : TreeFacts). (old : TreeFacts) → AreMarksOf old x ms → after ≡ before ++ failed_lines old x) is put) (collection_tree s) old
 since_put s t r reply u v None before after sound was is marked asks replies put none =
-    none refl ∙ (sym (append-nil before) ∙ ap (λ ls. before ++ ls) (sym (no_lines (tree_of s) (tree_of t) (same_tree s t r reply (asks refl) replies))))
+    none refl ∙ (sym (append-nil before) ∙ ap (λ ls. before ++ ls) (sym (no_lines (collection_tree s) (collection_tree t) (same_tree s t r reply (asks refl) replies))))

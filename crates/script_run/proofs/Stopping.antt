@@ -8,7 +8,7 @@ use Rattle.script_run.specs.declared.decider.Objection.{Objection}
 use Rattle.script_run.specs.declared.decider.Stop.{Stop}
 use Rattle.script_run.specs.declared.decider.Stop.TheVariants.{NoMemory, Refused}
 use Rattle.script_run.specs.Report.{Gave, GoesIn, RepliesIn, calls, call_lines, stays}
-use Rattle.script_run.specs.State.{State}
+use Rattle.script_run.specs.State.{RunState}
 use Rattle.script_run.specs.Stop.{IfObjects, Objects, StopsIn}
 use Rattle.script_run.proofs.Following.{goes_on, goes_platform, replies_platform}
 
@@ -35,7 +35,7 @@ stopped_as NoMemory stop Fed P Q f a h = tt
 stopped_as (Refused o) stop Fed P Q f a h = f o a.1 (subst (λ s. IfObjects s P) a.0 h)
 
 -- at the first domain that waits now
-pub stops_here : (s : State) (G H : Gave) (objects : Objects) (domain : ℕ) (o : Objection) → next_ready s.book ≡ Some domain → ((cs : List _) → G cs → H cs) → objects s.platform s.book domain o
+pub stops_here : (s : RunState) (G H : Gave) (objects : Objects) (domain : ℕ) (o : Objection) → next_ready s.book ≡ Some domain → ((cs : List _) → G cs → H cs) → objects s.platform s.book domain o
     → (number : ℕ) → StopsIn number s [] s G H objects o
 stops_here s G H objects domain o next kept object number = record {
   made = [];
@@ -51,7 +51,7 @@ stops_here s G H objects domain o next kept object number = record {
 }
 
 -- at one that waits after further decisions
-pub stops_on : (s t u : State) (before now : List ℕ) (G : Gave) (H K : PlatformFacts → Gave) (objects : Objects) (o : Objection) → ((number : ℕ) → GoesIn number s [] t before now G (H s.platform))
+pub stops_on : (s t u : RunState) (before now : List ℕ) (G : Gave) (H K : PlatformFacts → Gave) (objects : Objects) (o : Objection) → ((number : ℕ) → GoesIn number s [] t before now G (H s.platform))
     → ((number : ℕ) → StopsIn number t [] u (H t.platform) (K t.platform) objects o) → (number : ℕ) → StopsIn number s [] u G (K s.platform) objects o
 stops_on s t u before now G H K objects o goes stops number =
     let first = goes number in
@@ -71,7 +71,7 @@ stops_on s t u before now G H K objects o goes stops number =
     }
 
 -- after a call
-pub stops_after : (number : ℕ) (s mid u : State) (r : CallFacts) (before now : List ℕ) (H K : PlatformFacts → Gave) (objects : Objects) (o : Objection) → next_ready s.book ≡ None → RepliesIn number s r mid before now
+pub stops_after : (number : ℕ) (s mid u : RunState) (r : CallFacts) (before now : List ℕ) (H K : PlatformFacts → Gave) (objects : Objects) (o : Objection) → next_ready s.book ≡ None → RepliesIn number s r mid before now
     → ((k : ℕ) → StopsIn k mid [] u (H mid.platform) (K mid.platform) objects o) → StopsIn number s (r ∷ []) u (H s.platform) (K s.platform) objects o
 stops_after number s mid u r before now H K objects o idle replied stops =
     let on = subst (λ p. StopsIn (number + 1) mid [] u (H p) (K p) objects o) (replies_platform s mid r replied.reply replied.replies) (stops (number + 1)) in
@@ -89,7 +89,7 @@ stops_after number s mid u r before now H K objects o idle replied stops =
     }
 
 -- after the calls before it
-pub stops_behind : (s t u : State) (rs made qs left : List CallFacts) (before now : List ℕ) (G H K : Gave) (objects : Objects) (o : Objection) → rs ≡ made ++ (qs ++ left) → GoesIn 1 s made t before now G H
+pub stops_behind : (s t u : RunState) (rs made qs left : List CallFacts) (before now : List ℕ) (G H K : Gave) (objects : Objects) (o : Objection) → rs ≡ made ++ (qs ++ left) → GoesIn 1 s made t before now G H
     → StopsIn (1 + length made) t qs u H K objects o → StopsIn 1 s rs u G K objects o
 stops_behind s t u rs made qs left before now G H K objects o split first on = record {
   made = made ++ on.made;

@@ -28,11 +28,11 @@ use Rattle.script_reading.specs.Call.{ActFacts, duplicates, binds, states, creat
 use Rattle.script_reading.specs.Script.{CallFacts}
 use Rattle.script_run.specs.declared.reply.Reply.{Reply}
 use Rattle.script_run.specs.declared.reply.Reply.TheVariants.{Accepted, Refused, Misread, Skipped}
-use Rattle.script_run.specs.Answer.{Asks, to_duplicate, to_create_group, to_bind, to_create_child, to_complete, to_set_none, to_set, to_attach_token, to_release, to_close, AsksVerdict, to_check, to_wait, Replies, skips, misreads, starves, lacks, refuses, accepts, tells, told}
+use Rattle.script_run.specs.Answer.{AsksFor, to_duplicate, to_create_group, to_bind, to_create_child, to_complete, to_set_none, to_set, to_attach_token, to_release, to_close, AsksVerdict, to_check, to_wait, Replies, skips, misreads, starves, lacks, refuses, accepts, tells, told}
 use Rattle.script_run.specs.Laws.{OneReport}
 use Rattle.script_run.specs.Lines.{chosen_text}
-use Rattle.script_run.specs.Report.{Certified, Tells, chose, none_meet, too_many, wants_memory, call_lines, decided, decision_lines, pending_lines, Goes, stays, calls, decides}
-use Rattle.script_run.specs.State.{State, tree_of, first_state, node_named, unmade, acted}
+use Rattle.script_run.specs.Report.{Certified, Tells, chose, none_meet, too_many, wants_memory, call_lines, with_decision, decision_lines, pending_lines, Goes, stays, calls, decides}
+use Rattle.script_run.specs.State.{RunState, collection_tree, first_run_state, node_named, unmade, acted}
 use Rattle.script_run.proofs.Corners.{one_corner}
 
 absurd_true : {A : Type 0} → true ≡ false → A
@@ -48,21 +48,21 @@ or_right false c e = e
 or_right true c e = absurd_true e
 
 -- what an action answers on a node
-act_on : State → CallFacts → ℕ → Deed → Result Applied Refusal → Reply × State
+act_on : RunState → CallFacts → ℕ → Deed → Result Applied Refusal → Reply × RunState
 act_on s r k deed (Ok after) = (Accepted, acted s r.act (Acted k deed) after.node)
 act_on s r k deed (Err refusal) = (Refused refusal, unmade s r.act)
 
 -- what making it answers
-made_on : State → CallFacts → ℕ → Deed → Reply × State
-made_on s r k deed = act_on s r k deed (applied (tree_of s) k deed)
+made_on : RunState → CallFacts → ℕ → Deed → Reply × RunState
+made_on s r k deed = act_on s r k deed (applied (collection_tree s) k deed)
 
 -- what reading constraints and setting them answers
-set_on : State → CallFacts → ℕ → Result Participant Fault → Reply × State
+set_on : RunState → CallFacts → ℕ → Result Participant Fault → Reply × RunState
 set_on s r k (Ok asked) = made_on s r k (deeds.sets (Some asked))
 set_on s r k (Err fault) = (Misread fault, s)
 
 -- what a call answers on a node, where memory is not refused
-answer_at : State → CallFacts → ℕ → ActFacts → Reply × State
+answer_at : RunState → CallFacts → ℕ → ActFacts → Reply × RunState
 answer_at s r k (duplicates name) = made_on s r k deeds.duplicates
 answer_at s r k binds = made_on s r k deeds.binds
 answer_at s r k (states None) = made_on s r k (deeds.sets None)
@@ -76,11 +76,11 @@ answer_at s r k closes = made_on s r k deeds.closes
 answer_at s r k checks = (told s.book k, s)
 answer_at s r k waits = (told s.book k, s)
 
-pub answer_for : State → CallFacts → Option ℕ → Reply × State
+pub answer_for : RunState → CallFacts → Option ℕ → Reply × RunState
 answer_for s r None = (Skipped, unmade s r.act)
 answer_for s r (Some k) = answer_at s r k r.act
 
-asked_for : (s : State) (r : CallFacts) (k : ℕ) (act : ActFacts) (deed : Deed) → Asks act deed → answer_at s r k act ≡ made_on s r k deed
+asked_for : (s : RunState) (r : CallFacts) (k : ℕ) (act : ActFacts) (deed : Deed) → AsksFor act deed → answer_at s r k act ≡ made_on s r k deed
 unfolding answer_at set_on
 asked_for s r k _ _ (to_duplicate name) = refl
 asked_for s r k _ _ (to_create_group name) = refl
@@ -93,13 +93,13 @@ asked_for s r k _ _ (to_attach_token name) = refl
 asked_for s r k _ _ to_release = refl
 asked_for s r k _ _ to_close = refl
 
-told_for : (s : State) (r : CallFacts) (k : ℕ) (act : ActFacts) → AsksVerdict act → answer_at s r k act ≡ (told s.book k, s)
+told_for : (s : RunState) (r : CallFacts) (k : ℕ) (act : ActFacts) → AsksVerdict act → answer_at s r k act ≡ (told s.book k, s)
 unfolding answer_at
 told_for s r k _ to_check = refl
 told_for s r k _ to_wait = refl
 
 -- a call answers this, where memory is not refused
-pub is_answer : (s : State) (r : CallFacts) (reply : Reply) (t : State) → Replies s r reply t → t.starved ≡ false → (reply, t) ≡ answer_for s r (node_named s r)
+pub is_answer : (s : RunState) (r : CallFacts) (reply : Reply) (t : RunState) → Replies s r reply t → t.starved ≡ false → (reply, t) ≡ answer_for s r (node_named s r)
 unfolding answer_for answer_at made_on act_on set_on
 is_answer s r _ _ (skips none) e = rw none refl
 is_answer s r _ _ (misreads k d fault here act read) e = rw (here, act, read) refl
@@ -110,7 +110,7 @@ is_answer s r _ _ (accepts k made deed tree here asks done) e = rw (here, asked_
 is_answer s r _ _ (tells k here asks) e = rw (here, told_for s r k r.act asks) refl
 
 -- memory that was refused stays so
-answer_starves : (s t : State) (r : CallFacts) (reply : Reply) → Replies s r reply t → s.starved ≡ true → t.starved ≡ true
+answer_starves : (s t : RunState) (r : CallFacts) (reply : Reply) → Replies s r reply t → s.starved ≡ true → t.starved ≡ true
 answer_starves s _ r _ (skips none) e = e
 answer_starves s _ r _ (misreads k d fault here act read) e = e
 answer_starves s _ r _ (starves k d fault here act want lack) e = refl
@@ -119,13 +119,13 @@ answer_starves s _ r _ (refuses k deed refusal here asks why) e = e
 answer_starves s _ r _ (accepts k made deed tree here asks done) e = e
 answer_starves s _ r _ (tells k here asks) e = e
 
-starves_on : (number : ℕ) (s t : State) (rs : List CallFacts) (a : List ℕ) (cs : List Certified) → Goes number s rs a cs t → s.starved ≡ true → t.starved ≡ true
+starves_on : (number : ℕ) (s t : RunState) (rs : List CallFacts) (a : List ℕ) (cs : List Certified) → Goes number s rs a cs t → s.starved ≡ true → t.starved ≡ true
 starves_on _ _ _ _ _ _ (stays number s) e = e
 starves_on _ _ _ _ _ _ (calls number s answered t r rs reply text cs idle replied rest) e = starves_on (number + 1) answered t rs text cs rest (answer_starves s answered r reply replied e)
-starves_on _ _ _ _ _ _ (decides number s t c rs what text cs allowed said rest) e = starves_on number (decided s (answer_of c)) t rs text cs rest (rw e refl)
+starves_on _ _ _ _ _ _ (decides number s t c rs what text cs allowed said rest) e = starves_on number (with_decision s (answer_of c)) t rs text cs rest (rw e refl)
 
 -- what leads to a state that isn't starved, isn't either
-pub unstarved_before : (number : ℕ) (s t : State) (rs : List CallFacts) (a : List ℕ) (cs : List Certified) → Goes number s rs a cs t → t.starved ≡ false → s.starved ≡ false
+pub unstarved_before : (number : ℕ) (s t : RunState) (rs : List CallFacts) (a : List ℕ) (cs : List Certified) → Goes number s rs a cs t → t.starved ≡ false → s.starved ≡ false
 unstarved_before number s t rs a cs goes e = not_true s.starved t.starved (starves_on number s t rs a cs goes) e
 
 same_chosen : (a b : ChosenFacts) → a.selection ≡ b.selection → a.settings ≡ b.settings → a ≡ b
@@ -168,20 +168,20 @@ same_decision d e own verdict =
 
 module _ (one : OneAnswer) (least : CornerIsLeast) where
   -- a domain has one verdict, where memory is not refused
-  one_verdict : (s : State) (r : ℕ) (v w : Option Verdict) → IfSome v (IsOptimalIn s.platform (tree_of s).nodes r (base_of s.book r))
-      → IfSome w (IsOptimalIn s.platform (tree_of s).nodes r (base_of s.book r)) → is_none v ≡ false → is_none w ≡ false → v ≡ w
+  one_verdict : (s : RunState) (r : ℕ) (v w : Option Verdict) → IfSome v (IsOptimalIn s.platform (collection_tree s).nodes r (base_of s.book r))
+      → IfSome w (IsOptimalIn s.platform (collection_tree s).nodes r (base_of s.book r)) → is_none v ≡ false → is_none w ≡ false → v ≡ w
   one_verdict s r None w x y e f = absurd_true e
   one_verdict s r (Some v) None x y e f = absurd_true f
   one_verdict s r (Some v) (Some w) x y e f =
-      ap Some (same_verdict v w (one s.platform _ (shape_of (tree_of s).nodes r) v w x y))
+      ap Some (same_verdict v w (one s.platform _ (shape_of (collection_tree s).nodes r) v w x y))
 
-  one_decision : (s : State) (c e : Claimed) → Allows s.platform s.book (Decided c) → Allows s.platform s.book (Decided e)
+  one_decision : (s : RunState) (c e : Claimed) → Allows s.platform s.book (Decided c) → Allows s.platform s.book (Decided e)
       → is_none (answer_of c).verdict ≡ false → is_none (answer_of e).verdict ≡ false → answer_of c ≡ answer_of e
   one_decision s c e x y f g =
       let own : c.domain ≡ e.domain = same_Some c.domain e.domain (sym x.0 ∙ y.0) in
-      let first = claims_optimal s.platform (tree_of s).nodes c.domain (base_of s.book c.domain) c.claim x.1 in
-      let second = claims_optimal s.platform (tree_of s).nodes e.domain (base_of s.book e.domain) e.claim y.1 in
-      let there = subst (λ r. IfSome (answer_of e).verdict (IsOptimalIn s.platform (tree_of s).nodes r (base_of s.book r))) (sym own) second in
+      let first = claims_optimal s.platform (collection_tree s).nodes c.domain (base_of s.book c.domain) c.claim x.1 in
+      let second = claims_optimal s.platform (collection_tree s).nodes e.domain (base_of s.book e.domain) e.claim y.1 in
+      let there = subst (λ r. IfSome (answer_of e).verdict (IsOptimalIn s.platform (collection_tree s).nodes r (base_of s.book r))) (sym own) second in
       let verdict = one_verdict s c.domain (answer_of c).verdict (answer_of e).verdict first there f g in
       same_decision (answer_of c) (answer_of e) own verdict
 
@@ -210,11 +210,11 @@ module _ (one : OneAnswer) (least : CornerIsLeast) where
   joined : (a b c d : List ℕ) → a ≡ b → c ≡ d → a ++ c ≡ b ++ d
   joined a b c d e f = cc
 
-  not_both : (s : State) (r : ℕ) → next_ready s.book ≡ None → next_ready s.book ≡ Some r → ⊥
+  not_both : (s : RunState) (r : ℕ) → next_ready s.book ≡ None → next_ready s.book ≡ Some r → ⊥
   not_both s r none some = absurd (cc)
 
   -- the same calls lead on to one state and give one text, as far as domains that wait are decided and memory is not refused
-  one_way : (number : ℕ) (s t u : State) (rs : List CallFacts) (a b : List ℕ) (cs ds : List Certified) → Goes number s rs a cs t → Goes number s rs b ds u
+  one_way : (number : ℕ) (s t u : RunState) (rs : List CallFacts) (a b : List ℕ) (cs ds : List Certified) → Goes number s rs a cs t → Goes number s rs b ds u
       → next_ready t.book ≡ None → next_ready u.book ≡ None → t.starved ≡ false → u.starved ≡ false → (t ≡ u) × (a ≡ b)
   one_way _ _ _ _ _ _ _ _ _ (stays number s) (stays _ _) x y e f = (refl, refl)
   one_way _ _ _ _ _ _ _ _ _ (stays number s) (decides _ _ u c _ what text ds allowed said rest) x y e f = absurd (not_both s c.domain x allowed.0)
@@ -224,24 +224,24 @@ module _ (one : OneAnswer) (least : CornerIsLeast) where
   one_way _ _ _ _ _ _ _ _ _ (calls number s mid t r rs reply text cs idle replied rest) (calls _ _ mid' u _ _ reply' text' ds idle' replied' rest') x y e f =
       let first : (reply, mid) ≡ answer_for s r (node_named s r) = is_answer s r reply mid replied (unstarved_before (number + 1) mid t rs text cs rest e) in
       let second : (reply', mid') ≡ answer_for s r (node_named s r) = is_answer s r reply' mid' replied' (unstarved_before (number + 1) mid' u rs text' ds rest' f) in
-      let same_reply : reply ≡ reply' = ap (λ (p : Reply × State). p.0) (first ∙ sym second) in
-      let same_mid : mid' ≡ mid = ap (λ (p : Reply × State). p.1) (second ∙ sym first) in
-      let there : Goes (number + 1) mid rs text' ds u = subst (λ (m : State). Goes (number + 1) m rs text' ds u) same_mid rest' in
+      let same_reply : reply ≡ reply' = ap (λ (p : Reply × RunState). p.0) (first ∙ sym second) in
+      let same_mid : mid' ≡ mid = ap (λ (p : Reply × RunState). p.1) (second ∙ sym first) in
+      let there : Goes (number + 1) mid rs text' ds u = subst (λ (m : RunState). Goes (number + 1) m rs text' ds u) same_mid rest' in
       let (ends, rests) = one_way (number + 1) mid t u rs text text' cs ds rest there x y e f in (
         ends,
         joined (call_lines number s r reply mid) (call_lines number s r reply' mid') text text'
-            (ap (λ (z : Reply). call_lines number s r z mid) same_reply ∙ ap (λ (m : State). call_lines number s r reply' m) (sym same_mid)) rests,
+            (ap (λ (z : Reply). call_lines number s r z mid) same_reply ∙ ap (λ (m : RunState). call_lines number s r reply' m) (sym same_mid)) rests,
       )
   one_way _ _ _ _ _ _ _ _ _ (decides number s t c rs what text cs allowed said rest) (decides _ _ u c' _ what' text' ds allowed' said' rest') x y e f =
-      let short : is_none (answer_of c).verdict ≡ false = or_right s.starved (is_none (answer_of c).verdict) (unstarved_before number (decided s (answer_of c)) t rs text cs rest e) in
-      let short' : is_none (answer_of c').verdict ≡ false = or_right s.starved (is_none (answer_of c').verdict) (unstarved_before number (decided s (answer_of c')) u rs text' ds rest' f) in
+      let short : is_none (answer_of c).verdict ≡ false = or_right s.starved (is_none (answer_of c).verdict) (unstarved_before number (with_decision s (answer_of c)) t rs text cs rest e) in
+      let short' : is_none (answer_of c').verdict ≡ false = or_right s.starved (is_none (answer_of c').verdict) (unstarved_before number (with_decision s (answer_of c')) u rs text' ds rest' f) in
       let same : answer_of c ≡ answer_of c' = one_decision s c c' allowed allowed' short short' in
       let telling : what ≡ what' = one_telling s.platform (answer_of c).verdict (answer_of c').verdict what what' (ap (λ (z : Decision). z.verdict) same) said said' in
-      let there : Goes number (decided s (answer_of c)) rs text' ds u = subst (λ (z : Decision). Goes number (decided s z) rs text' ds u) (sym same) rest' in
-      let (ends, rests) = one_way number (decided s (answer_of c)) t u rs text text' cs ds rest there x y e f in
+      let there : Goes number (with_decision s (answer_of c)) rs text' ds u = subst (λ (z : Decision). Goes number (with_decision s z) rs text' ds u) (sym same) rest' in
+      let (ends, rests) = one_way number (with_decision s (answer_of c)) t u rs text text' cs ds rest there x y e f in
       (ends, joined (decision_lines s (answer_of c) what) (decision_lines s (answer_of c') what') text text' (ap (λ (z : Decision). decision_lines s z what) same ∙ ap (decision_lines s (answer_of c')) telling) rests)
 
   pub one_report : OneReport
   one_report platform rs a b cs ds x y =
-      let (ends, lines) = one_way 1 (first_state platform) x.last y.last rs x.lines y.lines cs ds x.goes y.goes x.done y.done (sym x.memory) (sym y.memory) in
-      x.put ∙ (joined x.lines y.lines (pending_lines x.last.book) (pending_lines y.last.book) lines (ap (λ (s : State). pending_lines s.book) ends) ∙ sym y.put)
+      let (ends, lines) = one_way 1 (first_run_state platform) x.last y.last rs x.lines y.lines cs ds x.goes y.goes x.done y.done (sym x.memory) (sym y.memory) in
+      x.put ∙ (joined x.lines y.lines (pending_lines x.last.book) (pending_lines y.last.book) lines (ap (λ (s : RunState). pending_lines s.book) ends) ∙ sym y.put)

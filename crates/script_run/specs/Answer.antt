@@ -2,7 +2,7 @@
 use Rattle.std.specs.Prelude.{◌≡◌, ℕ, List, Bool, true, false, ◌&&◌, Option, Some, None, Ok, Err, slice_get, if◌then◌else◌}
 use Rattle.serde_json.specs.Data.{Data}
 use Rattle.sysmem_alloc.specs.Entry.{Acted}
-use Rattle.sysmem_alloc.specs.State.{State as BookState, verdict_of}
+use Rattle.sysmem_alloc.specs.State.{RunState as BookState, verdict_of}
 use Rattle.sysmem_proof.specs.declared.verdict.Verdict.{Verdict}
 use Rattle.sysmem_proof.specs.declared.verdict.Verdict.TheVariants.{Chosen, IntersectionEmpty, TooMany, Failed}
 use Rattle.sysmem_proof.specs.declared.verdict.Verdict.TheVariants as verdicts
@@ -25,20 +25,20 @@ use Rattle.script_reading.specs.Call.{ActFacts, duplicates, binds, states, creat
 use Rattle.script_reading.specs.Script.{CallFacts}
 use Rattle.script_run.specs.declared.reply.Reply.{Reply}
 use Rattle.script_run.specs.declared.reply.Reply.TheVariants.{Accepted, Refused, Misread, Skipped}
-use Rattle.script_run.specs.State.{State, tree_of, node_named, unmade, acted}
+use Rattle.script_run.specs.State.{RunState, collection_tree, node_named, unmade, acted}
 
 -- the action that an act asks for, with the constraints that it states read
-pub data Asks : ActFacts → Deed → Type 0 where
-  to_duplicate : (name : List ℕ) → Asks (duplicates name) deeds.duplicates
-  to_create_group : (name : List ℕ) → Asks (creates_group name) deeds.creates_group
-  to_bind : Asks binds deeds.binds
-  to_create_child : (name : List ℕ) → Asks (creates_child name) deeds.creates_child
-  to_complete : Asks has_all_children deeds.has_all_children
-  to_set_none : Asks (states None) (deeds.sets None)
-  to_set : (d : Data) (asked : Participant) → participant_of d ≡ Ok asked → Asks (states (Some d)) (deeds.sets (Some asked))
-  to_attach_token : (name : List ℕ) → Asks (attaches_token name) deeds.attaches_token
-  to_release : Asks releases deeds.releases
-  to_close : Asks closes deeds.closes
+pub data AsksFor : ActFacts → Deed → Type 0 where
+  to_duplicate : (name : List ℕ) → AsksFor (duplicates name) deeds.duplicates
+  to_create_group : (name : List ℕ) → AsksFor (creates_group name) deeds.creates_group
+  to_bind : AsksFor binds deeds.binds
+  to_create_child : (name : List ℕ) → AsksFor (creates_child name) deeds.creates_child
+  to_complete : AsksFor has_all_children deeds.has_all_children
+  to_set_none : AsksFor (states None) (deeds.sets None)
+  to_set : (d : Data) (asked : Participant) → participant_of d ≡ Ok asked → AsksFor (states (Some d)) (deeds.sets (Some asked))
+  to_attach_token : (name : List ℕ) → AsksFor (attaches_token name) deeds.attaches_token
+  to_release : AsksFor releases deeds.releases
+  to_close : AsksFor closes deeds.closes
 
 -- an act that asks for the verdict
 pub data AsksVerdict : ActFacts → Type 0 where
@@ -70,7 +70,7 @@ abbrev pub told : BookState → ℕ → Reply
 told b k = told_at b (slice_get b.tree.nodes k)
 
 -- the reply to a call, and the state that it leaves before any decision
-pub data Replies (s : State) (r : CallFacts) : Reply → State → Type 0 where
+pub data Replies (s : RunState) (r : CallFacts) : Reply → RunState → Type 0 where
   skips : node_named s r ≡ None → Replies s r Skipped (unmade s r.act)
   misreads : (k : ℕ) (d : Data) (fault : Fault) → node_named s r ≡ Some k
       → r.act ≡ states (Some d) → participant_of d ≡ Err fault → Replies s r (Misread fault) s
@@ -80,9 +80,9 @@ pub data Replies (s : State) (r : CallFacts) : Reply → State → Type 0 where
   lacks : (k : ℕ) (d : Data) (asked : Participant) → node_named s r ≡ Some k
       → r.act ≡ states (Some d) → participant_of d ≡ Ok asked → Replies s r (Refused refusals.NoMemory) (record s { starved = true })
   refuses : (k : ℕ) (deed : Deed) (refusal : Refusal) → node_named s r ≡ Some k
-      → Asks r.act deed → applied (tree_of s) k deed ≡ Err refusal → Replies s r (Refused refusal) (unmade s r.act)
+      → AsksFor r.act deed → applied (collection_tree s) k deed ≡ Err refusal → Replies s r (Refused refusal) (unmade s r.act)
   accepts : (k made : ℕ) (deed : Deed) (tree : TreeFacts) → node_named s r ≡ Some k
-      → Asks r.act deed → applied (tree_of s) k deed ≡ Ok (record { tree = tree; node = made }) → Replies s r Accepted (acted s r.act (Acted k deed) made)
+      → AsksFor r.act deed → applied (collection_tree s) k deed ≡ Ok (record { tree = tree; node = made }) → Replies s r Accepted (acted s r.act (Acted k deed) made)
   tells : (k : ℕ) → node_named s r ≡ Some k → AsksVerdict r.act → Replies s r (told s.book k) s
 
 -- a reader's fault for want of memory

@@ -20,7 +20,7 @@ use Rattle.script_run.specs.declared.checking.ClaimFault.{ClaimFault}
 use Rattle.script_run.specs.declared.checking.ClaimFault.TheVariants as claims
 use Rattle.script_run.specs.declared.decider.Objection.{Objection}
 use Rattle.script_run.specs.Report.{Certified, Goes, IsReported}
-use Rattle.script_run.specs.State.{State, first_state}
+use Rattle.script_run.specs.State.{RunState, first_run_state}
 
 -- an object makes the claim that was taken as a decision, for the domain at its path
 pub record IsOf (platform : PlatformFacts) (object : Data) (c : Certified) : Type 0 where
@@ -64,8 +64,8 @@ pub record FailsAtDomain (platform : PlatformFacts) (rs : List CallFacts) (objec
   pub split : objects ≡ taken ++ left
   pub lines : List ℕ
   pub decisions : List Certified
-  pub last : State
-  pub goes : Goes 1 (first_state platform) made lines decisions last
+  pub last : RunState
+  pub goes : Goes 1 (first_run_state platform) made lines decisions last
   pub are_of : AllZip (IsOf platform) taken decisions
   pub fed : last.starved ≡ false
   pub domain : ℕ

@@ -4,7 +4,7 @@ use Rattle.sysmem_alloc.specs.Decision.{Claimed, Decision, answer_of, choices_of
 use Rattle.sysmem_alloc.specs.Entry.{Decided}
 use Rattle.sysmem_alloc.specs.History.{Allows}
 use Rattle.sysmem_alloc.specs.Sound.{roots_of}
-use Rattle.sysmem_alloc.specs.State.{State as BookState, after_decision, next_ready, verdict_of}
+use Rattle.sysmem_alloc.specs.State.{RunState as BookState, after_decision, next_ready, verdict_of}
 use Rattle.sysmem_image.specs.declared.size.Corner.{Corner}
 use Rattle.sysmem_image.specs.Corners.{IsCorner}
 use Rattle.sysmem_proof.specs.Chosen.{ChosenFacts}
@@ -19,7 +19,7 @@ use Rattle.script_reading.specs.Script.{CallFacts}
 use Rattle.script_run.specs.declared.reply.Reply.{Reply}
 use Rattle.script_run.specs.Answer.{Replies}
 use Rattle.script_run.specs.Lines.{call_line, chosen_text, domain_line}
-use Rattle.script_run.specs.State.{State, first_state, tree_of}
+use Rattle.script_run.specs.State.{RunState, first_run_state, collection_tree}
 
 -- the lines that say this of domains, by their roots
 abbrev pub domain_lines : TreeFacts → List ℕ → List ℕ → List ℕ
@@ -38,36 +38,36 @@ pub data Tells (platform : PlatformFacts) : Option Verdict → List ℕ → Type
   wants_memory : Tells platform None (codes "no_memory")
 
 -- a decision was entered
-abbrev pub decided : State → Decision → State
-decided s d = record s {
-  book = after_decision s.book d (trees.decided (tree_of s) d.domain (choices_of d.verdict));
+abbrev pub with_decision : RunState → Decision → RunState
+with_decision s d = record s {
+  book = after_decision s.book d (trees.decided (collection_tree s) d.domain (choices_of d.verdict));
   starved = s.starved || is_none d.verdict;
 }
 
 -- the lines of a decision: its own, and those of the domains that it makes fail
-abbrev pub decision_lines : State → Decision → List ℕ → List ℕ
-decision_lines s d what = domain_line (path_of (tree_of s).nodes d.domain) what ++ failed_lines (tree_of s) (tree_of (decided s d))
+abbrev pub decision_lines : RunState → Decision → List ℕ → List ℕ
+decision_lines s d what = domain_line (path_of (collection_tree s).nodes d.domain) what ++ failed_lines (collection_tree s) (collection_tree (with_decision s d))
 
 -- what is certified of a decision: the path of its domain's root, and its claim, or none where memory was wanted
 abbrev pub Certified : Type 0
 Certified = List ℕ × Option Claim
 
-abbrev pub certified : State → Claimed → Certified
-certified s c = (path_of (tree_of s).nodes c.domain, c.claim)
+abbrev pub certified : RunState → Claimed → Certified
+certified s c = (path_of (collection_tree s).nodes c.domain, c.claim)
 
 -- the lines of a call: its own, and those of the domains that it makes fail
-abbrev pub call_lines : ℕ → State → CallFacts → Reply → State → List ℕ
-call_lines number s r reply t = call_line number r reply ++ failed_lines (tree_of s) (tree_of t)
+abbrev pub call_lines : ℕ → RunState → CallFacts → Reply → RunState → List ℕ
+call_lines number s r reply t = call_line number r reply ++ failed_lines (collection_tree s) (collection_tree t)
 
 -- calls from a state to another, each numbered and made where no domain waits; and decisions, each of the first domain that waits, as the book
 -- allows it: their lines, and what was decided
-pub data Goes : ℕ → State → List CallFacts → List ℕ → List Certified → State → Type 0 where
-  stays : (number : ℕ) (s : State) → Goes number s [] [] [] s
-  calls : (number : ℕ) (s answered t : State) (r : CallFacts) (rs : List CallFacts) (reply : Reply) (text : List ℕ) (cs : List Certified)
+pub data Goes : ℕ → RunState → List CallFacts → List ℕ → List Certified → RunState → Type 0 where
+  stays : (number : ℕ) (s : RunState) → Goes number s [] [] [] s
+  calls : (number : ℕ) (s answered t : RunState) (r : CallFacts) (rs : List CallFacts) (reply : Reply) (text : List ℕ) (cs : List Certified)
       → next_ready s.book ≡ None → Replies s r reply answered → Goes (number + 1) answered rs text cs t
       → Goes number s (r ∷ rs) (call_lines number s r reply answered ++ text) cs t
-  decides : (number : ℕ) (s t : State) (c : Claimed) (rs : List CallFacts) (what text : List ℕ) (cs : List Certified)
-      → Allows s.platform s.book (Decided c) → Tells s.platform (answer_of c).verdict what → Goes number (decided s (answer_of c)) rs text cs t
+  decides : (number : ℕ) (s t : RunState) (c : Claimed) (rs : List CallFacts) (what text : List ℕ) (cs : List Certified)
+      → Allows s.platform s.book (Decided c) → Tells s.platform (answer_of c).verdict what → Goes number (with_decision s (answer_of c)) rs text cs t
       → Goes number s rs (decision_lines s (answer_of c) what ++ text) (certified s c ∷ cs) t
 
 -- the domains without a verdict, in order of creation of their roots
@@ -80,9 +80,9 @@ pending_lines b = domain_lines b.tree (codes "pending") (pending_in b)
 
 -- the report of calls on a new collection, what was decided, and whether memory was refused: all calls are made, and no domain waits
 pub record IsReport (platform : PlatformFacts) (rs : List CallFacts) (text : List ℕ) (cs : List Certified) (starved : Bool) : Type 0 where
-  pub last : State
+  pub last : RunState
   pub lines : List ℕ
-  pub goes : Goes 1 (first_state platform) rs lines cs last
+  pub goes : Goes 1 (first_run_state platform) rs lines cs last
   pub done : next_ready last.book ≡ None
   pub put : text ≡ lines ++ pending_lines last.book
   pub memory : starved ≡ last.starved
@@ -98,7 +98,7 @@ pub record IsReported (platform : PlatformFacts) (rs : List CallFacts) (says : G
   pub gave : says decisions
 
 -- calls and decisions from a state to another, whose lines are put behind a text
-pub record GoesIn (number : ℕ) (s : State) (rs : List CallFacts) (t : State) (before after : List ℕ) (old new : Gave) : Type 0 where
+pub record GoesIn (number : ℕ) (s : RunState) (rs : List CallFacts) (t : RunState) (before after : List ℕ) (old new : Gave) : Type 0 where
   pub lines : List ℕ
   pub decisions : List Certified
   pub goes : Goes number s rs lines decisions t
@@ -106,21 +106,21 @@ pub record GoesIn (number : ℕ) (s : State) (rs : List CallFacts) (t : State) (
   pub gave : (cs : List Certified) → old cs → new (cs ++ decisions)
 
 -- a decision was entered, and its lines are put behind a text
-pub record EntersIn (s t : State) (claimed : Claimed) (before after : List ℕ) : Type 0 where
+pub record EntersIn (s t : RunState) (claimed : Claimed) (before after : List ℕ) : Type 0 where
   pub what : List ℕ
   pub tells : Tells s.platform (answer_of claimed).verdict what
-  pub entered : t ≡ decided s (answer_of claimed)
+  pub entered : t ≡ with_decision s (answer_of claimed)
   pub put : after ≡ before ++ decision_lines s (answer_of claimed) what
 
 -- a decision that the book allows was entered
-pub record DecidesIn (s t : State) (before after : List ℕ) (old new : Gave) : Type 0 where
+pub record DecidesIn (s t : RunState) (before after : List ℕ) (old new : Gave) : Type 0 where
   pub claimed : Claimed
   pub allowed : Allows s.platform s.book (Decided claimed)
   pub enters : EntersIn s t claimed before after
   pub gave : (cs : List Certified) → old cs → new (cs ++ certified s claimed ∷ [])
 
 -- a reply, whose lines are put behind a text
-pub record RepliesIn (number : ℕ) (s : State) (r : CallFacts) (t : State) (before after : List ℕ) : Type 0 where
+pub record RepliesIn (number : ℕ) (s : RunState) (r : CallFacts) (t : RunState) (before after : List ℕ) : Type 0 where
   pub reply : Reply
   pub replies : Replies s r reply t
   pub put : after ≡ before ++ call_lines number s r reply t

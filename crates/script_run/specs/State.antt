@@ -2,7 +2,7 @@
 use Rattle.std.specs.Prelude.{◌≡◌, ℕ, ◌++◌, List, [], ◌∷◌, Bool, false, Option, Some, None, slice_get, unwrap_or}
 use Rattle.sysmem_alloc.specs.Entry.{BookEntry}
 use Rattle.sysmem_alloc.specs.History.{after_entry}
-use Rattle.sysmem_alloc.specs.State.{State as BookState}
+use Rattle.sysmem_alloc.specs.State.{RunState as BookState}
 use Rattle.sysmem_alloc.specs.State as books
 use Rattle.sysmem_sanitise.specs.Platform.{PlatformFacts}
 use Rattle.sysmem_tree.specs.Domain.{TreeFacts}
@@ -13,22 +13,22 @@ use Rattle.script_reading.specs.Script.{CallFacts}
 
 -- the platform; how the collection stands, without what proves its decisions; for each name, in the order of the calls that make one, the node
 -- that it names, or None where that call was not made; and whether memory was refused so far
-pub record State : Type 0 where
+pub record RunState : Type 0 where
   pub platform : PlatformFacts
   pub book : BookState
   pub names : List (Option ℕ)
   pub starved : Bool
 
 -- the tree of its collection
-abbrev pub tree_of : State → TreeFacts
-tree_of s = s.book.tree
+abbrev pub collection_tree : RunState → TreeFacts
+collection_tree s = s.book.tree
 
 -- a new collection, with the root token under its name
-abbrev pub first_state : PlatformFacts → State
-first_state platform = record { platform = platform; book = books.first_state; names = Some 0 ∷ []; starved = false }
+abbrev pub first_run_state : PlatformFacts → RunState
+first_run_state platform = record { platform = platform; book = books.first_state; names = Some 0 ∷ []; starved = false }
 
 -- the node that the call's name stands for, or None where the call that makes it was not made
-abbrev pub node_named : State → CallFacts → Option ℕ
+abbrev pub node_named : RunState → CallFacts → Option ℕ
 node_named s r = unwrap_or (slice_get s.names r.place) None
 
 -- what the name that an act makes stands for, if it makes one
@@ -36,16 +36,16 @@ abbrev pub if_named : Option (List ℕ) → Option ℕ → List (Option ℕ)
 if_named (Some name) made = made ∷ []
 if_named None made = []
 
-abbrev pub named : ActFacts → Option ℕ → List (Option ℕ)
-named act made = if_named (name_made act) made
+abbrev pub names_given : ActFacts → Option ℕ → List (Option ℕ)
+names_given act made = if_named (name_made act) made
 
 -- a call was not made: the name that it would have given stands for no node
-abbrev pub unmade : State → ActFacts → State
-unmade s act = record s { names = s.names ++ named act None }
+abbrev pub unmade : RunState → ActFacts → RunState
+unmade s act = record s { names = s.names ++ names_given act None }
 
 -- an accepted action was entered, and its name stands for this node
-abbrev pub acted : State → ActFacts → BookEntry → ℕ → State
-acted s act entry made = record s { book = after_entry s.book entry; names = s.names ++ named act (Some made) }
+abbrev pub acted : RunState → ActFacts → BookEntry → ℕ → RunState
+acted s act entry made = record s { book = after_entry s.book entry; names = s.names ++ names_given act (Some made) }
 
 -- each name that stands for a node stands for one of the tree's
 abbrev pub AreThere : List NodeFacts → List (Option ℕ) → Type 0

@@ -1,13 +1,13 @@
 -- Where decisions stop.
 use Rattle.std.specs.Prelude.{◌≡◌, ℕ, ◌++◌, List, Some, ⊤, false}
-use Rattle.sysmem_alloc.specs.State.{State as BookState, next_ready}
+use Rattle.sysmem_alloc.specs.State.{RunState as BookState, next_ready}
 use Rattle.sysmem_sanitise.specs.Platform.{PlatformFacts}
 use Rattle.script_reading.specs.Script.{CallFacts}
 use Rattle.script_run.specs.declared.decider.Objection.{Objection}
 use Rattle.script_run.specs.declared.decider.Stop.{Stop}
 use Rattle.script_run.specs.declared.decider.Stop.TheVariants.{NoMemory, Refused}
 use Rattle.script_run.specs.Report.{Certified, Gave, Goes}
-use Rattle.script_run.specs.State.{State, first_state}
+use Rattle.script_run.specs.State.{RunState, first_run_state}
 
 -- what holds of the objection, if there is one
 abbrev pub IfObjects : Stop → (Objection → Type 0) → Type 0
@@ -19,7 +19,7 @@ abbrev pub Objects : Type 1
 Objects = PlatformFacts → BookState → ℕ → Objection → Type 0
 
 -- some of the calls were made, with decisions, and lead to a state in which there is an objection at the first domain that waits
-pub record StopsIn (number : ℕ) (s : State) (rs : List CallFacts) (t : State) (old new : Gave) (objects : Objects) (objection : Objection) : Type 0 where
+pub record StopsIn (number : ℕ) (s : RunState) (rs : List CallFacts) (t : RunState) (old new : Gave) (objects : Objects) (objection : Objection) : Type 0 where
   pub made : List CallFacts
   pub left : List CallFacts
   pub split : rs ≡ made ++ left
@@ -33,6 +33,6 @@ pub record StopsIn (number : ℕ) (s : State) (rs : List CallFacts) (t : State) 
 
 -- the calls of a script come to an objection, where memory was not refused before
 pub record IsStopped (platform : PlatformFacts) (rs : List CallFacts) (old new : Gave) (objects : Objects) (objection : Objection) : Type 0 where
-  pub last : State
-  pub stops : StopsIn 1 (first_state platform) rs last old new objects objection
+  pub last : RunState
+  pub stops : StopsIn 1 (first_run_state platform) rs last old new objects objection
   pub fed : last.starved ≡ false

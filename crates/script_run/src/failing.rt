@@ -4,7 +4,7 @@ ghost use Rattle.std.specs.Prelude.{◌≡◌, ◌<◌, ℕ, None, false, get_or
 ghost use Rattle.script_reading.specs.Seen.{act_seen};
 ghost use Rattle.script_run.specs.Answer.{AsksVerdict};
 ghost use Rattle.script_run.specs.Lines.{Puts};
-ghost use Rattle.script_run.specs.Marks.{AreMarksOf, failed_at, unmarked_at};
+ghost use Rattle.script_run.specs.Marks.{AreMarksOf, failed_at, failed_unmarked_at};
 ghost use Rattle.script_run.specs.Report.{failed_lines};
 ghost use Rattle.sysmem_tree.specs.Domain.{HasDomain, TreeFacts};
 
@@ -36,7 +36,7 @@ fn newly_failed_at(
 ) -> Option<DomainId>
     requires small { index < 128 }
     requires marks { (k : ℕ) → get_or have_failed.now k false ≡ failed_at tree.now k }
-    ensures domain { result ≡ unmarked_at tree.now had_failed.now index }
+    ensures domain { result ≡ failed_unmarked_at tree.now had_failed.now index }
     ensures there { IfSome result (HasDomain tree.now.nodes) }
 {
     let is_new = have_failed[index as usize] && !had_failed[index as usize];

@@ -6,9 +6,9 @@ ghost use Rattle.std.specs.String.{string_bytes};
 ghost use Rattle.serde_json.specs.View.{view};
 ghost use Rattle.script_reading.specs.Call.{states};
 ghost use Rattle.script_reading.specs.Seen.{act_seen, call_seen};
-ghost use Rattle.script_run.specs.Answer.{Asks, Replies, is_want};
-ghost use Rattle.script_run.specs.Report.{DecidesIn, EntersIn, GoesIn, RepliesIn, decided};
-ghost use Rattle.script_run.specs.State.{AreThere, first_state, named, node_named};
+ghost use Rattle.script_run.specs.Answer.{AsksFor, Replies, is_want};
+ghost use Rattle.script_run.specs.Report.{DecidesIn, EntersIn, GoesIn, RepliesIn, with_decision};
+ghost use Rattle.script_run.specs.State.{AreThere, first_run_state, names_given, node_named};
 ghost use Rattle.script_run.specs.Stop.{IfObjects, StopsIn};
 ghost use Rattle.script_run.specs.declared.decider.Stop.TheVariants.{Refused};
 ghost use Rattle.sysmem_alloc.specs.Decision.{answer_of};
@@ -53,7 +53,7 @@ impl Runner {
 
     /// The collection of the root token.
     pub(crate) fn new(alloc: Global, platform: Platform) -> Result<Runner, AllocError>
-        ensures { IfOk result (λ runner. state_of runner ≡ first_state platform) }
+        ensures { IfOk result (λ runner. state_of runner ≡ first_run_state platform) }
     {
         let book = Book::new(alloc, platform)?;
         let root = book.tree().root();
@@ -207,7 +207,7 @@ impl Runner {
           domain = domain;
           claim = option_map (λ shared. arc_value shared) claim;
         })) }
-        ensures state { state_of self.new ≡ decided (state_of self.old) (answer_of (record {
+        ensures state { state_of self.new ≡ with_decision (state_of self.old) (answer_of (record {
           domain = domain;
           claim = option_map (λ shared. arc_value shared) claim;
         })) }
@@ -271,7 +271,7 @@ impl Runner {
         node: NodeId,
         stated: Option<&Value>,
     ) -> Result<Reply, AllocError>
-        requires named { node_named (state_of self.old) (call_seen call.now) ≡ Some node }
+        requires names_given { node_named (state_of self.old) (call_seen call.now) ≡ Some node }
         requires stated { (call_seen call.now).act ≡ act_seen (Act.SetConstraints stated) }
         ensures { IfOk result (λ reply.
             Replies (state_of self.old) (call_seen call.now) reply (state_of self.new)) }
@@ -290,7 +290,7 @@ impl Runner {
         node: NodeId,
         value: &Value,
     ) -> Result<Reply, AllocError>
-        requires named { node_named (state_of self.old) (call_seen call.now) ≡ Some node }
+        requires names_given { node_named (state_of self.old) (call_seen call.now) ≡ Some node }
         requires stated { (call_seen call.now).act ≡ states (Some (view value.now)) }
         ensures { IfOk result (λ reply.
             Replies (state_of self.old) (call_seen call.now) reply (state_of self.new)) }
@@ -327,8 +327,8 @@ impl Runner {
 
     /// Makes a call's action on its node, or refuses it.
     fn act(&mut self, call: &Call<'_>, node: NodeId, action: Action) -> Result<Reply, AllocError>
-        requires named { node_named (state_of self.old) (call_seen call.now) ≡ Some node }
-        requires asks { Asks (call_seen call.now).act (deed_of action) }
+        requires names_given { node_named (state_of self.old) (call_seen call.now) ≡ Some node }
+        requires asks { AsksFor (call_seen call.now).act (deed_of action) }
         ensures { IfOk result (λ reply.
             Replies (state_of self.old) (call_seen call.now) reply (state_of self.new)) }
     {
@@ -356,7 +356,7 @@ impl Runner {
     fn keep_name(&mut self, act: &Act<'_>, node: Option<NodeId>) -> Result<(), AllocError>
         requires { IfSome node (HasNode (state_of self.old).book.tree.nodes) }
         ensures { OnOk result (state_of self.new ≡ record (state_of self.old) {
-          names = (state_of self.old).names ++ named (act_seen act.now) node;
+          names = (state_of self.old).names ++ names_given (act_seen act.now) node;
         }) }
     {
         if act.name_made().is_some() {

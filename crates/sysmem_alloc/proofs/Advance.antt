@@ -4,7 +4,7 @@ use Rattle.std.specs.Prelude.{filter}
 use Rattle.std.proofs.lemmas.List.Elements.{filter-append}
 use Rattle.list_lemmas.proofs.CallerLemmas.{and_parts}
 use Rattle.sysmem_tree.specs.Domain.{TreeFacts, HasDomain, IsSoundTree, decision_of, is_ready, is_undecided}
-use Rattle.sysmem_alloc.specs.Sound.{AllOf, AreApart, MayWait, roots_of}
+use Rattle.sysmem_alloc.specs.Sound.{AllOf, AreDistinct, MayWait, roots_of}
 use Rattle.sysmem_alloc.specs.State.{newly_ready}
 use Rattle.sysmem_alloc.proofs.Lists.{all_append, all_weaken, all_filter, none_pass, apart_append, apart_filter, pass_more}
 use Rattle.sysmem_alloc.proofs.Trees.{domains_there, domains_apart}
@@ -22,7 +22,7 @@ pub record Follows (old new : TreeFacts) (added : List ℕ) : Type 0 where
 -- who waits after it
 pub record Advances (old new : TreeFacts) (waiting : List ℕ) : Type 0 where
   pub waits : AllOf (MayWait new) (waiting ++ newly_ready old new)
-  pub once : AreApart (waiting ++ newly_ready old new)
+  pub once : AreDistinct (waiting ++ newly_ready old new)
   pub count : length (filter (is_ready new) (roots_of new)) ≡ length (filter (is_ready old) (roots_of old)) + length (newly_ready old new)
 
 not_true : (b : Bool) → not b ≡ true → b ≡ false
@@ -54,7 +54,7 @@ still : (old new : TreeFacts) (r : ℕ) → ((r : ℕ) → HasDomain old.nodes r
 still old new r there ready (w, same) = record { there = there r w.there; ready = ready r w.there w.ready; undecided = ap is_undecided same ∙ w.undecided }
 
 pub advance : (old new : TreeFacts) (added waiting : List ℕ) → Follows old new added
-    → AllOf (λ r. MayWait old r × (decision_of new.domains r ≡ decision_of old.domains r)) waiting → AreApart waiting → Advances old new waiting
+    → AllOf (λ r. MayWait old r × (decision_of new.domains r ≡ decision_of old.domains r)) waiting → AreDistinct waiting → Advances old new waiting
 advance old new added waiting f waits once = record {
   waits = all_append (MayWait new) waiting (newly_ready old new) (all_weaken (λ r. MayWait old r × (decision_of new.domains r ≡ decision_of old.domains r)) (MayWait new) waiting (λ r w. still old new r f.there f.ready w) waits)
       (all_weaken Fresh (MayWait new) (newly_ready old new) (λ r w. w.0) fresh);

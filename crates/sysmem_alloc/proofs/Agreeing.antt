@@ -29,7 +29,7 @@ use Rattle.sysmem_alloc.specs.Decision.{Claimed, Decision, answer_of, choices_of
 use Rattle.sysmem_alloc.specs.Entry.{BookEntry, Acted, Decided}
 use Rattle.sysmem_alloc.specs.History.{after_answer, after_entry, replay_from, replay, Allows, AreAllowed, IsLegal}
 use Rattle.sysmem_alloc.specs.Laws.{LegalIsSound, LegalAgrees}
-use Rattle.sysmem_alloc.specs.Sound.{AgreesWithTree, AllOf, AreApart, AreSettingsOn, IsDecisionOn, IsOfReady, IsSoundState, roots_of, standing_of}
+use Rattle.sysmem_alloc.specs.Sound.{AgreesWithTree, AllOf, AreDistinct, AreSettingsOn, IsDecisionOn, IsOfReady, IsSoundState, roots_of, standing_of}
 use Rattle.sysmem_alloc.specs.State.{State, first_state, after_action, base_of, chosen_in, is_open, kept_for, open_in}
 use Rattle.sysmem_tree.proofs.CallerLemmas.{accepted, decision_acted, decision_by}
 use Rattle.sysmem_alloc.proofs.Choosing.{same_chosen}
@@ -231,7 +231,7 @@ module _ (stays : ForestStays) (one : OneForest) (platform : PlatformFacts) wher
               (decided_own s.tree d.domain (choices_of d.verdict) sound.tree.domains fine.there ∙ ap standing_of (sym (entered_last s.decisions d none)))
           | inr other ↦ decision_by s.tree d.domain r (choices_of d.verdict) other ∙ (agrees.standing r ∙ ap standing_of (sym (entered_other s.decisions d r other)))
         ];
-        once = subst AreApart (sym (map-append (λ (x : Decision). x.domain) s.decisions (d ∷ []))) (apart_append (map (λ (x : Decision). x.domain) s.decisions) (d.domain ∷ []) agrees.once (tt, tt)
+        once = subst AreDistinct (sym (map-append (λ (x : Decision). x.domain) s.decisions (d ∷ []))) (apart_append (map (λ (x : Decision). x.domain) s.decisions) (d.domain ∷ []) agrees.once (tt, tt)
             (apart_last s.decisions (none_entered s.decisions d.domain none)));
         chosen = all_append (IsDecisionOn platform u.nodes) s.decisions (d ∷ []) (all_still s u agrees same) (still_decided platform s.tree.nodes u.nodes d one own new, tt);
         accepted = sub_filter (is_open u.nodes) (chosen_in u.nodes (s.decisions ++ d ∷ []));

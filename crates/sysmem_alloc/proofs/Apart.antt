@@ -8,7 +8,7 @@ use Rattle.sysmem_alloc.specs.Book.{BookFacts, IsBook}
 use Rattle.sysmem_alloc.specs.Decision.{Decision, decision_for}
 use Rattle.sysmem_alloc.specs.Entry.{decision_in}
 use Rattle.sysmem_alloc.specs.Laws.{LegalAgrees}
-use Rattle.sysmem_alloc.specs.Sound.{AgreesWithTree, AllOf, AreApart}
+use Rattle.sysmem_alloc.specs.Sound.{AgreesWithTree, AllOf, AreDistinct}
 
 -- where all decisions are of other domains, none was entered
 none_among : (ds : List Decision) (r : ℕ) → AllOf (λ y. r ≢ y) (map (λ (d : Decision). d.domain) ds) → decision_for ds r ≡ None
@@ -16,7 +16,7 @@ none_among [] r others = refl
 none_among (x ∷ ds) r others = ap (λ b. if b then Some x else decision_for ds r) (ne_eqb x.domain r (λ e. others.0 (sym e))) ∙ none_among ds r others.1
 
 -- the decision that an entry is was entered for its domain
-pub found : (h : List Entry) (i : ℕ) (e : Entry) (d : Decision) → AreApart (map (λ (x : Decision). x.domain) (filter_map decision_in h)) → i < length h → e ≡ get_or h i e → decision_in e ≡ Some d
+pub found : (h : List Entry) (i : ℕ) (e : Entry) (d : Decision) → AreDistinct (map (λ (x : Decision). x.domain) (filter_map decision_in h)) → i < length h → e ≡ get_or h i e → decision_in e ≡ Some d
     → decision_for (filter_map decision_in h) d.domain ≡ Some d
 found [] i e d apart less is own = absurd (omega (arith, less))
 found (x ∷ h) zero e d apart less is own =
@@ -32,12 +32,12 @@ found (x ∷ h) (suc i) e d apart less is own = by (decision_in x) apart (λ a. 
       absurd (cc)
   first y false same others rest = rest
 
-  by : (o : Option Decision) → AreApart (map (λ (x : Decision). x.domain) (cons_option o (filter_map decision_in h)))
-      → (AreApart (map (λ (x : Decision). x.domain) (filter_map decision_in h)) → decision_for (filter_map decision_in h) d.domain ≡ Some d)
+  by : (o : Option Decision) → AreDistinct (map (λ (x : Decision). x.domain) (cons_option o (filter_map decision_in h)))
+      → (AreDistinct (map (λ (x : Decision). x.domain) (filter_map decision_in h)) → decision_for (filter_map decision_in h) d.domain ≡ Some d)
       → decision_for (cons_option o (filter_map decision_in h)) d.domain ≡ Some d
   by None a rest = rest a
   by (Some y) a rest = first y (y.domain == d.domain) refl a.0 (rest a.1)
 
 -- a book enters one decision of a domain at most
-pub entered_once : LegalAgrees → (b : BookFacts) → IsBook b → AreApart (map (λ (d : Decision). d.domain) b.state.decisions)
+pub entered_once : LegalAgrees → (b : BookFacts) → IsBook b → AreDistinct (map (λ (d : Decision). d.domain) b.state.decisions)
 entered_once agrees b is = (subst (AgreesWithTree b.platform) (sym is.replayed) (agrees b.platform b.history is.legal)).once

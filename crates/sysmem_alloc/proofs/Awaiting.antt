@@ -10,7 +10,7 @@ use Rattle.sysmem_tree.specs.Node.{NodeFacts}
 use Rattle.sysmem_alloc.specs.Decision.{Decision, choices_of, decision_for}
 use Rattle.sysmem_alloc.specs.History.{replay}
 use Rattle.sysmem_alloc.specs.Laws.{LegalAgrees, LegalIsSound, ReadyWaits}
-use Rattle.sysmem_alloc.specs.Sound.{AllOf, AreApart, IsOfReady, IsSoundState, MayWait, roots_of, standing_of}
+use Rattle.sysmem_alloc.specs.Sound.{AllOf, AreDistinct, IsOfReady, IsSoundState, MayWait, roots_of, standing_of}
 use Rattle.sysmem_alloc.specs.State.{State}
 use Rattle.sysmem_alloc.proofs.Lists.{all_append, all_weaken, apart_append}
 
@@ -61,7 +61,7 @@ rest_here x [] ys others all = tt
 rest_here x (z ∷ xs) ys others all = (still_here x z ys others.0 all.0, rest_here x xs ys others.1 all.1)
 
 -- numbers of a list, each once, are at most as many as it has
-few_of : (xs ys : List ℕ) → AreApart xs → AllOf (λ z. here z ys ≡ true) xs → length xs ≤ length ys
+few_of : (xs ys : List ℕ) → AreDistinct xs → AllOf (λ z. here z ys ≡ true) xs → length xs ≤ length ys
 few_of [] ys apart all = omega arith
 few_of (x ∷ xs) ys apart all = omega (arith, length_out x ys all.0, few_of xs (out x ys) apart.1 (rest_here x xs ys apart.0 all.1))
 
@@ -73,7 +73,7 @@ others x (y ∷ ys) h = by (y == x) refl h (others x ys) where
   by false own h rest = (λ same. let e : (y == x) ≡ true = itself x y (sym same) in absurd (cc), rest h)
 
 -- where they are as many, each of the list is among them
-all_found : (xs ys : List ℕ) (z : ℕ) → AreApart xs → AllOf (λ x. here x ys ≡ true) xs → length xs ≡ length ys → here z ys ≡ true → here z xs ≡ true
+all_found : (xs ys : List ℕ) (z : ℕ) → AreDistinct xs → AllOf (λ x. here x ys ≡ true) xs → length xs ≡ length ys → here z ys ≡ true → here z xs ≡ true
 all_found xs ys z apart all same h = by (here z xs) refl where
   by : (b : Bool) → here z xs ≡ b → b ≡ true
   by true e = refl
@@ -156,7 +156,7 @@ of_decided P Q [] each all = tt
 of_decided P Q (d ∷ ds) each all = (each d all.0, of_decided P Q ds each all.1)
 
 -- in a state whose tree has of each domain what was entered for it
-waits_in : (s : State) → IsSoundState s → ((r : ℕ) → decision_of s.tree.domains r ≡ standing_of (decision_for s.decisions r)) → AreApart (decided_domains s.decisions)
+waits_in : (s : State) → IsSoundState s → ((r : ℕ) → decision_of s.tree.domains r ≡ standing_of (decision_for s.decisions r)) → AreDistinct (decided_domains s.decisions)
     → (r : ℕ) → HasDomain s.tree.nodes r → is_ready s.tree r ≡ true → is_undecided (decision_of s.tree.domains r) ≡ true → Contains s.waiting r
 waits_in s sound standing apart r has ready undecided =
     contains_it r s.waiting (here_either r s.waiting ds (all_found (s.waiting ++ ds) ready_roots r once each many (among r has ready)) (open_yet r undecided)) where
@@ -172,7 +172,7 @@ waits_in s sound standing apart r has ready undecided =
       open_yet : (k : ℕ) → is_undecided (decision_of s.tree.domains k) ≡ true → here k ds ≡ false
       open_yet k e = is_decided k s.decisions ∙ none_entered (decision_for s.decisions k) (ap is_undecided (sym (standing k)) ∙ e)
 
-      once : AreApart (s.waiting ++ ds)
+      once : AreDistinct (s.waiting ++ ds)
       once = apart_append s.waiting ds sound.once apart (all_weaken (MayWait s.tree) (λ x. AllOf (λ y. x ≢ y) ds) s.waiting (λ x w. others x ds (open_yet x w.undecided)) sound.waiting)
 
       each : AllOf (λ x. here x ready_roots ≡ true) (s.waiting ++ ds)

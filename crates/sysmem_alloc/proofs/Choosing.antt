@@ -11,8 +11,8 @@ use Rattle.sysmem_tree.specs.Node.{NodeFacts}
 use Rattle.sysmem_tree.specs.Path.{path_of}
 use Rattle.sysmem_tree.specs.Selection.{after, settled_by}
 use Rattle.sysmem_tree.specs.Shape.{Member, kid_of, before, tree_of, kids_from, rooted, forest_of, members_of, participants_of}
+use Rattle.sysmem_proof.specs.Asked.{asks_at}
 use Rattle.sysmem_alloc.specs.Decision.{Decision, choices_of}
-use Rattle.sysmem_alloc.specs.Entry.{constraints_at}
 use Rattle.sysmem_alloc.specs.Sound.{AllOf}
 use Rattle.sysmem_alloc.specs.State.{chosen_by, chosen_in}
 use Rattle.sysmem_tree.proofs.CallerLemmas.{after_relabel, settled_relabel}
@@ -81,7 +81,7 @@ module _ {A : Type 0} (P : A → Type 0) where
 
 -- a label tells the constraints of its node
 abbrev pub Tells : List NodeFacts → ℕ × Member → Type 0
-Tells nodes l = constraints_at nodes l.0 ≡ l.1.constraints
+Tells nodes l = asks_at nodes l.0 ≡ l.1.constraints
 
 told : (all : List NodeFacts) (i : ℕ) (n : NodeFacts) (path : List ℕ) → slice_get all i ≡ Some n → Tells all (by_both i path n)
 told all i n path here = ap (option_and_then (λ (x : NodeFacts). x.constraints)) here
@@ -130,10 +130,10 @@ same_filter p q (x ∷ xs) all = ap (λ b. if b then x ∷ filter p xs else filt
 -- a selection of a domain that stays has the participants that it had
 pub same_participants : (old new : List NodeFacts) (r : ℕ) (cs : List ℕ) → AreOneForest old r → IsSameDomain old new r → participants_of new r cs ≡ participants_of old r cs
 same_participants old new r cs one same =
-    ap (filter (λ i. is_some (constraints_at new i))) (same.members cs)
-    ∙ same_filter (λ i. is_some (constraints_at new i)) (λ i. is_some (constraints_at old i)) (members_of old r cs)
-    (subst (AllOf (λ i. is_some (constraints_at new i) ≡ is_some (constraints_at old i))) (sym (members_both old r cs one))
-    (all_mapped (λ (l : ℕ × Member). Tells old l × Tells new l) (λ i. is_some (constraints_at new i) ≡ is_some (constraints_at old i)) (λ (l : ℕ × Member). l.0) (both_of old r cs)
+    ap (filter (λ i. is_some (asks_at new i))) (same.members cs)
+    ∙ same_filter (λ i. is_some (asks_at new i)) (λ i. is_some (asks_at old i)) (members_of old r cs)
+    (subst (AllOf (λ i. is_some (asks_at new i) ≡ is_some (asks_at old i))) (sym (members_both old r cs one))
+    (all_mapped (λ (l : ℕ × Member). Tells old l × Tells new l) (λ i. is_some (asks_at new i) ≡ is_some (asks_at old i)) (λ (l : ℕ × Member). l.0) (both_of old r cs)
     (λ l h. ap is_some (h.1 ∙ sym h.0)) (paired (both_of old r cs) (in_settled_by (Tells old) (forest_of by_both old r (path_of old r)) cs (labels_tell old r (path_of old r)))
     (in_settled_by (Tells new) (forest_of by_both old r (path_of old r)) cs (subst (AllIn (Tells new)) same.forest (labels_tell new r (path_of new r))))))) where
       paired : (ls : List (ℕ × Member)) → AllOf (Tells old) ls → AllOf (Tells new) ls → AllOf (λ (l : ℕ × Member). Tells old l × Tells new l) ls

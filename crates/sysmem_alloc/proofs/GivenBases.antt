@@ -25,7 +25,7 @@ use Rattle.sysmem_alloc.specs.Book.{BookFacts, IsBook}
 use Rattle.sysmem_alloc.specs.Decision.{Decision, choices_of, decision_for, settings_for, settings_of}
 use Rattle.sysmem_alloc.specs.History.{replay}
 use Rattle.sysmem_alloc.specs.Laws.{BaseIsGiven, LegalAgrees, LegalIsSound}
-use Rattle.sysmem_alloc.specs.Sound.{AgreesWithTree, AllOf, AreApart, AreSettingsOn, IsDecisionOn, IsOfReady, IsSoundState, MayWait, standing_of}
+use Rattle.sysmem_alloc.specs.Sound.{AgreesWithTree, AllOf, AreDistinct, AreSettingsOn, IsDecisionOn, IsOfReady, IsSoundState, MayWait, standing_of}
 use Rattle.sysmem_alloc.specs.State.{State, base_of, chosen_by, chosen_in, next_ready}
 use Rattle.sysmem_alloc.proofs.Agreeing.{none_entered, none_for, settings_fit}
 use Rattle.sysmem_alloc.proofs.Entering.{state_sound}
@@ -134,7 +134,7 @@ module _ (law : MembersStandOnce) (nodes : List NodeFacts) (tree : IsTree nodes)
       (All-append (λ j. x ≢ j) xs ys (λ k d small. a 0 (suc k) d (omega arith) (omega (arith, small))) (All-head (λ i. All (λ j. i ≢ j) ys) x xs c))
       (pairs_append xs ys (λ i j d less small. a (suc i) (suc j) d (omega (arith, less)) (omega (arith, small))) b (All-tail (λ i. All (λ j. i ≢ j) ys) x xs c))
 
-  pub all_once : (ds : List Decision) → AllOf (λ (d : Decision). HasDomain nodes d.domain) ds → AreApart (map (λ (d : Decision). d.domain) ds) → AllPairs (λ i j. i ≢ j) (chosen_in nodes ds)
+  pub all_once : (ds : List Decision) → AllOf (λ (d : Decision). HasDomain nodes d.domain) ds → AreDistinct (map (λ (d : Decision). d.domain) ds) → AllPairs (λ i j. i ≢ j) (chosen_in nodes ds)
   all_once [] there apart = λ i j x less small. absurd (omega (arith, small))
   all_once (d ∷ ds) there apart = subst (AllPairs (λ i j. i ≢ j)) (sym (flat_map-cons (chosen_by nodes) d ds))
       (pairs_append (chosen_by nodes d) (chosen_in nodes ds) (own_once d there.0) (all_once ds there.1 apart.1)

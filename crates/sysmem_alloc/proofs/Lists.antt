@@ -1,7 +1,7 @@
 -- Lists of which all elements have something, and lists without a repeat.
 use Rattle.std.proofs.Common.{◌≡◌, ◌≢◌, ℕ, ◌+◌, Bool, true, false, not, ◌&&◌, List, [], ◌∷◌, ◌++◌, length, refl, ◌∙◌, ap, arith}
 use Rattle.std.specs.Prelude.{filter, if◌then◌else◌}
-use Rattle.sysmem_alloc.specs.Sound.{AllOf, AreApart}
+use Rattle.sysmem_alloc.specs.Sound.{AllOf, AreDistinct}
 
 module _ {X : Type 0} where
   pub all_append : (P : X → Type 0) (xs ys : List X) → AllOf P xs → AllOf P ys → AllOf P (xs ++ ys)
@@ -29,17 +29,17 @@ module _ {X : Type 0} where
   none_pass p [] a = refl
   none_pass p (x ∷ xs) a = ap (λ b. if b then x ∷ filter p xs else filter p xs) a.0 ∙ none_pass p xs a.1
 
-pub apart_append : (xs ys : List ℕ) → AreApart xs → AreApart ys → AllOf (λ x. AllOf (λ y. x ≢ y) ys) xs → AreApart (xs ++ ys)
+pub apart_append : (xs ys : List ℕ) → AreDistinct xs → AreDistinct ys → AllOf (λ x. AllOf (λ y. x ≢ y) ys) xs → AreDistinct (xs ++ ys)
 apart_append [] ys a b c = b
 apart_append (x ∷ xs) ys a b c = (all_append (λ y. x ≢ y) xs ys a.0 c.0, apart_append xs ys a.1 b c.1)
 
 all_kept : (P : ℕ → Type 0) (p : ℕ → Bool) (xs : List ℕ) → AllOf P xs → AllOf P (filter p xs)
 all_kept P p xs a = all_weaken (λ x. P x × (p x ≡ true)) P (filter p xs) (λ x h. h.0) (all_filter P p xs a)
 
-pub apart_filter : (p : ℕ → Bool) (xs : List ℕ) → AreApart xs → AreApart (filter p xs)
+pub apart_filter : (p : ℕ → Bool) (xs : List ℕ) → AreDistinct xs → AreDistinct (filter p xs)
 apart_filter p [] a = tt
 apart_filter p (x ∷ xs) a = at (p x) (apart_filter p xs a.1) where
-  at : (b : Bool) → AreApart (filter p xs) → AreApart (if b then x ∷ filter p xs else filter p xs)
+  at : (b : Bool) → AreDistinct (filter p xs) → AreDistinct (if b then x ∷ filter p xs else filter p xs)
   at true rest = (all_kept (λ y. x ≢ y) p xs a.0, rest)
   at false rest = rest
 

@@ -3,6 +3,7 @@ use Rattle.std.proofs.Common.{◌≡◌, ℕ, zero, suc, ◌+◌, Bool, true, fa
 use Rattle.std.specs.Prelude.{IsOk, IsSomeAnd, map, option_and_then}
 use Rattle.std.proofs.lemmas.Option.{same_Some}
 use Rattle.list_lemmas.proofs.CallerLemmas.{and_parts}
+use Rattle.sysmem_proof.specs.Asked.{asks_at}
 use Rattle.sysmem_alloc.specs.declared.entry.Entry.{Entry}
 use Rattle.sysmem_alloc.specs.declared.entry.Entry.TheVariants as entries
 use Rattle.sysmem_sanitise.specs.Participant.{Participant}
@@ -20,7 +21,7 @@ use Rattle.sysmem_tree.specs.Shape.{members_of}
 use Rattle.sysmem_tree.specs.Table.{allows, suits_node, makes}
 use Rattle.sysmem_tree.specs.Tree.{Applied, applied, tree_after, node_after, nodes_made, left_out_but, decided}
 use Rattle.sysmem_alloc.specs.Decision.{Decision, answer_of, choices_of}
-use Rattle.sysmem_alloc.specs.Entry.{BookEntry, Acted, Decided, constraints_at, entry_in, deed_with}
+use Rattle.sysmem_alloc.specs.Entry.{BookEntry, Acted, Decided, entry_in, deed_with}
 use Rattle.sysmem_alloc.specs.History.{after_answer, after_entry, replay_from, Allows, AreAllowed}
 use Rattle.sysmem_alloc.specs.Sound.{AllOf}
 use Rattle.sysmem_alloc.specs.State.{State}
@@ -145,15 +146,15 @@ all_stand platform s (e ∷ es) all =
     (stands_on (after_entry s e).tree.nodes (replay_from (after_entry s e) es).tree.nodes (later (after_entry s e) es) e (entry_stands platform s e all.0), all_stand platform (after_entry s e) es all.1)
 
 -- what a node is set to are its constraints
-of_set : (nodes : List NodeFacts) (i : ℕ) (c : Option Participant) → IsSetTo nodes i c → constraints_at nodes i ≡ c
+of_set : (nodes : List NodeFacts) (i : ℕ) (c : Option Participant) → IsSetTo nodes i c → asks_at nodes i ≡ c
 of_set nodes i c h = by (slice_get nodes i) h where
   by : (o : Option NodeFacts) → IsSomeAnd o (λ n. (n.state.is_set ≡ true) × (n.constraints ≡ c)) → option_and_then (λ (n : NodeFacts). n.constraints) o ≡ c
   by None h = absurd h
   by (Some n) h = h.1
 
 read_same : (xs ys : List NodeFacts) → ((k : ℕ) (c : Option Participant) → IsSetTo xs k c → IsSetTo ys k c) → (i : ℕ) (kind : ActionKind)
-    → WasSet xs i (deed_with (constraints_at xs i) kind) → deed_with (constraints_at ys i) kind ≡ deed_with (constraints_at xs i) kind
-read_same xs ys keeps i kinds.SetConstraints h = ap sets (of_set ys i (constraints_at xs i) (keeps i (constraints_at xs i) h))
+    → WasSet xs i (deed_with (asks_at xs i) kind) → deed_with (asks_at ys i) kind ≡ deed_with (asks_at xs i) kind
+read_same xs ys keeps i kinds.SetConstraints h = ap sets (of_set ys i (asks_at xs i) (keeps i (asks_at xs i) h))
 read_same xs ys keeps i kinds.Duplicate h = refl
 read_same xs ys keeps i kinds.CreateGroup h = refl
 read_same xs ys keeps i kinds.Bind h = refl
@@ -168,7 +169,7 @@ pub read_later : (xs ys : List NodeFacts) → ((k : ℕ) (c : Option Participant
     → map (entry_in ys) raw ≡ map (entry_in xs) raw
 read_later xs ys keeps [] all = refl
 read_later xs ys keeps (entries.Acted i kind ∷ raw) all =
-    ap (λ d. Acted i d ∷ map (entry_in ys) raw) (read_same xs ys keeps i kind all.0) ∙ ap (λ es. Acted i (deed_with (constraints_at xs i) kind) ∷ es) (read_later xs ys keeps raw all.1)
+    ap (λ d. Acted i d ∷ map (entry_in ys) raw) (read_same xs ys keeps i kind all.0) ∙ ap (λ es. Acted i (deed_with (asks_at xs i) kind) ∷ es) (read_later xs ys keeps raw all.1)
 read_later xs ys keeps (entries.Decided r claim ∷ raw) all = ap (λ es. entry_in xs (entries.Decided r claim) ∷ es) (read_later xs ys keeps raw all.1)
 
 -- what was just entered is read as it was made

@@ -22,7 +22,7 @@ use Rattle.sysmem_tree.specs.Tree.{Applied, applied, decided}
 use Rattle.sysmem_alloc.specs.Decision.{Decision, answer_of, choices_of, verdict_in}
 use Rattle.sysmem_alloc.specs.Entry.{BookEntry, Acted, Decided, tree_entry}
 use Rattle.sysmem_alloc.specs.History.{after_answer, after_entry, replay_from, replay, Allows, AreAllowed, IsLegal}
-use Rattle.sysmem_alloc.specs.Sound.{AllOf, AreApart, IsOfReady, IsSoundState, MayWait, roots_of}
+use Rattle.sysmem_alloc.specs.Sound.{AllOf, AreDistinct, IsOfReady, IsSoundState, MayWait, roots_of}
 use Rattle.sysmem_alloc.specs.State.{State, first_state, newly_ready, after_action, open_in, base_of}
 use Rattle.sysmem_tree.proofs.CallerLemmas.{accepted, decision_acted, decision_by, IsAccepted}
 use Rattle.sysmem_alloc.proofs.Advance.{Follows, advance}
@@ -124,7 +124,7 @@ module _ (sound_stays : SoundStays) (ready_stays : ReadyStays) where
       let own : x ≡ d.domain = same_Some x d.domain first in
       let f = decided_follows t d.domain choices sound.tree ok in
       let waits : AllOf (MayWait t) (x ∷ rest) = subst (AllOf (MayWait t)) is sound.waiting in
-      let once : AreApart (x ∷ rest) = subst AreApart is sound.once in
+      let once : AreDistinct (x ∷ rest) = subst AreDistinct is sound.once in
       let on = advance t u [] rest f (both t u x rest (λ r other. decision_by t d.domain r choices (λ same. other (own ∙ sym same))) waits.1 once.0) once.1 in
       record {
         tree = f.after;

@@ -15,7 +15,7 @@ use Rattle.sysmem_tree.specs.Node.{NodeFacts, fresh, is_awaited}
 use Rattle.sysmem_tree.specs.Shape.{members_of}
 use Rattle.sysmem_tree.specs.Table.{makes}
 use Rattle.sysmem_tree.specs.Tree.{new_domain, node_after, new_node, nodes_made, closed_early, domains_after, tree_after, decided_domain, left_out_but, decided}
-use Rattle.sysmem_alloc.specs.Sound.{AllOf, AreApart, roots_of}
+use Rattle.sysmem_alloc.specs.Sound.{AllOf, AreDistinct, roots_of}
 use Rattle.sysmem_alloc.proofs.Lists.{all_weaken}
 
 -- node k is of domain d
@@ -133,18 +133,18 @@ late i (n ∷ nodes) = at (n.domain == i) (all_weaken (λ r. i + 1 ≤ r) (λ r.
   at true rest = (omega arith, rest)
   at false rest = rest
 
-apart_from : (i : ℕ) (nodes : List NodeFacts) → AreApart (roots_from i nodes)
+apart_from : (i : ℕ) (nodes : List NodeFacts) → AreDistinct (roots_from i nodes)
 apart_from i [] = tt
 apart_from i (n ∷ nodes) = at (n.domain == i) (apart_from (i + 1) nodes) where
-  at : (b : Bool) → AreApart (roots_from (i + 1) nodes) → AreApart (if b then i ∷ roots_from (i + 1) nodes else roots_from (i + 1) nodes)
+  at : (b : Bool) → AreDistinct (roots_from (i + 1) nodes) → AreDistinct (if b then i ∷ roots_from (i + 1) nodes else roots_from (i + 1) nodes)
   at true rest = (all_weaken (λ r. i + 1 ≤ r) (λ r. i ≢ r) (roots_from (i + 1) nodes) (λ r less same. omega (arith, less, same)) (late (i + 1) nodes), rest)
   at false rest = rest
 
 pub domains_there : (t : TreeFacts) → IsSoundTree t → AllOf (HasDomain t.nodes) (roots_of t)
 domains_there t sound = subst (AllOf (HasDomain t.nodes)) (sym sound.domains) (roots_there t.nodes 0 t.nodes (λ m n here. let z : m ≡ 0 + m = omega arith in subst (λ k. slice_get t.nodes k ≡ Some n) z here))
 
-pub domains_apart : (t : TreeFacts) → IsSoundTree t → AreApart (roots_of t)
-domains_apart t sound = subst AreApart (sym sound.domains) (apart_from 0 t.nodes)
+pub domains_apart : (t : TreeFacts) → IsSoundTree t → AreDistinct (roots_of t)
+domains_apart t sound = subst AreDistinct (sym sound.domains) (apart_from 0 t.nodes)
 
 few_from : (i : ℕ) (nodes : List NodeFacts) → length (roots_from i nodes) ≤ length nodes
 few_from i [] = omega arith

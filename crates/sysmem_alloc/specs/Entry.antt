@@ -1,10 +1,11 @@
 -- What a book enters.
-use Rattle.std.specs.Prelude.{ℕ, Option, Some, None, option_and_then, option_map, slice_get, List}
+use Rattle.std.specs.Prelude.{ℕ, Option, Some, None, option_map, List}
 use Rattle.std.specs.Arc.{arc_value}
 use Rattle.sysmem_alloc.specs.declared.entry.Entry.{Entry}
 use Rattle.sysmem_alloc.specs.declared.entry.Entry.TheVariants as entries
 use Rattle.sysmem_alloc.specs.Decision.{Claimed, Decision, answer_of, choices_of}
 use Rattle.sysmem_sanitise.specs.Participant.{Participant}
+use Rattle.sysmem_proof.specs.Asked.{asks_at}
 use Rattle.sysmem_tree.specs.declared.action.ActionKind.{ActionKind}
 use Rattle.sysmem_tree.specs.declared.action.ActionKind.TheVariants as kinds
 use Rattle.sysmem_tree.specs.ActionKind.{Deed, duplicates, creates_group, binds, creates_child, has_all_children, sets, attaches_token, releases, closes}
@@ -34,13 +35,9 @@ deed_with set kinds.AttachToken = attaches_token
 deed_with set kinds.Release = releases
 deed_with set kinds.Close = closes
 
--- the constraints of a node; none where it set none
-abbrev pub constraints_at : List NodeFacts → ℕ → Option Participant
-constraints_at nodes i = option_and_then (λ n. n.constraints) (slice_get nodes i)
-
 -- an entry as it is kept, without the constraints that it set: the tree has them at its node
 abbrev pub entry_in : List NodeFacts → Entry → BookEntry
-entry_in nodes (entries.Acted i kind) = Acted i (deed_with (constraints_at nodes i) kind)
+entry_in nodes (entries.Acted i kind) = Acted i (deed_with (asks_at nodes i) kind)
 entry_in nodes (entries.Decided r claim) = Decided (record { domain = r; claim = option_map (λ shared. arc_value shared) claim })
 
 -- the decision that it is, if it is one, without what proves it

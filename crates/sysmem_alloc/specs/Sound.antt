@@ -20,9 +20,9 @@ AllOf P [] = Unit {0}
 AllOf P (x ∷ xs) = P x × AllOf P xs
 
 -- no number is there twice
-abbrev pub AreApart : List ℕ → Type 0
-AreApart [] = Unit {0}
-AreApart (x ∷ xs) = AllOf (λ y. x ≢ y) xs × AreApart xs
+abbrev pub AreDistinct : List ℕ → Type 0
+AreDistinct [] = Unit {0}
+AreDistinct (x ∷ xs) = AllOf (λ y. x ≢ y) xs × AreDistinct xs
 
 -- the roots of the domains
 abbrev pub roots_of : TreeFacts → List ℕ
@@ -43,7 +43,7 @@ pub record IsOfReady (t : TreeFacts) (d : Decision) : Type 0 where
 pub record IsSoundState (s : State) : Type 0 where
   pub tree : IsSoundTree s.tree
   pub waiting : AllOf (MayWait s.tree) s.waiting
-  pub once : AreApart s.waiting
+  pub once : AreDistinct s.waiting
   pub decided : AllOf (IsOfReady s.tree) s.decisions
   pub count : length s.waiting + length s.decisions ≡ length (filter (is_ready s.tree) (roots_of s.tree))
 
@@ -69,6 +69,6 @@ pub record IsDecisionOn (platform : PlatformFacts) (nodes : List NodeFacts) (d :
 -- chosen is a selection of the tree; and who is accepted is some of those whom the decisions chose, in their order
 pub record AgreesWithTree (platform : PlatformFacts) (s : State) : Type 0 where
   pub standing : (r : ℕ) → decision_of s.tree.domains r ≡ standing_of (decision_for s.decisions r)
-  pub once : AreApart (map (λ d. d.domain) s.decisions)
+  pub once : AreDistinct (map (λ d. d.domain) s.decisions)
   pub chosen : AllOf (IsDecisionOn platform s.tree.nodes) s.decisions
   pub accepted : IsSublist s.accepted (chosen_in s.tree.nodes s.decisions)

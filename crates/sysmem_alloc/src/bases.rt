@@ -6,7 +6,7 @@ ghost use Rattle.std.specs.List.{filter_map};
 ghost use Rattle.sysmem_alloc.specs.Accepted.{IsChosenIn, marked_by, marked_of};
 ghost use Rattle.sysmem_alloc.specs.Decision.{settings_for, settings_of, verdict_in};
 ghost use Rattle.sysmem_alloc.specs.Entry.{decision_in};
-ghost use Rattle.sysmem_alloc.specs.Sound.{AreApart};
+ghost use Rattle.sysmem_alloc.specs.Sound.{AreDistinct};
 ghost use Rattle.sysmem_alloc.specs.State.{chosen_in};
 ghost use Rattle.sysmem_tree.specs.Nodes.{HasNode};
 
@@ -34,7 +34,7 @@ fn settings_of(claim: &Option<Arc<Claim>>) -> Option<Settings>
 
 /// The settings that were chosen for a domain.
 pub(crate) fn settings_for(history: &[Entry], domain: DomainId) -> Option<Settings>
-    requires { AreApart (map (λ d. d.domain) (filter_map decision_in history.now)) }
+    requires { AreDistinct (map (λ d. d.domain) (filter_map decision_in history.now)) }
     ensures { result ≡ settings_for (filter_map decision_in history.now) domain }
 {
     settings_of(entered_for(history, domain)?)

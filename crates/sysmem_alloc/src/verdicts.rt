@@ -5,7 +5,7 @@ ghost use Rattle.std.specs.Arc.{arc_value};
 ghost use Rattle.std.specs.List.{filter_map};
 ghost use Rattle.sysmem_alloc.specs.Decision.{choices_of, decision_for, verdict_in};
 ghost use Rattle.sysmem_alloc.specs.Entry.{decision_in};
-ghost use Rattle.sysmem_alloc.specs.Sound.{AreApart};
+ghost use Rattle.sysmem_alloc.specs.Sound.{AreDistinct};
 ghost use Rattle.sysmem_tree.specs.declared.fate.Fate.TheVariants as fates;
 
 use crate::entry::Entry;
@@ -46,7 +46,7 @@ pub(crate) fn choices_of(claim: &Option<Arc<Claim>>) -> Option<&[u8]>
 /// The claim that was entered for a domain, if any was: at most one is, so the entries are read from the last to the first, as the
 /// decisions that are asked for are mostly late ones.
 pub(crate) fn entered_for(history: &[Entry], domain: DomainId) -> Option<&Option<Arc<Claim>>>
-    requires { AreApart (map (λ d. d.domain) (filter_map decision_in history.now)) }
+    requires { AreDistinct (map (λ d. d.domain) (filter_map decision_in history.now)) }
     ensures { option_map
         (λ claim. verdict_in (option_map (λ shared. arc_value shared) claim.now)) result
         ≡ option_map (λ d. d.verdict) (decision_for (filter_map decision_in history.now) domain) }

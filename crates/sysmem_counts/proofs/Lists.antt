@@ -6,7 +6,7 @@ use Rattle.std.proofs.lemmas.List.Sorted.{All-permutation, IsPermutation-sym}
 use Rattle.std.specs.List.Sorted.{IsPermutation}
 use Rattle.list_lemmas.proofs.CallerLemmas.{All-some, Any-here, Any-later, some_in_order}
 use Rattle.list_lemmas.specs.Some.{AreSomeOf}
-use Rattle.sysmem_counts.specs.Bounds.{least}
+use Rattle.sysmem_counts.specs.Bounds.{least, most_number}
 use Rattle.sysmem_counts.specs.Counts.{greatest}
 
 -- one more number: the greatest is the greater of the greatest so far and it
@@ -24,7 +24,7 @@ greatest-append f [] ys = omega arith
 greatest-append f (x ∷ xs) ys = omega (arith, greatest-append f xs ys)
 
 -- the least of a list is of 32 bits
-least_small : {X : Type 0} (f : X → ℕ) (xs : List X) → least f xs ≤ 4294967295
+least_small : {X : Type 0} (f : X → ℕ) (xs : List X) → least f xs ≤ most_number
 least_small f [] = omega arith
 least_small f (x ∷ xs) = omega (arith, least_small f xs)
 
@@ -82,7 +82,7 @@ greatest_in_order f xs ys order =
 pub least_in_order : {X : Type 0} (f : X → ℕ) (xs ys : List X) → IsPermutation xs ys → least f xs ≡ least f ys
 least_in_order {X} f xs ys order =
     omega (arith, least_at_most xs ys order, least_at_most ys xs (IsPermutation-sym xs ys order)) where
-      above : (m : ℕ) (zs : List X) → m ≤ 4294967295 → All (λ z. m ≤ f z) zs → m ≤ least f zs
+      above : (m : ℕ) (zs : List X) → m ≤ most_number → All (λ z. m ≤ f z) zs → m ≤ least f zs
       above m [] fits all = fits
       above m (z ∷ zs) fits all = omega (arith, All-head (λ z. m ≤ f z) z zs all, above m zs fits (All-tail (λ z. m ≤ f z) z zs all))
 

@@ -4,9 +4,13 @@ use Rattle.sysmem_counts.specs.Counts.{greatest, own_buffers}
 use Rattle.sysmem_counts.specs.Tally.{Tally}
 use Rattle.sysmem_counts.specs.declared.constraints.CountConstraints.{CountConstraints}
 
--- the least of these numbers, 4,294,967,295 of none
+-- the greatest number of 32 bits
+abbrev pub most_number : ℕ
+most_number = 4294967295
+
+-- the least of these numbers, the greatest of 32 bits of none
 abbrev pub least : {X : Type 0} → (X → ℕ) → List X → ℕ
-least f [] = 4294967295
+least f [] = most_number
 least f (x ∷ xs) = min (f x) (least f xs)
 
 -- what is kept of these participants

@@ -1,6 +1,7 @@
 -- What callers need of bounds, corners and lines: the laws as lemmas, and a few more.
 pub use Rattle.sysmem_image.proofs.Joined.{own_adds_nothing, steady_first, steady_second}
 use Rattle.std.proofs.Common.{◌↔◌, ◌≤◌, ℕ, List, []}
+use Rattle.sysmem_counts.specs.Bounds.{most_number}
 use Rattle.sysmem_counts.specs.declared.field.Field.{Field}
 use Rattle.sysmem_formats.specs.declared.offer.Offer.{Offer}
 use Rattle.sysmem_image.specs.declared.bounds.ImageBounds.{ImageBounds}
@@ -19,8 +20,8 @@ use Rattle.sysmem_image.proofs.Steps as steps
 use Rattle.sysmem_image.proofs.Readings as readings
 
 -- bounds whose numbers are within their types are in range
-pub in_range_by : (b : ImageBounds) → IsSizeInRange b.min_size → IsSizeInRange b.max_size → IsSizeInRange b.size_alignment → b.min_bytes_per_row ≤ 4294967295 → b.max_bytes_per_row ≤ 4294967295
-    → b.bytes_per_row_divisor ≤ 4294967295 → b.start_offset_divisor ≤ 4294967295 → IsSizeInRange b.display_rect_alignment → IsSizeInRange b.required_min_size → IsSizeInRange b.required_max_size
+pub in_range_by : (b : ImageBounds) → IsSizeInRange b.min_size → IsSizeInRange b.max_size → IsSizeInRange b.size_alignment → b.min_bytes_per_row ≤ most_number → b.max_bytes_per_row ≤ most_number
+    → b.bytes_per_row_divisor ≤ most_number → b.start_offset_divisor ≤ most_number → IsSizeInRange b.display_rect_alignment → IsSizeInRange b.required_min_size → IsSizeInRange b.required_max_size
     → b.max_width_times_height ≤ 18446744073709551615 → IsInRange b
 in_range_by = meets.in_range_by
 

@@ -4,7 +4,7 @@ use Rattle.std.specs.Int.{◌∣◌}
 use Rattle.std.proofs.Math.Nat.{dvd-add_iff_left, dvd-mul_right, dvd-mul_left, dvd_of_mul-dvd-mul_right, mod-add-div, div-mul_cancel, mul-dvd-mul_right, mul-pos, pos_of_dvd_of_pos, dvd-sub, lt_of_not-le}
 use Rattle.std.proofs.lemmas.Nat.Gcd.{dvd_trans, dvd_refl, dvd-zero, le_of_dvd}
 use Rattle.sysmem_image.specs.Multiples.{IsLcm, IsAboveLimit}
-use Rattle.sysmem_image.specs.Size.{most_number}
+use Rattle.sysmem_counts.specs.Bounds.{most_number}
 
 -- a turn of Euclid's loop for the numbers a and b
 pub record IsStep (a b x y : ℕ) : Type 0 where

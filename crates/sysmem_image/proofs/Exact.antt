@@ -16,7 +16,7 @@ use Rattle.sysmem_image.specs.Entries.{effective, effective_all}
 use Rattle.sysmem_image.specs.Fields.{Bound, MinSize, MaxSize, SizeAlignment, MinBytesPerRow, MaxBytesPerRow, BytesPerRowDivisor, RequiredMaxSize, MaxWidthTimesHeight, Side, Width, Height, value}
 use Rattle.sysmem_image.proofs.Sound.{own_kept}
 use Rattle.sysmem_image.proofs.Steps.{all_map}
-use Rattle.sysmem_image.specs.Size.{most_number}
+use Rattle.sysmem_counts.specs.Bounds.{most_number}
 
 -- merged bounds suit the offer
 pub merged_suits : (o : Offer) (es : List ImageBounds) (b : ImageBounds) → MergedOf o es b → Suits o b

@@ -9,7 +9,8 @@ use Rattle.sysmem_formats.specs.Layout.{width_alignment_of, height_alignment_of,
 use Rattle.sysmem_image.specs.declared.bounds.ImageBounds.{ImageBounds}
 use Rattle.sysmem_image.specs.declared.read.BoundsRead.{BoundsRead}
 use Rattle.sysmem_image.specs.declared.size.Size.{Size}
-use Rattle.sysmem_image.specs.Size.{IsSizeUpTo, most_number}
+use Rattle.sysmem_image.specs.Size.{IsSizeUpTo}
+use Rattle.sysmem_counts.specs.Bounds.{most_number}
 use Rattle.sysmem_image.specs.Corners.{IsLeastAbove}
 use Rattle.sysmem_image.specs.Fields.{MinSize, MaxSize, SizeAlignment, MinBytesPerRow, MaxBytesPerRow, BytesPerRowDivisor, RequiredMinSize, RequiredMaxSize, MaxWidthTimesHeight, Width, Height}
 use Rattle.sysmem_image.specs.Lines.{FitsWidth, FitsHeight, IsBoundsLine, AlignmentsMeet, DivisorsMeet, WidthAbove, HeightAbove}

@@ -5,7 +5,8 @@ use Rattle.sysmem_counts.specs.declared.field.Field.TheVariants as field
 use Rattle.std.specs.Int.{◌∣◌}
 use Rattle.std.proofs.lemmas.Nat.Gcd.{dvd_trans, dvd_refl, dvd_antisymm}
 use Rattle.sysmem_image.specs.declared.bounds.ImageBounds.{ImageBounds}
-use Rattle.sysmem_image.specs.Size.{DividesSize, IsSizeInRange, most_number}
+use Rattle.sysmem_image.specs.Size.{DividesSize, IsSizeInRange}
+use Rattle.sysmem_counts.specs.Bounds.{most_number}
 use Rattle.sysmem_formats.specs.declared.offer.Offer.{Offer}
 use Rattle.sysmem_formats.specs.Layout.{width_alignment_of, height_alignment_of, row_divisor_of}
 use Rattle.sysmem_image.specs.Fields.{Bound, MinSize, MaxSize, SizeAlignment, MinBytesPerRow, MaxBytesPerRow, BytesPerRowDivisor, StartOffsetDivisor, DisplayRectAlignment, RequiredMinSize, RequiredMaxSize, MaxWidthTimesHeight, Side, Width, Height, Rule, Greatest, Least, Multiple, Keeps, KeepsIn, KeepsEach, field_of, rule_of, value}

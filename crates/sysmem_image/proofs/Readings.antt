@@ -10,7 +10,8 @@ use Rattle.sysmem_formats.specs.declared.offer.Offer.{Offer}
 use Rattle.sysmem_formats.specs.Layout.{width_alignment_of, height_alignment_of, row_divisor_of}
 use Rattle.sysmem_image.specs.declared.bounds.ImageBounds.{ImageBounds}
 use Rattle.sysmem_image.specs.declared.size.Corner.{Corner}
-use Rattle.sysmem_image.specs.Size.{IsSizeUpTo, most_number}
+use Rattle.sysmem_image.specs.Size.{IsSizeUpTo}
+use Rattle.sysmem_counts.specs.Bounds.{most_number}
 use Rattle.sysmem_image.specs.Merged.{IsMergeOf, MergedOf}
 use Rattle.sysmem_image.specs.Corners.{IsWidth, IsHeight, IsRow, RefusesCorner, HasSides, HasArea, EarlierHold}
 use Rattle.sysmem_image.specs.Lines.{FitsWidth, FitsHeight, FitsRow, AlignmentsMeet, DivisorsMeet, MinAboveRequired, WidthAbove, HeightAbove, IsBoundsLine, IsFirstLine, MeetsIn, NoLines, multiple_lines}

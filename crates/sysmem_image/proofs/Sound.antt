@@ -17,7 +17,7 @@ use Rattle.sysmem_image.specs.Merged.{MergedOf, NoneMerge, IsFirstAbove}
 use Rattle.sysmem_image.specs.Lines.{FitsWidth, FitsHeight, FitsRow, MeetsIn, IsBoundsLine, IsSteady, KeepsCorner, KeepsLine}
 use Rattle.sysmem_image.specs.Laws.{FitsImage}
 use Rattle.sysmem_image.proofs.Steps.{all_map, common_kept, above_line}
-use Rattle.sysmem_image.specs.Size.{most_number}
+use Rattle.sysmem_counts.specs.Bounds.{most_number}
 
 -- bounds of an offer keep to its own value in each field
 pub own_kept : (o : Offer) (s : ImageBounds) → IsInRange s → Suits o s → (f : Bound) (d : Side) → Keeps (rule_of f) (own_value o f d) (value f d s)

@@ -14,7 +14,7 @@ use Rattle.sysmem_image.specs.Multiples.{IsAboveLimit, HasMultiple}
 use Rattle.sysmem_image.specs.Merged.{IsMergeOf, MergedOf, IsFirstAbove}
 use Rattle.sysmem_image.specs.Lines.{HasCommon, MeetsIn, IsBoundsLine, IsFirstLine, IsSteady}
 use Rattle.sysmem_image.proofs.Rows.{both_pop}
-use Rattle.sysmem_image.specs.Size.{most_number}
+use Rattle.sysmem_counts.specs.Bounds.{most_number}
 
 -- what follows from a fact follows of each of a list
 pub all_map : {X : Type 0} (P Q : X → Type 0) (es : List X) → ((e : X) → P e → Q e) → All P es → All Q es

@@ -9,7 +9,7 @@ use Rattle.sysmem_formats.specs.Layout.{width_alignment_of, height_alignment_of,
 use Rattle.sysmem_image.specs.declared.bounds.ImageBounds.{ImageBounds}
 use Rattle.sysmem_image.specs.Fields as bound
 use Rattle.sysmem_image.specs.Fields.{Bound, Side, all_bounds, field_of, rule_of, wants_multiple, value, own_value, KeepsEach}
-use Rattle.sysmem_image.specs.Size.{most_number}
+use Rattle.sysmem_counts.specs.Bounds.{most_number}
 
 -- n is a common multiple, up to the limit, of the own number and those of a list
 pub record IsCommon (first : ℕ) (f : ImageBounds → ℕ) (es : List ImageBounds) (n : ℕ) : Type 0 where

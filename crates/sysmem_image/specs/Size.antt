@@ -1,11 +1,12 @@
 -- Sizes, compared in both dimensions.
 use Rattle.std.specs.Prelude.{ℕ, ◌≤◌, ◌≡◌, max, min}
 use Rattle.std.specs.Int.{◌∣◌}
+use Rattle.sysmem_counts.specs.Bounds.{most_number}
 use Rattle.sysmem_image.specs.declared.size.Size.{Size}
 
--- the greatest number of 32 bits
-abbrev pub most_number : ℕ
-most_number = 4294967295
+-- the greatest alignment or divisor that a participant may state
+abbrev pub most_multiple : ℕ
+most_multiple = 65536
 
 -- both dimensions of a are at most those of b
 pub record IsSizeUpTo (a b : Size) : Type 0 where

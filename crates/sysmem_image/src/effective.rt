@@ -2,6 +2,7 @@
 
 ghost use Rattle.std.specs.Prelude.{◌≡◌, ◌≤◌};
 ghost use Rattle.sysmem_image.specs.Entries.{effective, pixel_multiple};
+ghost use Rattle.sysmem_image.specs.Size.{most_multiple};
 
 use crate::bounds::ImageBounds;
 use crate::entry::Entry;
@@ -27,7 +28,7 @@ fn pixel_multiple(pixel: u32, divisor: u32) -> u32
     requires some_pixel { 1 ≤ pixel }
     requires small_pixel { pixel ≤ 4 }
     requires some_divisor { 1 ≤ divisor }
-    requires small_divisor { divisor ≤ 65536 }
+    requires small_divisor { divisor ≤ most_multiple }
     ensures { result ≡ pixel_multiple pixel divisor }
 {
     if divisor % pixel == 0 {

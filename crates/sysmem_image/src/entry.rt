@@ -1,6 +1,7 @@
 //! The entries of a participant.
 
 ghost use Rattle.std.specs.Prelude.{◌≤◌};
+ghost use Rattle.sysmem_image.specs.Size.{most_multiple};
 
 use crate::bounds::ImageBounds;
 use crate::colours::ColourSet;
@@ -23,5 +24,5 @@ pub struct Entry {
 pub struct EntryBounds {
     pub asked: ImageBounds,
     pub at_pixel_boundary: bool,
-    pub ghost small_divisor: { asked.bytes_per_row_divisor ≤ 65536 },
+    pub ghost small_divisor: { asked.bytes_per_row_divisor ≤ most_multiple },
 }

@@ -10,7 +10,8 @@ ghost use Rattle.sysmem_image.specs.Corners.{IsLeastAbove};
 ghost use Rattle.sysmem_image.specs.Entries.{effective};
 ghost use Rattle.sysmem_image.specs.Merged.{MergedOf};
 ghost use Rattle.sysmem_image.specs.Lines.{AlignmentsMeet, DivisorsMeet, IsBoundsLine};
-ghost use Rattle.sysmem_image.specs.Size.{IsSizeInRange, most_number};
+ghost use Rattle.sysmem_image.specs.Size.{IsSizeInRange};
+ghost use Rattle.sysmem_counts.specs.Bounds.{most_number};
 ghost use Rattle.sysmem_image.specs.Multiples.{IsJoined, IsSizeJoined};
 
 use crate::bounds::ImageBounds;

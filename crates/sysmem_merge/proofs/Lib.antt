@@ -3,6 +3,7 @@ pub mod Adding
 pub mod AnyColour
 pub mod AnyOrder
 pub mod Asked
+pub mod CallerLemmas
 pub mod ColourBits
 pub mod FirstFits
 pub mod Fits

@@ -7,38 +7,38 @@ use Rattle.sysmem_tree.specs.Forest.{Forest, choices, settled}
 use Rattle.sysmem_tree.specs.Selection.{after, IsSelection, IsEarlierSelection}
 use Rattle.sysmem_merge.specs.declared.settings.Settings.{Settings}
 use Rattle.sysmem_tree.specs.Shape.{Member}
-use Rattle.sysmem_proof.specs.Verdict.{Meeting, IsUnmet, IsUnmetBefore, IsChosen}
+use Rattle.sysmem_proof.specs.Verdict.{Meeting, IsForestUnmet, IsUnmetBefore, IsChosen}
 use Rattle.sysmem_proof.proofs.Walks.{after_choice, whole_alone, begins, joins, goes_on}
 pub use Rattle.sysmem_proof.proofs.Finding.{splits_refute, earlier_grows}
 
 module _ (Met : Meeting) where
   -- the first c choices for the first group can't be met, however one goes on
   abbrev pub AreUnmet : List (Forest Member) → ℕ → Type 0
-  AreUnmet es c = (i : ℕ) (e : Forest Member) → i < c → slice_get es i ≡ Some e → IsUnmet Met e
+  AreUnmet es c = (i : ℕ) (e : Forest Member) → i < c → slice_get es i ≡ Some e → IsForestUnmet Met e
 
   -- that is true of no choices, and stays so with one more
   pub no_choice_unmet : (es : List (Forest Member)) → AreUnmet es 0
   no_choice_unmet es i e below here = absurd (omega (arith, below))
 
-  pub next_choice_unmet : (es : List (Forest Member)) (c : ℕ) (e : Forest Member) → AreUnmet es c → slice_get es c ≡ Some e → IsUnmet Met e → AreUnmet es (c + 1)
-  next_choice_unmet es c e before here unmet i x below there = elim (cases_order i c) as (λ _. IsUnmet Met x) [
-    | inl same ↦ subst (IsUnmet Met) (same_Some e x (sym here ∙ (ap (slice_get es) (sym same) ∙ there))) unmet
+  pub next_choice_unmet : (es : List (Forest Member)) (c : ℕ) (e : Forest Member) → AreUnmet es c → slice_get es c ≡ Some e → IsForestUnmet Met e → AreUnmet es (c + 1)
+  next_choice_unmet es c e before here unmet i x below there = elim (cases_order i c) as (λ _. IsForestUnmet Met x) [
+    | inl same ↦ subst (IsForestUnmet Met) (same_Some e x (sym here ∙ (ap (slice_get es) (sym same) ∙ there))) unmet
     | inr (inl less) ↦ before i x less there
     | inr (inr more) ↦ absurd (omega (arith, more, below))
   ]
 
   -- where no group is left, what can't be met is what is settled
-  pub whole_unmet : (d : Forest Member) → choices d ≡ None → ((t : Settings) → ¬ (Met (settled d) t)) → IsUnmet Met d
+  pub whole_unmet : (d : Forest Member) → choices d ≡ None → ((t : Settings) → ¬ (Met (settled d) t)) → IsForestUnmet Met d
   whole_unmet d none unmet cs f t s met = unmet t (subst (λ x. Met (settled x) t) (sym (whole_alone d f cs none s).1) met)
 
   -- where no choice for the first group can be met, nothing can
-  pub split_unmet : (d : Forest Member) (es : List (Forest Member)) → choices d ≡ Some es → AreUnmet es (length es) → IsUnmet Met d
+  pub split_unmet : (d : Forest Member) (es : List (Forest Member)) → choices d ≡ Some es → AreUnmet es (length es) → IsForestUnmet Met d
   split_unmet d es open' all cs f t s met =
       let b = begins d f es cs open' s in
       all b.choice b.left (slice_get_within es b.choice b.left b.here) b.here b.rest f t b.goes_on met
 
   -- what can't be met after choices has no selection that begins with them
-  pub prefix_unmet : (d e f : Forest Member) (cs more : List ℕ) (t : Settings) → after d cs ≡ Some e → IsUnmet Met e → IsSelection d (cs ++ more) f → ¬ (Met (settled f) t)
+  pub prefix_unmet : (d e f : Forest Member) (cs more : List ℕ) (t : Settings) → after d cs ≡ Some e → IsForestUnmet Met e → IsSelection d (cs ++ more) f → ¬ (Met (settled f) t)
   prefix_unmet d e f [] more t leads unmet s met = unmet more f t (subst (λ x. IsSelection x more f) (same_Some d e leads) s) met
   prefix_unmet d e f (c ∷ cs) more t leads unmet s met = goes_on ⊥ d f c (cs ++ more) s (λ es x open' here on.
       prefix_unmet x e f cs more t (sym (after_choice d x f es c cs open' here) ∙ leads) unmet on met)

@@ -5,6 +5,7 @@ use Rattle.std.proofs.lemmas.List.Elements.{All-head, All-weaker, All-filter}
 use Rattle.std.proofs.lemmas.Option.{same_Some, none-some, slice_get_read}
 use Rattle.std.proofs.lemmas.List.Sums.{sum_by-cons}
 use Rattle.list_lemmas.proofs.CallerLemmas.{Any-here, Any-later}
+use Rattle.sysmem_counts.specs.Bounds.{most_number}
 use Rattle.sysmem_counts.specs.Counts.{greatest, own_buffers, needed}
 use Rattle.sysmem_counts.specs.declared.constraints.CountConstraints.{CountConstraints}
 use Rattle.sysmem_counts.specs.declared.field.Field.TheVariants.{MinBufferCount, MaxBufferCount, BufferCountLimit}
@@ -18,7 +19,7 @@ record IsAbsent (p : CountConstraints) : Type 0 where
   own : own_buffers p ≡ 0
   shared : p.min_buffer_count_for_shared_slack ≡ 0
   minimum : p.min_buffer_count ≡ 0
-  maximum : p.max_buffer_count ≡ 4294967295
+  maximum : p.max_buffer_count ≡ most_number
 
 all_false : (a b c d e : Bool) → (a || b || c || d || e) ≡ false → (a ≡ false) × (b ≡ false) × (c ≡ false) × (d ≡ false) × (e ≡ false)
 all_false true b c d e h = absurd (cc (h))
@@ -30,12 +31,12 @@ all_false false false false false false h = (refl, refl, refl, refl, refl)
 
 absent : (p : CountConstraints) → has_count p ≡ false → IsAbsent p
 absent p e =
-    let a = all_false (not (p.min_buffer_count_for_camping == 0)) (not (p.min_buffer_count_for_dedicated_slack == 0)) (not (p.min_buffer_count_for_shared_slack == 0)) (not (p.min_buffer_count == 0)) (not (p.max_buffer_count == 4294967295)) e in
+    let a = all_false (not (p.min_buffer_count_for_camping == 0)) (not (p.min_buffer_count_for_dedicated_slack == 0)) (not (p.min_buffer_count_for_shared_slack == 0)) (not (p.min_buffer_count == 0)) (not (p.max_buffer_count == most_number)) e in
     record {
       own = omega (arith, is_zero p.min_buffer_count_for_camping 0 a.0, is_zero p.min_buffer_count_for_dedicated_slack 0 a.1);
       shared = is_zero p.min_buffer_count_for_shared_slack 0 a.2;
       minimum = is_zero p.min_buffer_count 0 a.3;
-      maximum = is_zero p.max_buffer_count 4294967295 a.4;
+      maximum = is_zero p.max_buffer_count most_number a.4;
     }
 
 -- a filter's two cases
@@ -97,8 +98,8 @@ counts_are_of_some MaxBufferCount ps small line = subst (λ n. Any (λ p. p.max_
       as (λ _. Any (λ p. p.max_buffer_count < needed ps) (filter has_count ps)) [
         | inl any ↦ any
         | inr none ↦
-            let high : 4294967295 < needed ps = omega (arith, line.4, (absent line.1 none).maximum) in
-            some_have ps (omega (arith, high)) (All-weaker (λ p. p.max_buffer_count ≤ 4294967295) (λ p. p.max_buffer_count < needed ps) (λ p l. omega (arith, l, high)) ps small)
+            let high : most_number < needed ps = omega (arith, line.4, (absent line.1 none).maximum) in
+            some_have ps (omega (arith, high)) (All-weaker (λ p. p.max_buffer_count ≤ most_number) (λ p. p.max_buffer_count < needed ps) (λ p l. omega (arith, l, high)) ps small)
       ]
 counts_are_of_some BufferCountLimit ps small line = omega (arith, line, same_needed ps)
 counts_are_of_some _ ps small line = absurd line

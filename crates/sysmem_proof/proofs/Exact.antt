@@ -28,7 +28,7 @@ use Rattle.sysmem_proof.specs.declared.conflict.Conflict.{Conflict}
 use Rattle.sysmem_proof.specs.Conflict.{RefusesPlace, RefusesOffer, IsConflictFor}
 use Rattle.sysmem_proof.specs.Laws.{ConflictsAreTrue, TestsAreExact}
 use Rattle.sysmem_proof.specs.Members.{participants}
-use Rattle.sysmem_proof.specs.Verdict.{IsUnmet, IsOptimalFor, MeetsFor, IsBestFor}
+use Rattle.sysmem_proof.specs.Verdict.{IsForestUnmet, IsOptimalFor, MeetsFor, IsBestFor}
 use Rattle.sysmem_proof.proofs.Conflicts.{LineLaws, offer_refused, place_refused, conflict_unmet, conflict_leaves_none, zip_has}
 use Rattle.sysmem_proof.proofs.Fixing.{fixed_conflict_unmet, fixed_conflict_leaves_none}
 use Rattle.sysmem_proof.proofs.Growing.{sub_itself}
@@ -109,7 +109,7 @@ module _ (laws : LineLaws) (platform : PlatformFacts) where
   least_for (Some terms) ms s best = best
 
   -- a conflict is true
-  pub unmet_for : (terms : Option Terms) (d : Forest Member) (c : Conflict) → IsConflictFor platform terms d c → IsUnmet (MeetsFor platform terms) d
+  pub unmet_for : (terms : Option Terms) (d : Forest Member) (c : Conflict) → IsConflictFor platform terms d c → IsForestUnmet (MeetsFor platform terms) d
   unmet_for None d c conflict = conflict_unmet laws platform d c conflict
   unmet_for (Some terms) d c conflict = fixed_conflict_unmet platform terms d c conflict
 

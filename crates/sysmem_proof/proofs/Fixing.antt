@@ -28,7 +28,7 @@ use Rattle.sysmem_proof.specs.declared.conflict.Conflict.TheVariants.{Count, Pla
 use Rattle.sysmem_proof.specs.Conflict.{IsFixedConflict}
 use Rattle.sysmem_merge.specs.Failing.{FailsIn, FailsOn}
 use Rattle.sysmem_proof.specs.Members.{participants}
-use Rattle.sysmem_proof.specs.Verdict.{IsUnmet, MeetsFixed}
+use Rattle.sysmem_proof.specs.Verdict.{IsForestUnmet, MeetsFixed}
 use Rattle.sysmem_proof.proofs.Growing.{settled_grows, sub_itself, sub_both}
 use Rattle.sysmem_proof.proofs.Naming.{named_of}
 
@@ -84,7 +84,7 @@ fixed_clash platform terms d (Places lines) all t conflict among met = conflict
 fixed_clash platform terms d (Offers lines) all t conflict among met = conflict
 
 -- a conflict of an attached domain is true
-pub fixed_conflict_unmet : (platform : PlatformFacts) (terms : Terms) (d : Forest Member) (c : Conflict) → IsFixedConflict platform terms d c → IsUnmet (MeetsFixed platform terms) d
+pub fixed_conflict_unmet : (platform : PlatformFacts) (terms : Terms) (d : Forest Member) (c : Conflict) → IsFixedConflict platform terms d c → IsForestUnmet (MeetsFixed platform terms) d
 fixed_conflict_unmet platform terms d c conflict sel e t s = fixed_clash platform terms d c (settled e) t conflict (settled_grows sel d e s.leads)
 
 -- and it leaves none to what is settled

@@ -4,7 +4,7 @@ use Rattle.std.specs.Prelude.{All, Any, Contains, filter, is_none, option_map}
 use Rattle.std.specs.List.{cons_option}
 use Rattle.std.proofs.lemmas.List.Elements.{All-tail, All-weaker, Contains-append_right}
 use Rattle.list_lemmas.proofs.CallerLemmas.{All-unmap}
-use Rattle.sysmem_counts.specs.Bounds.{IsTallyOf}
+use Rattle.sysmem_counts.specs.Bounds.{IsTallyOf, most_number}
 use Rattle.sysmem_counts.specs.Counts.{IsCountLine, IsCounted, IsFixedCountLine}
 use Rattle.sysmem_counts.specs.Tally.{Tally}
 use Rattle.sysmem_counts.specs.declared.constraints.CountConstraints.{CountConstraints}
@@ -59,7 +59,7 @@ module _ (nodes : List NodeFacts) (ns given named' : List ℕ) (one : given ≡ 
     filter (names whoms.WithCount) (participants all),
     names_those whoms.WithCount (members_at nodes ns) all stand,
     subst (IsCountLine field) (sym (with_count (participants all))) (counts_are_of_some field (counts_asked (participants all))
-        (All-weaker (λ p. p.max_buffer_count < 2 ^ 32) (λ p. p.max_buffer_count ≤ 4294967295) (λ p less. omega (arith, less)) (counts_asked (participants all)) tally_of_all.fits)
+        (All-weaker (λ p. p.max_buffer_count < 2 ^ 32) (λ p. p.max_buffer_count ≤ most_number) (λ p less. omega (arith, less)) (counts_asked (participants all)) tally_of_all.fits)
         (true' (counts_asked (participants all)) tally_of_all)),
   )
 

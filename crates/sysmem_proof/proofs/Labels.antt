@@ -7,16 +7,13 @@ use Rattle.sysmem_tree.specs.declared.state.NodeKind.{NodeKind}
 use Rattle.sysmem_tree.specs.declared.state.NodeKind.TheVariants as kinds
 use Rattle.sysmem_tree.specs.Forest.{Forest, Empty, Plain, Group, each, kids_else_rest, choices, settled}
 use Rattle.sysmem_tree.specs.Laws.{by_both}
+use Rattle.sysmem_proof.specs.Asked.{asks_at}
 use Rattle.sysmem_tree.specs.Node.{NodeFacts}
 use Rattle.sysmem_tree.specs.Nodes.{IsTree, ordinal_under}
 use Rattle.sysmem_tree.specs.Path.{node_at}
 use Rattle.sysmem_tree.specs.Selection.{after, settled_by}
 use Rattle.sysmem_tree.specs.Shape.{Member, by_path, kid_of, before, tree_of, kids_from, rooted, forest_of}
 use Rattle.sysmem_tree.proofs.CallerLemmas.{AllOf, all_mapped, all_at, led_kid, is_under}
-
--- what a node asks, if it has constraints
-abbrev pub node_asks : List NodeFacts → ℕ → Option Participant
-node_asks nodes i = option_and_then (λ n. n.constraints) (slice_get nodes i)
 
 module _ {A : Type 0} (P : A → Type 0) where
   -- what all labels of a forest have
@@ -74,7 +71,7 @@ module _ {A : Type 0} (P : A → Type 0) where
 -- the member's path leads to the number's node, which has its constraints and shows as it
 pub record IsLabel (nodes : List NodeFacts) (l : ℕ × Member) : Type 0 where
   pub leads : node_at nodes l.1.path ≡ Some l.0
-  pub asks : node_asks nodes l.0 ≡ l.1.constraints
+  pub asks : asks_at nodes l.0 ≡ l.1.constraints
   pub shows : option_map (by_path l.0 l.1.path) (slice_get nodes l.0) ≡ Some l.1
 
 label_is : (all : List NodeFacts) (i : ℕ) (n : NodeFacts) (path : List ℕ) → slice_get all i ≡ Some n → node_at all path ≡ Some i → IsLabel all (by_both i path n)

@@ -16,7 +16,7 @@ use Rattle.sysmem_merge.specs.Reasons.{IsUnnamedLine}
 use Rattle.sysmem_sanitise.specs.Participant.{Participant}
 use Rattle.sysmem_tree.specs.Node.{NodeFacts}
 use Rattle.sysmem_proof.specs.Roll.{RollFacts, asked_on, numbers_on}
-use Rattle.sysmem_proof.proofs.Labels.{node_asks}
+use Rattle.sysmem_proof.specs.Asked.{asks_at}
 
 -- the numbers below one
 abbrev pub below : ℕ → List ℕ
@@ -87,33 +87,33 @@ any_asked p f (x ∷ xs) = by (f x) (any_asked p f xs) where
 
 module _ (roll : RollFacts) (p : Participant → Bool) where
   asks : ℕ → Option Participant
-  asks j = node_asks roll.nodes j
+  asks j = asks_at roll.nodes j
 
   on : (t : Bool) (o : Option Participant) → tested p (if t then o else None) ≡ true → (t ≡ true) × (tested p o ≡ true)
   on true o h = (refl, h)
   on false o h = absurd (cc)
 
-  within : (j : ℕ) → tested p (node_asks roll.nodes j) ≡ true → j < length roll.nodes
+  within : (j : ℕ) → tested p (asks_at roll.nodes j) ≡ true → j < length roll.nodes
   within j h = by (slice_get roll.nodes j) refl h where
     by : (o : Option NodeFacts) → slice_get roll.nodes j ≡ o → tested p (option_and_then (λ (n : NodeFacts). n.constraints) o) ≡ true → j < length roll.nodes
     by None at h = absurd (cc)
     by (Some n) at h = slice_get_within roll.nodes j n at
 
   -- the same is told of all in the order of their numbers and in another order
-  pub any_number : list_any p (filter_map (asked_on roll) (below (length roll.nodes))) ≡ list_any p (filter_map (node_asks roll.nodes) (numbers_on roll))
+  pub any_number : list_any p (filter_map (asked_on roll) (below (length roll.nodes))) ≡ list_any p (filter_map (asks_at roll.nodes) (numbers_on roll))
   any_number = any_asked p (asked_on roll) (below (length roll.nodes))
-      ∙ (same_test (list_any (λ j. tested p (asked_on roll j)) (below (length roll.nodes))) (list_any (λ j. tested p (node_asks roll.nodes j)) (numbers_on roll))
+      ∙ (same_test (list_any (λ j. tested p (asked_on roll j)) (below (length roll.nodes))) (list_any (λ j. tested p (asks_at roll.nodes j)) (numbers_on roll))
       (λ h.
       let (j, there, yes') = any_in (λ j. tested p (asked_on roll j)) (below (length roll.nodes)) h in
-      let (marked, asked) = on (list_any (λ i. i == j) (numbers_on roll)) (node_asks roll.nodes j) yes' in
+      let (marked, asked) = on (list_any (λ i. i == j) (numbers_on roll)) (asks_at roll.nodes j) yes' in
       let (i, listed', same) = any_in (λ i. i == j) (numbers_on roll) marked in
-      in_any (λ j. tested p (node_asks roll.nodes j)) j (numbers_on roll) (subst (λ k. In k (numbers_on roll)) (eqb-true i j same) listed') asked)
+      in_any (λ j. tested p (asks_at roll.nodes j)) j (numbers_on roll) (subst (λ k. In k (numbers_on roll)) (eqb-true i j same) listed') asked)
       (λ h.
-      let (j, there, yes') = any_in (λ j. tested p (node_asks roll.nodes j)) (numbers_on roll) h in
+      let (j, there, yes') = any_in (λ j. tested p (asks_at roll.nodes j)) (numbers_on roll) h in
       let marked : list_any (λ i. i == j) (numbers_on roll) ≡ true = in_any (λ i. i == j) j (numbers_on roll) there (eq-eqb j j refl) in
       in_any (λ j. tested p (asked_on roll j)) j (below (length roll.nodes)) (in_below (length roll.nodes) j (within j yes'))
-      (ap (λ t. tested p (if t then node_asks roll.nodes j else None)) marked ∙ yes'))
-      ∙ sym (any_asked p (node_asks roll.nodes) (numbers_on roll)))
+      (ap (λ t. tested p (if t then asks_at roll.nodes j else None)) marked ∙ yes'))
+      ∙ sym (any_asked p (asks_at roll.nodes) (numbers_on roll)))
 
 any_demand : (q : OfferDemand → Bool) (ps : List Participant) → list_any q (offer_demands ps) ≡ list_any (λ p. q (offer_demand p)) ps
 any_demand q [] = refl

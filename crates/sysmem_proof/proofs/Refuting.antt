@@ -10,7 +10,7 @@ use Rattle.sysmem_proof.specs.declared.refutation.Item.{Item}
 use Rattle.sysmem_proof.specs.declared.refutation.Item.TheVariants.{Split, Leaf}
 use Rattle.sysmem_proof.specs.Certificate.{Conflicts, Refutes, RefutesEarlier}
 use Rattle.sysmem_proof.specs.declared.conflict.Conflict.{Conflict}
-use Rattle.sysmem_proof.specs.Verdict.{Meeting, IsUnmet}
+use Rattle.sysmem_proof.specs.Verdict.{Meeting, IsForestUnmet}
 use Rattle.sysmem_proof.proofs.Growing.{all_at}
 use Rattle.sysmem_proof.proofs.Walks.{goes_on}
 
@@ -20,20 +20,20 @@ all_left P [] ys all = (tt, all)
 all_left P (x ∷ xs) ys all = let rest = all_left P xs ys all.1 in ((all.0, rest.0), rest.1)
 
 -- all that is asked of settings and conflicts here: a conflict leaves a forest no settings
-module _ (Met : Meeting) (L : Conflicts) (sound : (d : Forest Member) (c : Conflict) → L d c → IsUnmet Met d) where
+module _ (Met : Meeting) (L : Conflicts) (sound : (d : Forest Member) (c : Conflict) → L d c → IsForestUnmet Met d) where
   -- where no choice for the first group can be met, nothing can
-  split_unmet : (d : Forest Member) (es : List (Forest Member)) → choices d ≡ Some es → AllByRecursion (IsUnmet Met) es → IsUnmet Met d
+  split_unmet : (d : Forest Member) (es : List (Forest Member)) → choices d ≡ Some es → AllByRecursion (IsForestUnmet Met) es → IsForestUnmet Met d
   split_unmet d es h all [] e t s met = let same : d ≡ e = same_Some d e s.leads in none-some es (sym s.whole ∙ (ap choices (sym same) ∙ h))
   split_unmet d es h all (c ∷ cs) e t s met = goes_on ⊥ d e c cs s (λ fs x open' here on.
-      all_at (IsUnmet Met) es c x (subst (λ zs. slice_get zs c ≡ Some x) (same_Some fs es (sym open' ∙ h)) here) all cs e t on met)
+      all_at (IsForestUnmet Met) es c x (subst (λ zs. slice_get zs c ≡ Some x) (same_Some fs es (sym open' ∙ h)) here) all cs e t on met)
 
-  refuted_split : (n : ℕ) (items : List Item) (d : Forest Member) (ds : List (Forest Member)) → ((es : List (Forest Member)) → Refutes L items es → AllByRecursion (IsUnmet Met) es)
-      → (o : Option (List (Forest Member))) → choices d ≡ o → IsSomeAnd o (λ es. (length es ≡ n) × Refutes L items (es ++ ds)) → AllByRecursion (IsUnmet Met) (d ∷ ds)
+  refuted_split : (n : ℕ) (items : List Item) (d : Forest Member) (ds : List (Forest Member)) → ((es : List (Forest Member)) → Refutes L items es → AllByRecursion (IsForestUnmet Met) es)
+      → (o : Option (List (Forest Member))) → choices d ≡ o → IsSomeAnd o (λ es. (length es ≡ n) × Refutes L items (es ++ ds)) → AllByRecursion (IsForestUnmet Met) (d ∷ ds)
   refuted_split n items d ds rest None h r = absurd r
-  refuted_split n items d ds rest (Some es) h r = let a = all_left (IsUnmet Met) es ds (rest (es ++ ds) r.1) in (split_unmet d es h a.0, a.1)
+  refuted_split n items d ds rest (Some es) h r = let a = all_left (IsForestUnmet Met) es ds (rest (es ++ ds) r.1) in (split_unmet d es h a.0, a.1)
 
   -- each refuted forest can't be met
-  pub refuted : (items : List Item) (ds : List (Forest Member)) → Refutes L items ds → AllByRecursion (IsUnmet Met) ds
+  pub refuted : (items : List Item) (ds : List (Forest Member)) → Refutes L items ds → AllByRecursion (IsForestUnmet Met) ds
   refuted [] [] r = tt
   refuted [] (d ∷ ds) r = absurd r
   refuted (item ∷ items) [] r = absurd (nothing item r) where
@@ -45,11 +45,11 @@ module _ (Met : Meeting) (L : Conflicts) (sound : (d : Forest Member) (c : Confl
 
   -- each choice before the chosen one is refuted
   before_unmet : (c i : ℕ) (es : List (Forest Member)) (rs : List (List Item)) (x : Forest Member) → AllZip (λ e items. Refutes L items (e ∷ [])) (take c es) rs
-      → i < c → slice_get es i ≡ Some x → IsUnmet Met x
+      → i < c → slice_get es i ≡ Some x → IsForestUnmet Met x
   before_unmet c i [] rs x zip below here = absurd (none-some x here)
   before_unmet zero i (e ∷ es) rs x zip below here = absurd (omega (arith, below))
   before_unmet (suc c) i (e ∷ es) [] x zip below here = absurd zip
-  before_unmet (suc c) zero (e ∷ es) (items ∷ rs) x zip below here = subst (IsUnmet Met) (same_Some e x here) (refuted items (e ∷ []) zip.0).0
+  before_unmet (suc c) zero (e ∷ es) (items ∷ rs) x zip below here = subst (IsForestUnmet Met) (same_Some e x here) (refuted items (e ∷ []) zip.0).0
   before_unmet (suc c) (suc i) (e ∷ es) (items ∷ rs) x zip below here = before_unmet c i es rs x zip.1 (omega (arith, below)) here
 
   earlier_child : (es : List (Forest Member)) (c : ℕ) (cs : List ℕ) (rss : List (List (List Item))) (other : List ℕ) (e : Forest Member) (t : Settings)

@@ -21,11 +21,11 @@ use Rattle.sysmem_tree.specs.Shape.{Member, by_number, by_path, forest_of, shape
 use Rattle.sysmem_tree.proofs.CallerLemmas.{AllOf, settled_relabel, after_relabel, node_within}
 use Rattle.sysmem_proof.specs.Base.{BaseFacts, IsGivenBase}
 use Rattle.sysmem_proof.specs.Fault.{AreNamed}
-use Rattle.sysmem_proof.specs.Asked.{asked_in}
+use Rattle.sysmem_proof.specs.Asked.{asked_in, asks_at}
 use Rattle.sysmem_proof.specs.Members.{members_at, participants}
 use Rattle.sysmem_proof.specs.Naming.{same_path, asked_at}
 use Rattle.sysmem_proof.specs.Roll.{RollFacts, listed}
-use Rattle.sysmem_proof.proofs.Labels.{IsLabel, node_asks, both_all, in_settled_by, labels_are}
+use Rattle.sysmem_proof.proofs.Labels.{IsLabel, both_all, in_settled_by, labels_are}
 use Rattle.sysmem_proof.proofs.Naming.{asked_here, asked_later, one_path, path_itself}
 
 abbrev pub number : ℕ × Member → ℕ
@@ -36,7 +36,7 @@ member l = l.1
 
 -- what is found of the participant with the number i, where it may be there
 abbrev pub told_of : List NodeFacts → List ℕ → ℕ → Option Participant
-told_of nodes ns i = if list_any (λ j. j == i) ns then node_asks nodes i else None
+told_of nodes ns i = if list_any (λ j. j == i) ns then asks_at nodes i else None
 
 module _ (nodes : List NodeFacts) (tree : IsTree nodes) (law : OnePath) where
   within : (i : ℕ) (path : List ℕ) → i < length nodes → node_at nodes path ≡ Some i → path ≡ path_of nodes i
@@ -47,7 +47,7 @@ module _ (nodes : List NodeFacts) (tree : IsTree nodes) (law : OnePath) where
       → asked_at (map member ls) path ≡ told_of nodes (map number ls) i
   at_node path i less leads [] all = refl
   at_node path i less leads (l ∷ ls) all = by (at_node path i less leads ls all.1) (same_path l.1.path path) refl where
-    put : (t : Bool) → (l.0 == i) ≡ t → told_of nodes (map number (l ∷ ls)) i ≡ (if t || list_any (λ j. j == i) (map number ls) then node_asks nodes i else None)
+    put : (t : Bool) → (l.0 == i) ≡ t → told_of nodes (map number (l ∷ ls)) i ≡ (if t || list_any (λ j. j == i) (map number ls) then asks_at nodes i else None)
     put t is = rw is refl
 
     by : asked_at (map member ls) path ≡ told_of nodes (map number ls) i → (t : Bool) → same_path l.1.path path ≡ t → asked_at (map member (l ∷ ls)) path ≡ told_of nodes (map number (l ∷ ls)) i
@@ -55,7 +55,7 @@ module _ (nodes : List NodeFacts) (tree : IsTree nodes) (law : OnePath) where
         let paths : l.1.path ≡ path = one_path l.1.path path same in
         let is : l.0 ≡ i = same_Some l.0 i (sym all.0.leads ∙ (ap (node_at nodes) paths ∙ leads)) in
         let yes' : (l.0 == i) ≡ true = search (rules, tests, is) in
-        asked_here l.1 (map member ls) path same ∙ (sym all.0.asks ∙ (ap (node_asks nodes) is ∙ sym (put true yes')))
+        asked_here l.1 (map member ls) path same ∙ (sym all.0.asks ∙ (ap (asks_at nodes) is ∙ sym (put true yes')))
     by rest false other = elim (cases_eq l.0 i) [
       | inl is ↦
           let one = within i l.1.path less (all.0.leads ∙ ap (λ j. Some j) is) in
@@ -192,8 +192,8 @@ module _ (nodes : List NodeFacts) (tree : IsTree nodes) (law : OnePath) (r : ℕ
 
   -- of a node that is there, what it asks if it is marked
   pub told_marked : (i : ℕ) → i < length nodes → node_at nodes path ≡ Some i → (marked : Bool) → marked ≡ list_any (λ j. j == i) (accepted ++ members_of nodes r cs)
-      → (if marked then node_asks nodes i else None) ≡ asked_at (listed these) path
-  told_marked i less leads marked is = ap (λ b. if b then node_asks nodes i else None) is ∙ sym (names_node nodes tree law r (root_within nodes r has) one cs accepted inside path i less leads)
+      → (if marked then asks_at nodes i else None) ≡ asked_at (listed these) path
+  told_marked i less leads marked is = ap (λ b. if b then asks_at nodes i else None) is ∙ sym (names_node nodes tree law r (root_within nodes r has) one cs accepted inside path i less leads)
 
   -- a node is where a path names somebody
   node_named : asked_at (listed these) path ≢ None → (i : ℕ) × (node_at nodes path ≡ Some i) × (i < length nodes)
@@ -263,16 +263,16 @@ module _ (nodes : List NodeFacts) (tree : IsTree nodes) (law : OnePath) where
     few_named xs named = few_there xs (all_there xs named.0 named.1.each) named.1.once
 
 -- what all on a roll ask, by their numbers
-all_asked : (nodes : List NodeFacts) (ls : List (ℕ × Member)) → AllOf (IsLabel nodes) ls → participants (map member ls) ≡ filter_map (node_asks nodes) (map number ls)
+all_asked : (nodes : List NodeFacts) (ls : List (ℕ × Member)) → AllOf (IsLabel nodes) ls → participants (map member ls) ≡ filter_map (asks_at nodes) (map number ls)
 all_asked nodes [] all = refl
-all_asked nodes (l ∷ ls) all = ap (λ o. cons_option o (participants (map member ls))) (sym all.0.asks) ∙ ap (cons_option (node_asks nodes l.0)) (all_asked nodes ls all.1)
+all_asked nodes (l ∷ ls) all = ap (λ o. cons_option o (participants (map member ls))) (sym all.0.asks) ∙ ap (cons_option (asks_at nodes l.0)) (all_asked nodes ls all.1)
 
 pub asked_by_numbers : (nodes : List NodeFacts) (tree : IsTree nodes) (law : OnePath) (r : ℕ) → HasDomain nodes r → AreOneForest nodes r → (cs accepted : List ℕ) → All (λ i. i < length nodes) accepted
-    → participants (listed (record { nodes = nodes; domain = r; choices = cs; accepted = accepted })) ≡ filter_map (node_asks nodes) (accepted ++ members_of nodes r cs)
+    → participants (listed (record { nodes = nodes; domain = r; choices = cs; accepted = accepted })) ≡ filter_map (asks_at nodes) (accepted ++ members_of nodes r cs)
 asked_by_numbers nodes tree law r has one cs accepted inside =
     ap participants (sym (listed_ls nodes tree law r (root_within nodes r has) one cs accepted inside))
     ∙ (all_asked nodes (ls nodes tree law r (root_within nodes r has) one cs accepted inside) (all_ls nodes tree law r (root_within nodes r has) one cs accepted inside)
-    ∙ ap (filter_map (node_asks nodes)) (numbers_ls nodes tree law r (root_within nodes r has) one cs accepted inside))
+    ∙ ap (filter_map (asks_at nodes)) (numbers_ls nodes tree law r (root_within nodes r has) one cs accepted inside))
 
 -- whom choices settle, alone or behind those accepted
 pub listed_with : (nodes : List NodeFacts) (r : ℕ) (cs accepted : List ℕ) (d : Forest Member) → after (shape_of nodes r) cs ≡ Some d

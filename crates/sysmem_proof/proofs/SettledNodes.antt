@@ -28,7 +28,8 @@ use Rattle.sysmem_proof.specs.Found.{AreSettledAt}
 use Rattle.sysmem_proof.specs.Members.{participants, member_at, members_at}
 use Rattle.sysmem_proof.specs.Refusals.{StandFor}
 use Rattle.sysmem_proof.proofs.Growing.{sub_itself, sub_both}
-use Rattle.sysmem_proof.proofs.Labels.{IsLabel, node_asks, both_all}
+use Rattle.sysmem_proof.proofs.Labels.{IsLabel, both_all}
+use Rattle.sysmem_proof.specs.Asked.{asks_at}
 use Rattle.sysmem_proof.proofs.Rolls.{number, member, labels_at, members_labelled, numbers_labelled, all_labelled, settled_both, numbers_settled, members_settled, all_settled, root_within}
 
 -- a member has constraints
@@ -115,13 +116,13 @@ module _ (nodes : List NodeFacts) (tree : IsTree nodes) (law : OnePath) where
     by true is rest = rw is (all.0, rest)
     by false is rest = rw is rest
 
-  asking_numbers : (ls : List (ℕ × Member)) → AllOf (IsLabel nodes) ls → filter (λ i. is_some (node_asks nodes i)) (map number ls) ≡ map number (asking ls)
+  asking_numbers : (ls : List (ℕ × Member)) → AllOf (IsLabel nodes) ls → filter (λ i. is_some (asks_at nodes i)) (map number ls) ≡ map number (asking ls)
   asking_numbers [] all = refl
   asking_numbers (l ∷ ls) all = by (asks l.1) refl (asking_numbers ls all.1) where
-    by : (t : Bool) → asks l.1 ≡ t → filter (λ i. is_some (node_asks nodes i)) (map number ls) ≡ map number (asking ls)
-        → filter (λ i. is_some (node_asks nodes i)) (map number (l ∷ ls)) ≡ map number (asking (l ∷ ls))
-    by true is rest = (let same : is_some (node_asks nodes l.0) ≡ true = ap is_some all.0.asks ∙ is in rw (same, is) (ap (λ ns. l.0 ∷ ns) rest))
-    by false is rest = (let same : is_some (node_asks nodes l.0) ≡ false = ap is_some all.0.asks ∙ is in rw (same, is) rest)
+    by : (t : Bool) → asks l.1 ≡ t → filter (λ i. is_some (asks_at nodes i)) (map number ls) ≡ map number (asking ls)
+        → filter (λ i. is_some (asks_at nodes i)) (map number (l ∷ ls)) ≡ map number (asking (l ∷ ls))
+    by true is rest = (let same : is_some (asks_at nodes l.0) ≡ true = ap is_some all.0.asks ∙ is in rw (same, is) (ap (λ ns. l.0 ∷ ns) rest))
+    by false is rest = (let same : is_some (asks_at nodes l.0) ≡ false = ap is_some all.0.asks ∙ is in rw (same, is) rest)
 
   asking_members : (ls : List (ℕ × Member)) → map member (asking ls) ≡ filter asks (map member ls)
   asking_members [] = refl
@@ -178,19 +179,19 @@ module _ (nodes : List NodeFacts) (tree : IsTree nodes) (law : OnePath) where
     -- they are nodes of the tree, and few
     pub all_there : All (HasNode nodes) (accepted ++ participants_of nodes r cs)
     all_there = All-append (λ i. i < length nodes) accepted (participants_of nodes r cs) within
-        (All-filter (λ i. is_some (node_asks nodes i)) (λ i. i < length nodes) (members_of nodes r cs) own_within)
+        (All-filter (λ i. is_some (asks_at nodes i)) (λ i. i < length nodes) (members_of nodes r cs) own_within)
 
     pub few_there : length (accepted ++ participants_of nodes r cs) ≤ 128
     few_there = let few = few_numbers (accepted ++ participants_of nodes r cs) (length nodes) all_there
         (pairs_append (λ i j. i ≢ j) accepted (participants_of nodes r cs) once
-        (AllPairs-filter (λ i j. i ≢ j) (λ i. is_some (node_asks nodes i)) (members_of nodes r cs) own.once)
+        (AllPairs-filter (λ i j. i ≢ j) (λ i. is_some (asks_at nodes i)) (members_of nodes r cs) own.once)
         (All-weaker (λ i. All (λ j. i ≢ j) (members_of nodes r cs)) (λ i. All (λ j. i ≢ j) (participants_of nodes r cs))
-        (λ i all. All-filter (λ j. is_some (node_asks nodes j)) (λ j. i ≢ j) (members_of nodes r cs) all) accepted across)) in
+        (λ i all. All-filter (λ j. is_some (asks_at nodes j)) (λ j. i ≢ j) (members_of nodes r cs) all) accepted across)) in
         omega (arith, few, tree.few)
 
     module _ (d : Forest Member) (leads : after (shape_of nodes r) cs ≡ Some d) where
       numbered : members_at nodes (participants_of nodes r cs) ≡ filter asks (settled d)
-      numbered = ap (λ ns. members_at nodes (filter (λ i. is_some (node_asks nodes i)) ns)) our_numbers
+      numbered = ap (λ ns. members_at nodes (filter (λ i. is_some (asks_at nodes i)) ns)) our_numbers
           ∙ (ap (members_at nodes) (asking_numbers ours our_labels)
           ∙ (members_numbered (asking ours) (asking_labels ours our_labels)
           ∙ (asking_members ours ∙ ap (filter asks) (sym (our_members d leads)))))

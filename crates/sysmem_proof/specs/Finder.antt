@@ -1,6 +1,7 @@
 -- What one who looks for conflicts has to know: whom he can name, and that what he says of them is one.
 use Rattle.std.specs.Prelude.{◌≡◌, ℕ, ◌≤◌, ◌||◌, ◌==◌, not, Bool, true, List, [], ◌∷◌, length, map, is_some, is_none, Some, All, filter, take, slice_get}
 use Rattle.std.specs.List.{AllZip, flat_map}
+use Rattle.sysmem_counts.specs.Bounds.{most_number}
 use Rattle.sysmem_counts.specs.Counts.{IsCountLine, IsFixedCountLine}
 use Rattle.sysmem_counts.specs.declared.constraints.CountConstraints.{CountConstraints}
 use Rattle.sysmem_counts.specs.declared.field.Field.{Field}
@@ -31,15 +32,15 @@ SomeAreNamed = (some all : List Member) → PathsDiffer all → IsSublist some a
 -- some count field isn't its absent value
 abbrev pub has_count : CountConstraints → Bool
 has_count p = not (p.min_buffer_count_for_camping == 0) || not (p.min_buffer_count_for_dedicated_slack == 0) || not (p.min_buffer_count_for_shared_slack == 0)
-    || not (p.min_buffer_count == 0) || not (p.max_buffer_count == 4294967295)
+    || not (p.min_buffer_count == 0) || not (p.max_buffer_count == most_number)
 
 -- a count line is true of those that have a count field
 abbrev pub CountsAreOfSome : Type 0
-CountsAreOfSome = (field : Field) (ps : List CountConstraints) → All (λ p. p.max_buffer_count ≤ 4294967295) ps → IsCountLine field ps → IsCountLine field (filter has_count ps)
+CountsAreOfSome = (field : Field) (ps : List CountConstraints) → All (λ p. p.max_buffer_count ≤ most_number) ps → IsCountLine field ps → IsCountLine field (filter has_count ps)
 
 -- and so is one of a count that is fixed
 abbrev pub FixedCountsAreOfSome : Type 0
-FixedCountsAreOfSome = (count : ℕ) (field : Field) (ps : List CountConstraints) → count ≤ 4294967295 → IsFixedCountLine count field ps → IsFixedCountLine count field (filter has_count ps)
+FixedCountsAreOfSome = (count : ℕ) (field : Field) (ps : List CountConstraints) → count ≤ most_number → IsFixedCountLine count field ps → IsFixedCountLine count field (filter has_count ps)
 
 -- a participant has an entry for the offer
 abbrev pub has_entry : Offer → OfferDemand → Bool

@@ -25,7 +25,7 @@ use Rattle.sysmem_proof.specs.declared.conflict.Conflict.{Conflict}
 use Rattle.sysmem_proof.specs.Conflict.{IsConflictFor}
 use Rattle.sysmem_proof.specs.declared.no.No.{No}
 use Rattle.sysmem_proof.specs.Fault.{ChoiceFaults, EmptyFaults, VerdictFaults}
-use Rattle.sysmem_proof.specs.Verdict.{IsUnmet, MeetsFor, MeetsLooselyFor, MeetsSettled, IsOptimalFor, IsSameAnswer}
+use Rattle.sysmem_proof.specs.Verdict.{IsForestUnmet, MeetsFor, MeetsLooselyFor, MeetsSettled, IsOptimalFor, IsSameAnswer}
 
 -- two optimal verdicts of one domain on the same terms are equal in kind, selection and settings
 abbrev pub OneAnswer : Type 0
@@ -35,7 +35,7 @@ OneAnswer = (platform : PlatformFacts) (terms : Option Terms) (d : Forest Member
 -- cuts lose nothing: where nothing meets what is settled, but for the names of an image, nothing meets a selection that goes on from there
 abbrev pub CutsLoseNothing : Type 0
 CutsLoseNothing = (platform : PlatformFacts) (terms : Option Terms) (d : Forest Member)
-    → ((t : Settings) → ¬ (MeetsLooselyFor platform terms (settled d) t)) → IsUnmet (MeetsFor platform terms) d
+    → ((t : Settings) → ¬ (MeetsLooselyFor platform terms (settled d) t)) → IsForestUnmet (MeetsFor platform terms) d
 
 -- choices that lead to f begin with one of these, and go on from there as a selection
 pub record BeginsWith {A : Type 0} (es : List (Forest A)) (cs : List ℕ) (f : Forest A) : Type 0 where
@@ -75,7 +75,7 @@ EarlierGoesBy = (d e f : Forest Member) (selection other : List ℕ)
 
 -- a conflict is true: no settings meet a selection that goes on from where it stands, nor what is settled there
 pub record IsTrueConflict (platform : PlatformFacts) (terms : Option Terms) (d : Forest Member) : Type 0 where
-  pub unmet : IsUnmet (MeetsFor platform terms) d
+  pub unmet : IsForestUnmet (MeetsFor platform terms) d
   pub none : (t : Settings) → ¬ (MeetsSettled platform terms d t)
 
 abbrev pub ConflictsAreTrue : Type 0

@@ -19,7 +19,7 @@ pub mod Whom
 pub mod Refusals
 pub mod Reading
 pub mod Fault
-pub mod Checker
+pub mod Matter
 pub mod Walk
 pub mod Asked
 pub mod PlacesBefore

@@ -20,8 +20,8 @@ abbrev pub Meeting : Type 1
 Meeting = List Member → Settings → Type 0
 
 -- no settings meet the members of a selection of the forest, however its groups choose
-abbrev pub IsUnmet : Meeting → Forest Member → Type 0
-IsUnmet Met d = (selection : List ℕ) (e : Forest Member) (t : Settings) → IsSelection d selection e → ¬ (Met (settled e) t)
+abbrev pub IsForestUnmet : Meeting → Forest Member → Type 0
+IsForestUnmet Met d = (selection : List ℕ) (e : Forest Member) (t : Settings) → IsSelection d selection e → ¬ (Met (settled e) t)
 
 -- nor those of a selection that is earlier than the choices
 abbrev pub IsUnmetBefore : Meeting → Forest Member → List ℕ → Type 0
@@ -42,7 +42,7 @@ most_selections = 4096
 -- that is met, with the best settings for it, or none where none is. What failed or wanted memory isn't.
 abbrev pub IsRight : Meeting → Meeting → Forest Member → Verdict → Type 0
 IsRight Met Best d (verdicts.Chosen chosen) = (count d ≤ most_selections) × IsChosen Met Best d chosen.selection chosen.settings
-IsRight Met Best d verdicts.IntersectionEmpty = (count d ≤ most_selections) × IsUnmet Met d
+IsRight Met Best d verdicts.IntersectionEmpty = (count d ≤ most_selections) × IsForestUnmet Met d
 IsRight Met Best d verdicts.TooMany = most_selections < count d
 IsRight Met Best d verdicts.Failed = ⊥
 IsRight Met Best d verdicts.NoMemory = ⊥

@@ -2,7 +2,7 @@
 
 ghost use Rattle.std.specs.Prelude.{◌≡◌, ◌≤◌, ◌++◌, ℕ, List, Some, length, option_map};
 ghost use Rattle.sysmem_proof.specs.Base.{IsGivenBase};
-ghost use Rattle.sysmem_proof.specs.Checker.{forest};
+ghost use Rattle.sysmem_proof.specs.Matter.{forest};
 ghost use Rattle.sysmem_proof.specs.Members.{members_at};
 ghost use Rattle.sysmem_proof.specs.Roll.{listed};
 ghost use Rattle.sysmem_tree.specs.Domain.{HasDomain};
@@ -29,10 +29,10 @@ pub(crate) struct Checker<'a> {
 impl<'a> Model for Checker<'a> {
     ghost use Rattle.std.specs.Prelude.{option_map};
     ghost use Rattle.sysmem_proof.specs.Base.{IsGivenBase};
-    ghost use Rattle.sysmem_proof.specs.Checker.{CheckerFacts};
+    ghost use Rattle.sysmem_proof.specs.Matter.{Matter};
     ghost use Rattle.sysmem_tree.specs.Domain.{HasDomain, IsSoundTree};
 
-    ghost Value = { CheckerFacts };
+    ghost Value = { Matter };
 
     ghost view = { λ c. record {
       platform = c.platform.now;

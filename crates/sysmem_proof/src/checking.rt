@@ -3,7 +3,7 @@
 ghost use Rattle.std.specs.Prelude.{◌≡◌, ◌≤◌, ◌↔◌, Some, All, IsPermutation, IsTrue, length};
 ghost use Rattle.sysmem_proof.specs.Asked.{asked_in};
 ghost use Rattle.sysmem_proof.specs.Base.{BaseFacts};
-ghost use Rattle.sysmem_proof.specs.Checker.{forest};
+ghost use Rattle.sysmem_proof.specs.Matter.{forest};
 ghost use Rattle.sysmem_proof.specs.Fault.{AreFew, IsSelected};
 ghost use Rattle.sysmem_proof.specs.Members.{participants};
 ghost use Rattle.sysmem_tree.specs.Forest.{Forest, settled};

@@ -4,7 +4,7 @@ ghost use Rattle.std.specs.Prelude.{◌≡◌, ◌↔◌, [], Some, None, IsTrue
 ghost use Rattle.sysmem_merge.specs.Settings.{Meets};
 ghost use Rattle.sysmem_proof.specs.Certificate.{HasNoLines, RefuseBefore};
 ghost use Rattle.sysmem_proof.specs.Check.{ChoicePasses};
-ghost use Rattle.sysmem_proof.specs.Checker.{forest, terms};
+ghost use Rattle.sysmem_proof.specs.Matter.{forest, terms};
 ghost use Rattle.sysmem_proof.specs.Choice.{FormFaults, SelectedFaults, SelectedPasses};
 ghost use Rattle.sysmem_proof.specs.Fault.{AreFew, ChoiceFaults, HasFittingLines, IsSelected, LinesFaults};
 ghost use Rattle.sysmem_proof.specs.Members.{participants};

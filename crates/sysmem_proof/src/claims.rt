@@ -3,7 +3,7 @@
 ghost use Rattle.std.specs.Prelude.{◌≡◌, ◌↔◌, IfOk, IsOk, MatchResult, option_map};
 ghost use Rattle.sysmem_proof.specs.Base.{IsGivenBase, terms_of};
 ghost use Rattle.sysmem_proof.specs.Check.{RefutationPasses, VerdictPasses};
-ghost use Rattle.sysmem_proof.specs.Checker.{forest, terms};
+ghost use Rattle.sysmem_proof.specs.Matter.{forest, terms};
 ghost use Rattle.sysmem_proof.specs.Claim.{IsTrueClaim};
 ghost use Rattle.sysmem_proof.specs.Fault.{AreMany, EmptyFaults, Fails, VerdictFaults};
 ghost use Rattle.sysmem_proof.specs.declared.no.No.TheVariants.{WrongShape as Misshapen};

@@ -3,7 +3,7 @@
 ghost use Rattle.std.specs.Prelude.{◌≡◌, [], ◌∷◌, Some, None, MatchResult, is_none, length};
 ghost use Rattle.std.specs.List.{AllZip};
 ghost use Rattle.sysmem_memory.specs.Listed.{places_of};
-ghost use Rattle.sysmem_proof.specs.Checker.{forest, terms};
+ghost use Rattle.sysmem_proof.specs.Matter.{forest, terms};
 ghost use Rattle.sysmem_proof.specs.Conflict.{IsConflict, IsConflictFor, RefusesOffer, RefusesPlace};
 ghost use Rattle.sysmem_proof.specs.EachLine.{LinesOfItem};
 ghost use Rattle.sysmem_proof.specs.Fault.{AreNamed, ConflictFaults, Fails, First};

@@ -2,7 +2,7 @@
 
 ghost use Rattle.std.specs.Prelude.{◌≡◌, ◌++◌, List, [], ◌∷◌, Some, MatchResult, OnOk, take};
 ghost use Rattle.sysmem_proof.specs.Certificate.{RefutesEarlier};
-ghost use Rattle.sysmem_proof.specs.Checker.{forest, terms};
+ghost use Rattle.sysmem_proof.specs.Matter.{forest, terms};
 ghost use Rattle.sysmem_proof.specs.Conflict.{IsConflictFor};
 ghost use Rattle.sysmem_proof.specs.Fault.{EarlierFaults, no_list};
 ghost use Rattle.sysmem_proof.specs.Walk.{FaultsBefore, RefuteBefore};

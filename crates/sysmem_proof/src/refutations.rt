@@ -2,7 +2,7 @@
 
 ghost use Rattle.std.specs.Prelude.{◌≡◌, ◌<◌, List, [], ◌∷◌, Some, IfOk, MatchOption, MatchResult, OnOk, drop, length, option_map};
 ghost use Rattle.sysmem_proof.specs.Certificate.{Refutes};
-ghost use Rattle.sysmem_proof.specs.Checker.{forest, terms};
+ghost use Rattle.sysmem_proof.specs.Matter.{forest, terms};
 ghost use Rattle.sysmem_proof.specs.Conflict.{IsConflictFor};
 ghost use Rattle.sysmem_proof.specs.Fault.{Fails, RefutationFaults};
 ghost use Rattle.sysmem_proof.specs.Walk.{AreLeft};

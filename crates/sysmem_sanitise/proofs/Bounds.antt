@@ -5,8 +5,9 @@ use Rattle.std.proofs.Math.Bridge.{le_prop}
 use Rattle.serde_json.specs.Data.{Data}
 use Rattle.sysmem_image.specs.declared.entry.EntryBounds.{EntryBounds}
 use Rattle.sysmem_image.specs.declared.size.Size.{Size}
+use Rattle.sysmem_image.specs.Size.{most_multiple}
 use Rattle.sysmem_sanitise.specs.declared.fault.Fault.{Fault}
-use Rattle.sysmem_sanitise.specs.Reading.Bounds.{StatedBounds, stated_bounds, stated_by, bounds_by, bounds_of, some_sides, some_max, row_divisor, some_divisor, small_divisor_of}
+use Rattle.sysmem_sanitise.specs.Reading.Bounds.{StatedBounds, stated_bounds, stated_by, bounds_by, bounds_of, some_sides, some_max, divisor_read, some_divisor, small_divisor_of}
 use Rattle.sysmem_sanitise.specs.Reading.Fields.{seen_by, ◌>>=◌}
 
 -- numbers of bounds that are 1 or more where they must be
@@ -17,7 +18,7 @@ record AreSome (s : StatedBounds) : Type 0 where
   height_alignment_some : 1 ≤ s.size_alignment.height
   min_row_some : 1 ≤ s.min_bytes_per_row
   row_divisor_some : 1 ≤ s.bytes_per_row_divisor
-  small_divisor : s.bytes_per_row_divisor ≤ 65536
+  small_divisor : s.bytes_per_row_divisor ≤ most_multiple
   start_divisor_some : 1 ≤ s.start_offset_divisor
   display_width_some : 1 ≤ s.display_rect_alignment.width
   display_height_some : 1 ≤ s.display_rect_alignment.height
@@ -37,7 +38,7 @@ made-same s t x y e = subst (λ (t : StatedBounds). (y : AreSome t) → made s x
 max_one : (n : ℕ) → 1 ≤ n → max n 1 ≡ n
 max_one n h = omega arith
 
-divisor_same : (n : ℕ) → 1 ≤ n → n ≤ 65536 → row_divisor n ≡ n
+divisor_same : (n : ℕ) → 1 ≤ n → n ≤ most_multiple → divisor_read n ≡ n
 divisor_same n some small = omega arith
 
 sides : (a b c d : ℕ) → a ≡ c → b ≡ d → (let x : Size = record { width = a; height = b } in let y : Size = record { width = c; height = d } in x ≡ y)
@@ -54,7 +55,7 @@ numbers-same s are =
     let f0 = max_one s.min_bytes_per_row are.min_row_some in
     let f1 = divisor_same s.bytes_per_row_divisor are.row_divisor_some are.small_divisor in
     let f2 = max_one s.start_offset_divisor are.start_divisor_some in
-    let l : StatedBounds = record { min_size = some_sides s.min_size; max_size = s.max_size; size_alignment = some_sides s.size_alignment; min_bytes_per_row = max s.min_bytes_per_row 1; max_bytes_per_row = s.max_bytes_per_row; bytes_per_row_divisor = row_divisor s.bytes_per_row_divisor; start_offset_divisor = max s.start_offset_divisor 1; display_rect_alignment = some_sides s.display_rect_alignment; required_min_size = s.required_min_size; required_max_size = s.required_max_size; max_width_times_height = s.max_width_times_height; at_pixel_boundary = s.at_pixel_boundary } in
+    let l : StatedBounds = record { min_size = some_sides s.min_size; max_size = s.max_size; size_alignment = some_sides s.size_alignment; min_bytes_per_row = max s.min_bytes_per_row 1; max_bytes_per_row = s.max_bytes_per_row; bytes_per_row_divisor = divisor_read s.bytes_per_row_divisor; start_offset_divisor = max s.start_offset_divisor 1; display_rect_alignment = some_sides s.display_rect_alignment; required_min_size = s.required_min_size; required_max_size = s.required_max_size; max_width_times_height = s.max_width_times_height; at_pixel_boundary = s.at_pixel_boundary } in
     let r : StatedBounds = record { min_size = s.min_size; max_size = s.max_size; size_alignment = s.size_alignment; min_bytes_per_row = s.min_bytes_per_row; max_bytes_per_row = s.max_bytes_per_row; bytes_per_row_divisor = s.bytes_per_row_divisor; start_offset_divisor = s.start_offset_divisor; display_rect_alignment = s.display_rect_alignment; required_min_size = s.required_min_size; required_max_size = s.required_max_size; max_width_times_height = s.max_width_times_height; at_pixel_boundary = s.at_pixel_boundary } in
     let h : l ≡ r = cc in h
 

@@ -17,7 +17,7 @@ use Rattle.sysmem_sanitise.specs.Faults.{wrong}
 use Rattle.sysmem_sanitise.specs.Participant.{Participant}
 use Rattle.sysmem_sanitise.specs.Reading.{participant_of, participant_with, platform_of, platform_with}
 use Rattle.sysmem_sanitise.specs.Reading.Bounds.{StatedBounds, stated_by}
-use Rattle.sysmem_sanitise.specs.Reading.Entries.{asked_by}
+use Rattle.sysmem_sanitise.specs.Reading.Entries.{pair_asked}
 use Rattle.sysmem_sanitise.specs.Reading.Fields.{is_key_of, seen_by}
 use Rattle.sysmem_sanitise.specs.Reading.Names.{format_named, modifier_named, colour_named, domain_named}
 
@@ -245,7 +245,7 @@ abbrev colours : ColourSet
 colours = record no_colours { any = true; srgb = true }
 
 -- its entry stands for two, which share all but the pair
-pairs_whole : seen_by (λ (p : Participant). map asked_by p.entries) (participant_of whole)
+pairs_whole : seen_by (λ (p : Participant). map pair_asked p.entries) (participant_of whole)
     ≡ Ok ((record { format = Some NV12; modifier = Some Linear }) ∷ (record { format = None; modifier = None }) ∷ [])
 unfolding is_key_of find_row format_named modifier_named colour_named
 pairs_whole = refl

@@ -23,6 +23,7 @@ use Rattle.sysmem_formats.specs.declared.modifier.Modifier.{Modifier}
 use Rattle.sysmem_formats.specs.declared.offer.Pair.{Pair}
 use Rattle.sysmem_formats.specs.declared.pixel_format.PixelFormat.{PixelFormat}
 use Rattle.sysmem_formats.specs.Layout.{IsTiledMisfit, pixel_bytes}
+use Rattle.sysmem_counts.specs.Bounds.{most_number}
 use Rattle.sysmem_image.specs.declared.entry.EntryBounds.{EntryBounds}
 use Rattle.sysmem_image.specs.declared.colours.ColourSet.{ColourSet}
 use Rattle.sysmem_image.specs.declared.entry.Entry.{Entry}
@@ -32,11 +33,12 @@ use Rattle.sysmem_memory.specs.Heap.{HeapName, same_heap}
 use Rattle.sysmem_memory.specs.Wishes.{MemoryWishes, no_wishes}
 use Rattle.sysmem_sanitise.specs.declared.reading.asked.AskedPair.{AskedPair}
 use Rattle.sysmem_sanitise.specs.declared.fault.FaultPlace.TheVariants.{At}
-use Rattle.sysmem_sanitise.specs.Participant.{IsUsage, HasSidesUpTo, IsEntry, AreApart, most_multiple}
-use Rattle.sysmem_sanitise.specs.Reading.Bounds.{is_multiple, multiple, multiple_size, any_size, some_size, some_sides, size_to, size_or, bound_or, any_number, some_number, large_number, stated_bounds, bounds_by, bounds_of, most}
+use Rattle.sysmem_sanitise.specs.Participant.{IsUsage, HasSidesUpTo, IsEntry, AreApart}
+use Rattle.sysmem_image.specs.Size.{most_multiple}
+use Rattle.sysmem_sanitise.specs.Reading.Bounds.{is_multiple, multiple, multiple_size, any_size, some_size, some_sides, size_to, size_or, bound_or, any_number, some_number, large_number, stated_bounds, bounds_by, bounds_of}
 use Rattle.sysmem_sanitise.specs.Reading.Constraints.{no_usage, with_family, is_usage, usage_of, memory_fields, memory_of}
-use Rattle.sysmem_sanitise.specs.Reading.Entries.{same_format, same_modifier, same_asked, asks_misfit, asked_of, asked_by, has_further, modifier_beside, has_entry, has_asked, with_asked, no_pair, own_pair, with_further, further_of, asked_pairs, listed, with_listed, colour_set_of, entry_object, entry_with, with_entry, entries_of}
-use Rattle.sysmem_sanitise.specs.Reading.Fields.{◌>>=◌, passing, list_of, named, number_of, number_or, flag_or, optional, stated, text_of, object_of, has_items, read_each}
+use Rattle.sysmem_sanitise.specs.Reading.Entries.{same_format, same_modifier, same_asked, asks_misfit, asked_of, pair_asked, has_further, modifier_beside, is_asked_already, has_asked, with_asked, no_pair, own_pair, with_further, further_of, asked_pairs, with_colour_or_any, with_listed, colour_set_of, entry_object, entry_with, with_entry, entries_of}
+use Rattle.sysmem_sanitise.specs.Reading.Fields.{◌>>=◌, passing, list_of, named, number_up_to, number_or, flag_or, optional, stated, text_of, object_of, has_items, read_each}
 use Rattle.sysmem_sanitise.specs.Reading.Heaps.{IsHeapName, permitted_heap, has_permitted, with_permitted, permitted_of}
 use Rattle.sysmem_sanitise.proofs.Heaps.{heap_name_of-is}
 use Rattle.sysmem_sanitise.proofs.Platforms.{fitting}
@@ -58,7 +60,7 @@ usage-by n m h = search (rules, tests)
 
 pub usage_of-is : (d : Data) (u : Usage) → usage_of d ≡ Ok u → IsUsage u
 usage_of-is d u gives =
-    let (items, listed, after) = bind-ok (list_of _ d) _ u gives in
+    let (items, with_colour_or_any, after) = bind-ok (list_of _ d) _ u gives in
     let (v, each, tested) = bind-ok (read_each with_family no_usage items) _ u after in
     let passed = passing-ok _ is_usage v u tested in
     let is = usage-by (usage_bits u) (bit_and (usage_bits u) 1) passed.holds in
@@ -97,7 +99,7 @@ with_permitted-keeps hs ts d kept gives =
 
 permitted_of-are : (d : Data) (ts : List HeapName) → permitted_of None d ≡ Ok ts → ArePermitted ts
 permitted_of-are d ts gives =
-    let (items, listed, each) = bind-ok (list_of _ d) _ ts gives in
+    let (items, with_colour_or_any, each) = bind-ok (list_of _ d) _ ts gives in
     each-keeps (with_permitted None) ArePermitted with_permitted-keeps items [] ts no_heaps-are each
 
 memory_of-permits : (d : Data) (m : MemoryWishes) → memory_of None d ≡ Ok m → ArePermitted m.permitted_heaps
@@ -122,7 +124,7 @@ multiple-is n h = search (rules, tests)
 
 multiple-bounded : (at : Field) (d : Data) (n : ℕ) → multiple at d ≡ Ok n → n ≤ most_multiple
 multiple-bounded at d n gives =
-    let (read, is, tested) = bind-ok (number_of at (2 ^ 64 - 1) d) _ n gives in
+    let (read, is, tested) = bind-ok (number_up_to at (2 ^ 64 - 1) d) _ n gives in
     multiple-is n (passing-ok _ is_multiple read n tested).holds
 
 multiple_size-bounded : (at : Field) (d : Data) (size : Size) → multiple_size at d ≡ Ok size → HasSidesUpTo most_multiple size
@@ -157,13 +159,13 @@ alignment-bounded at d size gives = sides-some size (optional-keeps (HasSidesUpT
 divisor-bounded : (at : Field) (d : Data) (n : ℕ) → bound_or multiple at 1 d ≡ Ok n → max n 1 ≤ most_multiple
 divisor-bounded at d n gives = multiple-some n (optional-keeps (λ n. n ≤ most_multiple) at 1 (multiple at) d n (omega arith) (λ v. multiple-bounded at v n) gives)
 
-required_sides : (d : Data) (size : Size) → size_or some_size field.RequiredMinSize most d ≡ Ok size → (1 ≤ size.width) × (1 ≤ size.height)
+required_sides : (d : Data) (size : Size) → size_or some_size field.RequiredMinSize most_number d ≡ Ok size → (1 ≤ size.width) × (1 ≤ size.height)
 required_sides d size gives =
-    optional-keeps (λ (size : Size). (1 ≤ size.width) × (1 ≤ size.height)) field.RequiredMinSize (record { width = most; height = most }) (some_size field.RequiredMinSize) d size (omega arith, omega arith) (λ v. some_size-some field.RequiredMinSize v size) gives
+    optional-keeps (λ (size : Size). (1 ≤ size.width) × (1 ≤ size.height)) field.RequiredMinSize (record { width = most_number; height = most_number }) (some_size field.RequiredMinSize) d size (omega arith, omega arith) (λ v. some_size-some field.RequiredMinSize v size) gives
 
 large_number-some : (at : Field) (d : Data) (n : ℕ) → large_number at d ≡ Ok n → 1 ≤ n
 large_number-some at d n gives =
-    let (read, is, tested) = bind-ok (number_of at (2 ^ 64 - 1) d) _ n gives in
+    let (read, is, tested) = bind-ok (number_up_to at (2 ^ 64 - 1) d) _ n gives in
     some-is n (passing-ok _ (λ n. nat_le 1 n) read n tested).holds where
       some-is : (n : ℕ) → nat_le 1 n ≡ true → 1 ≤ n
       some-is n h = search (rules, tests)
@@ -175,14 +177,14 @@ bounds_of-are : (d : Data) (b : EntryBounds) → bounds_of d ≡ Ok b → AreAsk
 bounds_of-are d b gives =
     bind-then (stated_bounds d) _ b gives (λ s stated-is made.
     bind-then (size_or some_size field.MinSize 1 d) _ s stated-is (λ min_size is1 a1.
-    bind-then (size_or any_size field.MaxSize most d) _ s a1 (λ max_size is2 a2.
+    bind-then (size_or any_size field.MaxSize most_number d) _ s a1 (λ max_size is2 a2.
     bind-then (size_or multiple_size field.SizeAlignment 1 d) _ s a2 (λ size_alignment is3 a3.
     bind-then (bound_or some_number field.MinBytesPerRow 1 d) _ s a3 (λ min_row is4 a4.
-    bind-then (bound_or any_number field.MaxBytesPerRow most d) _ s a4 (λ max_row is5 a5.
+    bind-then (bound_or any_number field.MaxBytesPerRow most_number d) _ s a4 (λ max_row is5 a5.
     bind-then (bound_or multiple field.BytesPerRowDivisor 1 d) _ s a5 (λ row_divisor is6 a6.
     bind-then (bound_or multiple field.StartOffsetDivisor 1 d) _ s a6 (λ start_divisor is7 a7.
     bind-then (size_or multiple_size field.DisplayRectAlignment 1 d) _ s a7 (λ display_alignment is8 a8.
-    bind-then (size_or some_size field.RequiredMinSize most d) _ s a8 (λ required_min is9 a9.
+    bind-then (size_or some_size field.RequiredMinSize most_number d) _ s a8 (λ required_min is9 a9.
     bind-then (size_or any_size field.RequiredMaxSize 0 d) _ s a9 (λ required_max is10 a10.
     bind-then (bound_or large_number field.MaxWidthTimesHeight (2 ^ 64 - 1) d) _ s a10 (λ area is11 a11.
     bind-then (flag_or field.RequireBytesPerRowAtPixelBoundary false d) _ s a11 (λ pixel is12 all.
@@ -206,7 +208,7 @@ with_colour-some set Rec709 e = let t : true ≡ false = ap (λ (s : ColourSet).
 with_colour-some set Rec2020 e = let t : true ≡ false = ap (λ (s : ColourSet). s.rec2020) e in absurd (cc)
 with_colour-some set Rec2100 e = let t : true ≡ false = ap (λ (s : ColourSet). s.rec2100) e in absurd (cc)
 
-listed-some : (set : ColourSet) (colour : Option ColourSpace) → listed set colour ≢ no_colours
+listed-some : (set : ColourSet) (colour : Option ColourSpace) → with_colour_or_any set colour ≢ no_colours
 listed-some set None e = let t : true ≡ false = ap (λ (s : ColourSet). s.any) e in absurd (cc)
 listed-some set (Some colour) e = with_colour-some set colour e
 
@@ -223,7 +225,7 @@ listed_in-some (item d ds) set some gives =
 
 colour_set_of-some : (d : Data) (set : ColourSet) → colour_set_of d ≡ Ok set → set ≢ no_colours
 colour_set_of-some d set gives =
-    let (items, listed, after) = bind-ok (list_of _ d) _ set gives in
+    let (items, with_colour_or_any, after) = bind-ok (list_of _ d) _ set gives in
     let (filled, tested, each) = bind-ok (passing _ has_items items) _ set after in
     listed_in-some filled set (passing-ok _ has_items items filled tested).holds each
 
@@ -262,23 +264,23 @@ record ArePairs (before pairs : List AskedPair) : Type 0 where
   distinct : AllPairs ArePairsApart (before ++ pairs)
   fitting : All Fits pairs
 
-asked_by-entries : (p : AskedPair → Bool) (entries : List Entry) → list_any (λ entry. p (asked_by entry)) entries ≡ list_any p (map asked_by entries)
+asked_by-entries : (p : AskedPair → Bool) (entries : List Entry) → list_any (λ entry. p (pair_asked entry)) entries ≡ list_any p (map pair_asked entries)
 asked_by-entries p [] = refl
-asked_by-entries p (e ∷ es) = ap (λ b. p (asked_by e) || b) (asked_by-entries p es)
+asked_by-entries p (e ∷ es) = ap (λ b. p (pair_asked e) || b) (asked_by-entries p es)
 
 with_asked-keeps : (at : Field) (entries : List Entry) (pairs after : List AskedPair) (asked : AskedPair)
-    → ArePairs (map asked_by entries) pairs → with_asked None at entries pairs asked ≡ Ok after → ArePairs (map asked_by entries) after
+    → ArePairs (map pair_asked entries) pairs → with_asked None at entries pairs asked ≡ Ok after → ArePairs (map pair_asked entries) after
 with_asked-keeps at entries pairs after asked kept gives =
-    let before = map asked_by entries in
+    let before = map pair_asked entries in
     let (fit, fitted, a1) = bind-ok (passing _ (λ (pair : AskedPair). not (asks_misfit pair.format pair.modifier)) asked) _ after gives in
     let (roomy, room, a2) = bind-ok (passing _ (λ _. nat_lt (length entries + length pairs) 64) fit) _ after a1 in
-    let (new, passes, made) = bind-ok (passing _ (λ pair. not (has_entry entries pair || has_asked pairs pair)) roomy) _ after a2 in
+    let (new, passes, made) = bind-ok (passing _ (λ pair. not (is_asked_already entries pair || has_asked pairs pair)) roomy) _ after a2 in
     let first = passing-ok _ (λ (pair : AskedPair). not (asks_misfit pair.format pair.modifier)) asked fit fitted in
     let roomed = passing-ok _ (λ _. nat_lt (length entries + length pairs) 64) fit roomy room in
-    let passed = passing-ok _ (λ pair. not (has_entry entries pair || has_asked pairs pair)) roomy new passes in
+    let passed = passing-ok _ (λ pair. not (is_asked_already entries pair || has_asked pairs pair)) roomy new passes in
     let less : length entries + length pairs < 64 = below _ roomed.holds in
-    let counted : length before ≡ length entries = length-map entries asked_by in
-    let absent : (has_entry entries new || has_asked pairs new) ≡ false = not-true _ passed.holds in
+    let counted : length before ≡ length entries = length-map entries pair_asked in
+    let absent : (is_asked_already entries new || has_asked pairs new) ≡ false = not-true _ passed.holds in
     let none : list_any (λ pair. same_asked pair new) (before ++ pairs) ≡ false =
     list_any-append (λ pair. same_asked pair new) before pairs ∙ ap (λ b. b || has_asked pairs new) (sym (asked_by-entries (λ pair. same_asked pair new) entries)) ∙ absent in
     let fits-new : Fits new = subst Fits (roomed.same ∙ passed.same) (fits fit.format fit.modifier (not-true _ first.holds)) in
@@ -290,24 +292,24 @@ with_asked-keeps at entries pairs after asked kept gives =
       fitting = All-push Fits pairs new kept.fitting fits-new;
     })
 
-own_pair-by : (t : Bool) (entries : List Entry) (d : Data) (pairs : List AskedPair) → ArePairs (map asked_by entries) []
-    → cond t (asked_of d >>= with_asked None field.PixelFormat entries []) (no_pair d) ≡ Ok pairs → ArePairs (map asked_by entries) pairs
+own_pair-by : (t : Bool) (entries : List Entry) (d : Data) (pairs : List AskedPair) → ArePairs (map pair_asked entries) []
+    → cond t (asked_of d >>= with_asked None field.PixelFormat entries []) (no_pair d) ≡ Ok pairs → ArePairs (map pair_asked entries) pairs
 own_pair-by true entries d pairs kept gives =
     let (asked, is, added) = bind-ok (asked_of d) _ pairs gives in
     with_asked-keeps field.PixelFormat entries [] pairs asked kept added
 own_pair-by false entries d pairs kept gives =
     let (v, is, a1) = bind-ok (passing _ has_further d) _ pairs gives in
     let (m, is1, made) = bind-ok (modifier_beside None d) _ pairs a1 in
-    subst (ArePairs (map asked_by entries)) (ok-same _ pairs made) kept
+    subst (ArePairs (map pair_asked entries)) (ok-same _ pairs made) kept
 
-asked_pairs-are : (entries : List Entry) (d : Data) (pairs : List AskedPair) → ArePairs (map asked_by entries) []
-    → asked_pairs None entries d ≡ Ok pairs → ArePairs (map asked_by entries) pairs
+asked_pairs-are : (entries : List Entry) (d : Data) (pairs : List AskedPair) → ArePairs (map pair_asked entries) []
+    → asked_pairs None entries d ≡ Ok pairs → ArePairs (map pair_asked entries) pairs
 asked_pairs-are entries d pairs kept gives =
     let (own, is, after) = bind-ok (own_pair None entries d) _ pairs gives in
     let owned = own_pair-by _ entries d own kept is in
-    optional-keeps (ArePairs (map asked_by entries)) field.PixelFormatAndModifiers own (further_of None entries own) d pairs owned (λ v further.
-    let (items, listed, each) = bind-ok (list_of _ v) _ pairs further in
-    each-keeps (with_further None entries) (ArePairs (map asked_by entries)) (λ before after w so is.
+    optional-keeps (ArePairs (map pair_asked entries)) field.PixelFormatAndModifiers own (further_of None entries own) d pairs owned (λ v further.
+    let (items, with_colour_or_any, each) = bind-ok (list_of _ v) _ pairs further in
+    each-keeps (with_further None entries) (ArePairs (map pair_asked entries)) (λ before after w so is.
     let (object, o, a1) = bind-ok (object_of _ _ w) _ after is in
     let (asked, a, added) = bind-ok (asked_of w) _ after a1 in
     with_asked-keeps field.PixelFormatAndModifiers entries before after asked so added) items own pairs owned each) after
@@ -319,20 +321,20 @@ pub record AreEntries (entries : List Entry) : Type 0 where
   pub each : All IsEntry entries
 
 -- entries are apart where their pairs are
-apart-entries : (entries : List Entry) → AllPairs ArePairsApart (map asked_by entries) → AllPairs AreApart entries
+apart-entries : (entries : List Entry) → AllPairs ArePairsApart (map pair_asked entries) → AllPairs AreApart entries
 apart-entries entries h i j e before within =
-    subst (λ (p : AskedPair). ArePairsApart p (asked_by (get_or entries j e))) (get_or-map asked_by entries i e (asked_by e) (omega arith))
-    (subst (λ (p : AskedPair). ArePairsApart (get_or (map asked_by entries) i (asked_by e)) p) (get_or-map asked_by entries j e (asked_by e) within)
-    (h i j (asked_by e) before (rw (length-map entries asked_by) within)))
+    subst (λ (p : AskedPair). ArePairsApart p (pair_asked (get_or entries j e))) (get_or-map pair_asked entries i e (pair_asked e) (omega arith))
+    (subst (λ (p : AskedPair). ArePairsApart (get_or (map pair_asked entries) i (pair_asked e)) p) (get_or-map pair_asked entries j e (pair_asked e) within)
+    (h i j (pair_asked e) before (rw (length-map entries pair_asked) within)))
 
-pairs-of : (colours : ColourSet) (bounds : EntryBounds) (pairs : List AskedPair) → map asked_by (map (entry_with colours bounds) pairs) ≡ pairs
+pairs-of : (colours : ColourSet) (bounds : EntryBounds) (pairs : List AskedPair) → map pair_asked (map (entry_with colours bounds) pairs) ≡ pairs
 pairs-of colours bounds [] = refl
 pairs-of colours bounds (p ∷ ps) = ap (λ ps. p ∷ ps) (pairs-of colours bounds ps)
 
 -- the entries so far
 record Entries (entries : List Entry) : Type 0 where
-  few : length (map asked_by entries) ≤ 64
-  distinct : AllPairs ArePairsApart (map asked_by entries)
+  few : length (map pair_asked entries) ≤ 64
+  distinct : AllPairs ArePairsApart (map pair_asked entries)
   each : All IsEntry entries
 
 no_pairs : (before : List AskedPair) → length before ≤ 64 → AllPairs ArePairsApart before → ArePairs before []
@@ -348,12 +350,12 @@ with_entry-keeps es ts d kept gives =
     let (pairs, p, a2) = bind-ok (asked_pairs None es d) _ ts a1 in
     let (colours, c, a3) = bind-ok (stated code.NoColourSpaces field.ColorSpaces d >>= colour_set_of) _ ts a2 in
     let (bounds, b, made) = bind-ok (bounds_of d) _ ts a3 in
-    let (v, there, listed) = bind-ok (stated code.NoColourSpaces field.ColorSpaces d) colour_set_of colours c in
-    let are = asked_pairs-are es d pairs (no_pairs (map asked_by es) kept.few kept.distinct) p in
-    let some = colour_set_of-some v colours listed in
+    let (v, there, with_colour_or_any) = bind-ok (stated code.NoColourSpaces field.ColorSpaces d) colour_set_of colours c in
+    let are = asked_pairs-are es d pairs (no_pairs (map pair_asked es) kept.few kept.distinct) p in
+    let some = colour_set_of-some v colours with_colour_or_any in
     let asked = bounds_of-are d bounds b in
-    let whole : map asked_by (es ++ map (entry_with colours bounds) pairs) ≡ map asked_by es ++ pairs =
-    map-append asked_by es (map (entry_with colours bounds) pairs) ∙ ap (λ ps. map asked_by es ++ ps) (pairs-of colours bounds pairs) in
+    let whole : map pair_asked (es ++ map (entry_with colours bounds) pairs) ≡ map pair_asked es ++ pairs =
+    map-append pair_asked es (map (entry_with colours bounds) pairs) ∙ ap (λ ps. map pair_asked es ++ ps) (pairs-of colours bounds pairs) in
     let entry : (k : ℕ) (d : AskedPair) → k < length pairs → IsEntry (entry_with colours bounds (get_or pairs k d)) = λ k d within. record {
       fitting = are.fitting k d within;
       some_colours = some;
@@ -375,9 +377,9 @@ no_entries-are = record { few = omega arith; distinct = λ i j e before within. 
 
 entries_of-are : (d : Data) (ts : List Entry) → entries_of None d ≡ Ok ts → AreEntries ts
 entries_of-are d ts gives =
-    let (items, listed, each) = bind-ok (list_of _ d) _ ts gives in
+    let (items, with_colour_or_any, each) = bind-ok (list_of _ d) _ ts gives in
     let kept = each-keeps (with_entry None) Entries with_entry-keeps items [] ts (record { few = omega arith; distinct = λ i j e before within. absurd (omega arith); each = λ k e within. absurd (omega arith) }) each in
-    record { few = rw (sym (length-map ts asked_by)) kept.few; distinct = apart-entries ts kept.distinct; each = kept.each }
+    record { few = rw (sym (length-map ts pair_asked)) kept.few; distinct = apart-entries ts kept.distinct; each = kept.each }
 
 pub entries-are : (d : Data) (ts : List Entry) → optional field.ImageFormatConstraints [] (entries_of None) d ≡ Ok ts → AreEntries ts
 entries-are d ts gives = optional-keeps AreEntries field.ImageFormatConstraints [] (entries_of None) d ts no_entries-are (λ v. entries_of-are v ts) gives

@@ -12,8 +12,8 @@ use Rattle.sysmem_memory.specs.Heap.{HeapFacts, same_heap}
 use Rattle.sysmem_sanitise.specs.Reading.Fields.{passing, list_of, named, read_each}
 use Rattle.sysmem_sanitise.specs.Reading.Heaps.{heap_of, has_heap, with_heap, heaps_of}
 use Rattle.sysmem_sanitise.specs.Reading.Names.{colour_named}
-use Rattle.sysmem_sanitise.specs.Reading.Pairs.{same_pair, has_pair, same_colour, has_colour, is_tiled_misfit}
-use Rattle.sysmem_sanitise.specs.Reading.Platform.{pair_of, with_pair, pairs_of, with_colour, colours_of}
+use Rattle.sysmem_sanitise.specs.Reading.Pairs.{same_pair, has_pair, same_colour, lists_colour, is_tiled_misfit}
+use Rattle.sysmem_sanitise.specs.Reading.Platform.{pair_of, with_pair, pairs_of, with_new_colour, colours_of}
 use Rattle.sysmem_sanitise.specs.Platform.{IsHeap}
 use Rattle.sysmem_sanitise.proofs.Heaps.{heap_of-is}
 use Rattle.sysmem_sanitise.proofs.Steps.{bind-ok, ok-same, passing-ok, not-true, none_passes, each-keeps, some, below}
@@ -117,11 +117,11 @@ pairs_of-are d ts gives =
     let kept = subst Pairs passed.same (each-keeps (with_pair None) Pairs with_pair-keeps items [] ps (record { distinct = λ i j e before within. absurd (omega arith); fitting = λ k e within. absurd (omega arith) }) each) in
     record { some = some ts passed.holds; distinct = kept.distinct; fitting = kept.fitting }
 
-with_colour-keeps : (cs ts : List ColourSpace) (d : Data) → AllPairs (λ a b. a ≢ b) cs → with_colour None cs d ≡ Ok ts → AllPairs (λ a b. a ≢ b) ts
+with_colour-keeps : (cs ts : List ColourSpace) (d : Data) → AllPairs (λ a b. a ≢ b) cs → with_new_colour None cs d ≡ Ok ts → AllPairs (λ a b. a ≢ b) ts
 with_colour-keeps cs ts d kept gives =
     let (colour, read, after) = bind-ok (named colour_named _ d) _ ts gives in
-    let (new, passes, made) = bind-ok (passing _ (λ colour. not (has_colour cs colour)) colour) _ ts after in
-    let absent = not-true _ (passing-ok _ (λ colour. not (has_colour cs colour)) colour new passes).holds in
+    let (new, passes, made) = bind-ok (passing _ (λ colour. not (lists_colour cs colour)) colour) _ ts after in
+    let absent = not-true _ (passing-ok _ (λ colour. not (lists_colour cs colour)) colour new passes).holds in
     let is : cs ++ new ∷ [] ≡ ts = ok-same _ _ made in
     subst (AllPairs (λ a b. a ≢ b)) is (all_pairs_push (λ a b. a ≢ b) cs new kept (λ k e within. distinct_colour _ _ (none_passes (λ c. same_colour c new) cs k e absent within)))
 
@@ -133,7 +133,7 @@ pub record AreColours (cs : List ColourSpace) : Type 0 where
 pub colours_of-are : (d : Data) (ts : List ColourSpace) → colours_of None d ≡ Ok ts → AreColours ts
 colours_of-are d ts gives =
     let (items, listed, after) = bind-ok (list_of _ d) _ ts gives in
-    let (cs, each, tested) = bind-ok (read_each (with_colour None) [] items) _ ts after in
+    let (cs, each, tested) = bind-ok (read_each (with_new_colour None) [] items) _ ts after in
     let passed = passing-ok _ (λ colours. not (length colours == 0)) cs ts tested in
-    let kept = subst (AllPairs (λ a b. a ≢ b)) passed.same (each-keeps (with_colour None) (AllPairs (λ a b. a ≢ b)) with_colour-keeps items [] cs (λ i j e before within. absurd (omega arith)) each) in
+    let kept = subst (AllPairs (λ a b. a ≢ b)) passed.same (each-keeps (with_new_colour None) (AllPairs (λ a b. a ≢ b)) with_colour-keeps items [] cs (λ i j e before within. absurd (omega arith)) each) in
     record { some = some ts passed.holds; distinct = kept }

@@ -22,21 +22,21 @@ use Rattle.sysmem_sanitise.specs.declared.fault.Fault.{Fault}
 use Rattle.sysmem_sanitise.specs.declared.fault.FaultPlace.{FaultPlace}
 use Rattle.sysmem_sanitise.specs.declared.fault.FaultPlace.TheVariants.{Whole, At}
 use Rattle.sysmem_sanitise.specs.Faults.{wrong, lack_at, lack_of}
-use Rattle.sysmem_sanitise.specs.Reading.Fields.{◌>>=◌, passing, kept, same_field, object_of, stated, required, optional, read_or, number_or, flag_or, text_of, named, list_of, read_each, Reads, IsOr, IsSteady}
+use Rattle.sysmem_sanitise.specs.Reading.Fields.{◌>>=◌, passing, kept, same_field, object_of, stated, required, optional, read_or, number_or, flag_or, text_of, named, list_of, read_each, Reads, IsOr, IsSteadyReader}
 use Rattle.sysmem_sanitise.specs.declared.reading.asked.AskedPair.{AskedPair}
 use Rattle.sysmem_sanitise.specs.Platform.{PlatformFacts}
 use Rattle.sysmem_sanitise.specs.Reading.Bounds.{bounds_of}
 use Rattle.sysmem_sanitise.specs.Reading.Constraints.{usage_of, counts_of, memory_fields, memory_of, constraints_fields, participant_with}
-use Rattle.sysmem_sanitise.specs.Reading.Entries.{asks_misfit, asked_of, has_entry, has_asked, with_asked, no_pair, own_pair, with_further, further_of, asked_pairs, colour_set_of, entry_object, entry_with, with_entry, entries_of}
+use Rattle.sysmem_sanitise.specs.Reading.Entries.{asks_misfit, asked_of, is_asked_already, has_asked, with_asked, no_pair, own_pair, with_further, further_of, asked_pairs, colour_set_of, entry_object, entry_with, with_entry, entries_of}
 use Rattle.sysmem_sanitise.specs.Reading.Heaps.{is_heap_type, heap_type_of, heap_name_of, domains_of, heap_info_fields, heap_of, has_heap, with_heap, heaps_of, name_fields, permitted_heap, has_permitted, with_permitted, permitted_of}
 use Rattle.sysmem_sanitise.specs.Reading.Names.{colour_named}
-use Rattle.sysmem_sanitise.specs.Reading.Pairs.{pair_fields, has_pair, has_colour, is_tiled_misfit}
-use Rattle.sysmem_sanitise.specs.Reading.Platform.{pair_of, with_pair, pairs_of, with_colour, colours_of, platform_fields, platform_with}
+use Rattle.sysmem_sanitise.specs.Reading.Pairs.{pair_fields, has_pair, lists_colour, is_tiled_misfit}
+use Rattle.sysmem_sanitise.specs.Reading.Platform.{pair_of, with_pair, pairs_of, with_new_colour, colours_of, platform_fields, platform_with}
 use Rattle.sysmem_sanitise.proofs.Members.{each_step}
 use Rattle.sysmem_sanitise.proofs.Steps.{bind-ok}
 
 -- a reader that takes no memory
-pub steady-plain : {A : Type 0} (r : Result A Fault) → IsSteady (λ lack. r)
+pub steady-plain : {A : Type 0} (r : Result A Fault) → IsSteadyReader (λ lack. r)
 steady-plain r = record { is = λ fault a is. inl is }
 
 kept-by : {A : Type 0} (lack field : Field) (a : A) (t : Bool) → same_field lack field ≡ t
@@ -54,7 +54,7 @@ same-ok : {A : Type 0} (fault : Fault) (a b : A) (r : Result A Fault) → (let s
 same-ok fault a b r e (inl is) = inl (is ∙ e)
 same-ok fault a b r e (inr is) = inr is
 
-pub steady-kept : {A : Type 0} (field : Field) (a : A) → IsSteady (λ lack. kept lack field a)
+pub steady-kept : {A : Type 0} (field : Field) (a : A) → IsSteadyReader (λ lack. kept lack field a)
 steady-kept field a = record { is = λ fault b e. same-ok fault a b _ e (kept-at fault.code fault.at field a) }
 
 -- a step of which the first is that or the fault
@@ -65,7 +65,7 @@ then-or fault a b r next (inl is) (inr after) = inr (rw is after)
 then-or fault a b r next (inr is) after = inr (rw is refl)
 
 pub steady-then : {A B : Type 0} (first : Option Field → Result A Fault) (next : A → Option Field → Result B Fault)
-    → IsSteady first → ((a : A) → IsSteady (next a)) → IsSteady (λ lack. first lack >>= λ a. next a lack)
+    → IsSteadyReader first → ((a : A) → IsSteadyReader (next a)) → IsSteadyReader (λ lack. first lack >>= λ a. next a lack)
 steady-then first next one others = record {
   is = λ fault b gives.
       let (a, is, after) = bind-ok (first None) (λ a. next a None) b gives in
@@ -73,22 +73,22 @@ steady-then first next one others = record {
 }
 
 pub steady-after : {A B : Type 0} (first : Result A Fault) (next : A → Option Field → Result B Fault)
-    → ((a : A) → IsSteady (next a)) → IsSteady (λ lack. first >>= λ a. next a lack)
+    → ((a : A) → IsSteadyReader (next a)) → IsSteadyReader (λ lack. first >>= λ a. next a lack)
 steady-after first next others = steady-then (λ lack. first) next (steady-plain first) others
 
-pub steady-each : {S : Type 0} (read : Option Field → S → Data → Result S Fault) → ((s : S) (d : Data) → IsSteady (λ lack. read lack s d))
-    → (ds : Items) (s : S) → IsSteady (λ lack. read_each (read lack) s ds)
+pub steady-each : {S : Type 0} (read : Option Field → S → Data → Result S Fault) → ((s : S) (d : Data) → IsSteadyReader (λ lack. read lack s d))
+    → (ds : Items) (s : S) → IsSteadyReader (λ lack. read_each (read lack) s ds)
 steady-each read one no_items s = steady-plain (Ok s)
 steady-each read one (item d ds) s =
     steady-then (λ lack. read lack s d) (λ after lack. read_each (read lack) after ds) (one s d) (λ after. steady-each read one ds after)
 
-steady-or : {A : Type 0} (absent : A) (read : Option Field → Data → Result A Fault) → ((v : Data) → IsSteady (λ lack. read lack v))
-    → (o : Option Data) → IsSteady (λ lack. read_or (Ok absent) (read lack) o)
+steady-or : {A : Type 0} (absent : A) (read : Option Field → Data → Result A Fault) → ((v : Data) → IsSteadyReader (λ lack. read lack v))
+    → (o : Option Data) → IsSteadyReader (λ lack. read_or (Ok absent) (read lack) o)
 steady-or absent read one None = steady-plain (Ok absent)
 steady-or absent read one (Some v) = one v
 
 pub steady-optional : {A : Type 0} (field : Field) (absent : A) (read : Option Field → Data → Result A Fault)
-    → ((v : Data) → IsSteady (λ lack. read lack v)) → (d : Data) → IsSteady (λ lack. optional field absent (read lack) d)
+    → ((v : Data) → IsSteadyReader (λ lack. read lack v)) → (d : Data) → IsSteadyReader (λ lack. optional field absent (read lack) d)
 steady-optional field absent read one d = steady-or absent read one _
 
 later-by : {A B : Type 0} (next : A → Result B Fault) (a : A) (fault : Fault) (r : Result A Fault) → next a ≡ Err fault → IsOr fault a r → (r >>= next) ≡ Err fault
@@ -97,7 +97,7 @@ later-by next a fault r after (inr is) = rw is refl
 
 -- the fault of a later step is that of the steps
 pub later : {A B : Type 0} (first : Option Field → Result A Fault) (next : A → Result B Fault) (a : A) (fault : Fault)
-    → IsSteady first → first None ≡ Ok a → next a ≡ Err fault → (first (lack_of fault) >>= next) ≡ Err fault
+    → IsSteadyReader first → first None ≡ Ok a → next a ≡ Err fault → (first (lack_of fault) >>= next) ≡ Err fault
 later first next a fault one is after = later-by next a fault (first (lack_of fault)) after (one.is fault a is)
 
 -- where items were read one by one up to some: what the rest says, all say
@@ -110,7 +110,7 @@ rest-start read first all = record { same = refl; faults = λ fault is. is }
 
 -- one more item was read
 pub rest-more : {S : Type 0} (read : Option Field → S → Data → Result S Fault) (first before after : S) (vs : List Value) (i : ℕ) (v : Value)
-    → ((s : S) (d : Data) → IsSteady (λ lack. read lack s d)) → IsRest read first before (items_view vs) (items_view (drop i vs))
+    → ((s : S) (d : Data) → IsSteadyReader (λ lack. read lack s d)) → IsRest read first before (items_view vs) (items_view (drop i vs))
     → i < length vs → v ≡ get_or vs i v → read None before (view v) ≡ Ok after
     → IsRest read first after (items_view vs) (items_view (drop (i + 1) vs))
 rest-more read first before after vs i v steady so within is gives = record {
@@ -133,78 +133,78 @@ pub rest-none : {S : Type 0} (read : Option Field → S → Data → Result S Fa
     → IsRest read first last all no_items → Reads (λ lack. read_each (read lack) first all) (Ok last)
 rest-none read first last all so = sym so.same
 
-steady-type : (d : Data) → IsSteady (λ lack. heap_type_of lack d)
+steady-type : (d : Data) → IsSteadyReader (λ lack. heap_type_of lack d)
 steady-type d = steady-after (text_of field.HeapType d) _ (λ text. steady-after (passing (wrong code.WrongKind field.HeapType) is_heap_type text) _ (λ heap_type. steady-kept field.HeapType heap_type))
 
-pub steady-name : (d : Data) → IsSteady (λ lack. heap_name_of lack d)
+pub steady-name : (d : Data) → IsSteadyReader (λ lack. heap_name_of lack d)
 steady-name d =
     steady-then (λ lack. required field.HeapType (heap_type_of lack) d) _ (steady-after (stated code.WrongKind field.HeapType d) _ (λ v. steady-type v)) (λ heap_type. steady-plain _)
 
-pub steady-permitted : (heaps : List HeapName) (d : Data) → IsSteady (λ lack. with_permitted lack heaps d)
+pub steady-permitted : (heaps : List HeapName) (d : Data) → IsSteadyReader (λ lack. with_permitted lack heaps d)
 steady-permitted heaps d =
     steady-then (λ lack. permitted_heap lack d) _ (steady-after (object_of (At field.PermittedHeaps) name_fields d) _ (λ object. steady-name d)) (λ heap.
     steady-after (passing (wrong code.TooMany field.PermittedHeaps) (λ _. nat_lt (length heaps) 64) heap) _ (λ roomy.
     steady-after (passing (wrong code.RepeatedHeap field.PermittedHeaps) (λ heap. not (has_permitted heaps heap)) roomy) _ (λ new. steady-kept field.PermittedHeaps _)))
 
-pub steady-heap : (heaps : List HeapFacts) (d : Data) → IsSteady (λ lack. with_heap lack heaps d)
+pub steady-heap : (heaps : List HeapFacts) (d : Data) → IsSteadyReader (λ lack. with_heap lack heaps d)
 steady-heap heaps d =
     steady-then (λ lack. heap_of lack d) _ (steady-after (object_of (At field.Heaps) heap_info_fields d) _ (λ object. steady-then (λ lack. heap_name_of lack d) _ (steady-name d) (λ name. steady-plain _))) (λ heap.
     steady-after (passing (wrong code.TooMany field.Heaps) (λ _. nat_lt (length heaps) 64) heap) _ (λ roomy.
     steady-after (passing (wrong code.BadPlatformList field.Heaps) (λ heap. not (has_heap heaps heap)) roomy) _ (λ new. steady-kept field.Heaps _)))
 
-pub steady-heaps : (d : Data) → IsSteady (λ lack. heaps_of lack d)
+pub steady-heaps : (d : Data) → IsSteadyReader (λ lack. heaps_of lack d)
 steady-heaps d =
     steady-after (list_of field.Heaps d) _ (λ items. steady-then (λ lack. read_each (with_heap lack) [] items) _ (steady-each with_heap steady-heap items []) (λ heaps. steady-plain _))
 
-pub steady-pair : (pairs : List Pair) (d : Data) → IsSteady (λ lack. with_pair lack pairs d)
+pub steady-pair : (pairs : List Pair) (d : Data) → IsSteadyReader (λ lack. with_pair lack pairs d)
 steady-pair pairs d =
     steady-after (pair_of d) _ (λ pair.
     steady-after (passing (wrong code.TiledMisfit field.Pairs) (λ pair. not (is_tiled_misfit pair)) pair) _ (λ fitting.
     steady-after (passing (wrong code.BadPlatformList field.Pairs) (λ pair. not (has_pair pairs pair)) fitting) _ (λ new. steady-kept field.Pairs _)))
 
-pub steady-pairs : (d : Data) → IsSteady (λ lack. pairs_of lack d)
+pub steady-pairs : (d : Data) → IsSteadyReader (λ lack. pairs_of lack d)
 steady-pairs d =
     steady-after (list_of field.Pairs d) _ (λ items. steady-then (λ lack. read_each (with_pair lack) [] items) _ (steady-each with_pair steady-pair items []) (λ pairs. steady-plain _))
 
-pub steady-colour : (colours : List ColourSpace) (d : Data) → IsSteady (λ lack. with_colour lack colours d)
+pub steady-colour : (colours : List ColourSpace) (d : Data) → IsSteadyReader (λ lack. with_new_colour lack colours d)
 steady-colour colours d =
     steady-after (named colour_named field.ColorSpaces d) _ (λ colour.
-    steady-after (passing (wrong code.BadPlatformList field.ColorSpaces) (λ colour. not (has_colour colours colour)) colour) _ (λ new. steady-kept field.ColorSpaces _))
+    steady-after (passing (wrong code.BadPlatformList field.ColorSpaces) (λ colour. not (lists_colour colours colour)) colour) _ (λ new. steady-kept field.ColorSpaces _))
 
-steady-asked : (field : Field) (entries : List Entry) (pairs : List AskedPair) (asked : AskedPair) → IsSteady (λ lack. with_asked lack field entries pairs asked)
+steady-asked : (field : Field) (entries : List Entry) (pairs : List AskedPair) (asked : AskedPair) → IsSteadyReader (λ lack. with_asked lack field entries pairs asked)
 steady-asked field entries pairs asked =
     steady-after (passing (wrong code.TiledMisfit field) (λ (pair : AskedPair). not (asks_misfit pair.format pair.modifier)) asked) _ (λ fitting.
     steady-after (passing (wrong code.TooMany field) (λ _. nat_lt (length entries + length pairs) 64) fitting) _ (λ roomy.
-    steady-after (passing (wrong code.RepeatedPair field) (λ pair. not (has_entry entries pair || has_asked pairs pair)) roomy) _ (λ new. steady-kept field _)))
+    steady-after (passing (wrong code.RepeatedPair field) (λ pair. not (is_asked_already entries pair || has_asked pairs pair)) roomy) _ (λ new. steady-kept field _)))
 
-steady-if : {A : Type 0} (t : Bool) (first second : Option Field → Result A Fault) → IsSteady first → IsSteady second → IsSteady (λ lack. cond t (first lack) (second lack))
+steady-if : {A : Type 0} (t : Bool) (first second : Option Field → Result A Fault) → IsSteadyReader first → IsSteadyReader second → IsSteadyReader (λ lack. cond t (first lack) (second lack))
 steady-if true first second one other = one
 steady-if false first second one other = other
 
-pub steady-own : (entries : List Entry) (d : Data) → IsSteady (λ lack. own_pair lack entries d)
+pub steady-own : (entries : List Entry) (d : Data) → IsSteadyReader (λ lack. own_pair lack entries d)
 steady-own entries d =
     steady-if _ (λ lack. asked_of d >>= with_asked lack field.PixelFormat entries []) (λ lack. no_pair d) (steady-after (asked_of d) _ (λ asked. steady-asked field.PixelFormat entries [] asked)) (steady-plain (no_pair d))
 
-pub steady-further : (entries : List Entry) (pairs : List AskedPair) (d : Data) → IsSteady (λ lack. with_further lack entries pairs d)
+pub steady-further : (entries : List Entry) (pairs : List AskedPair) (d : Data) → IsSteadyReader (λ lack. with_further lack entries pairs d)
 steady-further entries pairs d =
     steady-after (object_of (At field.PixelFormatAndModifiers) pair_fields d) _ (λ object. steady-after (asked_of d) _ (λ asked. steady-asked field.PixelFormatAndModifiers entries pairs asked))
 
-pub steady-all : (entries : List Entry) (d : Data) → IsSteady (λ lack. asked_pairs lack entries d)
+pub steady-all : (entries : List Entry) (d : Data) → IsSteadyReader (λ lack. asked_pairs lack entries d)
 steady-all entries d =
     steady-then (λ lack. own_pair lack entries d) _ (steady-own entries d) (λ own. steady-optional field.PixelFormatAndModifiers own (λ lack. further_of lack entries own) (λ v.
     steady-after (list_of field.PixelFormatAndModifiers v) _ (λ items. steady-each (λ lack. with_further lack entries) (steady-further entries) items own)) d)
 
-pub steady-entry : (entries : List Entry) (d : Data) → IsSteady (λ lack. with_entry lack entries d)
+pub steady-entry : (entries : List Entry) (d : Data) → IsSteadyReader (λ lack. with_entry lack entries d)
 steady-entry entries d =
     steady-after (entry_object d) _ (λ object.
     steady-then (λ lack. asked_pairs lack entries d) _ (steady-all entries d) (λ pairs.
     steady-after (stated code.NoColourSpaces field.ColorSpaces d >>= colour_set_of) _ (λ colours.
     steady-after (bounds_of d) _ (λ bounds. steady-kept field.ImageFormatConstraints _))))
 
-steady-heaps_permitted : (d : Data) → IsSteady (λ lack. permitted_of lack d)
+steady-heaps_permitted : (d : Data) → IsSteadyReader (λ lack. permitted_of lack d)
 steady-heaps_permitted d = steady-after (list_of field.PermittedHeaps d) _ (λ items. steady-each with_permitted steady-permitted items [])
 
-steady-wishes : (d : Data) → IsSteady (λ lack. memory_of lack d)
+steady-wishes : (d : Data) → IsSteadyReader (λ lack. memory_of lack d)
 steady-wishes d =
     steady-after (object_of (At field.BufferMemoryConstraints) memory_fields d) _ (λ object.
     steady-after (number_or field.MinSizeBytes 0 (2 ^ 64 - 1) d) _ (λ min.
@@ -216,7 +216,7 @@ steady-wishes d =
     steady-after (flag_or field.InaccessibleDomainSupported false d) _ (λ inaccessible.
     steady-then (λ lack. optional field.PermittedHeaps [] (permitted_of lack) d) _ (steady-optional field.PermittedHeaps [] permitted_of steady-heaps_permitted d) (λ heaps. steady-plain _)))))))))
 
-pub steady-memory : (d : Data) → IsSteady (λ lack. optional field.BufferMemoryConstraints no_wishes (memory_of lack) d)
+pub steady-memory : (d : Data) → IsSteadyReader (λ lack. optional field.BufferMemoryConstraints no_wishes (memory_of lack) d)
 steady-memory d = steady-optional field.BufferMemoryConstraints no_wishes memory_of steady-wishes d
 
 -- a heap's later fields
@@ -278,7 +278,7 @@ later-colours d heaps pairs fault has rest =
 
 -- the answer of the last step is that of the steps
 pub reads-then : {A B : Type 0} (first : Option Field → Result A Fault) (next : A → Option Field → Result B Fault) (a : A) (r : Result B Fault)
-    → IsSteady first → first None ≡ Ok a → Reads (next a) r → Reads (λ lack. first lack >>= λ a. next a lack) r
+    → IsSteadyReader first → first None ≡ Ok a → Reads (next a) r → Reads (λ lack. first lack >>= λ a. next a lack) r
 reads-then first next a (Ok b) one is after = rw is after
 reads-then first next a (Err fault) one is after = later first (λ a. next a (lack_of fault)) a fault one is after
 

@@ -6,6 +6,7 @@ use Rattle.sysmem_counts.specs.declared.usage.Usage.{Usage}
 use Rattle.sysmem_counts.specs.Usage.{usage_bits}
 use Rattle.sysmem_formats.specs.declared.offer.Pair.{Pair}
 use Rattle.sysmem_formats.specs.Layout.{IsTiledMisfit}
+use Rattle.sysmem_image.specs.Size.{most_multiple}
 use Rattle.sysmem_image.specs.declared.entry.Entry.{Entry}
 use Rattle.sysmem_image.specs.declared.size.Size.{Size}
 use Rattle.sysmem_image.specs.Colours.{no_colours}
@@ -25,10 +26,6 @@ pub record IsUsage (usage : Usage) : Type 0 where
   pub families : usage_bits usage < 2 ^ 5
   pub some : usage_bits usage ≢ 0
   pub none_alone : bit_and (usage_bits usage) 1 ≡ 1 → usage_bits usage ≡ 1
-
--- the greatest alignment or divisor
-abbrev pub most_multiple : ℕ
-most_multiple = 65536
 
 -- neither side is above n
 abbrev pub HasSidesUpTo : ℕ → Size → Type 0

@@ -4,7 +4,7 @@ use Rattle.std.specs.Prelude.{IfSome, IsSome, option_map, option_and_then, IsSom
 use Rattle.std.specs.List.{filter_map, cons_option}
 use Rattle.std.proofs.lemmas.Option.{same_Some, slice_get_within}
 use Rattle.sysmem_proof.specs.Members.{participants, members_at}
-use Rattle.sysmem_search.specs.Question.{node_asks, nodes_ask}
+use Rattle.sysmem_proof.specs.Asked.{asks_at, asked_in}
 use Rattle.sysmem_search.proofs.Shapes.{member_asks, prefix_of_numbers, same_settled, same_choices, few_choices}
 use Rattle.sysmem_tree.specs.Domain.{HasDomain}
 use Rattle.sysmem_tree.specs.Path.{path_of}
@@ -32,11 +32,11 @@ taken_mapped f [] = refl
 taken_mapped f (x ∷ xs) = ap (cons_option (f x)) (taken_mapped f xs)
 
 -- what the accepted ask, by their numbers
-pub accepted_asked : (nodes : List NodeFacts) (ns : List ℕ) → participants (members_at nodes ns) ≡ nodes_ask nodes ns
+pub accepted_asked : (nodes : List NodeFacts) (ns : List ℕ) → participants (members_at nodes ns) ≡ asked_in nodes ns
 accepted_asked nodes [] = refl
 accepted_asked nodes (n ∷ ns) = by (slice_get nodes n) (accepted_asked nodes ns) where
-  by : (o : Option NodeFacts) → participants (members_at nodes ns) ≡ nodes_ask nodes ns
-      → participants (cons_option (option_map (by_path n (path_of nodes n)) o) (members_at nodes ns)) ≡ cons_option (option_and_then (λ (x : NodeFacts). x.constraints) o) (nodes_ask nodes ns)
+  by : (o : Option NodeFacts) → participants (members_at nodes ns) ≡ asked_in nodes ns
+      → participants (cons_option (option_map (by_path n (path_of nodes n)) o) (members_at nodes ns)) ≡ cons_option (option_and_then (λ (x : NodeFacts). x.constraints) o) (asked_in nodes ns)
   by None h = h
   by (Some x) h = ap (cons_option x.constraints) h
 
@@ -66,5 +66,5 @@ module _ (nodes : List NodeFacts) (r : ℕ) (cs : List ℕ) (tree : IsTree nodes
 
 -- what is settled asks the same by numbers and by the shape
 pub same_asked : (nodes : List NodeFacts) (r : ℕ) (cs : List ℕ) (e : Forest ℕ) (d : Forest Member) → after (forest_of by_number nodes r []) cs ≡ Some e → after (shape_of nodes r) cs ≡ Some d
-    → nodes_ask nodes (settled e) ≡ participants (settled d)
-same_asked nodes r cs e d one two = taken_mapped (node_asks nodes) (settled e) ∙ (ap (filter_map (λ o. o)) (same_settled nodes r cs e d one two) ∙ sym (taken_mapped member_asks (settled d)))
+    → asked_in nodes (settled e) ≡ participants (settled d)
+same_asked nodes r cs e d one two = taken_mapped (asks_at nodes) (settled e) ∙ (ap (filter_map (λ o. o)) (same_settled nodes r cs e d one two) ∙ sym (taken_mapped member_asks (settled d)))

@@ -15,8 +15,9 @@ use Rattle.sysmem_sanitise.specs.Platform.{PlatformFacts}
 use Rattle.sysmem_search.specs.declared.kept.Part.{Part}
 use Rattle.sysmem_search.specs.declared.levels.Level.{Level}
 use Rattle.sysmem_search.specs.Kept.{IsKeptOf, IsPart, HaveRoom}
-use Rattle.sysmem_search.specs.Question.{Matter, forest, node_asks, nodes_ask}
-use Rattle.sysmem_search.specs.Standing.{IsLevel, AreLevels, AreMade, AreParts, IsSlot, Keeps, numbers}
+use Rattle.sysmem_proof.specs.Matter.{Matter, forest}
+use Rattle.sysmem_proof.specs.Asked.{asks_at, asked_in}
+use Rattle.sysmem_search.specs.Standing.{IsLevel, AreLevels, AreMade, AreParts, IsSlot, StandsAt, numbers}
 use Rattle.sysmem_search.proofs.Keeping.{kept_in_order, have_room}
 use Rattle.sysmem_search.proofs.Orders.{taken_in_order}
 use Rattle.sysmem_search.proofs.AskedMembers.{root_there, numbers_left, same_asked, of_some, some_of, if_some}
@@ -62,7 +63,7 @@ module _ (m : Matter) (layout : Layout) where
   level_here cs levels are = subst (λ xs. IsSomeAnd (slice_get levels (length cs)) (IsLevel m layout xs)) (take_all (length cs) cs (omega arith)) (are (length cs) (omega arith))
 
   -- what is read there is it
-  pub level_at : (parts : List (Option Part)) (levels : List Level) (items cs : List ℕ) (level : Level) → items ≡ cs → Keeps m layout parts levels cs
+  pub level_at : (parts : List (Option Part)) (levels : List Level) (items cs : List ℕ) (level : Level) → items ≡ cs → StandsAt m layout parts levels cs
       → level ≡ get_or levels (length items) level → IsLevel m layout cs level
   level_at parts levels items cs level same keeps is =
       let (l, here, h) = there (IsLevel m layout cs) (slice_get levels (length cs)) (level_here cs levels keeps.fronts) in
@@ -70,7 +71,7 @@ module _ (m : Matter) (layout : Layout) where
       subst (IsLevel m layout cs) (same_Some l level (sym here ∙ at)) h
 
   -- there is such a level
-  pub level_within : (parts : List (Option Part)) (levels : List Level) (items cs : List ℕ) → items ≡ cs → Keeps m layout parts levels cs → length items < length levels
+  pub level_within : (parts : List (Option Part)) (levels : List Level) (items cs : List ℕ) → items ≡ cs → StandsAt m layout parts levels cs → length items < length levels
   level_within parts levels items cs same keeps =
       let (l, here, h) = there (IsLevel m layout cs) (slice_get levels (length cs)) (level_here cs levels keeps.fronts) in
       subst (λ xs. length xs < length levels) (sym same) (slice_get_within levels (length cs) l here)
@@ -80,8 +81,8 @@ module _ (m : Matter) (layout : Layout) where
   kept_at cs level is d leads = subst (λ x. IsKeptOf m.platform m.nodes m.base level.kept (participants (settled x))) (same_Some is.left d (sym is.leads ∙ leads)) is.kept
 
   -- with more parts, and with more levels
-  pub more_kept : (parts parts' : List (Option Part)) (levels levels' : List Level) (items cs : List ℕ) → items ≡ cs → Keeps m layout parts levels cs
-      → AreParts m.platform m.nodes m.base layout parts' → ((k : ℕ) → k ≤ length items → slice_get levels' k ≡ slice_get levels k) → AreMade m.platform m.nodes m.base levels' → Keeps m layout parts' levels' cs
+  pub more_kept : (parts parts' : List (Option Part)) (levels levels' : List Level) (items cs : List ℕ) → items ≡ cs → StandsAt m layout parts levels cs
+      → AreParts m.platform m.nodes m.base layout parts' → ((k : ℕ) → k ≤ length items → slice_get levels' k ≡ slice_get levels k) → AreMade m.platform m.nodes m.base levels' → StandsAt m layout parts' levels' cs
   more_kept parts parts' levels levels' items cs at keeps are same made = record {
     given = keeps.given;
     laid = keeps.laid;
@@ -91,7 +92,7 @@ module _ (m : Matter) (layout : Layout) where
   }
 
   -- without the last choice
-  pub left_keeps : (parts : List (Option Part)) (levels : List Level) (longer cs : List ℕ) (c : ℕ) → longer ≡ cs ++ c ∷ [] → Keeps m layout parts levels longer → Keeps m layout parts levels cs
+  pub left_keeps : (parts : List (Option Part)) (levels : List Level) (longer cs : List ℕ) (c : ℕ) → longer ≡ cs ++ c ∷ [] → StandsAt m layout parts levels longer → StandsAt m layout parts levels cs
   left_keeps parts levels longer cs c is keeps = record {
     given = keeps.given;
     laid = keeps.laid;
@@ -102,10 +103,10 @@ module _ (m : Matter) (layout : Layout) where
   }
 
   -- with one choice more, below whose level nothing changed
-  pub entered_keeps : (parts parts' : List (Option Part)) (levels between levels' : List Level) (cs longer : List ℕ) (c : ℕ) → longer ≡ cs ++ c ∷ [] → Keeps m layout parts levels cs
+  pub entered_keeps : (parts parts' : List (Option Part)) (levels between levels' : List Level) (cs longer : List ℕ) (c : ℕ) → longer ≡ cs ++ c ∷ [] → StandsAt m layout parts levels cs
       → AreParts m.platform m.nodes m.base layout parts' → ((k : ℕ) → k ≤ length cs → slice_get between k ≡ slice_get levels k)
       → AreMade m.platform m.nodes m.base between → ((k : ℕ) → k ≢ length cs + 1 → slice_get levels' k ≡ slice_get between k)
-      → IsSomeAnd (slice_get levels' (length cs + 1)) (IsLevel m layout longer) → Keeps m layout parts' levels' longer
+      → IsSomeAnd (slice_get levels' (length cs + 1)) (IsLevel m layout longer) → StandsAt m layout parts' levels' longer
   entered_keeps parts parts' levels between levels' cs longer c is keeps are kept between_made same last = record {
     given = keeps.given;
     laid = keeps.laid;
@@ -140,19 +141,19 @@ module _ (m : Matter) (layout : Layout) where
       (numbers_left : (e : Forest ℕ) × (after (numbers m) cs ≡ Some e)) where
     -- what one choice more settles asks what was asked before, and what its share asks
     pub settles_more : (d : Forest Member) → after (forest m) (cs ++ c ∷ []) ≡ Some d
-        → IsPermutation (participants (settled is.left) ++ nodes_ask m.nodes (share_of layout at)) (participants (settled d))
+        → IsPermutation (participants (settled is.left) ++ asked_in m.nodes (share_of layout at)) (participants (settled d))
     settles_more d leads =
         let s = law layout (numbers m) cs c at child in
         let (e, here) = numbers_left in
-        let order = taken_in_order (node_asks m.nodes) (settled e ++ share_of layout at) (settled s.left)
+        let order = taken_in_order (asks_at m.nodes) (settled e ++ share_of layout at) (settled s.left)
         (of_some (λ x. IsPermutation (settled x ++ share_of layout at) (settled s.left)) (after (numbers m) cs) e here s.adds) in
-        let before = filter_map-append (node_asks m.nodes) (settled e) (share_of layout at) ∙ ap (λ xs. xs ++ nodes_ask m.nodes (share_of layout at)) (same_asked m.nodes m.domain cs e is.left here is.leads) in
+        let before = filter_map-append (asks_at m.nodes) (settled e) (share_of layout at) ∙ ap (λ xs. xs ++ asked_in m.nodes (share_of layout at)) (same_asked m.nodes m.domain cs e is.left here is.leads) in
         subst (λ xs. IsPermutation xs (participants (settled d))) before
-        (subst (IsPermutation (nodes_ask m.nodes (settled e ++ share_of layout at))) (same_asked m.nodes m.domain (cs ++ c ∷ []) s.left d s.leads leads) order)
+        (subst (IsPermutation (asked_in m.nodes (settled e ++ share_of layout at))) (same_asked m.nodes m.domain (cs ++ c ∷ []) s.left d s.leads leads) order)
 
     -- so the level of one choice more is joined
     pub joined_level : SumsInAnyOrder → (longer : List ℕ) (level : Level) (next : Option ℕ) → longer ≡ cs ++ c ∷ [] → IsPrefix (forest m) (cs ++ c ∷ [])
-        → (level.group ≡ next) × IsKeptOf m.platform m.nodes m.base level.kept (participants (settled is.left) ++ nodes_ask m.nodes (share_of layout at))
+        → (level.group ≡ next) × IsKeptOf m.platform m.nodes m.base level.kept (participants (settled is.left) ++ asked_in m.nodes (share_of layout at))
         → IsFirstOpen layout (numbers m) (cs ++ c ∷ []) next → IsLevel m layout longer level
     joined_level sums longer level next long prefix made open' =
         let (d, leads) = some_of (after (forest m) (cs ++ c ∷ [])) prefix in
@@ -180,11 +181,11 @@ some_weaker P Q None h p = absurd p
 some_weaker P Q (Some x) h p = h x p
 
 module _ (m : Matter) (layout : Layout) (parts parts' : List (Option Part)) (levels between levels' : List Level) (cs longer : List ℕ) (c at slot : ℕ) (part : Part) (next : Option ℕ) where
-  entered_at : longer ≡ cs ++ c ∷ [] → Keeps m layout parts levels cs → AreParts m.platform m.nodes m.base layout parts'
+  entered_at : longer ≡ cs ++ c ∷ [] → StandsAt m layout parts levels cs → AreParts m.platform m.nodes m.base layout parts'
       → ((k : ℕ) → k ≤ length cs → slice_get between k ≡ slice_get levels k) → AreMade m.platform m.nodes m.base between → length cs + 1 < length between
       → ((k : ℕ) → k ≢ length cs + 1 → slice_get levels' k ≡ slice_get between k) → IsJoined m.platform between levels' (length cs) part next → IsSlot at slot
       → slice_get parts' slot ≡ Some (Some part) → SumsInAnyOrder → ChoiceSettlesShare → IsChildPlace layout (numbers m) cs c at → (e : Forest ℕ) × (after (numbers m) cs ≡ Some e) → IsPrefix (forest m) (cs ++ c ∷ [])
-      → IsFirstOpen layout (numbers m) (cs ++ c ∷ []) next → Keeps m layout parts' levels' longer
+      → IsFirstOpen layout (numbers m) (cs ++ c ∷ []) next → StandsAt m layout parts' levels' longer
   entered_at long keeps are kept made room others joined own here sums law child numbers_here prefix open' =
       let (above, is, level) = there (IsLevel m layout cs) (slice_get levels (length cs)) (level_here m layout cs levels keeps.fronts) in
       let (old, old_is) = at_length between (length cs + 1) room in
@@ -192,14 +193,14 @@ module _ (m : Matter) (layout : Layout) (parts parts' : List (Option Part)) (lev
       entered_keeps m layout parts parts' levels between levels' cs longer c long keeps are kept made others
       (some_weaker _ (IsLevel m layout longer) (slice_get levels' (length cs + 1))
       (λ l h. joined_level m layout cs c at above level law child numbers_here sums longer l next long prefix h open')
-      (joined m.nodes m.base (participants (settled level.left)) (nodes_ask m.nodes (share_of layout at)) above old (kept (length cs) (omega arith) ∙ is) old_is level.kept (are at slot part own here) ps old_kept))
+      (joined m.nodes m.base (participants (settled level.left)) (asked_in m.nodes (share_of layout at)) above old (kept (length cs) (omega arith) ∙ is) old_is level.kept (are at slot part own here) ps old_kept))
 
   -- where a search stands after one choice more
-  pub entered : (items : List ℕ) → items ≡ cs → longer ≡ cs ++ c ∷ [] → Keeps m layout parts levels cs → AreParts m.platform m.nodes m.base layout parts'
+  pub entered : (items : List ℕ) → items ≡ cs → longer ≡ cs ++ c ∷ [] → StandsAt m layout parts levels cs → AreParts m.platform m.nodes m.base layout parts'
       → ((k : ℕ) → k ≤ length items → slice_get between k ≡ slice_get levels k) → AreMade m.platform m.nodes m.base between → length items + 1 < length between
       → ((k : ℕ) → k ≢ length items + 1 → slice_get levels' k ≡ slice_get between k) → IsJoined m.platform between levels' (length items) part next → IsSlot at slot
       → slice_get parts' slot ≡ Some (Some part) → SumsInAnyOrder → ChoiceSettlesShare → IsChildPlace layout (numbers m) cs c at → (e : Forest ℕ) × (after (numbers m) cs ≡ Some e) → IsPrefix (forest m) (cs ++ c ∷ [])
-      → IsFirstOpen layout (numbers m) (cs ++ c ∷ []) next → Keeps m layout parts' levels' longer
+      → IsFirstOpen layout (numbers m) (cs ++ c ∷ []) next → StandsAt m layout parts' levels' longer
   entered items same long keeps are kept made room others joined = entered_at long keeps are
       (subst (λ xs. (k : ℕ) → k ≤ length xs → slice_get between k ≡ slice_get levels k) same kept) made (subst (λ xs. length xs + 1 < length between) same room)
       (subst (λ xs. (k : ℕ) → k ≢ length xs + 1 → slice_get levels' k ≡ slice_get between k) same others) (subst (λ xs. IsJoined m.platform between levels' (length xs) part next) same joined)
@@ -224,13 +225,13 @@ some_there (Some x) b is yes' = (x, refl)
 
 -- a part that is kept now, beside those of before
 pub part_kept : (platform : PlatformFacts) (nodes : List NodeFacts) (base : Option BaseFacts) (layout : Layout) (parts : List (Option Part)) (place slot : ℕ) (part : Part) → IsSlot place slot
-    → IsPart platform base part (nodes_ask nodes (share_of layout place)) → AreParts platform nodes base layout parts → AreParts platform nodes base layout (slice_set parts slot (Some part))
+    → IsPart platform base part (asked_in nodes (share_of layout place)) → AreParts platform nodes base layout parts → AreParts platform nodes base layout (slice_set parts slot (Some part))
 part_kept platform nodes base layout parts place slot part own is are at s other here there' = elim (cases_eq s slot) [
   | inl equal ↦
       let same = slice_get-set_same parts slot (Some part) (Some other) (within parts slot s other equal there') (ap (slice_get (slice_set parts slot (Some part))) (sym equal) ∙ there') in
       let places : place ≡ at = omega (arith, own, here, equal) in
-      subst (λ k. IsPart platform base other (nodes_ask nodes (share_of layout k))) places
-      (subst (λ p. IsPart platform base p (nodes_ask nodes (share_of layout place))) (same_Some part other same) is)
+      subst (λ k. IsPart platform base other (asked_in nodes (share_of layout k))) places
+      (subst (λ p. IsPart platform base p (asked_in nodes (share_of layout place))) (same_Some part other same) is)
   | inr elsewhere ↦ are at s other here (slice_get-set_other parts slot s (Some part) (Some other) elsewhere there')
 ] where
   within : (parts : List (Option Part)) (slot s : ℕ) (other : Part) → s ≡ slot → slice_get (slice_set parts slot (Some part)) s ≡ Some (Some other) → slot < length parts
@@ -279,15 +280,15 @@ share_few layout d cs c at law child here few =
 
 -- where a search stands, a choice's participants fit beside those of before
 pub room_for : (m : Matter) (layout : Layout) (parts : List (Option Part)) (levels between : List Level) (items cs : List ℕ) (above : Level) (part : Part) (share : List ℕ) → items ≡ cs
-    → Keeps m layout parts levels cs → ((k : ℕ) → k ≤ length items → slice_get between k ≡ slice_get levels k) → slice_get between (length items) ≡ Some above
-    → IsPart m.platform m.base part (nodes_ask m.nodes share) → length share ≤ 128 → IsTree m.nodes → HasDomain m.nodes m.domain → HaveRoom above.kept part
+    → StandsAt m layout parts levels cs → ((k : ℕ) → k ≤ length items → slice_get between k ≡ slice_get levels k) → slice_get between (length items) ≡ Some above
+    → IsPart m.platform m.base part (asked_in m.nodes share) → length share ≤ 128 → IsTree m.nodes → HasDomain m.nodes m.domain → HaveRoom above.kept part
 room_for m layout parts levels between items cs above part share same keeps kept is part_is few tree domain =
     let (l, here, level) = there (IsLevel m layout cs) (slice_get levels (length cs)) (level_here m layout cs levels keeps.fronts) in
     let is_above : l ≡ above = same_Some l above (sym here ∙ subst (λ xs. slice_get levels (length xs) ≡ Some above) same (sym (kept (length items) (omega arith)) ∙ is)) in
     let root = root_there m.nodes m.domain domain in
     let (e, leads) = numbers_left m.nodes m.domain cs tree root (ap is_some level.leads) in
     let long = ap length (same_asked m.nodes m.domain cs e level.left leads level.leads) in
-    have_room m.platform m.nodes m.base above.kept part (participants (settled level.left)) (nodes_ask m.nodes share)
+    have_room m.platform m.nodes m.base above.kept part (participants (settled level.left)) (asked_in m.nodes share)
     (subst (λ x. IsKeptOf m.platform m.nodes m.base x.kept (participants (settled level.left))) is_above level.kept) part_is
     (few_accepted m.platform m.nodes m.domain m.base tree.few keeps.given)
     (omega (arith, long, few_asked_of m.nodes (settled e), few_settled m.nodes m.domain cs e tree root leads))

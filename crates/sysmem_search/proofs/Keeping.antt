@@ -27,7 +27,7 @@ use Rattle.sysmem_search.specs.declared.kept.Part.{Part}
 use Rattle.sysmem_search.specs.declared.kept.Part.TheVariants as part_as
 use Rattle.sysmem_search.specs.declared.on_base.OnBase.{OnBase}
 use Rattle.sysmem_search.specs.Kept.{TakesBase, IsKeptOf, IsPart, HasRoom, HaveRoom}
-use Rattle.sysmem_search.specs.Question.{nodes_ask}
+use Rattle.sysmem_proof.specs.Asked.{asked_in}
 use Rattle.sysmem_search.proofs.Shapes.{member_asks}
 use Rattle.sysmem_search.proofs.AskedMembers.{accepted_asked}
 use Rattle.sysmem_search.proofs.Taking.{few_asked_of}
@@ -45,12 +45,12 @@ taken_part platform base b settings kept ps some is h = subst (λ o. IsPart plat
 
 -- settings that the participants take behind those accepted before are settings that meet the members
 pub fixed_met : (platform : PlatformFacts) (nodes : List NodeFacts) (b : BaseFacts) (ms : List Member) (met : Bool)
-    → IsTrue met ↔ (All (CoversOn platform b.settings) (participants ms) × IsCounted (counts_asked (nodes_ask nodes b.accepted) ++ counts_asked (participants ms)) b.settings.count)
+    → IsTrue met ↔ (All (CoversOn platform b.settings) (participants ms) × IsCounted (counts_asked (asked_in nodes b.accepted) ++ counts_asked (participants ms)) b.settings.count)
     → IsTrue met ↔ MeetsFixed platform (terms_of nodes b) ms b.settings
 fixed_met platform nodes b ms met h =
-    let same : counts_asked (participants (members_at nodes b.accepted ++ ms)) ≡ counts_asked (nodes_ask nodes b.accepted) ++ counts_asked (participants ms) =
+    let same : counts_asked (participants (members_at nodes b.accepted ++ ms)) ≡ counts_asked (asked_in nodes b.accepted) ++ counts_asked (participants ms) =
     ap counts_asked (filter_map-append member_asks (members_at nodes b.accepted) ms ∙ ap (λ xs. xs ++ participants ms) (accepted_asked nodes b.accepted))
-    ∙ map-append (λ p. p.counts) (nodes_ask nodes b.accepted) (participants ms) in (
+    ∙ map-append (λ p. p.counts) (asked_in nodes b.accepted) (participants ms) in (
       λ is. record { same = refl; covers = (h.0 is).0; counted = subst (λ xs. IsCounted xs b.settings.count) (sym same) (h.0 is).1 },
       λ m. h.1 (m.covers, subst (λ xs. IsCounted xs b.settings.count) same m.counted),
     )
@@ -64,7 +64,7 @@ module _ (platform : PlatformFacts) (nodes : List NodeFacts) (base : Option Base
   module _ (b : BaseFacts) (some : base ≡ Some b) (settings : Settings) (is : settings ≡ b.settings) (kept : OnBase) (met : Bool) (suits : Suits platform settings kept met)
       (keeps : IsKeptOf platform nodes base (kept_as.OnBase kept) (participants ms)) where
     test : IsTrue met ↔ MeetsFixed platform (terms_of nodes b) ms b.settings
-    test = fixed_met platform nodes b ms met (subst (λ s. Suits platform s kept met) is suits platform (nodes_ask nodes b.accepted) (participants ms)
+    test = fixed_met platform nodes b ms met (subst (λ s. Suits platform s kept met) is suits platform (asked_in nodes b.accepted) (participants ms)
         (subst (λ o. IsKeptOf platform nodes o (kept_as.OnBase kept) (participants ms)) some keeps))
 
     pub base_met : IsTrue met ↔ ((t : Settings) × MeetsLooselyFor platform (option_map (terms_of nodes) base) ms t)
@@ -98,7 +98,7 @@ pub joined_base : (above more joined : OnBase) → ((platform : PlatformFacts) (
     → TakesBase platform settings [] more qs → TakesBase platform settings earlier joined (ps ++ qs)) → (platform : PlatformFacts) (nodes : List NodeFacts) (base : Option BaseFacts) (ps qs : List Participant)
     → IsKeptOf platform nodes base (kept_as.OnBase above) ps → IsPart platform base (part_as.OnBase more) qs → IsKeptOf platform nodes base (kept_as.OnBase joined) (ps ++ qs)
 joined_base above more joined join platform nodes None ps qs keeps is = absurd keeps
-joined_base above more joined join platform nodes (Some b) ps qs keeps is = join platform b.settings (nodes_ask nodes b.accepted) ps qs keeps is
+joined_base above more joined join platform nodes (Some b) ps qs keeps is = join platform b.settings (asked_in nodes b.accepted) ps qs keeps is
 
 -- a part of at most 128 participants takes one more
 pub has_room : (platform : PlatformFacts) (base : Option BaseFacts) (part : Part) (ps : List Participant) → IsPart platform base part ps → length ps ≤ 128 → HasRoom part
@@ -127,13 +127,13 @@ kept_in_order law platform nodes None (kept_as.Sum s) ps qs order keeps = law s 
 kept_in_order law platform nodes None (kept_as.OnBase s) ps qs order keeps = absurd keeps
 kept_in_order law platform nodes (Some base) (kept_as.Sum s) ps qs order keeps = absurd keeps
 kept_in_order law platform nodes (Some base) (kept_as.OnBase s) ps qs order keeps =
-    let earlier = counts_asked (nodes_ask nodes base.accepted) in
+    let earlier = counts_asked (asked_in nodes base.accepted) in
     let mixed = IsPermutation-append_right earlier (counts_asked ps) (counts_asked qs) (IsPermutation-map (λ (p : Participant). p.counts) ps qs order) in record {
       counts = record {
         tallied = keeps.counts.tallied ∙ tally_in_order (earlier ++ counts_asked ps) (earlier ++ counts_asked qs) mixed;
         fits = All-permutation (λ (q : CountConstraints). q.max_buffer_count < 2 ^ 32) (earlier ++ counts_asked ps) (earlier ++ counts_asked qs) mixed keeps.counts.fits;
       };
-      small = subst (λ n. sum_of s.counts ≤ (length (nodes_ask nodes base.accepted) + n) * 2 ^ 33) (sym (length_permutation ps qs order)) keeps.small;
+      small = subst (λ n. sum_of s.counts ≤ (length (asked_in nodes base.accepted) + n) * 2 ^ 33) (sym (length_permutation ps qs order)) keeps.small;
       accept = (
         λ is. All-permutation (CoversOn platform base.settings) ps qs order (keeps.accept.0 is),
         λ all. keeps.accept.1 (All-permutation (CoversOn platform base.settings) qs ps (IsPermutation-sym ps qs order) all),

@@ -4,7 +4,7 @@ use Rattle.std.specs.Prelude.{IsSome, option_map, option_and_then}
 use Rattle.std.proofs.lemmas.List.{length-drop, length-map}
 use Rattle.std.proofs.lemmas.Option.{same_Some, option_and_then_some}
 use Rattle.sysmem_sanitise.specs.Participant.{Participant}
-use Rattle.sysmem_search.specs.Question.{node_asks}
+use Rattle.sysmem_proof.specs.Asked.{asks_at}
 use Rattle.sysmem_tree.specs.declared.state.NodeKind.{NodeKind}
 use Rattle.sysmem_tree.specs.declared.state.NodeKind.TheVariants as kinds
 use Rattle.sysmem_tree.specs.Forest.{Forest, Empty, Plain, Group, each, kids_else_rest, choices, settled, relabel, count, count_each, first_group}
@@ -30,23 +30,23 @@ at_front (n ∷ nodes) (suc s) x xs is =
 
 -- by what is asked, the numbers and the shape are one forest
 module _ (nodes : List NodeFacts) where
-  same_tree : (k : NodeKind) (i : ℕ) (m : Member) (a b : Forest ℕ) (c d : Forest Member) → node_asks nodes i ≡ member_asks m → relabel (node_asks nodes) a ≡ relabel member_asks c
-      → relabel (node_asks nodes) b ≡ relabel member_asks d → relabel (node_asks nodes) (tree_of k i a b) ≡ relabel member_asks (tree_of k m c d)
-  same_tree kinds.Token i m a b c d l k r = ap (λ x. Plain x (relabel (node_asks nodes) a) (relabel (node_asks nodes) b)) l
-      ∙ (ap (λ x. Plain (member_asks m) x (relabel (node_asks nodes) b)) k ∙ ap (λ x. Plain (member_asks m) (relabel member_asks c) x) r)
-  same_tree kinds.Group i m a b c d l k r = ap (λ x. Group x (relabel (node_asks nodes) a) (relabel (node_asks nodes) b)) l
-      ∙ (ap (λ x. Group (member_asks m) x (relabel (node_asks nodes) b)) k ∙ ap (λ x. Group (member_asks m) (relabel member_asks c) x) r)
-  same_tree kinds.Collection i m a b c d l k r = ap (λ x. Plain x (relabel (node_asks nodes) a) (relabel (node_asks nodes) b)) l
-      ∙ (ap (λ x. Plain (member_asks m) x (relabel (node_asks nodes) b)) k ∙ ap (λ x. Plain (member_asks m) (relabel member_asks c) x) r)
+  same_tree : (k : NodeKind) (i : ℕ) (m : Member) (a b : Forest ℕ) (c d : Forest Member) → asks_at nodes i ≡ member_asks m → relabel (asks_at nodes) a ≡ relabel member_asks c
+      → relabel (asks_at nodes) b ≡ relabel member_asks d → relabel (asks_at nodes) (tree_of k i a b) ≡ relabel member_asks (tree_of k m c d)
+  same_tree kinds.Token i m a b c d l k r = ap (λ x. Plain x (relabel (asks_at nodes) a) (relabel (asks_at nodes) b)) l
+      ∙ (ap (λ x. Plain (member_asks m) x (relabel (asks_at nodes) b)) k ∙ ap (λ x. Plain (member_asks m) (relabel member_asks c) x) r)
+  same_tree kinds.Group i m a b c d l k r = ap (λ x. Group x (relabel (asks_at nodes) a) (relabel (asks_at nodes) b)) l
+      ∙ (ap (λ x. Group (member_asks m) x (relabel (asks_at nodes) b)) k ∙ ap (λ x. Group (member_asks m) (relabel member_asks c) x) r)
+  same_tree kinds.Collection i m a b c d l k r = ap (λ x. Plain x (relabel (asks_at nodes) a) (relabel (asks_at nodes) b)) l
+      ∙ (ap (λ x. Plain (member_asks m) x (relabel (asks_at nodes) b)) k ∙ ap (λ x. Plain (member_asks m) (relabel member_asks c) x) r)
 
   same_before : (u : Option ℕ) (f : ℕ → Forest ℕ → Forest ℕ) (g : ℕ → Forest Member → Forest Member) (a : Forest ℕ) (b : Forest Member)
-      → relabel (node_asks nodes) a ≡ relabel member_asks b → ((o : ℕ) → relabel (node_asks nodes) (f o a) ≡ relabel member_asks (g o b))
-      → relabel (node_asks nodes) (before u f a) ≡ relabel member_asks (before u g b)
+      → relabel (asks_at nodes) a ≡ relabel member_asks b → ((o : ℕ) → relabel (asks_at nodes) (f o a) ≡ relabel member_asks (g o b))
+      → relabel (asks_at nodes) (before u f a) ≡ relabel member_asks (before u g b)
   same_before None f g a b rest one = rest
   same_before (Some o) f g a b rest one = one o
 
   same_kids : (xs : List NodeFacts) (domain s p : ℕ) (q r : List ℕ) → xs ≡ drop s nodes
-      → relabel (node_asks nodes) (kids_from by_number domain s xs p q) ≡ relabel member_asks (kids_from by_path domain s xs p r)
+      → relabel (asks_at nodes) (kids_from by_number domain s xs p q) ≡ relabel member_asks (kids_from by_path domain s xs p r)
   same_kids [] domain s p q r is = refl
   same_kids (x ∷ xs) domain s p q r is =
       let (here, rest) = at_front nodes s x xs is in
@@ -61,33 +61,33 @@ module _ (nodes : List NodeFacts) where
       (same_kids xs domain (s + 1) s (q ++ o ∷ []) (r ++ o ∷ []) rest) behind)
 
   same_rooted : (r : ℕ) (path : List ℕ) (o : Option NodeFacts) → slice_get nodes r ≡ o
-      → relabel (node_asks nodes) (rooted by_number nodes r [] o) ≡ relabel member_asks (rooted by_path nodes r path o)
+      → relabel (asks_at nodes) (rooted by_number nodes r [] o) ≡ relabel member_asks (rooted by_path nodes r path o)
   same_rooted r path None is = refl
   same_rooted r path (Some n) is = same_tree n.state.kind r (by_path r path n) _ _ _ _ (ap (option_and_then (λ (x : NodeFacts). x.constraints)) is) (same_kids nodes r 0 r [] path refl) refl
 
-  one_asked : (r : ℕ) → relabel (node_asks nodes) (forest_of by_number nodes r []) ≡ relabel member_asks (shape_of nodes r)
+  one_asked : (r : ℕ) → relabel (asks_at nodes) (forest_of by_number nodes r []) ≡ relabel member_asks (shape_of nodes r)
   one_asked r = same_rooted r (path_of nodes r) (slice_get nodes r) refl
 
-  both_after : (r : ℕ) (cs : List ℕ) → option_map (relabel (node_asks nodes)) (after (forest_of by_number nodes r []) cs) ≡ option_map (relabel member_asks) (after (shape_of nodes r) cs)
-  both_after r cs = sym (after_relabel (node_asks nodes) cs (forest_of by_number nodes r [])) ∙ (ap (λ d. after d cs) (one_asked r) ∙ after_relabel member_asks cs (shape_of nodes r))
+  both_after : (r : ℕ) (cs : List ℕ) → option_map (relabel (asks_at nodes)) (after (forest_of by_number nodes r []) cs) ≡ option_map (relabel member_asks) (after (shape_of nodes r) cs)
+  both_after r cs = sym (after_relabel (asks_at nodes) cs (forest_of by_number nodes r [])) ∙ (ap (λ d. after d cs) (one_asked r) ∙ after_relabel member_asks cs (shape_of nodes r))
 
   -- choices for a domain's shape are choices for its numbers
   pub prefix_of_numbers : (r : ℕ) (cs : List ℕ) → IsPrefix (shape_of nodes r) cs → IsPrefix (forest_of by_number nodes r []) cs
   prefix_of_numbers r cs h = by (after (forest_of by_number nodes r []) cs) (after (shape_of nodes r) cs) (both_after r cs) h where
-    by : (o : Option (Forest ℕ)) (u : Option (Forest Member)) → option_map (relabel (node_asks nodes)) o ≡ option_map (relabel member_asks) u → IsSome u → IsSome o
+    by : (o : Option (Forest ℕ)) (u : Option (Forest Member)) → option_map (relabel (asks_at nodes)) o ≡ option_map (relabel member_asks) u → IsSome u → IsSome o
     by None None e h = h
     by None (Some d) e h = absurd (cc)
     by (Some x) u e h = refl
 
   same_left : (r : ℕ) (cs : List ℕ) (e : Forest ℕ) (d : Forest Member) → after (forest_of by_number nodes r []) cs ≡ Some e → after (shape_of nodes r) cs ≡ Some d
-      → relabel (node_asks nodes) e ≡ relabel member_asks d
-  same_left r cs e d one two = same_Some (relabel (node_asks nodes) e) (relabel member_asks d)
-      (sym (ap (option_map (relabel (node_asks nodes))) one) ∙ (both_after r cs ∙ ap (option_map (relabel member_asks)) two))
+      → relabel (asks_at nodes) e ≡ relabel member_asks d
+  same_left r cs e d one two = same_Some (relabel (asks_at nodes) e) (relabel member_asks d)
+      (sym (ap (option_map (relabel (asks_at nodes))) one) ∙ (both_after r cs ∙ ap (option_map (relabel member_asks)) two))
 
   -- what is settled asks the same, in the same order
   pub same_settled : (r : ℕ) (cs : List ℕ) (e : Forest ℕ) (d : Forest Member) → after (forest_of by_number nodes r []) cs ≡ Some e → after (shape_of nodes r) cs ≡ Some d
-      → map (node_asks nodes) (settled e) ≡ map member_asks (settled d)
-  same_settled r cs e d one two = sym (settled_relabel (node_asks nodes) e) ∙ (ap settled (same_left r cs e d one two) ∙ settled_relabel member_asks d)
+      → map (asks_at nodes) (settled e) ≡ map member_asks (settled d)
+  same_settled r cs e d one two = sym (settled_relabel (asks_at nodes) e) ∙ (ap settled (same_left r cs e d one two) ∙ settled_relabel member_asks d)
 
   long_mapped : {A B : Type 0} (f : A → B) (o : Option (List A)) → option_map length (option_map (map f) o) ≡ option_map length o
   long_mapped f None = refl
@@ -98,8 +98,8 @@ module _ (nodes : List NodeFacts) where
       → option_map length (choices d) ≡ option_map (λ (g : ℕ × ℕ). g.1) (first_group e)
   same_choices r cs e d one two =
       sym (long_mapped (relabel member_asks) (choices d))
-      ∙ (ap (option_map length) (sym (choices_relabel member_asks d) ∙ (ap choices (sym (same_left r cs e d one two)) ∙ choices_relabel (node_asks nodes) e))
-      ∙ (long_mapped (relabel (node_asks nodes)) (choices e) ∙ first_many e))
+      ∙ (ap (option_map length) (sym (choices_relabel member_asks d) ∙ (ap choices (sym (same_left r cs e d one two)) ∙ choices_relabel (asks_at nodes) e))
+      ∙ (long_mapped (relabel (asks_at nodes)) (choices e) ∙ first_many e))
 
 -- how many groups a forest has
 abbrev groups : {A : Type 0} → Forest A → ℕ
@@ -242,4 +242,4 @@ count_relabel f (Group n kids rest) =
 
 -- a domain has as many selections by numbers as by its shape
 pub same_count : (nodes : List NodeFacts) (r : ℕ) → count (forest_of by_number nodes r []) ≡ count (shape_of nodes r)
-same_count nodes r = sym (count_relabel (node_asks nodes) (forest_of by_number nodes r [])).0 ∙ (ap count (one_asked nodes r) ∙ (count_relabel member_asks (shape_of nodes r)).0)
+same_count nodes r = sym (count_relabel (asks_at nodes) (forest_of by_number nodes r [])).0 ∙ (ap count (one_asked nodes r) ∙ (count_relabel member_asks (shape_of nodes r)).0)

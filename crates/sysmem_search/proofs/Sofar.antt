@@ -4,7 +4,7 @@ use Rattle.std.specs.Prelude.{IsSomeAnd, option_and_then}
 use Rattle.std.proofs.lemmas.Bool.{cases_eq}
 use Rattle.std.proofs.lemmas.Option.{same_Some, slice_get_within}
 use Rattle.sysmem_merge.specs.declared.settings.Settings.{Settings}
-use Rattle.sysmem_proof.specs.Verdict.{Meeting, IsUnmet}
+use Rattle.sysmem_proof.specs.Verdict.{Meeting, IsForestUnmet}
 use Rattle.sysmem_proof.proofs.CallerLemmas.{AreUnmet, no_choice_unmet, next_choice_unmet, split_unmet, chosen_below}
 use Rattle.sysmem_search.specs.Live.{SomeMeet, choose, IsLive, IsNotLater, IsLiveUpTo}
 use Rattle.sysmem_search.specs.Searching.{NothingFound, FirstFound}
@@ -67,7 +67,7 @@ module _ (Met Best Loosely : Meeting) (d : Forest Member) (es : List (Forest Mem
 
   -- one choice more that can't be met
   pub one_more : (e : Forest Member) (c from between to : ℕ) → SomeMeet Loosely d → slice_get es c ≡ Some e → Sofar Met Loosely d es c from between
-      → IsUnmet Met e → IsRaised (IsLive Loosely e) between to → Sofar Met Loosely d es (c + 1) from to
+      → IsForestUnmet Met e → IsRaised (IsLive Loosely e) between to → Sofar Met Loosely d es (c + 1) from to
   one_more e c from between to met is so unmet visited = record {
     unmet = next_choice_unmet Met es c e so.unmet is unmet;
     visited = raised_more (IsBefore Loosely d c) (IsLive Loosely e) (IsBefore Loosely d (c + 1)) c from between to first second (off c) split so.visited visited;

@@ -8,11 +8,11 @@ use Rattle.list_lemmas.proofs.CallerLemmas.{slice_get_some}
 use Rattle.sysmem_counts.specs.declared.constraints.CountConstraints.{CountConstraints}
 use Rattle.sysmem_merge.specs.Demands.{counts_asked}
 use Rattle.sysmem_sanitise.specs.Participant.{Participant}
-use Rattle.sysmem_search.specs.Question.{node_asks, nodes_ask}
+use Rattle.sysmem_proof.specs.Asked.{asks_at, asked_in}
 use Rattle.sysmem_tree.specs.Node.{NodeFacts}
 
 -- what a node that is there was told to ask
-pub told : (nodes : List NodeFacts) (n : ℕ) (o : Option Participant) → n < length nodes → IfSome (slice_get nodes n) (λ x. o ≡ x.constraints) → o ≡ node_asks nodes n
+pub told : (nodes : List NodeFacts) (n : ℕ) (o : Option Participant) → n < length nodes → IfSome (slice_get nodes n) (λ x. o ≡ x.constraints) → o ≡ asks_at nodes n
 told nodes n o there is = by (slice_get nodes n) (slice_get_some nodes n there).1 is where
   by : (u : Option NodeFacts) → u ≡ Some (slice_get_some nodes n there).0 → IfSome u (λ x. o ≡ x.constraints) → o ≡ option_and_then (λ (x : NodeFacts). x.constraints) u
   by None e is = absurd (cc)
@@ -20,14 +20,14 @@ told nodes n o there is = by (slice_get nodes n) (slice_get_some nodes n there).
 
 -- one node more
 pub asked_more : (nodes : List NodeFacts) (ns : List ℕ) (k n : ℕ) (o : Option Participant) → k < length ns → All (λ i. i < length nodes) ns → n ≡ get_or ns k n
-    → IfSome (slice_get nodes n) (λ x. o ≡ x.constraints) → nodes_ask nodes (take (k + 1) ns) ≡ nodes_ask nodes (take k ns) ++ cons_option o []
+    → IfSome (slice_get nodes n) (λ x. o ≡ x.constraints) → asked_in nodes (take (k + 1) ns) ≡ asked_in nodes (take k ns) ++ cons_option o []
 asked_more nodes ns k n o less there at is =
-    ap (nodes_ask nodes) (take_more ns k n less ∙ ap (λ x. take k ns ++ x ∷ []) (sym at))
-    ∙ (filter_map-append (node_asks nodes) (take k ns) (n ∷ [])
-    ∙ ap (λ u. nodes_ask nodes (take k ns) ++ cons_option u []) (sym (told nodes n o (subst (λ x. x < length nodes) (sym at) (there k n less)) is)))
+    ap (asked_in nodes) (take_more ns k n less ∙ ap (λ x. take k ns ++ x ∷ []) (sym at))
+    ∙ (filter_map-append (asks_at nodes) (take k ns) (n ∷ [])
+    ∙ ap (λ u. asked_in nodes (take k ns) ++ cons_option u []) (sym (told nodes n o (subst (λ x. x < length nodes) (sym at) (there k n less)) is)))
 
-pub asked_whole : (nodes : List NodeFacts) (ns : List ℕ) (k : ℕ) → length ns ≤ k → nodes_ask nodes (take k ns) ≡ nodes_ask nodes ns
-asked_whole nodes ns k over = ap (nodes_ask nodes) (take_all k ns over)
+pub asked_whole : (nodes : List NodeFacts) (ns : List ℕ) (k : ℕ) → length ns ≤ k → asked_in nodes (take k ns) ≡ asked_in nodes ns
+asked_whole nodes ns k over = ap (asked_in nodes) (take_all k ns over)
 
 -- what all of both have, all have of each
 pub both_have : {X : Type 0} (P : X → Type 0) (xs ys : List X) → All P xs → All P ys → All P (xs ++ ys)
@@ -46,12 +46,12 @@ rest_has P (x ∷ xs) ys a = rest_has P xs ys (λ j e w. a (suc j) e (omega (ari
 
 -- one that doesn't have it is missed by all
 pub refused : (P : Participant → Type 0) (nodes : List NodeFacts) (ns : List ℕ) (k : ℕ) (o : Option Participant) (b : Bool) → b ≡ false → IsTrue b ↔ All P (cons_option o [])
-    → nodes_ask nodes (take (k + 1) ns) ≡ nodes_ask nodes (take k ns) ++ cons_option o [] → All P (nodes_ask nodes ns) → ⊥
+    → asked_in nodes (take (k + 1) ns) ≡ asked_in nodes (take k ns) ++ cons_option o [] → All P (asked_in nodes ns) → ⊥
 refused P nodes ns k o b no' test is all =
-    let whole : nodes_ask nodes ns ≡ nodes_ask nodes (take (k + 1) ns) ++ nodes_ask nodes (drop (k + 1) ns) =
-    ap (nodes_ask nodes) (sym (take-append-drop (k + 1) ns)) ∙ filter_map-append (node_asks nodes) (take (k + 1) ns) (drop (k + 1) ns) in
-    let front = front_has P (nodes_ask nodes (take (k + 1) ns)) (nodes_ask nodes (drop (k + 1) ns)) (subst (All P) whole all) in
-    by b no' (test.1 (rest_has P (nodes_ask nodes (take k ns)) (cons_option o []) (subst (All P) is front))) where
+    let whole : asked_in nodes ns ≡ asked_in nodes (take (k + 1) ns) ++ asked_in nodes (drop (k + 1) ns) =
+    ap (asked_in nodes) (sym (take-append-drop (k + 1) ns)) ∙ filter_map-append (asks_at nodes) (take (k + 1) ns) (drop (k + 1) ns) in
+    let front = front_has P (asked_in nodes (take (k + 1) ns)) (asked_in nodes (drop (k + 1) ns)) (subst (All P) whole all) in
+    by b no' (test.1 (rest_has P (asked_in nodes (take k ns)) (cons_option o []) (subst (All P) is front))) where
       by : (b : Bool) → b ≡ false → IsTrue b → ⊥
       by true e t = absurd (cc)
       by false e t = absurd (cc)
@@ -70,9 +70,9 @@ long_more zs xs None is = (ap length is ∙ length-append xs [], omega arith)
 long_more zs xs (Some p) is = (ap length is ∙ length-append xs (p ∷ []), omega arith)
 
 -- at most as many participants as nodes
-pub few_asked_of : (nodes : List NodeFacts) (ns : List ℕ) → length (nodes_ask nodes ns) ≤ length ns
+pub few_asked_of : (nodes : List NodeFacts) (ns : List ℕ) → length (asked_in nodes ns) ≤ length ns
 few_asked_of nodes [] = omega arith
-few_asked_of nodes (n ∷ ns) = by (node_asks nodes n) (few_asked_of nodes ns) where
-  by : (o : Option Participant) → length (nodes_ask nodes ns) ≤ length ns → length (cons_option o (nodes_ask nodes ns)) ≤ length (n ∷ ns)
+few_asked_of nodes (n ∷ ns) = by (asks_at nodes n) (few_asked_of nodes ns) where
+  by : (o : Option Participant) → length (asked_in nodes ns) ≤ length ns → length (cons_option o (asked_in nodes ns)) ≤ length (n ∷ ns)
   by None h = omega (arith, h)
   by (Some p) h = omega (arith, h)

@@ -11,7 +11,7 @@ use Rattle.sysmem_proof.specs.declared.refutation.Item.{Item}
 use Rattle.sysmem_proof.specs.declared.refutation.Item.TheVariants.{Split}
 use Rattle.sysmem_proof.proofs.CallerLemmas.{splits_refute, earlier_grows}
 use Rattle.sysmem_search.specs.declared.trail.Trail.{Trail}
-use Rattle.sysmem_search.specs.Question.{Matter, forest, terms}
+use Rattle.sysmem_proof.specs.Matter.{Matter, forest, terms}
 use Rattle.sysmem_search.specs.Trail.{items_of, sizes_of, AddsRefutation, AddsEarlier}
 use Rattle.sysmem_search.proofs.AskedMembers.{if_some, of_some}
 use Rattle.sysmem_search.proofs.Finding.{Child, child}

@@ -8,7 +8,8 @@ use Rattle.sysmem_proof.specs.declared.conflict.Conflict.{Conflict}
 use Rattle.sysmem_proof.specs.Members.{participants}
 use Rattle.sysmem_proof.specs.Verdict.{MeetsFor, MeetsLooselyFor, MeetsSettled}
 use Rattle.sysmem_search.specs.Live.{SomeMeet}
-use Rattle.sysmem_search.specs.Question.{Matter, forest, terms, MeetsOf, MeetsHere, MeetsSoFar, IsBestOf}
+use Rattle.sysmem_search.specs.Question.{MeetsOf, MeetsHere, MeetsSoFar, IsBestOf}
+use Rattle.sysmem_proof.specs.Matter.{Matter, forest, terms}
 use Rattle.sysmem_search.proofs.AskedMembers.{if_some, of_some, some_of}
 use Rattle.sysmem_tree.specs.Forest.{Forest, choices, settled}
 use Rattle.sysmem_tree.specs.Selection.{IsPrefix, after}

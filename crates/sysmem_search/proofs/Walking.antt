@@ -13,10 +13,10 @@ use Rattle.sysmem_tree.specs.Nodes.{HasNode}
 use Rattle.sysmem_tree.specs.declared.layout.Layout.{Layout}
 use Rattle.sysmem_tree.specs.declared.layout.Place.{Place}
 use Rattle.sysmem_tree.specs.declared.open_groups.SettledNodes.{SettledNodes}
-use Rattle.sysmem_tree.specs.OpenGroups.{Gives, HasLeft, place_after}
+use Rattle.sysmem_tree.specs.OpenGroups.{WalksTo, HasLeft, place_after}
 
 -- a walk gives one list of nodes
-pub gives_same : (places : List Place) (to : ℕ) (ns ms : List ℕ) (at : ℕ) → Gives places at to ns → Gives places at to ms → ns ≡ ms
+pub gives_same : (places : List Place) (to : ℕ) (ns ms : List ℕ) (at : ℕ) → WalksTo places at to ns → WalksTo places at to ms → ns ≡ ms
 gives_same places to [] [] at g h = refl
 gives_same places to [] (m ∷ ms) at g h = absurd (omega (arith, g, h.0))
 gives_same places to (n ∷ ns) [] at g h = absurd (omega (arith, g.0, h))
@@ -24,7 +24,7 @@ gives_same places to (n ∷ ns) (m ∷ ms) at g h =
     let (p, here, node, up, rest) = g.1 in
     let (q, here', node', up', rest') = h.1 in
     let same : q ≡ p = same_Some q p (sym here' ∙ here) in
-    let tails = gives_same places to ns ms (place_after p at) rest (subst (λ (x : Place). Gives places (place_after x at) to ms) same rest') in
+    let tails = gives_same places to ns ms (place_after p at) rest (subst (λ (x : Place). WalksTo places (place_after x at) to ms) same rest') in
     let heads : n ≡ m = sym node ∙ (ap (λ (x : Place). x.node) (sym same) ∙ node') in
     ap (λ x. x ∷ ns) heads ∙ ap (λ xs. m ∷ xs) tails
 

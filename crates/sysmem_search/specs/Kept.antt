@@ -15,7 +15,7 @@ use Rattle.sysmem_search.specs.declared.kept.Kept.TheVariants as kept_as
 use Rattle.sysmem_search.specs.declared.kept.Part.{Part}
 use Rattle.sysmem_search.specs.declared.kept.Part.TheVariants as part_as
 use Rattle.sysmem_search.specs.declared.on_base.OnBase.{OnBase}
-use Rattle.sysmem_search.specs.Question.{nodes_ask}
+use Rattle.sysmem_proof.specs.Asked.{asked_in}
 use Rattle.sysmem_tree.specs.Node.{NodeFacts}
 
 -- what is asked of the number of buffers by participants and by those accepted before them, and whether each of the participants accepts
@@ -28,7 +28,7 @@ pub record TakesBase (platform : PlatformFacts) (settings : Settings) (earlier :
 -- what is kept of a prefix stands for these participants: without a base their sum, else how they take it behind those accepted before
 abbrev pub IsKeptOf : PlatformFacts → List NodeFacts → Option BaseFacts → Kept → List Participant → Type 0
 IsKeptOf platform nodes None (kept_as.Sum sum) ps = SumsUp sum platform ps
-IsKeptOf platform nodes (Some base) (kept_as.OnBase kept) ps = TakesBase platform base.settings (nodes_ask nodes base.accepted) kept ps
+IsKeptOf platform nodes (Some base) (kept_as.OnBase kept) ps = TakesBase platform base.settings (asked_in nodes base.accepted) kept ps
 IsKeptOf platform nodes _ _ ps = ⊥
 
 -- what is kept of one choice stands for these participants, whatever was accepted before

@@ -1,9 +1,10 @@
 -- What a search from a prefix on finds.
 use Rattle.std.specs.Prelude.{◌≡◌, ◌++◌, ℕ, List, Option, Some, None}
 use Rattle.sysmem_merge.specs.declared.settings.Settings.{Settings}
-use Rattle.sysmem_proof.specs.Verdict.{Meeting, IsUnmet, IsChosen}
+use Rattle.sysmem_proof.specs.Verdict.{Meeting, IsForestUnmet, IsChosen}
 use Rattle.sysmem_search.specs.Live.{IsLive, IsLiveUpTo}
-use Rattle.sysmem_search.specs.Question.{Matter, MeetsOf, MeetsSoFar, IsBestOf}
+use Rattle.sysmem_search.specs.Question.{MeetsOf, MeetsSoFar, IsBestOf}
+use Rattle.sysmem_proof.specs.Matter.{Matter}
 use Rattle.sysmem_search.specs.Visits.{IsRaised}
 use Rattle.sysmem_tree.specs.Forest.{Forest}
 use Rattle.sysmem_tree.specs.Shape.{Member}
@@ -11,7 +12,7 @@ use Rattle.sysmem_tree.specs.Shape.{Member}
 -- the choices are as before; no selection of the forest can be met, and each live prefix of it was visited
 pub record NothingFound (Met Loosely : Meeting) (d : Forest Member) (old new : List ℕ) (from to : ℕ) : Type 0 where
   pub same : new ≡ old
-  pub unmet : IsUnmet Met d
+  pub unmet : IsForestUnmet Met d
   pub visited : IsRaised (IsLive Loosely d) from to
 
 -- the choices go on to the first selection of the forest that can be met; each live prefix was visited that begins it or is earlier

@@ -7,7 +7,9 @@ use Rattle.sysmem_sanitise.specs.Platform.{PlatformFacts}
 use Rattle.sysmem_search.specs.declared.kept.Part.{Part}
 use Rattle.sysmem_search.specs.declared.levels.Level.{Level}
 use Rattle.sysmem_search.specs.Kept.{IsKeptOf, IsPart}
-use Rattle.sysmem_search.specs.Question.{Matter, HasBase, forest, nodes_ask}
+use Rattle.sysmem_search.specs.Question.{HasBase}
+use Rattle.sysmem_proof.specs.Matter.{Matter, forest}
+use Rattle.sysmem_proof.specs.Asked.{asked_in}
 use Rattle.sysmem_tree.specs.declared.layout.Layout.{Layout}
 use Rattle.sysmem_tree.specs.Forest.{Forest, settled}
 use Rattle.sysmem_tree.specs.Layout.{IsLayout}
@@ -52,10 +54,10 @@ IsSlot place slot = slot + place ≡ 127
 -- what is kept in a slot is of the child whose slot it is: of the participants that the choice of it settles
 abbrev pub AreParts : PlatformFacts → List NodeFacts → Option BaseFacts → Layout → List (Option Part) → Type 0
 AreParts platform nodes base layout parts = (place slot : ℕ) (part : Part) → IsSlot place slot → slice_get parts slot ≡ Some (Some part)
-    → IsPart platform base part (nodes_ask nodes (share_of layout place))
+    → IsPart platform base part (asked_in nodes (share_of layout place))
 
 -- what a search keeps where it stands
-pub record Keeps (m : Matter) (layout : Layout) (parts : List (Option Part)) (levels : List Level) (cs : List ℕ) : Type 0 where
+pub record StandsAt (m : Matter) (layout : Layout) (parts : List (Option Part)) (levels : List Level) (cs : List ℕ) : Type 0 where
   pub given : HasBase m
   pub laid : LaysOut m layout
   pub shares : AreParts m.platform m.nodes m.base layout parts

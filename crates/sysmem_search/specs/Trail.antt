@@ -7,7 +7,7 @@ use Rattle.sysmem_proof.specs.Conflict.{IsConflictFor}
 use Rattle.sysmem_proof.specs.declared.refutation.Item.{Item}
 use Rattle.sysmem_proof.specs.declared.refutation.Item.TheVariants.{Split}
 use Rattle.sysmem_search.specs.declared.trail.Trail.{Trail}
-use Rattle.sysmem_search.specs.Question.{Matter, terms}
+use Rattle.sysmem_proof.specs.Matter.{Matter, terms}
 use Rattle.sysmem_tree.specs.Forest.{Forest}
 use Rattle.sysmem_tree.specs.Shape.{Member}
 
@@ -45,6 +45,6 @@ pub record AddsEarlier (m : Matter) (d : Forest Member) (choices longer : List �
   pub earlier : RefutesEarlier (IsConflictFor m.platform (terms m)) d selection (map (λ g. g.refutations) groups)
 
 -- what a search leaves on the trail where it found nothing, and where it found settings
-abbrev pub IsLeft : Matter → Forest Member → List ℕ → List ℕ → Trail → Trail → Option Settings → Type 0
-IsLeft m d choices longer old new None = AddsRefutation m d old new
-IsLeft m d choices longer old new (Some s) = AddsEarlier m d choices longer old new
+abbrev pub Leaves : Matter → Forest Member → List ℕ → List ℕ → Trail → Trail → Option Settings → Type 0
+Leaves m d choices longer old new None = AddsRefutation m d old new
+Leaves m d choices longer old new (Some s) = AddsEarlier m d choices longer old new

@@ -12,7 +12,7 @@ ghost use Rattle.sysmem_merge.specs.declared.settings.Settings.{Settings as Sett
 ghost use Rattle.sysmem_sanitise.specs.Participant.{Participant};
 ghost use Rattle.sysmem_sanitise.specs.Platform.{PlatformFacts};
 ghost use Rattle.sysmem_search.specs.Kept.{TakesBase};
-ghost use Rattle.sysmem_search.specs.Question.{nodes_ask};
+ghost use Rattle.sysmem_proof.specs.Asked.{asked_in};
 ghost use Rattle.sysmem_tree.specs.Nodes.{HasNode};
 
 use sysmem_counts::CountBounds;
@@ -45,7 +45,7 @@ impl OnBase {
         requires there { All (HasNode tree.now.nodes) accepted.now }
         requires few { length accepted.now ≤ 128 }
         ensures { (platform : PlatformFacts) (settings : Settled)
-            → TakesBase platform settings (nodes_ask tree.now.nodes accepted.now) result [] }
+            → TakesBase platform settings (asked_in tree.now.nodes accepted.now) result [] }
     {
         let mut counts = CountBounds::new();
         add_counts(tree, accepted, &mut counts);
@@ -112,9 +112,9 @@ fn add_counts(tree: &Tree, nodes: &[NodeId], counts: &mut CountBounds)
     requires few { length nodes.now ≤ 128 }
     requires room { sum_of counts.old ≤ 128 * 2 ^ 33 }
     ensures added { (ps : List Counted) → IsTallyOf counts.old ps
-        → IsTallyOf counts.new (ps ++ counts_asked (nodes_ask tree.now.nodes nodes.now)) }
+        → IsTallyOf counts.new (ps ++ counts_asked (asked_in tree.now.nodes nodes.now)) }
     ensures grows { sum_of counts.new
-        ≤ sum_of counts.old + length (nodes_ask tree.now.nodes nodes.now) * 2 ^ 33 }
+        ≤ sum_of counts.old + length (asked_in tree.now.nodes nodes.now) * 2 ^ 33 }
 {
     for node in nodes {
         count_asked(counts, tree.constraints_of(*node));

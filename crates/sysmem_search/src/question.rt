@@ -4,7 +4,8 @@ ghost use Rattle.std.specs.Prelude.{◌≡◌, ◌≤◌, ◌<◌, ◌↔◌, �
 ghost use Rattle.sysmem_merge.specs.declared.settings.Settings.{Settings as Settled};
 ghost use Rattle.sysmem_search.specs.Live.{SomeMeet};
 ghost use Rattle.sysmem_proof.specs.Conflict.{IsConflictFor};
-ghost use Rattle.sysmem_search.specs.Question.{forest, terms, MeetsOf, MeetsHere, MeetsSoFar, IsBestOf};
+ghost use Rattle.sysmem_search.specs.Question.{MeetsOf, MeetsHere, MeetsSoFar, IsBestOf};
+ghost use Rattle.sysmem_proof.specs.Matter.{forest, terms};
 ghost use Rattle.sysmem_search.specs.Standing.{Standing};
 ghost use Rattle.sysmem_tree.specs.Forest.{choices, settled};
 ghost use Rattle.sysmem_tree.specs.Selection.{IsPrefix, after};
@@ -39,7 +40,7 @@ pub(crate) struct Question<'a> {
 
 impl<'a> Model for Question<'a> {
     ghost use Rattle.std.specs.Prelude.{option_map};
-    ghost use Rattle.sysmem_search.specs.Standing.{Standing, Keeps};
+    ghost use Rattle.sysmem_search.specs.Standing.{Standing, StandsAt};
     ghost use Rattle.sysmem_tree.specs.Domain.{HasDomain, IsSoundTree};
 
     ghost Value = { Standing };
@@ -55,7 +56,7 @@ impl<'a> Model for Question<'a> {
     } };
 
     ghost invariant = { λ q. HasDomain q.tree.now.nodes q.domain × IsSoundTree q.tree.now
-        × Keeps (record {
+        × StandsAt (record {
           platform = q.platform.now;
           nodes = q.tree.now.nodes;
           domain = q.domain;

@@ -4,7 +4,7 @@ ghost use Rattle.std.specs.Prelude.{◌≡◌, ◌≤◌, ◌++◌, ℕ, List, [
 ghost use Rattle.std.specs.List.{cons_option};
 ghost use Rattle.sysmem_sanitise.specs.Participant.{Participant};
 ghost use Rattle.sysmem_search.specs.Kept.{HasRoom, IsPart};
-ghost use Rattle.sysmem_search.specs.Question.{nodes_ask};
+ghost use Rattle.sysmem_proof.specs.Asked.{asked_in};
 ghost use Rattle.sysmem_tree.specs.OpenGroups.{HasLeft, HoldsNodes};
 
 use crate::kept::Part;
@@ -39,7 +39,7 @@ pub(crate) fn part_of(
     requires there { HoldsNodes layout.now tree.now.nodes }
     ensures { IfOk result (λ part. (ns : List ℕ) → HasLeft layout.now walk ns
         → IsPart platform.now (option_map (λ b. b.now) base.entry) part
-        (nodes_ask tree.now.nodes ns)) }
+        (asked_in tree.now.nodes ns)) }
 {
     let mut part = Part::new(alloc, platform, base)?;
     let mut left = walk;

@@ -6,9 +6,10 @@ use Rattle.std.proofs.lemmas.Bool.{cases_eq}
 use Rattle.sysmem_tree.specs.declared.domain.Decision.{Decision}
 use Rattle.sysmem_tree.specs.declared.domain.Domain.{Domain}
 use Rattle.sysmem_tree.specs.declared.node.Birth.{Birth}
-use Rattle.sysmem_tree.specs.Domain.{TreeFacts, AreDomains, roots_from, decision_of, fails, has_failed, host_node, is_chosen, is_host_lost, is_lost, is_none_chosen, was_closed_early}
+use Rattle.sysmem_tree.specs.Domain.{TreeFacts, AreDomains, roots_from, decision_of, fails, has_failed, host_node, is_host_lost, is_lost, was_closed_early}
 use Rattle.sysmem_tree.specs.Node.{NodeFacts}
 use Rattle.sysmem_tree.specs.Nodes.{IsTree}
+use Rattle.sysmem_tree.specs.Sweep.{is_lost_by}
 use Rattle.sysmem_tree.specs.Tree.{new_domain}
 use Rattle.sysmem_tree.proofs.Kids.{parent_of}
 use Rattle.sysmem_tree.proofs.Readiness.{home_root}
@@ -38,10 +39,6 @@ nat_cases (suc a) (suc b) = elim (nat_cases a b) [
   | inr (inl same) ↦ inr (inl (ap suc same))
   | inr (inr more) ↦ inr (inr (omega (arith, more)))
 ]
-
--- whether a decision of a node's domain is one without the node
-abbrev pub lost_by : Decision → NodeFacts → Bool
-lost_by d n = is_none_chosen d || (is_chosen d && n.is_left_out)
 
 -- the last of so many domains
 abbrev pub last_of : ℕ → List Domain → Domain
@@ -233,9 +230,9 @@ module _ (t : TreeFacts) (tree : IsTree t.nodes) (domains : AreDomains t) where
     closed_is : was_closed_early t.domains h.domain ≡ (last_of left t.domains).is_closed_early
     closed_is = closed_here t.domains (left - 1) h.domain (last_of left t.domains) (rising t domains) (last_at left t.domains some all) own
 
-    lost_is : is_lost t.domains h ≡ lost_by (last_of left t.domains).decision h
+    lost_is : is_lost t.domains h ≡ is_lost_by (last_of left t.domains).decision h
     lost_is =
-        ap (λ x. lost_by x h) (decision_here t.domains (left - 1) h.domain (last_of left t.domains) (rising t domains) (last_at left t.domains some all) own)
+        ap (λ x. is_lost_by x h) (decision_here t.domains (left - 1) h.domain (last_of left t.domains) (rising t domains) (last_at left t.domains some all) own)
 
     -- at its entry: closed early
     pub climb_closed : (last_of left t.domains).is_closed_early ≡ true → true ≡ has_failed t r
@@ -244,15 +241,15 @@ module _ (t : TreeFacts) (tree : IsTree t.nodes) (domains : AreDomains t) where
         (sym (failed_here t so.many h.domain (fails_within so.many t h.domain) refl (omega (arith, so.below)) (or_first (was_closed_early t.domains h.domain) _ (closed_is ∙ e)))))
 
     -- or decided without the host
-    pub climb_lost : (lost : Bool) → lost ≡ lost_by (last_of left t.domains).decision h → lost ≡ true → true ≡ has_failed t r
+    pub climb_lost : (lost : Bool) → lost ≡ is_lost_by (last_of left t.domains).decision h → lost ≡ true → true ≡ has_failed t r
     climb_lost lost is met = sym (so.decides ∙ or_first (is_lost t.domains h) (fails_within so.many t h.domain) (lost_is ∙ (sym is ∙ met)))
 
     -- or neither, and those above it decide
-    decides_above : (lost : Bool) → lost ≡ lost_by (last_of left t.domains).decision h → lost ≡ false → has_failed t r ≡ fails_within so.many t h.domain
+    decides_above : (lost : Bool) → lost ≡ is_lost_by (last_of left t.domains).decision h → lost ≡ false → has_failed t r ≡ fails_within so.many t h.domain
     decides_above lost is unmet = so.decides ∙ or_skip (is_lost t.domains h) (fails_within so.many t h.domain) (lost_is ∙ (sym is ∙ unmet))
 
     -- where it has no host, none fails
-    pub climb_ends : (lost : Bool) → lost ≡ lost_by (last_of left t.domains).decision h → lost ≡ false
+    pub climb_ends : (lost : Bool) → lost ≡ is_lost_by (last_of left t.domains).decision h → lost ≡ false
         → (last_of left t.domains).is_closed_early ≡ false → host_node t.nodes (last_of left t.domains).root ≡ None → false ≡ has_failed t r
     climb_ends lost is unmet unclosed top =
         let none : host_node t.nodes h.domain ≡ None = ap (host_node t.nodes) (sym own) ∙ top in
@@ -260,7 +257,7 @@ module _ (t : TreeFacts) (tree : IsTree t.nodes) (domains : AreDomains t) where
         (or_both (was_closed_early t.domains h.domain) (is_host_lost t.domains (host_node t.nodes h.domain)) (closed_is ∙ unclosed) (ap (is_host_lost t.domains) none)) none
 
     -- and else the climb goes on to its host
-    pub climb_goes_on : (lost : Bool) (above : NodeFacts) → lost ≡ lost_by (last_of left t.domains).decision h → lost ≡ false
+    pub climb_goes_on : (lost : Bool) (above : NodeFacts) → lost ≡ is_lost_by (last_of left t.domains).decision h → lost ≡ false
         → (last_of left t.domains).is_closed_early ≡ false → host_node t.nodes (last_of left t.domains).root ≡ Some above → IsClimbed t r (left - 1) above
     climb_goes_on lost above is unmet unclosed up = by so.many so.below (decides_above lost is unmet) where
       before : (k : ℕ) (e : Domain) → slice_get t.domains k ≡ Some e → e.root < h.domain → k < left - 1

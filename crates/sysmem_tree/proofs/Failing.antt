@@ -121,8 +121,8 @@ mark_acted t n r SetConstraints e = e
 mark_acted t n r Release e = e
 
 -- an action keeps what is lost
-lost_by : Decision → Bool → Bool
-lost_by d out = is_none_chosen d || (is_chosen d && out)
+lost_where : Decision → Bool → Bool
+lost_where d out = is_none_chosen d || (is_chosen d && out)
 
 module _ (t : TreeFacts) (i : ℕ) (n : NodeFacts) (deed : Deed) (here : slice_get t.nodes i ≡ Some n) where
   acted_lost : (k : ℕ) (x : NodeFacts) → slice_get t.nodes k ≡ Some x → (y : NodeFacts) × (slice_get (nodes_after t.nodes i n deed) k ≡ Some y) × (y.birth ≡ x.birth) × (x.domain ≡ y.domain)

@@ -8,7 +8,7 @@ use Rattle.list_lemmas.proofs.CallerLemmas.{slice_get_some}
 use Rattle.sysmem_tree.specs.declared.node.Birth.{Birth}
 use Rattle.sysmem_tree.specs.ActionKind.{Deed, kind_of}
 use Rattle.sysmem_tree.specs.Domain.{TreeFacts}
-use Rattle.sysmem_tree.specs.History.{HistoryEntry, Acted, Decided, Accepts, after_entry, after_answer, AreAccepted, replay_from, replay, asked_of, log, log_in}
+use Rattle.sysmem_tree.specs.History.{HistoryEntry, Acted, Decided, Accepts, after_entry, after_answer, AreAccepted, replay_from, replay, deed_on, log, log_in}
 use Rattle.sysmem_tree.specs.Node.{NodeFacts}
 use Rattle.sysmem_tree.specs.Nodes.{ordinals, count_from, IsPlaced, IsTree}
 use Rattle.sysmem_tree.specs.Path.{node_at, Shown, at_path}
@@ -76,17 +76,17 @@ abbrev one_asked : Option Deed → List Deed
 one_asked None = []
 one_asked (Some deed) = deed ∷ []
 
-asked_alone : (k : ℕ) (e : HistoryEntry) (o : Option Deed) → asked_of k e ≡ o → log (e ∷ []) k ≡ one_asked o
+asked_alone : (k : ℕ) (e : HistoryEntry) (o : Option Deed) → deed_on k e ≡ o → log (e ∷ []) k ≡ one_asked o
 asked_alone k e None is = rw is refl
 asked_alone k e (Some deed) is = rw is refl
 
-log_push : (es : List HistoryEntry) (e : HistoryEntry) (k : ℕ) (o : Option Deed) → asked_of k e ≡ o → log (es ++ e ∷ []) k ≡ log es k ++ one_asked o
-log_push es e k o is = filter_map-append (asked_of k) es (e ∷ []) ∙ ap (λ l. log es k ++ l) (asked_alone k e o is)
+log_push : (es : List HistoryEntry) (e : HistoryEntry) (k : ℕ) (o : Option Deed) → deed_on k e ≡ o → log (es ++ e ∷ []) k ≡ log es k ++ one_asked o
+log_push es e k o is = filter_map-append (deed_on k) es (e ∷ []) ∙ ap (λ l. log es k ++ l) (asked_alone k e o is)
 
-asked_here : (i : ℕ) (deed : Deed) → asked_of i (Acted i deed) ≡ Some deed
+asked_here : (i : ℕ) (deed : Deed) → deed_on i (Acted i deed) ≡ Some deed
 asked_here i deed = let t : (i == i) ≡ true = search (rules, tests) in rw t refl
 
-asked_elsewhere : (i k : ℕ) (deed : Deed) → i ≢ k → asked_of k (Acted i deed) ≡ None
+asked_elsewhere : (i k : ℕ) (deed : Deed) → i ≢ k → deed_on k (Acted i deed) ≡ None
 asked_elsewhere i k deed other = let t : (i == k) ≡ false = search (rules, tests, other) in rw t refl
 
 log_elsewhere : (es : List HistoryEntry) (i k : ℕ) (deed : Deed) → i ≢ k → log (es ++ Acted i deed ∷ []) k ≡ log es k

@@ -7,7 +7,7 @@ use Rattle.sysmem_tree.specs.declared.layout.Place.{Place}
 use Rattle.sysmem_tree.specs.declared.state.NodeKind.{NodeKind}
 use Rattle.sysmem_tree.specs.declared.state.NodeKind.TheVariants as kinds
 use Rattle.sysmem_tree.specs.Forest.{Forest, Empty, Plain, Group, each, relabel}
-use Rattle.sysmem_tree.specs.Layout.{is_group, size, Spot, start, first_place, behind, IsPlace, AreLaid, Lays}
+use Rattle.sysmem_tree.specs.Layout.{is_group, size, Spot, start, first_place, behind, IsLaidPlace, AreLaid, Lays}
 use Rattle.sysmem_tree.specs.Shape.{tree_of}
 
 -- what is written at a place stands there
@@ -110,7 +110,7 @@ module _ (g : Bool) (ps qs : List Place) (i to : ℕ) (next : Option ℕ) (a b :
         (still_laid qs (written k) k kids.spots others.start others.next kids.places_laid (λ j p.
         let up : place < j = omega (arith, p, kids.starts, before) in set_above qs place (entry k) j up)))
 
-    at_place : (m : Option ℕ) → (if k then Some place else own.next) ≡ m → IsPlace (written k) spot k kids.spots (start rest.spots to) m
+    at_place : (m : Option ℕ) → (if k then Some place else own.next) ≡ m → IsLaidPlace (written k) spot k kids.spots (start rest.spots to) m
     at_place m is = record {
       here = set_here qs place (entry k) room ∙ ap Some (same_place i k own.children (length (each kids.spots)) others.start (start rest.spots to) (if k then Some place else own.next) m (sym kids.many) (sym rest.starts) is);
       kids_here = let z = before in ap (start kids.spots) rest.starts ∙ (kids.starts ∙ omega (arith, z));

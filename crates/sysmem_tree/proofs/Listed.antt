@@ -3,7 +3,7 @@ use Rattle.std.proofs.Common.{◌≡◌, ◌⊎◌, ℕ, zero, suc, ◌+◌, ◌
 use Rattle.std.specs.Prelude.{map, option_and_then}
 use Rattle.std.proofs.lemmas.Option.{slice_get_within, same_Some, none-some, option_and_then_some}
 use Rattle.sysmem_tree.specs.Forest.{Forest, Empty, Plain, Group, each, kids_else_rest, choices, count, total}
-use Rattle.sysmem_tree.specs.Laws.{IsListed}
+use Rattle.sysmem_tree.specs.Laws.{ListsSelections}
 use Rattle.sysmem_tree.specs.Selection.{after, IsSelection, IsEarlierSelection}
 use Rattle.sysmem_tree.proofs.Selections.{AllOf, IfAny, all_mapped, counts}
 
@@ -73,7 +73,7 @@ record AreBranches (c : ℕ) (es : List (Forest ℕ)) : Type 0 where
   found : (i : ℕ) (ds : List ℕ) (e f : Forest ℕ) → slice_get es i ≡ Some e → IsSelection e ds f → (k : ℕ) × (slice_get all k ≡ Some ((c + i) ∷ ds))
   order : (j k : ℕ) (as' bs : List ℕ) → slice_get all j ≡ Some as' → slice_get all k ≡ Some bs → j < k → IsEarlierSelection as' bs
 
-branches : (c : ℕ) (es : List (Forest ℕ)) → AllOf IsListed es → AreBranches c es
+branches : (c : ℕ) (es : List (Forest ℕ)) → AllOf ListsSelections es → AreBranches c es
 branches c [] h = record {
   all = [];
   many = refl;
@@ -82,7 +82,7 @@ branches c [] h = record {
   order = λ j k as' bs a b less. absurd (cc);
 }
 branches c (e ∷ es) h = joined h.0 (branches (c + 1) es h.1) where
-  joined : IsListed e → AreBranches (c + 1) es → AreBranches c (e ∷ es)
+  joined : ListsSelections e → AreBranches (c + 1) es → AreBranches c (e ∷ es)
   joined l b = record {
     all = mine ++ b.all;
     many = omega (arith, length-append mine b.all, map_long (λ ds. c ∷ ds) l.all, l.many, b.many);
@@ -129,7 +129,7 @@ branches c (e ∷ es) h = joined h.0 (branches (c + 1) es h.1) where
       ]
     ]
 
-listed_by : (d : Forest ℕ) (o : Option (List (Forest ℕ))) → choices d ≡ o → IfAny (Unit {0}) (AllOf IsListed) o → IsListed d
+listed_by : (d : Forest ℕ) (o : Option (List (Forest ℕ))) → choices d ≡ o → IfAny (Unit {0}) (AllOf ListsSelections) o → ListsSelections d
 listed_by d None e h = record {
   all = [] ∷ [];
   many = sym (subst (IfAny (count d ≡ 1) (λ es. count d ≡ total es)) e (counts d));
@@ -149,7 +149,7 @@ listed_by d None e h = record {
   order j zero as' bs a b less = absurd (omega (arith, less))
   order j (suc k) as' bs a b less = absurd (cc)
 listed_by d (Some es) e h = by (branches 0 es h) where
-  by : AreBranches 0 es → IsListed d
+  by : AreBranches 0 es → ListsSelections d
   by b = record {
     all = b.all;
     many = b.many ∙ sym (subst (IfAny (count d ≡ 1) (λ es. count d ≡ total es)) e (counts d));
@@ -170,13 +170,13 @@ listed_by d (Some es) e h = by (branches 0 es h) where
         let (k, at) = b.found c cs x f there (record { leads = on; whole = s.whole }) in
         let z : 0 + c ≡ c = omega arith in (k, at ∙ ap (λ y. Some (y ∷ cs)) z))
 
-all_listed : (bound : ℕ) (d : Forest ℕ) → ((e : Forest ℕ) → groups e < bound → IsListed e) → groups d ≤ bound → (o : Option (List (Forest ℕ))) → IfAny (Unit {0}) (AllOf (Fewer d)) o → IfAny (Unit {0}) (AllOf IsListed) o
+all_listed : (bound : ℕ) (d : Forest ℕ) → ((e : Forest ℕ) → groups e < bound → ListsSelections e) → groups d ≤ bound → (o : Option (List (Forest ℕ))) → IfAny (Unit {0}) (AllOf (Fewer d)) o → IfAny (Unit {0}) (AllOf ListsSelections) o
 all_listed bound d ih small None h = tt
-all_listed bound d ih small (Some es) h = all_weaker (Fewer d) IsListed es (λ e p. ih e (omega (arith, p, small))) h
+all_listed bound d ih small (Some es) h = all_weaker (Fewer d) ListsSelections es (λ e p. ih e (omega (arith, p, small))) h
 
-listed_within : (bound : ℕ) (d : Forest ℕ) → groups d < bound → IsListed d
+listed_within : (bound : ℕ) (d : Forest ℕ) → groups d < bound → ListsSelections d
 listed_within zero d small = absurd (omega (arith, small))
 listed_within (suc bound) d small = listed_by d (choices d) refl (all_listed bound d (λ e p. listed_within bound e p) (omega (arith, small)) (choices d) (fewer d))
 
-pub listed : (d : Forest ℕ) → IsListed d
+pub listed : (d : Forest ℕ) → ListsSelections d
 listed d = listed_within (suc (groups d)) d (omega arith)

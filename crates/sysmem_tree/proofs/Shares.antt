@@ -10,7 +10,7 @@ use Rattle.sysmem_tree.specs.declared.layout.Place.{Place}
 use Rattle.sysmem_tree.specs.Forest.{Forest, Empty, Plain, Group, each, settled, relabel}
 use Rattle.sysmem_tree.specs.Layout.{Spot, start, behind, AreLaid, IsLayout}
 use Rattle.sysmem_tree.specs.LayoutLaws.{Settles}
-use Rattle.sysmem_tree.specs.OpenGroups.{node_of, IsChildPlace, HasChild, with_below, forest_between, end_of, tree_at, share_of, place_after, Gives}
+use Rattle.sysmem_tree.specs.OpenGroups.{node_of, IsChildPlace, HasChild, with_below, forest_between, end_of, tree_at, share_of, place_after, WalksTo}
 use Rattle.sysmem_tree.specs.Selection.{after}
 use Rattle.sysmem_tree.proofs.GroupWalks.{ChildSteps, child_steps, child_there}
 use Rattle.sysmem_tree.proofs.Layouts.{starts_before}
@@ -61,7 +61,7 @@ module _ (ps : List Place) where
   kid_there (Group s kk ks) to next l (suc k) kid is = kid_there ks to next l.2 k kid is
 
   -- a walk meets the nodes of what it settles
-  pub gives : (to at : ℕ) (ss : List Spot) → Meets ps to at ss → Gives ps at to (map node_of ss)
+  pub gives : (to at : ℕ) (ss : List Spot) → Meets ps to at ss → WalksTo ps at to (map node_of ss)
   gives to at [] m = m
   gives to at (s ∷ ss) m = let (p, there, node, up, on) = m.1 in (m.0, (p, there, node, up, gives to (place_after p at) ss on))
 
@@ -89,21 +89,21 @@ module _ (layout : Layout) (at : ℕ) (h : HasChild layout at) where
   pub child_share : share_of layout at ≡ map node_of (settled h.kid)
   child_share = ap settled child_tree ∙ settled_relabel node_of h.kid
 
-  pub gives_share : (d : Place) → Gives layout.places at (get_or layout.places at d).end (share_of layout at)
+  pub gives_share : (d : Place) → WalksTo layout.places at (get_or layout.places at d).end (share_of layout at)
   gives_share d =
       let (laid, from, small) = alternative_laid layout.places h.kids h.alternatives.to h.alternatives.next h.alternatives.laid h.alternatives.small h.number h.kid h.is_kid at h.here d in
       let met = subst (λ i. Meets layout.places (get_or layout.places at d).end i (settled h.kid)) from (meets_settled layout.places true h.kid (get_or layout.places at d).end h.alternatives.next laid) in
-      subst (Gives layout.places at (get_or layout.places at d).end) (sym child_share) (gives layout.places (get_or layout.places at d).end at (settled h.kid) met)
+      subst (WalksTo layout.places at (get_or layout.places at d).end) (sym child_share) (gives layout.places (get_or layout.places at d).end at (settled h.kid) met)
 
 -- the same where the place is told by another name
-pub gives_share_as : (layout : Layout) (at i : ℕ) → i ≡ at → HasChild layout at → (d : Place) → Gives layout.places i (get_or layout.places i d).end (share_of layout at)
-gives_share_as layout at i is h d = subst (λ j. Gives layout.places j (get_or layout.places j d).end (share_of layout at)) (sym is) (gives_share layout at h d)
+pub gives_share_as : (layout : Layout) (at i : ℕ) → i ≡ at → HasChild layout at → (d : Place) → WalksTo layout.places i (get_or layout.places i d).end (share_of layout at)
+gives_share_as layout at i is h d = subst (λ j. WalksTo layout.places j (get_or layout.places j d).end (share_of layout at)) (sym is) (gives_share layout at h d)
 
 -- what no choice settles
-pub gives_first : (layout : Layout) (d : Forest ℕ) → IsLayout layout d → Gives layout.places layout.start 128 (settled d)
+pub gives_first : (layout : Layout) (d : Forest ℕ) → IsLayout layout d → WalksTo layout.places layout.start 128 (settled d)
 gives_first layout d laid =
     let met = subst (λ i. Meets layout.places 128 i (settled laid.spots)) laid.starts (meets_settled layout.places false laid.spots 128 None laid.laid) in
-    subst (Gives layout.places layout.start 128) (sym (settled_relabel node_of laid.spots) ∙ ap settled laid.numbers) (gives layout.places 128 layout.start (settled laid.spots) met)
+    subst (WalksTo layout.places layout.start 128) (sym (settled_relabel node_of laid.spots) ∙ ap settled laid.numbers) (gives layout.places 128 layout.start (settled laid.spots) met)
 
 -- what a choice adds to what was settled
 added : {X : Type 0} (fs bs ss : List X) → IsPermutation ((fs ++ bs) ++ ss) (fs ++ (ss ++ bs))
@@ -129,18 +129,18 @@ choice_settles_share layout d cs k at h =
 
 -- one step of a walk
 module _ (ps : List Place) (at to : ℕ) where
-  pub ends : (ns : List ℕ) → to ≤ at → Gives ps at to ns → ns ≡ []
+  pub ends : (ns : List ℕ) → to ≤ at → WalksTo ps at to ns → ns ≡ []
   ends [] less g = refl
   ends (n ∷ ns) less g = absurd (omega (arith, less, g.0))
 
-  pub walk_within : (ns : List ℕ) → at < to → Gives ps at to ns → at < length ps
+  pub walk_within : (ns : List ℕ) → at < to → WalksTo ps at to ns → at < length ps
   walk_within [] less g = absurd (omega (arith, less, g))
   walk_within (n ∷ ns) less g = let (p, there, _, _, _) = g.1 in slice_get_within ps at p there
 
-  pub walks_on : (d : Place) (ns : List ℕ) (after : ℕ) → at < to → Gives ps at to ns → after ≡ place_after (get_or ps at d) at
-      → (rest : List ℕ) × (ns ≡ (get_or ps at d).node ∷ rest) × Gives ps after to rest
+  pub walks_on : (d : Place) (ns : List ℕ) (after : ℕ) → at < to → WalksTo ps at to ns → after ≡ place_after (get_or ps at d) at
+      → (rest : List ℕ) × (ns ≡ (get_or ps at d).node ∷ rest) × WalksTo ps after to rest
   walks_on d [] after less g is = absurd (omega (arith, less, g))
   walks_on d (n ∷ ns) after less g is =
       let (p, there, node, up, on) = g.1 in
       let same : get_or ps at d ≡ p = get_or_from_slice_get ps at p d there in
-      (ns, ap (λ x. x ∷ ns) (sym node ∙ ap (λ (q : Place). q.node) (sym same)), subst (λ i. Gives ps i to ns) (ap (λ q. place_after q at) (sym same) ∙ sym is) on)
+      (ns, ap (λ x. x ∷ ns) (sym node ∙ ap (λ (q : Place). q.node) (sym same)), subst (λ i. WalksTo ps i to ns) (ap (λ q. place_after q at) (sym same) ∙ sym is) on)

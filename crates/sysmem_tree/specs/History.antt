@@ -54,13 +54,13 @@ AreAccepted t [] = Unit {0}
 AreAccepted t (e ∷ es) = Accepts t e × AreAccepted (after_entry t e) es
 
 -- what an entry asks of node i
-abbrev pub asked_of : ℕ → HistoryEntry → Option Deed
-asked_of i (Acted k deed) = if k == i then Some deed else None
-asked_of i (Decided r choices) = None
+abbrev pub deed_on : ℕ → HistoryEntry → Option Deed
+deed_on i (Acted k deed) = if k == i then Some deed else None
+deed_on i (Decided r choices) = None
 
 -- the actions on node i, the oldest first
 abbrev pub log : List HistoryEntry → ℕ → List Deed
-log es i = filter_map (asked_of i) es
+log es i = filter_map (deed_on i) es
 
 -- the actions on the node at a path
 abbrev pub log_in : List NodeFacts → List HistoryEntry → List ℕ → List Deed

@@ -79,7 +79,7 @@ abbrev pub Counts : Type 0
 Counts = (d : Forest ℕ) → CountAddsUp d
 
 -- all selections stand in a list, each once, in their order, as long as the count
-pub record IsListed (d : Forest ℕ) : Type 0 where
+pub record ListsSelections (d : Forest ℕ) : Type 0 where
   pub all : List (List ℕ)
   pub many : length all ≡ count d
   pub sound : (k : ℕ) (cs : List ℕ) → slice_get all k ≡ Some cs → (e : Forest ℕ) × IsSelection d cs e
@@ -87,7 +87,7 @@ pub record IsListed (d : Forest ℕ) : Type 0 where
   pub order : (j k : ℕ) (as' bs : List ℕ) → slice_get all j ≡ Some as' → slice_get all k ≡ Some bs → j < k → IsEarlierSelection as' bs
 
 abbrev pub SelectionsAreListed : Type 0
-SelectionsAreListed = (d : Forest ℕ) → IsListed d
+SelectionsAreListed = (d : Forest ℕ) → ListsSelections d
 
 -- there are as many choices as the first group has children
 abbrev pub FirstGroup : Type 0

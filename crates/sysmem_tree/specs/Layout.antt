@@ -49,7 +49,7 @@ behind true rest next = next
 behind false rest next = option_or (first_place rest) next
 
 -- the place of a node: its children start just behind it and end before `to`, and `next` is the first group once the way to it is chosen
-pub record IsPlace (places : List Place) (s : Spot) (is_group : Bool) (kids : Forest Spot) (to : ℕ) (next : Option ℕ) : Type 0 where
+pub record IsLaidPlace (places : List Place) (s : Spot) (is_group : Bool) (kids : Forest Spot) (to : ℕ) (next : Option ℕ) : Type 0 where
   pub here : slice_get places s.place ≡ Some (record { node = s.node; is_group = is_group; children = length (each kids); end = to; next = next })
   pub kids_here : start kids to ≡ s.place + 1
 
@@ -57,10 +57,10 @@ pub record IsPlace (places : List Place) (s : Spot) (is_group : Bool) (kids : Fo
 abbrev pub AreLaid : Bool → List Place → Forest Spot → ℕ → Option ℕ → Type 0
 AreLaid alternatives places Empty to next = Unit {0}
 AreLaid alternatives places (Plain s kids rest) to next =
-    IsPlace places s false kids (start rest to) (option_or (first_place kids) (behind alternatives rest next))
+    IsLaidPlace places s false kids (start rest to) (option_or (first_place kids) (behind alternatives rest next))
     × AreLaid false places kids (start rest to) (behind alternatives rest next) × AreLaid alternatives places rest to next
 AreLaid alternatives places (forest.Group s kids rest) to next =
-    IsPlace places s true kids (start rest to) (Some s.place)
+    IsLaidPlace places s true kids (start rest to) (Some s.place)
     × AreLaid true places kids (start rest to) (behind alternatives rest next) × AreLaid alternatives places rest to next
 
 -- the places name no nodes but the first so many

@@ -77,11 +77,11 @@ abbrev pub place_after : Place → ℕ → ℕ
 place_after p at = if p.is_group then p.end else at + 1
 
 -- a walk from a place on gives these nodes, and ends at `to`
-abbrev pub Gives : List Place → ℕ → ℕ → List ℕ → Type 0
-Gives places at to [] = at ≡ to
-Gives places at to (n ∷ ns) =
-    (at < to) × ((p : Place) × (slice_get places at ≡ Some p) × (p.node ≡ n) × (at < place_after p at) × Gives places (place_after p at) to ns)
+abbrev pub WalksTo : List Place → ℕ → ℕ → List ℕ → Type 0
+WalksTo places at to [] = at ≡ to
+WalksTo places at to (n ∷ ns) =
+    (at < to) × ((p : Place) × (slice_get places at ≡ Some p) × (p.node ≡ n) × (at < place_after p at) × WalksTo places (place_after p at) to ns)
 
 -- the nodes that a walk over the layout has yet to give
 abbrev pub HasLeft : Layout → SettledNodes → List ℕ → Type 0
-HasLeft layout walk ns = Gives layout.places walk.at walk.end ns
+HasLeft layout walk ns = WalksTo layout.places walk.at walk.end ns

@@ -3,7 +3,7 @@ use Rattle.std.specs.Prelude.{◌≡◌, ◌≤◌, ℕ, List, Option, Some, Non
 use Rattle.std.specs.Option.{option_or}
 use Rattle.sysmem_tree.specs.declared.layout.Place.{Place}
 use Rattle.sysmem_tree.specs.Forest.{Forest, Empty, Plain, Group}
-use Rattle.sysmem_tree.specs.Layout.{Spot, start, first_place, IsPlace, AreLaid}
+use Rattle.sysmem_tree.specs.Layout.{Spot, start, first_place, IsLaidPlace, AreLaid}
 
 -- a group and its alternatives
 pub record Alternatives (A : Type 0) : Type 0 where
@@ -21,7 +21,7 @@ abbrev pub AreOpen : List Place → Forest Spot → Option ℕ → Type 0
 AreOpen places Empty next = Unit {0}
 AreOpen places (Plain s kids rest) next = AreOpen places kids (option_or (first_place rest) next) × AreOpen places rest next
 AreOpen places (Group s kids rest) next =
-    ((to : ℕ) × (to ≤ 128) × IsPlace places s true kids to (Some s.place) × AreLaid true places kids to (option_or (first_place rest) next)) × AreOpen places rest next
+    ((to : ℕ) × (to ≤ 128) × IsLaidPlace places s true kids to (Some s.place) × AreLaid true places kids to (option_or (first_place rest) next)) × AreOpen places rest next
 
 -- alternatives that stand from a place on
 pub record AreAlternatives (places : List Place) (at : ℕ) (kids : Forest Spot) : Type 0 where

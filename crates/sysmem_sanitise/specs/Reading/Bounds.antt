@@ -8,20 +8,16 @@ use Rattle.sysmem_counts.specs.declared.field.Field.{Field}
 use Rattle.sysmem_counts.specs.declared.field.Field.TheVariants as field
 use Rattle.sysmem_image.specs.declared.entry.EntryBounds.{EntryBounds}
 use Rattle.sysmem_image.specs.declared.size.Size.{Size}
-use Rattle.sysmem_image.specs.Size.{most_number}
+use Rattle.sysmem_counts.specs.Bounds.{most_number}
 use Rattle.sysmem_sanitise.specs.declared.fault.Code.TheVariants as code
 use Rattle.sysmem_sanitise.specs.declared.fault.Fault.{Fault}
 use Rattle.sysmem_sanitise.specs.Faults.{wrong}
-use Rattle.sysmem_sanitise.specs.Participant.{most_multiple}
-use Rattle.sysmem_sanitise.specs.Reading.Fields.{◌>>=◌, passing, keys_of, read_or, optional, number_of, flag_or}
-
--- the greatest number of 32 bits
-abbrev pub most : ℕ
-most = most_number
+use Rattle.sysmem_image.specs.Size.{most_multiple}
+use Rattle.sysmem_sanitise.specs.Reading.Fields.{◌>>=◌, passing, keys_of, read_or, optional, number_up_to, flag_or}
 
 -- 0 to the greatest
 abbrev pub any_number : Field → Data → Result ℕ Fault
-any_number field d = number_of field most d
+any_number field d = number_up_to field most_number d
 
 -- 0 to the greatest, and 0 is read as 1
 abbrev pub some_number : Field → Data → Result ℕ Fault
@@ -35,13 +31,13 @@ is_multiple n = nat_le 1 n && nat_le n most_multiple
 -- 1 to 65,536
 abbrev pub multiple : Field → Data → Result ℕ Fault
 multiple field d = do
-  n ← number_of field (2 ^ 64 - 1) d
+  n ← number_up_to field (2 ^ 64 - 1) d
   passing (wrong code.BadMultiple field) is_multiple n
 
 -- 1 to the greatest number of 64 bits
 abbrev pub large_number : Field → Data → Result ℕ Fault
 large_number field d = do
-  n ← number_of field (2 ^ 64 - 1) d
+  n ← number_up_to field (2 ^ 64 - 1) d
   passing (wrong code.WrongKind field) (λ n. nat_le 1 n) n
 
 abbrev pub is_side : List ℕ → Bool
@@ -54,7 +50,7 @@ sides_of field _ = Err (wrong code.WrongKind field)
 
 -- one side, which must be there
 abbrev pub side : Field → ℕ → List ℕ → Data → Result ℕ Fault
-side field greatest name d = read_or (Err (wrong code.WrongKind field)) (number_of field greatest) (get name d)
+side field greatest name d = read_or (Err (wrong code.WrongKind field)) (number_up_to field greatest) (get name d)
 
 -- a width and a height, each from 0 to the greatest
 abbrev pub size_to : Field → ℕ → Data → Result Size Fault
@@ -66,7 +62,7 @@ size_to field greatest d = do
 
 -- both 0 to the greatest
 abbrev pub any_size : Field → Data → Result Size Fault
-any_size field d = size_to field most d
+any_size field d = size_to field most_number d
 
 -- a size whose sides are 1 or more
 abbrev pub some_sides : Size → Size
@@ -110,14 +106,14 @@ pub record StatedBounds : Type 0 where
 abbrev pub stated_bounds : Data → Result StatedBounds Fault
 stated_bounds d = do
   min_size ← size_or some_size field.MinSize 1 d
-  max_size ← size_or any_size field.MaxSize most d
+  max_size ← size_or any_size field.MaxSize most_number d
   size_alignment ← size_or multiple_size field.SizeAlignment 1 d
   min_bytes_per_row ← bound_or some_number field.MinBytesPerRow 1 d
-  max_bytes_per_row ← bound_or any_number field.MaxBytesPerRow most d
+  max_bytes_per_row ← bound_or any_number field.MaxBytesPerRow most_number d
   bytes_per_row_divisor ← bound_or multiple field.BytesPerRowDivisor 1 d
   start_offset_divisor ← bound_or multiple field.StartOffsetDivisor 1 d
   display_rect_alignment ← size_or multiple_size field.DisplayRectAlignment 1 d
-  required_min_size ← size_or some_size field.RequiredMinSize most d
+  required_min_size ← size_or some_size field.RequiredMinSize most_number d
   required_max_size ← size_or any_size field.RequiredMaxSize 0 d
   max_width_times_height ← bound_or large_number field.MaxWidthTimesHeight (2 ^ 64 - 1) d
   at_pixel_boundary ← flag_or field.RequireBytesPerRowAtPixelBoundary false d
@@ -140,13 +136,13 @@ pub some_max : (n : ℕ) → 1 ≤ max n 1
 some_max n = omega arith
 
 -- a row divisor is 1 to 65,536, as it is read
-abbrev pub row_divisor : ℕ → ℕ
-row_divisor n = min (max n 1) most_multiple
+abbrev pub divisor_read : ℕ → ℕ
+divisor_read n = min (max n 1) most_multiple
 
-pub some_divisor : (n : ℕ) → 1 ≤ row_divisor n
+pub some_divisor : (n : ℕ) → 1 ≤ divisor_read n
 some_divisor n = omega arith
 
-pub small_divisor_of : (n : ℕ) → row_divisor n ≤ most_multiple
+pub small_divisor_of : (n : ℕ) → divisor_read n ≤ most_multiple
 small_divisor_of n = omega arith
 
 -- the bounds of these numbers: those that must be 1 or more are, as they are read
@@ -158,7 +154,7 @@ bounds_by s = record {
     size_alignment = some_sides s.size_alignment;
     min_bytes_per_row = max s.min_bytes_per_row 1;
     max_bytes_per_row = s.max_bytes_per_row;
-    bytes_per_row_divisor = row_divisor s.bytes_per_row_divisor;
+    bytes_per_row_divisor = divisor_read s.bytes_per_row_divisor;
     start_offset_divisor = max s.start_offset_divisor 1;
     display_rect_alignment = some_sides s.display_rect_alignment;
     required_min_size = s.required_min_size;

@@ -14,7 +14,7 @@ use Rattle.sysmem_sanitise.specs.declared.fault.Fault.{Fault}
 use Rattle.sysmem_sanitise.specs.declared.fault.FaultPlace.TheVariants.{Whole, At}
 use Rattle.sysmem_sanitise.specs.Faults.{wrong}
 use Rattle.sysmem_sanitise.specs.Participant.{Participant}
-use Rattle.sysmem_sanitise.specs.Reading.Bounds.{most}
+use Rattle.sysmem_counts.specs.Bounds.{most_number}
 use Rattle.sysmem_sanitise.specs.Reading.Entries.{entries_of}
 use Rattle.sysmem_sanitise.specs.Reading.Fields.{◌>>=◌, passing, read_each, object_of, optional, stated, number_or, flag_or, list_of, named}
 use Rattle.sysmem_sanitise.specs.Reading.Heaps.{permitted_of}
@@ -41,11 +41,11 @@ usage_of d = do
 
 abbrev pub counts_of : Data → Result CountConstraints Fault
 counts_of d = do
-  camping ← number_or field.MinBufferCountForCamping 0 most d
-  dedicated ← number_or field.MinBufferCountForDedicatedSlack 0 most d
-  shared ← number_or field.MinBufferCountForSharedSlack 0 most d
-  minimum ← number_or field.MinBufferCount 0 most d
-  maximum ← number_or field.MaxBufferCount most most d
+  camping ← number_or field.MinBufferCountForCamping 0 most_number d
+  dedicated ← number_or field.MinBufferCountForDedicatedSlack 0 most_number d
+  shared ← number_or field.MinBufferCountForSharedSlack 0 most_number d
+  minimum ← number_or field.MinBufferCount 0 most_number d
+  maximum ← number_or field.MaxBufferCount most_number most_number d
   Ok (record {
     min_buffer_count_for_camping = camping;
     min_buffer_count_for_dedicated_slack = dedicated;

@@ -52,12 +52,12 @@ asked_of d = do
   modifier ← modifier_beside format d
   Ok (record { format = format; modifier = modifier })
 
-abbrev pub asked_by : Entry → AskedPair
-asked_by entry = record { format = entry.format; modifier = entry.modifier }
+abbrev pub pair_asked : Entry → AskedPair
+pair_asked entry = record { format = entry.format; modifier = entry.modifier }
 
 -- an entry asks for the same
-abbrev pub has_entry : List Entry → AskedPair → Bool
-has_entry entries new = list_any (λ entry. same_asked (asked_by entry) new) entries
+abbrev pub is_asked_already : List Entry → AskedPair → Bool
+is_asked_already entries new = list_any (λ entry. same_asked (pair_asked entry) new) entries
 
 -- one of these pairs asks for the same
 abbrev pub has_asked : List AskedPair → AskedPair → Bool
@@ -68,7 +68,7 @@ abbrev pub with_asked : Option Field → Field → List Entry → List AskedPair
 with_asked lack field entries pairs asked = do
   fitting ← passing (wrong code.TiledMisfit field) (λ pair. not (asks_misfit pair.format pair.modifier)) asked
   roomy ← passing (wrong code.TooMany field) (λ _. nat_lt (length entries + length pairs) 64) fitting
-  new ← passing (wrong code.RepeatedPair field) (λ pair. not (has_entry entries pair || has_asked pairs pair)) roomy
+  new ← passing (wrong code.RepeatedPair field) (λ pair. not (is_asked_already entries pair || has_asked pairs pair)) roomy
   kept lack field (pairs ++ new ∷ [])
 
 abbrev pub is_filled : Option Items → Bool
@@ -111,14 +111,14 @@ asked_pairs lack entries d = do
   optional field.PixelFormatAndModifiers own (further_of lack entries own) d
 
 -- the colour spaces, and the one that an item names, or DO_NOT_CARE
-abbrev pub listed : ColourSet → Option ColourSpace → ColourSet
-listed set None = with_any set
-listed set (Some colour) = with_colour set colour
+abbrev pub with_colour_or_any : ColourSet → Option ColourSpace → ColourSet
+with_colour_or_any set None = with_any set
+with_colour_or_any set (Some colour) = with_colour set colour
 
 abbrev pub with_listed : ColourSet → Data → Result ColourSet Fault
 with_listed set d = do
   colour ← named (choice_named colour_named) field.ColorSpaces d
-  Ok (listed set colour)
+  Ok (with_colour_or_any set colour)
 
 -- a list of colour spaces that isn't empty
 abbrev pub colour_set_of : Data → Result ColourSet Fault

@@ -54,13 +54,13 @@ abbrev pub required : {A : Type 0} → Field → (Data → Result A Fault) → D
 required field read d = stated WrongKind field d >>= read
 
 -- a whole number from 0 to the greatest
-abbrev pub number_of : Field → ℕ → Data → Result ℕ Fault
-number_of field greatest d = do
+abbrev pub number_up_to : Field → ℕ → Data → Result ℕ Fault
+number_up_to field greatest d = do
   n ← ok_or (option_and_then as_u64 (as_number d)) (wrong WrongKind field)
   passing (wrong WrongKind field) (λ n. nat_le n greatest) n
 
 abbrev pub number_or : Field → ℕ → ℕ → Data → Result ℕ Fault
-number_or field absent greatest d = optional field absent (number_of field greatest) d
+number_or field absent greatest d = optional field absent (number_up_to field greatest) d
 
 -- true or false
 abbrev pub flag_of : Field → Data → Result Bool Fault
@@ -120,5 +120,5 @@ abbrev pub IsOr : {A : Type 0} → Fault → A → Result A Fault → Type 0
 IsOr fault a r = (r ≡ Ok a) ⊎ (r ≡ Err fault)
 
 -- a reader that reads the same where memory for another field is refused
-pub record IsSteady {A : Type 0} (said : Option Field → Result A Fault) : Type 0 where
+pub record IsSteadyReader {A : Type 0} (said : Option Field → Result A Fault) : Type 0 where
   pub is : (fault : Fault) (a : A) → said None ≡ Ok a → IsOr fault a (said (lack_of fault))

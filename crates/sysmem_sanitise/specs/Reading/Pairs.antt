@@ -25,8 +25,8 @@ abbrev pub same_colour : ColourSpace → ColourSpace → Bool
 same_colour a b = bytes_eq (colour_name a) (colour_name b)
 
 -- the colour space is among these
-abbrev pub has_colour : List ColourSpace → ColourSpace → Bool
-has_colour colours new = list_any (λ colour. same_colour colour new) colours
+abbrev pub lists_colour : List ColourSpace → ColourSpace → Bool
+lists_colour colours new = list_any (λ colour. same_colour colour new) colours
 
 -- a tiled modifier with a format that isn't of 4 bytes: the test of IsTiledMisfit
 abbrev pub is_tiled_misfit : Pair → Bool

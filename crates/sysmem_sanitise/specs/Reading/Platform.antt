@@ -14,7 +14,7 @@ use Rattle.sysmem_sanitise.specs.Platform.{PlatformFacts}
 use Rattle.sysmem_sanitise.specs.Reading.Fields.{◌>>=◌, passing, kept, read_each, object_of, optional, required, list_of, named}
 use Rattle.sysmem_sanitise.specs.Reading.Heaps.{heaps_of}
 use Rattle.sysmem_sanitise.specs.Reading.Names.{format_named, modifier_named, colour_named}
-use Rattle.sysmem_sanitise.specs.Reading.Pairs.{pair_fields, has_pair, has_colour, is_tiled_misfit}
+use Rattle.sysmem_sanitise.specs.Reading.Pairs.{pair_fields, has_pair, lists_colour, is_tiled_misfit}
 
 -- a format and its modifier, LINEAR if it is missing
 abbrev pub pair_of : Data → Result Pair Fault
@@ -39,16 +39,16 @@ pairs_of lack d = do
   passing (wrong code.BadPlatformList field.Pairs) (λ pairs. not (length pairs == 0)) pairs
 
 -- the colour spaces, and the one that an item names, which isn't there yet
-abbrev pub with_colour : Option Field → List ColourSpace → Data → Result (List ColourSpace) Fault
-with_colour lack colours d = do
+abbrev pub with_new_colour : Option Field → List ColourSpace → Data → Result (List ColourSpace) Fault
+with_new_colour lack colours d = do
   colour ← named colour_named field.ColorSpaces d
-  new ← passing (wrong code.BadPlatformList field.ColorSpaces) (λ colour. not (has_colour colours colour)) colour
+  new ← passing (wrong code.BadPlatformList field.ColorSpaces) (λ colour. not (lists_colour colours colour)) colour
   kept lack field.ColorSpaces (colours ++ new ∷ [])
 
 abbrev pub colours_of : Option Field → Data → Result (List ColourSpace) Fault
 colours_of lack d = do
   items ← list_of field.ColorSpaces d
-  colours ← read_each (with_colour lack) [] items
+  colours ← read_each (with_new_colour lack) [] items
   passing (wrong code.BadPlatformList field.ColorSpaces) (λ colours. not (length colours == 0)) colours
 
 -- the fields of a platform

@@ -3,7 +3,7 @@
 ghost use Rattle.std.specs.Prelude.{◌≡◌, [], None};
 ghost use Rattle.serde_json.specs.View.{view, items_view};
 ghost use Rattle.sysmem_counts.specs.declared.field.Field.TheVariants.{PixelFormatAndModifiers};
-ghost use Rattle.sysmem_sanitise.specs.Reading.Entries.{asked_by, same_format, same_modifier, same_asked, asks_misfit, modifier_beside, asked_of, has_entry, has_asked, with_asked, has_further, no_pair, own_pair, with_further, asked_pairs};
+ghost use Rattle.sysmem_sanitise.specs.Reading.Entries.{pair_asked, same_format, same_modifier, same_asked, asks_misfit, modifier_beside, asked_of, is_asked_already, has_asked, with_asked, has_further, no_pair, own_pair, with_further, asked_pairs};
 ghost use Rattle.sysmem_sanitise.specs.Reading.Fields.{Reads, read_each, seen_by};
 
 use super::field::{add, expect_object, list_of, stated};
@@ -70,8 +70,8 @@ fn is_same(a: AskedPair, b: AskedPair) -> bool
     is_same_format(a.format, b.format) && is_same_modifier(a.modifier, b.modifier)
 }
 
-fn asked_by(entry: &Entry) -> AskedPair
-    ensures { result ≡ asked_by entry.now }
+fn pair_asked(entry: &Entry) -> AskedPair
+    ensures { result ≡ pair_asked entry.now }
 {
     AskedPair {
         format: entry.format,
@@ -79,10 +79,10 @@ fn asked_by(entry: &Entry) -> AskedPair
     }
 }
 
-fn has_entry(entries: &[Entry], new: AskedPair) -> bool
-    ensures { result ≡ has_entry entries.now new }
+fn is_asked_already(entries: &[Entry], new: AskedPair) -> bool
+    ensures { result ≡ is_asked_already entries.now new }
 {
-    entries.iter().any(|entry| is_same(asked_by(entry), new))
+    entries.iter().any(|entry| is_same(pair_asked(entry), new))
 }
 
 fn has_asked(pairs: &[AskedPair], new: AskedPair) -> bool
@@ -106,7 +106,7 @@ fn add_asked(
     if 64 <= entries.len() + pairs.len() {
         return Err(Fault::of(Code::TooMany, field));
     }
-    if has_entry(entries, new) || has_asked(pairs, new) {
+    if is_asked_already(entries, new) || has_asked(pairs, new) {
         return Err(Fault::of(Code::RepeatedPair, field));
     }
     add(pairs, new, field)

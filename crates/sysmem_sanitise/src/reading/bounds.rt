@@ -2,11 +2,11 @@
 
 ghost use Rattle.std.specs.Prelude.{◌≡◌, ◌≤◌, IfOk};
 ghost use Rattle.serde_json.specs.View.{view};
-ghost use Rattle.sysmem_sanitise.specs.Participant.{most_multiple};
+ghost use Rattle.sysmem_image.specs.Size.{most_multiple};
 ghost use Rattle.sysmem_sanitise.specs.Reading.Bounds.{some_number, multiple, large_number, bound_or, bounds_of, is_multiple, stated_bounds, stated_by};
 ghost use Rattle.sysmem_sanitise.specs.Reading.Fields.{seen_by};
 
-use super::field::{count_or, flag_or, number_of};
+use super::field::{count_or, flag_or, number_up_to};
 use super::size::{any_size_or, multiple_size_or, some_size_or};
 use crate::fault::{Code, Fault};
 use serde_json::Value;
@@ -47,7 +47,7 @@ fn some_number_or(object: &Value, field: Field, absent: u32) -> Result<u32, Faul
     match object.get(field.name()) {
         None => Ok(absent),
         Some(value) => {
-            let number = number_of(value, field, u64::from(u32::MAX))?;
+            let number = number_up_to(value, field, u64::from(u32::MAX))?;
             Ok((number as u32).max(1))
         }
     }
@@ -61,7 +61,7 @@ fn multiple_or(object: &Value, field: Field, absent: u32) -> Result<u32, Fault>
     match object.get(field.name()) {
         None => Ok(absent),
         Some(value) => {
-            let number = number_of(value, field, u64::MAX)?;
+            let number = number_up_to(value, field, u64::MAX)?;
             if is_multiple(number) {
                 Ok(number as u32)
             } else {
@@ -77,7 +77,7 @@ fn large_number_or(object: &Value, field: Field, absent: u64) -> Result<u64, Fau
     match object.get(field.name()) {
         None => Ok(absent),
         Some(value) => {
-            let number = number_of(value, field, u64::MAX)?;
+            let number = number_up_to(value, field, u64::MAX)?;
             if 1 <= number {
                 Ok(number)
             } else {

@@ -3,7 +3,7 @@
 ghost use Rattle.std.specs.Prelude.{◌≡◌};
 ghost use Rattle.serde_json.specs.View.{view, items_view};
 ghost use Rattle.sysmem_image.specs.Colours.{no_colours};
-ghost use Rattle.sysmem_sanitise.specs.Reading.Entries.{listed, with_listed, colour_set_of};
+ghost use Rattle.sysmem_sanitise.specs.Reading.Entries.{with_colour_or_any, with_listed, colour_set_of};
 ghost use Rattle.sysmem_sanitise.specs.Reading.Fields.{read_each};
 
 use super::field::list_of;
@@ -14,8 +14,8 @@ use sysmem_counts::Field;
 use sysmem_formats::ColourSpace;
 use sysmem_image::ColourSet;
 
-fn listed(mut set: ColourSet, colour: Option<ColourSpace>) -> ColourSet
-    ensures { result ≡ listed set colour }
+fn with_colour_or_any(mut set: ColourSet, colour: Option<ColourSpace>) -> ColourSet
+    ensures { result ≡ with_colour_or_any set colour }
 {
     match colour {
         None => set.insert_any(),
@@ -27,7 +27,7 @@ fn listed(mut set: ColourSet, colour: Option<ColourSpace>) -> ColourSet
 fn with_listed(set: ColourSet, value: &Value) -> Result<ColourSet, Fault>
     ensures { result ≡ with_listed set (view value.now) }
 {
-    Ok(listed(set, choice_of(value, Field::ColorSpaces)?))
+    Ok(with_colour_or_any(set, choice_of(value, Field::ColorSpaces)?))
 }
 
 fn listed_in(list: &[Value]) -> Result<ColourSet, Fault>

@@ -3,8 +3,8 @@
 ghost use Rattle.std.specs.Prelude.{◌≡◌, ◌≤◌, ◌++◌, ◌∷◌, [], IfOk};
 ghost use Rattle.std.specs.List.{list_all};
 ghost use Rattle.serde_json.specs.View.{view, items_view, members_view};
-ghost use Rattle.sysmem_sanitise.specs.Reading.Bounds.{most};
-ghost use Rattle.sysmem_sanitise.specs.Reading.Fields.{keys_of, object_of, is_key_of, number_of, number_or, flag_or, stated, text_of, list_of, seen_by, kept, Reads};
+ghost use Rattle.sysmem_counts.specs.Bounds.{most_number};
+ghost use Rattle.sysmem_sanitise.specs.Reading.Fields.{keys_of, object_of, is_key_of, number_up_to, number_or, flag_or, stated, text_of, list_of, seen_by, kept, Reads};
 
 use crate::fault::{Code, Fault, FaultPlace};
 use serde_json::{Map, Value};
@@ -54,8 +54,8 @@ pub(super) fn stated(object: &Value, code: Code, field: Field) -> Result<&Value,
 }
 
 /// A whole number from 0 to the greatest.
-pub(super) fn number_of(value: &Value, field: Field, greatest: u64) -> Result<u64, Fault>
-    ensures read { result ≡ number_of field greatest (view value.now) }
+pub(super) fn number_up_to(value: &Value, field: Field, greatest: u64) -> Result<u64, Fault>
+    ensures read { result ≡ number_up_to field greatest (view value.now) }
     ensures fits { IfOk result (λ number. number ≤ greatest) }
 {
     match value.as_u64() {
@@ -76,13 +76,13 @@ pub(super) fn number_or(
 {
     match object.get(field.name()) {
         None => Ok(absent),
-        Some(value) => number_of(value, field, greatest),
+        Some(value) => number_up_to(value, field, greatest),
     }
 }
 
 /// A number of 32 bits.
 pub(super) fn count_or(object: &Value, field: Field, absent: u32) -> Result<u32, Fault>
-    ensures { result ≡ number_or field absent most (view object.now) }
+    ensures { result ≡ number_or field absent most_number (view object.now) }
 {
     let number = number_or(object, field, u64::from(absent), u64::from(u32::MAX))?;
     Ok(number as u32)

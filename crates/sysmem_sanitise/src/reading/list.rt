@@ -3,7 +3,7 @@
 ghost use Rattle.std.specs.Prelude.{[], List};
 ghost use Rattle.serde_json.specs.Data.{Data};
 ghost use Rattle.serde_json.specs.View.{view, items_view};
-ghost use Rattle.sysmem_sanitise.specs.Reading.Fields.{seen_by, read_each, ItemReader, IsSteady, Reads};
+ghost use Rattle.sysmem_sanitise.specs.Reading.Fields.{seen_by, read_each, ItemReader, IsSteadyReader, Reads};
 
 use crate::fault::Fault;
 use serde_json::Value;
@@ -21,7 +21,7 @@ pub(super) trait Listed: Sized + Drop {
 
 /// The items of a list, each added to those before it.
 pub(super) fn list_in<T: Listed>(alloc: Global, list: &[Value]) -> Result<Vec<T>, Fault>
-    requires { (items : List T) (d : Data) → IsSteady (λ lack. T.added lack items d) }
+    requires { (items : List T) (d : Data) → IsSteadyReader (λ lack. T.added lack items d) }
     ensures { Reads (λ lack. read_each (T.added lack) [] (items_view list.now))
         (seen_by (λ items. items.items) result) }
 {

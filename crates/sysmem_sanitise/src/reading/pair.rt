@@ -6,8 +6,8 @@ ghost use Rattle.sysmem_counts.specs.declared.field.Field.TheVariants.{PixelForm
 ghost use Rattle.sysmem_formats.specs.declared.modifier.Modifier.TheVariants.{Linear};
 ghost use Rattle.sysmem_sanitise.specs.Reading.Fields.{seen_by, read_each, Reads, optional, named};
 ghost use Rattle.sysmem_sanitise.specs.Reading.Names.{modifier_named};
-ghost use Rattle.sysmem_sanitise.specs.Reading.Pairs.{same_pair, has_pair, has_colour, is_tiled_misfit};
-ghost use Rattle.sysmem_sanitise.specs.Reading.Platform.{pair_of, with_pair, pairs_of, with_colour, colours_of};
+ghost use Rattle.sysmem_sanitise.specs.Reading.Pairs.{same_pair, has_pair, lists_colour, is_tiled_misfit};
+ghost use Rattle.sysmem_sanitise.specs.Reading.Platform.{pair_of, with_pair, pairs_of, with_new_colour, colours_of};
 
 use super::field::{add, expect_object, list_of, stated};
 use super::list::{Listed, list_in};
@@ -89,18 +89,18 @@ pub(super) fn pairs_of(alloc: Global, value: &Value) -> Result<Vec<Pair>, Fault>
     Ok(pairs)
 }
 
-fn has_colour(colours: &[ColourSpace], new: ColourSpace) -> bool
-    ensures { result ≡ has_colour colours.now new }
+fn lists_colour(colours: &[ColourSpace], new: ColourSpace) -> bool
+    ensures { result ≡ lists_colour colours.now new }
 {
     colours.contains(&new)
 }
 
 impl Listed for ColourSpace {
-    ghost added = { with_colour };
+    ghost added = { with_new_colour };
 
     fn add(_: Global, colours: &mut Vec<ColourSpace>, value: &Value) -> Result<(), Fault> {
         let colour = name_of(value, Field::ColorSpaces)?;
-        if has_colour(colours, colour) {
+        if lists_colour(colours, colour) {
             return Err(Fault::of(Code::BadPlatformList, Field::ColorSpaces));
         }
         add(colours, colour, Field::ColorSpaces)

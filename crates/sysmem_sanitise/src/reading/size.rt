@@ -7,7 +7,7 @@ ghost use Rattle.sysmem_sanitise.specs.Reading.Bounds.{is_side, sides_of, side, 
 ghost use Rattle.sysmem_sanitise.specs.Reading.Fields.{keys_of, seen_by};
 
 use super::bounds::is_multiple;
-use super::field::number_of;
+use super::field::number_up_to;
 use crate::fault::{Code, Fault};
 use serde_json::{Map, Value};
 use sysmem_counts::Field;
@@ -46,7 +46,7 @@ fn side_of(value: &Value, key: &str, field: Field, greatest: u64) -> Result<u64,
 {
     match value.get(key) {
         None => Err(Fault::of(Code::WrongKind, field)),
-        Some(side) => number_of(side, field, greatest),
+        Some(side) => number_up_to(side, field, greatest),
     }
 }
 

@@ -6,7 +6,7 @@ use Rattle.sysmem_tree.specs.Nodes.{HasNode}
 use Rattle.sysmem_tree.specs.Selection.{after, IsPrefix}
 use Rattle.sysmem_proof.specs.Asked.{asked_in}
 use Rattle.sysmem_proof.specs.Base.{Terms, terms_of}
-use Rattle.sysmem_proof.specs.Checker.{forest, terms}
+use Rattle.sysmem_proof.specs.Matter.{forest, terms}
 use Rattle.sysmem_proof.specs.Members.{participants}
 use Rattle.sysmem_proof.proofs.Left.{of_err}
 use Rattle.sysmem_proof.proofs.Choosing.{attached_fails, kept_told, earlier_told, earlier_read, some_terms}

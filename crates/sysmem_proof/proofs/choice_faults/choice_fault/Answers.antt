@@ -1,6 +1,6 @@
 -- The form, and then the rest.
 use Rattle.std.proofs.Common.{sym, subst}
-use Rattle.sysmem_proof.specs.Checker.{forest, terms}
+use Rattle.sysmem_proof.specs.Matter.{forest, terms}
 use Rattle.sysmem_proof.specs.Choice.{FormFaults}
 use Rattle.sysmem_proof.specs.Fault.{IsSelected}
 use Rattle.sysmem_proof.proofs.Left.{of_err}

@@ -5,7 +5,7 @@ use Rattle.sysmem_tree.specs.Forest.{settled}
 use Rattle.sysmem_tree.specs.Nodes.{HasNode}
 use Rattle.sysmem_tree.specs.Selection.{after, IsPrefix}
 use Rattle.sysmem_proof.specs.Asked.{asked_in}
-use Rattle.sysmem_proof.specs.Checker.{forest, terms}
+use Rattle.sysmem_proof.specs.Matter.{forest, terms}
 use Rattle.sysmem_proof.specs.Members.{participants}
 use Rattle.sysmem_proof.specs.Roll.{listed}
 use Rattle.sysmem_merge.specs.Settings.{Meets}

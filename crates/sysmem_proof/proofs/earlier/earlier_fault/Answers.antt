@@ -4,7 +4,7 @@ use Rattle.std.proofs.lemmas.List.{drop_more, take_more}
 use Rattle.sysmem_tree.specs.Selection.{IsPrefix, after}
 use Rattle.sysmem_proof.specs.declared.no.No.TheVariants.{WrongShape}
 use Rattle.sysmem_proof.specs.Certificate.{RefutesEarlier}
-use Rattle.sysmem_proof.specs.Checker.{forest, terms}
+use Rattle.sysmem_proof.specs.Matter.{forest, terms}
 use Rattle.sysmem_proof.specs.Conflict.{IsConflictFor}
 use Rattle.sysmem_proof.specs.Fault.{EarlierFaults, no_list}
 use Rattle.sysmem_proof.proofs.Left.{EarlierTo, of_err, front_at, some_front, drop_over, no_group, group_fails, group_read, all_groups, more_groups}

@@ -2,7 +2,7 @@
 use Rattle.std.proofs.Common.{[], refl, subst, arith}
 use Rattle.std.specs.Prelude.{option_map}
 use Rattle.sysmem_search.specs.Kept.{IsKeptOf}
-use Rattle.sysmem_search.specs.Question.{nodes_ask}
+use Rattle.sysmem_proof.specs.Asked.{asked_in}
 use Rattle.sysmem_search.proofs.AskedMembers.{root_there, same_asked}
 use Rattle.sysmem_search.proofs.Keeping.{have_room}
 use Rattle.sysmem_search.proofs.Shapes.{few_settled}
@@ -24,7 +24,7 @@ pub join_of-requires : goal.join_of-requires
 join_of-requires c =
     let d = forest_of by_number c.args.tree.now.nodes c.args.domain [] in
     let few = few_settled c.args.tree.now.nodes c.args.domain [] d c.nodes.ensures.sound.tree (root_there c.args.tree.now.nodes c.args.domain c.requires.domain) refl in
-    have_room c.args.platform.now c.args.tree.now.nodes (option_map (λ b. b.now) c.args.base) c.in_ok-none.none c.in_ok-part.part [] (nodes_ask c.args.tree.now.nodes (settled d))
+    have_room c.args.platform.now c.args.tree.now.nodes (option_map (λ b. b.now) c.args.base) c.in_ok-none.none c.in_ok-part.part [] (asked_in c.args.tree.now.nodes (settled d))
     c.in_ok-none.ensures (c.in_ok-part.ensures (settled d) (c.settled_first.ensures d c.requires.lays))
     (few_accepted c.args.platform.now c.args.tree.now.nodes c.args.domain (option_map (λ b. b.now) c.args.base) c.nodes.ensures.sound.tree.few c.requires.base)
     (omega arith) (omega (arith, few, few_asked_of c.args.tree.now.nodes (settled d)))
@@ -36,7 +36,7 @@ returns c =
       leads = refl;
       kept = subst (IsKeptOf c.args.platform.now c.args.tree.now.nodes (option_map (λ b. b.now) c.args.base) c.join_of.new.self)
           (same_asked c.args.tree.now.nodes c.args.domain [] d (shape_of c.args.tree.now.nodes c.args.domain) refl refl)
-          (c.join_of.ensures c.args.tree.now.nodes (option_map (λ b. b.now) c.args.base) [] [] (nodes_ask c.args.tree.now.nodes (settled d)) c.in_ok-kept.ensures c.in_ok-none.ensures
+          (c.join_of.ensures c.args.tree.now.nodes (option_map (λ b. b.now) c.args.base) [] [] (asked_in c.args.tree.now.nodes (settled d)) c.in_ok-kept.ensures c.in_ok-none.ensures
           (c.in_ok-part.ensures (settled d) (c.settled_first.ensures d c.requires.lays)));
       group = c.first_open-group.ensures d c.requires.lays;
     }

@@ -1,5 +1,5 @@
 -- At a selection there are best settings, and nothing is earlier; or none meet, and there is a conflict.
-use Rattle.sysmem_search.specs.Question.{forest}
+use Rattle.sysmem_proof.specs.Matter.{forest}
 use Rattle.sysmem_search.proofs.Trailing.{nothing_earlier}
 use Rattle.sysmem_search.proofs.Unmet.{unmet_selection}
 use Rattle.sysmem_tree.specs.Selection.{after}

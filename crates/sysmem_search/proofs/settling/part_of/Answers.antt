@@ -4,7 +4,7 @@ use Rattle.std.specs.Prelude.{option_map}
 use Rattle.std.specs.List.{cons_option}
 use Rattle.std.proofs.lemmas.List.Elements.{filter_map-append}
 use Rattle.sysmem_search.specs.Kept.{IsPart}
-use Rattle.sysmem_search.specs.Question.{node_asks, nodes_ask}
+use Rattle.sysmem_proof.specs.Asked.{asks_at, asked_in}
 use Rattle.sysmem_search.proofs.Keeping.{has_room}
 use Rattle.sysmem_search.proofs.Taking.{told, few_asked_of}
 use Rattle.sysmem_search.proofs.Walking.{gives_same, take_one}
@@ -24,7 +24,7 @@ loop-step-init c = (
 pub add_asked-requires : goal.add_asked-requires
 add_asked-requires c =
     let (taken, few, is, walk) = c.loop-step.invariant in
-    has_room c.args.platform.now (option_map (λ b. b.now) c.args.base) c.loop-step.part (nodes_ask c.args.tree.now.nodes taken) is
+    has_room c.args.platform.now (option_map (λ b. b.now) c.args.base) c.loop-step.part (asked_in c.args.tree.now.nodes taken) is
     (omega (arith, few_asked_of c.args.tree.now.nodes taken, few, c.loop-step-test.true))
 
 pub loop-step-preserved : goal.loop-step-preserved
@@ -33,9 +33,9 @@ loop-step-preserved c =
     let nodes = c.args.tree.now.nodes in
     let node = c.in-Some.node in
     let asked = told nodes node _ (c.in-Some.ensures.there nodes c.requires.there) c.constraints_of.ensures in
-    let more : nodes_ask nodes (taken ++ node ∷ []) ≡ nodes_ask nodes taken ++ cons_option (node_asks nodes node) [] = filter_map-append (node_asks nodes) taken (node ∷ []) in (
+    let more : asked_in nodes (taken ++ node ∷ []) ≡ asked_in nodes taken ++ cons_option (asks_at nodes node) [] = filter_map-append (asks_at nodes) taken (node ∷ []) in (
       taken ++ node ∷ [],
       omega (arith, few, length-append taken (node ∷ [])),
-      subst (IsPart c.args.platform.now (option_map (λ b. b.now) c.args.base) c.add_asked.new.part) (ap (λ o. nodes_ask nodes taken ++ cons_option o []) asked ∙ sym more) (c.add_asked.ensures (nodes_ask nodes taken) is),
+      subst (IsPart c.args.platform.now (option_map (λ b. b.now) c.args.base) c.add_asked.new.part) (ap (λ o. asked_in nodes taken ++ cons_option o []) asked ∙ sym more) (c.add_asked.ensures (asked_in nodes taken) is),
       λ ns has. take_one c.args.layout.now [] taken c.loop-step.left c.next_settled.new.walk c.next_settled.result node c.loop-step._step ns (walk ns has) c.next_settled.ensures.next c.in-Some.is,
     )

@@ -4,7 +4,7 @@ use Rattle.std.specs.Prelude.{option_map}
 use Rattle.sysmem_proof.specs.Base.{IsGivenBase}
 use Rattle.sysmem_search.specs.declared.kept.Kept.TheVariants as kept_as
 use Rattle.sysmem_search.specs.Kept.{IsKeptOf, TakesBase}
-use Rattle.sysmem_search.specs.Question.{nodes_ask}
+use Rattle.sysmem_proof.specs.Asked.{asked_in}
 use Rattle.sysmem_search.proofs.Walking.{elsewhere_there, few_different}
 use Rattle.sysmem_search.proofs.kept.Kept.new.Goals as goal
 
@@ -16,4 +16,4 @@ behind-requires-clause-few c =
 
 pub returns-in-Some : goal.returns-in-Some
 returns-in-Some c = subst (λ o. IsKeptOf c.args.platform.now c.args.tree.now.nodes o (kept_as.OnBase c.behind.result) []) (sym (ap (option_map (λ b. b.now)) c.in-Some.is))
-    (subst (λ xs. TakesBase c.args.platform.now c.in-Some.base.now.settings (nodes_ask c.args.tree.now.nodes xs) c.behind.result []) c.accepted.ensures (c.behind.ensures c.args.platform.now c.in-Some.base.now.settings))
+    (subst (λ xs. TakesBase c.args.platform.now c.in-Some.base.now.settings (asked_in c.args.tree.now.nodes xs) c.behind.result []) c.accepted.ensures (c.behind.ensures c.args.platform.now c.in-Some.base.now.settings))

@@ -5,12 +5,12 @@ use Rattle.std.proofs.lemmas.List.Elements.{All-nil}
 use Rattle.sysmem_counts.specs.Bounds.{IsTallyOf}
 use Rattle.sysmem_merge.specs.Demands.{counts_asked}
 use Rattle.sysmem_merge.specs.Settings.{CoversOn}
-use Rattle.sysmem_search.specs.Question.{nodes_ask}
+use Rattle.sysmem_proof.specs.Asked.{asked_in}
 use Rattle.sysmem_search.proofs.on_base.OnBase.behind.Goals as goal
 
 pub returns : goal.returns
 returns c = λ platform settings. record {
-  counts = subst (IsTallyOf c.add_counts.new.counts) (sym (append-nil (counts_asked (nodes_ask c.args.tree.now.nodes c.args.accepted.now)))) (c.add_counts.ensures.added [] c.new-counts.ensures.stands);
+  counts = subst (IsTallyOf c.add_counts.new.counts) (sym (append-nil (counts_asked (asked_in c.args.tree.now.nodes c.args.accepted.now)))) (c.add_counts.ensures.added [] c.new-counts.ensures.stands);
   small = omega (arith, c.add_counts.ensures.grows, c.new-counts.ensures.nothing);
   accept = (λ is. All-nil (CoversOn platform settings), λ all. refl);
 }

@@ -3,7 +3,8 @@ use Rattle.std.proofs.Common.{sym, subst}
 use Rattle.std.specs.Prelude.{IfSome, option_map}
 use Rattle.sysmem_merge.specs.declared.settings.Settings.{Settings}
 use Rattle.sysmem_proof.specs.Conflict.{IsConflictFor}
-use Rattle.sysmem_search.specs.Question.{Matter, forest, terms, MeetsHere}
+use Rattle.sysmem_search.specs.Question.{MeetsHere}
+use Rattle.sysmem_proof.specs.Matter.{Matter, forest, terms}
 use Rattle.sysmem_search.proofs.AskedMembers.{if_some}
 use Rattle.sysmem_search.proofs.Unmet.{no_conflict}
 use Rattle.sysmem_tree.specs.Selection.{IsPrefix, after}

@@ -6,7 +6,7 @@ use Rattle.sysmem_proof.specs.Members.{participants}
 use Rattle.sysmem_search.specs.declared.kept.Part.{Part}
 use Rattle.sysmem_search.specs.declared.levels.Level.{Level}
 use Rattle.sysmem_search.specs.Kept.{IsKeptOf}
-use Rattle.sysmem_search.specs.Question.{Matter}
+use Rattle.sysmem_proof.specs.Matter.{Matter}
 use Rattle.sysmem_search.specs.Standing.{AreLevels, AreMade, IsLevel}
 use Rattle.sysmem_tree.specs.declared.layout.Layout.{Layout}
 use Rattle.sysmem_tree.specs.Forest.{settled}
