@@ -1,6 +1,7 @@
 -- What a check of a file says of its inputs, from what it says of the bytes that it read.
-use Rattle.std.proofs.Common.{◌≡◌, ◌≢◌, ℕ, ◌<◌, ◌≤◌, ◌++◌, List, [], length, Option, Some, None, Result, Ok, Err, refl, sym, ◌∙◌, ap, subst, arith, length-append}
-use Rattle.std.specs.Prelude.{IfErr, IfSome}
+use Rattle.std.proofs.lemmas.Bool.{cases_order}
+use Rattle.std.proofs.Common.{◌≡◌, ◌≢◌, inl, inr, ℕ, ◌<◌, ◌≤◌, ◌++◌, List, [], length, Option, Some, None, Result, Ok, Err, refl, sym, ◌∙◌, ap, subst, arith, length-append}
+use Rattle.std.specs.Prelude.{◌↔◌, IfSome}
 use Rattle.std.specs.Io.KnownBytes.{Appends}
 use Rattle.byte_transfer.specs.declared.fault.ReadFault.{ReadFault}
 use Rattle.byte_transfer.specs.declared.fault.ReadFault.TheVariants as reading
@@ -27,6 +28,7 @@ use Rattle.script_run.specs.declared.running.Ended.TheVariants.{CheckedNo, Done}
 use Rattle.script_run.specs.CheckedFile.{AnswersIn, HasChecked, IfBoth, IsListOf, IsNoList, IsRefusal, IsRefused, IsScriptFault, IsScriptOf, IsValueOf, WritesAnswer, WritesAnswerPart, WritesNo}
 use Rattle.script_run.specs.Faults.{fault_of_parse, fault_of_read}
 use Rattle.script_run.specs.Outcome.{RunsTo, anyhow, refused}
+use Rattle.script_run.specs.Run.{IsCausedBy, both_counts}
 use Rattle.script_run.proofs.RunLemmas.{Appends-nothing, runs-input, whole-read}
 
 -- ---- from bytes to values
@@ -206,3 +208,18 @@ module _ (had left proof proof_left : Option (List ℕ)) (bytes certificate : Li
         front = λ e. absurd (cc);
         unwritten = λ found e not. absurd (cc);
       }
+
+-- ---- read faults
+
+-- where no failure is answered, none was counted
+pub same_count : (a b : ℕ) (F : Type 0) → (¬ F) → F ↔ (a ≢ b) → a ≡ b
+same_count a b F none cause = elim (cases_order a b) as (λ _. a ≡ b) [
+  | inl same ↦ same
+  | inr (inl less) ↦ absurd (none (cause.1 (λ e. absurd (omega (arith, less, e)))))
+  | inr (inr more) ↦ absurd (none (cause.1 (λ e. absurd (omega (arith, more, e)))))
+]
+
+pub not_caused : (F : Type 0) (a b c d : ℕ) → (¬ F) → a ≡ c → b ≡ d → IsCausedBy F (both_counts c d) (both_counts a b)
+not_caused F a b c d none e f =
+    let same : both_counts a b ≡ both_counts c d = cc in
+    record { cause = (λ is. absurd (none is), λ differs. absurd (differs same)); kept = λ _. same }

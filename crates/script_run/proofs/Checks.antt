@@ -1,22 +1,29 @@
 -- One object more that is taken as a decision, and what a certificate's objects have answered.
-use Rattle.std.proofs.Common.{◌≡◌, ℕ, zero, suc, ◌+◌, ◌<◌, ◌≤◌, ◌++◌, List, [], ◌∷◌, length, map, take, drop, Bool, false, Option, Some, None, slice_get, sym, ◌∙◌, ap, subst, refl, arith}
+use Rattle.std.proofs.Common.{◌≡◌, ℕ, zero, suc, ◌+◌, ◌<◌, ◌≤◌, ◌++◌, List, [], ◌∷◌, length, map, take, drop, Bool, false, Option, Some, None, slice_get, inl, inr, sym, ◌∙◌, ap, subst, refl, arith}
 use Rattle.std.proofs.lemmas.List.{map-append, length-map, take-append-drop, at_drop_all}
-use Rattle.std.specs.Prelude.{IsSomeAnd}
+use Rattle.std.specs.Prelude.{IsSomeAnd, option_map}
 use Rattle.std.specs.List.{AllZip}
 use Rattle.serde_json.specs.Data.{Data}
 use Rattle.serde_json.specs.View.{view}
 use Rattle.serde_json.specs.declared.value.Value.{Value}
-use Rattle.sysmem_alloc.specs.State.{State as BookState}
+use Rattle.certificate_text.specs.Said.{claim_said}
+use Rattle.sysmem_alloc.specs.State.{State as BookState, base_of}
+use Rattle.sysmem_proof.specs.Base.{BaseFacts, terms_of}
+use Rattle.sysmem_proof.specs.Fault.{VerdictFaults}
+use Rattle.sysmem_tree.specs.Domain.{TreeFacts}
+use Rattle.sysmem_tree.specs.Shape.{shape_of}
 use Rattle.sysmem_proof.specs.declared.certificate.Claim.{Claim}
 use Rattle.sysmem_sanitise.specs.Platform.{PlatformFacts}
 use Rattle.sysmem_tree.specs.Path.{path_of}
 use Rattle.script_reading.specs.Script.{CallFacts}
-use Rattle.script_run.specs.Checked.{Answers, AreTaken, ClaimFails, FailsAtDomain, FailsNext, IsOf, NextFails, TakesClaim, accepts, has_more, objects_to, too_many}
+use Rattle.script_run.specs.Checked.{Answers, AreTaken, ClaimFails, FailsAtDomain, FailsNext, IsOf, NextFails, SaidFails, TakesClaim, accepts, has_more, objects_to, too_many}
 use Rattle.script_run.specs.declared.checked_file.CheckAnswer.{CheckAnswer}
 use Rattle.script_run.specs.declared.checked_file.CheckAnswer.TheVariants as answers
 use Rattle.script_run.specs.declared.decider.Objection.{Objection}
 use Rattle.script_run.specs.Report.{Certified, IsReported}
-use Rattle.script_run.specs.Stop.{IsStopped}
+use Rattle.script_run.specs.Stop.{IfObjects, IsStopped}
+use Rattle.script_run.specs.declared.decider.Stop.{Stop}
+use Rattle.script_run.specs.declared.decider.Stop.TheVariants.{Refused}
 use Rattle.script_run.proofs.Following.{goes_platform}
 use Rattle.sysmem_proof.specs.declared.no.No.{No}
 use Rattle.sysmem_proof.specs.declared.no.No.TheVariants.{WrongShape}
@@ -59,26 +66,48 @@ there_left [] k v here = absurd (cc)
 there_left (x ∷ vs) zero v here = let same : x ≡ v = cc in ap (λ z. view z ∷ map view vs) same
 there_left (x ∷ vs) (suc k) v here = there_left vs k v here
 
-none_left : (vs : List Value) (k : ℕ) → slice_get vs k ≡ None → map view (drop k vs) ≡ []
-none_left [] zero here = refl
-none_left [] (suc k) here = refl
-none_left (x ∷ vs) zero here = absurd (cc)
-none_left (x ∷ vs) (suc k) here = none_left vs k here
+none_left : (vs : List Value) (k : ℕ) → length vs ≤ k → map view (drop k vs) ≡ []
+none_left vs k past = at_drop_all (map view) vs k past
 
 -- the next object fails, or it is missing
-pub fails_there : (platform : PlatformFacts) (b : BookState) (r : ℕ) (vs : List Value) (k : ℕ) (v : Value) (o : Objection) → slice_get vs k ≡ Some v → o.path ≡ path_of b.tree.nodes r
-    → ClaimFails platform b r (view v) o.no → FailsNext (map view (drop k vs)) platform b r o
-fails_there platform b r vs k v o here path fails = record {
+pub fails_there : (platform : PlatformFacts) (b : BookState) (r : ℕ) (vs : List Value) (k : ℕ) (v : Value) (o : Objection) (why : No) → slice_get vs k ≡ Some v → o.path ≡ path_of b.tree.nodes r
+    → why ≡ o.no → ClaimFails platform b r (view v) why → FailsNext (map view (drop k vs)) platform b r o
+fails_there platform b r vs k v o why here path same fails = record {
   path = path;
-  no = subst (λ left. NextFails platform b r left o.no) (sym (there_left vs k v here)) fails;
+  no = subst (λ left. NextFails platform b r left o.no) (sym (there_left vs k v here)) (subst (ClaimFails platform b r (view v)) same fails);
 }
 
-pub fails_missing : (platform : PlatformFacts) (b : BookState) (r : ℕ) (vs : List Value) (k : ℕ) (o : Objection) → slice_get vs k ≡ None → o.path ≡ path_of b.tree.nodes r → o.no ≡ WrongShape
+pub fails_missing : (platform : PlatformFacts) (b : BookState) (r : ℕ) (vs : List Value) (k : ℕ) (o : Objection) → length vs ≤ k → o.path ≡ path_of b.tree.nodes r → o.no ≡ WrongShape
     → FailsNext (map view (drop k vs)) platform b r o
-fails_missing platform b r vs k o here path no = record {
+fails_missing platform b r vs k o here path why = record {
   path = path;
-  no = subst (λ left. NextFails platform b r left o.no) (sym (none_left vs k here)) no;
+  no = subst (λ left. NextFails platform b r left o.no) (sym (none_left vs k here)) why;
 }
+
+pub objects_as : (stop : Stop) (o : Objection) (P : Objection → Type 0) → stop ≡ Refused o → P o → IfObjects stop P
+objects_as stop o P is h = subst (λ s. IfObjects s P) (sym is) h
+
+pub some_and : {X : Type 0} (o : Option X) (x : X) (P : X → Type 0) → o ≡ Some x → P x → IsSomeAnd o P
+some_and o x P is h = subst (λ z. IsSomeAnd z P) (sym is) h
+
+-- ---- a claim
+
+-- what an object says
+pub said_as : (p q : PlatformFacts) (d : Data) (read : List ℕ × Claim) (here : List ℕ) → q ≡ p → claim_said q d ≡ Some read → read.0 ≡ here → claim_said p d ≡ Some (here, read.1)
+said_as p q d read here same said path =
+    let first : claim_said p d ≡ Some read = subst (λ x. claim_said x d ≡ Some read) same said in
+    first ∙ ap (λ (ts : List ℕ). let c : List ℕ × Claim = (ts, read.1) in Some c) path
+
+-- its claim fails
+pub claim_fails : (p q : PlatformFacts) (b : BookState) (t : TreeFacts) (r : ℕ) (d : Data) (read : List ℕ × Claim) (base : Option BaseFacts) (why : No) → q ≡ p → t ≡ b.tree → base ≡ base_of b r
+    → claim_said q d ≡ Some read → read.0 ≡ path_of b.tree.nodes r → VerdictFaults q (option_map (terms_of t.nodes) base) (shape_of t.nodes r) read.1.verdict read.1.proof why
+    → ClaimFails p b r d why
+claim_fails p q b t r d read base why same_p same_t same_base said path faults =
+    let first = subst (λ x. VerdictFaults x (option_map (terms_of t.nodes) base) (shape_of t.nodes r) read.1.verdict read.1.proof why) same_p faults in
+    let second = subst (λ (x : TreeFacts). VerdictFaults p (option_map (terms_of x.nodes) base) (shape_of x.nodes r) read.1.verdict read.1.proof why) same_t first in
+    let third = subst (λ x. VerdictFaults p (option_map (terms_of b.tree.nodes) x) (shape_of b.tree.nodes r) read.1.verdict read.1.proof why) same_base second in
+    let says : claim_said p d ≡ Some read = subst (λ x. claim_said x d ≡ Some read) same_p said in
+    subst (λ o. SaidFails p b r o why) (sym says) (inr (path, third))
 
 -- ---- all objects
 
@@ -100,7 +129,7 @@ head_left (x ∷ vs) zero less = (view x, map view vs, refl)
 head_left (x ∷ vs) (suc k) less = head_left vs k (omega (arith, less))
 
 module _ (platform : PlatformFacts) (rs : List CallFacts) (objects now : List Value) (k : ℕ) (same : map view now ≡ map view objects) (text : List ℕ) where
-  Said : Bool → Type 0
+  abbrev Said : Bool → Type 0
   Said starved = IsReported platform rs (AllZip (IsOf platform) (map view (take k now))) text starved
 
   taken : (starved : Bool) → starved ≡ false → Said starved → AreTaken platform rs (map view (take k now))
@@ -119,13 +148,13 @@ module _ (platform : PlatformFacts) (rs : List CallFacts) (objects now : List Va
       has_more (map view (take k now)) left object (sym same ∙ (split_at now k ∙ ap (λ ds. map view (take k now) ++ ds) head)) (taken starved fed said)
 
 -- the next one fails
-pub stopped_at : (platform : PlatformFacts) (rs : List CallFacts) (objects first now : List Value) (j k : ℕ) (o : Objection) → first ≡ objects → j ≡ 0 → map view now ≡ map view objects
+pub stopped_at : (platform : PlatformFacts) (rs : List CallFacts) (objects first now : List Value) (j k : ℕ) (o n : Objection) → n ≡ o → first ≡ objects → j ≡ 0 → map view now ≡ map view objects
     → IsStopped platform rs (AllZip (IsOf platform) (map view (take j first))) (AllZip (IsOf platform) (map view (take k now)))
-    (λ p b r objection. FailsNext (map view (drop k now)) p b r objection) o
+    (λ p b r objection. FailsNext (map view (drop k now)) p b r objection) n
     → Answers platform rs (map view objects) (answers.No o)
-stopped_at platform rs objects first now j k o is none same stopped =
+stopped_at platform rs objects first now j k o n this is none same stopped =
     let none_taken : AllZip (IsOf platform) (map view (take j first)) [] = rw none tt in
-    objects_to o (record {
+    subst (λ z. Answers platform rs (map view objects) (answers.No z)) this (objects_to n (record {
       made = stopped.stops.made;
       rest = stopped.stops.left;
       in_order = stopped.stops.split;
@@ -140,5 +169,5 @@ stopped_at platform rs objects first now j k o is none same stopped =
       fed = stopped.fed;
       domain = stopped.stops.domain;
       next = stopped.stops.next;
-      fails = subst (λ p. FailsNext (map view (drop k now)) p stopped.last.book stopped.stops.domain o) (goes_platform 1 _ _ _ _ _ stopped.stops.goes) stopped.stops.object;
-    })
+      fails = subst (λ p. FailsNext (map view (drop k now)) p stopped.last.book stopped.stops.domain n) (goes_platform 1 _ _ _ _ _ stopped.stops.goes) stopped.stops.object;
+    }))

@@ -37,10 +37,10 @@ use Rattle.script_run.proofs.AnswerLemmas.{one_value}
 use Rattle.script_run.proofs.Following.{replies_platform}
 use Rattle.script_run.proofs.Unique.{answer_for, is_answer, unstarved_before}
 
--- where the calls and the objects end: all are there, an object is left, or the next one fails
+-- where the calls and the objects end: all are there, an one is left, or the next one fails
 data Ends (platform : PlatformFacts) (rest : List CallFacts) (left : List Data) (t : RunState) : CheckAnswer → Type 0 where
   all : next_ready t.book ≡ None → rest ≡ [] → left ≡ [] → Ends platform rest left t answers.Yes
-  more : (object : Data) (others : List Data) → next_ready t.book ≡ None → rest ≡ [] → left ≡ object ∷ others → Ends platform rest left t too_many
+  more : (one : Data) (others : List Data) → next_ready t.book ≡ None → rest ≡ [] → left ≡ one ∷ others → Ends platform rest left t too_many
   fails : (r : ℕ) (o : Objection) → next_ready t.book ≡ Some r → FailsNext left platform t.book r o → Ends platform rest left t (answers.No o)
 
 -- calls and decisions from a state to such an end
@@ -90,12 +90,12 @@ way_of platform rs objects _ (objects_to o h) = record {
   fed = h.fed;
   ends = fails h.domain o h.next h.fails;
 }
-way_of platform rs objects _ (has_more first left object split taken) = record {
+way_of platform rs objects _ (has_more first left one split taken) = record {
   made = rs;
   rest = [];
   in_order = sym (append-nil rs);
   taken = first;
-  left = object ∷ left;
+  left = one ∷ left;
   split = split;
   lines = taken.report.report.lines;
   decisions = taken.report.decisions;
@@ -103,7 +103,7 @@ way_of platform rs objects _ (has_more first left object split taken) = record {
   goes = taken.report.report.goes;
   are_of = taken.report.gave;
   fed = sym taken.report.report.memory;
-  ends = more object left taken.report.report.done refl refl;
+  ends = more one left taken.report.report.done refl refl;
 }
 
 no_next : (b : BookState) (r : ℕ) → next_ready b ≡ None → next_ready b ≡ Some r → ⊥
@@ -119,12 +119,12 @@ tails : {X : Type 0} (x y : X) (xs ys : List X) → x ∷ xs ≡ y ∷ ys → xs
 tails x y xs ys e = cc
 
 same_objection : (a b : Objection) → a.no ≡ b.no → a.path ≡ b.path → a ≡ b
-same_objection a b no path =
-    let first : a ≡ record { no = b.no; path = a.path } = ap (λ (n : No). let o : Objection = record { no = n; path = a.path } in o) no in
+same_objection a b number path =
+    let first : a ≡ record { no = b.no; path = a.path } = ap (λ (n : No). let o : Objection = record { no = n; path = a.path } in o) number in
     first ∙ ap (λ (p : List ℕ). let o : Objection = record { no = b.no; path = p } in o) path
 
 module _ (exact : TestsAreExact) (law : FaultsAreFirst) (platform : PlatformFacts) where
-  -- what fails first of an object is one test
+  -- what fails first of an one is one test
   one_fault : (b : BookState) (r : ℕ) (said : Option (List ℕ × Claim)) (x y : No) → SaidFails platform b r said x → SaidFails platform b r said y → x ≡ y
   one_fault b r None x y e f = e ∙ sym f
   one_fault b r (Some c) x y (inl e) (inl f) = e.1 ∙ sym f.1
@@ -135,7 +135,7 @@ module _ (exact : TestsAreExact) (law : FaultsAreFirst) (platform : PlatformFact
 
   one_next : (left : List Data) (b : BookState) (r : ℕ) (x y : No) → NextFails platform b r left x → NextFails platform b r left y → x ≡ y
   one_next [] b r x y e f = e ∙ sym f
-  one_next (object ∷ left) b r x y e f = one_fault b r (claim_said platform object) x y e f
+  one_next (d ∷ left) b r x y e f = one_fault b r (claim_said platform d) x y e f
 
   -- what is true doesn't fail
   true_said : (b : BookState) (r : ℕ) (claim : Claim) (said : Option (List ℕ × Claim)) (why : No) → said ≡ Some (path_of b.tree.nodes r, claim)
@@ -155,46 +155,46 @@ module _ (exact : TestsAreExact) (law : FaultsAreFirst) (platform : PlatformFact
       subst (λ o. IfSome o (IsTrueClaim s.platform s.book.tree.nodes c.domain (base_of s.book c.domain))) is allowed.1 in
       subst (λ p. IsTrueClaim p s.book.tree.nodes c.domain (base_of s.book c.domain) claim) same there
 
-  -- an object that was taken doesn't fail
-  not_both : (s : RunState) (c : Claimed) (object : Data) (left : List Data) (r : ℕ) (o : Objection) → s.platform ≡ platform → Allows s.platform s.book (Decided c)
-      → IsOf platform object (certified s c) → next_ready s.book ≡ Some r → FailsNext (object ∷ left) platform s.book r o → ⊥
-  not_both s c object left r o same allowed of next h =
+  -- an one that was taken doesn't fail
+  not_both : (s : RunState) (c : Claimed) (one : Data) (left : List Data) (r : ℕ) (o : Objection) → s.platform ≡ platform → Allows s.platform s.book (Decided c)
+      → IsOf platform one (certified s c) → next_ready s.book ≡ Some r → FailsNext (one ∷ left) platform s.book r o → ⊥
+  not_both s c one left r o same allowed of next h =
       let own : r ≡ c.domain = same_Some r c.domain (sym next ∙ allowed.0) in
-      let no : ClaimFails platform s.book c.domain object o.no = subst (λ k. ClaimFails platform s.book k object o.no) own h.no in
-      true_said s.book c.domain of.claim (claim_said platform object) o.no of.says (true_claim s c of.claim same allowed of.taken) no
+      let no : ClaimFails platform s.book c.domain one o.no = subst (λ k. ClaimFails platform s.book k one o.no) own h.no in
+      true_said s.book c.domain of.claim (claim_said platform one) o.no of.says (true_claim s c of.claim same allowed of.taken) no
 
   -- a state at which there is an end isn't gone on from
   no_call_on : (s : RunState) (r : CallFacts) (rs rest : List CallFacts) (left : List Data) (a : CheckAnswer) → next_ready s.book ≡ None → rest ≡ r ∷ rs → Ends platform rest left s a → ⊥
   no_call_on s r rs rest left _ idle some (all next none empty) = no_rest r rs rest none some
-  no_call_on s r rs rest left _ idle some (more object others next none empty) = no_rest r rs rest none some
+  no_call_on s r rs rest left _ idle some (more one others next none empty) = no_rest r rs rest none some
   no_call_on s r rs rest left _ idle some (fails k o next h) = no_next s.book k idle next
 
   no_decision_on : (s : RunState) (c : Claimed) (rest : List CallFacts) (left held kept : List Data) (cs : List Certified) (a : CheckAnswer) → s.platform ≡ platform
       → Allows s.platform s.book (Decided c) → AllZip (IsOf platform) held (certified s c ∷ cs) → left ≡ held ++ kept → Ends platform rest left s a → ⊥
   no_decision_on s c rest left [] kept cs a same allowed zip split ends = absurd zip
   no_decision_on s c rest left (x ∷ held) kept cs _ same allowed zip split (all next none empty) = no_next s.book c.domain next allowed.0
-  no_decision_on s c rest left (x ∷ held) kept cs _ same allowed zip split (more object others next none empty) = no_next s.book c.domain next allowed.0
+  no_decision_on s c rest left (x ∷ held) kept cs _ same allowed zip split (more one others next none empty) = no_next s.book c.domain next allowed.0
   no_decision_on s c rest left (x ∷ held) kept cs _ same allowed zip split (fails r o next h) =
       not_both s c x (held ++ kept) r o same allowed zip.0 next (subst (λ l. FailsNext l platform s.book r o) split h)
 
   -- at one state there is one end
   one_end : (s : RunState) (rest other : List CallFacts) (left kept : List Data) (a b : CheckAnswer) → rest ≡ other → left ≡ kept → Ends platform rest left s a → Ends platform other kept s b → a ≡ b
   one_end s rest other left kept _ _ e f (all next none empty) (all next' none' empty') = refl
-  one_end s rest other left kept _ _ e f (all next none empty) (more object others next' none' empty') = absurd (no_rest object others kept (sym f ∙ empty) empty')
+  one_end s rest other left kept _ _ e f (all next none empty) (more one others next' none' empty') = absurd (no_rest one others kept (sym f ∙ empty) empty')
   one_end s rest other left kept _ _ e f (all next none empty) (fails r o next' h) = absurd (no_next s.book r next next')
-  one_end s rest other left kept _ _ e f (more object others next none empty) (all next' none' empty') = absurd (no_rest object others left (f ∙ empty') empty)
-  one_end s rest other left kept _ _ e f (more object others next none empty) (more object' others' next' none' empty') = refl
-  one_end s rest other left kept _ _ e f (more object others next none empty) (fails r o next' h) = absurd (no_next s.book r next next')
+  one_end s rest other left kept _ _ e f (more one others next none empty) (all next' none' empty') = absurd (no_rest one others left (f ∙ empty') empty)
+  one_end s rest other left kept _ _ e f (more one others next none empty) (more one' others' next' none' empty') = refl
+  one_end s rest other left kept _ _ e f (more one others next none empty) (fails r o next' h) = absurd (no_next s.book r next next')
   one_end s rest other left kept _ _ e f (fails r o next h) (all next' none' empty') = absurd (no_next s.book r next' next)
-  one_end s rest other left kept _ _ e f (fails r o next h) (more object others next' none' empty') = absurd (no_next s.book r next' next)
+  one_end s rest other left kept _ _ e f (fails r o next h) (more one others next' none' empty') = absurd (no_next s.book r next' next)
   one_end s rest other left kept _ _ e f (fails r o next h) (fails k q next' h') =
       let own : k ≡ r = same_Some k r (sym next' ∙ next) in
       let there : FailsNext left platform s.book r q = subst (λ l. FailsNext l platform s.book r q) (sym f) (subst (λ j. FailsNext kept platform s.book j q) own h') in
       ap answers.No (same_objection o q (one_next left s.book r o.no q.no h.no there.no) (h.path ∙ sym there.path))
 
-  -- the claims that one object makes are one
-  one_claim : (object : Data) (s : RunState) (c e : Claimed) → c.domain ≡ e.domain → IsOf platform object (certified s c) → IsOf platform object (certified s e) → c ≡ e
-  one_claim object s c e own of of' =
+  -- the claims that one one makes are one
+  one_claim : (one : Data) (s : RunState) (c e : Claimed) → c.domain ≡ e.domain → IsOf platform one (certified s c) → IsOf platform one (certified s e) → c ≡ e
+  one_claim one s c e own of of' =
       let said : of.claim ≡ of'.claim = ap (λ p. p.1) (same_Some _ _ (sym of.says ∙ of'.says)) in
       let claim : c.claim ≡ e.claim = of.taken ∙ (ap Some said ∙ sym of'.taken) in
       let first : c ≡ record { domain = e.domain; claim = c.claim } = ap (λ (r : ℕ). let z : Claimed = record { domain = r; claim = c.claim } in z) own in
@@ -231,9 +231,9 @@ module _ (exact : TestsAreExact) (law : FaultsAreFirst) (platform : PlatformFact
   one_answer _ _ _ _ _ rest _ other _ _ _ _ [] left held kept a b (decides number s t c rs what text cs allowed said on) (decides _ _ u c' qs what' text' ds allowed' said' on') same e f zip zap p q x y = absurd zip
   one_answer _ _ _ _ _ rest _ other _ _ _ _ (o ∷ taken) left [] kept a b (decides number s t c rs what text cs allowed said on) (decides _ _ u c' qs what' text' ds allowed' said' on') same e f zip zap p q x y = absurd zap
   one_answer _ _ _ _ _ rest _ other _ _ _ _ (o ∷ taken) left (o' ∷ held) kept a b (decides number s t c rs what text cs allowed said on) (decides _ _ u c' qs what' text' ds allowed' said' on') same e f zip zap p q x y =
-      let object : o' ≡ o = sym (heads o o' (taken ++ left) (held ++ kept) f) in
+      let one : o' ≡ o = sym (heads o o' (taken ++ left) (held ++ kept) f) in
       let own : c.domain ≡ c'.domain = same_Some c.domain c'.domain (sym allowed.0 ∙ allowed'.0) in
-      let of' : IsOf platform o (certified s c') = subst (λ d. IsOf platform d (certified s c')) object zap.0 in
+      let of' : IsOf platform o (certified s c') = subst (λ d. IsOf platform d (certified s c')) one zap.0 in
       let claimed : c' ≡ c = sym (one_claim o s c c' own zip.0 of') in
       one_answer number (with_decision s (answer_of c)) t u rs rest qs other text text' cs ds taken left held kept a b on
       (subst (λ (z : Claimed). Goes number (with_decision s (answer_of z)) qs text' ds u) claimed on') same e (tails o o' (taken ++ left) (held ++ kept) f) zip.1 zap.1 p q x y

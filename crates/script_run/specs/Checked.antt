@@ -41,12 +41,12 @@ SaidFails platform b r (Some c) why = First (c.0 ≡ path_of b.tree.nodes r) (Fa
     (VerdictFaults platform (option_map (terms_of b.tree.nodes) (base_of b r)) (shape_of b.tree.nodes r) c.1.verdict c.1.proof) why
 
 abbrev pub ClaimFails : PlatformFacts → BookState → ℕ → Data → Faults
-ClaimFails platform b r object = SaidFails platform b r (claim_said platform object)
+ClaimFails platform b r one = SaidFails platform b r (claim_said platform one)
 
 -- the same of the next object, which may be missing
 abbrev pub NextFails : PlatformFacts → BookState → ℕ → List Data → Faults
 NextFails platform b r [] why = why ≡ WrongShape
-NextFails platform b r (object ∷ left) why = ClaimFails platform b r object why
+NextFails platform b r (one ∷ left) why = ClaimFails platform b r one why
 
 -- what is said where the next object fails: the path of the domain, and the first that fails
 pub record FailsNext (left : List Data) (platform : PlatformFacts) (b : BookState) (r : ℕ) (objection : Objection) : Type 0 where
@@ -93,4 +93,4 @@ pub record TakesClaim (platform : PlatformFacts) (b : BookState) (r : ℕ) (obje
 -- what holds of the test that fails, if it is one
 abbrev pub IfFails : ClaimFault → Faults → Type 0
 IfFails claims.NoMemory faults = ⊤
-IfFails (claims.Fails no) faults = faults no
+IfFails (claims.Fails why) faults = faults why

@@ -7,6 +7,7 @@ ghost use Rattle.std.specs.List.{AllZip};
 ghost use Rattle.serde_json.specs.View.{view};
 ghost use Rattle.script_run.specs.Checked.{ClaimFails, FailsNext, IfFails, IsOf, TakesClaim};
 ghost use Rattle.script_run.specs.Stop.{IfObjects};
+ghost use Rattle.script_run.specs.declared.checking.ClaimFault.TheVariants.{NoMemory};
 ghost use Rattle.sysmem_alloc.specs.Sound.{MayWait};
 ghost use Rattle.sysmem_alloc.specs.State.{next_ready};
 ghost use Rattle.sysmem_tree.specs.Path.{path_of};
@@ -39,7 +40,7 @@ pub(crate) enum ClaimFault {
 }
 
 impl From<AllocError> for ClaimFault {
-    ghost from_gives = { λ _ fault. fault ≡ ClaimFault.NoMemory };
+    ghost from_gives = { λ _ fault. fault ≡ NoMemory };
 
     fn from(_e: AllocError) -> ClaimFault {
         ClaimFault::NoMemory
