@@ -84,7 +84,7 @@ module _ (had left : Option (List ℕ)) (bytes : List ℕ) (read : ReadsToLimit 
     by : (had left : Option (List ℕ)) → ReadsToLimit longest had left bytes → IfSome had IsNoList
     by None left read = tt
     by (Some input) None read = absurd read.taken
-    by (Some input) (Some rest) read objects listed =
+    by (Some input) (Some rest) read = λ objects listed.
         let long : length input ≡ length (bytes ++ rest) = ap length read.taken in
         let few : length bytes ≤ longest = omega (arith, long, length-append bytes rest, listed.spells.short) in
         none objects (subst (λ ts. IsListOf ts objects) (whole-read input rest bytes read.taken read.all few) listed)
@@ -101,11 +101,11 @@ both_of (Some input) (Some certificate) A B P f a b = f input certificate a b
 -- a check that ends before it answers
 check-early : (fault : RunFault) (had proof hold : Option (List ℕ)) → fault ≢ Write → fault ≢ Proof → ((found : ScriptFault) → fault ≡ Script found → IfSome had (λ input. RunsTo input (Err found)))
     → HasChecked (Err fault) had proof hold hold
-check-early fault had proof hold other another refused = record {
+check-early fault had proof hold other another of = record {
   yes = λ is. absurd (cc);
   no = λ is. absurd (cc);
   fed = λ is. absurd (cc);
-  script = λ found is. refused found (cc);
+  script = λ found is. of found (cc);
   proof_refused = λ is. absurd (another (cc));
   front = λ is. absurd (other (cc));
   unwritten = λ found is not. Appends-nothing hold;

@@ -144,8 +144,8 @@ module _ (platform : PlatformFacts) (rs : List CallFacts) (objects now : List Va
   -- there are more
   pub more_left : (starved : Bool) → starved ≡ false → Said starved → k < length objects → Answers platform rs (map view objects) too_many
   more_left starved fed said less =
-      let (object, left, head) = head_left now k (omega (arith, long_as now objects same, less)) in
-      has_more (map view (take k now)) left object (sym same ∙ (split_at now k ∙ ap (λ ds. map view (take k now) ++ ds) head)) (taken starved fed said)
+      let (one, left, head) = head_left now k (omega (arith, long_as now objects same, less)) in
+      has_more (map view (take k now)) left one (sym same ∙ (split_at now k ∙ ap (λ ds. map view (take k now) ++ ds) head)) (taken starved fed said)
 
 -- the next one fails
 pub stopped_at : (platform : PlatformFacts) (rs : List CallFacts) (objects first now : List Value) (j k : ℕ) (o n : Objection) → n ≡ o → first ≡ objects → j ≡ 0 → map view now ≡ map view objects
