@@ -1,10 +1,8 @@
 -- What a check of a file says of its inputs, from what it says of the bytes that it read.
 use Rattle.std.proofs.lemmas.Bool.{cases_order}
-use Rattle.std.proofs.Common.{◌≡◌, ◌≢◌, inl, inr, ℕ, ◌<◌, ◌≤◌, ◌++◌, List, [], length, Option, Some, None, Result, Ok, Err, refl, sym, ◌∙◌, ap, subst, arith, length-append}
+use Rattle.std.proofs.Common.{◌≡◌, ◌≢◌, inl, inr, ℕ, ◌≤◌, ◌++◌, List, length, Option, Some, None, Result, Ok, Err, refl, sym, ap, subst, arith, length-append}
 use Rattle.std.specs.Prelude.{◌↔◌, IfSome}
 use Rattle.std.specs.Io.KnownBytes.{Appends}
-use Rattle.byte_transfer.specs.declared.fault.ReadFault.{ReadFault}
-use Rattle.byte_transfer.specs.declared.fault.ReadFault.TheVariants as reading
 use Rattle.byte_transfer.specs.Transfer.{ReadsToLimit, WritesFront}
 use Rattle.serde_json.specs.Data.{Data}
 use Rattle.serde_json.specs.View.{view}
@@ -25,8 +23,8 @@ use Rattle.script_run.specs.declared.fault.RunFault.TheVariants.{NoMemory, Proof
 use Rattle.script_run.specs.declared.fault.RunFault.TheVariants as faults
 use Rattle.script_run.specs.declared.running.Ended.{Ended}
 use Rattle.script_run.specs.declared.running.Ended.TheVariants.{CheckedNo, Done}
-use Rattle.script_run.specs.CheckedFile.{AnswersIn, HasChecked, IfBoth, IsListOf, IsNoList, IsRefusal, IsRefused, IsScriptFault, IsScriptOf, IsValueOf, WritesAnswer, WritesAnswerPart, WritesNo}
-use Rattle.script_run.specs.Faults.{fault_of_parse, fault_of_read}
+use Rattle.script_run.specs.CheckedFile.{AnswersIn, HasChecked, IfBoth, IsListOf, IsNoList, IsRefusal, IsRefused, IsScriptOf, IsValueOf, WritesAnswer, WritesAnswerPart, WritesNo}
+use Rattle.script_run.specs.Faults.{fault_of_parse}
 use Rattle.script_run.specs.Outcome.{RunsTo, anyhow, refused}
 use Rattle.script_run.specs.Run.{IsCausedBy, both_counts}
 use Rattle.script_run.proofs.RunLemmas.{Appends-nothing, runs-input, whole-read}
@@ -110,11 +108,6 @@ check-early fault had proof hold other another of = record {
   front = λ is. absurd (other (cc));
   unwritten = λ found is not. Appends-nothing hold;
 }
-
--- one whose reader failed, or whose memory ended as it read
-pub check-unread : (result : Result Ended RunFault) (fault : ReadFault) (had proof hold : Option (List ℕ)) → result ≡ Err (fault_of_read fault) → HasChecked result had proof hold hold
-check-unread result reading.Failed had proof hold e = rw e (check-early faults.Read had proof hold (λ is. absurd (cc)) (λ is. absurd (cc)) (λ found is. absurd (cc)))
-check-unread result reading.NoMemory had proof hold e = rw e (check-early NoMemory had proof hold (λ is. absurd (cc)) (λ is. absurd (cc)) (λ found is. absurd (cc)))
 
 script-refused : (result : Result Ended RunFault) (fault : ScriptFault) (had left proof hold : Option (List ℕ)) (bytes : List ℕ) → result ≡ Err (Script fault) → ReadsToLimit longest had left bytes
     → RunsTo bytes (Err fault) → HasChecked result had proof hold hold

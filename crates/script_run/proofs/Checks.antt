@@ -1,5 +1,5 @@
 -- One object more that is taken as a decision, and what a certificate's objects have answered.
-use Rattle.std.proofs.Common.{◌≡◌, ℕ, zero, suc, ◌+◌, ◌<◌, ◌≤◌, ◌++◌, List, [], ◌∷◌, length, map, take, drop, Bool, false, Option, Some, None, slice_get, inl, inr, sym, ◌∙◌, ap, subst, refl, arith}
+use Rattle.std.proofs.Common.{◌≡◌, ℕ, zero, suc, ◌+◌, ◌<◌, ◌≤◌, ◌++◌, List, [], ◌∷◌, length, map, take, drop, Bool, false, Option, Some, None, slice_get, inr, sym, ◌∙◌, ap, subst, refl, arith}
 use Rattle.std.proofs.lemmas.List.{map-append, length-map, take-append-drop, at_drop_all}
 use Rattle.std.specs.Prelude.{IsSomeAnd, option_map}
 use Rattle.std.specs.List.{AllZip}
@@ -16,8 +16,7 @@ use Rattle.sysmem_proof.specs.declared.certificate.Claim.{Claim}
 use Rattle.sysmem_sanitise.specs.Platform.{PlatformFacts}
 use Rattle.sysmem_tree.specs.Path.{path_of}
 use Rattle.script_reading.specs.Script.{CallFacts}
-use Rattle.script_run.specs.Checked.{Answers, AreTaken, ClaimFails, FailsAtDomain, FailsNext, IsOf, NextFails, SaidFails, TakesClaim, accepts, has_more, objects_to, too_many}
-use Rattle.script_run.specs.declared.checked_file.CheckAnswer.{CheckAnswer}
+use Rattle.script_run.specs.Checked.{Answers, AreTaken, ClaimFails, FailsNext, IsOf, NextFails, SaidFails, TakesClaim, accepts, has_more, objects_to, too_many}
 use Rattle.script_run.specs.declared.checked_file.CheckAnswer.TheVariants as answers
 use Rattle.script_run.specs.declared.decider.Objection.{Objection}
 use Rattle.script_run.specs.Report.{Certified, IsReported}

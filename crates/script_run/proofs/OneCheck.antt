@@ -1,10 +1,10 @@
 -- A certificate has one answer for a script.
-use Rattle.std.proofs.Common.{◌≡◌, ℕ, ◌+◌, ◌++◌, List, [], ◌∷◌, length, Bool, false, Option, Some, None, Result, Ok, inl, inr, refl, sym, ◌∙◌, ap, subst, append-nil}
+use Rattle.std.proofs.Common.{◌≡◌, ℕ, ◌+◌, ◌++◌, List, [], ◌∷◌, length, false, Option, Some, None, Ok, inl, inr, refl, sym, ◌∙◌, ap, subst, append-nil}
 use Rattle.std.proofs.lemmas.Option.{same_Some}
 use Rattle.std.specs.Prelude.{IfSome, option_map}
 use Rattle.std.specs.List.{AllZip}
 use Rattle.certificate_text.specs.Said.{claim_said}
-use Rattle.serde_json.specs.Data.{Data, Items, no_items, item}
+use Rattle.serde_json.specs.Data.{Data}
 use Rattle.serde_json.specs.Find.{as_array}
 use Rattle.serde_json.specs.View.{items_of}
 use Rattle.script_reading.specs.Script.{CallFacts, ScriptFacts, script_of}
@@ -12,20 +12,18 @@ use Rattle.sysmem_alloc.specs.Decision.{Claimed, answer_of}
 use Rattle.sysmem_alloc.specs.Entry.{Decided}
 use Rattle.sysmem_alloc.specs.History.{Allows}
 use Rattle.sysmem_alloc.specs.State.{State as BookState, base_of, next_ready}
-use Rattle.sysmem_proof.specs.Base.{Terms, terms_of}
-use Rattle.sysmem_proof.specs.Check.{VerdictPasses}
+use Rattle.sysmem_proof.specs.Base.{terms_of}
 use Rattle.sysmem_proof.specs.Claim.{IsTrueClaim}
 use Rattle.sysmem_proof.specs.Fault.{VerdictFaults}
 use Rattle.sysmem_proof.specs.Laws.{FaultsAreFirst, TestsAreExact}
 use Rattle.sysmem_proof.specs.declared.certificate.Claim.{Claim}
 use Rattle.sysmem_proof.specs.declared.no.No.{No}
-use Rattle.sysmem_proof.specs.declared.no.No.TheVariants.{WrongShape}
 use Rattle.sysmem_sanitise.specs.Platform.{PlatformFacts}
 use Rattle.sysmem_tree.specs.Path.{path_of}
 use Rattle.sysmem_tree.specs.Shape.{shape_of}
 use Rattle.script_run.specs.Answer.{Replies}
-use Rattle.script_run.specs.Checked.{Answers, AreTaken, ClaimFails, FailsNext, IsOf, NextFails, SaidFails, accepts, has_more, objects_to, too_many}
-use Rattle.script_run.specs.CheckedFile.{AnswersIn, ChecksTo, IsListOf, IsScriptOf, answer_text}
+use Rattle.script_run.specs.Checked.{Answers, ClaimFails, FailsNext, IsOf, NextFails, SaidFails, accepts, has_more, objects_to, too_many}
+use Rattle.script_run.specs.CheckedFile.{AnswersIn, IsListOf, IsScriptOf, answer_text}
 use Rattle.script_run.specs.Laws.{OneCheck}
 use Rattle.script_run.specs.Report.{Certified, Goes, calls, certified, with_decision, decides, stays}
 use Rattle.script_run.specs.State.{RunState, first_run_state, node_named}

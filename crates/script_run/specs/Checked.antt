@@ -9,7 +9,6 @@ use Rattle.sysmem_proof.specs.Base.{terms_of}
 use Rattle.sysmem_proof.specs.Claim.{IsTrueClaim}
 use Rattle.sysmem_proof.specs.Fault.{Fails, Faults, First, VerdictFaults}
 use Rattle.sysmem_proof.specs.declared.certificate.Claim.{Claim}
-use Rattle.sysmem_proof.specs.declared.no.No.{No}
 use Rattle.sysmem_proof.specs.declared.no.No.TheVariants.{WrongShape}
 use Rattle.sysmem_sanitise.specs.Platform.{PlatformFacts}
 use Rattle.sysmem_tree.specs.Path.{path_of}
