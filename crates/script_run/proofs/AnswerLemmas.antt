@@ -10,7 +10,7 @@ use Rattle.script_reading.specs.Script.{ScriptFacts}
 use Rattle.script_reading.specs.Text.{IsJson, longest, too_long, not_json, spelled}
 
 -- bytes spell one value
-one_value : (bytes : List ℕ) (v w : Data) → IsJson bytes v → IsJson bytes w → w ≡ v
+pub one_value : (bytes : List ℕ) (v w : Data) → IsJson bytes v → IsJson bytes w → w ≡ v
 one_value bytes v w a b = let same : Some w ≡ Some v = sym b.spelled ∙ a.spelled in cc
 
 same_fields : (a b : ReportFacts) → a.text ≡ b.text → a.starved ≡ b.starved → a ≡ b

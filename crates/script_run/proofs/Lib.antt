@@ -1,7 +1,10 @@
 pub mod AnswerLemmas
 pub mod Answering
 pub mod BothLemmas
+pub mod CheckedLemmas
+pub mod Checks
 pub mod OneCertified
+pub mod OneCheck
 pub mod Corners
 pub mod Failures
 pub mod Following

@@ -19,7 +19,7 @@ use Rattle.script_run.specs.Faults.{fault_of_parse, fault_of_read}
 use Rattle.script_run.specs.Outcome.{ReportFacts, RunsTo, RunsWith, SaysOf, anyhow, report_seen}
 use Rattle.script_run.specs.Run.{Ran, Writes, WritesPart}
 
-whole-read : (input rest bytes : List ℕ) → input ≡ bytes ++ rest → (length bytes ≤ longest → rest ≡ []) → length bytes ≤ longest → input ≡ bytes
+pub whole-read : (input rest bytes : List ℕ) → input ≡ bytes ++ rest → (length bytes ≤ longest → rest ≡ []) → length bytes ≤ longest → input ≡ bytes
 whole-read input rest bytes e all short = e ∙ (ap (λ (t : List ℕ). bytes ++ t) (all short) ∙ append-nil bytes)
 
 runs-read : (says : SaysOf) (input rest bytes : List ℕ) (said : Result ReportFacts ScriptFault) → input ≡ bytes ++ rest → (length bytes ≤ longest → rest ≡ [])

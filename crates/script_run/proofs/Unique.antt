@@ -76,7 +76,7 @@ answer_at s r k closes = made_on s r k deeds.closes
 answer_at s r k checks = (told s.book k, s)
 answer_at s r k waits = (told s.book k, s)
 
-answer_for : RunState → CallFacts → Option ℕ → Reply × RunState
+pub answer_for : RunState → CallFacts → Option ℕ → Reply × RunState
 answer_for s r None = (Skipped, unmade s r.act)
 answer_for s r (Some k) = answer_at s r k r.act
 
@@ -99,7 +99,7 @@ told_for s r k _ to_check = refl
 told_for s r k _ to_wait = refl
 
 -- a call answers this, where memory is not refused
-is_answer : (s : RunState) (r : CallFacts) (reply : Reply) (t : RunState) → Replies s r reply t → t.starved ≡ false → (reply, t) ≡ answer_for s r (node_named s r)
+pub is_answer : (s : RunState) (r : CallFacts) (reply : Reply) (t : RunState) → Replies s r reply t → t.starved ≡ false → (reply, t) ≡ answer_for s r (node_named s r)
 unfolding answer_for answer_at made_on act_on set_on
 is_answer s r _ _ (skips none) e = rw none refl
 is_answer s r _ _ (misreads k d fault here act read) e = rw (here, act, read) refl
@@ -108,6 +108,25 @@ is_answer s r _ _ (lacks k d asked here act read) e = absurd_true e
 is_answer s r _ _ (refuses k deed refusal here asks why) e = rw (here, asked_for s r k r.act deed asks, why) refl
 is_answer s r _ _ (accepts k made deed tree here asks done) e = rw (here, asked_for s r k r.act deed asks) (sym (ap (act_on s r k deed) done))
 is_answer s r _ _ (tells k here asks) e = rw (here, told_for s r k r.act asks) refl
+
+-- memory that was refused stays so
+answer_starves : (s t : RunState) (r : CallFacts) (reply : Reply) → Replies s r reply t → s.starved ≡ true → t.starved ≡ true
+answer_starves s _ r _ (skips none) e = e
+answer_starves s _ r _ (misreads k d fault here act read) e = e
+answer_starves s _ r _ (starves k d fault here act want lack) e = refl
+answer_starves s _ r _ (lacks k d asked here act read) e = refl
+answer_starves s _ r _ (refuses k deed refusal here asks why) e = e
+answer_starves s _ r _ (accepts k made deed tree here asks done) e = e
+answer_starves s _ r _ (tells k here asks) e = e
+
+starves_on : (number : ℕ) (s t : RunState) (rs : List CallFacts) (a : List ℕ) (cs : List Certified) → Goes number s rs a cs t → s.starved ≡ true → t.starved ≡ true
+starves_on _ _ _ _ _ _ (stays number s) e = e
+starves_on _ _ _ _ _ _ (calls number s answered t r rs reply text cs idle replied rest) e = starves_on (number + 1) answered t rs text cs rest (answer_starves s answered r reply replied e)
+starves_on _ _ _ _ _ _ (decides number s t c rs what text cs allowed said rest) e = starves_on number (with_decision s (answer_of c)) t rs text cs rest (rw e refl)
+
+-- what leads to a state that isn't starved, isn't either
+pub unstarved_before : (number : ℕ) (s t : RunState) (rs : List CallFacts) (a : List ℕ) (cs : List Certified) → Goes number s rs a cs t → t.starved ≡ false → s.starved ≡ false
+unstarved_before number s t rs a cs goes e = not_true s.starved t.starved (starves_on number s t rs a cs goes) e
 
 same_chosen : (a b : ChosenFacts) → a.selection ≡ b.selection → a.settings ≡ b.settings → a ≡ b
 same_chosen a b selection settings =
@@ -187,25 +206,6 @@ module _ (one : OneAnswer) (least : CornerIsLeast) where
   one_telling platform _ _ _ _ e wants_memory none_meet = absurd (cc)
   one_telling platform _ _ _ _ e wants_memory too_many = absurd (cc)
   one_telling platform _ _ _ _ e wants_memory wants_memory = refl
-
-  -- memory that was refused stays so
-  answer_starves : (s t : RunState) (r : CallFacts) (reply : Reply) → Replies s r reply t → s.starved ≡ true → t.starved ≡ true
-  answer_starves s _ r _ (skips none) e = e
-  answer_starves s _ r _ (misreads k d fault here act read) e = e
-  answer_starves s _ r _ (starves k d fault here act want lack) e = refl
-  answer_starves s _ r _ (lacks k d asked here act read) e = refl
-  answer_starves s _ r _ (refuses k deed refusal here asks why) e = e
-  answer_starves s _ r _ (accepts k made deed tree here asks done) e = e
-  answer_starves s _ r _ (tells k here asks) e = e
-
-  starves_on : (number : ℕ) (s t : RunState) (rs : List CallFacts) (a : List ℕ) (cs : List Certified) → Goes number s rs a cs t → s.starved ≡ true → t.starved ≡ true
-  starves_on _ _ _ _ _ _ (stays number s) e = e
-  starves_on _ _ _ _ _ _ (calls number s answered t r rs reply text cs idle replied rest) e = starves_on (number + 1) answered t rs text cs rest (answer_starves s answered r reply replied e)
-  starves_on _ _ _ _ _ _ (decides number s t c rs what text cs allowed said rest) e = starves_on number (with_decision s (answer_of c)) t rs text cs rest (rw e refl)
-
-  -- what leads to a state that isn't starved, isn't either
-  unstarved_before : (number : ℕ) (s t : RunState) (rs : List CallFacts) (a : List ℕ) (cs : List Certified) → Goes number s rs a cs t → t.starved ≡ false → s.starved ≡ false
-  unstarved_before number s t rs a cs goes e = not_true s.starved t.starved (starves_on number s t rs a cs goes) e
 
   joined : (a b c d : List ℕ) → a ≡ b → c ≡ d → a ++ c ≡ b ++ d
   joined a b c d e f = cc

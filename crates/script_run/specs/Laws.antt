@@ -12,6 +12,8 @@ use Rattle.certificate_text.specs.Told.{decision_data}
 use Rattle.script_reading.specs.declared.fault.ScriptFault.{ScriptFault}
 use Rattle.script_reading.specs.Text.{IsJson}
 use Rattle.script_run.specs.Certificate.{CertifiedFacts, CertifiesTo, certificate_of, data_of}
+use Rattle.script_run.specs.declared.checked_file.CheckAnswer.{CheckAnswer}
+use Rattle.script_run.specs.CheckedFile.{ChecksTo}
 use Rattle.script_run.specs.Outcome.{ReportFacts, RunsTo}
 use Rattle.script_run.specs.Report.{Certified, IsReport}
 use Rattle.script_reading.specs.Script.{CallFacts}
@@ -58,3 +60,7 @@ abbrev pub CertificatesReadBack : Type 0
 CertificatesReadBack = (platform : PlatformFacts) (rs : List CallFacts) (text : List ℕ) (decisions : List Certified) (starved : Bool)
     → IsPlatform platform.heaps platform.pairs platform.colours → HasHeapIds platform
     → IsReport platform rs text decisions starved → AreReadBack platform decisions
+
+-- the bytes of a script and of a certificate give one answer, in one text
+abbrev pub OneCheck : Type 0
+OneCheck = (input certificate : List ℕ) (a b : CheckAnswer) (s t : List ℕ) → ChecksTo input certificate a s → ChecksTo input certificate b t → (a ≡ b) × (s ≡ t)

@@ -1,5 +1,7 @@
 pub mod Answer
 pub mod Certificate
+pub mod Checked
+pub mod CheckedFile
 pub mod Deciding
 pub mod Faults
 pub mod Laws

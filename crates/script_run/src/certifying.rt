@@ -81,6 +81,8 @@ impl Decider for Certifying {
 
     ghost objects = { λ _ platform book domain objection. ⊥ };
 
+    ghost given = { λ _. [] };
+
     fn decide(
         &mut self,
         alloc: Global,

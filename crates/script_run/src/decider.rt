@@ -2,6 +2,7 @@
 
 ghost use Rattle.std.specs.Prelude.{◌≡◌, ◌++◌, ℕ, List, [], ◌∷◌, Some, option_map, IfErr, IfOk};
 ghost use Rattle.std.specs.Arc.{arc_value};
+ghost use Rattle.serde_json.specs.Data.{Data};
 ghost use Rattle.script_run.specs.Report.{Certified};
 ghost use Rattle.script_run.specs.Stop.{IfObjects};
 ghost use Rattle.sysmem_alloc.specs.Entry.{Decided};
@@ -53,6 +54,9 @@ pub(crate) trait Decider {
     /// What holds where it objects at a domain of a collection.
     ghost objects: { Self → PlatformFacts → State → ℕ → Objection → Type 0 };
 
+    /// The objects of a certificate that it decides by, if it does.
+    ghost given: { Self → List Data };
+
     /// A decision that the book allows.
     fn decide(
         &mut self,
@@ -76,5 +80,6 @@ pub(crate) trait Decider {
         ensures kept { IfErr result (λ stop. IfObjects stop (λ objection. (cs : List Certified)
             → gave self.old book.now.platform cs → gave self.new book.now.platform cs)) }
         ensures objects { IfErr result (λ stop. IfObjects stop
-            (objects self.new book.now.platform book.now.state domain)) };
+            (objects self.new book.now.platform book.now.state domain)) }
+        ensures given { given self.new ≡ given self.old };
 }

@@ -62,7 +62,7 @@ pub(crate) fn put_domain(
     put_word(text, &path, word)
 }
 
-fn put_path(text: &mut String, path: &Path) -> Result<(), AllocError>
+pub(crate) fn put_path(text: &mut String, path: &Path) -> Result<(), AllocError>
     ensures { Puts result text.old text.new (codes "domain " ++ path_text path.now) }
 {
     text.push_str("domain ")?;

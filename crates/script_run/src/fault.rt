@@ -22,6 +22,9 @@ pub enum RunFault {
     /// The script is refused.
     #[error("script refused: {0}")]
     Script(ScriptFault),
+    /// The certificate is longer than 4,194,304 bytes, no JSON or no list.
+    #[error("proof refused")]
+    Proof,
 }
 
 impl From<ReadFault> for RunFault {

@@ -1,13 +1,13 @@
 //! What is true of reports, whoever writes them.
 
-ghost use Rattle.script_run.specs.Laws.{CertificatesReadBack, CertifiedIsReport, FaultIsAlone, OneAnswer, OneReport};
+ghost use Rattle.script_run.specs.Laws.{CertificatesReadBack, CertifiedIsReport, FaultIsAlone, OneAnswer, OneCheck, OneReport};
 
 use certificate_text::laws::{
     claims_read_back, node_paths_can_be_read, texts_read_back, true_claims_can_be_read,
 };
 use sysmem_alloc::laws::legal_is_sound;
 use sysmem_image::laws::corner_is_least;
-use sysmem_proof::laws;
+use sysmem_proof::laws::{self, faults_are_first, tests_are_exact};
 
 /// The calls of a script have one report on a platform, where memory is not refused.
 pub fn one_report()
@@ -45,4 +45,12 @@ pub fn certificates_read_back()
     true_claims_can_be_read();
     texts_read_back();
     legal_is_sound();
+}
+
+/// The bytes of a script and of a certificate give one answer: yes, or one number at one path.
+pub fn one_check()
+    ensures { OneCheck }
+{
+    tests_are_exact();
+    faults_are_first();
 }

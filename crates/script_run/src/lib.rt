@@ -8,6 +8,8 @@
 #![tactic(auto)]
 
 mod certifying;
+mod checked_file;
+mod checking;
 mod decider;
 mod deciding;
 mod domain_line;
@@ -22,5 +24,6 @@ mod running;
 mod searching;
 mod telling;
 
+pub use checked_file::check_file;
 pub use fault::RunFault;
 pub use running::{Ended, run, run_with_proof};

@@ -41,6 +41,7 @@ pub(crate) fn report_of<D: Decider>(
     ensures stops { IfErr result (λ stop. IfObjects stop (IsStopped platform
         (map call_seen calls.now) (D.gave decider.old platform) (D.gave decider.new platform)
         (D.objects decider.new))) }
+    ensures given { D.given decider.new ≡ D.given decider.old }
 {
     let mut runner = Runner::new(alloc, platform)?;
     let mut text = String::new(alloc);

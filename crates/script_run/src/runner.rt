@@ -96,6 +96,7 @@ impl Runner {
         ensures stops { IfErr result (λ stop. IfObjects stop (StopsIn number (state_of self.old)
             (call_seen call.now ∷ []) (state_of self.new) (D.gave decider.old self.old.book.platform)
             (D.gave decider.new self.old.book.platform) (D.objects decider.new))) }
+        ensures given { D.given decider.new ≡ D.given decider.old }
     {
         self.reply(alloc, number, call, text)?;
         self.decide_waiting(alloc, decider, text)
@@ -136,6 +137,7 @@ impl Runner {
             → StopsIn number (state_of self.old) [] (state_of self.new)
             (D.gave decider.old self.old.book.platform) (D.gave decider.new self.old.book.platform)
             (D.objects decider.new) objection)) }
+        ensures given { D.given decider.new ≡ D.given decider.old }
     {
         while let Some(domain) = self.book.next_ready() {
             self.decide(alloc, domain, decider, text)?;
@@ -163,6 +165,7 @@ impl Runner {
             → StopsIn number (state_of self.old) [] (state_of self.new)
             (D.gave decider.old self.old.book.platform) (D.gave decider.new self.old.book.platform)
             (D.objects decider.new) objection)) }
+        ensures given { D.given decider.new ≡ D.given decider.old }
     {
         let claim = decider.decide(alloc, &self.book, domain)?;
         self.tell(domain, claim, text)?;

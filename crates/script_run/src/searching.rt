@@ -1,6 +1,6 @@
 //! Domains decided by a search.
 
-ghost use Rattle.std.specs.Prelude.{⊤};
+ghost use Rattle.std.specs.Prelude.{[], ⊤};
 
 use crate::decider::{Decider, Stop};
 use crate::deciding::claim_for;
@@ -18,6 +18,8 @@ impl Decider for Searching {
     ghost gave = { λ _ platform decisions. ⊤ };
 
     ghost objects = { λ _ platform book domain objection. ⊥ };
+
+    ghost given = { λ _. [] };
 
     fn decide(
         &mut self,

@@ -1,5 +1,5 @@
 -- Where clap finds no fault in the words, they ask for a job.
-use Rattle.std.proofs.Common.{◌≡◌, ◌||◌, Bool, cond, true, false, not, refl, List, [], Option, Some, None, codes, is_some, IfSome, IsSomeAnd}
+use Rattle.std.proofs.Common.{◌≡◌, ◌||◌, ◌⊎◌, inl, inr, Bool, cond, true, false, not, refl, List, [], Option, Some, None, codes, is_some, IfSome, IsSomeAnd}
 use Rattle.std.specs.Prelude.{option_map}
 use Rattle.std.specs.Option.{option_map_or}
 use Rattle.clap.specs.Walk.{Names, Row, Text, answers_to, first_of, nothing_held, rows_after, stop_after}
@@ -7,15 +7,24 @@ use Rattle.clap.specs.Simple.{Shape, built, built_leaf, entered, inherited, labe
 use Rattle.clap.specs.Takes.{is_given}
 use Rattle.clap.specs.Kinds.{check_kinds}
 use Rattle.clap.specs.Faults.{check_fault, entered_fault, fault_of, level_fault}
-use Rattle.sysmem_replay.specs.CommandLine.{AsksForNone, IsRunOf, replay_app, run_app}
+use Rattle.sysmem_replay.specs.CommandLine.{AsksForNone, IsCheckOf, IsRunOf, check_app, replay_app, run_app}
 use Rattle.sysmem_replay.proofs.Filled.{each_has_value, faults, given_is_read, level_parts}
 
--- the subcommand as clap builds it
+-- the subcommands as clap builds them
 run_shape : Shape
 run_shape = built_leaf (inherited (with_leaf_noted (marked_built replay_app.top)) run_app.top)
 
+check_shape : Shape
+check_shape = built_leaf (inherited (with_leaf_noted (marked_built replay_app.top)) check_app.top)
+
 abbrev IsAskedRun : Text × List Row → Type 0
 IsAskedRun e = (file : Text) × (proof : Option Text) × IsRunOf e file proof
+
+abbrev IsAskedCheck : Text × List Row → Type 0
+IsAskedCheck e = (file : Text) × (proof : Text) × IsCheckOf e file proof
+
+abbrev IsAsked : Text × List Row → Type 0
+IsAsked e = IsAskedRun e ⊎ IsAskedCheck e
 
 -- where nothing is wrong with what was found, FILE was given
 file_given : (rows : List Row) → check_fault run_shape rows false ≡ [] → is_given (codes "FILE") rows ≡ true
@@ -26,6 +35,16 @@ file_given rows none = go (is_given (codes "FILE") rows) none
     go true fine = refl
     go false fine = absurd (faults _ refl fine)
 
+-- both were
+both_given : (rows : List Row) → check_fault check_shape rows false ≡ [] → (is_given (codes "FILE") rows ≡ true) × (is_given (codes "PROOF") rows ≡ true)
+unfolding check_shape
+both_given rows none = go (is_given (codes "FILE") rows) (is_given (codes "PROOF") rows) none
+  where
+    go : (a b : Bool) → check_kinds false false (not a || (not b || false)) ≡ [] → (a ≡ true) × (b ≡ true)
+    go true true fine = (refl, refl)
+    go true false fine = absurd (faults _ refl fine)
+    go false b fine = absurd (faults _ refl fine)
+
 -- the words after `run` give FILE
 run_asked : (words : List Text) → level_fault run_shape [] nothing_held words false [] ≡ [] → IsAskedRun (rows_at run_shape words)
 unfolding run_shape
@@ -34,9 +53,19 @@ run_asked words none =
     let read = given_is_read (codes "FILE") (rows_after run_shape.rules [] words) (each_has_value run_shape words [] refl none) given in
     (read.0, first_of (codes "proof") (rows_after run_shape.rules [] words), (refl, read.1, refl))
 
+-- the words after `check` give FILE and PROOF
+check_asked : (words : List Text) → level_fault check_shape [] nothing_held words false [] ≡ [] → IsAskedCheck (rows_at check_shape words)
+unfolding check_shape
+check_asked words none =
+    let given = both_given (rows_after check_shape.rules [] words) (level_parts check_shape [] words false [] none).1 in
+    let each = each_has_value check_shape words [] refl none in
+    let file = given_is_read (codes "FILE") (rows_after check_shape.rules [] words) each given.0 in
+    let proof = given_is_read (codes "PROOF") (rows_after check_shape.rules [] words) each given.1 in
+    (file.0, proof.0, (refl, file.1, proof.1))
+
 -- the words ask for a job
-pub job_asked : (words : List Text) → fault_of replay_app words ≡ [] → IsSomeAnd (subcommand_of replay_app words) IsAskedRun
-unfolding run_shape
+pub job_asked : (words : List Text) → fault_of replay_app words ≡ [] → IsSomeAnd (subcommand_of replay_app words) IsAsked
+unfolding run_shape check_shape
 job_asked words none =
     let parts = level_parts top names words (is_some (entered (built replay_app) stop)) (entered_fault (built replay_app) stop) none in
     by_stop stop parts.0 parts.1
@@ -53,22 +82,24 @@ job_asked words none =
     stop : Option (Text × List Text)
     stop = stop_after top.rules names words
 
-    -- the subcommand that the name p.0 has
-    sub : Bool → Option Shape
-    sub b = cond b (Some run_shape) None
+    -- the subcommand that a name has, where it is the one's or the other's
+    sub : Bool → Bool → Option Shape
+    sub run check = cond run (Some run_shape) (cond check (Some check_shape) None)
 
-    by_name : (p : Text × List Text) (b : Bool) → option_map_or (λ s. level_fault s [] nothing_held p.1 false []) (sub b) [] ≡ []
-        → check_fault top rows (is_some (option_map (λ s. rows_at s p.1) (sub b))) ≡ []
-        → IsSomeAnd (option_map (λ s. rows_at s p.1) (sub b)) IsAskedRun
-    by_name p true fine last = run_asked p.1 fine
-    by_name p false fine last = absurd (faults _ refl last)
+    by_name : (p : Text × List Text) (a b : Bool) → option_map_or (λ s. level_fault s [] nothing_held p.1 false []) (sub a b) [] ≡ []
+        → check_fault top rows (is_some (option_map (λ s. rows_at s p.1) (sub a b))) ≡ []
+        → IsSomeAnd (option_map (λ s. rows_at s p.1) (sub a b)) IsAsked
+    by_name p true b fine last = inl (run_asked p.1 fine)
+    by_name p false true fine last = inr (check_asked p.1 fine)
+    by_name p false false fine last = absurd (faults _ refl last)
 
     by_stop : (o : Option (Text × List Text)) → entered_fault (built replay_app) o ≡ [] → check_fault top rows (is_some (entered (built replay_app) o)) ≡ []
-        → IsSomeAnd (entered (built replay_app) o) IsAskedRun
+        → IsSomeAnd (entered (built replay_app) o) IsAsked
     by_stop None fine last = absurd (faults _ refl last)
-    by_stop (Some p) fine last = by_name p (answers_to p.0 (label_of run_shape)) fine last
+    by_stop (Some p) fine last = by_name p (answers_to p.0 (label_of run_shape)) (answers_to p.0 (label_of check_shape)) fine last
 
 -- entries that ask for no job are none of those
-pub none_asked : (o : Option (Text × List Row)) → IfSome o AsksForNone → IsSomeAnd o IsAskedRun → ⊥
+pub none_asked : (o : Option (Text × List Row)) → IfSome o AsksForNone → IsSomeAnd o IsAsked → ⊥
 none_asked None h asked = asked
-none_asked (Some e) h asked = h asked.0 asked.1 asked.2
+none_asked (Some e) h (inl run) = h.run run.0 run.1 run.2
+none_asked (Some e) h (inr check) = h.check check.0 check.1 check.2

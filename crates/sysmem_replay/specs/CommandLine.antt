@@ -4,7 +4,7 @@ use Rattle.clap.specs.Words.{App, Row, Rule, Shape, Text, first_of, new_app, new
 use Rattle.clap.specs.Words.{with_subcommand}
 use Rattle.clap.specs.Simple.{on_top}
 use Rattle.sysmem_replay.specs.declared.words.Job.{Job}
-use Rattle.sysmem_replay.specs.declared.words.Job.TheVariants.{Run}
+use Rattle.sysmem_replay.specs.declared.words.Job.TheVariants.{Run, Check}
 
 -- FILE, which has to be there
 abbrev pub file_rule : Rule
@@ -21,6 +21,14 @@ proof_rule = record (new_rule (codes "proof")) {
 abbrev pub run_app : App
 run_app = with_rule (with_rule (new_app (codes "run")) file_rule) proof_rule
 
+-- PROOF, which has to be there
+abbrev pub certificate_rule : Rule
+certificate_rule = record (new_rule (codes "PROOF")) { required = true }
+
+-- check FILE PROOF
+abbrev pub check_app : App
+check_app = with_rule (with_rule (new_app (codes "check")) file_rule) certificate_rule
+
 -- the words begin with no program's name, and have to name a job
 abbrev pub settings : Shape → Shape
 settings s = record s {
@@ -31,7 +39,7 @@ settings s = record s {
 
 -- sysmem_replay, with a subcommand for each job
 abbrev pub replay_app : App
-replay_app = with_subcommand (on_top settings (new_app (codes "sysmem_replay"))) run_app.top
+replay_app = with_subcommand (with_subcommand (on_top settings (new_app (codes "sysmem_replay"))) run_app.top) check_app.top
 
 -- a subcommand's name and entries are `run`, this FILE, and this OUT or none
 abbrev pub IsRunOf : Text × List Row → Text → Option Text → Type 0
@@ -39,10 +47,18 @@ IsRunOf entries file proof =
     (entries.0 ≡ codes "run") × (first_of (codes "FILE") entries.1 ≡ Some file)
     × (first_of (codes "proof") entries.1 ≡ proof)
 
+-- they are `check`, this FILE and this PROOF
+abbrev pub IsCheckOf : Text × List Row → Text → Text → Type 0
+IsCheckOf entries file proof =
+    (entries.0 ≡ codes "check") × (first_of (codes "FILE") entries.1 ≡ Some file)
+    × (first_of (codes "PROOF") entries.1 ≡ Some proof)
+
 -- they are this job and its files
 abbrev pub AsksFor : Text × List Row → Job → Type 0
 AsksFor entries (Run file proof) = IsRunOf entries file.now (option_map (λ s. s.now) proof)
+AsksFor entries (Check file proof) = IsCheckOf entries file.now proof.now
 
 -- they are no job's
-abbrev pub AsksForNone : Text × List Row → Type 0
-AsksForNone entries = (file : Text) (proof : Option Text) → ¬ IsRunOf entries file proof
+pub record AsksForNone (entries : Text × List Row) : Type 0 where
+  pub run : (file : Text) (proof : Option Text) → ¬ IsRunOf entries file proof
+  pub check : (file proof : Text) → ¬ IsCheckOf entries file proof

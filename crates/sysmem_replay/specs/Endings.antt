@@ -3,21 +3,22 @@ use Rattle.std.specs.Prelude.{ℕ, Option, Some, None, Result, Ok, Err}
 use Rattle.clap.specs.declared.error.kind.ErrorKind.{ErrorKind}
 use Rattle.clap.specs.declared.error.kind.ErrorKind.TheVariants.{DisplayHelp, DisplayVersion, OutOfMemory}
 use Rattle.script_run.specs.declared.fault.RunFault.{RunFault}
-use Rattle.script_run.specs.declared.fault.RunFault.TheVariants.{Read, Write, NoMemory, Script}
+use Rattle.script_run.specs.declared.fault.RunFault.TheVariants.{Read, Write, NoMemory, Script, Proof}
 use Rattle.script_run.specs.declared.running.Ended.{Ended}
 use Rattle.script_run.specs.declared.running.Ended.TheVariants.{Done, MemoryRefused, CheckedNo}
 
--- the exit status of a run
+-- the exit status of a run, or of a check
 abbrev pub run_code : Result Ended RunFault → ℕ
 run_code (Ok Done) = 0
 run_code (Err Read) = 1
 run_code (Err Write) = 1
 run_code (Err (Script fault)) = 3
+run_code (Err Proof) = 3
 run_code (Ok MemoryRefused) = 4
 run_code (Err NoMemory) = 4
 run_code (Ok CheckedNo) = 6
 
--- the fault whose text a run leaves on standard error
+-- the fault whose text a run or a check leaves on standard error
 abbrev pub fault_said : Result Ended RunFault → Option RunFault
 fault_said (Ok Done) = None
 fault_said (Ok MemoryRefused) = Some NoMemory

@@ -1,5 +1,6 @@
 //! `sysmem_replay run FILE` replays a script of calls on shared buffer collections and prints its
 //! report; with `--proof OUT` it also writes the certificate of its decisions.
+//! `sysmem_replay check FILE PROOF` tests such a certificate.
 #![tactic(auto)]
 
 mod ending;
@@ -8,7 +9,7 @@ mod words;
 use byte_transfer::Counted;
 use clap::Error;
 pub use ending::{Ending, ending_of, refusal_ending};
-pub use script_run::{Ended, RunFault, run, run_with_proof};
+pub use script_run::{Ended, RunFault, check_file, run, run_with_proof};
 use std::fs::File;
 use std::process::ExitCode;
 use std::{env, io};
@@ -45,6 +46,7 @@ fn given_words(rt: &HostRuntime) -> Result<Vec<String>, Ending> {
 fn obey(rt: &HostRuntime, words: &[String]) -> Ending {
     match read_words(rt.alloc(), words) {
         Ok(Job::Run { file, proof }) => ending_of(run_file(rt, file, proof)),
+        Ok(Job::Check { file, proof }) => ending_of(check_files(rt, file, proof)),
         Err(refusal) => tell(rt, &refusal),
     }
 }
@@ -76,6 +78,20 @@ fn run_file(rt: &HostRuntime, file: &str, proof: Option<&str>) -> Result<Ended, 
     };
     let mut certificate = Counted::new(certificate);
     run_with_proof(rt.alloc(), &mut reader, &mut writer, &mut certificate)
+}
+
+/// Opens the script and then the certificate, and tests that.
+fn check_files(rt: &HostRuntime, file: &str, proof: &str) -> Result<Ended, RunFault> {
+    let Ok(script) = File::open(rt, file) else {
+        return Err(RunFault::Read);
+    };
+    let Ok(certificate) = File::open(rt, proof) else {
+        return Err(RunFault::Read);
+    };
+    let mut reader = Counted::new(script);
+    let mut proof = Counted::new(certificate);
+    let mut writer = Counted::new(io::writer(rt));
+    check_file(rt.alloc(), &mut reader, &mut proof, &mut writer)
 }
 
 fn unread_words(rt: &HostRuntime, kind: io::ErrorKind) -> Ending {

@@ -2,11 +2,14 @@
 ghost use Rattle.std.specs.Prelude.{◌≡◌, IfNone, IfOk, IfSome, IsSomeAnd, false, map, string_bytes};
 ghost use Rattle.clap.specs.Words.{FailsBy, app_of, fault_of, subcommand_of, subcommand_rows_of};
 ghost use Rattle.clap.specs.declared.builder.command.Command.TheViews.{out-Command as fields_of};
-ghost use Rattle.sysmem_replay.specs.CommandLine.{AsksFor, AsksForNone, replay_app, run_app};
+ghost use Rattle.sysmem_replay.specs.CommandLine.{AsksFor, AsksForNone, check_app, replay_app, run_app};
 
 use clap::error::ErrorKind;
 use clap::{Arg, ArgMatches, Command, Error};
 use std::alloc::{AllocError, Global};
+
+const FILE_HELP: &str =
+    "A JSON script, of at most 4194304 bytes: a platform, and the calls to replay on it";
 
 /// What a command line asks for, with the files that it names.
 #[derive(Clone, Copy, Debug, PartialEq, Eq)]
@@ -15,6 +18,11 @@ pub enum Job<'a> {
     Run {
         file: &'a str,
         proof: Option<&'a str>,
+    },
+    /// Test the certificate in `proof` against the script in `file`.
+    Check {
+        file: &'a str,
+        proof: &'a str,
     },
 }
 
@@ -46,6 +54,11 @@ fn job_in<'a>(matches: &ArgMatches<'a>) -> Option<Job<'a>>
             let proof = entries.get_str("proof");
             Some(Job::Run { file, proof })
         }
+        "check" => {
+            let file = entries.get_str("FILE")?;
+            let proof = entries.get_str("PROOF")?;
+            Some(Job::Check { file, proof })
+        }
         _ => None,
     }
 }
@@ -63,22 +76,35 @@ fn replay_command<'a>(alloc: Global) -> Result<Command<'a>, AllocError>
         .disable_help_subcommand(true)
         .subcommand_required(true);
     let run = run_command(alloc)?;
-    command.subcommand(run)
+    let check = check_command(alloc)?;
+    command.subcommand(run)?.subcommand(check)
 }
 
 fn run_command<'a>(alloc: Global) -> Result<Command<'a>, AllocError>
     ensures app { IfOk result (λ c. app_of c ≡ run_app) }
     ensures local { IfOk result (λ c. (fields_of c).has_globals ≡ false) }
 {
-    let file = Arg::new(alloc, "FILE").required(true).help(
-        "A JSON script, of at most 4194304 bytes: a platform, and the calls to replay on it",
-    );
+    let file = Arg::new(alloc, "FILE").required(true).help(FILE_HELP);
     let proof = Arg::new(alloc, "proof")
         .long("proof")
         .value_name("OUT")
         .help("Also writes the certificate of the decisions to OUT, which is emptied first");
     let command = Command::new(alloc, "run").about(
         "Replays a script, and prints a line for each call and each decision",
+    );
+    command.arg(file)?.arg(proof)
+}
+
+fn check_command<'a>(alloc: Global) -> Result<Command<'a>, AllocError>
+    ensures app { IfOk result (λ c. app_of c ≡ check_app) }
+    ensures local { IfOk result (λ c. (fields_of c).has_globals ≡ false) }
+{
+    let file = Arg::new(alloc, "FILE").required(true).help(FILE_HELP);
+    let proof = Arg::new(alloc, "PROOF").required(true).help(
+        "A certificate of the script's decisions, of at most 4194304 bytes",
+    );
+    let command = Command::new(alloc, "check").about(
+        "Tests a certificate: prints yes and the number of its decisions, or the first that fails",
     );
     command.arg(file)?.arg(proof)
 }

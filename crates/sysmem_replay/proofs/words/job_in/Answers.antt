@@ -1,9 +1,12 @@
 use Rattle.std.proofs.Common.{◌≡◌, ◌∙◌, ap, sym, codes, option_map, Some, None}
 use Rattle.clap.specs.Words.{first_of, found_of, rows_of}
 use Rattle.clap.proofs.WalkLemmas.{first_value-rows}
-use Rattle.sysmem_replay.specs.CommandLine.{AsksForNone, IsRunOf}
+use Rattle.sysmem_replay.specs.CommandLine.{AsksForNone, IsCheckOf, IsRunOf}
 use Rattle.sysmem_replay.proofs.Entries.{entered_is, none_entered, some_entered, some≢none}
 use Rattle.sysmem_replay.proofs.words.job_in.Goals as goal
+
+other_name : codes "check" ≡ codes "run" → ⊥
+other_name e = absurd (cc)
 
 pub returns-in_err-file-in-run-clause-none : goal.returns-in_err-file-in-run-clause-none
 returns-in_err-file-in-run-clause-none c =
@@ -12,7 +15,7 @@ returns-in_err-file-in-run-clause-none c =
     sym (first_value-rows (found_of c.in_ok-name.entries.now) (codes "FILE")) ∙ sym c.get_str.ensures ∙ ap (option_map (λ s. s.now)) (c.in_err-file-in-run.was) in
     none_entered _ c.args.matches.now (c.in_ok-name.name.now, rows) AsksForNone
     (entered_is c.args.matches.now c.in_ok-name.name.now rows c.in_ok-name.ensures.name c.in_ok-name.ensures.rows)
-    (λ file proof h. some≢none file (sym h.1 ∙ unread))
+    (record { run = λ file proof h. some≢none file (sym h.1 ∙ unread); check = λ file proof h. some≢none file (sym h.1 ∙ unread) })
 
 pub returns-in_ok-file-in-run-clause-some : goal.returns-in_ok-file-in-run-clause-some
 returns-in_ok-file-in-run-clause-some c =
@@ -25,3 +28,33 @@ returns-in_ok-file-in-run-clause-some c =
     sym (first_value-rows (found_of c.in_ok-name.entries.now) (codes "proof")) ∙ sym c.get_str-proof.ensures in
     some_entered c.args.matches.now (c.in_ok-name.name.now, rows) (λ e. IsRunOf e file out)
     (entered_is c.args.matches.now c.in_ok-name.name.now rows c.in_ok-name.ensures.name c.in_ok-name.ensures.rows) (c.in-run.is, read, kept)
+
+pub returns-in_err-file-in-check-clause-none : goal.returns-in_err-file-in-check-clause-none
+returns-in_err-file-in-check-clause-none c =
+    let rows = rows_of (found_of c.in_ok-name.entries.now) in
+    let unread : first_of (codes "FILE") rows ≡ None =
+    sym (first_value-rows (found_of c.in_ok-name.entries.now) (codes "FILE")) ∙ sym c.get_str-in-check.ensures ∙ ap (option_map (λ s. s.now)) (c.in_err-file-in-check.was) in
+    none_entered _ c.args.matches.now (c.in_ok-name.name.now, rows) AsksForNone
+    (entered_is c.args.matches.now c.in_ok-name.name.now rows c.in_ok-name.ensures.name c.in_ok-name.ensures.rows)
+    (record { run = λ file proof h. some≢none file (sym h.1 ∙ unread); check = λ file proof h. some≢none file (sym h.1 ∙ unread) })
+
+pub returns-in_err-proof-in-check-clause-none : goal.returns-in_err-proof-in-check-clause-none
+returns-in_err-proof-in-check-clause-none c =
+    let rows = rows_of (found_of c.in_ok-name.entries.now) in
+    let unread : first_of (codes "PROOF") rows ≡ None =
+    sym (first_value-rows (found_of c.in_ok-name.entries.now) (codes "PROOF")) ∙ sym c.get_str-proof-in-check.ensures ∙ ap (option_map (λ s. s.now)) (c.in_err-proof-in-check.was) in
+    none_entered _ c.args.matches.now (c.in_ok-name.name.now, rows) AsksForNone
+    (entered_is c.args.matches.now c.in_ok-name.name.now rows c.in_ok-name.ensures.name c.in_ok-name.ensures.rows)
+    (record { run = λ file proof h. other_name (sym c.in-check.is ∙ h.0); check = λ file proof h. some≢none proof (sym h.2 ∙ unread) })
+
+pub returns-in_ok-proof-in-check-clause-some : goal.returns-in_ok-proof-in-check-clause-some
+returns-in_ok-proof-in-check-clause-some c =
+    let rows = rows_of (found_of c.in_ok-name.entries.now) in
+    let file = c.in_ok-file-in-check.file.now in
+    let proof = c.in_ok-proof-in-check.proof.now in
+    let read : first_of (codes "FILE") rows ≡ Some file =
+    sym (first_value-rows (found_of c.in_ok-name.entries.now) (codes "FILE")) ∙ sym c.get_str-in-check.ensures ∙ ap (option_map (λ s. s.now)) (c.in_ok-file-in-check.was) in
+    let kept : first_of (codes "PROOF") rows ≡ Some proof =
+    sym (first_value-rows (found_of c.in_ok-name.entries.now) (codes "PROOF")) ∙ sym c.get_str-proof-in-check.ensures ∙ ap (option_map (λ s. s.now)) (c.in_ok-proof-in-check.was) in
+    some_entered c.args.matches.now (c.in_ok-name.name.now, rows) (λ e. IsCheckOf e file proof)
+    (entered_is c.args.matches.now c.in_ok-name.name.now rows c.in_ok-name.ensures.name c.in_ok-name.ensures.rows) (c.in-check.is, read, kept)
