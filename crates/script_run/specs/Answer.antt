@@ -2,7 +2,7 @@
 use Rattle.std.specs.Prelude.{◌≡◌, ℕ, List, Bool, true, false, ◌&&◌, Option, Some, None, Ok, Err, slice_get, if◌then◌else◌}
 use Rattle.serde_json.specs.Data.{Data}
 use Rattle.sysmem_alloc.specs.Entry.{Acted}
-use Rattle.sysmem_alloc.specs.State.{RunState as BookState, verdict_of}
+use Rattle.sysmem_alloc.specs.State.{State as BookState, verdict_of}
 use Rattle.sysmem_proof.specs.declared.verdict.Verdict.{Verdict}
 use Rattle.sysmem_proof.specs.declared.verdict.Verdict.TheVariants.{Chosen, IntersectionEmpty, TooMany, Failed}
 use Rattle.sysmem_proof.specs.declared.verdict.Verdict.TheVariants as verdicts

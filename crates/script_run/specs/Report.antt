@@ -4,7 +4,7 @@ use Rattle.sysmem_alloc.specs.Decision.{Claimed, Decision, answer_of, choices_of
 use Rattle.sysmem_alloc.specs.Entry.{Decided}
 use Rattle.sysmem_alloc.specs.History.{Allows}
 use Rattle.sysmem_alloc.specs.Sound.{roots_of}
-use Rattle.sysmem_alloc.specs.State.{RunState as BookState, after_decision, next_ready, verdict_of}
+use Rattle.sysmem_alloc.specs.State.{State as BookState, after_decision, next_ready, verdict_of}
 use Rattle.sysmem_image.specs.declared.size.Corner.{Corner}
 use Rattle.sysmem_image.specs.Corners.{IsCorner}
 use Rattle.sysmem_proof.specs.Chosen.{ChosenFacts}

@@ -2,7 +2,7 @@
 use Rattle.std.specs.Prelude.{◌≡◌, ℕ, ◌++◌, List, [], ◌∷◌, Bool, false, Option, Some, None, slice_get, unwrap_or}
 use Rattle.sysmem_alloc.specs.Entry.{BookEntry}
 use Rattle.sysmem_alloc.specs.History.{after_entry}
-use Rattle.sysmem_alloc.specs.State.{RunState as BookState}
+use Rattle.sysmem_alloc.specs.State.{State as BookState}
 use Rattle.sysmem_alloc.specs.State as books
 use Rattle.sysmem_sanitise.specs.Platform.{PlatformFacts}
 use Rattle.sysmem_tree.specs.Domain.{TreeFacts}

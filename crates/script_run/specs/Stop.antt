@@ -1,6 +1,6 @@
 -- Where decisions stop.
 use Rattle.std.specs.Prelude.{◌≡◌, ℕ, ◌++◌, List, Some, ⊤, false}
-use Rattle.sysmem_alloc.specs.State.{RunState as BookState, next_ready}
+use Rattle.sysmem_alloc.specs.State.{State as BookState, next_ready}
 use Rattle.sysmem_sanitise.specs.Platform.{PlatformFacts}
 use Rattle.script_reading.specs.Script.{CallFacts}
 use Rattle.script_run.specs.declared.decider.Objection.{Objection}
