@@ -63,6 +63,3 @@ impl<W: Write> Sink for Counted<W> {
         result
     }
 }
-
-#[cfg(test)]
-mod tests;

@@ -59,6 +59,3 @@ pub fn write_fully<W: Sink>(writer: &mut W, bytes: &[u8]) -> Result<(), WriteFau
     }
     Ok(())
 }
-
-#[cfg(test)]
-mod tests;

@@ -6,3 +6,11 @@ pub mod RefutationsBack
 pub mod SettingsBack
 pub mod ClaimsBack
 pub mod Putting
+pub mod Ordinals
+pub mod Shapes
+pub mod ProofsFit
+pub mod ClaimsFit
+pub mod NewLine
+pub mod Readable
+pub mod NamesRead
+pub mod TextsBack

@@ -13,7 +13,7 @@ use Rattle.sysmem_proof.specs.Line.{LineFacts}
 use Rattle.certificate_text.specs.Bounds.{count_data}
 use Rattle.certificate_text.specs.CanBeRead.{HasSteps, NamesNodes, IsReadableConflict, IsReadableItem, IsReadableRefutation}
 use Rattle.certificate_text.specs.Fields.{field_named}
-use Rattle.certificate_text.specs.Reading.{◌>>=◌, object_of, number_to, each_said, list_said, at_key, named_at}
+use Rattle.certificate_text.specs.Reading.{◌>>=◌, is_object_of, number_to, each_said, list_said, at_key, named_at}
 use Rattle.certificate_text.specs.Said.{node_said, named_said, line_said, fixed_by, conflict_said, item_said, refutation_said, earlier_said}
 use Rattle.certificate_text.specs.Told.{list_data, path_data, paths_data, field_data, line_data, lines_data, conflict_data, item_data, refutation_data, earlier_data}
 use Rattle.certificate_text.proofs.Names.{own_name}
@@ -41,10 +41,10 @@ number_back most n fits = rw (le-leb n most fits) refl
 -- ---- lines and conflicts
 
 -- a field and nodes under their keys
-named_back : (kind : List ℕ) (d : Data) (field : Field) (nodes : List (List ℕ)) → object_of 2 d ≡ Some tt → get kind d ≡ Some (field_data field)
+named_back : (kind : List ℕ) (d : Data) (field : Field) (nodes : List (List ℕ)) → is_object_of 2 d ≡ Some tt → get kind d ≡ Some (field_data field)
     → get (codes "nodes") d ≡ Some (paths_data nodes) → All HasSteps nodes → named_said kind d ≡ Some (record { field = field; nodes = nodes })
 named_back kind d field nodes two at_kind at_nodes steps =
-    first (object_of 2 d) tt _ _ two
+    first (is_object_of 2 d) tt _ _ two
     (first (named_at kind field_named d) field _ _ (ap (λ e. (e >>= as_str) >>= field_named) at_kind ∙ own_name field)
     (first (at_key (codes "nodes") (list_said node_said) d) nodes _ _
     (at_back (codes "nodes") (list_said node_said) d (paths_data nodes) nodes at_nodes (each_back path_data node_said HasSteps path_back nodes steps)) refl))

@@ -1,5 +1,5 @@
 -- Which claims can be read of their text: what they say fits the types that it is read into, and their settings are the platform's.
-use Rattle.std.specs.Prelude.{◌≡◌, ℕ, ◌-◌, ◌^◌, ◌≤◌, List, [], ◌∷◌, length, All, Contains}
+use Rattle.std.specs.Prelude.{◌≡◌, ℕ, ◌-◌, ◌^◌, ◌≤◌, List, [], ◌∷◌, length, All, Contains, IfSome, Option, Some, None}
 use Rattle.sysmem_formats.specs.declared.offer.Offer.TheVariants.{NoImage}
 use Rattle.sysmem_image.specs.Bounds.{IsInRange, IsOwn}
 use Rattle.sysmem_counts.specs.Bounds.{most_number}
@@ -7,6 +7,7 @@ use Rattle.sysmem_memory.specs.Heap.{HeapFacts}
 use Rattle.sysmem_memory.specs.Place.{IsPlace}
 use Rattle.sysmem_merge.specs.declared.settings.Settings.{Settings}
 use Rattle.sysmem_sanitise.specs.Platform.{PlatformFacts, offers_of}
+use Rattle.sysmem_proof.specs.declared.certificate.Claim.{Claim}
 use Rattle.sysmem_proof.specs.declared.certificate.Proof.{Proof}
 use Rattle.sysmem_proof.specs.declared.certificate.Proof.TheVariants as proves
 use Rattle.sysmem_proof.specs.declared.conflict.Conflict.{Conflict}
@@ -15,6 +16,7 @@ use Rattle.sysmem_proof.specs.declared.refutation.Item.{Item}
 use Rattle.sysmem_proof.specs.declared.refutation.Item.TheVariants.{Split, Leaf}
 use Rattle.sysmem_proof.specs.declared.verdict.Verdict.{Verdict}
 use Rattle.sysmem_proof.specs.declared.verdict.Verdict.TheVariants as verdicts
+use Rattle.sysmem_proof.specs.Base.{BaseFacts}
 use Rattle.sysmem_proof.specs.CertificateFacts.{CertificateFacts}
 use Rattle.sysmem_proof.specs.Chosen.{ChosenFacts}
 use Rattle.sysmem_proof.specs.Line.{LineFacts}
@@ -72,3 +74,17 @@ CanBeRead platform verdicts.IntersectionEmpty (proves.Empty items) = IsReadableR
 CanBeRead platform verdicts.TooMany proves.Nothing = Unit {0}
 CanBeRead platform verdicts.NoMemory proves.Nothing = Unit {0}
 CanBeRead platform verdict proof = ⊥
+
+-- what was decided of the domain at a path, where it can be read: a claim, or that memory was refused
+pub record IsReadableDecision (platform : PlatformFacts) (path : List ℕ) (claim : Option Claim) : Type 0 where
+  pub steps : HasSteps path
+  pub claimed : IfSome claim (λ c. CanBeRead platform c.verdict c.proof)
+
+-- each heap's id is of 64 bits, as its type has it
+abbrev pub HasHeapIds : PlatformFacts → Type 0
+HasHeapIds platform = All (λ h. h.heap.id ≤ 2 ^ 64 - 1) platform.heaps
+
+-- the settings of the host's domain, where an attached domain is decided on them, can be read
+abbrev pub IsReadableBase : PlatformFacts → Option BaseFacts → Type 0
+IsReadableBase platform None = Unit {0}
+IsReadableBase platform (Some base) = AreReadableSettings platform base.settings

@@ -18,8 +18,8 @@ pub record Adds (old new : Written) (ts : List Token) : Type 0 where
   pub before : new.before ≡ old.before
 
 -- where the result is Ok, the data was put behind what is written
-abbrev pub Puts : {T E : Type 0} → Result T E → Written → Written → Data → Type 0
-Puts result old new d = OnOk result (Adds old new (tokens_of d))
+abbrev pub PutsData : {T E : Type 0} → Result T E → Written → Written → Data → Type 0
+PutsData result old new d = OnOk result (Adds old new (tokens_of d))
 
 -- and here under a key
 abbrev pub PutsMember : {T E : Type 0} → Result T E → Written → Written → List ℕ → Data → Type 0

@@ -16,8 +16,8 @@ members_len no_members = 0
 members_len (member key d ms) = suc (members_len ms)
 
 -- an object of so many members: where so many keys are found in it, it has no others
-abbrev pub object_of : ℕ → Data → Option (Unit {0})
-object_of n d = do
+abbrev pub is_object_of : ℕ → Data → Option (Unit {0})
+is_object_of n d = do
   many ← option_map members_len (as_object d)
   if many == n then Some tt else None
 
@@ -48,11 +48,11 @@ abbrev pub named_at : {A : Type 0} → List ℕ → (List ℕ → Option A) → 
 named_at key named d = at_key key as_str d >>= named
 
 -- a result, seen so, is what is said, or memory was refused
-abbrev pub ReadsAs : {X A : Type 0} → (X → A) → Result X Unread → Option A → Type 0
-ReadsAs seen (Ok x) said = said ≡ Some (seen x)
-ReadsAs seen (Err WrongForm) said = said ≡ None
-ReadsAs seen (Err NoMemory) said = ⊤
+abbrev pub SaysAs : {X A : Type 0} → (X → A) → Result X Unread → Option A → Type 0
+SaysAs seen (Ok x) said = said ≡ Some (seen x)
+SaysAs seen (Err WrongForm) said = said ≡ None
+SaysAs seen (Err NoMemory) said = ⊤
 
 -- the same of what is seen as itself
 abbrev pub Says : {A : Type 0} → Result A Unread → Option A → Type 0
-Says result said = ReadsAs (λ a. a) result said
+Says result said = SaysAs (λ a. a) result said

@@ -16,7 +16,7 @@ use Rattle.sysmem_proof.specs.CertificateFacts.{CertificateFacts}
 use Rattle.sysmem_proof.specs.Line.{LineFacts}
 use Rattle.certificate_text.specs.Fields.{field_named}
 use Rattle.certificate_text.specs.Paths.{path_said}
-use Rattle.certificate_text.specs.Reading.{◌>>=◌, object_of, number_to, list_said, at_key, named_at}
+use Rattle.certificate_text.specs.Reading.{◌>>=◌, is_object_of, number_to, list_said, at_key, named_at}
 use Rattle.certificate_text.specs.SettingsSaid.{settings_said}
 
 -- ---- lines and conflicts
@@ -28,7 +28,7 @@ node_said d = as_str d >>= path_said
 -- an object that has a field under a kind, and the paths of nodes
 abbrev pub named_said : List ℕ → Data → Option LineFacts
 named_said kind d = do
-  _ ← object_of 2 d
+  _ ← is_object_of 2 d
   field ← named_at kind field_named d
   nodes ← at_key (codes "nodes") (list_said node_said) d
   Some (record { field = field; nodes = nodes })
@@ -39,7 +39,7 @@ line_said d = named_said (codes "field") d
 -- an object that has lines alone, under a kind
 abbrev pub lines_said : List ℕ → Data → Option (List LineFacts)
 lines_said kind d = do
-  _ ← object_of 1 d
+  _ ← is_object_of 1 d
   at_key kind (list_said line_said) d
 
 -- a field of one node
@@ -61,7 +61,7 @@ conflict_said d =
 
 abbrev pub split_said : Data → Option Item
 split_said d = do
-  _ ← object_of 1 d
+  _ ← is_object_of 1 d
   children ← at_key (codes "split") (number_to (2 ^ 64 - 1)) d
   Some (Split children)
 
@@ -94,7 +94,7 @@ selection_said d = list_said (number_to 255) d >>= unless_many
 
 abbrev pub chosen_said : PlatformFacts → Data → Option Claim
 chosen_said platform d = do
-  _ ← object_of 7 d
+  _ ← is_object_of 7 d
   certificate ← certificate_said d
   selection ← at_key (codes "selection") selection_said d
   settings ← at_key (codes "settings") (settings_said platform) d
@@ -102,14 +102,14 @@ chosen_said platform d = do
 
 abbrev pub empty_said : Data → Option Claim
 empty_said d = do
-  _ ← object_of 3 d
+  _ ← is_object_of 3 d
   refutation ← at_key (codes "refutation") refutation_said d
   Some (record { verdict = verdicts.IntersectionEmpty; proof = proves.Empty refutation })
 
 -- a verdict that needs no proof
 abbrev pub bare_said : Verdict → Data → Option Claim
 bare_said verdict d = do
-  _ ← object_of 2 d
+  _ ← is_object_of 2 d
   Some (record { verdict = verdict; proof = proves.Nothing })
 
 -- the claim with a verdict of this name

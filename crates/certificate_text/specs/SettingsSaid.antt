@@ -19,7 +19,7 @@ use Rattle.sysmem_merge.specs.declared.settings.Settings.{Settings}
 use Rattle.sysmem_sanitise.specs.Platform.{PlatformFacts}
 use Rattle.sysmem_sanitise.specs.Reading.Names.{format_named, modifier_named, colour_named, domain_named}
 use Rattle.sysmem_sanitise.specs.Reading.Pairs.{has_pair, lists_colour}
-use Rattle.certificate_text.specs.Reading.{◌>>=◌, object_of, number_to, at_key, named_at}
+use Rattle.certificate_text.specs.Reading.{◌>>=◌, is_object_of, number_to, at_key, named_at}
 
 -- ---- bounds
 
@@ -37,7 +37,7 @@ some_number field d = any_number field d >>= unless_zero
 -- a height and a width of 32 bits
 abbrev pub size_said : Data → Option Size
 size_said d = do
-  _ ← object_of 2 d
+  _ ← is_object_of 2 d
   width ← at_key (codes "width") (number_to most_number) d
   height ← at_key (codes "height") (number_to most_number) d
   Some (record { width = width; height = height })
@@ -78,7 +78,7 @@ pub record Numbers : Type 0 where
 
 abbrev pub numbers_said : Data → Option Numbers
 numbers_said d = do
-  _ ← object_of (bounds_len (get (field_name field.MaxWidthTimesHeight) d)) d
+  _ ← is_object_of (bounds_len (get (field_name field.MaxWidthTimesHeight) d)) d
   min_size ← some_size field.MinSize d
   max_size ← any_size field.MaxSize d
   size_alignment ← some_size field.SizeAlignment d
@@ -186,7 +186,7 @@ offered platform (Image pair colour) =
 
 abbrev pub image_said : Data → Option Offer
 image_said d = do
-  _ ← object_of 3 d
+  _ ← is_object_of 3 d
   colour ← named_at (codes "color_space") colour_named d
   format ← named_at (field_name field.PixelFormat) format_named d
   modifier ← named_at (field_name field.PixelFormatModifier) modifier_named d
@@ -212,7 +212,7 @@ is_heap heap_type id h = bytes_eq h.heap.heap_type heap_type && h.heap.id == id
 -- the index of the heap that is named
 abbrev pub heap_said : PlatformFacts → Data → Option ℕ
 heap_said platform d = do
-  _ ← object_of (heap_len (get (field_name field.Id) d)) d
+  _ ← is_object_of (heap_len (get (field_name field.Id) d)) d
   heap_type ← at_key (field_name field.HeapType) as_str d
   id ← id_said (get (field_name field.Id) d)
   position (is_heap heap_type id) platform.heaps
@@ -232,7 +232,7 @@ place_said platform d = do
 -- the settings that an object says
 abbrev pub settings_said : PlatformFacts → Data → Option Settings
 settings_said platform d = do
-  _ ← object_of 6 d
+  _ ← is_object_of 6 d
   count ← at_key (codes "count") (number_to most_number) d
   size_bytes ← at_key (codes "size_bytes") (number_to (2 ^ 64 - 1)) d
   place ← place_said platform d

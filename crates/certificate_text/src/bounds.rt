@@ -5,7 +5,7 @@ ghost use Rattle.serde_json.specs.View.{view};
 ghost use Rattle.sysmem_counts.specs.Field.{field_name};
 ghost use Rattle.certificate_text.specs.SettingsSaid.{any_number, any_size, bounds_beside, bounds_by, bounds_len, no_bounds, numbers_of, numbers_said, product_said, size_said, some_number, some_size};
 ghost use Rattle.certificate_text.specs.Bounds.{bounds_data, count_data, size_data};
-ghost use Rattle.certificate_text.specs.Certificate.{Puts, PutsMember};
+ghost use Rattle.certificate_text.specs.Certificate.{PutsData, PutsMember};
 
 use crate::member::put_number;
 use crate::reading::{expect_object, number_at, number_to};
@@ -35,7 +35,7 @@ macro_rules! read_bound {
 
 /// Puts all fields of bounds, in the order of the bytes of their names.
 pub(crate) fn put_bounds(out: &mut Writer, bounds: ImageBounds) -> Result<(), AllocError>
-    ensures { Puts result out.old out.new (bounds_data bounds) }
+    ensures { PutsData result out.old out.new (bounds_data bounds) }
 {
     out.begin_object()?;
     put_small(out, Field::BytesPerRowDivisor, bounds.bytes_per_row_divisor)?;

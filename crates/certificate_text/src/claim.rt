@@ -1,7 +1,7 @@
 //! A decision: the object of a certificate for one domain.
 
 ghost use Rattle.std.specs.Prelude.{◌≡◌, ◌≤◌, length, option_map};
-ghost use Rattle.certificate_text.specs.Certificate.{Puts, PutsMember, PutsMembers};
+ghost use Rattle.certificate_text.specs.Certificate.{PutsData, PutsMember, PutsMembers};
 ghost use Rattle.certificate_text.specs.Bounds.{count_data};
 ghost use Rattle.certificate_text.specs.Reading.{at_key, number_to, Says};
 ghost use Rattle.certificate_text.specs.Said.{bare_said, certificate_said, chosen_said, claim_by, claim_said, empty_said, selection_said, unless_many};
@@ -51,7 +51,7 @@ pub(crate) fn put_decision(
     path: &Path,
     claim: Option<&Claim>,
 ) -> Result<(), AllocError>
-    ensures { Puts result out.old out.new
+    ensures { PutsData result out.old out.new
         (decision_data platform.now path.now (option_map (λ c. c.now) claim.entry)) }
 {
     match claim {
@@ -75,7 +75,7 @@ fn put_claim(
     verdict: &Verdict,
     proof: &Proof,
 ) -> Result<(), AllocError>
-    ensures { Puts result out.old out.new
+    ensures { PutsData result out.old out.new
         (claim_data platform.now path.now verdict.now proof.now) }
 {
     out.begin_object()?;

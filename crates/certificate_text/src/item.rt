@@ -1,7 +1,7 @@
 //! Items of refutations, and refutations.
 
 ghost use Rattle.std.specs.Prelude.{◌≡◌, IfOk};
-ghost use Rattle.certificate_text.specs.Certificate.{Puts};
+ghost use Rattle.certificate_text.specs.Certificate.{PutsData};
 ghost use Rattle.certificate_text.specs.Reading.{Says};
 ghost use Rattle.certificate_text.specs.Said.{conflict_said, earlier_said, fixed_by, item_said, lines_said, refutation_said, split_said};
 ghost use Rattle.serde_json.specs.View.{view};
@@ -84,7 +84,7 @@ impl Part for EarlierChoices {
 }
 
 fn put_split(out: &mut Writer, children: u64) -> Result<(), AllocError>
-    ensures { Puts result out.old out.new (item_data (Item.Split children)) }
+    ensures { PutsData result out.old out.new (item_data (Item.Split children)) }
 {
     out.begin_object()?;
     out.key("split")?;
@@ -93,7 +93,7 @@ fn put_split(out: &mut Writer, children: u64) -> Result<(), AllocError>
 }
 
 fn put_conflict(out: &mut Writer, text: &mut String, conflict: &Conflict) -> Result<(), AllocError>
-    ensures { Puts result out.old out.new (conflict_data conflict.now) }
+    ensures { PutsData result out.old out.new (conflict_data conflict.now) }
 {
     match conflict {
         Conflict::Count(line) => put_named(out, text, "count", line.field(), line.nodes()),
@@ -116,7 +116,7 @@ fn put_lines(
     kind: &str,
     lines: &Lines,
 ) -> Result<(), AllocError>
-    ensures { Puts result out.old out.new
+    ensures { PutsData result out.old out.new
         (object (member kind.now (lines_data lines.now) no_members)) }
 {
     out.begin_object()?;

@@ -1,12 +1,12 @@
 //! Lines of the conflict table.
 
-ghost use Rattle.certificate_text.specs.Certificate.{Puts};
+ghost use Rattle.certificate_text.specs.Certificate.{PutsData};
 ghost use Rattle.std.specs.Prelude.{◌≡◌, codes, IfOk};
 ghost use Rattle.std.specs.Cmp.Lexicographic.{slice_cmp};
 ghost use Rattle.std.specs.Ordering.{nat_cmp};
 ghost use Rattle.std.proofs.Common.{Greater};
 ghost use Rattle.certificate_text.specs.Fields.{field_named};
-ghost use Rattle.certificate_text.specs.Reading.{named_at, ReadsAs};
+ghost use Rattle.certificate_text.specs.Reading.{named_at, SaysAs};
 ghost use Rattle.certificate_text.specs.Said.{line_said, named_said};
 ghost use Rattle.certificate_text.specs.Told.{line_data, named_data};
 ghost use Rattle.serde_json.specs.View.{view};
@@ -48,7 +48,7 @@ pub(crate) fn put_named(
     field: Field,
     nodes: &[Path],
 ) -> Result<(), AllocError>
-    ensures { Puts result out.old out.new (named_data kind.now field nodes.now) }
+    ensures { PutsData result out.old out.new (named_data kind.now field nodes.now) }
 {
     out.begin_object()?;
     out.key(kind)?;
@@ -99,7 +99,7 @@ pub(crate) fn read_named(
     value: &Value,
     kind: &str,
 ) -> Result<(Field, Vec<Path>), Unread>
-    ensures { ReadsAs (λ named. record { field = named.0; nodes = named.1.items }) result
+    ensures { SaysAs (λ named. record { field = named.0; nodes = named.1.items }) result
         (named_said kind.now (view value.now)) }
 {
     expect_object(value, 2).ok_or(Unread::WrongForm)?;

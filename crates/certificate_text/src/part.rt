@@ -1,6 +1,6 @@
 //! A part of a certificate.
 
-ghost use Rattle.certificate_text.specs.Certificate.{Puts, PutsMember};
+ghost use Rattle.certificate_text.specs.Certificate.{PutsData, PutsMember};
 ghost use Rattle.certificate_text.specs.Told.{list_data};
 ghost use Rattle.certificate_text.specs.Reading.{Says};
 ghost use Rattle.serde_json.specs.Data.{Data};
@@ -20,7 +20,7 @@ pub(crate) trait Part: Sized + Drop {
 
     /// Puts it behind what is written. The text is one to write a path in.
     fn put(&self, out: &mut Writer, text: &mut String) -> Result<(), AllocError>
-        ensures { Puts result out.old out.new (told self.now) };
+        ensures { PutsData result out.old out.new (told self.now) };
 
     /// It as a value.
     fn value(&self, alloc: Global) -> Result<Value, AllocError>
@@ -37,7 +37,7 @@ pub(crate) fn put_list<T: Part>(
     text: &mut String,
     parts: &[T],
 ) -> Result<(), AllocError>
-    ensures { Puts result out.old out.new (list_data T.told parts.now) }
+    ensures { PutsData result out.old out.new (list_data T.told parts.now) }
 {
     out.begin_array()?;
     for part in parts {

@@ -4,7 +4,7 @@ ghost use Rattle.std.specs.Prelude.{◌≡◌, ◌++◌, ◌≤◌, None, codes,
 ghost use Rattle.std.specs.Fmt.{decimal};
 ghost use Rattle.std.specs.String.{string_bytes};
 ghost use Rattle.certificate_text.specs.Paths.{path_said, path_text, path_behind, steps_said, steps_text, with_byte, with_digit};
-ghost use Rattle.certificate_text.specs.Reading.{ReadsAs, Says};
+ghost use Rattle.certificate_text.specs.Reading.{SaysAs, Says};
 ghost use Rattle.certificate_text.specs.Said.{node_said};
 ghost use Rattle.certificate_text.specs.Told.{path_data};
 
@@ -92,7 +92,7 @@ fn path_behind(alloc: Global, bytes: &[u8]) -> Result<Path, Unread>
 
 /// The ordinals between slashes.
 fn steps_of(alloc: Global, bytes: &[u8]) -> Result<Vec<u32>, Unread>
-    ensures { ReadsAs (λ ordinals. ordinals.items) result (steps_said None bytes.now) }
+    ensures { SaysAs (λ ordinals. ordinals.items) result (steps_said None bytes.now) }
 {
     let mut ordinals = Vec::new(alloc);
     let mut ordinal = None;

@@ -3,7 +3,7 @@
 ghost use Rattle.std.specs.Prelude.{◌≡◌, ◌≤◌, IfSome, is_some, option_map};
 ghost use Rattle.serde_json.specs.Find.{as_object, as_str, get};
 ghost use Rattle.serde_json.specs.View.{view, items_view};
-ghost use Rattle.certificate_text.specs.Reading.{at_key, each_said, list_said, members_len, number_to, object_of, ReadsAs};
+ghost use Rattle.certificate_text.specs.Reading.{at_key, each_said, list_said, members_len, number_to, is_object_of, SaysAs};
 
 use crate::part::Part;
 use crate::unread::Unread;
@@ -12,7 +12,7 @@ use std::alloc::Global;
 
 /// Asks for an object of so many members. Where so many keys are found in it, it has no others.
 pub(crate) fn expect_object(value: &Value, members: usize) -> Option<()>
-    ensures { result ≡ object_of members (view value.now) }
+    ensures { result ≡ is_object_of members (view value.now) }
 {
     if members_len(value)? == members {
         Some(())
@@ -62,7 +62,7 @@ pub(crate) fn has_key(value: &Value, key: &str) -> bool
 
 /// What each of the items says.
 fn each_of<T: Part>(alloc: Global, values: &[Value]) -> Result<Vec<T>, Unread>
-    ensures { ReadsAs (λ parts. parts.items) result (each_said T.said (items_view values.now)) }
+    ensures { SaysAs (λ parts. parts.items) result (each_said T.said (items_view values.now)) }
 {
     let mut parts = Vec::new(alloc);
     for value in values {
@@ -74,7 +74,7 @@ fn each_of<T: Part>(alloc: Global, values: &[Value]) -> Result<Vec<T>, Unread>
 
 /// What a list says, item by item.
 pub(crate) fn list_of<T: Part>(alloc: Global, value: &Value) -> Result<Vec<T>, Unread>
-    ensures { ReadsAs (λ parts. parts.items) result (list_said T.said (view value.now)) }
+    ensures { SaysAs (λ parts. parts.items) result (list_said T.said (view value.now)) }
 {
     match value.as_array() {
         Some(values) => each_of(alloc, values),
@@ -84,7 +84,7 @@ pub(crate) fn list_of<T: Part>(alloc: Global, value: &Value) -> Result<Vec<T>, U
 
 /// What the list at a key says.
 pub(crate) fn list_at<T: Part>(alloc: Global, value: &Value, key: &str) -> Result<Vec<T>, Unread>
-    ensures { ReadsAs (λ parts. parts.items) result
+    ensures { SaysAs (λ parts. parts.items) result
         (at_key key.now (list_said T.said) (view value.now)) }
 {
     match value.get(key) {

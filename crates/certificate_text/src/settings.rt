@@ -1,7 +1,7 @@
 //! The settings that were chosen.
 
 ghost use Rattle.std.specs.Prelude.{◌≡◌, Some, option_map, position, slice_get};
-ghost use Rattle.certificate_text.specs.Certificate.{Puts};
+ghost use Rattle.certificate_text.specs.Certificate.{PutsData};
 ghost use Rattle.certificate_text.specs.Reading.{named_at};
 ghost use Rattle.certificate_text.specs.SettingsSaid.{heap_len, heap_said, id_said, image_said, is_heap, offer_said, offered, place_at, place_said, settings_said};
 ghost use Rattle.serde_json.specs.View.{view};
@@ -28,7 +28,7 @@ pub(crate) fn put_settings(
     platform: &Platform,
     settings: Settings,
 ) -> Result<(), AllocError>
-    ensures { Puts result out.old out.new (settings_data platform.now settings) }
+    ensures { PutsData result out.old out.new (settings_data platform.now settings) }
 {
     out.begin_object()?;
     out.key("bounds")?;
@@ -44,7 +44,7 @@ pub(crate) fn put_settings(
 }
 
 fn put_image_bounds(out: &mut Writer, offer: Offer, bounds: ImageBounds) -> Result<(), AllocError>
-    ensures { Puts result out.old out.new (image_bounds_data offer bounds) }
+    ensures { PutsData result out.old out.new (image_bounds_data offer bounds) }
 {
     match offer {
         Offer::NoImage => out.null(),
@@ -59,7 +59,7 @@ pub(crate) fn heap_at(platform: &Platform, index: usize) -> Option<&HeapInfo>
 }
 
 fn put_heap(out: &mut Writer, heap: Option<&HeapInfo>) -> Result<(), AllocError>
-    ensures { Puts result out.old out.new
+    ensures { PutsData result out.old out.new
         (heap_data (option_map (λ info. info.now) heap.entry)) }
 {
     match heap {
@@ -69,7 +69,7 @@ fn put_heap(out: &mut Writer, heap: Option<&HeapInfo>) -> Result<(), AllocError>
 }
 
 fn put_heap_name(out: &mut Writer, info: &HeapInfo) -> Result<(), AllocError>
-    ensures { Puts result out.old out.new (heap_data (Some info.now)) }
+    ensures { PutsData result out.old out.new (heap_data (Some info.now)) }
 {
     out.begin_object()?;
     put_text(out, Field::HeapType.name(), info.heap.heap_type.as_str())?;
@@ -78,7 +78,7 @@ fn put_heap_name(out: &mut Writer, info: &HeapInfo) -> Result<(), AllocError>
 }
 
 fn put_image(out: &mut Writer, offer: Offer) -> Result<(), AllocError>
-    ensures { Puts result out.old out.new (image_data offer) }
+    ensures { PutsData result out.old out.new (image_data offer) }
 {
     match offer {
         Offer::NoImage => out.null(),
@@ -87,7 +87,7 @@ fn put_image(out: &mut Writer, offer: Offer) -> Result<(), AllocError>
 }
 
 fn put_names(out: &mut Writer, pair: Pair, colour: ColourSpace) -> Result<(), AllocError>
-    ensures { Puts result out.old out.new (image_data (Offer.Image pair colour)) }
+    ensures { PutsData result out.old out.new (image_data (Offer.Image pair colour)) }
 {
     out.begin_object()?;
     put_text(out, "color_space", colour.name())?;

@@ -62,19 +62,19 @@ family_items bits (family ∷ rest) = item_if (bit_and bits family.1 == family.1
 abbrev pub usage_record : Usage → Data
 usage_record usage = array (family_items (usage_bits usage) families)
 
-abbrev pub name_fields : HeapName → List (Field × Data)
-name_fields h = (field.HeapType, string h.heap_type) ∷ (field.Id, natural h.id) ∷ []
+abbrev pub name_members : HeapName → List (Field × Data)
+name_members h = (field.HeapType, string h.heap_type) ∷ (field.Id, natural h.id) ∷ []
 
 -- a permitted heap
 abbrev pub heap_name_record : HeapName → Data
-heap_name_record h = fields (name_fields h)
+heap_name_record h = fields (name_members h)
 
 abbrev pub domain_items : CoherencyDomains → Items
 domain_items s = item_if s.cpu (string (domain_name Cpu)) (item_if s.ram (string (domain_name Ram)) (item_if s.inaccessible (string (domain_name Inaccessible)) no_items))
 
 -- a platform's heap
 abbrev pub heap_record : HeapFacts → Data
-heap_record h = fields (name_fields h.heap ++ (field.Contiguous, boolean h.contiguous) ∷ (field.Secure, boolean h.secure) ∷ (field.Domains, array (domain_items h.domains)) ∷ [])
+heap_record h = fields (name_members h.heap ++ (field.Contiguous, boolean h.contiguous) ∷ (field.Secure, boolean h.secure) ∷ (field.Domains, array (domain_items h.domains)) ∷ [])
 
 abbrev pub pair_record : Pair → Data
 pair_record pair = fields ((field.PixelFormat, string (format_name pair.format)) ∷ (field.PixelFormatModifier, string (modifier_name pair.modifier)) ∷ [])

@@ -8,6 +8,7 @@ pub mod Following
 pub mod Since
 pub mod Growing
 pub mod Reaching
+pub mod ReadBack
 pub mod Results
 pub mod RunLemmas
 pub mod Spelling

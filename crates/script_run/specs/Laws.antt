@@ -1,7 +1,17 @@
 -- What is true of reports, whoever writes them.
-use Rattle.std.specs.Prelude.{◌≡◌, ℕ, List, false, Result, Ok, Err}
-use Rattle.sysmem_sanitise.specs.Platform.{PlatformFacts}
+use Rattle.std.specs.Prelude.{◌≡◌, ℕ, All, List, Bool, false, Option, Some, None, Result, Ok, Err}
+use Rattle.serde_json.specs.Data.{array}
+use Rattle.serde_json.specs.View.{items_of}
+use Rattle.sysmem_proof.specs.declared.certificate.Claim.{Claim}
+use Rattle.sysmem_proof.specs.declared.certificate.Proof.TheVariants.{Nothing}
+use Rattle.sysmem_proof.specs.declared.verdict.Verdict.TheVariants.{NoMemory}
+use Rattle.sysmem_sanitise.specs.Platform.{PlatformFacts, IsPlatform}
+use Rattle.certificate_text.specs.CanBeRead.{HasHeapIds}
+use Rattle.certificate_text.specs.Said.{claim_said}
+use Rattle.certificate_text.specs.Told.{decision_data}
 use Rattle.script_reading.specs.declared.fault.ScriptFault.{ScriptFault}
+use Rattle.script_reading.specs.Text.{IsJson}
+use Rattle.script_run.specs.Certificate.{CertifiedFacts, CertifiesTo, certificate_of, data_of}
 use Rattle.script_run.specs.Outcome.{ReportFacts, RunsTo}
 use Rattle.script_run.specs.Report.{Certified, IsReport}
 use Rattle.script_reading.specs.Script.{CallFacts}
@@ -23,3 +33,28 @@ OneAnswer = (input : List ℕ) (a b : Result ReportFacts ScriptFault) → RunsTo
 -- bytes with a fault give that fault and nothing else, whether or not memory is refused
 abbrev pub FaultIsAlone : Type 0
 FaultIsAlone = (input : List ℕ) (fault : ScriptFault) (b : Result ReportFacts ScriptFault) → RunsTo input (Err fault) → RunsTo input b → b ≡ Err fault
+
+-- what is given with a certificate, without it
+abbrev pub uncertified : Result CertifiedFacts ScriptFault → Result ReportFacts ScriptFault
+uncertified (Ok certified) = Ok (record { text = certified.text; starved = certified.starved })
+uncertified (Err fault) = Err fault
+
+-- what the bytes of a script give with a certificate they give without it
+abbrev pub CertifiedIsReport : Type 0
+CertifiedIsReport = (input : List ℕ) (answer : Result CertifiedFacts ScriptFault) → CertifiesTo input answer → RunsTo input (uncertified answer)
+
+-- the claim that a decision's object makes: where memory was wanted, that it was
+abbrev pub claim_told : Option Claim → Claim
+claim_told (Some claim) = claim
+claim_told None = record { verdict = NoMemory; proof = Nothing }
+
+-- the certificate of decisions is JSON, a list of their objects, of which each is read as its decision
+pub record AreReadBack (platform : PlatformFacts) (decisions : List Certified) : Type 0 where
+  pub spelled : IsJson (certificate_of platform decisions) (array (items_of (data_of platform decisions)))
+  pub each : All (λ c. claim_said platform (decision_data platform c.0 c.1) ≡ Some (c.0, claim_told c.1)) decisions
+
+-- the certificate of a report on a platform of the profile is read back
+abbrev pub CertificatesReadBack : Type 0
+CertificatesReadBack = (platform : PlatformFacts) (rs : List CallFacts) (text : List ℕ) (decisions : List Certified) (starved : Bool)
+    → IsPlatform platform.heaps platform.pairs platform.colours → HasHeapIds platform
+    → IsReport platform rs text decisions starved → AreReadBack platform decisions

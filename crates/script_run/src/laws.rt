@@ -1,7 +1,11 @@
 //! What is true of reports, whoever writes them.
 
-ghost use Rattle.script_run.specs.Laws.{FaultIsAlone, OneAnswer, OneReport};
+ghost use Rattle.script_run.specs.Laws.{CertificatesReadBack, CertifiedIsReport, FaultIsAlone, OneAnswer, OneReport};
 
+use certificate_text::laws::{
+    claims_read_back, node_paths_can_be_read, texts_read_back, true_claims_can_be_read,
+};
+use sysmem_alloc::laws::legal_is_sound;
 use sysmem_image::laws::corner_is_least;
 use sysmem_proof::laws;
 
@@ -24,3 +28,21 @@ pub fn one_answer()
 pub fn fault_is_alone()
     ensures { FaultIsAlone }
 {}
+
+/// What the bytes of a script give with a certificate they give without it, so that what holds of reports holds of those that
+/// have a certificate too: there is one, where memory is not refused, and a fault is alone.
+pub fn certified_is_report()
+    ensures { CertifiedIsReport }
+{}
+
+/// The certificate of a report's decisions, on a platform of the profile, is JSON: the list of their objects, each of which is read
+/// as the decision's path and claim.
+pub fn certificates_read_back()
+    ensures { CertificatesReadBack }
+{
+    claims_read_back();
+    node_paths_can_be_read();
+    true_claims_can_be_read();
+    texts_read_back();
+    legal_is_sound();
+}

@@ -268,7 +268,7 @@ impl Runner {
         node: NodeId,
         stated: Option<&Value>,
     ) -> Result<Reply, AllocError>
-        requires names_given { node_named (state_of self.old) (call_seen call.now) ≡ Some node }
+        requires named { node_named (state_of self.old) (call_seen call.now) ≡ Some node }
         requires stated { (call_seen call.now).act ≡ act_seen (Act.SetConstraints stated) }
         ensures { IfOk result (λ reply.
             Replies (state_of self.old) (call_seen call.now) reply (state_of self.new)) }
@@ -287,7 +287,7 @@ impl Runner {
         node: NodeId,
         value: &Value,
     ) -> Result<Reply, AllocError>
-        requires names_given { node_named (state_of self.old) (call_seen call.now) ≡ Some node }
+        requires named { node_named (state_of self.old) (call_seen call.now) ≡ Some node }
         requires stated { (call_seen call.now).act ≡ states (Some (view value.now)) }
         ensures { IfOk result (λ reply.
             Replies (state_of self.old) (call_seen call.now) reply (state_of self.new)) }
@@ -324,7 +324,7 @@ impl Runner {
 
     /// Makes a call's action on its node, or refuses it.
     fn act(&mut self, call: &Call<'_>, node: NodeId, action: Action) -> Result<Reply, AllocError>
-        requires names_given { node_named (state_of self.old) (call_seen call.now) ≡ Some node }
+        requires named { node_named (state_of self.old) (call_seen call.now) ≡ Some node }
         requires asks { AsksFor (call_seen call.now).act (deed_of action) }
         ensures { IfOk result (λ reply.
             Replies (state_of self.old) (call_seen call.now) reply (state_of self.new)) }

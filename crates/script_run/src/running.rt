@@ -183,6 +183,3 @@ fn report_on_script<D: Decider>(
         Err(_) => Err(ParseFault::NoMemory),
     }
 }
-
-#[cfg(test)]
-mod tests;

@@ -36,6 +36,7 @@ use Rattle.sysmem_alloc.proofs.Choosing.{same_chosen}
 use Rattle.sysmem_alloc.proofs.Entering.{allowed_push, replay_push}
 use Rattle.sysmem_alloc.proofs.Lists.{all_append, all_weaken, apart_append}
 use Rattle.sysmem_alloc.proofs.Stepping.{accepts, claims_optimal, selects}
+use Rattle.sysmem_alloc.proofs.Trees.{root_among}
 
 -- who passes a test is some of all
 sub_filter : (p : ℕ → Bool) (xs : List ℕ) → IsSublist (filter p xs) xs
@@ -48,21 +49,6 @@ sub_filter p (x ∷ xs) = by (p x) (sub_filter p xs) where
 all_both : {X : Type 0} (P Q : X → Type 0) (xs : List X) → AllOf P xs → AllOf Q xs → AllOf (λ x. P x × Q x) xs
 all_both P Q [] a b = tt
 all_both P Q (x ∷ xs) a b = ((a.0, b.0), all_both P Q xs a.1 b.1)
-
--- a root of the tree's is among those of its domains
-among_roots : (i : ℕ) (nodes : List NodeFacts) (j : ℕ) (n : NodeFacts) → slice_get nodes j ≡ Some n → n.domain ≡ i + j → (k : ℕ) × (slice_get (roots_from i nodes) k ≡ Some (i + j))
-among_roots i [] j n here own = absurd (cc)
-among_roots i (x ∷ nodes) zero n here own =
-    let z : i + 0 ≡ i = omega arith in
-    let root : x.domain ≡ i = ap (λ (y : NodeFacts). y.domain) (same_Some x n here) ∙ (own ∙ z) in
-    (0, ap (λ b. slice_get (if b then i ∷ roots_from (i + 1) nodes else roots_from (i + 1) nodes) 0) (eq-eqb x.domain i root) ∙ ap (λ k. Some k) (sym z))
-among_roots i (x ∷ nodes) (suc j) n here own =
-    let z : (i + 1) + j ≡ i + suc j = omega arith in
-    let (k, at) = among_roots (i + 1) nodes j n here (own ∙ sym z) in
-    by (x.domain == i) k (at ∙ ap (λ m. Some m) z) where
-      by : (b : Bool) (k : ℕ) → slice_get (roots_from (i + 1) nodes) k ≡ Some (i + suc j) → (m : ℕ) × (slice_get (if b then i ∷ roots_from (i + 1) nodes else roots_from (i + 1) nodes) m ≡ Some (i + suc j))
-      by true k at = (suc k, at)
-      by false k at = (k, at)
 
 -- a decision is entered with its domain
 entered_own : (x : Standing) (ds : List Domain) (r k : ℕ) → slice_get (map (λ (d : Domain). d.root) ds) k ≡ Some r → decision_of (map (decided_domain r x) ds) r ≡ x
@@ -80,20 +66,10 @@ entered_own x (d ∷ ds) r (suc k) at = by (d.root == r) refl (entered_own x ds 
   by false is rest = ap (λ b. if b then d.decision else decision_of (map (decided_domain r x) ds) r) is ∙ rest
 
 decided_own : (t : TreeFacts) (r : ℕ) (choices : Option (List ℕ)) → AreDomains t → HasDomain t.nodes r → decision_of (decided t r choices).domains r ≡ (if is_some choices then Chosen else NoneChosen)
-decided_own t r choices domains has = by (slice_get t.nodes r) refl has where
-  at_root : (n : NodeFacts) → slice_get t.nodes r ≡ Some n → n.domain ≡ r → (k : ℕ) × (slice_get (roots_of t) k ≡ Some r)
-  at_root n here own =
-      let z : 0 + r ≡ r = omega arith in
-      let (k, at) = among_roots 0 t.nodes r n here (own ∙ sym z) in
-      (k, ap (λ rs. slice_get rs k) domains ∙ (at ∙ ap (λ m. Some m) z))
-
+decided_own t r choices domains has = either choices (root_among t r domains has) where
   either : (o : Option (List ℕ)) → (k : ℕ) × (slice_get (roots_of t) k ≡ Some r) → decision_of (decided t r o).domains r ≡ (if is_some o then Chosen else NoneChosen)
   either None (k, at) = entered_own NoneChosen t.domains r k at
   either (Some cs) (k, at) = entered_own Chosen t.domains r k at
-
-  by : (o : Option NodeFacts) → slice_get t.nodes r ≡ o → IsSomeAnd o (λ n. n.domain ≡ r) → decision_of (decided t r choices).domains r ≡ (if is_some choices then Chosen else NoneChosen)
-  by None is h = absurd h
-  by (Some n) is h = either choices (at_root n is h)
 
 -- the decision of a domain, with one more entered
 entered_last : (ds : List Decision) (d : Decision) → decision_for ds d.domain ≡ None → decision_for (ds ++ d ∷ []) d.domain ≡ Some d
@@ -189,7 +165,7 @@ still_accepted old new ds (w ∷ ws) acc same is = subst (IsSublist acc) (sym sa
 
 module _ (stays : ForestStays) (one : OneForest) (platform : PlatformFacts) where
   -- the decisions' domains stay
-  decided_stay : (s : State) (e : trees.HistoryEntry) (u : TreeFacts) → trees.after_entry s.tree e ≡ u → IsSoundState s → trees.Accepts s.tree e
+  pub decided_stay : (s : State) (e : trees.HistoryEntry) (u : TreeFacts) → trees.after_entry s.tree e ≡ u → IsSoundState s → trees.Accepts s.tree e
       → AllOf (λ (d : Decision). IsSameDomain s.tree.nodes u.nodes d.domain) s.decisions
   decided_stay s e u is sound ok = all_weaken (IsOfReady s.tree) (λ (d : Decision). IsSameDomain s.tree.nodes u.nodes d.domain) s.decisions
       (λ d ready. subst (λ (x : TreeFacts). IsSameDomain s.tree.nodes x.nodes d.domain) is (stays s.tree e d.domain sound.tree.tree ok ready.there ready.ready)) sound.decided

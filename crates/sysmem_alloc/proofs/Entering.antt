@@ -10,6 +10,7 @@ use Rattle.sysmem_sanitise.specs.Participant.{Participant}
 use Rattle.sysmem_sanitise.specs.Platform.{PlatformFacts}
 use Rattle.sysmem_tree.specs.declared.action.ActionKind.{ActionKind}
 use Rattle.sysmem_tree.specs.ActionKind.{Deed, kind_of}
+use Rattle.sysmem_tree.specs.Completing.{can_make_ready}
 use Rattle.sysmem_tree.specs.Domain.{TreeFacts, is_ready}
 use Rattle.sysmem_tree.specs.History as trees
 use Rattle.sysmem_tree.specs.Laws.{ForestStays, OneForest, IsSameDomain}
@@ -20,17 +21,17 @@ use Rattle.sysmem_alloc.specs.Decision.{Claimed, Decision, answer_of, choices_of
 use Rattle.sysmem_alloc.specs.Entry.{BookEntry, Acted, Decided, entry_in, decision_in}
 use Rattle.sysmem_alloc.specs.History.{after_answer, after_entry, replay_from, Allows, AreAllowed}
 use Rattle.sysmem_alloc.specs.Laws.{LegalIsSound}
-use Rattle.sysmem_alloc.specs.Marks.{ready_at, ready_unmarked}
+use Rattle.sysmem_alloc.specs.Marks.{if_ready, ready_at, ready_unmarked}
 use Rattle.sysmem_alloc.specs.Sound.{AllOf, IsOfReady, IsSoundState, roots_of}
 use Rattle.sysmem_alloc.specs.State.{State, first_state, newly_ready, is_open, chosen_in, open_in, kept_for}
-use Rattle.sysmem_tree.proofs.CallerLemmas.{accepted}
 use Rattle.sysmem_alloc.proofs.Choosing.{same_chosen, same_filter}
 use Rattle.sysmem_alloc.proofs.Counting.{few_waiting}
 use Rattle.sysmem_alloc.proofs.Lists.{all_each, all_weaken}
 use Rattle.sysmem_alloc.proofs.Marking.{newly_unmarked}
+use Rattle.sysmem_alloc.proofs.Newly.{acted_newly}
 use Rattle.sysmem_alloc.proofs.Setting.{IsSetTo, StandsIn, entry_keeps, all_stand, read_later, read_made}
 use Rattle.sysmem_alloc.proofs.Stepping.{accepts}
-use Rattle.sysmem_alloc.proofs.Trees.{added, acted_roots, added_unready, decided_roots}
+use Rattle.sysmem_alloc.proofs.Trees.{decided_roots}
 
 -- one more entry
 pub replay_push : (s : State) (es : List BookEntry) (e : BookEntry) → replay_from s (es ++ e ∷ []) ≡ after_entry (replay_from s es) e
@@ -75,13 +76,13 @@ read_push platform t u raw x e waiting marks is keeps read =
     (subst (λ (s : State). AllOf (StandsIn s.tree.nodes) (map (entry_in t.nodes) raw)) (sym is.replayed) (all_stand platform first_state (map (entry_in t.nodes) raw) is.legal)))
     ∙ ap (λ y. map (entry_in t.nodes) raw ++ y ∷ []) read)
 
-no_decision : (raw : List Entry) (x : Entry) → decision_in x ≡ None → filter_map decision_in (raw ++ x ∷ []) ≡ filter_map decision_in raw
+pub no_decision : (raw : List Entry) (x : Entry) → decision_in x ≡ None → filter_map decision_in (raw ++ x ∷ []) ≡ filter_map decision_in raw
 no_decision raw x none = filter_map-append decision_in raw (x ∷ []) ∙ (ap (λ ys. filter_map decision_in raw ++ ys) (at (decision_in x) refl none) ∙ append-nil (filter_map decision_in raw)) where
   at : (o : Option Decision) → decision_in x ≡ o → o ≡ None → filter_map decision_in (x ∷ []) ≡ []
   at None is e = rw is refl
   at (Some d) is e = absurd (cc)
 
-one_decision : (raw : List Entry) (x : Entry) (d : Decision) → decision_in x ≡ Some d → filter_map decision_in (raw ++ x ∷ []) ≡ filter_map decision_in raw ++ d ∷ []
+pub one_decision : (raw : List Entry) (x : Entry) (d : Decision) → decision_in x ≡ Some d → filter_map decision_in (raw ++ x ∷ []) ≡ filter_map decision_in raw ++ d ∷ []
 one_decision raw x d is = filter_map-append decision_in raw (x ∷ []) ∙ ap (λ ys. filter_map decision_in raw ++ ys) one where
   one : filter_map decision_in (x ∷ []) ≡ d ∷ []
   one = rw is refl
@@ -106,6 +107,16 @@ accepted_kept old new ds (r ∷ rs) newly later marks now same grown taken kept 
     ∙ (ap (λ (ms : List Bool). filter (λ i. get_or ms i false) (chosen_in new ds)) (kept (λ e. absurd (cc))) ∙ ap (filter (λ i. get_or marks i false)) same)
 
 module _ (sound : LegalIsSound) (stays : ForestStays) (one : OneForest) where
+  -- an action leaves those whom the decisions chose
+  pub acted_chosen : (platform : PlatformFacts) (t : TreeFacts) (raw : List Entry) (waiting : List ℕ) (marks : List Bool) (i : ℕ) (deed : Deed) (made : Applied)
+      → IsBook (kept_book platform t raw waiting marks) → applied t i deed ≡ Ok made → chosen_in made.tree.nodes (filter_map decision_in raw) ≡ chosen_in t.nodes (filter_map decision_in raw)
+  acted_chosen platform t raw waiting marks i deed made is ok =
+      let state = state_sound sound (kept_book platform t raw waiting marks) is in
+      let let_in : IsOk (applied t i deed) = subst IsOk (sym ok) refl in
+      same_chosen t.nodes made.tree.nodes (filter_map decision_in raw) (one t.nodes)
+      (all_weaken (IsOfReady t) (λ (d : Decision). IsSameDomain t.nodes made.tree.nodes d.domain) (filter_map decision_in raw)
+      (λ d r. subst (λ o. IsSameDomain t.nodes (trees.after_answer t o).nodes d.domain) ok (stays t (trees.Acted i deed) d.domain state.tree.tree let_in r.there r.ready)) state.decided)
+
   -- an action
   pub acted_kept : (platform : PlatformFacts) (t : TreeFacts) (raw : List Entry) (waiting later : List ℕ) (marks now : List Bool) (i : ℕ) (deed : Deed) (made : Applied)
       → IsBook (kept_book platform t raw waiting marks) → applied t i deed ≡ Ok made → later ≡ waiting ++ newly_ready t made.tree
@@ -115,11 +126,7 @@ module _ (sound : LegalIsSound) (stays : ForestStays) (one : OneForest) where
       let b : BookFacts = kept_book platform t raw waiting marks in
       let ds : List Decision = filter_map decision_in raw in
       let x : Entry = entries.Acted i (kind_of deed) in
-      let state = state_sound sound b is in
-      let let_in : IsOk (applied t i deed) = subst IsOk (sym ok) refl in
-      let chosen : chosen_in made.tree.nodes ds ≡ chosen_in t.nodes ds = same_chosen t.nodes made.tree.nodes ds (one t.nodes)
-      (all_weaken (IsOfReady t) (λ (d : Decision). IsSameDomain t.nodes made.tree.nodes d.domain) ds
-      (λ d r. subst (λ o. IsSameDomain t.nodes (trees.after_answer t o).nodes d.domain) ok (stays t (trees.Acted i deed) d.domain state.tree.tree let_in r.there r.ready)) state.decided) in
+      let chosen : chosen_in made.tree.nodes ds ≡ chosen_in t.nodes ds = acted_chosen platform t raw waiting marks i deed made is ok in
       let none : filter_map decision_in (raw ++ x ∷ []) ≡ ds = no_decision raw x refl in
       same_book platform (map (entry_in made.tree.nodes) (raw ++ x ∷ [])) (map (entry_in t.nodes) raw ++ Acted i deed ∷ [])
       (kept_book platform made.tree (raw ++ x ∷ []) later now).state (after_entry b.state (Acted i deed))
@@ -155,16 +162,6 @@ marked_at t marks all j r here =
     let z : j ≡ 0 + j = omega arith in
     subst (λ k. get_or marks k false ≡ is_ready t r) z (all j ∙ ap (λ o. unwrap_or (option_map (is_ready t) o) false) here)
 
-pub acted_newly : (t : TreeFacts) (i : ℕ) (deed : Deed) (made : Applied) (marks : List Bool) → applied t i deed ≡ Ok made
-    → ((k : ℕ) → get_or marks k false ≡ ready_at t k) → newly_ready t made.tree ≡ ready_unmarked made.tree marks 0 (roots_of made.tree)
-acted_newly t i deed made marks ok all =
-    let (n, fine) = accepted t i deed made ok in
-    let more : List ℕ = added (kind_of deed) (length t.nodes) in
-    let roots : roots_of made.tree ≡ roots_of t ++ more = subst (λ (u : TreeFacts). roots_of u ≡ roots_of t ++ more) fine.tree (acted_roots t n (kind_of deed)) in
-    ap (filter (λ r. is_ready made.tree r && not (is_ready t r))) roots
-    ∙ (newly_unmarked made.tree (is_ready t) marks 0 (roots_of t) more (marked_at t marks all)
-    (subst (λ (u : TreeFacts). AllOf (λ r. is_ready u r ≡ false) more) fine.tree (added_unready t i n deed)) ∙ ap (ready_unmarked made.tree marks 0) (sym roots))
-
 pub decided_newly : (t : TreeFacts) (r : ℕ) (choices : Option (List ℕ)) (marks : List Bool) → ((k : ℕ) → get_or marks k false ≡ ready_at t k)
     → newly_ready t (decided t r choices) ≡ ready_unmarked (decided t r choices) marks 0 (roots_of (decided t r choices))
 decided_newly t r choices marks all =
@@ -178,24 +175,24 @@ pub record Shows (b c : BookFacts) : Type 0 where
   pub book : IsBook c
   pub is : c ≡ b
 
-pub acted_room : LegalIsSound → (platform : PlatformFacts) (t : TreeFacts) (raw : List Entry) (waiting : List ℕ) (marks were : List Bool) (i : ℕ) (deed : Deed) (made : Applied)
-    → IsBook (kept_book platform t raw waiting marks) → applied t i deed ≡ Ok made → ((k : ℕ) → get_or were k false ≡ ready_at t k)
-    → length waiting + length (ready_unmarked made.tree were 0 (roots_of made.tree)) ≤ 128
-acted_room sound platform t raw waiting marks were i deed made is ok marked =
+pub acted_room : LegalIsSound → (platform : PlatformFacts) (t : TreeFacts) (raw : List Entry) (waiting : List ℕ) (marks : List Bool) (i : ℕ) (kind : ActionKind) (deed : Deed)
+    (made : Applied) (unready : Option ℕ) → IsBook (kept_book platform t raw waiting marks) → applied t i deed ≡ Ok made → kind ≡ kind_of deed → unready ≡ can_make_ready t i kind
+    → length waiting + length (if_ready made.tree unready) ≤ 128
+acted_room sound platform t raw waiting marks i kind deed made unready is ok same_kind asked =
     let b : BookFacts = kept_book platform t raw waiting marks in
     let room : length (waiting ++ newly_ready t made.tree) ≤ 128 = subst (λ o. length (after_answer b.state o).waiting ≤ 128) ok (room_after sound b (Acted i deed) is (subst IsOk (sym ok) refl)) in
-    let same : length (newly_ready t made.tree) ≡ length (ready_unmarked made.tree were 0 (roots_of made.tree)) = ap length (acted_newly t i deed made were ok marked) in
+    let same : length (newly_ready t made.tree) ≡ length (if_ready made.tree unready) = ap length (acted_newly t i kind deed made unready (state_sound sound b is).tree ok same_kind asked) in
     omega (arith, room, same, length-append waiting (newly_ready t made.tree))
 
-pub acted_shows : LegalIsSound → ForestStays → OneForest → (platform : PlatformFacts) (t : TreeFacts) (raw new : List Entry) (waiting later : List ℕ) (marks now were : List Bool) (i : ℕ) (kind : ActionKind) (deed : Deed)
-    (made : Applied) → IsBook (kept_book platform t raw waiting marks) → applied t i deed ≡ Ok made → kind ≡ kind_of deed → new ≡ raw ++ entries.Acted i kind ∷ []
-    → ((k : ℕ) → get_or were k false ≡ ready_at t k) → later ≡ waiting ++ ready_unmarked made.tree were 0 (roots_of made.tree)
+pub acted_shows : LegalIsSound → ForestStays → OneForest → (platform : PlatformFacts) (t : TreeFacts) (raw new : List Entry) (waiting later : List ℕ) (marks now : List Bool) (i : ℕ) (kind : ActionKind) (deed : Deed)
+    (made : Applied) (unready : Option ℕ) → IsBook (kept_book platform t raw waiting marks) → applied t i deed ≡ Ok made → kind ≡ kind_of deed → unready ≡ can_make_ready t i kind
+    → new ≡ raw ++ entries.Acted i kind ∷ [] → later ≡ waiting ++ if_ready made.tree unready
     → (waiting ≡ [] → later ≢ [] → (k : ℕ) → get_or now k false ≡ is_open made.tree.nodes k) → (waiting ≢ [] → now ≡ marks)
     → Shows (entered (kept_book platform t raw waiting marks) (Acted i deed)) (kept_book platform made.tree new later now)
-acted_shows sound stays one platform t raw new waiting later marks now were i kind deed made is ok same_kind pushed marked grown taken kept =
+acted_shows sound stays one platform t raw new waiting later marks now i kind deed made unready is ok same_kind asked pushed grown taken kept =
     let b : BookFacts = kept_book platform t raw waiting marks in
     let raws : new ≡ raw ++ entries.Acted i (kind_of deed) ∷ [] = pushed ∙ ap (λ k. raw ++ entries.Acted i k ∷ []) same_kind in
-    let laters : later ≡ waiting ++ newly_ready t made.tree = grown ∙ ap (λ ys. waiting ++ ys) (sym (acted_newly t i deed made were ok marked)) in
+    let laters : later ≡ waiting ++ newly_ready t made.tree = grown ∙ ap (λ ys. waiting ++ ys) (sym (acted_newly t i kind deed made unready (state_sound sound b is).tree ok same_kind asked)) in
     let same : kept_book platform made.tree new later now ≡ entered b (Acted i deed) =
     ap (λ es. kept_book platform made.tree es later now) raws ∙ acted_kept sound stays one platform t raw waiting later marks now i deed made is ok laters taken kept in
     record { book = subst IsBook (sym same) (book_push b (Acted i deed) is (subst IsOk (sym ok) refl)); is = same }

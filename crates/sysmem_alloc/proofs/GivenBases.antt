@@ -4,6 +4,7 @@ use Rattle.std.specs.Prelude.{All, AllPairs, IfSome, IsSome, IsSomeAnd, is_some,
 use Rattle.std.proofs.lemmas.List.Concat.{flat_map-cons}
 use Rattle.std.proofs.lemmas.List.Elements.{All-append, All-cons, All-filter, All-nil, All-weaker, All-head, All-tail}
 use Rattle.std.proofs.lemmas.List.Kept.{AllPairs-cons, AllPairs-filter}
+use Rattle.std.proofs.lemmas.Option.{slice_get_within}
 use Rattle.list_lemmas.proofs.CallerLemmas.{and_parts}
 use Rattle.sysmem_merge.specs.declared.settings.Settings.{Settings}
 use Rattle.sysmem_proof.specs.declared.verdict.Verdict.{Verdict}
@@ -15,12 +16,9 @@ use Rattle.sysmem_tree.specs.declared.node.Birth.{Birth}
 use Rattle.sysmem_tree.specs.Domain.{TreeFacts, HasDomain, decision_of, has_failed, host_node, host_number, is_chosen, is_complete, is_host_selected, is_ready}
 use Rattle.sysmem_tree.specs.Members.{MembersStandOnce}
 use Rattle.sysmem_tree.specs.Node.{NodeFacts}
-use Rattle.sysmem_tree.specs.Nodes.{IsTree}
-use Rattle.sysmem_tree.specs.Forest.{Forest}
-use Rattle.sysmem_tree.specs.Selection.{IsPrefix, IsSelection}
-use Rattle.sysmem_tree.specs.Shape.{by_number, forest_of, members_of, participants_of}
+use Rattle.sysmem_tree.specs.Nodes.{HasNode, IsTree}
+use Rattle.sysmem_tree.specs.Shape.{members_of, participants_of}
 use Rattle.sysmem_tree.specs.Sublist.{IsSublist, ended, taken, left_out}
-use Rattle.sysmem_alloc.specs.Accepted.{IsChosenIn}
 use Rattle.sysmem_alloc.specs.Book.{BookFacts, IsBook}
 use Rattle.sysmem_alloc.specs.Decision.{Decision, choices_of, decision_for, settings_for, settings_of}
 use Rattle.sysmem_alloc.specs.History.{replay}
@@ -122,6 +120,20 @@ module _ (law : MembersStandOnce) (nodes : List NodeFacts) (tree : IsTree nodes)
       (All-weaker (λ i. IsSomeAnd (slice_get nodes i) (λ (n : NodeFacts). n.domain ≡ d.domain)) (IsElsewhere nodes r) (λ i h. elsewhere_one r i d.domain other.0 h) (chosen_by nodes d) (own_nodes d there.0))
       (all_elsewhere r ds there.1 other.1))
 
+  -- and they are nodes
+  named : (P : NodeFacts → Type 0) (i : ℕ) → IsSomeAnd (slice_get nodes i) P → HasNode nodes i
+  named P i h = by (slice_get nodes i) refl h where
+    by : (o : Option NodeFacts) → slice_get nodes i ≡ o → IsSomeAnd o P → HasNode nodes i
+    by None is h = absurd h
+    by (Some n) is h = slice_get_within nodes i n is
+
+  pub all_there : (ds : List Decision) → AllOf (λ (d : Decision). HasDomain nodes d.domain) ds → All (HasNode nodes) (chosen_in nodes ds)
+  all_there [] there = All-nil (HasNode nodes)
+  all_there (d ∷ ds) there = subst (All (HasNode nodes)) (sym (flat_map-cons (chosen_by nodes) d ds))
+      (All-append (HasNode nodes) (chosen_by nodes d) (chosen_in nodes ds)
+      (All-weaker (λ i. IsSomeAnd (slice_get nodes i) (λ (n : NodeFacts). n.domain ≡ d.domain)) (HasNode nodes) (named (λ n. n.domain ≡ d.domain)) (chosen_by nodes d) (own_nodes d there.0))
+      (all_there ds there.1))
+
   not_there : (r i j : ℕ) → IsSomeAnd (slice_get nodes i) (λ (n : NodeFacts). n.domain ≡ r) → IsElsewhere nodes r j → i ≢ j
   not_there r i j own other same = by (slice_get nodes j) (subst (λ k. IsSomeAnd (slice_get nodes k) (λ (n : NodeFacts). n.domain ≡ r)) same own) other where
     by : (o : Option NodeFacts) → IsSomeAnd o (λ (n : NodeFacts). n.domain ≡ r) → IsSomeAnd o (λ (n : NodeFacts). n.domain ≢ r) → ⊥
@@ -193,15 +205,3 @@ base_is_given sound agrees law platform es r legal next =
 pub book_base_given : BaseIsGiven → (b : BookFacts) (r : ℕ) → IsBook b → next_ready b.state ≡ Some r → IsGivenBase b.platform b.state.tree.nodes r (base_of b.state r)
 book_base_given law b r is next = subst (λ (s : State). IsGivenBase b.platform s.tree.nodes r (base_of s r)) (sym is.replayed)
     (law b.platform b.history r is.legal (subst (λ (s : State). next_ready s ≡ Some r) is.replayed next))
-
--- each decision of a book is of a domain of its tree, and leads on in it
-pub all_chosen : LegalIsSound → LegalAgrees → (b : BookFacts) → IsBook b → All (IsChosenIn b.state.tree.nodes) b.state.decisions
-all_chosen sound agrees b is = each b.state.decisions (state_sound sound b is).decided (subst (AgreesWithTree b.platform) (sym is.replayed) (agrees b.platform b.history is.legal)).chosen where
-  leads : (f : Forest ℕ) (o : Option (List ℕ)) → IfSome o (λ cs. (e : Forest ℕ) × IsSelection f cs e) → IfSome o (λ cs. IsPrefix f cs)
-  leads f None h = tt
-  leads f (Some cs) h = subst IsSome (sym h.1.leads) refl
-
-  each : (ds : List Decision) → AllOf (IsOfReady b.state.tree) ds → AllOf (IsDecisionOn b.platform b.state.tree.nodes) ds → All (IsChosenIn b.state.tree.nodes) ds
-  each [] ready chosen = All-nil (IsChosenIn b.state.tree.nodes)
-  each (d ∷ ds) ready chosen = All-cons (IsChosenIn b.state.tree.nodes) d ds
-      (record { there = ready.0.there; prefix = leads (forest_of by_number b.state.tree.nodes d.domain []) (choices_of d.verdict) chosen.0.selects }) (each ds ready.1 chosen.1)

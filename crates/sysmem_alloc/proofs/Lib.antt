@@ -8,6 +8,7 @@ pub mod Choosing
 pub mod Counting
 pub mod Marking
 pub mod Marked
+pub mod Newly
 pub mod Entering
 pub mod Onward
 pub mod Fates
@@ -18,6 +19,6 @@ pub mod Agreeing
 pub mod Apart
 pub mod Awaiting
 pub mod GivenBases
-pub mod Gathering
+pub mod Keeping
 pub mod Lasting
 pub mod CallerLemmas

@@ -1,5 +1,5 @@
 -- What an action and a decision leave of the nodes and domains of a tree.
-use Rattle.std.proofs.Common.{◌≡◌, ◌≢◌, ◌≤◌, ℕ, zero, suc, ◌+◌, ◌==◌, Bool, true, false, not, ◌&&◌, List, [], ◌∷◌, ◌++◌, length, Option, Some, None, slice_get, slice_set, refl, sym, ◌∙◌, ap, subst, arith, rules, tests, append-nil}
+use Rattle.std.proofs.Common.{◌≡◌, ◌≢◌, ◌≤◌, ℕ, zero, suc, ◌+◌, ◌==◌, Bool, true, false, not, ◌&&◌, List, [], ◌∷◌, ◌++◌, length, Option, Some, None, slice_get, slice_set, refl, sym, ◌∙◌, ap, subst, arith, rules, tests, append-nil, eq-eqb}
 use Rattle.std.specs.Prelude.{IsSomeAnd, map, if◌then◌else◌}
 use Rattle.std.proofs.lemmas.List.{map-append}
 use Rattle.std.proofs.lemmas.Option.{same_Some}
@@ -10,7 +10,7 @@ use Rattle.sysmem_tree.specs.declared.domain.Decision.TheVariants.{Chosen, NoneC
 use Rattle.sysmem_tree.specs.declared.domain.Domain.{Domain}
 use Rattle.sysmem_tree.specs.declared.state.NodeKind.TheVariants.{Token}
 use Rattle.sysmem_tree.specs.ActionKind.{Deed, kind_of, duplicates, creates_group, binds, creates_child, has_all_children, sets, attaches_token, releases, closes}
-use Rattle.sysmem_tree.specs.Domain.{TreeFacts, HasDomain, IsSoundTree, has_failed, host_node, is_complete, is_host_selected, is_ready, roots_from}
+use Rattle.sysmem_tree.specs.Domain.{TreeFacts, AreDomains, HasDomain, IsSoundTree, has_failed, host_node, is_complete, is_host_selected, is_ready, roots_from}
 use Rattle.sysmem_tree.specs.Node.{NodeFacts, fresh, is_awaited}
 use Rattle.sysmem_tree.specs.Shape.{members_of}
 use Rattle.sysmem_tree.specs.Table.{makes}
@@ -156,3 +156,27 @@ few_from i (n ∷ nodes) = at (n.domain == i) (few_from (i + 1) nodes) where
 -- at most 128
 pub few_domains : (t : TreeFacts) → IsSoundTree t → length (roots_of t) ≤ 128
 few_domains t sound = omega (arith, ap length sound.domains, few_from 0 t.nodes, sound.tree.few)
+
+-- a root of the tree's is among those of its domains
+among_roots : (i : ℕ) (nodes : List NodeFacts) (j : ℕ) (n : NodeFacts) → slice_get nodes j ≡ Some n → n.domain ≡ i + j → (k : ℕ) × (slice_get (roots_from i nodes) k ≡ Some (i + j))
+among_roots i [] j n here own = absurd (cc)
+among_roots i (x ∷ nodes) zero n here own =
+    let z : i + 0 ≡ i = omega arith in
+    let root : x.domain ≡ i = ap (λ (y : NodeFacts). y.domain) (same_Some x n here) ∙ (own ∙ z) in
+    (0, ap (λ b. slice_get (if b then i ∷ roots_from (i + 1) nodes else roots_from (i + 1) nodes) 0) (eq-eqb x.domain i root) ∙ ap (λ k. Some k) (sym z))
+among_roots i (x ∷ nodes) (suc j) n here own =
+    let z : (i + 1) + j ≡ i + suc j = omega arith in
+    let (k, at) = among_roots (i + 1) nodes j n here (own ∙ sym z) in
+    by (x.domain == i) k (at ∙ ap (λ m. Some m) z) where
+      by : (b : Bool) (k : ℕ) → slice_get (roots_from (i + 1) nodes) k ≡ Some (i + suc j) → (m : ℕ) × (slice_get (if b then i ∷ roots_from (i + 1) nodes else roots_from (i + 1) nodes) m ≡ Some (i + suc j))
+      by true k at = (suc k, at)
+      by false k at = (k, at)
+
+pub root_among : (t : TreeFacts) (r : ℕ) → AreDomains t → HasDomain t.nodes r → (k : ℕ) × (slice_get (roots_of t) k ≡ Some r)
+root_among t r domains has = by (slice_get t.nodes r) refl has where
+  by : (o : Option NodeFacts) → slice_get t.nodes r ≡ o → IsSomeAnd o (λ n. n.domain ≡ r) → (k : ℕ) × (slice_get (roots_of t) k ≡ Some r)
+  by None here own = absurd own
+  by (Some n) here own =
+      let z : 0 + r ≡ r = omega arith in
+      let (k, at) = among_roots 0 t.nodes r n here (own ∙ sym z) in
+      (k, ap (λ rs. slice_get rs k) domains ∙ (at ∙ ap (λ m. Some m) z))

@@ -16,3 +16,8 @@ unmarked_at t marks k = option_and_then (if_unmarked t (get_or marks k false)) (
 abbrev pub ready_unmarked : TreeFacts → List Bool → ℕ → List ℕ → List ℕ
 ready_unmarked t marks k [] = []
 ready_unmarked t marks k (r ∷ rs) = if is_ready t r && not (get_or marks k false) then r ∷ ready_unmarked t marks (k + 1) rs else ready_unmarked t marks (k + 1) rs
+
+-- a domain, if there is one and it is ready
+abbrev pub if_ready : TreeFacts → Option ℕ → List ℕ
+if_ready t None = []
+if_ready t (Some r) = if is_ready t r then r ∷ [] else []

@@ -14,18 +14,18 @@ ghost use Rattle.sysmem_tree.specs.ActionKind.{deed_of};
 ghost use Rattle.sysmem_tree.specs.Domain.{HasDomain};
 ghost use Rattle.sysmem_tree.specs.Tree.{applied};
 
-use crate::bases::{accepted_in, settings_for};
+use crate::bases::{accepted_in, add_chosen, settings_for};
 use crate::entry::{Entry, enter_action};
 use crate::frozen::Frozen;
 use crate::laws::{base_is_given, few_entries, legal_agrees, legal_is_sound};
-use crate::ready::{add_ready, mark_for_first, open_nodes, ready_domains};
+use crate::ready::{add_if_ready, add_ready, mark_for_first, open_nodes, ready_domains};
 use crate::verdicts::{choices_of, entered_for, has_failed, is_undecided};
 use std::alloc::{AllocError, Global};
 use std::marker::Model;
 use std::sync::Arc;
 use sysmem_proof::{Base, Claim, Verdict};
 use sysmem_sanitise::Platform;
-use sysmem_tree::laws::{forest_stays, one_forest};
+use sysmem_tree::laws::{forest_stays, members_stand_once, one_forest};
 use sysmem_tree::{DomainId, Event, MOST_NODES, NodeId, Refusal, Tree};
 
 /// The number of entries for which a book has room; no history has more than 639.
@@ -39,6 +39,8 @@ pub struct Book {
     history: Vec<Entry>,
     /// The domains that wait for a decision, in the order in which they became ready.
     waiting: Vec<DomainId>,
+    /// The participants that the decisions chose, in the order of the decisions.
+    chosen: Vec<NodeId>,
     /// As long as a domain waits, the nodes that were open when the accepted participants were taken for the first one, marked by their
     /// numbers.
     were_open: [bool; 128],
@@ -50,8 +52,11 @@ pub struct Book {
 
 impl Model for Book {
     ghost use Rattle.std.specs.Prelude.{◌≡◌, ◌≤◌};
+    ghost use Rattle.std.specs.List.{filter_map};
     ghost use Rattle.std.specs.Vec.{vec_capacity};
     ghost use Rattle.sysmem_alloc.specs.Book.{BookFacts, IsBook, kept_book};
+    ghost use Rattle.sysmem_alloc.specs.Entry.{decision_in};
+    ghost use Rattle.sysmem_alloc.specs.State.{chosen_in};
     ghost use Rattle.sysmem_proof.specs.declared.verdict.Verdict.TheVariants as verdicts;
 
     ghost Value = { BookFacts };
@@ -61,7 +66,9 @@ impl Model for Book {
     ghost invariant = { λ b.
         IsBook (kept_book b.platform b.tree b.history.items b.waiting.items b.were_open)
         × (1024 ≤ vec_capacity b.history) × (128 ≤ vec_capacity b.waiting)
-        × (b.failed ≡ verdicts.Failed) × (b.no_memory ≡ verdicts.NoMemory) };
+        × (b.failed ≡ verdicts.Failed) × (b.no_memory ≡ verdicts.NoMemory)
+        × (128 ≤ vec_capacity b.chosen)
+        × (b.chosen.items ≡ chosen_in b.tree.nodes (filter_map decision_in b.history.items)) };
 }
 
 /// An accepted action.
@@ -82,11 +89,13 @@ impl Book {
         let tree = Tree::new(alloc)?;
         let history = Vec::with_capacity(alloc, ROOM)?;
         let waiting = Vec::with_capacity(alloc, MOST_NODES)?;
+        let chosen = Vec::with_capacity(alloc, MOST_NODES)?;
         Ok(Book {
             platform,
             tree,
             history,
             waiting,
+            chosen,
             were_open: [false; 128],
             failed: Verdict::Failed,
             no_memory: Verdict::NoMemory,
@@ -162,6 +171,7 @@ impl Book {
     {
         legal_is_sound();
         legal_agrees();
+        members_stand_once();
         let Some(host) = self.tree.host_of(domain) else {
             return Ok(None);
         };
@@ -169,7 +179,7 @@ impl Book {
             return Ok(None);
         };
         let alloc = *self.history.allocator();
-        let accepted = accepted_in(alloc, &self.tree, &self.history, &self.were_open)?;
+        let accepted = accepted_in(alloc, &self.tree, &self.chosen, &self.were_open)?;
         Ok(Some(Base::new(settings, accepted)))
     }
 
@@ -213,11 +223,11 @@ impl Book {
         one_forest();
         let acted = event.node;
         let kind = event.action.kind();
-        let were_ready = ready_domains(&self.tree);
+        let unready = self.tree.can_make_ready(acted, kind);
         let node = self.tree.apply(event)?;
         let none_waited = self.waiting.is_empty();
         enter_action(&mut self.history, acted, kind);
-        add_ready(&self.tree, &were_ready, &mut self.waiting);
+        add_if_ready(&self.tree, unready, &mut self.waiting);
         mark_for_first(&self.tree, none_waited, &self.waiting, &mut self.were_open);
         let ready = self.next_ready().is_some();
         Ok(Done { node, ready })
@@ -240,9 +250,13 @@ impl Book {
         })) self.new.state }
     {
         legal_is_sound();
+        legal_agrees();
         few_entries();
+        forest_stays();
         one_forest();
+        members_stand_once();
         let were_ready = ready_domains(&self.tree);
+        add_chosen(&self.tree, domain, &claim, &mut self.chosen);
         self.tree.decided(domain, choices_of(&claim));
         self.were_open = open_nodes(&self.tree);
         self.history.push_reserved(Entry::Decided(domain, claim));

@@ -1,10 +1,11 @@
 //! Which domains an event made ready, and which nodes are open.
 
-ghost use Rattle.std.specs.Prelude.{◌≡◌, ◌≢◌, ◌≤◌, ◌<◌, ◌+◌, ◌++◌, ℕ, [], false, true, length, get_or};
+ghost use Rattle.std.specs.Prelude.{◌≡◌, ◌≢◌, ◌≤◌, ◌<◌, ◌+◌, ◌++◌, ℕ, [], false, true, length, get_or, IfSome};
 ghost use Rattle.std.specs.Vec.{vec_capacity};
-ghost use Rattle.sysmem_alloc.specs.Marks.{ready_at, ready_unmarked, unmarked_at};
+ghost use Rattle.sysmem_alloc.specs.Marks.{if_ready, ready_at, ready_unmarked, unmarked_at};
 ghost use Rattle.sysmem_alloc.specs.Sound.{roots_of};
 ghost use Rattle.sysmem_alloc.specs.State.{is_open};
+ghost use Rattle.sysmem_tree.specs.Domain.{HasDomain};
 
 use sysmem_tree::{DomainId, Tree};
 
@@ -61,6 +62,21 @@ pub(crate) fn add_ready(tree: &Tree, marks: &[bool; 128], waiting: &mut Vec<Doma
             continue;
         };
         waiting.push_reserved(domain);
+    }
+}
+
+/// Adds a domain, if there is one and it is ready.
+pub(crate) fn add_if_ready(tree: &Tree, domain: Option<DomainId>, waiting: &mut Vec<DomainId>)
+    requires there { IfSome domain (HasDomain tree.now.nodes) }
+    requires room { length waiting.old.items + length (if_ready tree.now domain)
+        ≤ vec_capacity waiting.old }
+    ensures items { waiting.new.items ≡ waiting.old.items ++ if_ready tree.now domain }
+    ensures reserved { vec_capacity waiting.new ≡ vec_capacity waiting.old }
+{
+    if let Some(one) = domain {
+        if tree.ready(one) {
+            waiting.push_reserved(one);
+        }
     }
 }
 

@@ -36,6 +36,11 @@ module _ (nodes : List NodeFacts) (ns : List ℕ) (there : All (HasNode nodes) n
 pub all_have : (nodes : List NodeFacts) (ns : List ℕ) (k : ℕ) (P : Participant → Type 0) → length ns ≤ k → All P (participants (members_at nodes (take k ns))) → All P (participants (members_at nodes ns))
 all_have nodes ns k P over all = subst (λ ms. All P (participants ms)) (members_whole nodes ns k over) all
 
+-- a test that fails is false
+pub is_false : (t u : Bool) → t ≡ u → IsTrue (not t) → u ≡ false
+is_false true u is fails = absurd (cc)
+is_false false u is fails = sym is
+
 -- what is known stays so, whatever would be true else; what isn't known is as it is now
 pub still_known : {X : Type 0} (o : Option X) (A C : Type 0) (B : X → Type 0) (t : Bool) → is_some o ≡ not t → t ≡ false → MatchOption o A B → MatchOption o C B
 still_known None A C B t is known h = absurd (cc)

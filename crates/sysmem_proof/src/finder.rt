@@ -170,13 +170,40 @@ pub fn find_conflict(
         (option_map (terms_of tree.now.nodes) (option_map (λ b. b.now) base.entry)) d t)) }
 {
     choices_leave_one_forest();
+    let whole = tree.next_group(domain, prefix).is_none();
+    find_conflict_as(alloc, platform, tree, domain, base, prefix, whole)
+}
+
+/// As `find_conflict`, for a caller who knows whether the choices are a selection, so that no group is left: `whole`.
+pub fn find_conflict_as(
+    alloc: Global,
+    platform: &Platform,
+    tree: &Tree,
+    domain: DomainId,
+    base: Option<&Base>,
+    prefix: &Prefix,
+    whole: bool,
+) -> Result<Option<Conflict>, AllocError>
+    requires domain { HasDomain tree.now.nodes domain }
+    requires base { IsGivenBase platform.now tree.now.nodes domain
+        (option_map (λ b. b.now) base) }
+    requires prefix { IsPrefix (shape_of tree.now.nodes domain) prefix.now }
+    requires whole { (d : Forest Member)
+        → after (shape_of tree.now.nodes domain) prefix.now ≡ Some d
+        → whole ≡ is_none (choices d) }
+    ensures conflict { (d : Forest Member)
+        → after (shape_of tree.now.nodes domain) prefix.now ≡ Some d
+        → IfOk result (λ found. IfSome found (IsConflictFor platform.now
+        (option_map (terms_of tree.now.nodes) (option_map (λ b. b.now) base.entry)) d)) }
+    ensures none { (d : Forest Member)
+        → after (shape_of tree.now.nodes domain) prefix.now ≡ Some d
+        → IfOk result (λ found. IfNone found ((t : Settled) × MeetsSettled platform.now
+        (option_map (terms_of tree.now.nodes) (option_map (λ b. b.now) base.entry)) d t)) }
+{
     let nodes = settled_at(tree, domain, prefix)?;
     match base {
         Some(base) => find_on_base(alloc, platform, tree, base, &nodes),
-        None => {
-            let whole = tree.next_group(domain, prefix).is_none();
-            find_initial(alloc, platform, tree, &nodes, whole)
-        }
+        None => find_initial(alloc, platform, tree, &nodes, whole),
     }
 }
 

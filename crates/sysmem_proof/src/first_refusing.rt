@@ -1,9 +1,14 @@
 //! The first of some participants who refuses an offer, a place, or settings that are given.
 
-ghost use Rattle.std.specs.Prelude.{◌≡◌, ◌<◌, true, List, [], ◌∷◌, All, Any, Contains, IfSome, IfNone, length, option_map};
+ghost use Rattle.std.specs.Prelude.{◌≡◌, ◌<◌, true, List, [], ◌∷◌, All, Any, Contains, IfSome, IfNone, IsSomeAnd, IsTrue, length, option_map};
 ghost use Rattle.std.specs.List.{cons_option};
+ghost use Rattle.sysmem_counts.specs.declared.field.Field.TheVariants.{PixelFormat};
 ghost use Rattle.sysmem_memory.specs.PlaceTable.{AllowsPlace, refuses_by};
+ghost use Rattle.sysmem_merge.specs.Demands.{OfferDemand, offer_demands};
 ghost use Rattle.sysmem_merge.specs.Failing.{FailsOn};
+ghost use Rattle.sysmem_merge.specs.OfferRead.{IsOfferRead};
+ghost use Rattle.sysmem_merge.specs.Offers.{has_colour, has_format};
+ghost use Rattle.sysmem_merge.specs.Reasons.{IsOfferLine};
 ghost use Rattle.sysmem_merge.specs.Settings.{CoversOn};
 ghost use Rattle.sysmem_proof.specs.Members.{members_at, participants};
 ghost use Rattle.sysmem_proof.specs.Reading.{IsReading};
@@ -11,7 +16,8 @@ ghost use Rattle.sysmem_tree.specs.Nodes.{HasNode};
 
 use crate::asked::add_read;
 use sysmem_counts::Field;
-use sysmem_formats::Offer;
+use sysmem_formats::{Offer, Pair};
+use sysmem_image::{Entry, entry_for, takes_colour};
 use sysmem_memory::{CoherencyDomain, HeapInfo, refuses};
 use sysmem_merge::{OfferRead, Settings, first_uncovered};
 use sysmem_sanitise::{Constraints, Platform};
@@ -33,27 +39,138 @@ pub(crate) enum Reading {
     Read(OfferRead),
 }
 
-/// Reads what the participants at these nodes ask of an offer, in one pass. The first who doesn't take its format ends it; where nobody is
-/// that, the first who doesn't take its colour space is answered.
-pub(crate) fn read_offer(tree: &Tree, nodes: &[NodeId], offer: &Offer) -> Reading
+/// The first participant who doesn't take the format of an offer, and so of none of the same pair.
+#[derive(Clone, Copy, Debug)]
+pub(crate) struct Lacking {
+    pair: Pair,
+    node: NodeId,
+}
+
+/// Whether a participant with these entries takes the offer's format.
+fn has_format(entries: &[Entry], offer: &Offer) -> bool
+    ensures { (d : OfferDemand) → d.entries ≡ entries.now → result ≡ has_format offer.now d }
+{
+    entries.is_empty() || entry_for(entries, offer).is_some()
+}
+
+/// Whether a participant's entry for the offer, if these have one, takes the offer's colour space.
+fn has_colour(entries: &[Entry], offer: &Offer) -> bool
+    ensures { (d : OfferDemand) → d.entries ≡ entries.now → result ≡ has_colour offer.now d }
+{
+    match entry_for(entries, offer) {
+        Some(entry) => takes_colour(entry, offer),
+        None => true,
+    }
+}
+
+/// Whether a participant, if there is one, doesn't take the offer, by this field: its format or its colour space.
+fn lacks_offer(field: Field, asked: Option<&Constraints>, offer: &Offer) -> bool
+    ensures { IsTrue result → IsOfferLine field offer.now
+        (offer_demands (cons_option (option_map (λ one. one.now) asked.entry) [])) }
+{
+    let Some(one) = asked else {
+        return false;
+    };
+    let entries = one.entries();
+    match field {
+        Field::PixelFormat => !has_format(entries, offer),
+        Field::ColorSpaces => !has_colour(entries, offer),
+        _ => false,
+    }
+}
+
+/// The first of the participants at these nodes who doesn't take the offer, by this field.
+fn first_lacking(tree: &Tree, nodes: &[NodeId], field: Field, offer: &Offer) -> Option<NodeId>
+    requires { All (HasNode tree.now.nodes) nodes.now }
+    ensures there { IfSome result (Contains nodes.now) }
+    ensures line { IfSome result (λ node. IsOfferLine field offer.now
+        (offer_demands (participants (members_at tree.now.nodes (node ∷ []))))) }
+{
+    for node in nodes {
+        if lacks_offer(field, tree.constraints_of(*node), offer) {
+            return Some(*node);
+        }
+    }
+    None
+}
+
+/// The first of the participants at these nodes who doesn't take the offer's format: the one who is kept for an offer of the same pair, who
+/// is asked alone, or else the first of all.
+fn first_without_format(
+    tree: &Tree,
+    nodes: &[NodeId],
+    offer: &Offer,
+    lacking: Option<Lacking>,
+) -> Option<NodeId>
+    requires { All (HasNode tree.now.nodes) nodes.now }
+    ensures there { IfSome result (Contains nodes.now) }
+    ensures line { IfSome result (λ node. IsOfferLine PixelFormat offer.now
+        (offer_demands (participants (members_at tree.now.nodes (node ∷ []))))) }
+{
+    if let Some(known) = known_for(lacking, offer) {
+        for node in nodes {
+            if *node == known && lacks_offer(Field::PixelFormat, tree.constraints_of(*node), offer) {
+                return Some(*node);
+            }
+        }
+    }
+    first_lacking(tree, nodes, Field::PixelFormat, offer)
+}
+
+/// The participant who lacks the format of this offer too, if it is of that pair.
+fn known_for(lacking: Option<Lacking>, offer: &Offer) -> Option<NodeId>
+    ensures { IfSome result (λ node. IsSomeAnd lacking (λ one. one.node ≡ node)) }
+{
+    let one = lacking?;
+    match offer {
+        Offer::Image(pair, _) if *pair == one.pair => Some(one.node),
+        _ => None,
+    }
+}
+
+/// That this participant lacks the format of the offer.
+fn lacking_format(offer: &Offer, node: NodeId) -> Option<Lacking>
+    ensures { IfSome result (λ one. one.node ≡ node) }
+{
+    match offer {
+        Offer::NoImage => None,
+        Offer::Image(pair, _) => Some(Lacking { pair: *pair, node }),
+    }
+}
+
+/// What the participants at these nodes ask of an offer together.
+fn read_all(tree: &Tree, nodes: &[NodeId], offer: &Offer) -> OfferRead
+    requires { All (HasNode tree.now.nodes) nodes.now }
+    ensures { IsOfferRead offer.now
+        (offer_demands (participants (members_at tree.now.nodes nodes.now))) result }
+{
+    let mut read = OfferRead::new(offer);
+    for node in nodes {
+        add_read(&mut read, tree.constraints_of(*node));
+    }
+    read
+}
+
+/// Reads what the participants at these nodes ask of an offer. The first who doesn't take its format ends it; where nobody is that, the first
+/// who doesn't take its colour space; neither's bounds are read. Who lacks the format is kept for the next offer: of the same pair, nobody
+/// before lacks it either.
+pub(crate) fn read_offer(
+    tree: &Tree,
+    nodes: &[NodeId],
+    offer: &Offer,
+    lacking: &mut Option<Lacking>,
+) -> Reading
     requires { All (HasNode tree.now.nodes) nodes.now }
     ensures { IsReading tree.now.nodes nodes.now offer.now result }
 {
-    let mut read = OfferRead::new(offer);
-    let mut colour = None;
-    for node in nodes {
-        add_read(&mut read, tree.constraints_of(*node));
-        if read.is_line(Field::PixelFormat) {
-            return Reading::Refused(Field::PixelFormat, *node);
-        }
-        if colour.is_none() && read.is_line(Field::ColorSpaces) {
-            colour = Some(*node);
-        }
+    if let Some(node) = first_without_format(tree, nodes, offer, *lacking) {
+        *lacking = lacking_format(offer, node);
+        return Reading::Refused(Field::PixelFormat, node);
     }
-    match colour {
-        Some(node) => Reading::Refused(Field::ColorSpaces, node),
-        None => Reading::Read(read),
+    if let Some(node) = first_lacking(tree, nodes, Field::ColorSpaces, offer) {
+        return Reading::Refused(Field::ColorSpaces, node);
     }
+    Reading::Read(read_all(tree, nodes, offer))
 }
 
 /// The first field that refuses a participant, if there is one, the coherency domain of the heap.

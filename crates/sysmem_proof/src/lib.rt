@@ -46,7 +46,7 @@ pub use base::Base;
 pub use certificate::{Certificate, Claim, EarlierChoices, Proof};
 pub use claims::check;
 pub use conflict::Conflict;
-pub use finder::{LinesBefore, find_conflict, lines_before};
+pub use finder::{LinesBefore, find_conflict, find_conflict_as, lines_before};
 pub use line::{Line, Lines};
 pub use no::No;
 pub use refutation::{Item, Refutation};

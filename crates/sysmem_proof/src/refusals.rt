@@ -17,7 +17,7 @@ ghost use Rattle.sysmem_sanitise.specs.Platform.{offers_of};
 ghost use Rattle.sysmem_tree.specs.Nodes.{HasNode};
 ghost use Rattle.sysmem_tree.specs.Shape.{Member};
 
-use crate::first_refusing::{Reading, first_refused, read_offer};
+use crate::first_refusing::{Lacking, Reading, first_refused, read_offer};
 use crate::line::{Line, Lines};
 use crate::whom::{Whom, line_of};
 use std::alloc::{AllocError, Global};
@@ -62,13 +62,15 @@ fn whom_for(field: Field, offer: &Offer) -> Whom
     }
 }
 
-/// The first line of the table that is true for the offer of the participants at these nodes, `None` where they share it.
+/// The first line of the table that is true for the offer of the participants at these nodes, `None` where they share it. Who lacks its format
+/// is kept for the next offer.
 fn offer_line(
     alloc: Global,
     tree: &Tree,
     nodes: &[NodeId],
     offer: &Offer,
     whole: bool,
+    lacking: &mut Option<Lacking>,
 ) -> Result<Option<Line>, AllocError>
     requires { All (HasNode tree.now.nodes) nodes.now }
     ensures line { (ms : List Member) → StandFor (members_at tree.now.nodes nodes.now) ms
@@ -76,7 +78,7 @@ fn offer_line(
     ensures share { (ms : List Member) → StandFor (members_at tree.now.nodes nodes.now) ms
         → IfOk result (λ line. IfNone line (ShareOffer whole ms offer.now)) }
 {
-    match read_offer(tree, nodes, offer) {
+    match read_offer(tree, nodes, offer, lacking) {
         Reading::Refused(field, node) => {
             let line = line_of(alloc, tree, &[node], field, Whom::All)?;
             Ok(Some(line))
@@ -107,11 +109,12 @@ pub(crate) fn refused_offers(
         (Ends until (λ (o : Offered). o) (ShareOffer whole ms)) (offers_of platform.now)) }
 {
     let mut lines = Vec::new(alloc);
+    let mut lacking = None;
     while let Some(offer) = offer_at(platform.pairs(), platform.colours(), lines.len()) {
         if until == Some(offer) {
             return Ok(Refusals::UpTo(Lines::new(lines)));
         }
-        let Some(line) = offer_line(alloc, tree, nodes, &offer, whole)? else {
+        let Some(line) = offer_line(alloc, tree, nodes, &offer, whole, &mut lacking)? else {
             return Ok(Refusals::UpTo(Lines::new(lines)));
         };
         lines.push(line)?;

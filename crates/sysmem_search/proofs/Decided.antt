@@ -22,7 +22,7 @@ use Rattle.sysmem_search.specs.declared.trail.Trail.{Trail}
 use Rattle.sysmem_search.specs.Question.{MeetsOf, MeetsSoFar, IsBestOf}
 use Rattle.sysmem_proof.specs.Matter.{Matter, forest, terms}
 use Rattle.sysmem_search.specs.Searching.{IsFoundOf}
-use Rattle.sysmem_search.specs.Trail.{GroupPassed, items_of, sizes_of, Leaves}
+use Rattle.sysmem_search.specs.Trail.{GroupPassed, items_of, sizes_of, LeavesOnTrail}
 use Rattle.sysmem_search.specs.Visits.{IsRaised, AreVisitsIn}
 use Rattle.sysmem_search.proofs.Shapes.{same_count}
 use Rattle.sysmem_search.proofs.Trailing.{zip_length}
@@ -98,29 +98,29 @@ module _ (platform : PlatformFacts) (nodes : List NodeFacts) (domain : ℕ) (bas
       → IsBestChoice platform (terms matter) (shape_of nodes domain) selection s
   best_choice selection s chosen = record { members = chosen.members; selects = chosen.selects; best = chosen.best }
 
-  left_from : (q : Matter) (old new : List ℕ) (trail trail' : Trail) (found : Option Settings) → q ≡ matter → old ≡ [] → IfSome (after (forest q) old) (λ d. Leaves q d old new trail trail' found)
-      → Leaves matter (shape_of nodes domain) [] new trail trail' found
-  left_from q old new trail trail' found same empty h = subst (λ xs. IfSome (after (shape_of nodes domain) xs) (λ d. Leaves matter d xs new trail trail' found)) empty
-      (subst (λ m. IfSome (after (forest m) old) (λ d. Leaves m d old new trail trail' found)) same h)
+  left_from : (q : Matter) (old new : List ℕ) (trail trail' : Trail) (found : Option Settings) → q ≡ matter → old ≡ [] → IfSome (after (forest q) old) (λ d. LeavesOnTrail q d old new trail trail' found)
+      → LeavesOnTrail matter (shape_of nodes domain) [] new trail trail' found
+  left_from q old new trail trail' found same empty h = subst (λ xs. IfSome (after (shape_of nodes domain) xs) (λ d. LeavesOnTrail matter d xs new trail trail' found)) empty
+      (subst (λ m. IfSome (after (forest m) old) (λ d. LeavesOnTrail m d old new trail trail' found)) same h)
 
   -- where nothing was found all items are a refutation
   pub proved_empty : (q : Matter) (old new : List ℕ) (trail trail' : Trail) (found : Option Settings) (items : List Item) → q ≡ matter → old ≡ [] → found ≡ None
-      → IfSome (after (forest q) old) (λ d. Leaves q d old new trail trail' found) → trail.items.items ≡ [] → items ≡ trail'.items.items
+      → IfSome (after (forest q) old) (λ d. LeavesOnTrail q d old new trail trail' found) → trail.items.items ≡ [] → items ≡ trail'.items.items
       → IsProofIn platform nodes domain base verdicts.IntersectionEmpty (proves.Empty items)
   proved_empty q old new trail trail' found items same empty none h nothing is =
-      let l = subst (λ o. Leaves matter (shape_of nodes domain) [] new trail trail' o) none (left_from q old new trail trail' found same empty h) in
+      let l = subst (λ o. LeavesOnTrail matter (shape_of nodes domain) [] new trail trail' o) none (left_from q old new trail trail' found same empty h) in
       subst (IsRefutation platform (terms matter) (shape_of nodes domain)) (sym (is ∙ (l.items ∙ ap (λ xs. xs ++ l.refutation) nothing))) l.refutes
 
   -- where something was found they are of what is earlier
   pub proved_chosen : (q : Matter) (old new : List ℕ) (trail trail' : Trail) (found : Option Settings) (s : Settings) (selection : List ℕ) (certificate : CertificateFacts)
       → IsChosen (MeetsOf matter) (IsBestOf matter) (shape_of nodes domain) selection s → q ≡ matter → old ≡ [] → found ≡ Some s
-      → IfSome (after (forest q) old) (λ d. Leaves q d old new trail trail' found) → trail.items.items ≡ [] → trail.sizes.items ≡ [] → selection ≡ new
+      → IfSome (after (forest q) old) (λ d. LeavesOnTrail q d old new trail trail' found) → trail.items.items ≡ [] → trail.sizes.items ≡ [] → selection ≡ new
       → ((groups : List GroupPassed) → trail'.items.items ≡ items_of groups → trail'.sizes.items ≡ sizes_of groups → map (λ g. length g.refutations) groups ≡ selection
       → certificate.earlier ≡ map (λ g. g.refutations) groups)
       → ((members : Forest Member) → IsSelection (shape_of nodes domain) selection members → RefuseBeforeFor platform (terms matter) (settled members) s certificate)
       → IsCertificate platform (terms matter) (shape_of nodes domain) selection s certificate
   proved_chosen q old new trail trail' found s selection certificate chosen same empty some h no_items no_sizes is cut before =
-      let l = subst (λ o. Leaves matter (shape_of nodes domain) [] new trail trail' o) some (left_from q old new trail trail' found same empty h) in
+      let l = subst (λ o. LeavesOnTrail matter (shape_of nodes domain) [] new trail trail' o) some (left_from q old new trail trail' found same empty h) in
       let same_choices : l.selection ≡ selection = sym (is ∙ l.goes_on) in
       let earlier = subst (λ xs. RefutesEarlier (IsConflictFor platform (terms matter)) (shape_of nodes domain) xs (map (λ g. g.refutations) l.groups)) same_choices l.earlier in
       let are = cut l.groups (l.adds.items ∙ ap (λ xs. xs ++ items_of l.groups) no_items) (l.adds.sizes ∙ ap (λ xs. xs ++ sizes_of l.groups) no_sizes)

@@ -1,6 +1,6 @@
 -- Where no settings meet what is settled.
 use Rattle.std.proofs.Common.{◌≡◌, ℕ, Bool, true, false, List, Option, Some, None, length, refl, subst}
-use Rattle.std.specs.Prelude.{◌↔◌, IfSome, IfNone, IsTrue, MatchOption, is_none, option_map}
+use Rattle.std.specs.Prelude.{◌↔◌, IfSome, IfNone, IsTrue, MatchOption, is_none, is_some, not, option_map}
 use Rattle.sysmem_merge.specs.declared.settings.Settings.{Settings}
 use Rattle.sysmem_merge.specs.Settings.{MeetsAs}
 use Rattle.sysmem_proof.specs.Base.{Terms}
@@ -50,6 +50,18 @@ unmet_prefix m o n met no' many asked = if_some _ o (λ d here. by d (choices d)
       by : (d : Forest Member) (es : Option (List (Forest Member))) → choices d ≡ es → option_map length es ≡ Some n → (IsTrue met ↔ SomeMeet (MeetsSoFar m) d) → (t : Settings) → ¬ (MeetsHere m d t)
       by d None open' e asked = absurd (cc)
       by d (Some es) open' e asked = none_before m d es open' (λ t meets. not_true met no' (asked.1 (t, meets)))
+
+-- no group is left exactly where no children of one are told
+pub none_are_left : (m : Matter) (cs : List ℕ) (told : Option ℕ) (t : Bool) (d : Forest Member) → after (forest m) cs ≡ Some d → is_some told ≡ not t
+    → IfSome (after (forest m) cs) (λ e. option_map length (choices e) ≡ told) → t ≡ is_none (choices d)
+none_are_left m cs told t d leads is many = by (choices d) told t (of_some (λ e. option_map length (choices e) ≡ told) (after (forest m) cs) d leads many) is where
+  by : (es : Option (List (Forest Member))) (told : Option ℕ) (t : Bool) → option_map length es ≡ told → is_some told ≡ not t → t ≡ is_none es
+  by None None true e is = refl
+  by None None false e is = absurd (cc)
+  by None (Some n) t e is = absurd (cc)
+  by (Some es) None t e is = absurd (cc)
+  by (Some es) (Some n) true e is = absurd (cc)
+  by (Some es) (Some n) false e is = refl
 
 -- then there is a conflict
 pub no_conflict : (m : Matter) (cs : List ℕ) (found : Option Conflict) → IsPrefix (forest m) cs → found ≡ None → IfSome (after (forest m) cs) (λ d. (t : Settings) → ¬ (MeetsHere m d t))

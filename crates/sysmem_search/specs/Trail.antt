@@ -45,6 +45,6 @@ pub record AddsEarlier (m : Matter) (d : Forest Member) (choices longer : List �
   pub earlier : RefutesEarlier (IsConflictFor m.platform (terms m)) d selection (map (λ g. g.refutations) groups)
 
 -- what a search leaves on the trail where it found nothing, and where it found settings
-abbrev pub Leaves : Matter → Forest Member → List ℕ → List ℕ → Trail → Trail → Option Settings → Type 0
-Leaves m d choices longer old new None = AddsRefutation m d old new
-Leaves m d choices longer old new (Some s) = AddsEarlier m d choices longer old new
+abbrev pub LeavesOnTrail : Matter → Forest Member → List ℕ → List ℕ → Trail → Trail → Option Settings → Type 0
+LeavesOnTrail m d choices longer old new None = AddsRefutation m d old new
+LeavesOnTrail m d choices longer old new (Some s) = AddsEarlier m d choices longer old new

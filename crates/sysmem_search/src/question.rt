@@ -16,7 +16,7 @@ use std::alloc::{AllocError, Global};
 use std::marker::Model;
 use sysmem_merge::Settings;
 use sysmem_merge::laws::sums_in_any_order;
-use sysmem_proof::{Base, Conflict, find_conflict};
+use sysmem_proof::{Base, Conflict, find_conflict_as};
 use sysmem_sanitise::Platform;
 use sysmem_tree::layout_laws::{choice_settles_share, none_open_is_selection};
 use sysmem_tree::{DomainId, Layout, Prefix, Tree};
@@ -162,13 +162,15 @@ impl<'a> Question<'a> {
         ensures { IfOk result (λ conflict. IfSome (after (forest self.now.matter) self.now.choices)
             (λ d. IsConflictFor self.now.matter.platform (terms self.now.matter) d conflict)) }
     {
-        let found = find_conflict(
+        let whole = self.children().is_none();
+        let found = find_conflict_as(
             self.alloc,
             self.platform,
             self.tree,
             self.domain,
             self.base,
             &self.prefix,
+            whole,
         )?;
         match found {
             Some(conflict) => Ok(conflict),

@@ -5,7 +5,7 @@ ghost use Rattle.sysmem_merge.specs.declared.settings.Settings.{Settings as Sett
 ghost use Rattle.sysmem_search.specs.Question.{MeetsOf, MeetsHere, IsBestOf};
 ghost use Rattle.sysmem_proof.specs.Matter.{forest};
 ghost use Rattle.sysmem_search.specs.Searching.{IsFoundOf};
-ghost use Rattle.sysmem_search.specs.Trail.{AddsRefutation, Leaves};
+ghost use Rattle.sysmem_search.specs.Trail.{AddsRefutation, LeavesOnTrail};
 ghost use Rattle.sysmem_tree.specs.Forest.{choices, settled};
 ghost use Rattle.sysmem_tree.specs.Selection.{IsPrefix, after};
 
@@ -41,7 +41,7 @@ fn search_selection(
         (IsBestOf question.now.matter (settled d)))) }
     ensures trail { IfOk result (λ best.
         IfSome (after (forest question.now.matter) question.now.choices)
-        (λ d. Leaves question.now.matter d question.now.choices question.now.choices trail.old
+        (λ d. LeavesOnTrail question.now.matter d question.now.choices question.now.choices trail.old
         trail.new best)) }
 {
     if let Some(settings) = question.best() {
@@ -69,7 +69,7 @@ pub(crate) fn search_from<G: Gate>(
         visits.new found)) }
     ensures trail { IfOk result (λ found.
         IfSome (after (forest question.old.matter) question.old.choices)
-        (λ d. Leaves question.old.matter d question.old.choices question.new.choices trail.old
+        (λ d. LeavesOnTrail question.old.matter d question.old.choices question.new.choices trail.old
         trail.new found)) }
 {
     gate.at_prefix(question.prefix().choices().len() as u32);

@@ -1,11 +1,13 @@
 -- What callers need of histories, of decisions, of prefixes and of forests.
 pub use Rattle.sysmem_tree.proofs.Accepted.{accepted, IsAccepted}
+pub use Rattle.sysmem_tree.proofs.MadeReady.{was_ready}
+pub use Rattle.sysmem_tree.proofs.Different.{few_different}
 pub use Rattle.sysmem_tree.proofs.Few.{few_numbers, forest_here}
 pub use Rattle.sysmem_tree.proofs.Kids.{is_under}
 pub use Rattle.sysmem_tree.proofs.Layouts.{size_tree}
 pub use Rattle.sysmem_tree.proofs.Numbers.{numbers, front}
 pub use Rattle.sysmem_tree.proofs.Steps.{led_kid, node_within}
-pub use Rattle.sysmem_tree.proofs.Readiness.{decision_acted, decision_by}
+pub use Rattle.sysmem_tree.proofs.Readiness.{decision_acted, decision_by, home_root}
 pub use Rattle.sysmem_tree.proofs.Selections.{AllOf, IfAny, all_mapped, all_at, settled_relabel, choices_relabel, after_relabel, first_many}
 use Rattle.std.proofs.Common.{◌≡◌, ◌<◌, ℕ, Bool, true, false, List, [], ◌∷◌, ◌++◌, Option, Some, None, length, slice_get, refl, sym, ◌∙◌, ap, subst, arith}
 use Rattle.std.specs.Prelude.{option_map, option_and_then, IsSome, IfSome, if◌then◌else◌}

@@ -48,5 +48,7 @@ pub mod ChoiceLaws
 pub mod Answering
 pub mod Onward
 pub mod Once
+pub mod MadeReady
+pub mod Different
 pub mod Picking
 pub mod Failing

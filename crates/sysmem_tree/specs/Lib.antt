@@ -20,3 +20,4 @@ pub mod OpenGroups
 pub mod LayoutLaws
 pub mod Members
 pub mod Sweep
+pub mod Completing

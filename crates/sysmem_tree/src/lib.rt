@@ -10,6 +10,7 @@
 #![tactic(auto)]
 
 mod action;
+mod completing;
 mod copying;
 mod count;
 mod deciding;

@@ -32,7 +32,7 @@ fn mark(layout: &Layout, from: usize, to: usize, marks: &mut [bool; 128])
 }
 
 /// The nodes that choices settle, marked by their numbers.
-fn marks_after(layout: &Layout, choices: &[u8]) -> [bool; 128]
+pub(crate) fn marks_after(layout: &Layout, choices: &[u8]) -> [bool; 128]
     requires numbers { HoldNumbers 128 layout.now.places }
     requires prefix { (d : Forest ℕ) × (laid : IsLayout layout.now d)
         × IsPrefix laid.spots choices.now }

@@ -1,6 +1,7 @@
 //! The participants of selections, in their order.
 
-ghost use Rattle.std.specs.Prelude.{◌≡◌, ◌≤◌, ℕ, [], All, IfOk, filter, length};
+ghost use Rattle.std.specs.Prelude.{◌≡◌, ◌≤◌, ◌+◌, ◌++◌, ℕ, [], All, IfOk, filter, length};
+ghost use Rattle.std.specs.Vec.{vec_capacity};
 ghost use Rattle.sysmem_tree.specs.Domain.{HasDomain};
 ghost use Rattle.sysmem_tree.specs.Forest.{Forest};
 ghost use Rattle.sysmem_tree.specs.Laws.{labels};
@@ -12,8 +13,8 @@ ghost use Rattle.sysmem_tree.specs.Shape.{by_number, forest_of, participants_of}
 
 use crate::id::{DomainId, NodeId};
 use crate::layout::{Layout, PLACES};
-use crate::members::members;
-use crate::tree::Tree;
+use crate::members::marks_after;
+use crate::tree::{MOST_NODES, Tree};
 use std::alloc::AllocError;
 
 impl Tree {
@@ -27,26 +28,46 @@ impl Tree {
             (λ nodes. nodes.items ≡ participants_of self.now.nodes domain choices.now) }
         ensures there { IfOk result (λ nodes. All (HasNode self.now.nodes) nodes.items) }
     {
-        let marks = members(&self.nodes, domain.0, choices);
-        self.marked_in(&self.layout(domain), &marks)
+        let mut nodes = Vec::with_capacity(*self.nodes.allocator(), MOST_NODES)?;
+        self.add_participants(domain, choices, &mut nodes);
+        Ok(nodes)
     }
 
-    /// The nodes of a layout that are marked and set constraints, in its order.
-    fn marked_in(&self, layout: &Layout, marks: &[bool; 128]) -> Result<Vec<NodeId>, AllocError>
+    /// Adds the participants of the selection that these choices make in a domain of the tree, in
+    /// pre-order, to nodes that have room for them. It takes no memory, and one pass over the nodes.
+    pub fn add_participants(&self, domain: DomainId, choices: &[u8], nodes: &mut Vec<NodeId>)
+        requires domain { HasDomain self.now.nodes domain }
+        requires prefix { IsPrefix (forest_of by_number self.now.nodes domain []) choices.now }
+        requires room { length nodes.old.items
+            + length (participants_of self.now.nodes domain choices.now) ≤ vec_capacity nodes.old }
+        ensures nodes { nodes.new.items
+            ≡ nodes.old.items ++ participants_of self.now.nodes domain choices.now }
+        ensures reserved { vec_capacity nodes.new ≡ vec_capacity nodes.old }
+    {
+        let _ = &self.nodes;
+        let layout = self.layout(domain);
+        let marks = marks_after(&layout, choices);
+        self.add_marked(&layout, &marks, nodes);
+    }
+
+    /// Adds the nodes of a layout that are marked and set constraints, in its order.
+    fn add_marked(&self, layout: &Layout, marks: &[bool; 128], nodes: &mut Vec<NodeId>)
         requires few { length self.now.nodes ≤ 128 }
         requires start { layout.now.start ≤ 128 }
-        requires nodes { HoldNumbers (length self.now.nodes) layout.now.places }
-        ensures { IfOk result (λ kept. (d : Forest ℕ) → IsLayout layout.now d
-            → kept.items ≡ filter (is_marked self.now.nodes marks.now) (labels d)) }
+        requires numbers { HoldNumbers (length self.now.nodes) layout.now.places }
+        requires room { (d : Forest ℕ) × (laid : IsLayout layout.now d)
+            × (length nodes.old.items + length (filter (is_marked self.now.nodes marks.now) (labels d))
+            ≤ vec_capacity nodes.old) }
+        ensures nodes { (d : Forest ℕ) → IsLayout layout.now d → nodes.new.items
+            ≡ nodes.old.items ++ filter (is_marked self.now.nodes marks.now) (labels d) }
+        ensures reserved { vec_capacity nodes.new ≡ vec_capacity nodes.old }
     {
-        let mut kept = Vec::new(*self.nodes.allocator());
         for at in layout.start..PLACES {
             let node = NodeId(layout.places[at].node);
             if self.is_marked(marks, node) {
-                kept.push(node)?;
+                nodes.push_reserved(node);
             }
         }
-        Ok(kept)
     }
 
     /// Whether a node of the tree is marked and set constraints.

@@ -4,7 +4,7 @@ use Rattle.std.specs.Prelude.{IfSome}
 use Rattle.sysmem_proof.specs.Matter.{forest}
 use Rattle.sysmem_search.specs.Searching.{IsFoundOf}
 use Rattle.sysmem_search.specs.Standing.{Standing}
-use Rattle.sysmem_search.specs.Trail.{Leaves}
+use Rattle.sysmem_search.specs.Trail.{LeavesOnTrail}
 use Rattle.sysmem_search.proofs.Finding.{entered_at, whole_found, found_cut, begun, long_push, pushed_prefix, found_below, unmet_below, same_below, all_below}
 use Rattle.sysmem_search.proofs.Trailing.{no_choice_passed, choice_passed, choice_found, all_choices_passed, longer_trail}
 use Rattle.sysmem_search.proofs.Unmet.{unmet_prefix}
@@ -35,9 +35,9 @@ pub returns-in-Some-2-clause-trail : goal.returns-in-Some-2-clause-trail
 returns-in-Some-2-clause-trail g t c =
     let q = c.args.question.now in
     let (matter_is, is) = entered_at c.enter.new.self c.loop-choice.question q c.loop-choice.choice c.in_ok-enter.ensures c.loop-choice.invariant.same in
-    let left = subst (λ x. IfSome (after (forest x) c.enter.new.self.choices) (λ e. Leaves x e c.enter.new.self.choices c.search_from.new.question.choices c.loop-choice.trail c.search_from.new.trail c.in_ok-settings.field-0))
+    let left = subst (λ x. IfSome (after (forest x) c.enter.new.self.choices) (λ e. LeavesOnTrail x e c.enter.new.self.choices c.search_from.new.question.choices c.loop-choice.trail c.search_from.new.trail c.in_ok-settings.field-0))
     matter_is c.in_ok-settings.ensures.trail in
-    let left_is = subst (λ f. IfSome (after (forest q.matter) c.enter.new.self.choices) (λ e. Leaves q.matter e c.enter.new.self.choices c.search_from.new.question.choices c.loop-choice.trail c.search_from.new.trail f)) c.in-Some-2.is left in
+    let left_is = subst (λ f. IfSome (after (forest q.matter) c.enter.new.self.choices) (λ e. LeavesOnTrail q.matter e c.enter.new.self.choices c.search_from.new.question.choices c.loop-choice.trail c.search_from.new.trail f)) c.in-Some-2.is left in
     choice_found q.matter q.choices c.enter.new.self.choices c.loop-choice.choice c.in-Some.children c.requires.prefix c.loop-choice-test.true is c.in-Some.ensures.number c.args.trail.now c.loop-choice.trail
     c.loop-choice.invariant.passed c.search_from.new.question.choices c.search_from.new.trail left_is
 
@@ -45,9 +45,9 @@ pub pass_choice-requires : goal.pass_choice-requires
 pass_choice-requires g t c =
     let q = c.args.question.now in
     let (matter_is, is) = entered_at c.enter.new.self c.loop-choice.question q c.loop-choice.choice c.in_ok-enter.ensures c.loop-choice.invariant.same in
-    let left = subst (λ x. IfSome (after (forest x) c.enter.new.self.choices) (λ e. Leaves x e c.enter.new.self.choices c.search_from.new.question.choices c.loop-choice.trail c.search_from.new.trail c.in_ok-settings.field-0))
+    let left = subst (λ x. IfSome (after (forest x) c.enter.new.self.choices) (λ e. LeavesOnTrail x e c.enter.new.self.choices c.search_from.new.question.choices c.loop-choice.trail c.search_from.new.trail c.in_ok-settings.field-0))
     matter_is c.in_ok-settings.ensures.trail in
-    let left_is = subst (λ f. IfSome (after (forest q.matter) c.enter.new.self.choices) (λ e. Leaves q.matter e c.enter.new.self.choices c.search_from.new.question.choices c.loop-choice.trail c.search_from.new.trail f)) c.in_default-2.is left in
+    let left_is = subst (λ f. IfSome (after (forest q.matter) c.enter.new.self.choices) (λ e. LeavesOnTrail q.matter e c.enter.new.self.choices c.search_from.new.question.choices c.loop-choice.trail c.search_from.new.trail f)) c.in_default-2.is left in
     subst (λ n. n ≤ length c.search_from.new.trail.items.items) (sym c.len-start.ensures) (longer_trail q.matter (after (forest q.matter) c.enter.new.self.choices) c.loop-choice.trail c.search_from.new.trail
     (pushed_prefix q.matter q.choices c.enter.new.self.choices c.loop-choice.choice c.in-Some.children 0 c.requires.prefix c.loop-choice-test.true is c.in-Some.ensures.number) left_is)
 
@@ -96,9 +96,9 @@ loop-choice-preserved g t c =
     let found = subst (λ x. IfSome (after (forest x) c.enter.new.self.choices) (λ e. IsFoundOf x e c.enter.new.self.choices c.search_from.new.question.choices c.loop-choice.visits c.search_from.new.visits c.in_ok-settings.field-0))
     matter_is c.in_ok-settings.ensures.found in
     let found_is = subst (λ f. IfSome (after (forest q.matter) c.enter.new.self.choices) (λ e. IsFoundOf q.matter e c.enter.new.self.choices c.search_from.new.question.choices c.loop-choice.visits c.search_from.new.visits f)) c.in_default-2.is found in
-    let left = subst (λ x. IfSome (after (forest x) c.enter.new.self.choices) (λ e. Leaves x e c.enter.new.self.choices c.search_from.new.question.choices c.loop-choice.trail c.search_from.new.trail c.in_ok-settings.field-0))
+    let left = subst (λ x. IfSome (after (forest x) c.enter.new.self.choices) (λ e. LeavesOnTrail x e c.enter.new.self.choices c.search_from.new.question.choices c.loop-choice.trail c.search_from.new.trail c.in_ok-settings.field-0))
     matter_is c.in_ok-settings.ensures.trail in
-    let left_is = subst (λ f. IfSome (after (forest q.matter) c.enter.new.self.choices) (λ e. Leaves q.matter e c.enter.new.self.choices c.search_from.new.question.choices c.loop-choice.trail c.search_from.new.trail f)) c.in_default-2.is left in
+    let left_is = subst (λ f. IfSome (after (forest q.matter) c.enter.new.self.choices) (λ e. LeavesOnTrail q.matter e c.enter.new.self.choices c.search_from.new.question.choices c.loop-choice.trail c.search_from.new.trail f)) c.in_default-2.is left in
     let back = same_below q.matter q.choices c.enter.new.self.choices c.loop-choice.choice c.in-Some.children _ c.requires.prefix c.loop-choice-test.true is c.in-Some.ensures.number
     c.is_met.result c.if-not-is_met.false c.is_met.ensures _ _ _ c.loop-choice.invariant.gone found_is in
     record {

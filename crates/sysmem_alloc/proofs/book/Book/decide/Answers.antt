@@ -13,6 +13,7 @@ use Rattle.sysmem_alloc.specs.History.{Allows}
 use Rattle.sysmem_alloc.specs.Marks.{ready_unmarked}
 use Rattle.sysmem_alloc.specs.Sound.{roots_of}
 use Rattle.sysmem_alloc.proofs.Entering.{decided_room, decided_shows, may_enter}
+use Rattle.sysmem_alloc.proofs.Keeping.{chosen_leads, chosen_room, kept_decided}
 use Rattle.sysmem_alloc.proofs.book.Book.decide.Goals as goal
 
 if_map : {X Y : Type 0} (f : X → Y) (P : Y → Type 0) (o : Option X) → IfSome o (λ x. P (f x)) → IfSome (option_map f o) P
@@ -22,6 +23,20 @@ if_map f P (Some x) h = h
 removed : (xs : List ℕ) → remove xs 0 ≡ drop 1 xs
 removed [] = refl
 removed (x ∷ xs) = refl
+
+pub add_chosen-requires-clause-chosen : goal.add_chosen-requires-clause-chosen
+add_chosen-requires-clause-chosen c =
+    let d : Claimed = record { domain = c.args.domain; claim = option_map (λ shared. arc_value shared) c.args.claim } in
+    let ok = subst (λ b. Allows b.platform b.state (Decided d)) (sym c.self.view_is) (c.requires.next, if_map (λ shared. arc_value shared) _ c.args.claim c.requires.true_of) in
+    chosen_leads c.legal_is_sound.ensures c.forest_stays.ensures c.one_forest.ensures _ d c.self.invariant.0 ok
+
+pub add_chosen-requires-clause-room : goal.add_chosen-requires-clause-room
+add_chosen-requires-clause-room c =
+    let d : Claimed = record { domain = c.args.domain; claim = option_map (λ shared. arc_value shared) c.args.claim } in
+    let ok = subst (λ b. Allows b.platform b.state (Decided d)) (sym c.self.view_is) (c.requires.next, if_map (λ shared. arc_value shared) _ c.args.claim c.requires.true_of) in
+    let room = chosen_room c.legal_is_sound.ensures c.forest_stays.ensures c.one_forest.ensures _ d c.self.invariant.0 ok c.legal_agrees.ensures c.members_stand_once.ensures in
+    let kept = ap length c.self.invariant.6 in
+    omega (arith, room, kept, c.self.invariant.5)
 
 pub decided-requires : goal.decided-requires
 decided-requires c =
@@ -50,7 +65,17 @@ invariant_of-self c =
     let shown = decided_shows c.self.inside.platform c.self.inside.tree c.decided.new.self c.self.inside.history.items c.push_reserved.new.self.items c.self.inside.waiting.items c.add_ready.new.waiting.items
     c.self.inside.were_open c.open_nodes-self-inside.result c.ready_domains-were_ready.result (entries.Decided c.args.domain c.args.claim) d c.self.invariant.0 ok refl (λ nodes. refl) tree
     c.push_reserved.ensures.items c.ready_domains-were_ready.ensures grown c.open_nodes-self-inside.ensures in
-    (shown.book, omega (arith, c.self.invariant.1, c.push_reserved.ensures.capacity), omega (arith, c.self.invariant.2, c.remove.ensures.capacity, c.add_ready.ensures.reserved), c.self.invariant.3, c.self.invariant.4)
+    let kept = kept_decided c.legal_is_sound.ensures c.forest_stays.ensures c.one_forest.ensures c.self.inside.platform c.self.inside.tree c.decided.new.self c.self.inside.history.items c.push_reserved.new.self.items
+    c.self.inside.waiting.items c.self.inside.were_open (entries.Decided c.args.domain c.args.claim) d c.self.inside.chosen.items c.add_chosen.new.chosen.items c.self.invariant.0 ok refl tree c.push_reserved.ensures.items
+    c.self.invariant.6 c.add_chosen.ensures.nodes in (
+      shown.book,
+      omega (arith, c.self.invariant.1, c.push_reserved.ensures.capacity),
+      omega (arith, c.self.invariant.2, c.remove.ensures.capacity, c.add_ready.ensures.reserved),
+      c.self.invariant.3,
+      c.self.invariant.4,
+      omega (arith, c.self.invariant.5, c.add_chosen.ensures.reserved),
+      kept,
+    )
 
 pub returns-clause-entered : goal.returns-clause-entered
 returns-clause-entered c =

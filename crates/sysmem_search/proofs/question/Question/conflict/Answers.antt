@@ -1,17 +1,24 @@
 -- A finder finds none only where some settings meet.
-use Rattle.std.proofs.Common.{sym, subst}
+use Rattle.std.proofs.Common.{◌≡◌, length, sym, subst}
 use Rattle.std.specs.Prelude.{IfSome, option_map}
 use Rattle.sysmem_merge.specs.declared.settings.Settings.{Settings}
 use Rattle.sysmem_proof.specs.Conflict.{IsConflictFor}
 use Rattle.sysmem_search.specs.Question.{MeetsHere}
 use Rattle.sysmem_proof.specs.Matter.{Matter, forest, terms}
 use Rattle.sysmem_search.proofs.AskedMembers.{if_some}
-use Rattle.sysmem_search.proofs.Unmet.{no_conflict}
+use Rattle.sysmem_search.proofs.Unmet.{no_conflict, none_are_left}
+use Rattle.sysmem_tree.specs.Forest.{choices}
 use Rattle.sysmem_tree.specs.Selection.{IsPrefix, after}
 use Rattle.sysmem_search.proofs.question.Question.conflict.Goals as goal
 
-pub find_conflict-requires-clause-prefix : goal.find_conflict-requires-clause-prefix
-find_conflict-requires-clause-prefix c = subst (λ s. IsPrefix (forest s.matter) s.choices) (sym c.self.view_is) c.requires.prefix
+pub find_conflict_as-requires-clause-prefix : goal.find_conflict_as-requires-clause-prefix
+find_conflict_as-requires-clause-prefix c = subst (λ s. IsPrefix (forest s.matter) s.choices) (sym c.self.view_is) c.requires.prefix
+
+pub find_conflict_as-requires-clause-whole : goal.find_conflict_as-requires-clause-whole
+find_conflict_as-requires-clause-whole c = λ d leads.
+    let m : Matter = record { platform = c.self.inside.platform.now; nodes = c.self.inside.tree.now.nodes; domain = c.self.inside.domain; base = option_map (λ b. b.now) c.self.inside.base } in
+    none_are_left m c.self.inside.prefix c.children.result c.is_none-whole.result d leads c.is_none-whole.ensures
+    (subst (λ s. IfSome (after (forest s.matter) s.choices) (λ e. option_map length (choices e) ≡ c.children.result)) (sym c.self.view_is) c.children.ensures.number)
 
 pub unreachable-requires : goal.unreachable-requires
 unreachable-requires c =

@@ -1,8 +1,8 @@
 //! Which calls are failures: no clause of std's readers and writers says that a call failed.
 ghost use Rattle.std.specs.Prelude.{◌≤◌, IfOk};
 
-use super::*;
-use std::io::ErrorKind;
+use byte_transfer::{Counted, Sink, Source};
+use std::io::{self, ErrorKind, Read, Write};
 
 // Answers its calls in turn, with a count of bytes or an error, and then with 0.
 #[derive(Drop)]

@@ -1,6 +1,6 @@
 //! How much is taken from a reader.
-use super::*;
-use crate::counted::Counted;
+
+use byte_transfer::{Counted, read_up_to_limit};
 use std::io::{self, Read};
 use std::test::Fail;
 

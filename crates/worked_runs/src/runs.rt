@@ -1,8 +1,9 @@
 //! Runs whose script is cut, and whose reader or writer fails, without and with a certificate. What
 //! whole scripts print is in `tests/`.
-use super::*;
+
 use byte_transfer::Counted;
 use script_reading::ScriptFault;
+use script_run::{Ended, RunFault, run, run_with_proof};
 use std::io::{self, Read, Write};
 
 const SCRIPT: &str =
