@@ -16,7 +16,7 @@ proved:
 test:
 	rt ci
 
-# Tests of the proved program as a whole (they need a C compiler and Python): reports, refusals, records, and each allocation refused in turn.
+# Tests of the proved program as a whole (they need a C compiler and Python): reports, refusals, records, certificates and their checks, and each allocation refused in turn.
 program-test: proved
 	@$(MAKE) --no-print-directory built-test
 
@@ -27,11 +27,13 @@ built-test:
 	tests/records
 	tests/run_command
 	tests/certificates
+	tests/checks
 	tests/want_of_memory
 
 # Times the proved program beside the reading of the same bytes as a JSON value, and calls on small and large trees.
 bench: proved
 	cd crates/value_reader && rt run -- one_participant.json
+	cd crates/repeated_decisions && rt run -- groups_share_nv12.json check 3
 	bench/run
 	cd crates/tree_rows && rt run < /dev/null
 	bench/trees

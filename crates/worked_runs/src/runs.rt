@@ -1,8 +1,9 @@
-//! Runs whose script is cut, and whose reader or writer fails. What whole scripts print is in `tests/`.
+//! Runs whose script is cut, and whose reader or writer fails, without and with a certificate. What
+//! whole scripts print is in `tests/`.
 
 use byte_transfer::Counted;
 use script_reading::ScriptFault;
-use script_run::{Ended, RunFault, run};
+use script_run::{Ended, RunFault, run, run_with_proof};
 use std::io::{self, Read, Write};
 
 const SCRIPT: &str =
@@ -10,6 +11,10 @@ const SCRIPT: &str =
 
 const REPORT: &str =
     "1 bind root ok\n2 set_constraints root ok\ndomain / chosen - count 1 size 1 place ram#0 cpu image none\n";
+
+const CERTIFICATE: &str =
+    r#"[{"domain":"/","earlier":[],"offers":[],"places":[],"selection":[],"settings":{"bounds":null,"count":1,"domain":"cpu","heap":{"heap_type":"ram","id":0},"image":null,"size_bytes":1},"verdict":"chosen"}]
+"#;
 
 #[test]
 fn writes_a_report(rt: HostRuntime) {
@@ -99,15 +104,19 @@ impl Write for FailingWriter {
     }
 }
 
+fn failing_writer(rt: &HostRuntime, calls_left: usize) -> Counted<FailingWriter> {
+    Counted::new(FailingWriter {
+        taken: Vec::new(rt.alloc()),
+        calls_left,
+        gives_error: calls_left % 2 == 0,
+    })
+}
+
 // A writer that takes one byte a call, and at its kth call fails or takes none: the report's first k bytes are written.
 #[test]
-fn failing_writer(rt: HostRuntime) {
+fn failing_report(rt: HostRuntime) {
     for calls_left in 0..=REPORT.len() {
-        let mut writer = Counted::new(FailingWriter {
-            taken: Vec::new(rt.alloc()),
-            calls_left,
-            gives_error: calls_left % 2 == 0,
-        });
+        let mut writer = failing_writer(&rt, calls_left);
         let mut reader = Counted::new(SCRIPT.as_bytes());
         let ended = run(rt.alloc(), &mut reader, &mut writer);
         if calls_left == REPORT.len() {
@@ -120,6 +129,77 @@ fn failing_writer(rt: HostRuntime) {
         assert_eq!(rt;
             writer.inner.taken.as_slice(),
             &REPORT.as_bytes()[..calls_left]
+        );
+    }
+}
+
+#[test]
+fn writes_a_certificate(rt: HostRuntime) {
+    let mut reader = Counted::new(SCRIPT.as_bytes());
+    let mut writer = Counted::new(Vec::new(rt.alloc()));
+    let mut proof = Counted::new(Vec::new(rt.alloc()));
+    let ended = run_with_proof(rt.alloc(), &mut reader, &mut writer, &mut proof);
+    assert_eq!(rt; ended, Ok(Ended::Done));
+    assert_eq!(rt; writer.inner.as_slice(), REPORT.as_bytes());
+    assert_eq!(rt; proof.inner.as_slice(), CERTIFICATE.as_bytes());
+}
+
+// A reader that fails at its kth call leaves nothing written, neither of the report nor of the certificate.
+#[test]
+fn failing_reader_of_a_certified_run(rt: HostRuntime) {
+    let needed = SCRIPT.len().div_ceil(100) + 1;
+    for calls_left in 0..needed {
+        let mut reader = Counted::new(FailingReader {
+            bytes: SCRIPT.as_bytes(),
+            calls_left,
+        });
+        let mut writer = Counted::new(Vec::new(rt.alloc()));
+        let mut proof = Counted::new(Vec::new(rt.alloc()));
+        let ended = run_with_proof(rt.alloc(), &mut reader, &mut writer, &mut proof);
+        assert_eq!(rt; ended, Err(RunFault::Read));
+        assert_eq!(rt; reader.failures, 1);
+        assert_eq!(rt; writer.inner.len(), 0);
+        assert_eq!(rt; proof.inner.len(), 0);
+    }
+}
+
+// A writer of the report that fails at its kth call leaves the report's first k bytes, and nothing of the certificate.
+#[test]
+fn failing_report_of_a_certified_run(rt: HostRuntime) {
+    for calls_left in 0..REPORT.len() {
+        let mut reader = Counted::new(SCRIPT.as_bytes());
+        let mut writer = failing_writer(&rt, calls_left);
+        let mut proof = Counted::new(Vec::new(rt.alloc()));
+        let ended = run_with_proof(rt.alloc(), &mut reader, &mut writer, &mut proof);
+        assert_eq!(rt; ended, Err(RunFault::Write));
+        assert_eq!(rt; writer.failures, 1);
+        assert_eq!(rt;
+            writer.inner.taken.as_slice(),
+            &REPORT.as_bytes()[..calls_left]
+        );
+        assert_eq!(rt; proof.inner.len(), 0);
+    }
+}
+
+// A writer of the certificate that fails at its kth call leaves the whole report and the certificate's first k bytes.
+#[test]
+fn failing_certificate(rt: HostRuntime) {
+    for calls_left in 0..=CERTIFICATE.len() {
+        let mut reader = Counted::new(SCRIPT.as_bytes());
+        let mut writer = Counted::new(Vec::new(rt.alloc()));
+        let mut proof = failing_writer(&rt, calls_left);
+        let ended = run_with_proof(rt.alloc(), &mut reader, &mut writer, &mut proof);
+        if calls_left == CERTIFICATE.len() {
+            assert_eq!(rt; ended, Ok(Ended::Done));
+            assert_eq!(rt; proof.failures, 0);
+        } else {
+            assert_eq!(rt; ended, Err(RunFault::Write));
+            assert_eq!(rt; proof.failures, 1);
+        }
+        assert_eq!(rt; writer.inner.as_slice(), REPORT.as_bytes());
+        assert_eq!(rt;
+            proof.inner.taken.as_slice(),
+            &CERTIFICATE.as_bytes()[..calls_left]
         );
     }
 }
