@@ -54,9 +54,9 @@ IsCheckOf entries file proof =
     × (first_of (codes "PROOF") entries.1 ≡ Some proof)
 
 -- they are this job and its files
-abbrev pub AsksFor : Text × List Row → Job → Type 0
-AsksFor entries (Run file proof) = IsRunOf entries file.now (option_map (λ s. s.now) proof)
-AsksFor entries (Check file proof) = IsCheckOf entries file.now proof.now
+abbrev pub AsksForJob : Text × List Row → Job → Type 0
+AsksForJob entries (Run file proof) = IsRunOf entries file.now (option_map (λ s. s.now) proof)
+AsksForJob entries (Check file proof) = IsCheckOf entries file.now proof.now
 
 -- they are no job's
 pub record AsksForNone (entries : Text × List Row) : Type 0 where

@@ -2,7 +2,7 @@
 ghost use Rattle.std.specs.Prelude.{◌≡◌, IfNone, IfOk, IfSome, IsSomeAnd, false, map, string_bytes};
 ghost use Rattle.clap.specs.Words.{FailsBy, app_of, fault_of, subcommand_of, subcommand_rows_of};
 ghost use Rattle.clap.specs.declared.builder.command.Command.TheViews.{out-Command as fields_of};
-ghost use Rattle.sysmem_replay.specs.CommandLine.{AsksFor, AsksForNone, check_app, replay_app, run_app};
+ghost use Rattle.sysmem_replay.specs.CommandLine.{AsksForJob, AsksForNone, check_app, replay_app, run_app};
 
 use clap::error::ErrorKind;
 use clap::{Arg, ArgMatches, Command, Error};
@@ -30,7 +30,7 @@ pub enum Job<'a> {
 /// `DisplayHelp`, and want of memory by one of the kind `OutOfMemory`.
 pub fn read_words<'a>(alloc: Global, words: &'a [String]) -> Result<Job<'a>, Error>
     ensures entries { IfOk result (λ job. IsSomeAnd (subcommand_of replay_app
-        (map string_bytes words.entry.now)) (λ entries. AsksFor entries job)) }
+        (map string_bytes words.entry.now)) (λ entries. AsksForJob entries job)) }
     ensures kinds { FailsBy (fault_of replay_app (map string_bytes words.entry.now)) result }
 {
     let mut command = replay_command(alloc)?;
@@ -44,7 +44,7 @@ pub fn read_words<'a>(alloc: Global, words: &'a [String]) -> Result<Job<'a>, Err
 /// The job that the subcommand asks for, with its files.
 fn job_in<'a>(matches: &ArgMatches<'a>) -> Option<Job<'a>>
     ensures some { IfSome result (λ job. IsSomeAnd (subcommand_rows_of matches.now)
-        (λ entries. AsksFor entries job)) }
+        (λ entries. AsksForJob entries job)) }
     ensures none { IfNone result (IfSome (subcommand_rows_of matches.now) AsksForNone) }
 {
     let (name, entries) = matches.subcommand()?;
