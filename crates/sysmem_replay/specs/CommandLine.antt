@@ -37,9 +37,13 @@ settings s = record s {
   subcommand_required = true;
 }
 
+-- sysmem_replay with the subcommand `run` alone
+abbrev pub runs_app : App
+runs_app = with_subcommand (on_top settings (new_app (codes "sysmem_replay"))) run_app.top
+
 -- sysmem_replay, with a subcommand for each job
 abbrev pub replay_app : App
-replay_app = with_subcommand (with_subcommand (on_top settings (new_app (codes "sysmem_replay"))) run_app.top) check_app.top
+replay_app = with_subcommand runs_app check_app.top
 
 -- a subcommand's name and entries are `run`, this FILE, and this OUT or none
 abbrev pub IsRunOf : Text × List Row → Text → Option Text → Type 0

@@ -2,7 +2,7 @@
 ghost use Rattle.std.specs.Prelude.{◌≡◌, IfNone, IfOk, IfSome, IsSomeAnd, false, map, string_bytes};
 ghost use Rattle.clap.specs.Words.{FailsBy, app_of, fault_of, subcommand_of, subcommand_rows_of};
 ghost use Rattle.clap.specs.declared.builder.command.Command.TheViews.{out-Command as fields_of};
-ghost use Rattle.sysmem_replay.specs.CommandLine.{AsksForJob, AsksForNone, check_app, replay_app, run_app};
+ghost use Rattle.sysmem_replay.specs.CommandLine.{AsksForJob, AsksForNone, check_app, replay_app, run_app, runs_app};
 
 use clap::error::ErrorKind;
 use clap::{Arg, ArgMatches, Command, Error};
@@ -67,6 +67,15 @@ fn job_in<'a>(matches: &ArgMatches<'a>) -> Option<Job<'a>>
 fn replay_command<'a>(alloc: Global) -> Result<Command<'a>, AllocError>
     ensures { IfOk result (λ c. app_of c ≡ replay_app) }
 {
+    let command = command_of_runs(alloc)?;
+    let check = check_command(alloc)?;
+    command.subcommand(check)
+}
+
+/// The same with the subcommand `run` alone.
+fn command_of_runs<'a>(alloc: Global) -> Result<Command<'a>, AllocError>
+    ensures { IfOk result (λ c. app_of c ≡ runs_app) }
+{
     let command = Command::new(alloc, "sysmem_replay")
         .bin_name("sysmem_replay")?
         .about(
@@ -76,8 +85,7 @@ fn replay_command<'a>(alloc: Global) -> Result<Command<'a>, AllocError>
         .disable_help_subcommand(true)
         .subcommand_required(true);
     let run = run_command(alloc)?;
-    let check = check_command(alloc)?;
-    command.subcommand(run)?.subcommand(check)
+    command.subcommand(run)
 }
 
 fn run_command<'a>(alloc: Global) -> Result<Command<'a>, AllocError>

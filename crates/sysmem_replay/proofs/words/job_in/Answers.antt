@@ -42,7 +42,7 @@ pub returns-in_err-proof-in-check-clause-none : goal.returns-in_err-proof-in-che
 returns-in_err-proof-in-check-clause-none c =
     let rows = rows_of (found_of c.in_ok-name.entries.now) in
     let unread : first_of (codes "PROOF") rows ≡ None =
-    sym (first_value-rows (found_of c.in_ok-name.entries.now) (codes "PROOF")) ∙ sym c.get_str-proof-in-check.ensures ∙ ap (option_map (λ s. s.now)) (c.in_err-proof-in-check.was) in
+    sym (first_value-rows (found_of c.in_ok-name.entries.now) (codes "PROOF")) ∙ sym c.get_str-in-check-2.ensures ∙ ap (option_map (λ s. s.now)) (c.in_err-proof-in-check.was) in
     none_entered _ c.args.matches.now (c.in_ok-name.name.now, rows) AsksForNone
     (entered_is c.args.matches.now c.in_ok-name.name.now rows c.in_ok-name.ensures.name c.in_ok-name.ensures.rows)
     (record { run = λ file proof h. other_name (sym c.in-check.is ∙ h.0); check = λ file proof h. some≢none proof (sym h.2 ∙ unread) })
@@ -55,6 +55,6 @@ returns-in_ok-proof-in-check-clause-some c =
     let read : first_of (codes "FILE") rows ≡ Some file =
     sym (first_value-rows (found_of c.in_ok-name.entries.now) (codes "FILE")) ∙ sym c.get_str-in-check.ensures ∙ ap (option_map (λ s. s.now)) (c.in_ok-file-in-check.was) in
     let kept : first_of (codes "PROOF") rows ≡ Some proof =
-    sym (first_value-rows (found_of c.in_ok-name.entries.now) (codes "PROOF")) ∙ sym c.get_str-proof-in-check.ensures ∙ ap (option_map (λ s. s.now)) (c.in_ok-proof-in-check.was) in
+    sym (first_value-rows (found_of c.in_ok-name.entries.now) (codes "PROOF")) ∙ sym c.get_str-in-check-2.ensures ∙ ap (option_map (λ s. s.now)) (c.in_ok-proof-in-check.was) in
     some_entered c.args.matches.now (c.in_ok-name.name.now, rows) (λ e. IsCheckOf e file proof)
     (entered_is c.args.matches.now c.in_ok-name.name.now rows c.in_ok-name.ensures.name c.in_ok-name.ensures.rows) (c.in-check.is, read, kept)
