@@ -109,7 +109,9 @@ fn first_without_format(
 {
     if let Some(known) = known_for(lacking, offer) {
         for node in nodes {
-            if *node == known && lacks_offer(Field::PixelFormat, tree.constraints_of(*node), offer) {
+            if *node == known
+                && lacks_offer(Field::PixelFormat, tree.constraints_of(*node), offer)
+            {
                 return Some(*node);
             }
         }

@@ -3,7 +3,7 @@
 
 use byte_transfer::Counted;
 use script_reading::ScriptFault;
-use script_run::{Ended, RunFault, run, run_with_proof};
+use script_run::{Ended, RunFault, check_file, run, run_with_proof};
 use std::io::{self, Read, Write};
 
 const SCRIPT: &str =
@@ -15,6 +15,8 @@ const REPORT: &str =
 const CERTIFICATE: &str =
     r#"[{"domain":"/","earlier":[],"offers":[],"places":[],"selection":[],"settings":{"bounds":null,"count":1,"domain":"cpu","heap":{"heap_type":"ram","id":0},"image":null,"size_bytes":1},"verdict":"chosen"}]
 "#;
+
+const YES: &[u8] = b"yes 1\n";
 
 #[test]
 fn writes_a_report(rt: HostRuntime) {
@@ -201,5 +203,74 @@ fn failing_certificate(rt: HostRuntime) {
             proof.inner.taken.as_slice(),
             &CERTIFICATE.as_bytes()[..calls_left]
         );
+    }
+}
+
+// A reader of the script that fails at its kth call is a read fault of a check, which reads nothing of the certificate.
+#[test]
+fn failing_script_of_a_check(rt: HostRuntime) {
+    let needed = SCRIPT.len().div_ceil(100) + 1;
+    for calls_left in 0..needed {
+        let mut reader = Counted::new(FailingReader {
+            bytes: SCRIPT.as_bytes(),
+            calls_left,
+        });
+        let mut proof = Counted::new(CERTIFICATE.as_bytes());
+        let mut writer = Counted::new(Vec::new(rt.alloc()));
+        let ended = check_file(rt.alloc(), &mut reader, &mut proof, &mut writer);
+        assert_eq!(rt; ended, Err(RunFault::Read));
+        assert_eq!(rt; reader.failures, 1);
+        assert_eq!(rt; proof.inner.len(), CERTIFICATE.len());
+        assert_eq!(rt; writer.inner.len(), 0);
+    }
+}
+
+// A reader of the certificate that fails at its kth call is a read fault for each k, until it is read to its end.
+#[test]
+fn failing_certificate_of_a_check(rt: HostRuntime) {
+    let needed = CERTIFICATE.len().div_ceil(100) + 1;
+    for calls_left in 0..=needed {
+        let mut reader = Counted::new(SCRIPT.as_bytes());
+        let mut proof = Counted::new(FailingReader {
+            bytes: CERTIFICATE.as_bytes(),
+            calls_left,
+        });
+        let mut writer = Counted::new(Vec::new(rt.alloc()));
+        let ended = check_file(rt.alloc(), &mut reader, &mut proof, &mut writer);
+        if calls_left == needed {
+            assert_eq!(rt; ended, Ok(Ended::Done));
+            assert_eq!(rt; writer.inner.as_slice(), YES);
+        } else {
+            assert_eq!(rt; ended, Err(RunFault::Read));
+            assert_eq!(rt; proof.failures, 1);
+            assert_eq!(rt; writer.inner.len(), 0);
+        }
+    }
+}
+
+// A writer of the answer that fails at its kth call leaves the answer's first k bytes.
+#[test]
+fn failing_answer_of_a_check(rt: HostRuntime) {
+    for calls_left in 0..YES.len() {
+        let mut reader = Counted::new(SCRIPT.as_bytes());
+        let mut proof = Counted::new(CERTIFICATE.as_bytes());
+        let mut writer = failing_writer(&rt, calls_left);
+        let ended = check_file(rt.alloc(), &mut reader, &mut proof, &mut writer);
+        assert_eq!(rt; ended, Err(RunFault::Write));
+        assert_eq!(rt; writer.failures, 1);
+        assert_eq!(rt; writer.inner.taken.as_slice(), &YES[..calls_left]);
+    }
+}
+
+// A certificate that is cut at any length is refused, and nothing is printed.
+#[test]
+fn cut_certificate(rt: HostRuntime) {
+    for length in 0..CERTIFICATE.len() - 1 {
+        let mut reader = Counted::new(SCRIPT.as_bytes());
+        let mut proof = Counted::new(&CERTIFICATE.as_bytes()[..length]);
+        let mut writer = Counted::new(Vec::new(rt.alloc()));
+        let ended = check_file(rt.alloc(), &mut reader, &mut proof, &mut writer);
+        assert_eq!(rt; ended, Err(RunFault::Proof));
+        assert_eq!(rt; writer.inner.len(), 0);
     }
 }
