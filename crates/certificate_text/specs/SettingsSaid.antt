@@ -1,6 +1,5 @@
 -- The settings that an object of a certificate says.
 use Rattle.std.specs.Prelude.{ℕ, ◌≤◌, ◌-◌, ◌^◌, ◌&&◌, ◌==◌, max, Bool, List, Option, Some, None, codes, bytes_eq, is_some, option_map, position, slice_get, nat_le, if◌then◌else◌}
-use Rattle.std.proofs.Common.{arith}
 use Rattle.serde_json.specs.Data.{Data}
 use Rattle.serde_json.specs.Find.{get, as_null, as_str}
 use Rattle.sysmem_counts.specs.declared.field.Field.{Field}
@@ -10,6 +9,7 @@ use Rattle.sysmem_formats.specs.declared.offer.Offer.{Offer}
 use Rattle.sysmem_formats.specs.declared.offer.Offer.TheVariants.{NoImage, Image}
 use Rattle.sysmem_image.specs.declared.bounds.ImageBounds.{ImageBounds}
 use Rattle.sysmem_image.specs.declared.size.Size.{Size}
+use Rattle.sysmem_image.specs.Entries.{some_max}
 use Rattle.sysmem_counts.specs.Bounds.{most_number}
 use Rattle.sysmem_memory.specs.declared.domain.CoherencyDomain.{CoherencyDomain}
 use Rattle.sysmem_memory.specs.declared.place.Place.{Place}
@@ -103,9 +103,6 @@ numbers_said d = do
     required_max_size = required_max_size;
     max_width_times_height = max_width_times_height;
   })
-
-pub some_max : (n : ℕ) → 1 ≤ max n 1
-some_max n = omega arith
 
 abbrev pub some_sides : Size → Size
 some_sides size = record { width = max size.width 1; height = max size.height 1 }

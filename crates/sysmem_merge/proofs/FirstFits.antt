@@ -15,7 +15,7 @@ use Rattle.sysmem_merge.specs.Demands.{OfferDemand, offer_demands}
 use Rattle.sysmem_merge.specs.FirstFit.{IsFirstFit}
 use Rattle.sysmem_merge.specs.Fit.{MeetsFit, IsBestFit}
 use Rattle.sysmem_merge.specs.Kept.{Kept}
-use Rattle.sysmem_merge.specs.Offers.{is_named, format_named, modifier_named, colour_named}
+use Rattle.sysmem_merge.specs.Offers.{is_named, is_format_named, is_modifier_named, is_colour_named}
 use Rattle.sysmem_merge.specs.Reasons.{IsUnnamedLine, IsOfferRefused}
 use Rattle.sysmem_sanitise.specs.Participant.{Participant}
 use Rattle.sysmem_sanitise.specs.Platform.{PlatformFacts, offers_of}
@@ -40,17 +40,17 @@ unnamed_line NoImage ds unnamed = cc
 unnamed_line (Image pair colour) ds unnamed =
     let image : Image pair colour ≡ NoImage → ⊥ = λ same. cc in
     one_false ((field : Field) × IsUnnamedLine field (Image pair colour) ds)
-    (format_named (Image pair colour) ds) (modifier_named (Image pair colour) ds) (colour_named (Image pair colour) ds) unnamed
+    (is_format_named (Image pair colour) ds) (is_modifier_named (Image pair colour) ds) (is_colour_named (Image pair colour) ds) unnamed
     (λ no_format. (UnnamedPixelFormat, (image, no_format)))
     (λ no_modifier. (UnnamedPixelFormatModifier, (image, no_modifier)))
     (λ no_colour. (UnnamedColorSpace, (image, no_colour)))
 
 -- each part of an image's name is named where the image is
 image_named : (o : Offer) (ds : List OfferDemand) → o ≢ NoImage → is_named o ds ≡ true
-    → ((format_named o ds ≡ true) × (modifier_named o ds ≡ true) × (colour_named o ds ≡ true))
+    → ((is_format_named o ds ≡ true) × (is_modifier_named o ds ≡ true) × (is_colour_named o ds ≡ true))
 image_named NoImage ds image named = absurd (image refl)
 image_named (Image pair colour) ds image named =
-    none_false (format_named (Image pair colour) ds) (modifier_named (Image pair colour) ds) (colour_named (Image pair colour) ds) named
+    none_false (is_format_named (Image pair colour) ds) (is_modifier_named (Image pair colour) ds) (is_colour_named (Image pair colour) ds) named
 
 -- so an offer with a part that nobody names isn't named
 unnamed_is : (field : Field) (o : Offer) (ds : List OfferDemand) → IsUnnamedLine field o ds → is_named o ds ≡ true → ⊥

@@ -27,7 +27,7 @@ use Rattle.sysmem_merge.specs.Aggregate.{AreSizes, IsListed}
 use Rattle.sysmem_merge.specs.Demands.{OfferDemand}
 use Rattle.sysmem_merge.specs.First.{IsFirstOf}
 use Rattle.sysmem_merge.specs.OfferRead.{IsOfferRead, IsRefusingLine, offer_lines}
-use Rattle.sysmem_merge.specs.Offers.{has_format, has_colour, bounds_asked, names_format, names_modifier, names_colour, format_named, modifier_named, colour_named, is_named}
+use Rattle.sysmem_merge.specs.Offers.{has_format, has_colour, bounds_asked, names_format, names_modifier, names_colour, is_format_named, is_modifier_named, is_colour_named, is_named}
 use Rattle.sysmem_merge.specs.Reasons.{IsOfferLine, IsUnnamedLine}
 use Rattle.sysmem_merge.proofs.Asked.{bounds_asked_push}
 use Rattle.sysmem_merge.proofs.FirstFits.{unnamed_line}
@@ -210,7 +210,7 @@ pub named_image : (o : Offer) (ds : List OfferDemand) (read : OfferRead) (pair :
     → (read.format_named && read.modifier_named && read.colour_named) ≡ is_named o ds
 named_image o ds read pair colour stands image =
     rw (stands.format_named, stands.modifier_named, stands.colour_named) (by_image o (sym stands.offer ∙ image)) where
-      by_image : (p : Offer) → p ≡ Image pair colour → (format_named p ds && modifier_named p ds && colour_named p ds) ≡ is_named p ds
+      by_image : (p : Offer) → p ≡ Image pair colour → (is_format_named p ds && is_modifier_named p ds && is_colour_named p ds) ≡ is_named p ds
       by_image NoImage is = cc is
       by_image (Image q c) is = refl
 

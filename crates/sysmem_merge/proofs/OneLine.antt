@@ -12,7 +12,7 @@ use Rattle.sysmem_formats.specs.declared.offer.Pair.{Pair}
 use Rattle.sysmem_memory.specs.PlaceTable.{AllowsPlace}
 use Rattle.sysmem_merge.specs.Demands.{OfferDemand, counts_asked, place_demand, place_demands, offer_demands}
 use Rattle.sysmem_merge.specs.Laws.{OfferLineLeavesNone, PlaceLineLeavesNone, CountLineLeavesNone, UnnamedLineLeavesNone}
-use Rattle.sysmem_merge.specs.Offers.{format_named, modifier_named, colour_named, is_named}
+use Rattle.sysmem_merge.specs.Offers.{is_format_named, is_modifier_named, is_colour_named, is_named}
 use Rattle.sysmem_merge.specs.Reasons.{IsUnnamedLine}
 use Rattle.sysmem_merge.specs.Settings.{Covers, MeetsLoosely}
 use Rattle.sysmem_merge.proofs.Lines.{line_unmet}
@@ -50,9 +50,9 @@ all_three false b c is = absurd (cc is)
 
 -- each part of a named image's name is named
 parts : (pair : Pair) (colour : ColourSpace) (ds : List OfferDemand) → is_named (Image pair colour) ds ≡ true
-    → (format_named (Image pair colour) ds ≡ true) × (modifier_named (Image pair colour) ds ≡ true) × (colour_named (Image pair colour) ds ≡ true)
+    → (is_format_named (Image pair colour) ds ≡ true) × (is_modifier_named (Image pair colour) ds ≡ true) × (is_colour_named (Image pair colour) ds ≡ true)
 parts pair colour ds named =
-    all_three (format_named (Image pair colour) ds) (modifier_named (Image pair colour) ds) (colour_named (Image pair colour) ds) named
+    all_three (is_format_named (Image pair colour) ds) (is_modifier_named (Image pair colour) ds) (is_colour_named (Image pair colour) ds) named
 
 -- a part of the name that nobody names leaves the name unnamed
 pub unnamed : (field : Field) (o : Offer) (ds : List OfferDemand) → IsUnnamedLine field o ds → is_named o ds ≡ true → ⊥

@@ -12,7 +12,7 @@ use Rattle.sysmem_merge.specs.declared.kept.KeptBounds.TheVariants.{Merged, Refu
 use Rattle.sysmem_merge.specs.declared.kept.KeptOffer.{KeptOffer}
 use Rattle.sysmem_merge.specs.Demands.{OfferDemand, counts_asked, place_demands, offer_demands}
 use Rattle.sysmem_merge.specs.Kept.{Kept}
-use Rattle.sysmem_merge.specs.Offers.{has_format, has_colour, bounds_asked, format_named, modifier_named, colour_named}
+use Rattle.sysmem_merge.specs.Offers.{has_format, has_colour, bounds_asked, is_format_named, is_modifier_named, is_colour_named}
 use Rattle.sysmem_merge.specs.Reasons.{IsOfferLine}
 use Rattle.sysmem_sanitise.specs.Participant.{Participant}
 use Rattle.sysmem_sanitise.specs.Platform.{PlatformFacts, offers_of}
@@ -41,9 +41,9 @@ AreKeptBounds o ds (Refused field) = IsLasting field × IsOfferLine field o ds
 -- what is kept of an offer stands for these participants
 pub record IsKept (o : Offer) (ds : List OfferDemand) (kept : KeptOffer) : Type 0 where
   pub bounds : AreKeptBounds o ds kept.bounds
-  pub format : kept.format_named ≡ format_named o ds
-  pub modifier : kept.modifier_named ≡ modifier_named o ds
-  pub colour : kept.colour_named ≡ colour_named o ds
+  pub format : kept.format_named ≡ is_format_named o ds
+  pub modifier : kept.modifier_named ≡ is_modifier_named o ds
+  pub colour : kept.colour_named ≡ is_colour_named o ds
 
 -- what is kept of each offer of a list, in its order
 pub record AreKept (os : List Offer) (ds : List OfferDemand) (kept : List KeptOffer) : Type 0 where

@@ -9,7 +9,7 @@ use Rattle.sysmem_image.specs.Read.{AreRead}
 use Rattle.sysmem_merge.specs.declared.offer_read.OfferRead.{OfferRead}
 use Rattle.sysmem_merge.specs.Aggregate.{AreSizes}
 use Rattle.sysmem_merge.specs.Demands.{OfferDemand}
-use Rattle.sysmem_merge.specs.Offers.{has_format, has_colour, bounds_asked, format_named, modifier_named, colour_named}
+use Rattle.sysmem_merge.specs.Offers.{has_format, has_colour, bounds_asked, is_format_named, is_modifier_named, is_colour_named}
 use Rattle.sysmem_merge.specs.Reasons.{IsOfferLine, IsUnnamedLine}
 
 -- what is read of an offer stands for these participants
@@ -18,9 +18,9 @@ pub record IsOfferRead (o : Offer) (ds : List OfferDemand) (read : OfferRead) : 
   pub bounds : AreRead o (bounds_asked o ds) read.bounds
   pub format : read.format_refused ≡ list_any (λ d. not (has_format o d)) ds
   pub colour : read.colour_refused ≡ list_any (λ d. not (has_colour o d)) ds
-  pub format_named : read.format_named ≡ format_named o ds
-  pub modifier_named : read.modifier_named ≡ modifier_named o ds
-  pub colour_named : read.colour_named ≡ colour_named o ds
+  pub format_named : read.format_named ≡ is_format_named o ds
+  pub modifier_named : read.modifier_named ≡ is_modifier_named o ds
+  pub colour_named : read.colour_named ≡ is_colour_named o ds
   pub sizes : AreSizes ds read.least_size read.greatest_size
 
 -- the lines of the conflict table about an offer, in its order

@@ -53,18 +53,18 @@ names_colour (Image pair colour) (Some entry) = lists entry.colours colour
 names_colour _ _ = false
 
 -- some participant's entry for the offer names its format
-abbrev pub format_named : Offer → List OfferDemand → Bool
-format_named o ds = list_any (λ d. names_format (first_match o d.entries)) ds
+abbrev pub is_format_named : Offer → List OfferDemand → Bool
+is_format_named o ds = list_any (λ d. names_format (first_match o d.entries)) ds
 
 -- some participant's entry for the offer names its modifier
-abbrev pub modifier_named : Offer → List OfferDemand → Bool
-modifier_named o ds = list_any (λ d. names_modifier (first_match o d.entries)) ds
+abbrev pub is_modifier_named : Offer → List OfferDemand → Bool
+is_modifier_named o ds = list_any (λ d. names_modifier (first_match o d.entries)) ds
 
 -- some participant's entry for the offer names its colour space
-abbrev pub colour_named : Offer → List OfferDemand → Bool
-colour_named o ds = list_any (λ d. names_colour o (first_match o d.entries)) ds
+abbrev pub is_colour_named : Offer → List OfferDemand → Bool
+is_colour_named o ds = list_any (λ d. names_colour o (first_match o d.entries)) ds
 
 -- no image needs no name; of an image each of the three is named by some participant
 abbrev pub is_named : Offer → List OfferDemand → Bool
 is_named NoImage ds = true
-is_named o ds = format_named o ds && modifier_named o ds && colour_named o ds
+is_named o ds = is_format_named o ds && is_modifier_named o ds && is_colour_named o ds

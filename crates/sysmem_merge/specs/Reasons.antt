@@ -12,7 +12,7 @@ use Rattle.sysmem_memory.specs.Place.{HasNoPlace}
 use Rattle.sysmem_merge.specs.declared.reason.Reason.{Reason}
 use Rattle.sysmem_merge.specs.declared.reason.Reason.TheVariants.{Count, NoPlace, NoOffer}
 use Rattle.sysmem_merge.specs.Demands.{OfferDemand, counts_asked, place_demands, offer_demands}
-use Rattle.sysmem_merge.specs.Offers.{has_format, has_colour, bounds_asked, format_named, modifier_named, colour_named}
+use Rattle.sysmem_merge.specs.Offers.{has_format, has_colour, bounds_asked, is_format_named, is_modifier_named, is_colour_named}
 use Rattle.sysmem_sanitise.specs.Participant.{Participant}
 use Rattle.sysmem_sanitise.specs.Platform.{PlatformFacts, offers_of}
 
@@ -31,9 +31,9 @@ IsOfferLine field o ds = IsBoundsLine field o (bounds_asked o ds)
 
 -- no participant names the format, the modifier or the colour space of an image
 abbrev pub IsUnnamedLine : Field → Offer → List OfferDemand → Type 0
-IsUnnamedLine UnnamedPixelFormat o ds = (o ≢ NoImage) × (format_named o ds ≡ false)
-IsUnnamedLine UnnamedPixelFormatModifier o ds = (o ≢ NoImage) × (modifier_named o ds ≡ false)
-IsUnnamedLine UnnamedColorSpace o ds = (o ≢ NoImage) × (colour_named o ds ≡ false)
+IsUnnamedLine UnnamedPixelFormat o ds = (o ≢ NoImage) × (is_format_named o ds ≡ false)
+IsUnnamedLine UnnamedPixelFormatModifier o ds = (o ≢ NoImage) × (is_modifier_named o ds ≡ false)
+IsUnnamedLine UnnamedColorSpace o ds = (o ≢ NoImage) × (is_colour_named o ds ≡ false)
 IsUnnamedLine _ o ds = ⊥
 
 -- a line is true of the participants for the offer; an unnamed one counts where they are all that a decision has

@@ -14,7 +14,7 @@ use Rattle.sysmem_tree.specs.Path.{path_of}
 use Rattle.sysmem_tree.specs.Shape.{Member, by_path}
 use Rattle.sysmem_proof.specs.declared.whom.Whom.{Whom}
 use Rattle.sysmem_proof.specs.Members.{participants, member_at, members_at}
-use Rattle.sysmem_proof.specs.Whom.{names, named}
+use Rattle.sysmem_proof.specs.Whom.{names, members_named}
 
 module _ (nodes : List NodeFacts) where
   -- of one node
@@ -50,29 +50,29 @@ module _ (nodes : List NodeFacts) where
           abbrev Path : Member → List ℕ
           Path m = m.path
 
-          one_named : (b : Bool) → t ≡ b → map Path (named whom (members_at nodes (n ∷ []))) ≡ (if b then path_of nodes n ∷ [] else [])
+          one_named : (b : Bool) → t ≡ b → map Path (members_named whom (members_at nodes (n ∷ []))) ≡ (if b then path_of nodes n ∷ [] else [])
           one_named b at = by (slice_get nodes n) (slice_get_some nodes n node_there).1 asks where
-            in_case : (x : NodeFacts) (c : Bool) → option_map_or (names whom) x.constraints false ≡ c → map Path (named whom (by_path n (path_of nodes n) x ∷ [])) ≡ (if c then path_of nodes n ∷ [] else [])
+            in_case : (x : NodeFacts) (c : Bool) → option_map_or (names whom) x.constraints false ≡ c → map Path (members_named whom (by_path n (path_of nodes n) x ∷ [])) ≡ (if c then path_of nodes n ∷ [] else [])
             in_case x true yes' = rw yes' refl
             in_case x false no' = rw no' refl
 
             by : (u : Option NodeFacts) → u ≡ Some (slice_get_some nodes n node_there).0 → IfSome u (λ x. o ≡ x.constraints)
-                → map Path (named whom (cons_option (option_map (by_path n (path_of nodes n)) u) [])) ≡ (if b then path_of nodes n ∷ [] else [])
+                → map Path (members_named whom (cons_option (option_map (by_path n (path_of nodes n)) u) [])) ≡ (if b then path_of nodes n ∷ [] else [])
             by None e h = absurd (cc)
             by (Some x) e h = in_case x b (ap (λ c. option_map_or (names whom) c false) (sym h) ∙ (sym is ∙ at))
 
-          named_more : (b : Bool) → t ≡ b → map Path (named whom (members_at nodes (take (k + 1) ns))) ≡ map Path (named whom (members_at nodes (take k ns))) ++ (if b then path_of nodes n ∷ [] else [])
-          named_more b at = ap (λ ms. map Path (named whom ms)) members_more
+          named_more : (b : Bool) → t ≡ b → map Path (members_named whom (members_at nodes (take (k + 1) ns))) ≡ map Path (members_named whom (members_at nodes (take k ns))) ++ (if b then path_of nodes n ∷ [] else [])
+          named_more b at = ap (λ ms. map Path (members_named whom ms)) members_more
               ∙ (ap (map Path) (filter-append (λ m. option_map_or (names whom) m.constraints false) (members_at nodes (take k ns)) (members_at nodes (n ∷ [])))
-              ∙ (map-append Path (named whom (members_at nodes (take k ns))) (named whom (members_at nodes (n ∷ [])))
-              ∙ ap (λ ps. map Path (named whom (members_at nodes (take k ns))) ++ ps) (one_named b at)))
+              ∙ (map-append Path (members_named whom (members_at nodes (take k ns))) (members_named whom (members_at nodes (n ∷ [])))
+              ∙ ap (λ ps. map Path (members_named whom (members_at nodes (take k ns))) ++ ps) (one_named b at)))
 
-          pub named_push : (paths new : List (List ℕ)) (path : List ℕ) → paths ≡ map Path (named whom (members_at nodes (take k ns))) → new ≡ paths ++ path ∷ [] → path ≡ path_of nodes n → t ≡ true
-              → new ≡ map Path (named whom (members_at nodes (take (k + 1) ns)))
+          pub named_push : (paths new : List (List ℕ)) (path : List ℕ) → paths ≡ map Path (members_named whom (members_at nodes (take k ns))) → new ≡ paths ++ path ∷ [] → path ≡ path_of nodes n → t ≡ true
+              → new ≡ map Path (members_named whom (members_at nodes (take (k + 1) ns)))
           named_push paths new path so is_new is_path yes' = is_new ∙ (ap (λ q. paths ++ q ∷ []) is_path ∙ (ap (λ ps. ps ++ path_of nodes n ∷ []) so ∙ sym (named_more true yes')))
 
-          pub named_past : (paths : List (List ℕ)) → paths ≡ map Path (named whom (members_at nodes (take k ns))) → t ≡ false → paths ≡ map Path (named whom (members_at nodes (take (k + 1) ns)))
-          named_past paths so no' = so ∙ (sym (append-nil (map Path (named whom (members_at nodes (take k ns))))) ∙ sym (named_more false no'))
+          pub named_past : (paths : List (List ℕ)) → paths ≡ map Path (members_named whom (members_at nodes (take k ns))) → t ≡ false → paths ≡ map Path (members_named whom (members_at nodes (take (k + 1) ns)))
+          named_past paths so no' = so ∙ (sym (append-nil (map Path (members_named whom (members_at nodes (take k ns))))) ∙ sym (named_more false no'))
 
   -- past the last
   pub members_whole : (ns : List ℕ) (k : ℕ) → length ns ≤ k → members_at nodes (take k ns) ≡ members_at nodes ns

@@ -33,7 +33,7 @@ use Rattle.sysmem_proof.specs.Members.{participants, members_at}
 use Rattle.sysmem_proof.specs.Naming.{Names, IsTrueOf}
 use Rattle.sysmem_proof.specs.Refusals.{StandFor, ShareOffer, SharePlace, Ends, EndsAt}
 use Rattle.sysmem_proof.specs.Verdict.{MeetsFixed, MeetsSettled}
-use Rattle.sysmem_proof.specs.Whom.{names, named, line_on}
+use Rattle.sysmem_proof.specs.Whom.{names, members_named, line_on}
 use Rattle.sysmem_proof.proofs.CountNodes.{counts_are_of_some, fixed_counts_are_of_some}
 use Rattle.sysmem_proof.proofs.NamedLines.{names_those, names_one}
 
@@ -75,13 +75,13 @@ module _ (nodes : List NodeFacts) (ns given named' : List ℕ) (one : given ≡ 
 
 -- a participant by its path
 module _ (nodes : List NodeFacts) where
-  one_path : (n : ℕ) (P : Participant → Type 0) → Any P (participants (members_at nodes (n ∷ []))) → map (λ m. m.path) (named whoms.All (members_at nodes (n ∷ []))) ≡ path_of nodes n ∷ []
+  one_path : (n : ℕ) (P : Participant → Type 0) → Any P (participants (members_at nodes (n ∷ []))) → map (λ m. m.path) (members_named whoms.All (members_at nodes (n ∷ []))) ≡ path_of nodes n ∷ []
   one_path n P any = by (slice_get nodes n) any where
     by : (u : Option NodeFacts) → Any P (participants (cons_option (option_map (by_path n (path_of nodes n)) u) []))
-        → map (λ m. m.path) (named whoms.All (cons_option (option_map (by_path n (path_of nodes n)) u) [])) ≡ path_of nodes n ∷ []
+        → map (λ m. m.path) (members_named whoms.All (cons_option (option_map (by_path n (path_of nodes n)) u) [])) ≡ path_of nodes n ∷ []
     by None any = absurd (omega (arith, any.2))
     by (Some x) any = in_case x.constraints refl any where
-      in_case : (c : Option Participant) → x.constraints ≡ c → Any P (cons_option x.constraints []) → map (λ m. m.path) (named whoms.All (by_path n (path_of nodes n) x ∷ [])) ≡ path_of nodes n ∷ []
+      in_case : (c : Option Participant) → x.constraints ≡ c → Any P (cons_option x.constraints []) → map (λ m. m.path) (members_named whoms.All (by_path n (path_of nodes n) x ∷ [])) ≡ path_of nodes n ∷ []
       in_case None is any = (let a = subst (λ o. Any P (cons_option o [])) is any in absurd (omega (arith, a.2)))
       in_case (Some p) is any = rw is refl
 

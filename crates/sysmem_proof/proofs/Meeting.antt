@@ -14,7 +14,7 @@ use Rattle.sysmem_memory.specs.Heap.{HeapFacts}
 use Rattle.sysmem_merge.specs.declared.settings.Settings.{Settings}
 use Rattle.sysmem_merge.specs.Demands.{OfferDemand, counts_asked, offer_demand, offer_demands}
 use Rattle.sysmem_merge.specs.Laws.{OfferLineLeavesNone, CountLineLeavesNone}
-use Rattle.sysmem_merge.specs.Offers.{is_named, names_format, names_modifier, names_colour, format_named, modifier_named, colour_named}
+use Rattle.sysmem_merge.specs.Offers.{is_named, names_format, names_modifier, names_colour, is_format_named, is_modifier_named, is_colour_named}
 use Rattle.sysmem_merge.specs.Reasons.{IsOfferLine}
 use Rattle.sysmem_merge.specs.Settings.{Covers, CoversOn, IsNamed, IsSound, Meets}
 use Rattle.sysmem_sanitise.specs.Participant.{Participant}
@@ -33,9 +33,9 @@ named_same : (o : Offer) (ds es : List OfferDemand) → IsPermutation ds es → 
 named_same NoImage ds es order = refl
 named_same (Image pair colour) ds es order =
     let o : Offer = Image pair colour in
-    ap (λ t. t && modifier_named o ds && colour_named o ds) (any_in_order (λ (d : OfferDemand). names_format (first_match o d.entries)) ds es order)
-    ∙ (ap (λ t. format_named o es && t && colour_named o ds) (any_in_order (λ (d : OfferDemand). names_modifier (first_match o d.entries)) ds es order)
-    ∙ ap (λ t. format_named o es && modifier_named o es && t) (any_in_order (λ (d : OfferDemand). names_colour o (first_match o d.entries)) ds es order))
+    ap (λ t. t && is_modifier_named o ds && is_colour_named o ds) (any_in_order (λ (d : OfferDemand). names_format (first_match o d.entries)) ds es order)
+    ∙ (ap (λ t. is_format_named o es && t && is_colour_named o ds) (any_in_order (λ (d : OfferDemand). names_modifier (first_match o d.entries)) ds es order)
+    ∙ ap (λ t. is_format_named o es && is_modifier_named o es && t) (any_in_order (λ (d : OfferDemand). names_colour o (first_match o d.entries)) ds es order))
 
 module _ (platform : PlatformFacts) (s : Settings) where
   -- sound settings that each participant accepts, with a count that suits all, and an image that is named

@@ -21,39 +21,39 @@ use Rattle.sysmem_proof.specs.Conflict.{RefusesOffer, RefusesPlace}
 use Rattle.sysmem_proof.specs.Members.{participants, member_at, members_at}
 use Rattle.sysmem_proof.specs.Naming.{Names}
 use Rattle.sysmem_proof.specs.Refusals.{StandFor}
-use Rattle.sysmem_proof.specs.Whom.{names, named, line_on}
+use Rattle.sysmem_proof.specs.Whom.{names, members_named, line_on}
 use Rattle.sysmem_proof.proofs.Finding.{some_are_named}
 use Rattle.sysmem_proof.proofs.Growing.{sub_none, sub_trans}
 use Rattle.sysmem_proof.proofs.OnRoll.{place_told}
 use Rattle.sysmem_proof.proofs.SettledNodes.{filter_sub}
 
 -- whom a line names are participants
-all_ask : (whom : Whom) (ms : List Member) → All (λ m. is_some m.constraints ≡ true) (named whom ms)
+all_ask : (whom : Whom) (ms : List Member) → All (λ m. is_some m.constraints ≡ true) (members_named whom ms)
 all_ask whom [] = All-nil (λ m. is_some m.constraints ≡ true)
 all_ask whom (m ∷ ms) = by m.constraints refl (option_map_or (names whom) m.constraints false) refl (all_ask whom ms) where
   by : (c : Option Participant) → m.constraints ≡ c → (t : Bool) → option_map_or (names whom) m.constraints false ≡ t
-      → All (λ m. is_some m.constraints ≡ true) (named whom ms) → All (λ m. is_some m.constraints ≡ true) (named whom (m ∷ ms))
+      → All (λ m. is_some m.constraints ≡ true) (members_named whom ms) → All (λ m. is_some m.constraints ≡ true) (members_named whom (m ∷ ms))
   by None none true is rest = (let e : option_map_or (names whom) None false ≡ true = subst (λ c. option_map_or (names whom) c false ≡ true) none is in absurd (cc))
-  by (Some p) some true is rest = rw is (All-cons (λ m. is_some m.constraints ≡ true) m (named whom ms) (ap is_some some) rest)
+  by (Some p) some true is rest = rw is (All-cons (λ m. is_some m.constraints ≡ true) m (members_named whom ms) (ap is_some some) rest)
   by c at false is rest = rw is rest
 
 -- and what they ask is asked by those of all whom it names
-asked_named : (whom : Whom) (ms : List Member) → participants (named whom ms) ≡ filter (names whom) (participants ms)
+asked_named : (whom : Whom) (ms : List Member) → participants (members_named whom ms) ≡ filter (names whom) (participants ms)
 asked_named whom [] = refl
 asked_named whom (m ∷ ms) = by m.constraints refl (asked_named whom ms) where
-  by : (c : Option Participant) → m.constraints ≡ c → participants (named whom ms) ≡ filter (names whom) (participants ms)
-      → participants (named whom (m ∷ ms)) ≡ filter (names whom) (participants (m ∷ ms))
+  by : (c : Option Participant) → m.constraints ≡ c → participants (members_named whom ms) ≡ filter (names whom) (participants ms)
+      → participants (members_named whom (m ∷ ms)) ≡ filter (names whom) (participants (m ∷ ms))
   by None is rest = rw is rest
   by (Some p) is rest = in_case (names whom p) refl where
-    in_case : (t : Bool) → names whom p ≡ t → participants (named whom (m ∷ ms)) ≡ filter (names whom) (participants (m ∷ ms))
+    in_case : (t : Bool) → names whom p ≡ t → participants (members_named whom (m ∷ ms)) ≡ filter (names whom) (participants (m ∷ ms))
     in_case true yes' = rw is (rw yes' (ap (λ ps. p ∷ ps) rest))
     in_case false no' = rw is (rw no' rest)
 
 -- among all members, those who stand for them are named
-pub names_those : (whom : Whom) (some all : List Member) → StandFor some all → Names all (map (λ m. m.path) (named whom some)) (filter (names whom) (participants all))
+pub names_those : (whom : Whom) (some all : List Member) → StandFor some all → Names all (map (λ m. m.path) (members_named whom some)) (filter (names whom) (participants all))
 names_those whom some all stand =
-    subst (Names all (map (λ m. m.path) (named whom some))) (asked_named whom some ∙ ap (filter (names whom)) stand.same)
-    (some_are_named (named whom some) all stand.apart (sub_trans (filter_sub (λ m. option_map_or (names whom) m.constraints false) some) stand.among) (all_ask whom some))
+    subst (Names all (map (λ m. m.path) (members_named whom some))) (asked_named whom some ∙ ap (filter (names whom)) stand.same)
+    (some_are_named (members_named whom some) all stand.apart (sub_trans (filter_sub (λ m. option_map_or (names whom) m.constraints false) some) stand.among) (all_ask whom some))
 
 -- one of some numbers
 one_of : (f : ℕ → Option Member) (ns : List ℕ) (n : ℕ) → Contains ns n → IsSublist (filter_map f (n ∷ [])) (filter_map f ns)
@@ -73,10 +73,10 @@ each_named (p ∷ ps) = ap (λ qs. p ∷ qs) (each_named ps)
 
 -- and one of them alone is
 pub names_one : (nodes : List NodeFacts) (ns : List ℕ) (node : ℕ) (all : List Member) → StandFor (members_at nodes ns) all → Contains ns node
-    → Names all (map (λ m. m.path) (named whoms.All (members_at nodes (node ∷ [])))) (participants (members_at nodes (node ∷ [])))
+    → Names all (map (λ m. m.path) (members_named whoms.All (members_at nodes (node ∷ [])))) (participants (members_at nodes (node ∷ [])))
 names_one nodes ns node all stand has =
-    subst (Names all (map (λ m. m.path) (named whoms.All (members_at nodes (node ∷ []))))) (asked_named whoms.All (members_at nodes (node ∷ [])) ∙ each_named (participants (members_at nodes (node ∷ []))))
-    (some_are_named (named whoms.All (members_at nodes (node ∷ []))) all stand.apart
+    subst (Names all (map (λ m. m.path) (members_named whoms.All (members_at nodes (node ∷ []))))) (asked_named whoms.All (members_at nodes (node ∷ [])) ∙ each_named (participants (members_at nodes (node ∷ []))))
+    (some_are_named (members_named whoms.All (members_at nodes (node ∷ []))) all stand.apart
     (sub_trans (filter_sub (λ m. option_map_or (names whoms.All) m.constraints false) (members_at nodes (node ∷ []))) (sub_trans (one_of (member_at nodes) ns node has) stand.among))
     (all_ask whoms.All (members_at nodes (node ∷ []))))
 

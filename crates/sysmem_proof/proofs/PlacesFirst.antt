@@ -22,7 +22,7 @@ use Rattle.sysmem_proof.specs.Certificate.{RefusePlacesBefore}
 use Rattle.sysmem_proof.specs.Conflict.{RefusesPlace}
 use Rattle.sysmem_proof.specs.Fault.{Faults, LineFaults, PlacesFault}
 use Rattle.sysmem_proof.specs.Line.{LineFacts}
-use Rattle.sysmem_proof.specs.PlacesBefore.{AreTold, PlaceLinesFault, place_if, places_in, up_to, places_before}
+use Rattle.sysmem_proof.specs.PlacesBefore.{AreTold, PlaceLinesFault, place_if, places_in, domains_before, places_before}
 use Rattle.sysmem_proof.proofs.LineByLine.{fault_at, front_more, front_split, missing_at, split_at, told_all, told_more, too_many}
 
 put_front : (t : Bool) (x : HeapPlace) (xs : List HeapPlace) → put_if t x xs ≡ put_if t x [] ++ xs
@@ -71,7 +71,7 @@ pub begin_with : (heaps : List HeapFacts) (k : ℕ) (h last : HeapFacts) (place 
     → (more : List HeapPlace) × (places_before heaps last place ≡ (places_of (take k heaps) ++ places_in k h h.domains) ++ more)
 begin_with heaps k h last place less is =
     let (rest, e) = front_split heaps k place.heap h less is in
-    let own = places_in place.heap last (up_to last.domains place.coherency) in (
+    let own = places_in place.heap last (domains_before last.domains place.coherency) in (
       places_from (k + 1) rest ++ own,
       ap (λ xs. xs ++ own) (ap places_of e ∙ (from_start (take k heaps) (h ∷ rest)
           ∙ (ap (λ n. places_of (take k heaps) ++ places_from n (h ∷ rest)) (long_front heaps k h is)
@@ -81,7 +81,7 @@ begin_with heaps k h last place less is =
 
 -- the places of a heap are those before one of its domains, that one, and others
 in_split : (i : ℕ) (h : HeapFacts) (s : CoherencyDomains) (d : CoherencyDomain) → IsTrue (has_domain s d)
-    → (behind : List HeapPlace) × (places_in i h s ≡ places_in i h (up_to s d) ++ record { place = record { heap = i; coherency = d }; heap = h } ∷ behind)
+    → (behind : List HeapPlace) × (places_in i h s ≡ places_in i h (domains_before s d) ++ record { place = record { heap = i; coherency = d }; heap = h } ∷ behind)
 in_split i h s Cpu has = by s.cpu has where
   by : (t : Bool) → IsTrue t → (behind : List HeapPlace) × (place_if t (record { heap = i; coherency = Cpu }) h
       ++ (place_if s.ram (record { heap = i; coherency = Ram }) h ++ place_if s.inaccessible (record { heap = i; coherency = Inaccessible }) h)
@@ -122,7 +122,7 @@ place_split heaps place h is =
     let (rest, e) = split_at heaps place.heap h is.heap in
     let (more, f) = in_split place.heap h h.domains place.coherency is.domain in
     let front = places_of (take place.heap heaps) in
-    let own = places_in place.heap h (up_to h.domains place.coherency) in
+    let own = places_in place.heap h (domains_before h.domains place.coherency) in
     let one : HeapPlace = record { place = place; heap = h } in
     let later = places_from (place.heap + 1) rest in (
       more ++ later,
@@ -156,7 +156,7 @@ apart : (i : ℕ) (h : HeapFacts) (a b : CoherencyDomain) → rank a < rank b �
     → q ≡ record { place = record { heap = i; coherency = b }; heap = h } → p ≢ q
 apart i h a b less p q one two same = let e : rank a ≡ rank b = ap (λ (x : HeapPlace). rank x.place.coherency) (sym one ∙ (same ∙ two)) in omega (arith, e, less)
 
-earlier_domains : (i : ℕ) (h : HeapFacts) (s : CoherencyDomains) (d : CoherencyDomain) → All (λ q. q ≢ record { place = record { heap = i; coherency = d }; heap = h }) (places_in i h (up_to s d))
+earlier_domains : (i : ℕ) (h : HeapFacts) (s : CoherencyDomains) (d : CoherencyDomain) → All (λ q. q ≢ record { place = record { heap = i; coherency = d }; heap = h }) (places_in i h (domains_before s d))
 earlier_domains i h s Cpu = All-nil (λ q. q ≢ record { place = record { heap = i; coherency = Cpu }; heap = h })
 earlier_domains i h s Ram = all_both (λ q. q ≢ record { place = record { heap = i; coherency = Ram }; heap = h }) (place_if s.cpu (record { heap = i; coherency = Cpu }) h) []
     (all_if (λ q. q ≢ record { place = record { heap = i; coherency = Ram }; heap = h }) s.cpu _ h (apart i h Cpu Ram (omega arith) _ _ refl refl)) (All-nil (λ q. q ≢ record { place = record { heap = i; coherency = Ram }; heap = h }))
@@ -167,7 +167,7 @@ earlier_domains i h s Inaccessible =
 
 -- none of those before a place is it
 pub before_differ : (heaps : List HeapFacts) (place : Place) (h : HeapFacts) → IsPlace heaps place h → All (λ q. q ≢ record { place = place; heap = h }) (places_before heaps h place)
-before_differ heaps place h is = all_both (λ q. q ≢ record { place = place; heap = h }) (places_of (take place.heap heaps)) (places_in place.heap h (up_to h.domains place.coherency))
+before_differ heaps place h is = all_both (λ q. q ≢ record { place = place; heap = h }) (places_of (take place.heap heaps)) (places_in place.heap h (domains_before h.domains place.coherency))
     (earlier_heaps 0 (take place.heap heaps) (record { place = place; heap = h }) (let e = long_front heaps place.heap h is.heap in omega (arith, e)))
     (earlier_domains place.heap h h.domains place.coherency)
 
@@ -265,12 +265,12 @@ module _ (ms : List Member) (heaps : List HeapFacts) (lines : List LineFacts) (p
       subst (λ xs. PlaceLinesFault ms xs lines why) (ap (λ d. (places_of (take k heaps) ++ places_in k h d) ++ more) same ∙ sym e) (f more)
 
   -- and those before it in that one
-  module _ (k : ℕ) (h : HeapFacts) (domains : CoherencyDomains) (end : k ≡ place.heap) (is : slice_get heaps place.heap ≡ Some h) (up : domains ≡ up_to h.domains place.coherency) where
+  module _ (k : ℕ) (h : HeapFacts) (domains : CoherencyDomains) (end : k ≡ place.heap) (is : slice_get heaps place.heap ≡ Some h) (up : domains ≡ domains_before h.domains place.coherency) where
     same : places_of (take k heaps) ++ places_in place.heap h domains ≡ places_before heaps last place
     same =
         let one : h ≡ last = same_Some h last (sym is ∙ here) in
         ap (λ n. places_of (take n heaps) ++ places_in place.heap h domains) end ∙ (ap (λ d. places_of (take place.heap heaps) ++ places_in place.heap h d) up
-        ∙ ap (λ (x : HeapFacts). places_of (take place.heap heaps) ++ places_in place.heap x (up_to x.domains place.coherency)) one)
+        ∙ ap (λ (x : HeapFacts). places_of (take place.heap heaps) ++ places_in place.heap x (domains_before x.domains place.coherency)) one)
 
     pub last_fails : (why : No) → ((more : List HeapPlace) → PlaceLinesFault ms ((places_of (take k heaps) ++ places_in place.heap h domains) ++ more) lines why)
         → PlaceLinesFault ms (places_before heaps last place) lines why

@@ -15,7 +15,7 @@ use Rattle.sysmem_memory.specs.Heap.{HeapFacts}
 use Rattle.sysmem_memory.specs.PlaceTable.{PlaceDemand, refuses_by}
 use Rattle.sysmem_merge.specs.declared.settings.Settings.{Settings}
 use Rattle.sysmem_merge.specs.Demands.{OfferDemand, counts_asked, place_demand, place_demands, offer_demands}
-use Rattle.sysmem_merge.specs.Offers.{entry_bounds, has_format, has_colour, Asks, bounds_asked, is_named, format_named, modifier_named, colour_named}
+use Rattle.sysmem_merge.specs.Offers.{entry_bounds, has_format, has_colour, Asks, bounds_asked, is_named, is_format_named, is_modifier_named, is_colour_named}
 use Rattle.sysmem_merge.specs.Reasons.{IsOfferLine, IsUnnamedLine}
 use Rattle.sysmem_merge.specs.Settings.{IsSound}
 use Rattle.sysmem_sanitise.specs.Platform.{PlatformFacts}
@@ -56,9 +56,9 @@ all_three true true false e = absurd (cc (e))
 all_three true false c e = absurd (cc (e))
 all_three false b c e = absurd (cc (e))
 
-names_of_image : (o : Offer) (ds : List OfferDemand) → o ≢ NoImage → is_named o ds ≡ true → (format_named o ds ≡ true) × (modifier_named o ds ≡ true) × (colour_named o ds ≡ true)
+names_of_image : (o : Offer) (ds : List OfferDemand) → o ≢ NoImage → is_named o ds ≡ true → (is_format_named o ds ≡ true) × (is_modifier_named o ds ≡ true) × (is_colour_named o ds ≡ true)
 names_of_image NoImage ds image named = absurd (image refl)
-names_of_image (Image pair colour) ds image named = all_three (format_named (Image pair colour) ds) (modifier_named (Image pair colour) ds) (colour_named (Image pair colour) ds) named
+names_of_image (Image pair colour) ds image named = all_three (is_format_named (Image pair colour) ds) (is_modifier_named (Image pair colour) ds) (is_colour_named (Image pair colour) ds) named
 
 unnamed_says : (field : Field) (o : Offer) (ds : List OfferDemand) → IsUnnamedLine field o ds → is_named o ds ≡ true → ⊥
 unnamed_says UnnamedPixelFormat o ds line named = cc (line.1, (names_of_image o ds line.0 named).0)

@@ -22,14 +22,14 @@ places_in i heap domains = place_if domains.cpu (record { heap = i; coherency = 
     ++ (place_if domains.ram (record { heap = i; coherency = Ram }) heap ++ place_if domains.inaccessible (record { heap = i; coherency = Inaccessible }) heap)
 
 -- the domains of a set that come before one
-abbrev pub up_to : CoherencyDomains → CoherencyDomain → CoherencyDomains
-up_to s Cpu = record { cpu = false; ram = false; inaccessible = false }
-up_to s Ram = record { cpu = s.cpu; ram = false; inaccessible = false }
-up_to s Inaccessible = record { cpu = s.cpu; ram = s.ram; inaccessible = false }
+abbrev pub domains_before : CoherencyDomains → CoherencyDomain → CoherencyDomains
+domains_before s Cpu = record { cpu = false; ram = false; inaccessible = false }
+domains_before s Ram = record { cpu = s.cpu; ram = false; inaccessible = false }
+domains_before s Inaccessible = record { cpu = s.cpu; ram = s.ram; inaccessible = false }
 
 -- the places before one that is in this heap
 abbrev pub places_before : List HeapFacts → HeapFacts → Place → List HeapPlace
-places_before heaps heap place = places_of (take place.heap heaps) ++ places_in place.heap heap (up_to heap.domains place.coherency)
+places_before heaps heap place = places_of (take place.heap heaps) ++ places_in place.heap heap (domains_before heap.domains place.coherency)
 
 -- the first lines, so many, refuse these places
 pub record AreTold (ms : List Member) (places : List HeapPlace) (lines : List LineFacts) (many : ℕ) : Type 0 where

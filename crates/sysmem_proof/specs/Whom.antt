@@ -20,9 +20,9 @@ names (WithEntry o) p = has_entry o (offer_demand p)
 names Nobody p = false
 
 -- the members who are
-abbrev pub named : Whom → List Member → List Member
-named whom ms = filter (λ m. option_map_or (names whom) m.constraints false) ms
+abbrev pub members_named : Whom → List Member → List Member
+members_named whom ms = filter (λ m. option_map_or (names whom) m.constraints false) ms
 
 -- the line that names them among these nodes
 abbrev pub line_on : List NodeFacts → List ℕ → Field → Whom → LineFacts
-line_on nodes ns field whom = record { field = field; nodes = map (λ m. m.path) (named whom (members_at nodes ns)) }
+line_on nodes ns field whom = record { field = field; nodes = map (λ m. m.path) (members_named whom (members_at nodes ns)) }

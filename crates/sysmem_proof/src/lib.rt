@@ -50,4 +50,5 @@ pub use finder::{LinesBefore, find_conflict, find_conflict_as, lines_before};
 pub use line::{Line, Lines};
 pub use no::No;
 pub use refutation::{Item, Refutation};
+pub use selecting::MOST_SELECTIONS;
 pub use verdict::{Chosen, Verdict};

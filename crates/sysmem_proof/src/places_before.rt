@@ -7,7 +7,7 @@ ghost use Rattle.sysmem_memory.specs.Listed.{HeapPlace};
 ghost use Rattle.sysmem_memory.specs.Place.{IsPlace};
 ghost use Rattle.sysmem_proof.specs.Certificate.{RefusePlacesBefore};
 ghost use Rattle.sysmem_proof.specs.Conflict.{RefusesPlace};
-ghost use Rattle.sysmem_proof.specs.PlacesBefore.{AreTold, PlaceLinesFault, place_if, places_before, places_in, up_to};
+ghost use Rattle.sysmem_proof.specs.PlacesBefore.{AreTold, PlaceLinesFault, place_if, places_before, places_in, domains_before};
 ghost use Rattle.sysmem_proof.specs.Fault.{PlacesFault};
 ghost use Rattle.sysmem_proof.specs.Roll.{listed};
 
@@ -21,7 +21,7 @@ use sysmem_sanitise::Platform;
 
 /// The domains of a set that come before this one.
 fn domains_before(domains: CoherencyDomains, domain: CoherencyDomain) -> CoherencyDomains
-    ensures { result ≡ up_to domains domain }
+    ensures { result ≡ domains_before domains domain }
 {
     match domain {
         CoherencyDomain::Cpu => CoherencyDomains::NONE,

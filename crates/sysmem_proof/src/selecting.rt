@@ -15,7 +15,7 @@ use sysmem_tree::layout_laws::{
 use sysmem_tree::{DomainId, Layout, Prefix, Tree};
 
 /// The most selections that a decision goes through.
-const MOST_SELECTIONS: u64 = 4096;
+pub const MOST_SELECTIONS: u64 = 4096;
 
 /// Whether a domain has no more selections than a decision goes through.
 pub(crate) fn are_few(tree: &Tree, domain: DomainId) -> bool

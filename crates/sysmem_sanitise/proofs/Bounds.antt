@@ -4,10 +4,11 @@ use Rattle.std.specs.Prelude.{max}
 use Rattle.std.proofs.Math.Bridge.{le_prop}
 use Rattle.serde_json.specs.Data.{Data}
 use Rattle.sysmem_image.specs.declared.entry.EntryBounds.{EntryBounds}
+use Rattle.sysmem_image.specs.Entries.{some_max}
 use Rattle.sysmem_image.specs.declared.size.Size.{Size}
 use Rattle.sysmem_image.specs.Size.{most_multiple}
 use Rattle.sysmem_sanitise.specs.declared.fault.Fault.{Fault}
-use Rattle.sysmem_sanitise.specs.Reading.Bounds.{StatedBounds, stated_bounds, stated_by, bounds_by, bounds_of, some_sides, some_max, divisor_read, some_divisor, small_divisor_of}
+use Rattle.sysmem_sanitise.specs.Reading.Bounds.{StatedBounds, stated_bounds, stated_by, bounds_by, bounds_of, some_sides, divisor_read, some_divisor, small_divisor_of}
 use Rattle.sysmem_sanitise.specs.Reading.Fields.{seen_by, ◌>>=◌}
 
 -- numbers of bounds that are 1 or more where they must be

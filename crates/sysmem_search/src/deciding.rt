@@ -12,12 +12,9 @@ use crate::question::Question;
 use crate::searching::search_from;
 use crate::trail::Trail;
 use std::alloc::{AllocError, Global};
-use sysmem_proof::{Base, Certificate, Chosen, Proof, Verdict, lines_before};
+use sysmem_proof::{Base, Certificate, Chosen, MOST_SELECTIONS, Proof, Verdict, lines_before};
 use sysmem_sanitise::Platform;
 use sysmem_tree::{DomainId, Tree};
-
-/// The most selections that a decision goes through.
-pub const MOST_SELECTIONS: u64 = 4096;
 
 /// What a search found.
 #[derive(Debug, Drop)]

@@ -16,5 +16,5 @@ mod searching;
 mod settling;
 mod trail;
 
-pub use deciding::{Found, MOST_SELECTIONS, search};
+pub use deciding::{Found, search};
 pub use gate::{Gate, NoGate};

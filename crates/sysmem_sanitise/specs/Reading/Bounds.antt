@@ -7,6 +7,7 @@ use Rattle.serde_json.specs.Find.{get}
 use Rattle.sysmem_counts.specs.declared.field.Field.{Field}
 use Rattle.sysmem_counts.specs.declared.field.Field.TheVariants as field
 use Rattle.sysmem_image.specs.declared.entry.EntryBounds.{EntryBounds}
+use Rattle.sysmem_image.specs.Entries.{some_max}
 use Rattle.sysmem_image.specs.declared.size.Size.{Size}
 use Rattle.sysmem_counts.specs.Bounds.{most_number}
 use Rattle.sysmem_sanitise.specs.declared.fault.Code.TheVariants as code
@@ -131,9 +132,6 @@ stated_bounds d = do
     max_width_times_height = max_width_times_height;
     at_pixel_boundary = at_pixel_boundary;
   })
-
-pub some_max : (n : ℕ) → 1 ≤ max n 1
-some_max n = omega arith
 
 -- a row divisor is 1 to 65,536, as it is read
 abbrev pub divisor_read : ℕ → ℕ

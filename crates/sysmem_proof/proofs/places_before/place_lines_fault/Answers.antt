@@ -1,7 +1,7 @@
 -- One heap after the other, and then those before the place in its own.
 use Rattle.std.proofs.Common.{◌≡◌, ◌<◌, ◌∙◌, length, ap, arith}
 use Rattle.sysmem_memory.specs.Heap.{HeapFacts}
-use Rattle.sysmem_proof.specs.PlacesBefore.{up_to}
+use Rattle.sysmem_proof.specs.PlacesBefore.{domains_before}
 use Rattle.sysmem_proof.specs.Roll.{listed}
 use Rattle.sysmem_proof.proofs.Left.{of_err}
 use Rattle.sysmem_proof.proofs.PlacesFirst.{read_heap, heap_told, heap_fails, last_fails, last_all, all_held, one_more}
@@ -26,7 +26,7 @@ pub returns-in_err-all : goal.returns-in_err-all
 returns-in_err-all c = λ last here.
     let at = read_heap c.args.heaps.now c.args.place.heap c.index-heaps-place.result c.index-heaps-place.is c.requires in
     let end : c.loop-index.index ≡ c.args.place.heap = omega (arith, c.loop-index-test.false, c.loop-index.auto.index-end) in
-    let up = c.domains_before-domains.ensures ∙ ap (λ (h : HeapFacts). up_to h.domains c.args.place.coherency) c.last.view_is in
+    let up = c.domains_before-domains.ensures ∙ ap (λ (h : HeapFacts). domains_before h.domains c.args.place.coherency) c.last.view_is in
     of_err c.from_residual-in_err-all.result _ _ _ c.from_residual-in_err-all.ensures.1 (λ y same. same)
     (last_fails (listed c.args.roll.now) c.args.heaps.now c.args.lines.now c.args.place last here c.loop-index.index c.index-heaps-place.result c.domains_before-domains.result end at up c.in_err-all.field-0.0
     (c.in_err-all.ensures _ c.loop-index.invariant))
@@ -35,7 +35,7 @@ pub returns-then-all-lines : goal.returns-then-all-lines
 returns-then-all-lines c = λ last here.
     let at = read_heap c.args.heaps.now c.args.place.heap c.index-heaps-place.result c.index-heaps-place.is c.requires in
     let end : c.loop-index.index ≡ c.args.place.heap = omega (arith, c.loop-index-test.false, c.loop-index.auto.index-end) in
-    let up = c.domains_before-domains.ensures ∙ ap (λ (h : HeapFacts). up_to h.domains c.args.place.coherency) c.last.view_is in
+    let up = c.domains_before-domains.ensures ∙ ap (λ (h : HeapFacts). domains_before h.domains c.args.place.coherency) c.last.view_is in
     one_more (listed c.args.roll.now) c.args.heaps.now c.args.lines.now c.args.place last here c.in_ok-all.all c.if-all-lines.true
     (last_all (listed c.args.roll.now) c.args.heaps.now c.args.lines.now c.args.place last here c.loop-index.index c.index-heaps-place.result c.domains_before-domains.result end at up c.in_ok-all.all
     (c.in_ok-all.ensures _ c.loop-index.invariant))
@@ -44,7 +44,7 @@ pub returns : goal.returns
 returns c = λ last here.
     let at = read_heap c.args.heaps.now c.args.place.heap c.index-heaps-place.result c.index-heaps-place.is c.requires in
     let end : c.loop-index.index ≡ c.args.place.heap = omega (arith, c.loop-index-test.false, c.loop-index.auto.index-end) in
-    let up = c.domains_before-domains.ensures ∙ ap (λ (h : HeapFacts). up_to h.domains c.args.place.coherency) c.last.view_is in
+    let up = c.domains_before-domains.ensures ∙ ap (λ (h : HeapFacts). domains_before h.domains c.args.place.coherency) c.last.view_is in
     all_held (listed c.args.roll.now) c.args.heaps.now c.args.lines.now c.args.place last here c.in_ok-all.all c.if-all-lines.false
     (last_all (listed c.args.roll.now) c.args.heaps.now c.args.lines.now c.args.place last here c.loop-index.index c.index-heaps-place.result c.domains_before-domains.result end at up c.in_ok-all.all
     (c.in_ok-all.ensures _ c.loop-index.invariant))

@@ -1,7 +1,7 @@
 -- Those so far whom the line names.
 use Rattle.std.proofs.Common.{◌≡◌, map, take}
 use Rattle.sysmem_proof.specs.Members.{members_at}
-use Rattle.sysmem_proof.specs.Whom.{named}
+use Rattle.sysmem_proof.specs.Whom.{members_named}
 use Rattle.sysmem_proof.proofs.whom.line_of.Given as goal
 
 abbrev pub invariant-loop-node : goal.invariant-loop-node
