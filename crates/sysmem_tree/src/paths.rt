@@ -7,17 +7,28 @@ ghost use Rattle.sysmem_tree.specs.Nodes.{IsTree};
 use crate::node::Node;
 use std::alloc::{AllocError, Global};
 
-/// This child of this parent.
-fn child_of(nodes: &[Node], parent: usize, ordinal: u32) -> Option<usize>
+/// This child of a parent, among these nodes.
+fn child_among(nodes: &[Node], parent: usize, ordinal: u32) -> Option<usize>
     ensures child { result ≡ child_of nodes.now parent ordinal }
     ensures there { IfSome result (λ number. number < length nodes.now) }
 {
     nodes.iter().position(|node| node.is_child(parent, ordinal))
 }
 
+/// This child of this parent: one of the nodes behind it.
+fn child_of(nodes: &[Node], parent: usize, ordinal: u32) -> Option<usize>
+    requires tree { IsTree nodes.now }
+    requires parent { parent < length nodes.now }
+    ensures child { result ≡ child_of nodes.now parent ordinal }
+    ensures there { IfSome result (λ number. number < length nodes.now) }
+{
+    let behind = child_among(&nodes[parent + 1..], parent, ordinal)?;
+    Some(parent + 1 + behind)
+}
+
 /// The node at a path from the first node.
 pub(crate) fn node_at(nodes: &[Node], path: &[u32]) -> Option<usize>
-    requires { 0 < length nodes.now }
+    requires tree { IsTree nodes.now }
     ensures node { result ≡ node_at nodes.now path.now }
     ensures there { IfSome result (λ number. number < length nodes.now) }
 {
