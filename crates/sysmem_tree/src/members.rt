@@ -26,7 +26,7 @@ fn mark(layout: &Layout, from: usize, to: usize, marks: &mut [bool; 128])
     let mut at = from;
     while at < to {
         let place = layout.places[at];
-        marks[place.node] = true;
+        marks[place.node as usize] = true;
         at = past(&place, at);
     }
 }
@@ -47,8 +47,8 @@ pub(crate) fn marks_after(layout: &Layout, choices: &[u8]) -> [bool; 128]
         let Some(at) = group else {
             return marks;
         };
-        let kid = layout.child(at, *choice);
-        mark(layout, kid, layout.places[kid].end, &mut marks);
+        let kid = layout.child(at as usize, *choice);
+        mark(layout, kid, layout.places[kid].end as usize, &mut marks);
         group = layout.places[kid].next;
     }
     marks

@@ -25,8 +25,8 @@ pub(crate) fn next_group(nodes: &[Node], root: usize, prefix: &Prefix) -> Option
     match layout.group_after(prefix.choices()) {
         None => None,
         Some(at) => {
-            let place = layout.places[at];
-            Some((NodeId(place.node), place.children))
+            let place = layout.places[at as usize];
+            Some((NodeId(place.node as usize), place.children as u32))
         }
     }
 }
