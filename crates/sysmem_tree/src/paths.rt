@@ -39,7 +39,22 @@ pub(crate) fn node_at(nodes: &[Node], path: &[u32]) -> Option<usize>
     Some(number)
 }
 
-/// The path to a node from the first one.
+/// How many steps the path to a node from the first one has.
+fn depth(nodes: &[Node], node: usize) -> usize
+    requires tree { IsTree nodes.now }
+    requires there { node < length nodes.now }
+    ensures { result ≡ length (path_of nodes.now node) }
+{
+    let mut steps = 0;
+    let mut number = node;
+    while let Some(birth) = nodes[number].birth() {
+        steps += 1;
+        number = birth.parent;
+    }
+    steps
+}
+
+/// The path to a node from the first one, with room for its own steps alone.
 pub(crate) fn path_to(alloc: Global, nodes: &[Node], node: usize) -> Result<Vec<u32>, AllocError>
     requires tree { IsTree nodes.now }
     requires there { node < length nodes.now }
@@ -48,7 +63,7 @@ pub(crate) fn path_to(alloc: Global, nodes: &[Node], node: usize) -> Result<Vec<
     ensures only { IfOk result
         (λ path. (other : List ℕ) → node_at nodes.now other ≡ Some node → other ≡ path.items) }
 {
-    let mut path = Vec::new(alloc);
+    let mut path = Vec::with_capacity(alloc, depth(nodes, node))?;
     let mut number = node;
     while let Some(birth) = nodes[number].birth() {
         path.push(birth.ordinal)?;
