@@ -1,4 +1,5 @@
--- What callers need of the definitions of records, and that what `==` calls equal is equal.
+-- What callers need of the definitions of records, of what names name, and that what `==` calls equal is equal.
+pub use Rattle.sysmem_sanitise.proofs.Names.{named_by, format_found, modifier_found, colour_found, domain_found, own_format_name, own_modifier_name, own_colour_name, own_domain_name}
 pub use Rattle.sysmem_sanitise.proofs.Same.{same_pair, same_colour, same_bounds}
 use Rattle.std.proofs.Common.{◌≡◌}
 use Rattle.sysmem_image.specs.declared.entry.EntryBounds.{EntryBounds}
