@@ -66,7 +66,9 @@ pub(crate) fn proved_claim_for(alloc: Global, book: &Book, domain: DomainId) -> 
     let Ok(base) = book.base(domain) else {
         return None;
     };
-    let Ok(claim) = searched_and_proved(alloc, book.platform(), book.tree(), domain, base.as_ref()) else {
+    let platform = book.platform();
+    let tree = book.tree();
+    let Ok(claim) = proved_claim(alloc, platform, tree, domain, base.as_ref()) else {
         return None;
     };
     let Ok(shared) = Arc::new(alloc, claim) else {
@@ -76,7 +78,7 @@ pub(crate) fn proved_claim_for(alloc: Global, book: &Book, domain: DomainId) -> 
 }
 
 /// What a search finds, with what proves it.
-fn searched_and_proved(
+fn proved_claim(
     alloc: Global,
     platform: &Platform,
     tree: &Tree,
