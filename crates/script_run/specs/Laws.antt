@@ -11,7 +11,7 @@ use Rattle.certificate_text.specs.Said.{claim_said}
 use Rattle.certificate_text.specs.Told.{decision_data}
 use Rattle.script_reading.specs.declared.fault.ScriptFault.{ScriptFault}
 use Rattle.script_reading.specs.Text.{IsJson}
-use Rattle.script_run.specs.Certificate.{CertifiedFacts, CertifiesTo, certificate_of, data_of}
+use Rattle.script_run.specs.Certificate.{AreProved, CertifiedFacts, CertifiesTo, certificate_of, data_of}
 use Rattle.script_run.specs.declared.checked_file.CheckAnswer.{CheckAnswer}
 use Rattle.script_run.specs.CheckedFile.{ChecksTo}
 use Rattle.script_run.specs.Outcome.{ReportFacts, RunsTo}
@@ -55,11 +55,11 @@ pub record AreReadBack (platform : PlatformFacts) (decisions : List Certified) :
   pub spelled : IsJson (certificate_of platform decisions) (array (items_of (data_of platform decisions)))
   pub each : All (λ c. claim_said platform (decision_data platform c.0 c.1) ≡ Some (c.0, claim_told c.1)) decisions
 
--- the certificate of a report on a platform of the profile is read back
+-- the certificate of a report on a platform of the profile, whose decisions have their proofs, is read back
 abbrev pub CertificatesReadBack : Type 0
 CertificatesReadBack = (platform : PlatformFacts) (rs : List CallFacts) (text : List ℕ) (decisions : List Certified) (starved : Bool)
     → IsPlatform platform.heaps platform.pairs platform.colours → HasHeapIds platform
-    → IsReport platform rs text decisions starved → AreReadBack platform decisions
+    → IsReport platform rs text decisions starved → AreProved decisions → AreReadBack platform decisions
 
 -- the bytes of a script and of a certificate give one answer, in one text
 abbrev pub OneCheck : Type 0
