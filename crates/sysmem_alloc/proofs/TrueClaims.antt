@@ -9,7 +9,7 @@ use Rattle.sysmem_proof.specs.Base.{BaseFacts}
 use Rattle.sysmem_proof.specs.Claim.{IsProofIn, IsTrueClaim}
 use Rattle.sysmem_sanitise.specs.Platform.{PlatformFacts}
 use Rattle.sysmem_tree.specs.Node.{NodeFacts}
-use Rattle.sysmem_alloc.specs.Claims.{HasProof, IsBare, IsRightClaim}
+use Rattle.sysmem_alloc.specs.Claims.{HasProof, IsRightClaim}
 use Rattle.sysmem_alloc.specs.Laws.{ProvedClaimsAreTrue}
 
 module _ (platform : PlatformFacts) (nodes : List NodeFacts) (domain : ℕ) (base : Option BaseFacts) where

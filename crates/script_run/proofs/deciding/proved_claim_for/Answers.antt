@@ -1,4 +1,4 @@
-use Rattle.std.proofs.Common.{◌≡◌, sym, ◌∙◌, subst}
+use Rattle.std.proofs.Common.{sym, ◌∙◌, subst}
 use Rattle.sysmem_alloc.specs.Claims.{HasProof}
 use Rattle.sysmem_alloc.specs.Sound.{MayWait}
 use Rattle.sysmem_alloc.specs.State.{base_of}

@@ -7,7 +7,7 @@ use Rattle.script_run.proofs.Spelling.{fault-so, runs-so}
 use Rattle.script_run.proofs.running.certified_report.Goals as goal
 
 pub report_on-requires : goal.report_on-requires
-report_on-requires c = λ platform. (c.in-Ok-new.ensures, All-nil IsProved)
+report_on-requires c = λ platform. (c.in-Ok.ensures, All-nil IsProved)
 
 pub returns-in-Err : goal.returns-in-Err
 returns-in-Err c = fault-so _ _ c.in-Err.fault c.in-Err.ensures
