@@ -1,5 +1,5 @@
 -- A report's certificate is accepted by a check.
-use Rattle.std.proofs.Common.{◌≡◌, ℕ, ◌+◌, ◌||◌, ◌≤◌, ◌++◌, List, [], ◌∷◌, length, Bool, true, false, Option, Some, None, Result, Ok, Err, refl, sym, ◌∙◌, ap, subst, map}
+use Rattle.std.proofs.Common.{◌≡◌, ℕ, ◌+◌, ◌≤◌, List, [], ◌∷◌, length, Bool, false, Option, Some, None, Result, Ok, Err, refl, sym, ◌∙◌, ap, subst}
 use Rattle.std.specs.Prelude.{is_none}
 use Rattle.std.specs.List.{AllByRecursion, AllZip}
 use Rattle.std.specs.Io.KnownBytes.{Appends}
@@ -13,17 +13,16 @@ use Rattle.script_reading.proofs.CallerLemmas.{script_ids, script_platform}
 use Rattle.script_reading.specs.Script.{CallFacts, ScriptFacts}
 use Rattle.script_reading.specs.Text.{IsJson, longest, not_json, spelled, too_long, Outcome}
 use Rattle.script_reading.specs.declared.fault.ScriptFault.{ScriptFault}
-use Rattle.sysmem_alloc.specs.Decision.{Claimed, answer_of}
+use Rattle.sysmem_alloc.specs.Decision.{answer_of}
 use Rattle.sysmem_proof.specs.declared.certificate.Claim.{Claim}
 use Rattle.sysmem_sanitise.specs.Platform.{PlatformFacts}
-use Rattle.script_run.specs.Certificate.{AreProved, CertifiedFacts, CertifiesTo, IsCertifiedBy, IsProved, certificate_of, data_of}
+use Rattle.script_run.specs.Certificate.{CertifiedFacts, IsCertifiedBy, IsProved, certificate_of, data_of}
 use Rattle.script_run.specs.Checked.{AreTaken, IsOf, accepts}
 use Rattle.script_run.specs.CheckedFile.{ChecksTo, EndsInYes, HasChecked, IsListOf, IsScriptOf, answer_text}
 use Rattle.script_run.specs.Laws.{AreReadBack, CertificatesAreAccepted, CertificatesReadBack, CertifiedIsReport, FaultIsAlone, OneCheck, claim_told}
 use Rattle.script_run.specs.Outcome.{ReportFacts, RunsTo, ValueRunsTo, refused, reported}
-use Rattle.script_run.specs.Report.{Certified, Goes, IsReported, calls, decides, stays, certified, with_decision}
+use Rattle.script_run.specs.Report.{Certified, Goes, IsReported, calls, decides, stays, with_decision}
 use Rattle.script_run.specs.State.{RunState}
-use Rattle.script_run.specs.declared.checked_file.CheckAnswer.{CheckAnswer}
 use Rattle.script_run.specs.declared.checked_file.CheckAnswer.TheVariants as answers
 use Rattle.script_run.specs.declared.fault.RunFault.{RunFault}
 use Rattle.script_run.specs.declared.fault.RunFault.TheVariants as faults
