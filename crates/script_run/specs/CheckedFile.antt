@@ -18,7 +18,7 @@ use Rattle.script_run.specs.declared.checked_file.CheckAnswer.{CheckAnswer}
 use Rattle.script_run.specs.declared.checked_file.CheckAnswer.TheVariants as answers
 use Rattle.script_run.specs.declared.decider.Objection.{Objection}
 use Rattle.script_run.specs.declared.fault.RunFault.{RunFault}
-use Rattle.script_run.specs.declared.fault.RunFault.TheVariants.{NoMemory, Write, Script, Proof}
+use Rattle.script_run.specs.declared.fault.RunFault.TheVariants.{NoMemory, Read, Write, Script, Proof}
 use Rattle.script_run.specs.declared.running.Ended.{Ended}
 use Rattle.script_run.specs.declared.running.Ended.TheVariants.{Done, MemoryRefused, CheckedNo}
 
@@ -118,3 +118,16 @@ pub record HasChecked (result : Result Ended RunFault) (had proof before after :
 abbrev pub IsScriptFault : Result Ended RunFault → Type 0
 IsScriptFault (Err (Script fault)) = ⊤
 IsScriptFault _ = ⊥
+
+-- a reader, the writer or memory failed: nothing is said of the script, nor of the certificate
+abbrev pub IsOutside : RunFault → Type 0
+IsOutside Read = ⊤
+IsOutside Write = ⊤
+IsOutside NoMemory = ⊤
+IsOutside fault = ⊥
+
+-- how a check ends of bytes whose answer is yes, of so many objects: that was written, or a reader, the writer or memory failed
+abbrev pub EndsInYes : ℕ → Option (List ℕ) → Option (List ℕ) → Result Ended RunFault → Type 0
+EndsInYes many before after (Ok Done) = Appends before after (answer_text answers.Yes many)
+EndsInYes many before after (Ok ended) = ⊥
+EndsInYes many before after (Err fault) = IsOutside fault
