@@ -26,7 +26,7 @@ data_of platform decisions = map (λ c. decision_data platform c.0 c.1) decision
 abbrev pub certificate_of : PlatformFacts → List Certified → List ℕ
 certificate_of platform decisions = certificate_text (data_of platform decisions)
 
--- a text is that of the decisions, and each has its proof, where memory was not wanted
+-- a text is that of the decisions, and each that has a claim has its proof
 pub record IsCertifiedBy (certificate : List ℕ) (platform : PlatformFacts) (decisions : List Certified) : Type 0 where
   pub text : certificate ≡ certificate_of platform decisions
   pub proved : AreProved decisions

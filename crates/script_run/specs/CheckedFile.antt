@@ -119,7 +119,7 @@ abbrev pub IsScriptFault : Result Ended RunFault → Type 0
 IsScriptFault (Err (Script fault)) = ⊤
 IsScriptFault _ = ⊥
 
--- a reader, the writer or memory failed: nothing is said of the script, nor of the certificate
+-- a reader, the writer or memory failed: no fault of the script or of the certificate
 abbrev pub IsOutside : RunFault → Type 0
 IsOutside Read = ⊤
 IsOutside Write = ⊤

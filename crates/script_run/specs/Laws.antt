@@ -68,8 +68,8 @@ CertificatesReadBack = (platform : PlatformFacts) (rs : List CallFacts) (text : 
 abbrev pub OneCheck : Type 0
 OneCheck = (input certificate : List ℕ) (a b : CheckAnswer) (s t : List ℕ) → ChecksTo input certificate a s → ChecksTo input certificate b t → (a ≡ b) × (s ≡ t)
 
--- the bytes are a script, and have a report with this certificate; with it they answer yes, of as many objects as there are decisions, and no
--- check of them ends in anything else
+-- the bytes are a script, and have a report with this certificate; with it they answer yes, of as many objects as there are decisions, and
+-- each check of them writes that, unless a reader, the writer or memory fails
 pub record IsAccepted (input : List ℕ) (c : CertifiedFacts) : Type 0 where
   pub script : ScriptFacts
   pub reads : IsScriptOf input script

@@ -9,15 +9,15 @@ use Rattle.sysmem_proof.specs.Verdict.{IsOptimalIn}
 use Rattle.sysmem_sanitise.specs.Platform.{PlatformFacts}
 use Rattle.sysmem_tree.specs.Node.{NodeFacts}
 
--- nothing is to prove the verdict
+-- a claim comes without a proof
 abbrev pub IsBare : Claim → Type 0
 IsBare claim = claim.proof ≡ Nothing
 
--- what is to prove it is there: a claim is bare only of too many selections, which need no proof
+-- a claim comes with some proof, unless its verdict is too many selections, which needs none
 abbrev pub HasProof : Claim → Type 0
 HasProof claim = IsBare claim → claim.verdict ≡ TooMany
 
--- a claim is right for a domain of a tree: its verdict is optimal, and what is to prove it, if anything is, proves it
+-- a claim is right for a domain of a tree: its verdict is optimal, and it is bare or its proof proves the verdict
 pub record IsRightClaim (platform : PlatformFacts) (nodes : List NodeFacts) (domain : ℕ) (base : Option BaseFacts) (claim : Claim) : Type 0 where
   pub optimal : IsOptimalIn platform nodes domain base claim.verdict
   pub proved : IsBare claim ⊎ IsProofIn platform nodes domain base claim.verdict claim.proof
