@@ -7,7 +7,8 @@ use Rattle.sysmem_image.specs.declared.bounds.ImageBounds.{ImageBounds}
 use Rattle.sysmem_image.specs.declared.size.Size.{Size}
 use Rattle.sysmem_image.specs.Bounds.{IsOwn}
 use Rattle.sysmem_image.specs.Fields as f
-use Rattle.certificate_text.specs.SettingsSaid.{Numbers, numbers_of, bounds_by, some_sides, square, no_bounds}
+use Rattle.sysmem_sanitise.specs.Reading.Bounds.{some_sides}
+use Rattle.certificate_text.specs.SettingsSaid.{Numbers, numbers_of, bounds_by, square, no_bounds}
 
 -- numbers of bounds that are 1 or more where they must be
 record AreSome (s : Numbers) : Type 0 where

@@ -21,7 +21,8 @@ use Rattle.sysmem_sanitise.specs.Reading.Names.{find_named, formats, modifiers, 
 use Rattle.certificate_text.specs.CanBeRead.{HasSteps}
 use Rattle.certificate_text.specs.Fields.{all_fields, field_named}
 use Rattle.certificate_text.specs.Paths.{steps_text, path_text}
-use Rattle.certificate_text.proofs.Names.{own_name, own_format_name, own_modifier_name, own_colour_name, own_domain_name}
+use Rattle.sysmem_sanitise.proofs.CallerLemmas.{own_format_name, own_modifier_name, own_colour_name, own_domain_name}
+use Rattle.certificate_text.proofs.Names.{own_name}
 
 -- what is found of a list has what all of it have
 found_has : {X : Type 0} (p : X → Bool) (name_of : X → List ℕ) (xs : List X) (name : List ℕ) (x : X) → find_named name_of xs name ≡ Some x → list_all p xs ≡ true → p x ≡ true

@@ -25,7 +25,8 @@ use Rattle.sysmem_proof.specs.Conflict.{RefusesPlace, RefusesOffer, IsConflictFo
 use Rattle.sysmem_proof.specs.Line.{LineFacts}
 use Rattle.sysmem_proof.specs.Naming.{same_path, asked_at, IsTrueOf}
 use Rattle.certificate_text.specs.CanBeRead.{HasSteps, NamesNodes, IsReadableConflict, IsReadableItem, IsReadableRefutation, IsReadableCertificate}
-use Rattle.certificate_text.proofs.Shapes.{HasPath, both_all, in_settled, accepted_paths, IsReached, whole_reached, choice_reached, choices_reached, selected_reached, reached_paths, few_there}
+use Rattle.sysmem_proof.proofs.CallerLemmas.{both_all, in_settled}
+use Rattle.certificate_text.proofs.Shapes.{HasPath, accepted_paths, IsReached, whole_reached, choice_reached, choices_reached, selected_reached, reached_paths, few_there}
 
 -- ---- lines
 
@@ -71,7 +72,7 @@ module _ (nodes : List NodeFacts) (r : ℕ) (tree : IsTree nodes) (one : Choices
   terms base = option_map (terms_of nodes) base
 
   reached_settled : (e : Forest Member) → IsReached nodes r tree e → AllOf HasPath (settled e)
-  reached_settled e reached = in_settled e (reached_paths nodes r tree e reached)
+  reached_settled e reached = in_settled HasPath e (reached_paths nodes r tree e reached)
 
   conflict_fits : (base : Option BaseFacts) (e : Forest Member) → IsReached nodes r tree e → (c : Conflict) → IsConflictFor platform (terms base) e c → IsReadableConflict c
   conflict_fits None e reached (Count line) h = named_steps (settled e) (reached_settled e reached) line.nodes _ h

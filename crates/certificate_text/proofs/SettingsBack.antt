@@ -34,7 +34,7 @@ use Rattle.certificate_text.specs.Reading.{◌>>=◌, number_to, at_key, named_a
 use Rattle.certificate_text.specs.SettingsSaid.{any_number, unless_zero, some_number, size_said, any_size, unless_flat, some_size, product_said, numbers_said, bounds_by, numbers_of, bounds_beside, offered, image_said, offer_said, is_heap, heap_said, place_at, place_said, settings_said}
 use Rattle.certificate_text.specs.Told.{heap_data, image_data, image_bounds_data, settings_data}
 use Rattle.certificate_text.proofs.BoundsLemmas.{bounds_by-numbers_of, own_is_no_bounds}
-use Rattle.certificate_text.proofs.Names.{own_format_name, own_modifier_name, own_colour_name, own_domain_name}
+use Rattle.sysmem_sanitise.proofs.CallerLemmas.{own_format_name, own_modifier_name, own_colour_name, own_domain_name}
 use Rattle.certificate_text.proofs.RefutationsBack.{first, at_back, number_back}
 
 -- what a text at a key names is read

@@ -3,20 +3,19 @@ use Rattle.std.proofs.Common.{◌≡◌, ℕ, suc, ◌+◌, ◌<◌, ◌≤◌, 
 use Rattle.std.specs.List.{cons_option}
 use Rattle.std.specs.Prelude.{if◌then◌else◌}
 use Rattle.std.proofs.lemmas.List.Elements.{All-nil, All-cons}
-use Rattle.std.proofs.lemmas.Option.{same_Some, none-some, slice_get_within, option_and_then_some}
+use Rattle.std.proofs.lemmas.Option.{same_Some, none-some, slice_get_within}
 use Rattle.sysmem_counts.specs.Bounds.{most_number}
 use Rattle.sysmem_tree.specs.declared.node.Birth.{Birth}
-use Rattle.sysmem_tree.specs.declared.state.NodeKind.{NodeKind}
-use Rattle.sysmem_tree.specs.declared.state.NodeKind.TheVariants as kinds
-use Rattle.sysmem_tree.specs.Forest.{Forest, Empty, Plain, Group, each, kids_else_rest, choices, settled, relabel, first_group}
+use Rattle.sysmem_tree.specs.Forest.{Forest, Empty, choices, relabel, first_group}
 use Rattle.sysmem_tree.specs.LayoutLaws.{Both, number, member, ChoicesLeaveOneForest, FewChildren, FewChoices}
 use Rattle.sysmem_tree.specs.Node.{NodeFacts}
 use Rattle.sysmem_tree.specs.Nodes.{IsTree, ordinal_under}
 use Rattle.sysmem_tree.specs.Path.{path_of}
 use Rattle.sysmem_tree.specs.Selection.{after}
 use Rattle.sysmem_tree.specs.Shape.{Member, by_number, by_path, forest_of, kid_of, before, tree_of, kids_from, rooted, shape_of}
-use Rattle.sysmem_tree.proofs.CallerLemmas.{AllOf, all_mapped, all_at, first_many}
+use Rattle.sysmem_tree.proofs.CallerLemmas.{AllOf, first_many}
 use Rattle.sysmem_proof.specs.Members.{members_at}
+use Rattle.sysmem_proof.proofs.CallerLemmas.{AllIn, in_after, in_tree}
 use Rattle.certificate_text.specs.CanBeRead.{HasSteps}
 use Rattle.certificate_text.proofs.Ordinals.{HasOrdinal, has_ordinal, path_steps, steps-append}
 
@@ -26,52 +25,9 @@ HasPath m = HasSteps m.path
 
 -- the paths of all members of a forest can
 abbrev pub HavePaths : Forest Member → Type 0
-HavePaths Empty = Unit {0}
-HavePaths (Plain m kids rest) = HasPath m × HavePaths kids × HavePaths rest
-HavePaths (Group m kids rest) = HasPath m × HavePaths kids × HavePaths rest
-
--- ---- whatever is chosen
-
-in_each : (d : Forest Member) → HavePaths d → AllOf HavePaths (each d)
-in_each Empty all = tt
-in_each (Plain m kids rest) all = ((all.0, all.1, tt), in_each rest all.2)
-in_each (Group m kids rest) all = ((all.0, all.1, tt), in_each rest all.2)
-
-in_either : (m : Member) (kids rest : Forest Member) (ks rs : Option (List (Forest Member))) → HasPath m → HavePaths kids → HavePaths rest → IfSome ks (AllOf HavePaths) → IfSome rs (AllOf HavePaths)
-    → IfSome (kids_else_rest (λ k. Plain m k rest) (λ r. Plain m kids r) ks rs) (AllOf HavePaths)
-in_either m kids rest (Some ks) rs p a b hk hr = all_mapped HavePaths HavePaths (λ k. Plain m k rest) ks (λ k h. (p, h, b)) hk
-in_either m kids rest None (Some rs) p a b hk hr = all_mapped HavePaths HavePaths (λ r. Plain m kids r) rs (λ r h. (p, a, h)) hr
-in_either m kids rest None None p a b hk hr = tt
-
-in_choices : (d : Forest Member) → HavePaths d → IfSome (choices d) (AllOf HavePaths)
-in_choices Empty all = tt
-in_choices (Plain m kids rest) all = in_either m kids rest (choices kids) (choices rest) all.0 all.1 all.2 (in_choices kids all.1) (in_choices rest all.2)
-in_choices (Group m kids rest) all = all_mapped HavePaths HavePaths (λ kid. Plain m kid rest) (each kids) (λ kid h. (all.0, h, all.2)) (in_each kids all.1)
-
-one_choice : (c : ℕ) (o : Option (List (Forest Member))) (e : Forest Member) → IfSome o (AllOf HavePaths) → option_and_then (λ es. slice_get es c) o ≡ Some e → HavePaths e
-one_choice c None e all is = absurd (cc)
-one_choice c (Some es) e all is = all_at HavePaths es c e is all
-
-in_after : (cs : List ℕ) (d e : Forest Member) → HavePaths d → after d cs ≡ Some e → HavePaths e
-in_after [] d e all is = subst HavePaths (same_Some d e is) all
-in_after (c ∷ cs) d e all is = option_and_then_some (λ x. after x cs) (option_and_then (λ es. slice_get es c) (choices d)) e is
-    (λ x one on. in_after cs x e (one_choice c (choices d) x (in_choices d all) one) on)
-
-pub both_all : {X : Type 0} (P : X → Type 0) (xs ys : List X) → AllOf P xs → AllOf P ys → AllOf P (xs ++ ys)
-both_all P [] ys a b = b
-both_all P (x ∷ xs) ys a b = (a.0, both_all P xs ys a.1 b)
-
-pub in_settled : (d : Forest Member) → HavePaths d → AllOf HasPath (settled d)
-in_settled Empty all = tt
-in_settled (Plain m kids rest) all = (all.0, both_all HasPath (settled kids) (settled rest) (in_settled kids all.1) (in_settled rest all.2))
-in_settled (Group m kids rest) all = (all.0, in_settled rest all.2)
+HavePaths = AllIn HasPath
 
 -- ---- in a shape
-
-in_tree : (kind : NodeKind) (m : Member) (kids rest : Forest Member) → HasPath m → HavePaths kids → HavePaths rest → HavePaths (tree_of kind m kids rest)
-in_tree kinds.Token m kids rest p a b = (p, a, b)
-in_tree kinds.Collection m kids rest p a b = (p, a, b)
-in_tree kinds.Group m kids rest p a b = (p, a, b)
 
 if_some : (t : Bool) (o : Option ℕ) → IfSome o (λ n. n ≤ most_number) → IfSome (if t then o else None) (λ n. n ≤ most_number)
 if_some true o h = h
@@ -92,7 +48,7 @@ in_kids domain i (n ∷ nodes) all p path steps = at (in_kids domain (i + 1) nod
   at rest None small = rest p path steps
   at rest (Some o) small =
       let on : HasSteps (path ++ o ∷ []) = steps-append path (o ∷ []) steps (small, tt) in
-      in_tree n.state.kind (by_path i (path ++ o ∷ []) n) (kids_from by_path domain (i + 1) nodes i (path ++ o ∷ [])) (kids_from by_path domain (i + 1) nodes p path)
+      in_tree HasPath n.state.kind (by_path i (path ++ o ∷ []) n) (kids_from by_path domain (i + 1) nodes i (path ++ o ∷ [])) (kids_from by_path domain (i + 1) nodes p path)
       on (rest i (path ++ o ∷ []) on) (rest p path steps)
 
 pub all_places : {X : Type 0} (P : X → Type 0) (xs : List X) → ((k : ℕ) (x : X) → slice_get xs k ≡ Some x → P x) → AllOf P xs
@@ -103,7 +59,7 @@ shape_paths : (nodes : List NodeFacts) (r : ℕ) → IsTree nodes → HavePaths 
 shape_paths nodes r tree = at (slice_get nodes r) where
   at : (o : Option NodeFacts) → HavePaths (rooted by_path nodes r (path_of nodes r) o)
   at None = tt
-  at (Some n) = in_tree n.state.kind (by_path r (path_of nodes r) n) (kids_from by_path r 0 nodes r (path_of nodes r)) Empty (path_steps nodes r tree)
+  at (Some n) = in_tree HasPath n.state.kind (by_path r (path_of nodes r) n) (kids_from by_path r 0 nodes r (path_of nodes r)) Empty (path_steps nodes r tree)
       (in_kids r 0 nodes (all_places HasOrdinal nodes (has_ordinal nodes tree)) r (path_of nodes r) (path_steps nodes r tree)) tt
 
 -- of nodes by their numbers
@@ -146,7 +102,7 @@ module _ (nodes : List NodeFacts) (r : ℕ) (tree : IsTree nodes) where
   selected_reached cs e leads = (cs, leads)
 
   pub reached_paths : (e : Forest Member) → IsReached e → HavePaths e
-  reached_paths e reached = in_after reached.0 (shape_of nodes r) e (shape_paths nodes r tree) reached.1
+  reached_paths e reached = in_after HasPath reached.0 (shape_of nodes r) e (shape_paths nodes r tree) reached.1
 
   module _ (one : ChoicesLeaveOneForest) (children : FewChildren) (few : FewChoices) where
     by_numbers : (cs : List ℕ) (b : Forest Both) → (one nodes r cs).left ≡ Some b → after (forest_of by_number nodes r []) cs ≡ Some (relabel number b)

@@ -17,6 +17,7 @@ use Rattle.sysmem_memory.specs.Domain.{has_domain}
 use Rattle.sysmem_memory.specs.Heap.{HeapFacts}
 use Rattle.sysmem_merge.specs.declared.settings.Settings.{Settings}
 use Rattle.sysmem_sanitise.specs.Platform.{PlatformFacts}
+use Rattle.sysmem_sanitise.specs.Reading.Bounds.{some_sides}
 use Rattle.sysmem_sanitise.specs.Reading.Names.{format_named, modifier_named, colour_named, domain_named}
 use Rattle.sysmem_sanitise.specs.Reading.Pairs.{has_pair, lists_colour}
 use Rattle.certificate_text.specs.Reading.{◌>>=◌, is_object_of, number_to, at_key, named_at}
@@ -103,9 +104,6 @@ numbers_said d = do
     required_max_size = required_max_size;
     max_width_times_height = max_width_times_height;
   })
-
-abbrev pub some_sides : Size → Size
-some_sides size = record { width = max size.width 1; height = max size.height 1 }
 
 -- the bounds of these numbers: those that must be 1 or more are, as they are read
 abbrev pub bounds_by : Numbers → ImageBounds

@@ -22,6 +22,7 @@ mod value;
 mod writer;
 
 pub use claim::read_proof;
+pub use path::push_path;
 pub use unread::Unread;
 pub use value::write_proof;
 pub use writer::CertificateWriter;

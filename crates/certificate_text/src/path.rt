@@ -41,7 +41,7 @@ impl Part for Path {
 }
 
 /// Puts the text of a path behind the text so far: `/` or `/0/1`.
-fn push_path(text: &mut String, ordinals: &[u32]) -> Result<(), AllocError>
+pub fn push_path(text: &mut String, ordinals: &[u32]) -> Result<(), AllocError>
     ensures { OnOk result (string_bytes text.new
         ≡ string_bytes text.old ++ path_text ordinals.now) }
 {

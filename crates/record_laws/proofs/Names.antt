@@ -3,56 +3,19 @@ use Rattle.std.proofs.Common.{◌≡◌, ℕ, List, Option, Some, None, Ok, refl
 use Rattle.std.specs.Prelude.{ok_or}
 use Rattle.serde_json.specs.Data.{string}
 use Rattle.sysmem_counts.specs.declared.field.Field.{Field}
-use Rattle.sysmem_formats.specs.declared.colour_space.ColourSpace.{ColourSpace}
-use Rattle.sysmem_formats.specs.declared.colour_space.ColourSpace.TheVariants.{Srgb, Rec601Ntsc, Rec601NtscFullRange, Rec601Pal, Rec601PalFullRange, Rec709, Rec2020, Rec2100}
 use Rattle.sysmem_formats.specs.declared.modifier.Modifier.{Modifier}
 use Rattle.sysmem_formats.specs.declared.modifier.Modifier.TheVariants.{Linear, IntelXTiled, IntelYTiled}
 use Rattle.sysmem_formats.specs.declared.pixel_format.PixelFormat.{PixelFormat}
 use Rattle.sysmem_formats.specs.declared.pixel_format.PixelFormat.TheVariants.{R8G8B8A8, B8G8R8A8, R8G8B8X8, B8G8R8X8, R8G8B8, B8G8R8, R5G6B5, R8G8, YUY2, R8, L8, I420, YV12, NV12, P010}
-use Rattle.sysmem_formats.specs.Names.{format_name, modifier_name, colour_name}
+use Rattle.sysmem_formats.specs.Names.{format_name, modifier_name}
 use Rattle.sysmem_sanitise.specs.declared.fault.Code.TheVariants.{UnknownName}
 use Rattle.sysmem_sanitise.specs.Faults.{wrong}
 use Rattle.sysmem_sanitise.specs.Reading.Fields.{named}
-use Rattle.sysmem_sanitise.specs.Reading.Names.{format_named, modifier_named, colour_named, choice_named}
+use Rattle.sysmem_sanitise.specs.Reading.Names.{format_named, modifier_named, choice_named}
 use Rattle.record_laws.specs.Records.{choice}
 
 pub named_stated : {X : Type 0} (find : List ℕ → Option X) (field : Field) (name : List ℕ) (x : X) → find name ≡ Some x → named find field (string name) ≡ Ok x
 named_stated find field name x is = ap (λ o. ok_or o (wrong UnknownName field)) is
-
-pub format_stated : (f : PixelFormat) → format_named (format_name f) ≡ Some f
-unfolding format_named
-format_stated R8G8B8A8 = refl
-format_stated B8G8R8A8 = refl
-format_stated R8G8B8X8 = refl
-format_stated B8G8R8X8 = refl
-format_stated R8G8B8 = refl
-format_stated B8G8R8 = refl
-format_stated R5G6B5 = refl
-format_stated R8G8 = refl
-format_stated YUY2 = refl
-format_stated R8 = refl
-format_stated L8 = refl
-format_stated I420 = refl
-format_stated YV12 = refl
-format_stated NV12 = refl
-format_stated P010 = refl
-
-pub modifier_stated : (m : Modifier) → modifier_named (modifier_name m) ≡ Some m
-unfolding modifier_named
-modifier_stated Linear = refl
-modifier_stated IntelXTiled = refl
-modifier_stated IntelYTiled = refl
-
-pub colour_stated : (c : ColourSpace) → colour_named (colour_name c) ≡ Some c
-unfolding colour_named
-colour_stated Srgb = refl
-colour_stated Rec601Ntsc = refl
-colour_stated Rec601NtscFullRange = refl
-colour_stated Rec601Pal = refl
-colour_stated Rec601PalFullRange = refl
-colour_stated Rec709 = refl
-colour_stated Rec2020 = refl
-colour_stated Rec2100 = refl
 
 pub format_choice : (field : Field) (f : Option PixelFormat) → named (choice_named format_named) field (choice format_name f) ≡ Ok f
 unfolding format_named

@@ -18,7 +18,8 @@ use Rattle.record_laws.specs.Laws.{EachPlatformIsStated}
 use Rattle.record_laws.specs.Records.{list, heap_record, pair_record, colour_record}
 use Rattle.record_laws.proofs.Each.{passes, next, each_stated, item_has, none_before, not_empty, refused_not}
 use Rattle.record_laws.proofs.Heaps.{heaps_list}
-use Rattle.record_laws.proofs.Names.{named_stated, format_stated, modifier_stated, colour_stated}
+use Rattle.sysmem_sanitise.proofs.CallerLemmas.{own_format_name, own_modifier_name, own_colour_name}
+use Rattle.record_laws.proofs.Names.{named_stated}
 
 pub misfit_tells : (p : Pair) → Decides (is_tiled_misfit p) (IsTiledMisfit p)
 misfit_tells p = search (rules, tests)
@@ -42,8 +43,8 @@ apart false P decides not = refl
 pair_stated : (p : Pair) → pair_of (pair_record p) ≡ Ok p
 unfolding is_key_of
 pair_stated p =
-    next (named format_named field.PixelFormat (string (format_name p.format))) p.format _ (Ok p) (named_stated format_named field.PixelFormat (format_name p.format) p.format (format_stated p.format))
-    (next (named modifier_named field.PixelFormatModifier (string (modifier_name p.modifier))) p.modifier _ (Ok p) (named_stated modifier_named field.PixelFormatModifier (modifier_name p.modifier) p.modifier (modifier_stated p.modifier)) refl)
+    next (named format_named field.PixelFormat (string (format_name p.format))) p.format _ (Ok p) (named_stated format_named field.PixelFormat (format_name p.format) p.format (own_format_name p.format))
+    (next (named modifier_named field.PixelFormatModifier (string (modifier_name p.modifier))) p.modifier _ (Ok p) (named_stated modifier_named field.PixelFormatModifier (modifier_name p.modifier) p.modifier (own_modifier_name p.modifier)) refl)
 
 pairs_list : (ps : List Pair) → 1 ≤ length ps → AllPairs (λ a b. a ≢ b) ps → All (λ p. IsTiledMisfit p → ⊥) ps → pairs_of None (list pair_record ps) ≡ Ok ps
 pairs_list ps some distinct fits =
@@ -59,7 +60,7 @@ colours_list : (cs : List ColourSpace) → 1 ≤ length cs → AllPairs (λ a b.
 colours_list cs some distinct =
     next (read_each (with_new_colour None) [] _) cs _ (Ok cs)
     (each_stated colour_record (with_new_colour None) cs (λ front back c is.
-    next (named colour_named field.ColorSpaces (colour_record c)) c _ (Ok (front ++ c ∷ [])) (named_stated colour_named field.ColorSpaces (colour_name c) c (colour_stated c))
+    next (named colour_named field.ColorSpaces (colour_record c)) c _ (Ok (front ++ c ∷ [])) (named_stated colour_named field.ColorSpaces (colour_name c) c (own_colour_name c))
     (next (passing (wrong code.BadPlatformList field.ColorSpaces) (λ colour. not (lists_colour front colour)) c) c _ (Ok (front ++ c ∷ []))
     (passes _ (λ colour. not (lists_colour front colour)) c (refused_not _ (none_before (λ a b. a ≢ b) same_colour (λ a b differ. apart (same_colour a b) (a ≡ b) (colour_tells a b) differ) cs front back c is distinct))) refl)) [] cs refl)
     (passes _ (λ cs. not (length cs == 0)) cs (not_empty cs some))

@@ -1,3 +1,4 @@
+pub mod CallerLemmas
 pub mod CallsLemmas
 pub mod Members
 pub mod TextsLemmas

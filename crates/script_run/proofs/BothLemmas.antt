@@ -15,7 +15,7 @@ use Rattle.script_run.specs.declared.fault.RunFault.TheVariants.{Read, Write, No
 use Rattle.script_run.specs.declared.running.CertifiedReport.{CertifiedReport}
 use Rattle.script_run.specs.declared.running.Ended.{Ended}
 use Rattle.script_run.specs.declared.running.Ended.TheVariants.{Done, MemoryRefused}
-use Rattle.script_run.specs.Certificate.{CertifiedFacts, CertifiesTo, certified_by, certified_seen}
+use Rattle.script_run.specs.Certificate.{CertifiedFacts, CertifiesTo, IsCertifiedBy, certified_seen}
 use Rattle.script_run.specs.Faults.{fault_of_parse, fault_of_read}
 use Rattle.script_run.specs.Outcome.{RunsTo, anyhow}
 use Rattle.script_run.specs.Run.{RanWithProof, WritesBoth, WritesFronts, WritesPartOfBoth}
@@ -49,7 +49,7 @@ module _ (had hold proof_hold : Option (List ℕ)) where
 
 module _ (old new before after proof_before proof_after : Option (List ℕ)) (bytes : List ℕ) (c : CertifiedFacts) (read : ReadsToLimit longest old new bytes) (runs : CertifiesTo bytes (Ok c)) where
   certified : IfSome old (λ input. CertifiesTo input (Ok c))
-  certified = runs-input (certified_by c.certificate) old new bytes (Ok (record { text = c.text; starved = c.starved })) read runs
+  certified = runs-input (IsCertifiedBy c.certificate) old new bytes (Ok (record { text = c.text; starved = c.starved })) read runs
 
   part : (had : Option (List ℕ)) → IfSome had (λ input. CertifiesTo input (Ok c)) → WritesFronts before after proof_before proof_after c.text c.certificate
       → IfSome had (λ input. WritesPartOfBoth input before after proof_before proof_after)

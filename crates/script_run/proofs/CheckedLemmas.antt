@@ -23,7 +23,7 @@ use Rattle.script_run.specs.declared.fault.RunFault.TheVariants.{NoMemory, Proof
 use Rattle.script_run.specs.declared.fault.RunFault.TheVariants as faults
 use Rattle.script_run.specs.declared.running.Ended.{Ended}
 use Rattle.script_run.specs.declared.running.Ended.TheVariants.{CheckedNo, Done}
-use Rattle.script_run.specs.CheckedFile.{AnswersIn, HasChecked, IfBoth, IsListOf, IsNoList, IsRefusal, IsRefused, IsScriptOf, IsValueOf, WritesAnswer, WritesAnswerPart, WritesNo}
+use Rattle.script_run.specs.CheckedFile.{AnswersIn, HasChecked, IfBoth, IsListOf, IsNoList, IsRefusal, ProofIsRefused, IsScriptOf, IsValueOf, WritesAnswer, WritesAnswerPart, WritesNo}
 use Rattle.script_run.specs.Faults.{fault_of_parse}
 use Rattle.script_run.specs.Outcome.{RunsTo, anyhow, refused}
 use Rattle.script_run.specs.Run.{IsCausedBy, both_counts}
@@ -140,7 +140,7 @@ module _ (had left proof proof_left : Option (List ℕ)) (bytes certificate : Li
     no = λ is. absurd (cc);
     fed = λ is. absurd (cc);
     script = λ found is. absurd (cc);
-    proof_refused = λ is. both_of had proof (λ input. IsScriptOf input script) IsNoList IsRefused (λ input c a b. record { script = script; reads = a; none = b })
+    proof_refused = λ is. both_of had proof (λ input. IsScriptOf input script) IsNoList ProofIsRefused (λ input c a b. record { script = script; reads = a; none = b })
         reads (of_none proof proof_left certificate proof_read why);
     front = λ is. absurd (cc);
     unwritten = λ found is not. Appends-nothing hold;

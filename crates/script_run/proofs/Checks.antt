@@ -7,7 +7,9 @@ use Rattle.serde_json.specs.Data.{Data}
 use Rattle.serde_json.specs.View.{view}
 use Rattle.serde_json.specs.declared.value.Value.{Value}
 use Rattle.certificate_text.specs.Said.{claim_said}
+use Rattle.sysmem_alloc.specs.Claims.{IsRightClaim}
 use Rattle.sysmem_alloc.specs.State.{State as BookState, base_of}
+use Rattle.sysmem_alloc.proofs.CallerLemmas.{true_has_proof, true_is_right}
 use Rattle.sysmem_proof.specs.Base.{BaseFacts, terms_of}
 use Rattle.sysmem_proof.specs.Fault.{VerdictFaults}
 use Rattle.sysmem_tree.specs.Domain.{TreeFacts}
@@ -41,7 +43,8 @@ taken_at : (platform : PlatformFacts) (old : List Value) (k : ℕ) (b : BookStat
     → AllZip (IsOf platform) (map view (take (suc k) old)) (cs ++ (path_of b.tree.nodes r, Some claim) ∷ [])
 taken_at platform old k b r claim None here takes cs all = absurd takes
 taken_at platform old k b r claim (Some object) here takes cs all =
-    zip_more (IsOf platform) view old k object cs (path_of b.tree.nodes r, Some claim) here (record { claim = claim; says = takes.says; taken = refl }) all
+    zip_more (IsOf platform) view old k object cs (path_of b.tree.nodes r, Some claim) here
+    (record { claim = claim; says = takes.says; taken = refl; proved = true_has_proof platform b.tree.nodes r (base_of b r) claim takes.true_of }) all
 
 -- the claim of the next object is taken
 pub takes_one : (platform : PlatformFacts) (old new : List Value) (k j : ℕ) (b : BookState) (r : ℕ) (claim : Claim) → IsSomeAnd (slice_get old k) (λ object. TakesClaim platform b r (view object) claim)
@@ -52,6 +55,12 @@ takes_one platform old new k j b r claim takes more same cs all =
     subst (λ n. AllZip (IsOf platform) (map view (take n new)) (cs ++ (path_of b.tree.nodes r, Some claim) ∷ [])) next
     (subst (λ vs. AllZip (IsOf platform) (map view (take (suc k) vs)) (cs ++ (path_of b.tree.nodes r, Some claim) ∷ [])) (sym same)
     (taken_at platform old k b r claim (slice_get old k) refl takes cs all))
+
+-- it is right
+pub right_taken : (platform : PlatformFacts) (b : BookState) (r : ℕ) (claim : Claim) (o : Option Value) → IsSomeAnd o (λ object. TakesClaim platform b r (view object) claim)
+    → IsRightClaim platform b.tree.nodes r (base_of b r) claim
+right_taken platform b r claim None takes = absurd takes
+right_taken platform b r claim (Some object) takes = true_is_right platform b.tree.nodes r (base_of b r) claim takes.true_of
 
 -- where none is taken, the objects that were taken stay so
 pub takes_none : (platform : PlatformFacts) (old new : List Value) (k j : ℕ) → j ≡ k → new ≡ old → (cs : List Certified) → AllZip (IsOf platform) (map view (take k old)) cs

@@ -1,3 +1,4 @@
+pub mod Accepting
 pub mod AnswerLemmas
 pub mod Answering
 pub mod BothLemmas

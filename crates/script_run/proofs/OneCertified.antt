@@ -1,11 +1,14 @@
--- One decision more in a certificate.
+-- One decision more in a certificate, and with its proof.
 use Rattle.std.proofs.Common.{◌≡◌, ℕ, ◌++◌, List, [], ◌∷◌, Option, sym, ◌∙◌, ap}
+use Rattle.std.specs.Prelude.{IfSome}
 use Rattle.std.proofs.lemmas.List.{map-append}
+use Rattle.std.proofs.lemmas.List.Elements.{All-append, All-cons, All-nil}
 use Rattle.certificate_text.specs.Told.{decision_data}
 use Rattle.serde_json.specs.Data.{Data}
+use Rattle.sysmem_alloc.specs.Claims.{HasProof}
 use Rattle.sysmem_proof.specs.declared.certificate.Claim.{Claim}
 use Rattle.sysmem_sanitise.specs.Platform.{PlatformFacts}
-use Rattle.script_run.specs.Certificate.{data_of}
+use Rattle.script_run.specs.Certificate.{AreProved, IsProved, data_of}
 use Rattle.script_run.specs.Report.{Certified}
 
 -- the data of decisions with one more, however it was lent
@@ -16,3 +19,9 @@ data_push platform p cs path given claim lent a b d =
     let same : decision_data p given lent ≡ decision_data platform path claim = ap (λ (q : PlatformFacts). decision_data q given lent) a
     ∙ (ap (λ (g : List ℕ). decision_data platform g lent) b ∙ ap (λ (o : Option Claim). decision_data platform path o) d) in
     ap (λ (x : Data). data_of platform cs ++ x ∷ []) same ∙ sym (map-append (λ (c : Certified). decision_data platform c.0 c.1) cs (one ∷ []))
+
+-- one more that has its proof
+pub proved_push : (cs : List Certified) (path : List ℕ) (claim : Option Claim) → AreProved cs → IfSome claim HasProof → AreProved (cs ++ (path, claim) ∷ [])
+proved_push cs path claim all has =
+    let one : Certified = (path, claim) in
+    All-append IsProved cs (one ∷ []) all (All-cons IsProved one [] has (All-nil IsProved))

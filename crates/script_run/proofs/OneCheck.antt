@@ -8,10 +8,12 @@ use Rattle.serde_json.specs.Data.{Data}
 use Rattle.serde_json.specs.Find.{as_array}
 use Rattle.serde_json.specs.View.{items_of}
 use Rattle.script_reading.specs.Script.{CallFacts, ScriptFacts, script_of}
+use Rattle.sysmem_alloc.specs.Claims.{HasProof, IsRightClaim}
 use Rattle.sysmem_alloc.specs.Decision.{Claimed, answer_of}
 use Rattle.sysmem_alloc.specs.Entry.{Decided}
 use Rattle.sysmem_alloc.specs.History.{Allows}
 use Rattle.sysmem_alloc.specs.State.{State as BookState, base_of, next_ready}
+use Rattle.sysmem_alloc.proofs.CallerLemmas.{proved_is_true}
 use Rattle.sysmem_proof.specs.Base.{terms_of}
 use Rattle.sysmem_proof.specs.Claim.{IsTrueClaim}
 use Rattle.sysmem_proof.specs.Fault.{VerdictFaults}
@@ -146,12 +148,12 @@ module _ (exact : TestsAreExact) (law : FaultsAreFirst) (platform : PlatformFact
       let faults = subst (λ (c : Claim). VerdictFaults platform (option_map (terms_of b.tree.nodes) (base_of b r)) (shape_of b.tree.nodes r) c.verdict c.proof why) same h.1 in
       (law platform (option_map (terms_of b.tree.nodes) (base_of b r)) (shape_of b.tree.nodes r)).verdict claim.verdict claim.proof why faults passes
 
-  true_claim : (s : RunState) (c : Claimed) (claim : Claim) → s.platform ≡ platform → Allows s.platform s.book (Decided c) → c.claim ≡ Some claim
+  true_claim : (s : RunState) (c : Claimed) (claim : Claim) → s.platform ≡ platform → Allows s.platform s.book (Decided c) → c.claim ≡ Some claim → HasProof claim
       → IsTrueClaim platform s.book.tree.nodes c.domain (base_of s.book c.domain) claim
-  true_claim s c claim same allowed is =
-      let there : IsTrueClaim s.platform s.book.tree.nodes c.domain (base_of s.book c.domain) claim =
-      subst (λ o. IfSome o (IsTrueClaim s.platform s.book.tree.nodes c.domain (base_of s.book c.domain))) is allowed.1 in
-      subst (λ p. IsTrueClaim p s.book.tree.nodes c.domain (base_of s.book c.domain) claim) same there
+  true_claim s c claim same allowed is has =
+      let there : IsRightClaim s.platform s.book.tree.nodes c.domain (base_of s.book c.domain) claim =
+      subst (λ o. IfSome o (IsRightClaim s.platform s.book.tree.nodes c.domain (base_of s.book c.domain))) is allowed.1 in
+      proved_is_true platform s.book.tree.nodes c.domain (base_of s.book c.domain) claim (subst (λ p. IsRightClaim p s.book.tree.nodes c.domain (base_of s.book c.domain) claim) same there) has
 
   -- an one that was taken doesn't fail
   not_both : (s : RunState) (c : Claimed) (one : Data) (left : List Data) (r : ℕ) (o : Objection) → s.platform ≡ platform → Allows s.platform s.book (Decided c)
@@ -159,7 +161,7 @@ module _ (exact : TestsAreExact) (law : FaultsAreFirst) (platform : PlatformFact
   not_both s c one left r o same allowed of next h =
       let own : r ≡ c.domain = same_Some r c.domain (sym next ∙ allowed.0) in
       let no : ClaimFails platform s.book c.domain one o.no = subst (λ k. ClaimFails platform s.book k one o.no) own h.no in
-      true_said s.book c.domain of.claim (claim_said platform one) o.no of.says (true_claim s c of.claim same allowed of.taken) no
+      true_said s.book c.domain of.claim (claim_said platform one) o.no of.says (true_claim s c of.claim same allowed of.taken of.proved) no
 
   -- a state at which there is an end isn't gone on from
   no_call_on : (s : RunState) (r : CallFacts) (rs rest : List CallFacts) (left : List Data) (a : CheckAnswer) → next_ready s.book ≡ None → rest ≡ r ∷ rs → Ends platform rest left s a → ⊥

@@ -1,7 +1,7 @@
 -- Each decision of a report can be read of its certificate.
 use Rattle.std.proofs.Common.{◌≡◌, ◌==◌, ◌++◌, ℕ, ◌+◌, All, Bool, true, false, List, [], ◌∷◌, Option, Some, None, IfSome, IsOk, Ok, option_map, option_and_then, refl, sym, ◌∙◌, ap, subst}
 use Rattle.std.specs.Prelude.{if◌then◌else◌}
-use Rattle.std.proofs.lemmas.List.Elements.{All-nil, All-cons, All-weaker}
+use Rattle.std.proofs.lemmas.List.Elements.{All-nil, All-cons, All-head, All-tail, All-weaker}
 use Rattle.sysmem_merge.specs.declared.settings.Settings.{Settings}
 use Rattle.sysmem_sanitise.specs.Platform.{PlatformFacts}
 use Rattle.sysmem_tree.specs.ActionKind.{Deed}
@@ -14,7 +14,7 @@ use Rattle.sysmem_proof.specs.declared.certificate.Proof.{Proof}
 use Rattle.sysmem_proof.specs.declared.certificate.Proof.TheVariants as proves
 use Rattle.sysmem_proof.specs.declared.verdict.Verdict.{Verdict}
 use Rattle.sysmem_proof.specs.declared.verdict.Verdict.TheVariants as verdicts
-use Rattle.sysmem_proof.specs.Claim.{IsTrueClaim}
+use Rattle.sysmem_alloc.specs.Claims.{HasProof, IsRightClaim}
 use Rattle.sysmem_alloc.specs.Decision.{Claimed, Decision, answer_of, decision_for, settings_for, settings_of, verdict_in}
 use Rattle.sysmem_alloc.specs.Entry.{BookEntry, Acted, Decided}
 use Rattle.sysmem_alloc.specs.History.{Allows, AreAllowed, IsLegal, after_answer, after_entry, replay, replay_from}
@@ -22,6 +22,7 @@ use Rattle.sysmem_alloc.specs.Laws.{LegalIsSound}
 use Rattle.sysmem_alloc.specs.Sound.{AllOf}
 use Rattle.sysmem_alloc.specs.State.{State as BookState, base_of}
 use Rattle.sysmem_alloc.specs.State as books
+use Rattle.sysmem_alloc.proofs.CallerLemmas.{proved_is_true}
 use Rattle.certificate_text.specs.CanBeRead.{AreReadableSettings, CanBeRead, HasHeapIds, IsReadableBase, IsReadableDecision}
 use Rattle.certificate_text.specs.Laws.{ClaimsReadBack, NodePathsCanBeRead, TextsReadBack, TrueClaimsCanBeRead}
 use Rattle.certificate_text.specs.Said.{claim_said}
@@ -29,6 +30,7 @@ use Rattle.certificate_text.specs.Told.{decision_data}
 use Rattle.script_reading.specs.Script.{CallFacts}
 use Rattle.script_run.specs.declared.reply.Reply.{Reply}
 use Rattle.script_run.specs.Answer.{Replies, skips, misreads, starves, lacks, refuses, accepts, tells}
+use Rattle.script_run.specs.Certificate.{AreProved, IsProved}
 use Rattle.script_run.specs.Laws.{CertificatesReadBack, claim_told}
 use Rattle.script_run.specs.Report.{Certified, Goes, calls, certified, decides, stays, with_decision}
 use Rattle.script_run.specs.State.{RunState, collection_tree, first_run_state}
@@ -128,40 +130,42 @@ module _ (paths : NodePathsCanBeRead) (claims : TrueClaimsCanBeRead) (sound : Le
   tree_stands : (b : BookState) → Stands platform b → IsTree b.tree.nodes
   tree_stands b stands = subst (λ (x : BookState). IsTree x.tree.nodes) (sym stands.replayed) (sound platform stands.history stands.legal).tree.tree
 
-  -- a claim that the book allows can be read
-  claim_read : (b : BookState) (c : Claimed) → Stands platform b → Allows platform b (Decided c) → IfSome c.claim (λ x. CanBeRead platform x.verdict x.proof)
-  claim_read b c stands allowed = by c.claim allowed.1 where
-    by : (o : Option Claim) → IfSome o (IsTrueClaim platform b.tree.nodes c.domain (base_of b c.domain)) → IfSome o (λ x. CanBeRead platform x.verdict x.proof)
-    by None is = tt
-    by (Some x) is = claims platform b.tree.nodes c.domain (base_of b c.domain) x ids (tree_stands b stands) (base_read platform b c.domain stands.readable) is
+  -- a claim that the book allows can be read, where it has its proof
+  claim_read : (b : BookState) (c : Claimed) → Stands platform b → Allows platform b (Decided c) → IfSome c.claim HasProof → IfSome c.claim (λ x. CanBeRead platform x.verdict x.proof)
+  claim_read b c stands allowed has = by c.claim allowed.1 has where
+    by : (o : Option Claim) → IfSome o (IsRightClaim platform b.tree.nodes c.domain (base_of b c.domain)) → IfSome o HasProof → IfSome o (λ x. CanBeRead platform x.verdict x.proof)
+    by None is has = tt
+    by (Some x) is has = claims platform b.tree.nodes c.domain (base_of b c.domain) x ids (tree_stands b stands) (base_read platform b c.domain stands.readable)
+        (proved_is_true platform b.tree.nodes c.domain (base_of b c.domain) x is has)
 
   -- what it chose can
   decision_read : (claim : Option Claim) → IfSome claim (λ x. CanBeRead platform x.verdict x.proof) → IfSome (settings_of (verdict_in claim)) (AreReadableSettings platform)
   decision_read None can = tt
   decision_read (Some claim) can = chosen_read platform claim.verdict claim.proof can
 
-  after_decided : (s : RunState) (c : Claimed) → Stands platform s.book → Allows platform s.book (Decided c) → Stands platform (with_decision s (answer_of c)).book
-  after_decided s c stands allowed = goes_on platform s.book (Decided c) stands allowed
-      (all_more (ChoseReadable platform) s.book.decisions (answer_of c) stands.readable (decision_read c.claim (claim_read s.book c stands allowed)))
+  after_decided : (s : RunState) (c : Claimed) → Stands platform s.book → Allows platform s.book (Decided c) → IfSome c.claim HasProof → Stands platform (with_decision s (answer_of c)).book
+  after_decided s c stands allowed has = goes_on platform s.book (Decided c) stands allowed
+      (all_more (ChoseReadable platform) s.book.decisions (answer_of c) stands.readable (decision_read c.claim (claim_read s.book c stands allowed has)))
 
   abbrev CanReadOne : Certified → Type 0
   CanReadOne c = IsReadableDecision platform c.0 c.1
 
   -- each decision on the way can be read
-  each_read : (number : ℕ) (s t : RunState) (rs : List CallFacts) (a : List ℕ) (cs : List Certified) → s.platform ≡ platform → Stands platform s.book → Goes number s rs a cs t → All CanReadOne cs
-  each_read _ _ _ _ _ _ on stands (stays number s) = All-nil CanReadOne
-  each_read _ _ _ _ _ _ on stands (calls number s answered t r rs reply text cs idle replied rest) =
-      each_read (number + 1) answered t rs text cs (replied_platform s answered r reply replied ∙ on) (after_reply platform s answered r reply stands replied) rest
-  each_read _ _ _ _ _ _ on stands (decides number s t c rs what text cs allowed said rest) =
+  each_read : (number : ℕ) (s t : RunState) (rs : List CallFacts) (a : List ℕ) (cs : List Certified) → s.platform ≡ platform → Stands platform s.book → Goes number s rs a cs t → AreProved cs → All CanReadOne cs
+  each_read _ _ _ _ _ _ on stands (stays number s) all = All-nil CanReadOne
+  each_read _ _ _ _ _ _ on stands (calls number s answered t r rs reply text cs idle replied rest) all =
+      each_read (number + 1) answered t rs text cs (replied_platform s answered r reply replied ∙ on) (after_reply platform s answered r reply stands replied) rest all
+  each_read _ _ _ _ _ _ on stands (decides number s t c rs what text cs allowed said rest) all =
+      let has : IfSome c.claim HasProof = All-head IsProved (certified s c) cs all in
       let allows : Allows platform s.book (Decided c) = subst (λ (p : PlatformFacts). Allows p s.book (Decided c)) on allowed in
       All-cons CanReadOne (certified s c) cs
-      (record { steps = paths (collection_tree s).nodes c.domain (tree_stands s.book stands); claimed = claim_read s.book c stands allows })
-      (each_read number (with_decision s (answer_of c)) t rs text cs on (after_decided s c stands allows) rest)
+      (record { steps = paths (collection_tree s).nodes c.domain (tree_stands s.book stands); claimed = claim_read s.book c stands allows has })
+      (each_read number (with_decision s (answer_of c)) t rs text cs on (after_decided s c stands allows has) rest (All-tail IsProved (certified s c) cs all))
 
 pub certificates_read_back : ClaimsReadBack → NodePathsCanBeRead → TrueClaimsCanBeRead → TextsReadBack → LegalIsSound → CertificatesReadBack
-certificates_read_back back paths claims texts sound platform rs text decisions starved is ids report =
+certificates_read_back back paths claims texts sound platform rs text decisions starved is ids report proved =
     let all : All (λ (c : Certified). IsReadableDecision platform c.0 c.1) decisions =
-    each_read paths claims sound platform ids 1 (first_run_state platform) report.last rs report.lines decisions refl (starts platform) report.goes in
+    each_read paths claims sound platform ids 1 (first_run_state platform) report.last rs report.lines decisions refl (starts platform) report.goes proved in
     let spelled = texts platform decisions is.each_heap all in
     record {
       spelled = record { text = spelled.utf8; spelled = spelled.spelled };

@@ -16,7 +16,7 @@ use Rattle.script_reading.specs.Text.{Outcome, too_long, not_json, spelled, IsVa
 use Rattle.script_run.specs.declared.report.Report.{Report}
 use Rattle.sysmem_sanitise.specs.Platform.{PlatformFacts}
 use Rattle.script_run.specs.declared.running.CertifiedReport.{CertifiedReport}
-use Rattle.script_run.specs.Certificate.{CertifiedFacts, CertifiesTo, certified_by, certified_seen}
+use Rattle.script_run.specs.Certificate.{CertifiedFacts, CertifiesTo, IsCertifiedBy, certified_seen}
 use Rattle.script_run.specs.Laws.{CertifiedIsReport}
 use Rattle.script_run.specs.Outcome.{ReportFacts, SaysOf, anyhow, ValueRunsTo, refused, reported, RunsWith, report_seen}
 use Rattle.script_run.specs.Report.{Certified, IsReported}
@@ -80,5 +80,5 @@ fault-so says bytes (Refused fault) said = runs-so says anyhow bytes (Err fault)
 pub certified_is_report : CertifiedIsReport
 certified_is_report input (Ok certified) said =
     let report : ReportFacts = record { text = certified.text; starved = certified.starved } in
-    runs-so (certified_by certified.certificate) anyhow input (Ok report) (λ platform cs g. tt) said
+    runs-so (IsCertifiedBy certified.certificate) anyhow input (Ok report) (λ platform cs g. tt) said
 certified_is_report input (Err fault) said = said

@@ -9,10 +9,10 @@ use Rattle.sysmem_proof.specs.declared.certificate.Claim.{Claim}
 use Rattle.sysmem_proof.specs.declared.verdict.Verdict.{Verdict}
 use Rattle.sysmem_proof.specs.declared.verdict.Verdict.TheVariants.{Chosen, IntersectionEmpty, TooMany, Failed, NoMemory}
 use Rattle.sysmem_proof.specs.Base.{BaseFacts}
-use Rattle.sysmem_proof.specs.Claim.{IsTrueClaim}
 use Rattle.sysmem_proof.specs.Verdict.{IsOptimalIn}
 use Rattle.sysmem_sanitise.specs.Platform.{PlatformFacts}
 use Rattle.sysmem_tree.specs.Domain.{TreeFacts, IsSoundTree}
+use Rattle.sysmem_tree.specs.Node.{NodeFacts}
 use Rattle.sysmem_tree.specs.Path.{path_of}
 use Rattle.script_run.specs.Deciding.{CanBeTold, TellsIn}
 use Rattle.script_run.specs.Lines.{domain_line}
@@ -51,6 +51,11 @@ pub if_unmapped : {X Y : Type 0} (f : X → Y) (P : Y → Type 0) (o : Option X)
 if_unmapped f P None h = h
 if_unmapped f P (Some x) h = h
 
+-- and the other way round
+pub if_mapped : {X Y : Type 0} (f : X → Y) (P : Y → Type 0) (o : Option X) → IfSome o (λ x. P (f x)) → IfSome (option_map f o) P
+if_mapped f P None h = h
+if_mapped f P (Some x) h = h
+
 -- a book's tree is sound
 pub sound_of : LegalIsSound → (b : BookFacts) → IsBook b → IsSoundTree b.state.tree
 sound_of sound b is = subst (λ (s : State). IsSoundTree s.tree) (sym is.replayed) (sound b.platform b.history is.legal).tree
@@ -64,10 +69,11 @@ pub failed_put : (t u : TreeFacts) (marks : List Bool) (before after : List ℕ)
     → (old : TreeFacts) → AreMarksOf old t marks → after ≡ before ++ failed_lines old t
 failed_put t u marks before after same put = subst (λ (x : TreeFacts). (old : TreeFacts) → AreMarksOf old x marks → after ≡ before ++ failed_lines old x) same put
 
--- what is true on what was lent is true
-pub true_as : (p q : PlatformFacts) (t u : TreeFacts) (r : ℕ) (a b : Option BaseFacts) (c d : Claim) → p ≡ q → t ≡ u → a ≡ b → c ≡ d → IsTrueClaim p t.nodes r a c → IsTrueClaim q u.nodes r b d
-true_as p q t u r a b c d platform tree base same claim =
-    let first = subst (λ (x : PlatformFacts). IsTrueClaim x t.nodes r a c) platform claim in
-    let second = subst (λ (x : TreeFacts). IsTrueClaim q x.nodes r a c) tree first in
-    let third = subst (λ (x : Option BaseFacts). IsTrueClaim q u.nodes r x c) base second in
-    subst (λ (x : Claim). IsTrueClaim q u.nodes r b x) same third
+-- what holds of a claim on what was lent holds of it
+pub claim_as : (Holds : PlatformFacts → List NodeFacts → ℕ → Option BaseFacts → Claim → Type 0) (p q : PlatformFacts) (t u : TreeFacts) (r : ℕ) (a b : Option BaseFacts) (c d : Claim)
+    → p ≡ q → t ≡ u → a ≡ b → c ≡ d → Holds p t.nodes r a c → Holds q u.nodes r b d
+claim_as Holds p q t u r a b c d platform tree base same claim =
+    let first = subst (λ (x : PlatformFacts). Holds x t.nodes r a c) platform claim in
+    let second = subst (λ (x : TreeFacts). Holds q x.nodes r a c) tree first in
+    let third = subst (λ (x : Option BaseFacts). Holds q u.nodes r x c) base second in
+    subst (λ (x : Claim). Holds q u.nodes r b x) same third

@@ -43,7 +43,7 @@ not_true : (b c : Bool) → (b ≡ true → c ≡ true) → c ≡ false → b �
 not_true false c h e = refl
 not_true true c h e = absurd_true (sym (h refl) ∙ e)
 
-or_right : (b c : Bool) → (b || c) ≡ false → c ≡ false
+pub or_right : (b c : Bool) → (b || c) ≡ false → c ≡ false
 or_right false c e = e
 or_right true c e = absurd_true e
 

@@ -1,14 +1,22 @@
 -- The certificate of a script's decisions.
-use Rattle.std.specs.Prelude.{◌≡◌, ℕ, List, map, Bool, Result, Ok, Err}
+use Rattle.std.specs.Prelude.{◌≡◌, ℕ, All, IfSome, List, map, Bool, Result, Ok, Err}
 use Rattle.certificate_text.specs.Certificate.{certificate_text}
 use Rattle.certificate_text.specs.Told.{decision_data}
 use Rattle.serde_json.specs.Data.{Data}
+use Rattle.sysmem_alloc.specs.Claims.{HasProof}
 use Rattle.sysmem_sanitise.specs.Platform.{PlatformFacts}
 use Rattle.script_reading.specs.declared.fault.ScriptFault.{ScriptFault}
 use Rattle.script_run.specs.declared.running.CertifiedReport.{CertifiedReport}
-use Rattle.script_run.specs.Outcome.{RunsTo, RunsWith, SaysOf}
+use Rattle.script_run.specs.Outcome.{RunsTo, RunsWith}
 use Rattle.script_run.specs.Report.{Certified}
 use Rattle.std.specs.String.{string_bytes}
+
+-- a decision has its proof, where it has a claim
+abbrev pub IsProved : Certified → Type 0
+IsProved c = IfSome c.1 HasProof
+
+abbrev pub AreProved : List Certified → Type 0
+AreProved decisions = All IsProved decisions
 
 -- decisions as data, each with its path
 abbrev pub data_of : PlatformFacts → List Certified → List Data
@@ -18,9 +26,10 @@ data_of platform decisions = map (λ c. decision_data platform c.0 c.1) decision
 abbrev pub certificate_of : PlatformFacts → List Certified → List ℕ
 certificate_of platform decisions = certificate_text (data_of platform decisions)
 
--- a text is that of the decisions
-abbrev pub certified_by : List ℕ → SaysOf
-certified_by certificate platform decisions = certificate ≡ certificate_of platform decisions
+-- a text is that of the decisions, and each that has a claim has its proof
+pub record IsCertifiedBy (certificate : List ℕ) (platform : PlatformFacts) (decisions : List Certified) : Type 0 where
+  pub text : certificate ≡ certificate_of platform decisions
+  pub proved : AreProved decisions
 
 -- a report, the certificate of its decisions, and whether memory was refused
 pub record CertifiedFacts : Type 0 where
@@ -34,5 +43,5 @@ certified_seen c = record { text = string_bytes c.report.text; certificate = c.c
 
 -- what the bytes of a script give: a fault of theirs, or a report with its certificate
 abbrev pub CertifiesTo : List ℕ → Result CertifiedFacts ScriptFault → Type 0
-CertifiesTo input (Ok c) = RunsWith (certified_by c.certificate) input (Ok (record { text = c.text; starved = c.starved }))
+CertifiesTo input (Ok c) = RunsWith (IsCertifiedBy c.certificate) input (Ok (record { text = c.text; starved = c.starved }))
 CertifiesTo input (Err fault) = RunsTo input (Err fault)

@@ -4,6 +4,7 @@ use Rattle.std.specs.List.{AllZip}
 use Rattle.certificate_text.specs.Said.{claim_said}
 use Rattle.serde_json.specs.Data.{Data}
 use Rattle.script_reading.specs.Script.{CallFacts}
+use Rattle.sysmem_alloc.specs.Claims.{HasProof}
 use Rattle.sysmem_alloc.specs.State.{State as BookState, base_of, next_ready}
 use Rattle.sysmem_proof.specs.Base.{terms_of}
 use Rattle.sysmem_proof.specs.Claim.{IsTrueClaim}
@@ -21,11 +22,12 @@ use Rattle.script_run.specs.declared.decider.Objection.{Objection}
 use Rattle.script_run.specs.Report.{Certified, Goes, IsReported}
 use Rattle.script_run.specs.State.{RunState, first_run_state}
 
--- an object makes the claim that was taken as a decision, for the domain at its path
+-- an object makes the claim that was taken as a decision, with its proof, for the domain at its path
 pub record IsOf (platform : PlatformFacts) (object : Data) (c : Certified) : Type 0 where
   pub claim : Claim
   pub says : claim_said platform object ≡ Some (c.0, claim)
   pub taken : c.1 ≡ Some claim
+  pub proved : HasProof claim
 
 -- the decisions of a report in which memory is not refused are the claims of these objects, one after the other
 pub record AreTaken (platform : PlatformFacts) (rs : List CallFacts) (objects : List Data) : Type 0 where

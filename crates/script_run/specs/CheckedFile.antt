@@ -3,6 +3,7 @@ use Rattle.std.specs.Prelude.{◌≡◌, ◌≢◌, ℕ, ◌≤◌, ◌++◌, Li
 use Rattle.std.specs.Fmt.{decimal}
 use Rattle.std.specs.Io.KnownBytes.{Appends}
 use Rattle.byte_transfer.specs.Transfer.{WritesFront}
+use Rattle.certificate_text.specs.Paths.{path_text}
 use Rattle.serde_json.specs.Data.{Data}
 use Rattle.serde_json.specs.Find.{as_array}
 use Rattle.serde_json.specs.View.{items_of}
@@ -12,13 +13,12 @@ use Rattle.script_reading.specs.declared.fault.ScriptFault.{ScriptFault}
 use Rattle.sysmem_proof.specs.declared.no.No.{No}
 use Rattle.sysmem_proof.specs.declared.no.No.TheVariants.{WrongShape, WrongNode, NoConflict, NotMet, Missing, NotLeast}
 use Rattle.script_run.specs.Checked.{Answers}
-use Rattle.script_run.specs.Lines.{path_text}
 use Rattle.script_run.specs.Outcome.{RunsTo}
 use Rattle.script_run.specs.declared.checked_file.CheckAnswer.{CheckAnswer}
 use Rattle.script_run.specs.declared.checked_file.CheckAnswer.TheVariants as answers
 use Rattle.script_run.specs.declared.decider.Objection.{Objection}
 use Rattle.script_run.specs.declared.fault.RunFault.{RunFault}
-use Rattle.script_run.specs.declared.fault.RunFault.TheVariants.{NoMemory, Write, Script, Proof}
+use Rattle.script_run.specs.declared.fault.RunFault.TheVariants.{NoMemory, Read, Write, Script, Proof}
 use Rattle.script_run.specs.declared.running.Ended.{Ended}
 use Rattle.script_run.specs.declared.running.Ended.TheVariants.{Done, MemoryRefused, CheckedNo}
 
@@ -95,7 +95,7 @@ pub record WritesAnswerPart (input certificate : List ℕ) (before after : Optio
   pub front : WritesFront before after text
 
 -- the bytes are a script, and those of the certificate no list
-pub record IsRefused (input certificate : List ℕ) : Type 0 where
+pub record ProofIsRefused (input certificate : List ℕ) : Type 0 where
   pub script : ScriptFacts
   pub reads : IsScriptOf input script
   pub none : IsNoList certificate
@@ -110,7 +110,7 @@ pub record HasChecked (result : Result Ended RunFault) (had proof before after :
   pub no : result ≡ Ok CheckedNo → IfBoth had proof (λ input certificate. WritesNo input certificate before after)
   pub fed : result ≢ Ok MemoryRefused
   pub script : (fault : ScriptFault) → result ≡ Err (Script fault) → IfSome had (λ input. RunsTo input (Err fault))
-  pub proof_refused : result ≡ Err Proof → IfBoth had proof IsRefused
+  pub proof_refused : result ≡ Err Proof → IfBoth had proof ProofIsRefused
   pub front : result ≡ Err Write → IfBoth had proof (λ input certificate. WritesAnswerPart input certificate before after)
   pub unwritten : (fault : RunFault) → result ≡ Err fault → fault ≢ Write → Appends before after []
 
@@ -118,3 +118,16 @@ pub record HasChecked (result : Result Ended RunFault) (had proof before after :
 abbrev pub IsScriptFault : Result Ended RunFault → Type 0
 IsScriptFault (Err (Script fault)) = ⊤
 IsScriptFault _ = ⊥
+
+-- a reader, the writer or memory failed: no fault of the script or of the certificate
+abbrev pub IsOutside : RunFault → Type 0
+IsOutside Read = ⊤
+IsOutside Write = ⊤
+IsOutside NoMemory = ⊤
+IsOutside fault = ⊥
+
+-- how a check ends of bytes whose answer is yes, of so many objects: that was written, or a reader, the writer or memory failed
+abbrev pub EndsInYes : ℕ → Option (List ℕ) → Option (List ℕ) → Result Ended RunFault → Type 0
+EndsInYes many before after (Ok Done) = Appends before after (answer_text answers.Yes many)
+EndsInYes many before after (Ok ended) = ⊥
+EndsInYes many before after (Err fault) = IsOutside fault

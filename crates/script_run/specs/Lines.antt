@@ -15,6 +15,7 @@ use Rattle.sysmem_proof.specs.Chosen.{ChosenFacts}
 use Rattle.sysmem_sanitise.specs.Platform.{PlatformFacts}
 use Rattle.sysmem_sanitise.specs.Faults.{fault_text}
 use Rattle.sysmem_tree.specs.Refusal.{refusal_text}
+use Rattle.certificate_text.specs.Paths.{path_text}
 use Rattle.script_run.specs.declared.reply.Reply.{Reply}
 use Rattle.script_run.specs.declared.reply.Reply.TheVariants.{Accepted, Refused, Misread, Skipped}
 use Rattle.script_reading.specs.Call.{ActFacts, duplicates, binds, states, creates_group, creates_child, has_all_children, attaches_token, releases, closes, checks, waits, name_made}
@@ -77,15 +78,10 @@ settings_text platform s = (codes "count " ++ decimal s.count ++ codes " size " 
     ++ heap_text (slice_get platform.heaps s.place.heap)
     ++ (codes " " ++ domain_name s.place.coherency ++ codes " image ")
 
--- each number behind this mark: `/0/1`
+-- each number behind this mark: `.0.1`
 abbrev pub marked : List ℕ → List ℕ → List ℕ
 marked mark [] = []
 marked mark (n ∷ ns) = (mark ++ decimal n) ++ marked mark ns
-
--- `/` for the root, else `/0/1`
-abbrev pub path_text : List ℕ → List ℕ
-path_text [] = codes "/"
-path_text (ordinal ∷ ordinals) = marked (codes "/") (ordinal ∷ ordinals)
 
 -- `0.1`, one choice for each group in effect, or `-` where there is none
 abbrev pub selection_text : List ℕ → List ℕ

@@ -4,13 +4,13 @@ ghost use Rattle.std.specs.Prelude.{◌≡◌, ◌++◌, List, [], ◌∷◌, op
 ghost use Rattle.std.specs.Arc.{arc_value};
 ghost use Rattle.certificate_text.specs.Certificate.{HasTaken, certificate_text};
 ghost use Rattle.serde_json.specs.Data.{Data};
-ghost use Rattle.script_run.specs.Certificate.{data_of};
+ghost use Rattle.script_run.specs.Certificate.{AreProved, data_of};
 ghost use Rattle.script_run.specs.Report.{Certified};
 ghost use Rattle.sysmem_tree.specs.Domain.{HasDomain};
 ghost use Rattle.sysmem_tree.specs.Path.{path_of};
 
 use crate::decider::{Decider, Stop};
-use crate::deciding::claim_for;
+use crate::deciding::proved_claim_for;
 use certificate_text::CertificateWriter;
 use std::alloc::{AllocError, Global};
 use std::sync::Arc;
@@ -18,7 +18,7 @@ use sysmem_alloc::Book;
 use sysmem_proof::Claim;
 use sysmem_tree::DomainId;
 
-/// Searches for each verdict, and writes it with what proves it.
+/// Searches for each verdict, proves it, and writes it with its proof.
 #[derive(Drop)]
 pub(crate) struct Certifying {
     writer: CertificateWriter,
@@ -77,7 +77,8 @@ fn lent(claim: &Option<Arc<Claim>>) -> Option<&Claim>
 }
 
 impl Decider for Certifying {
-    ghost gave = { λ certifying platform decisions. HasTaken certifying.writer (data_of platform decisions) };
+    ghost gave = { λ certifying platform decisions.
+        HasTaken certifying.writer (data_of platform decisions) × AreProved decisions };
 
     ghost objects = { λ _ platform book domain objection. ⊥ };
 
@@ -89,7 +90,7 @@ impl Decider for Certifying {
         book: &Book,
         domain: DomainId,
     ) -> Result<Option<Arc<Claim>>, Stop> {
-        let claim = claim_for(alloc, book, domain);
+        let claim = proved_claim_for(alloc, book, domain);
         self.put(book, domain, &claim)?;
         Ok(claim)
     }

@@ -1,13 +1,16 @@
 //! The decision of the first domain that waits, and its line.
 
-ghost use Rattle.std.specs.Prelude.{◌≡◌, Some, option_map, OnOk};
+ghost use Rattle.std.specs.Prelude.{◌≡◌, Some, option_map, IfOk, IfSome, OnOk};
 ghost use Rattle.std.specs.Arc.{arc_value};
 ghost use Rattle.std.specs.String.{string_bytes};
+ghost use Rattle.sysmem_alloc.specs.Claims.{HasProof};
 ghost use Rattle.sysmem_alloc.specs.Decision.{verdict_in};
 ghost use Rattle.sysmem_alloc.specs.Entry.{Decided};
 ghost use Rattle.sysmem_alloc.specs.History.{Allows};
 ghost use Rattle.sysmem_alloc.specs.Sound.{MayWait};
 ghost use Rattle.sysmem_alloc.specs.State.{next_ready};
+ghost use Rattle.sysmem_proof.specs.Base.{IsGivenBase};
+ghost use Rattle.sysmem_proof.specs.Claim.{IsTrueClaim};
 ghost use Rattle.sysmem_proof.specs.declared.verdict.Verdict.TheVariants as verdicts;
 ghost use Rattle.sysmem_tree.specs.Domain.{HasDomain};
 ghost use Rattle.sysmem_tree.specs.Path.{path_of};
@@ -19,12 +22,12 @@ use std::sync::Arc;
 use sysmem_alloc::Book;
 use sysmem_image::corner;
 use sysmem_image::laws::no_corner;
-use sysmem_proof::{Chosen, Claim, Verdict};
+use sysmem_proof::{Base, Chosen, Claim, Proof, Verdict};
 use sysmem_sanitise::Platform;
-use sysmem_search::{NoGate, search};
-use sysmem_tree::{DomainId, Path};
+use sysmem_search::{NoGate, prove, search};
+use sysmem_tree::{DomainId, Path, Tree};
 
-/// An optimal verdict of the first domain that waits, with what proves it; `None` where memory is refused.
+/// An optimal verdict of the first domain that waits, without what proves it; `None` where memory is refused.
 pub(crate) fn claim_for(alloc: Global, book: &Book, domain: DomainId) -> Option<Arc<Claim>>
     requires next { next_ready book.now.state ≡ Some domain }
     requires waits { MayWait book.now.state.tree domain }
@@ -42,12 +45,58 @@ pub(crate) fn claim_for(alloc: Global, book: &Book, domain: DomainId) -> Option<
     };
     let claim = Claim {
         verdict: found.verdict,
-        proof: found.proof,
+        proof: Proof::Nothing,
     };
     let Ok(shared) = Arc::new(alloc, claim) else {
         return None;
     };
     Some(shared)
+}
+
+/// An optimal verdict of the first domain that waits, with what proves it; `None` where memory is refused.
+pub(crate) fn proved_claim_for(alloc: Global, book: &Book, domain: DomainId) -> Option<Arc<Claim>>
+    requires next { next_ready book.now.state ≡ Some domain }
+    requires waits { MayWait book.now.state.tree domain }
+    ensures allowed { Allows book.now.platform book.now.state (Decided (record {
+      domain = domain;
+      claim = option_map (λ shared. arc_value shared) result;
+    })) }
+    ensures proved { IfSome result (λ shared. HasProof (arc_value shared)) }
+{
+    let Ok(base) = book.base(domain) else {
+        return None;
+    };
+    let platform = book.platform();
+    let tree = book.tree();
+    let Ok(claim) = proved_claim(alloc, platform, tree, domain, base.as_ref()) else {
+        return None;
+    };
+    let Ok(shared) = Arc::new(alloc, claim) else {
+        return None;
+    };
+    Some(shared)
+}
+
+/// What a search finds, with what proves it.
+fn proved_claim(
+    alloc: Global,
+    platform: &Platform,
+    tree: &Tree,
+    domain: DomainId,
+    base: Option<&Base>,
+) -> Result<Claim, AllocError>
+    requires waits { MayWait tree.now domain }
+    requires base { IsGivenBase platform.now tree.now.nodes domain
+        (option_map (λ b. b.now) base) }
+    ensures { IfOk result (IsTrueClaim platform.now tree.now.nodes domain
+        (option_map (λ b. b.now) base.entry)) }
+{
+    let found = search(alloc, platform, tree, domain, base, &NoGate)?;
+    let proof = prove(alloc, platform, tree, domain, base, &found.verdict)?;
+    Ok(Claim {
+        verdict: found.verdict,
+        proof,
+    })
 }
 
 /// Puts the line of a decision that the book allows behind the text.

@@ -2,10 +2,12 @@
 
 ghost use Rattle.std.specs.Prelude.{◌≡◌, ℕ, ◌++◌, codes, option_map, slice_get};
 ghost use Rattle.std.specs.Fmt.{decimal};
-ghost use Rattle.script_run.specs.Lines.{Puts, chosen_text, domain_line, heap_text, image_text, marked, path_text, selection_text, settings_text};
+ghost use Rattle.certificate_text.specs.Paths.{path_text};
+ghost use Rattle.script_run.specs.Lines.{Puts, chosen_text, domain_line, heap_text, image_text, marked, selection_text, settings_text};
 ghost use Rattle.sysmem_tree.specs.Domain.{HasDomain};
 ghost use Rattle.sysmem_tree.specs.Path.{path_of};
 
+use certificate_text::push_path;
 use std::alloc::AllocError;
 use std::fmt::Write;
 use sysmem_formats::{ColourSpace, Offer, Pair};
@@ -66,32 +68,8 @@ pub(crate) fn put_path(text: &mut String, path: &Path) -> Result<(), AllocError>
     ensures { Puts result text.old text.new (codes "domain " ++ path_text path.now) }
 {
     text.push_str("domain ")?;
-    put_steps(text, path.ordinals())?;
+    push_path(text, path.ordinals())?;
     Ok(())
-}
-
-fn put_steps(text: &mut String, ordinals: &[u32]) -> Result<(), AllocError>
-    ensures { Puts result text.old text.new (path_text ordinals.now) }
-{
-    if ordinals.is_empty() {
-        return text.push_str("/");
-    }
-    put_ordinals(text, ordinals)
-}
-
-fn put_ordinals(text: &mut String, ordinals: &[u32]) -> Result<(), AllocError>
-    ensures { Puts result text.old text.new (marked (codes "/") ordinals.now) }
-{
-    for ordinal in ordinals {
-        put_ordinal(text, *ordinal)?;
-    }
-    Ok(())
-}
-
-fn put_ordinal(text: &mut String, ordinal: u32) -> Result<(), AllocError>
-    ensures { Puts result text.old text.new (codes "/" ++ decimal ordinal) }
-{
-    write!(text, "/{ordinal}")
 }
 
 fn put_selection(text: &mut String, choices: &[u8]) -> Result<(), AllocError>

@@ -1,6 +1,6 @@
 //! What is true of reports, whoever writes them.
 
-ghost use Rattle.script_run.specs.Laws.{CertificatesReadBack, CertifiedIsReport, FaultIsAlone, OneAnswer, OneCheck, OneReport};
+ghost use Rattle.script_run.specs.Laws.{CertificatesAreAccepted, CertificatesReadBack, CertifiedIsReport, FaultIsAlone, OneAnswer, OneCheck, OneReport};
 
 use certificate_text::laws::{
     claims_read_back, node_paths_can_be_read, texts_read_back, true_claims_can_be_read,
@@ -53,4 +53,16 @@ pub fn one_check()
 {
     tests_are_exact();
     faults_are_first();
+}
+
+/// The certificate that a run makes is accepted, where memory was not refused and it has at most 4,194,304 bytes: the bytes of the
+/// script and of the certificate answer yes, with the number of the report's decisions. Each check of them writes that, unless
+/// a reader, the writer or memory fails.
+pub fn certificates_are_accepted()
+    ensures { CertificatesAreAccepted }
+{
+    certificates_read_back();
+    one_check();
+    certified_is_report();
+    fault_is_alone();
 }

@@ -21,4 +21,5 @@ pub mod Awaiting
 pub mod GivenBases
 pub mod Keeping
 pub mod Lasting
+pub mod TrueClaims
 pub mod CallerLemmas

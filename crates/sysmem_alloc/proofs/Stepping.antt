@@ -6,7 +6,6 @@ use Rattle.sysmem_proof.specs.declared.certificate.Claim.{Claim}
 use Rattle.sysmem_proof.specs.declared.verdict.Verdict.{Verdict}
 use Rattle.sysmem_proof.specs.declared.verdict.Verdict.TheVariants as verdicts
 use Rattle.sysmem_proof.specs.Base.{BaseFacts}
-use Rattle.sysmem_proof.specs.Claim.{IsTrueClaim}
 use Rattle.sysmem_proof.specs.Verdict.{IsOptimalIn}
 use Rattle.sysmem_sanitise.specs.Platform.{PlatformFacts}
 use Rattle.sysmem_tree.specs.declared.refusal.Refusal.{Refusal}
@@ -19,6 +18,7 @@ use Rattle.sysmem_tree.specs.Node.{NodeFacts}
 use Rattle.sysmem_tree.specs.Selection.{IsSelection}
 use Rattle.sysmem_tree.specs.Shape.{by_number, forest_of}
 use Rattle.sysmem_tree.specs.Tree.{Applied, applied, decided}
+use Rattle.sysmem_alloc.specs.Claims.{IsRightClaim}
 use Rattle.sysmem_alloc.specs.Decision.{Decision, answer_of, choices_of, verdict_in}
 use Rattle.sysmem_alloc.specs.Entry.{BookEntry, Acted, Decided, tree_entry}
 use Rattle.sysmem_alloc.specs.History.{after_answer, after_entry, replay_from, replay, Allows, AreAllowed, IsLegal}
@@ -30,8 +30,8 @@ use Rattle.sysmem_alloc.proofs.Lists.{all_append, all_weaken}
 use Rattle.sysmem_alloc.proofs.Relabelled.{by_numbers}
 use Rattle.sysmem_alloc.proofs.Trees.{acted_there, decided_there, added, acted_roots, decided_roots, added_unready}
 
--- the verdict of a true claim is optimal
-pub claims_optimal : (platform : PlatformFacts) (nodes : List NodeFacts) (r : ℕ) (base : Option BaseFacts) (claim : Option Claim) → IfSome claim (IsTrueClaim platform nodes r base)
+-- the verdict of a right claim is optimal
+pub claims_optimal : (platform : PlatformFacts) (nodes : List NodeFacts) (r : ℕ) (base : Option BaseFacts) (claim : Option Claim) → IfSome claim (IsRightClaim platform nodes r base)
     → IfSome (verdict_in claim) (IsOptimalIn platform nodes r base)
 claims_optimal platform nodes r base None h = tt
 claims_optimal platform nodes r base (Some c) h = h.optimal

@@ -10,7 +10,7 @@ pub record Decision : Type 0 where
   pub domain : ℕ
   pub verdict : Option Verdict
 
--- a decision with what proves its verdict: the domain that this node roots, and the claim, or none where memory was wanted
+-- a decision with its claim: the domain that this node roots, and the claim, or none where memory was wanted
 pub record Claimed : Type 0 where
   pub domain : ℕ
   pub claim : Option Claim

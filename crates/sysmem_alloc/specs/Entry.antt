@@ -13,7 +13,7 @@ use Rattle.sysmem_tree.specs.History.{HistoryEntry}
 use Rattle.sysmem_tree.specs.History as trees
 use Rattle.sysmem_tree.specs.Node.{NodeFacts}
 
--- an accepted action on a node, or the decision of a domain with what proves it
+-- an accepted action on a node, or the decision of a domain with its claim
 pub data BookEntry : Type 0 where
   Acted : ℕ → Deed → BookEntry
   Decided : Claimed → BookEntry

@@ -1,10 +1,10 @@
 -- Histories of a book: the states that they lead to, and which are legal.
 use Rattle.std.specs.Prelude.{◌≡◌, List, [], ◌∷◌, Some, Result, Ok, Err, IsOk, IfSome, map}
-use Rattle.sysmem_proof.specs.Claim.{IsTrueClaim}
 use Rattle.sysmem_sanitise.specs.Platform.{PlatformFacts}
 use Rattle.sysmem_tree.specs.declared.refusal.Refusal.{Refusal}
 use Rattle.sysmem_tree.specs.History as trees
 use Rattle.sysmem_tree.specs.Tree.{Applied, applied, decided}
+use Rattle.sysmem_alloc.specs.Claims.{IsRightClaim}
 use Rattle.sysmem_alloc.specs.Decision.{answer_of, choices_of}
 use Rattle.sysmem_alloc.specs.Entry.{BookEntry, Acted, Decided, tree_entry}
 use Rattle.sysmem_alloc.specs.Sound.{AllOf}
@@ -29,11 +29,11 @@ replay_from s (e ∷ es) = replay_from (after_entry s e) es
 abbrev pub replay : List BookEntry → State
 replay es = replay_from first_state es
 
--- an action may be entered that the tree accepts; a decision, where it is of the first domain that waits, with a claim that is true of it on
+-- an action may be entered that the tree accepts; a decision, where it is of the first domain that waits, with a claim that is right for it on
 -- what it is decided on, or with none, for want of memory
 abbrev pub Allows : PlatformFacts → State → BookEntry → Type 0
 Allows platform s (Acted i deed) = IsOk (applied s.tree i deed)
-Allows platform s (Decided c) = (next_ready s ≡ Some c.domain) × IfSome c.claim (IsTrueClaim platform s.tree.nodes c.domain (base_of s c.domain))
+Allows platform s (Decided c) = (next_ready s ≡ Some c.domain) × IfSome c.claim (IsRightClaim platform s.tree.nodes c.domain (base_of s c.domain))
 
 -- each step enters what the state before it allows
 pub record IsStep (platform : PlatformFacts) (old : State) (e : BookEntry) (new : State) : Type 0 where

@@ -1,17 +1,19 @@
 -- What is true of legal histories.
-use Rattle.std.specs.Prelude.{◌≡◌, ◌≤◌, ◌++◌, ℕ, true, List, length, Some, map}
+use Rattle.std.specs.Prelude.{◌≡◌, ◌↔◌, ◌≤◌, ◌++◌, ℕ, true, List, length, Option, Some, map}
 use Rattle.std.specs.List.{Contains}
 use Rattle.sysmem_proof.specs.declared.certificate.Claim.{Claim}
 use Rattle.sysmem_proof.specs.declared.verdict.Verdict.{Verdict}
-use Rattle.sysmem_proof.specs.Base.{IsGivenBase}
+use Rattle.sysmem_proof.specs.Base.{BaseFacts, IsGivenBase}
 use Rattle.sysmem_proof.specs.Claim.{IsTrueClaim}
 use Rattle.sysmem_proof.specs.Verdict.{IsOptimalIn, IsSameAnswer}
 use Rattle.sysmem_sanitise.specs.Platform.{PlatformFacts}
 use Rattle.sysmem_tree.specs.Domain.{HasDomain, decision_of, is_ready, is_undecided}
 use Rattle.sysmem_tree.specs.Laws.{SameInitial, SameReady, IsSameDomain}
+use Rattle.sysmem_tree.specs.Node.{NodeFacts}
 use Rattle.sysmem_tree.specs.Path.{at_path}
 use Rattle.sysmem_tree.specs.Step.{IsInitial}
 use Rattle.sysmem_tree.specs.History.{log_at}
+use Rattle.sysmem_alloc.specs.Claims.{HasProof, IsRightClaim}
 use Rattle.sysmem_alloc.specs.Decision.{Decision, decision_for}
 use Rattle.sysmem_alloc.specs.Entry.{BookEntry, tree_entry}
 use Rattle.sysmem_alloc.specs.History.{AreActions, IsLegal, NoEarlyClose, SameCalls, replay}
@@ -77,3 +79,8 @@ pub record StaysNext (old new : State) (r : ℕ) : Type 0 where
 abbrev pub NextStays : Type 0
 NextStays = (platform : PlatformFacts) (es fs : List BookEntry) (r : ℕ) → IsLegal platform (es ++ fs) → AreActions fs → next_ready (replay es) ≡ Some r
     → StaysNext (replay es) (replay (es ++ fs)) r
+
+-- a claim is true exactly where it is right and has its proof
+abbrev pub ProvedClaimsAreTrue : Type 0
+ProvedClaimsAreTrue = (platform : PlatformFacts) (nodes : List NodeFacts) (domain : ℕ) (base : Option BaseFacts) (claim : Claim)
+    → IsTrueClaim platform nodes domain base claim ↔ (IsRightClaim platform nodes domain base claim × HasProof claim)

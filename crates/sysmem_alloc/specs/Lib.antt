@@ -1,3 +1,4 @@
+pub mod Claims
 pub mod Decision
 pub mod Entry
 pub mod State

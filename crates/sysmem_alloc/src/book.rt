@@ -3,13 +3,13 @@
 ghost use Rattle.std.specs.Prelude.{◌≡◌, Some, Ok, Err, map, option_map, is_some, IfOk, IfErr, IfSome, OnErr, OnOk};
 ghost use Rattle.std.specs.Arc.{arc_value};
 ghost use Rattle.sysmem_alloc.specs.Book.{IsBook, entered, new_book};
+ghost use Rattle.sysmem_alloc.specs.Claims.{IsRightClaim};
 ghost use Rattle.sysmem_alloc.specs.Entry.{Acted, Decided, entry_in};
 ghost use Rattle.sysmem_alloc.specs.Frozen.{frozen_of};
 ghost use Rattle.sysmem_alloc.specs.History.{IsStep};
 ghost use Rattle.sysmem_alloc.specs.Sound.{MayWait};
 ghost use Rattle.sysmem_alloc.specs.State.{base_of, next_ready, verdict_of};
 ghost use Rattle.sysmem_proof.specs.Base.{IsGivenBase};
-ghost use Rattle.sysmem_proof.specs.Claim.{IsTrueClaim};
 ghost use Rattle.sysmem_tree.specs.ActionKind.{deed_of};
 ghost use Rattle.sysmem_tree.specs.Domain.{HasDomain};
 ghost use Rattle.sysmem_tree.specs.Tree.{applied};
@@ -233,12 +233,12 @@ impl Book {
         Ok(Done { node, ready })
     }
 
-    /// Enters the decision of the domain that is to be decided next: a verdict that is optimal for it with what proves it, or `None`
-    /// where memory was refused to it. It takes no memory.
+    /// Enters the decision of the domain that is to be decided next: a verdict that is optimal for it, with what proves it or with
+    /// `Proof::Nothing`, or `None` where memory was refused to it. It takes no memory.
     pub fn decide(&mut self, domain: DomainId, claim: Option<Arc<Claim>>)
         requires next { next_ready self.old.state ≡ Some domain }
-        requires true_of { IfSome claim (λ shared.
-            IsTrueClaim self.old.platform self.old.state.tree.nodes domain
+        requires right { IfSome claim (λ shared.
+            IsRightClaim self.old.platform self.old.state.tree.nodes domain
             (base_of self.old.state domain) (arc_value shared)) }
         ensures entered { self.new ≡ entered self.old (Decided (record {
           domain = domain;

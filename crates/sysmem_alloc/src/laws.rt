@@ -1,6 +1,6 @@
 //! What is true of the histories of books, whoever keeps them.
 
-ghost use Rattle.sysmem_alloc.specs.Laws.{LegalIsSound, LegalAgrees, BaseIsGiven, FewEntries, ReadyWaits, VerdictStays, NextStays, InitialShape, Confluence};
+ghost use Rattle.sysmem_alloc.specs.Laws.{LegalIsSound, LegalAgrees, BaseIsGiven, FewEntries, ReadyWaits, VerdictStays, NextStays, InitialShape, Confluence, ProvedClaimsAreTrue};
 
 use sysmem_proof::laws::one_answer;
 use sysmem_tree::laws;
@@ -100,3 +100,9 @@ pub fn next_stays()
     forest_stays();
     members_stay();
 }
+
+/// A claim is true exactly where it is right, as a book takes it, and has its proof. So what was entered with its proof is a claim to which
+/// `check` of `sysmem_proof` says yes.
+pub fn proved_claims_are_true()
+    ensures { ProvedClaimsAreTrue }
+{}

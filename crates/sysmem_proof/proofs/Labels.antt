@@ -42,7 +42,7 @@ module _ {A : Type 0} (P : A → Type 0) where
   one_choice c None e all is = absurd (cc)
   one_choice c (Some es) e all is = all_at AllIn es c e is all
 
-  in_after : (cs : List ℕ) (d e : Forest A) → AllIn d → after d cs ≡ Some e → AllIn e
+  pub in_after : (cs : List ℕ) (d e : Forest A) → AllIn d → after d cs ≡ Some e → AllIn e
   in_after [] d e all is = subst AllIn (same_Some d e is) all
   in_after (c ∷ cs) d e all is = option_and_then_some (λ x. after x cs) (option_and_then (λ es. slice_get es c) (choices d)) e is
       (λ x one on. in_after cs x e (one_choice c (choices d) x (in_choices d all) one) on)
@@ -51,7 +51,7 @@ module _ {A : Type 0} (P : A → Type 0) where
   both_all [] ys a b = b
   both_all (x ∷ xs) ys a b = (a.0, both_all xs ys a.1 b)
 
-  in_settled : (d : Forest A) → AllIn d → AllOf P (settled d)
+  pub in_settled : (d : Forest A) → AllIn d → AllOf P (settled d)
   in_settled Empty all = tt
   in_settled (Plain n kids rest) all = (all.0, both_all (settled kids) (settled rest) (in_settled kids all.1) (in_settled rest all.2))
   in_settled (Group n kids rest) all = (all.0, in_settled rest all.2)
@@ -63,7 +63,7 @@ module _ {A : Type 0} (P : A → Type 0) where
     by None is = tt
     by (Some e) is = in_settled e (in_after cs d e all is)
 
-  in_tree : (kind : NodeKind) (n : A) (kids rest : Forest A) → P n → AllIn kids → AllIn rest → AllIn (tree_of kind n kids rest)
+  pub in_tree : (kind : NodeKind) (n : A) (kids rest : Forest A) → P n → AllIn kids → AllIn rest → AllIn (tree_of kind n kids rest)
   in_tree kinds.Token n kids rest p a b = (p, a, b)
   in_tree kinds.Collection n kids rest p a b = (p, a, b)
   in_tree kinds.Group n kids rest p a b = (p, a, b)

@@ -100,7 +100,7 @@ pub enum Proof {
     Choice(Certificate),
     /// That no settings meet any selection.
     Empty(Refutation),
-    /// Of more selections than a decision goes through, which need no proof, and of what isn't a decision.
+    /// Of more selections than a decision goes through, which need no proof, of what isn't a decision, and where no proof was asked for.
     Nothing,
 }
 

@@ -15,7 +15,7 @@ use crate::roll::Roll;
 use std::marker::Model;
 use sysmem_sanitise::Platform;
 use sysmem_tree::layout_laws::{choices_leave_one_forest, few_children, few_choices};
-use sysmem_tree::{DomainId, Prefix, Tree};
+use sysmem_tree::{DomainId, Layout, Prefix, Tree};
 
 /// A domain of a tree on a platform, with its base where it is an attached one.
 #[derive(Drop)]
@@ -24,13 +24,19 @@ pub(crate) struct Checker<'a> {
     pub(crate) tree: &'a Tree,
     pub(crate) domain: DomainId,
     pub(crate) base: Option<&'a Base>,
+    /// The domain's layout, made once for all choices.
+    layout: Layout,
 }
 
 impl<'a> Model for Checker<'a> {
     ghost use Rattle.std.specs.Prelude.{option_map};
     ghost use Rattle.sysmem_proof.specs.Base.{IsGivenBase};
     ghost use Rattle.sysmem_proof.specs.Matter.{Matter};
+    ghost use Rattle.std.specs.Prelude.{[]};
     ghost use Rattle.sysmem_tree.specs.Domain.{HasDomain, IsSoundTree};
+    ghost use Rattle.sysmem_tree.specs.Layout.{IsLayout};
+    ghost use Rattle.sysmem_tree.specs.OpenGroups.{HoldsNodes};
+    ghost use Rattle.sysmem_tree.specs.Shape.{by_number, forest_of};
 
     ghost Value = { Matter };
 
@@ -43,7 +49,9 @@ impl<'a> Model for Checker<'a> {
 
     ghost invariant = { λ c. HasDomain c.tree.now.nodes c.domain × IsSoundTree c.tree.now
         × IsGivenBase c.platform.now c.tree.now.nodes c.domain
-        (option_map (λ b. b.now) c.base) };
+        (option_map (λ b. b.now) c.base)
+        × IsLayout c.layout (forest_of by_number c.tree.now.nodes c.domain [])
+        × HoldsNodes c.layout c.tree.now.nodes };
 }
 
 impl<'a> Checker<'a> {
@@ -70,6 +78,7 @@ impl<'a> Checker<'a> {
             tree,
             domain,
             base,
+            layout: tree.layout(domain),
         }
     }
 
@@ -87,8 +96,7 @@ impl<'a> Checker<'a> {
         self.base
     }
 
-    /// How many children the group has that is next after these choices; `None` where they are a selection. It takes one pass over the
-    /// nodes.
+    /// How many children the group has that is next after these choices; `None` where they are a selection.
     pub(crate) fn children(&self, prefix: &Prefix) -> Option<u8>
         requires { IsPrefix (forest self.now) prefix.now }
         ensures number { (d : Forest Member) → after (forest self.now) prefix.now ≡ Some d
@@ -97,7 +105,7 @@ impl<'a> Checker<'a> {
         choices_leave_one_forest();
         few_children();
         self.tree.nodes();
-        let (_, children) = self.tree.next_group(self.domain, prefix)?;
+        let (_, children) = self.layout.next_group(prefix)?;
         Some(children as u8)
     }
 
@@ -116,7 +124,7 @@ impl<'a> Checker<'a> {
         ensures { (d : Forest Member) → after (forest self.now) prefix.now ≡ Some d
             → listed result ≡ settled d }
     {
-        Roll::new(self.tree, self.domain, prefix, &[])
+        Roll::new(self.tree, self.domain, &self.layout, prefix, &[])
     }
 
     /// Those accepted before, by its base, and those whom these choices settle.
@@ -126,6 +134,12 @@ impl<'a> Checker<'a> {
         ensures { (d : Forest Member) → after (forest self.now) prefix.now ≡ Some d
             → listed result ≡ members_at self.now.nodes base.now.accepted ++ settled d }
     {
-        Roll::new(self.tree, self.domain, prefix, base.accepted())
+        Roll::new(
+            self.tree,
+            self.domain,
+            &self.layout,
+            prefix,
+            base.accepted(),
+        )
     }
 }

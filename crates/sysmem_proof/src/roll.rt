@@ -1,6 +1,6 @@
 //! Whom a line may name.
 
-ghost use Rattle.std.specs.Prelude.{◌≡◌, ◌≤◌, ◌<◌, ◌==◌, ◌||◌, ◌++◌, ℕ, false, None, All, IfSome, get_or, is_some, length, option_and_then, option_map, slice_get, if◌then◌else◌};
+ghost use Rattle.std.specs.Prelude.{◌≡◌, ◌≤◌, ◌<◌, ◌==◌, ◌||◌, ◌++◌, ℕ, [], false, None, All, IfSome, get_or, is_some, length, option_and_then, option_map, slice_get, if◌then◌else◌};
 ghost use Rattle.std.specs.List.{filter_map, list_any};
 ghost use Rattle.sysmem_proof.specs.Fault.{AreNamed};
 ghost use Rattle.sysmem_proof.specs.Members.{participants};
@@ -8,15 +8,17 @@ ghost use Rattle.sysmem_proof.specs.Naming.{asked_at};
 ghost use Rattle.sysmem_proof.specs.Roll.{asked_on, listed, numbers_on};
 ghost use Rattle.sysmem_tree.specs.Domain.{HasDomain};
 ghost use Rattle.sysmem_tree.specs.Laws.{IsOnlyPath};
+ghost use Rattle.sysmem_tree.specs.Layout.{IsLayout};
 ghost use Rattle.sysmem_tree.specs.Nodes.{HasNode};
+ghost use Rattle.sysmem_tree.specs.OpenGroups.{HoldsNodes};
 ghost use Rattle.sysmem_tree.specs.Selection.{IsPrefix};
-ghost use Rattle.sysmem_tree.specs.Shape.{shape_of};
+ghost use Rattle.sysmem_tree.specs.Shape.{by_number, forest_of, shape_of};
 
 use std::marker::Model;
 use sysmem_sanitise::Constraints;
 use sysmem_tree::laws::{one_forest, one_path};
 use sysmem_tree::layout_laws::choices_leave_one_forest;
-use sysmem_tree::{DomainId, NodeId, Path, Prefix, Tree};
+use sysmem_tree::{DomainId, Layout, NodeId, Path, Prefix, Tree};
 
 /// The participants that choices settle in a domain of a tree, and those that were accepted before where they may be named too.
 #[derive(Drop)]
@@ -53,14 +55,17 @@ impl<'a> Model for Roll<'a> {
 }
 
 impl<'a> Roll<'a> {
-    /// Of what these choices settle in the domain, and these nodes.
+    /// Of what these choices settle in the domain that is laid out so, and these nodes.
     pub(crate) fn new(
         tree: &'a Tree,
         domain: DomainId,
+        layout: &Layout,
         prefix: &'a Prefix,
         accepted: &'a [NodeId],
     ) -> Roll<'a>
         requires domain { HasDomain tree.now.nodes domain }
+        requires lays { IsLayout layout.now (forest_of by_number tree.now.nodes domain []) }
+        requires nodes { HoldsNodes layout.now tree.now.nodes }
         requires prefix { IsPrefix (shape_of tree.now.nodes domain) prefix.now }
         requires there { All (HasNode tree.now.nodes) accepted.now }
         ensures { result ≡ record {
@@ -72,7 +77,7 @@ impl<'a> Roll<'a> {
     {
         tree.nodes();
         choices_leave_one_forest();
-        let mut marks = tree.settled_marks(domain, prefix);
+        let mut marks = layout.settled_marks(prefix);
         mark_all(tree, accepted, &mut marks);
         Roll {
             tree,

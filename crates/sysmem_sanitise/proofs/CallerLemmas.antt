@@ -1,10 +1,25 @@
--- What callers need of the definitions of records, and that what `==` calls equal is equal.
+-- What callers need of the definitions of records: what names name, that what `==` calls equal is equal, and that a platform's record
+-- states a platform.
+pub use Rattle.sysmem_sanitise.proofs.Names.{named_by, format_found, modifier_found, colour_found, domain_found, own_format_name, own_modifier_name, own_colour_name, own_domain_name}
 pub use Rattle.sysmem_sanitise.proofs.Same.{same_pair, same_colour, same_bounds}
-use Rattle.std.proofs.Common.{◌≡◌}
+use Rattle.std.proofs.Common.{◌≡◌, ◌≤◌, ◌-◌, ◌^◌, Ok}
+use Rattle.std.specs.Prelude.{All}
+use Rattle.serde_json.specs.Data.{Data}
 use Rattle.sysmem_image.specs.declared.entry.EntryBounds.{EntryBounds}
 use Rattle.sysmem_sanitise.specs.Reading.Bounds.{stated_by, bounds_by}
+use Rattle.sysmem_sanitise.specs.Platform.{PlatformFacts, IsPlatform}
+use Rattle.sysmem_sanitise.specs.Reading.{platform_of}
 use Rattle.sysmem_sanitise.proofs.Bounds as bounds
+use Rattle.sysmem_sanitise.proofs.Platforms.{platform_of-is}
 
 -- bounds are those of their numbers
 pub bounds_by_numbers : (b : EntryBounds) → bounds_by (stated_by b) ≡ b
 bounds_by_numbers = bounds.bounds_by-stated_by
+
+-- what a platform's record states is what a platform may have
+pub stated_platform : (d : Data) (p : PlatformFacts) → platform_of d ≡ Ok p → IsPlatform p.heaps p.pairs p.colours
+stated_platform d p gives = (platform_of-is d p gives).platform
+
+-- and the ids of its heaps are of 64 bits
+pub stated_ids : (d : Data) (p : PlatformFacts) → platform_of d ≡ Ok p → All (λ h. h.heap.id ≤ 2 ^ 64 - 1) p.heaps
+stated_ids d p gives = (platform_of-is d p gives).ids

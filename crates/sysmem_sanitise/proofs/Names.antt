@@ -27,7 +27,7 @@ none_named name_of (x ∷ xs) name none =
     not_first _ _ _ _ (bytes_eq-Decides (name_of x) name) (λ e. none x (sym e)) ∙ none_named name_of xs name none
 
 -- what is found for exactly its own name is the one that has the name, where each is found by its own name
-named_by : {X : Type 0} (name_of : X → List ℕ) (xs : List X) (name : List ℕ) (found : Option X)
+pub named_by : {X : Type 0} (name_of : X → List ℕ) (xs : List X) (name : List ℕ) (found : Option X)
     → ((x : X) → find_named name_of xs (name_of x) ≡ Some x) → ((x : X) → (found ≡ Some x) ↔ (name ≡ name_of x)) → found ≡ find_named name_of xs name
 named_by name_of xs name (Some x) own exact = sym (ap (find_named name_of xs) ((exact x).0 refl) ∙ own x)
 named_by {X} name_of xs name None own exact = sym (none_named name_of xs name (λ x e. let h : None ≡ Some x = (exact x).1 e in absurd (cc)))
@@ -85,3 +85,19 @@ colour_found name found exact = named_by colour_name colours name found own_colo
 pub domain_found : (name : List ℕ) (found : Option CoherencyDomain) → ((x : CoherencyDomain) → (found ≡ Some x) ↔ (name ≡ domain_name x)) → found ≡ domain_named name
 unfolding domain_named
 domain_found name found exact = named_by domain_name domains name found own_domain exact
+
+pub own_format_name : (x : PixelFormat) → format_named (format_name x) ≡ Some x
+unfolding format_named
+own_format_name x = own_format x
+
+pub own_modifier_name : (x : Modifier) → modifier_named (modifier_name x) ≡ Some x
+unfolding modifier_named
+own_modifier_name x = own_modifier x
+
+pub own_colour_name : (x : ColourSpace) → colour_named (colour_name x) ≡ Some x
+unfolding colour_named
+own_colour_name x = own_colour x
+
+pub own_domain_name : (x : CoherencyDomain) → domain_named (domain_name x) ≡ Some x
+unfolding domain_named
+own_domain_name x = own_domain x

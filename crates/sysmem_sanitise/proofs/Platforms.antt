@@ -1,5 +1,5 @@
 -- What a platform's record states is what a platform may have.
-use Rattle.std.proofs.Common.{◌≡◌, ◌≢◌, ◌≤◌, ◌==◌, true, false, not, List, [], ◌∷◌, ◌++◌, length, None, Ok, refl, subst, arith, rules, tests, length-append, Decides, ◌∙◌}
+use Rattle.std.proofs.Common.{◌≡◌, ◌≢◌, ◌≤◌, ◌==◌, ◌-◌, ◌^◌, true, false, not, List, [], ◌∷◌, ◌++◌, length, None, Ok, refl, subst, arith, rules, tests, length-append, Decides, ◌∙◌}
 use Rattle.std.specs.Prelude.{All, AllPairs, nat_lt}
 use Rattle.std.proofs.lemmas.List.Elements.{All-push}
 use Rattle.std.proofs.lemmas.List.Quantifiers.{all_pairs_push}
@@ -9,20 +9,28 @@ use Rattle.sysmem_formats.specs.declared.colour_space.ColourSpace.TheVariants.{S
 use Rattle.sysmem_formats.specs.declared.offer.Pair.{Pair}
 use Rattle.sysmem_formats.specs.Layout.{IsTiledMisfit}
 use Rattle.sysmem_memory.specs.Heap.{HeapFacts, same_heap}
-use Rattle.sysmem_sanitise.specs.Reading.Fields.{passing, list_of, named, read_each}
+use Rattle.sysmem_counts.specs.declared.field.Field.TheVariants as field
+use Rattle.sysmem_sanitise.specs.declared.fault.Code.TheVariants as code
+use Rattle.sysmem_sanitise.specs.declared.fault.FaultPlace.TheVariants.{Whole}
+use Rattle.sysmem_sanitise.specs.Reading.Fields.{passing, object_of, required, stated, list_of, named, read_each}
 use Rattle.sysmem_sanitise.specs.Reading.Heaps.{heap_of, has_heap, with_heap, heaps_of}
 use Rattle.sysmem_sanitise.specs.Reading.Names.{colour_named}
 use Rattle.sysmem_sanitise.specs.Reading.Pairs.{same_pair, has_pair, same_colour, lists_colour, is_tiled_misfit}
-use Rattle.sysmem_sanitise.specs.Reading.Platform.{pair_of, with_pair, pairs_of, with_new_colour, colours_of}
-use Rattle.sysmem_sanitise.specs.Platform.{IsHeap}
-use Rattle.sysmem_sanitise.proofs.Heaps.{heap_of-is}
-use Rattle.sysmem_sanitise.proofs.Steps.{bind-ok, ok-same, passing-ok, not-true, none_passes, each-keeps, some, below}
+use Rattle.sysmem_sanitise.specs.Reading.Platform.{pair_of, with_pair, pairs_of, with_new_colour, colours_of, platform_fields, platform_of}
+use Rattle.sysmem_sanitise.specs.Platform.{PlatformFacts, IsHeap, IsPlatform}
+use Rattle.sysmem_sanitise.proofs.Heaps.{heap_of-is, heap_of-id}
+use Rattle.sysmem_sanitise.proofs.Steps.{bind-ok, bind-then, ok-same, passing-ok, not-true, none_passes, each-keeps, some, below}
+
+-- its id is of 64 bits
+abbrev HasId : HeapFacts → Type 0
+HasId h = h.heap.id ≤ 2 ^ 64 - 1
 
 -- the heaps so far
 record Heaps (hs : List HeapFacts) : Type 0 where
   few : length hs ≤ 64
   distinct : AllPairs (λ a b. same_heap a.heap b.heap ≡ false) hs
   each : All IsHeap hs
+  ids : All HasId hs
 
 with_heap-keeps : (hs ts : List HeapFacts) (d : Data) → Heaps hs → with_heap None hs d ≡ Ok ts → Heaps ts
 with_heap-keeps hs ts d kept gives =
@@ -34,12 +42,22 @@ with_heap-keeps hs ts d kept gives =
     let few = below (length hs) roomed.holds in
     let absent : has_heap hs new ≡ false = not-true _ passed.holds in
     let heap-is : IsHeap new = subst IsHeap (roomed.same ∙ passed.same) (heap_of-is d heap read) in
+    let heap-id : HasId new = subst HasId (roomed.same ∙ passed.same) (heap_of-id d heap read) in
     let is : hs ++ new ∷ [] ≡ ts = ok-same _ _ made in
     subst Heaps is (record {
       few = simp length-append (omega arith);
       distinct = all_pairs_push (λ a b. same_heap a.heap b.heap ≡ false) hs new kept.distinct (λ k e within. none_passes (λ h. same_heap h.heap new.heap) hs k e absent within);
       each = All-push IsHeap hs new kept.each heap-is;
+      ids = All-push HasId hs new kept.ids heap-id;
     })
+
+no_heaps : Heaps []
+no_heaps = record {
+  few = omega arith;
+  distinct = λ i j e before within. absurd (omega arith);
+  each = λ k e within. absurd (omega arith);
+  ids = λ k e within. absurd (omega arith);
+}
 
 -- what a record's heaps are
 pub record AreHeaps (hs : List HeapFacts) : Type 0 where
@@ -47,14 +65,15 @@ pub record AreHeaps (hs : List HeapFacts) : Type 0 where
   pub few : length hs ≤ 64
   pub distinct : AllPairs (λ a b. same_heap a.heap b.heap ≡ false) hs
   pub each : All IsHeap hs
+  pub ids : All (λ h. h.heap.id ≤ 2 ^ 64 - 1) hs
 
 pub heaps_of-are : (d : Data) (ts : List HeapFacts) → heaps_of None d ≡ Ok ts → AreHeaps ts
 heaps_of-are d ts gives =
     let (items, listed, after) = bind-ok (list_of _ d) _ ts gives in
     let (hs, each, tested) = bind-ok (read_each (with_heap None) [] items) _ ts after in
     let passed = passing-ok _ (λ heaps. not (length heaps == 0)) hs ts tested in
-    let kept = subst Heaps passed.same (each-keeps (with_heap None) Heaps with_heap-keeps items [] hs (record { few = omega arith; distinct = λ i j e before within. absurd (omega arith); each = λ k e within. absurd (omega arith) }) each) in
-    record { some = some ts passed.holds; few = kept.few; distinct = kept.distinct; each = kept.each }
+    let kept = subst Heaps passed.same (each-keeps (with_heap None) Heaps with_heap-keeps items [] hs no_heaps each) in
+    record { some = some ts passed.holds; few = kept.few; distinct = kept.distinct; each = kept.each; ids = kept.ids }
 
 -- a pair is the same as itself
 same_pair-itself : (a : Pair) → same_pair a a ≡ true
@@ -137,3 +156,36 @@ colours_of-are d ts gives =
     let passed = passing-ok _ (λ colours. not (length colours == 0)) cs ts tested in
     let kept = subst (AllPairs (λ a b. a ≢ b)) passed.same (each-keeps (with_new_colour None) (AllPairs (λ a b. a ≢ b)) with_colour-keeps items [] cs (λ i j e before within. absurd (omega arith)) each) in
     record { some = some ts passed.holds; distinct = kept }
+
+-- what a platform's record states, and the ids of its heaps
+pub record IsStatedPlatform (p : PlatformFacts) : Type 0 where
+  pub platform : IsPlatform p.heaps p.pairs p.colours
+  pub ids : All (λ h. h.heap.id ≤ 2 ^ 64 - 1) p.heaps
+
+pub is_stated : (p : PlatformFacts) → AreHeaps p.heaps → ArePairs p.pairs → AreColours p.colours → IsStatedPlatform p
+is_stated p hs ps cs = record {
+  platform = record {
+    some_heaps = hs.some;
+    few_heaps = hs.few;
+    distinct_heaps = hs.distinct;
+    each_heap = hs.each;
+    some_pairs = ps.some;
+    distinct_pairs = ps.distinct;
+    fitting_pairs = ps.fitting;
+    some_colours = cs.some;
+    distinct_colours = cs.distinct;
+  };
+  ids = hs.ids;
+}
+
+pub platform_of-is : (d : Data) (p : PlatformFacts) → platform_of d ≡ Ok p → IsStatedPlatform p
+platform_of-is d p gives =
+    bind-then (object_of Whole platform_fields d) _ p gives (λ object is a1.
+    bind-then (required field.Heaps (heaps_of None) d) _ p a1 (λ hs heaps a2.
+    bind-then (required field.Pairs (pairs_of None) d) _ p a2 (λ ps pairs a3.
+    bind-then (required field.ColorSpaces (colours_of None) d) _ p a3 (λ cs colours made.
+    let (h, there, some) = bind-ok (stated code.WrongKind field.Heaps d) (heaps_of None) hs heaps in
+    let (q, there', some') = bind-ok (stated code.WrongKind field.Pairs d) (pairs_of None) ps pairs in
+    let (c, there'', some'') = bind-ok (stated code.WrongKind field.ColorSpaces d) (colours_of None) cs colours in
+    subst IsStatedPlatform (ok-same _ p made)
+    (is_stated (record { heaps = hs; pairs = ps; colours = cs }) (heaps_of-are h hs some) (pairs_of-are q ps some') (colours_of-are c cs some''))))))

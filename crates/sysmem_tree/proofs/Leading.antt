@@ -1,12 +1,42 @@
 -- What the ordinals of a path lead to, one by one.
-use Rattle.std.proofs.Common.{◌≡◌, ℕ, ◌+◌, ◌<◌, List, ◌∷◌, length, drop, get_or, Option, Some, None, slice_get, sym, ◌∙◌, ap}
+use Rattle.std.proofs.Common.{◌≡◌, ℕ, ◌+◌, ◌-◌, ◌<◌, List, ◌∷◌, length, drop, get_or, Option, Some, None, slice_get, refl, sym, ◌∙◌, ap, arith}
 use Rattle.std.specs.Prelude.{option_and_then}
 use Rattle.std.proofs.lemmas.List.{at_drop_more}
+use Rattle.std.proofs.lemmas.Option.{none-some}
 use Rattle.sysmem_tree.specs.declared.node.Birth.{Birth}
 use Rattle.sysmem_tree.specs.Node.{NodeFacts}
 use Rattle.sysmem_tree.specs.Path.{child_of, led_to}
 use Rattle.sysmem_tree.specs.Nodes.{IsTree}
-use Rattle.sysmem_tree.proofs.Ways.{child_found, distinct}
+use Rattle.sysmem_tree.proofs.Kids.{Distinct, parent_of}
+use Rattle.sysmem_tree.proofs.Linking.{get_dropped}
+use Rattle.sysmem_tree.proofs.Ways.{child_born, child_found, distinct}
+
+-- no two of the nodes from number i on are of one birth
+distinct_from : (nodes : List NodeFacts) (i : ℕ) → IsTree nodes → Distinct (drop i nodes)
+distinct_from nodes i tree j k m n at_j at_k same =
+    let is = distinct nodes tree (i + j) (i + k) m n (sym (get_dropped nodes i j) ∙ at_j) (sym (get_dropped nodes i k) ∙ at_k) same in
+    omega (arith, is)
+
+-- a child that is found among the nodes from number i on is the child
+pub found_from : (nodes : List NodeFacts) (i parent ordinal k : ℕ) → IsTree nodes → child_of (drop i nodes) parent ordinal ≡ Some k
+    → child_of nodes parent ordinal ≡ Some (i + k)
+found_from nodes i parent ordinal k tree is =
+    let (n, here, born) = child_born (drop i nodes) parent ordinal k is in
+    child_found nodes (i + k) n (record { parent = parent; ordinal = ordinal }) (distinct nodes tree) (sym (get_dropped nodes i k) ∙ here) born
+
+-- and a child that isn't behind its parent is nowhere
+pub none_behind : (nodes : List NodeFacts) (parent ordinal : ℕ) → IsTree nodes → child_of (drop (parent + 1) nodes) parent ordinal ≡ None
+    → None ≡ child_of nodes parent ordinal
+none_behind nodes parent ordinal tree none = sym (by (child_of nodes parent ordinal) refl) where
+  by : (o : Option ℕ) → child_of nodes parent ordinal ≡ o → o ≡ None
+  by None is = refl
+  by (Some c) is =
+      let (n, here, born) = child_born nodes parent ordinal c is in
+      let older = parent_of nodes tree c n (record { parent = parent; ordinal = ordinal }) here born in
+      let up : parent + 1 + (c - (parent + 1)) ≡ c = omega (arith, older) in
+      let there : slice_get (drop (parent + 1) nodes) (c - (parent + 1)) ≡ Some n = get_dropped nodes (parent + 1) (c - (parent + 1)) ∙ (ap (slice_get nodes) up ∙ here) in
+      let found = child_found (drop (parent + 1) nodes) (c - (parent + 1)) n (record { parent = parent; ordinal = ordinal }) (distinct_from nodes (parent + 1) tree) there born in
+      absurd (none-some (c - (parent + 1)) (sym none ∙ found))
 
 -- one step on, the rest leads to the same node
 pub led_on : (nodes : List NodeFacts) (path : List ℕ) (number child at : ℕ) → at < length path → child_of nodes number (get_or path at 0) ≡ Some child

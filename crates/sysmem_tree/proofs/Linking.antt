@@ -78,7 +78,7 @@ none_found r p i (n ∷ xs) e = elim (cases_Bool (is_some (kid_of r p n))) [
   none : Some i ≡ None → ⊥
   none h = absurd (cc)
 
-get_dropped : {X : Type 0} (xs : List X) (i j : ℕ) → slice_get (drop i xs) j ≡ slice_get xs (i + j)
+pub get_dropped : {X : Type 0} (xs : List X) (i j : ℕ) → slice_get (drop i xs) j ≡ slice_get xs (i + j)
 get_dropped xs zero j = let z : j ≡ 0 + j = omega arith in ap (slice_get xs) z
 get_dropped [] (suc i) j = refl
 get_dropped (x ∷ xs) (suc i) j = let z : suc (i + j) ≡ suc i + j = omega arith in get_dropped xs i j ∙ ap (slice_get (x ∷ xs)) z

@@ -1,5 +1,5 @@
 -- An action, seen as a change of the map from paths to nodes.
-use Rattle.std.proofs.Common.{◌≡◌, ◌≢◌, ℕ, zero, suc, ◌<◌, ◌≤◌, ◌==◌, Bool, true, false, List, [], ◌∷◌, ◌++◌, length, Option, Some, None, slice_get, refl, sym, ◌∙◌, ap, subst, arith, rules, tests, inl, inr}
+use Rattle.std.proofs.Common.{◌≡◌, ◌≢◌, ℕ, zero, suc, ◌+◌, ◌<◌, ◌≤◌, ◌==◌, Bool, true, false, List, [], ◌∷◌, ◌++◌, length, length-append, Option, Some, None, slice_get, refl, sym, ◌∙◌, ap, subst, arith, rules, tests, inl, inr}
 use Rattle.std.specs.Prelude.{option_map, option_and_then, unwrap_or, IsSome, Ok, if◌then◌else◌}
 use Rattle.std.proofs.lemmas.Bool.{cases_eq}
 use Rattle.std.proofs.lemmas.Option.{slice_get_within, same_Some, none-some, option_and_then_some}
@@ -91,6 +91,19 @@ node_within nodes tree q k leads =
 
 pub path_is : (nodes : List NodeFacts) → IsTree nodes → (path : List ℕ) (k : ℕ) → node_at nodes path ≡ Some k → path_of nodes k ≡ path
 path_is nodes tree path k leads = one_path nodes (path_of nodes k) path k tree (path_leads nodes tree k (node_within nodes tree path k leads)) leads
+
+-- a child's path has one step more than its parent's
+pub one_step : (nodes : List NodeFacts) → IsTree nodes → (k : ℕ) (n : NodeFacts) (b : Birth) → slice_get nodes k ≡ Some n → n.birth ≡ Some b
+    → length (path_of nodes k) ≡ length (path_of nodes b.parent) + 1
+one_step nodes tree k n b here is =
+    let older = parent_of nodes tree k n b here is in
+    let leads = path_leads nodes tree b.parent (omega (arith, older, slice_get_within nodes k n here)) in
+    ap length (path_is nodes tree (path_of nodes b.parent ++ b.ordinal ∷ []) k (led_kid nodes tree (path_of nodes b.parent) b.parent k n b leads here is refl))
+    ∙ length-append (path_of nodes b.parent) (b.ordinal ∷ [])
+
+-- and the root's has none
+pub no_step : (nodes : List NodeFacts) → IsTree nodes → (k : ℕ) → k ≡ 0 → length (path_of nodes k) ≡ 0
+no_step nodes tree k root = ap length (path_is nodes tree [] k (ap (λ j. Some j) (sym root)))
 
 pub only_path : (nodes : List NodeFacts) (k : ℕ) → IsTree nodes → k < length nodes → IsOnlyPath nodes k (path_of nodes k)
 only_path nodes k tree within = record { leads = path_leads nodes tree k within; only = λ other leads. sym (path_is nodes tree other k leads) }

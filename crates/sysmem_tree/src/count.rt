@@ -13,15 +13,16 @@ use crate::node::Node;
 
 /// How many selections there are of children of a node, from the first of them on; at most
 /// `u64::MAX`.
-fn count_children(nodes: &[Node], links: &Links, first: Option<usize>, is_group: bool) -> u64
+fn count_children(nodes: &[Node], links: &Links, first: Option<u8>, is_group: bool) -> u64
     requires tree { IsTree nodes.now }
     requires links { (root : ℕ) × AreLinks nodes.now root (root + 1) links.now
         × IfSome first (IsBelow nodes.now root) }
     ensures { result ≡ min (count_as is_group (siblings_from nodes.now first)) (2 ^ 64 - 1) }
 {
-    let Some(number) = first else {
+    let Some(own) = first else {
         return if is_group { 0 } else { 1 };
     };
+    let number = own as usize;
     let rest = count_children(nodes, links, links.next[number], is_group);
     let is_alternatives = has_alternatives(&nodes[number]);
     let own = count_children(nodes, links, links.first[number], is_alternatives);

@@ -14,20 +14,21 @@ use crate::state::NodeKind;
 pub(crate) const PLACES: usize = 128;
 
 /// The place of a node in a domain's layout. Places are in pre-order, so that what is below a node
-/// comes just behind it.
+/// comes just behind it. Its numbers are bytes, so that a layout is small: there are at most 128
+/// nodes.
 #[derive(Clone, Copy, Debug, PartialEq, Eq)]
 pub struct Place {
     /// The number of the node.
-    pub(crate) node: usize,
+    pub(crate) node: u8,
     /// Whether its children are alternatives.
     pub(crate) is_group: bool,
     /// How many children it has in the domain.
-    pub(crate) children: u32,
+    pub(crate) children: u8,
     /// The place behind all that is below it.
-    pub(crate) end: usize,
+    pub(crate) end: u8,
     /// The first group from here on, as long as the groups around it choose the way to it: itself,
     /// one below it or one behind it.
-    pub(crate) next: Option<usize>,
+    pub(crate) next: Option<u8>,
 }
 
 const NO_PLACE: Place = Place {
@@ -42,25 +43,25 @@ const NO_PLACE: Place = Place {
 #[derive(Clone, Copy)]
 pub(crate) struct Children {
     /// The number of the first of them; `None` where there are none.
-    pub(crate) first: Option<usize>,
+    pub(crate) first: Option<u8>,
     /// Whether they are alternatives.
     pub(crate) is_group: bool,
     /// The place before which they end.
-    pub(crate) end: usize,
+    pub(crate) end: u8,
     /// The first group behind them.
-    pub(crate) next: Option<usize>,
+    pub(crate) next: Option<u8>,
 }
 
 /// What was laid out.
 #[derive(Clone, Copy)]
 pub(crate) struct Laid {
     /// The place of the first of them.
-    pub(crate) start: usize,
+    pub(crate) start: u8,
     /// How many they are.
-    pub(crate) children: u32,
+    pub(crate) children: u8,
     /// The first group behind what comes before them: among them, unless they are alternatives, or
     /// else behind them.
-    pub(crate) next: Option<usize>,
+    pub(crate) next: Option<u8>,
 }
 
 /// Whether a node's children are alternatives.
@@ -71,7 +72,7 @@ pub(crate) fn has_alternatives(node: &Node) -> bool
 }
 
 /// The one or the other.
-fn either(test: bool, yes: Option<usize>, no: Option<usize>) -> Option<usize>
+fn either(test: bool, yes: Option<u8>, no: Option<u8>) -> Option<u8>
     ensures { result ≡ (if test then yes else no) }
 {
     if test { yes } else { no }
@@ -90,13 +91,14 @@ fn lay(nodes: &[Node], links: &Links, what: Children, places: &mut [Place; 128])
     ensures numbers { HoldNumbers (length nodes.now) places.old
         → HoldNumbers (length nodes.now) places.new }
 {
-    let Some(number) = what.first else {
+    let Some(own) = what.first else {
         return Laid {
             start: what.end,
             children: 0,
             next: what.next,
         };
     };
+    let number = own as usize;
     let others = Children {
         first: links.next[number],
         ..what
@@ -112,8 +114,8 @@ fn lay(nodes: &[Node], links: &Links, what: Children, places: &mut [Place; 128])
     let kids = lay(nodes, links, below, places);
     let start = kids.start - 1;
     let next = either(is_group, Some(start), kids.next);
-    places[start] = Place {
-        node: number,
+    places[start as usize] = Place {
+        node: own,
         is_group,
         children: kids.children,
         end: rest.start,
@@ -164,14 +166,17 @@ impl Layout {
         let kids = lay(nodes, &links, below, &mut places);
         let start = kids.start - 1;
         let next = either(is_group, Some(start), kids.next);
-        places[start] = Place {
-            node: root,
+        places[start as usize] = Place {
+            node: root as u8,
             is_group,
             children: kids.children,
             end: 128,
             next,
         };
-        Layout { places, start }
+        Layout {
+            places,
+            start: start as usize,
+        }
     }
 
     /// The place of this child of a group.
@@ -185,14 +190,14 @@ impl Layout {
         let mut at = group + 1;
         let mut left = choice;
         while left > 0 {
-            at = self.places[at].end;
+            at = self.places[at].end as usize;
             left -= 1;
         }
         at
     }
 
     /// The place of the group that is next after these choices.
-    pub(crate) fn group_after(&self, choices: &[u8]) -> Option<usize>
+    pub(crate) fn group_after(&self, choices: &[u8]) -> Option<u8>
         requires { (d : Forest ℕ) × (laid : IsLayout self.now d)
             × IsPrefix laid.spots choices.now }
         ensures { (d : Forest ℕ) → (laid : IsLayout self.now d)
@@ -201,7 +206,7 @@ impl Layout {
     {
         let mut group = self.places[self.start].next;
         for choice in choices {
-            group = self.places[self.child(group?, *choice)].next;
+            group = self.places[self.child(group? as usize, *choice)].next;
         }
         group
     }

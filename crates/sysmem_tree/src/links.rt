@@ -6,13 +6,13 @@ ghost use Rattle.sysmem_tree.specs.Nodes.{IsTree};
 
 use crate::node::Node;
 
-/// Which of a domain's nodes are children of one node, each by its number.
+/// Which of a domain's nodes are children of one node, each by its number, a byte.
 #[derive(Drop)]
 pub(crate) struct Links {
     /// For each node the first of its children.
-    pub(crate) first: [Option<usize>; 128],
+    pub(crate) first: [Option<u8>; 128],
     /// For each child the one that was made next.
-    pub(crate) next: [Option<usize>; 128],
+    pub(crate) next: [Option<u8>; 128],
 }
 
 /// The parent of a node, where that node is of the domain.
@@ -43,7 +43,7 @@ impl Links {
             number -= 1;
             if let Some(parent) = parent_in(&nodes[number], root) {
                 links.next[number] = links.first[parent];
-                links.first[parent] = Some(number);
+                links.first[parent] = Some(number as u8);
             }
         }
         links

@@ -1,6 +1,6 @@
 //! The members of selections.
 
-ghost use Rattle.std.specs.Prelude.{◌≡◌, ◌≤◌, ◌<◌, ◌==◌, ◌||◌, ℕ, Bool, Option, false, [], length, get_or, IfSome};
+ghost use Rattle.std.specs.Prelude.{◌≡◌, ◌≤◌, ◌<◌, ◌==◌, ◌||◌, ℕ, Bool, List, Option, false, [], length, get_or, IfSome};
 ghost use Rattle.std.specs.List.{list_any};
 ghost use Rattle.sysmem_tree.specs.Forest.{Forest, settled};
 ghost use Rattle.sysmem_tree.specs.Layout.{Spot, AreLaid, HoldNumbers, IsLayout, start};
@@ -10,6 +10,7 @@ ghost use Rattle.sysmem_tree.specs.Shape.{by_number, forest_of, members_of};
 
 use crate::layout::Layout;
 use crate::node::Node;
+use crate::prefix::Prefix;
 use crate::settled::past;
 
 /// Marks the nodes between two places that no group there has yet to choose.
@@ -26,7 +27,7 @@ fn mark(layout: &Layout, from: usize, to: usize, marks: &mut [bool; 128])
     let mut at = from;
     while at < to {
         let place = layout.places[at];
-        marks[place.node] = true;
+        marks[place.node as usize] = true;
         at = past(&place, at);
     }
 }
@@ -47,11 +48,30 @@ pub(crate) fn marks_after(layout: &Layout, choices: &[u8]) -> [bool; 128]
         let Some(at) = group else {
             return marks;
         };
-        let kid = layout.child(at, *choice);
-        mark(layout, kid, layout.places[kid].end, &mut marks);
+        let kid = layout.child(at as usize, *choice);
+        mark(layout, kid, layout.places[kid].end as usize, &mut marks);
         group = layout.places[kid].next;
     }
     marks
+}
+
+impl Layout {
+    ghost use Rattle.sysmem_tree.specs.Node.{NodeFacts};
+    ghost use Rattle.sysmem_tree.specs.OpenGroups.{HoldsNodes};
+
+    /// Which nodes of the domain these choices settle, with constraints or without, marked by their
+    /// numbers.
+    pub fn settled_marks(&self, prefix: &Prefix) -> [bool; 128]
+        requires nodes { (nodes : List NodeFacts) × IsTree nodes × HoldsNodes self.now nodes }
+        requires prefix { (d : Forest ℕ) × IsLayout self.now d × IsPrefix d prefix.now }
+        ensures { (nodes : List NodeFacts) (r : ℕ)
+            → IsLayout self.now (forest_of by_number nodes r [])
+            → IsPrefix (forest_of by_number nodes r []) prefix.now
+            → (k : ℕ) → get_or result k false
+            ≡ list_any (λ i. i == k) (members_of nodes r prefix.now) }
+    {
+        marks_after(self, prefix.choices())
+    }
 }
 
 /// The members of the selection that the choices make in the domain of this root, marked by their

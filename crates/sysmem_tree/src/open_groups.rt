@@ -65,7 +65,7 @@ impl Layout {
         requires { (d : Forest ℕ) × IsLayout self.now d }
         ensures { (d : Forest ℕ) → IsLayout self.now d → IsFirstOpen self.now d [] result }
     {
-        Some(GroupPlace(self.places[self.start].next?))
+        Some(GroupPlace(self.places[self.start].next? as usize))
     }
 
     /// Which node a group is that is the first open one after some choices, and how many children
@@ -78,7 +78,7 @@ impl Layout {
             → HasNode nodes result.0 }
     {
         let place = self.places[group.0];
-        (NodeId(place.node), place.children)
+        (NodeId(place.node as usize), place.children as u32)
     }
 
     /// The child of this number, from 0 on, of a group that is the first open one after some
@@ -102,7 +102,7 @@ impl Layout {
         ensures { (d : Forest ℕ) (cs : List ℕ) (k : ℕ) → IsChildPlace self.now d cs k child
             → IsFirstOpen self.now d (cs ++ k ∷ []) result }
     {
-        Some(GroupPlace(self.places[child.0].next?))
+        Some(GroupPlace(self.places[child.0].next? as usize))
     }
 
     /// A walk over the nodes that are settled by no choice, in pre-order.
@@ -123,7 +123,7 @@ impl Layout {
     {
         SettledNodes {
             at: child.0,
-            end: self.places[child.0].end,
+            end: self.places[child.0].end as usize,
         }
     }
 
@@ -142,6 +142,6 @@ impl Layout {
         }
         let place = self.places[walk.at];
         walk.at = past(&place, walk.at);
-        Some(NodeId(place.node))
+        Some(NodeId(usize::from(place.node)))
     }
 }

@@ -63,7 +63,7 @@ impl Tree {
         ensures reserved { vec_capacity nodes.new ≡ vec_capacity nodes.old }
     {
         for at in layout.start..PLACES {
-            let node = NodeId(layout.places[at].node);
+            let node = NodeId(layout.places[at].node as usize);
             if self.is_marked(marks, node) {
                 nodes.push_reserved(node);
             }

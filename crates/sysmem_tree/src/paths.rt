@@ -7,17 +7,28 @@ ghost use Rattle.sysmem_tree.specs.Nodes.{IsTree};
 use crate::node::Node;
 use std::alloc::{AllocError, Global};
 
-/// This child of this parent.
-fn child_of(nodes: &[Node], parent: usize, ordinal: u32) -> Option<usize>
+/// This child of a parent, among these nodes.
+fn child_among(nodes: &[Node], parent: usize, ordinal: u32) -> Option<usize>
     ensures child { result ≡ child_of nodes.now parent ordinal }
     ensures there { IfSome result (λ number. number < length nodes.now) }
 {
     nodes.iter().position(|node| node.is_child(parent, ordinal))
 }
 
+/// This child of this parent: one of the nodes behind it.
+fn child_of(nodes: &[Node], parent: usize, ordinal: u32) -> Option<usize>
+    requires tree { IsTree nodes.now }
+    requires parent { parent < length nodes.now }
+    ensures child { result ≡ child_of nodes.now parent ordinal }
+    ensures there { IfSome result (λ number. number < length nodes.now) }
+{
+    let behind = child_among(&nodes[parent + 1..], parent, ordinal)?;
+    Some(parent + 1 + behind)
+}
+
 /// The node at a path from the first node.
 pub(crate) fn node_at(nodes: &[Node], path: &[u32]) -> Option<usize>
-    requires { 0 < length nodes.now }
+    requires tree { IsTree nodes.now }
     ensures node { result ≡ node_at nodes.now path.now }
     ensures there { IfSome result (λ number. number < length nodes.now) }
 {
@@ -28,7 +39,22 @@ pub(crate) fn node_at(nodes: &[Node], path: &[u32]) -> Option<usize>
     Some(number)
 }
 
-/// The path to a node from the first one.
+/// How many steps the path to a node from the first one has.
+fn depth(nodes: &[Node], node: usize) -> usize
+    requires tree { IsTree nodes.now }
+    requires there { node < length nodes.now }
+    ensures { result ≡ length (path_of nodes.now node) }
+{
+    let mut steps = 0;
+    let mut number = node;
+    while let Some(birth) = nodes[number].birth() {
+        steps += 1;
+        number = birth.parent;
+    }
+    steps
+}
+
+/// The path to a node from the first one, with room for its own steps alone.
 pub(crate) fn path_to(alloc: Global, nodes: &[Node], node: usize) -> Result<Vec<u32>, AllocError>
     requires tree { IsTree nodes.now }
     requires there { node < length nodes.now }
@@ -37,7 +63,7 @@ pub(crate) fn path_to(alloc: Global, nodes: &[Node], node: usize) -> Result<Vec<
     ensures only { IfOk result
         (λ path. (other : List ℕ) → node_at nodes.now other ≡ Some node → other ≡ path.items) }
 {
-    let mut path = Vec::new(alloc);
+    let mut path = Vec::with_capacity(alloc, depth(nodes, node))?;
     let mut number = node;
     while let Some(birth) = nodes[number].birth() {
         path.push(birth.ordinal)?;

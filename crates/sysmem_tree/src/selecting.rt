@@ -1,6 +1,6 @@
 //! What is left to choose in the domains of a tree.
 
-ghost use Rattle.std.specs.Prelude.{◌≡◌, ◌==◌, ◌^◌, ◌-◌, ℕ, false, [], get_or, min, IfSome};
+ghost use Rattle.std.specs.Prelude.{◌≡◌, ◌==◌, ◌^◌, ◌-◌, [], min, IfSome};
 ghost use Rattle.std.specs.List.{list_any};
 ghost use Rattle.sysmem_tree.specs.Domain.{HasDomain};
 ghost use Rattle.sysmem_tree.specs.Forest.{count as count_of, first_group};
@@ -8,13 +8,11 @@ ghost use Rattle.sysmem_tree.specs.Layout.{IsLayout};
 ghost use Rattle.sysmem_tree.specs.Nodes.{HasNode};
 ghost use Rattle.sysmem_tree.specs.OpenGroups.{HoldsNodes};
 ghost use Rattle.sysmem_tree.specs.Selection.{IsPrefix, after};
-ghost use Rattle.sysmem_tree.specs.Shape.{by_number, forest_of, members_of, participants_of};
+ghost use Rattle.sysmem_tree.specs.Shape.{by_number, forest_of, participants_of};
 
 use crate::count::count_selections;
 use crate::id::{DomainId, NodeId};
 use crate::layout::Layout;
-use crate::members::members;
-use crate::next_group::next_group;
 use crate::prefix::Prefix;
 use crate::settled::is_settled;
 use crate::tree::Tree;
@@ -48,7 +46,7 @@ impl Tree {
             (λ d. result ≡ first_group d) }
         ensures there { IfSome result (λ g. HasNode self.now.nodes g.0) }
     {
-        next_group(&self.nodes, domain.0, prefix)
+        self.layout(domain).next_group(prefix)
     }
 
     /// Whether a node of the tree has constraints and is settled in the domain by these choices:
@@ -61,16 +59,5 @@ impl Tree {
             ≡ list_any (λ i. i == node) (participants_of self.now.nodes domain prefix.now) }
     {
         self.constraints_of(node).is_some() && is_settled(&self.nodes, domain.0, prefix, node.0)
-    }
-
-    /// Which nodes of the tree these choices settle in the domain, with constraints or without,
-    /// marked by their numbers. It takes one pass over the nodes.
-    pub fn settled_marks(&self, domain: DomainId, prefix: &Prefix) -> [bool; 128]
-        requires domain { HasDomain self.now.nodes domain }
-        requires prefix { IsPrefix (forest_of by_number self.now.nodes domain []) prefix.now }
-        ensures { (k : ℕ) → get_or result k false
-            ≡ list_any (λ i. i == k) (members_of self.now.nodes domain prefix.now) }
-    {
-        members(&self.nodes, domain.0, prefix.choices())
     }
 }

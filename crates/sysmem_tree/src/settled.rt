@@ -17,7 +17,11 @@ pub(crate) fn past(place: &Place, at: usize) -> usize
     requires { at < 128 }
     ensures { result ≡ (if place.now.is_group then place.now.end else at + 1) }
 {
-    if place.is_group { place.end } else { at + 1 }
+    if place.is_group {
+        place.end as usize
+    } else {
+        at + 1
+    }
 }
 
 /// Whether the node is among those between two places that no group there has yet to choose.
@@ -32,7 +36,7 @@ fn settles(layout: &Layout, from: usize, to: usize, node: usize) -> bool
     let mut at = from;
     while at < to {
         let place = layout.places[at];
-        if place.node == node {
+        if usize::from(place.node) == node {
             return true;
         }
         at = past(&place, at);
@@ -54,9 +58,9 @@ fn settles_after(layout: &Layout, choices: &[u8], node: usize) -> bool
         let Some(at) = group else {
             return is_settled;
         };
-        let kid = layout.child(at, *choice);
+        let kid = layout.child(at as usize, *choice);
         let place = layout.places[kid];
-        is_settled = is_settled || settles(layout, kid, place.end, node);
+        is_settled = is_settled || settles(layout, kid, place.end as usize, node);
         group = place.next;
     }
     is_settled

@@ -3,9 +3,9 @@
 
 ghost use Rattle.std.specs.Prelude.{◌≡◌, Some, IfOk, IfSome};
 ghost use Rattle.std.specs.Arc.{arc_value};
+ghost use Rattle.sysmem_alloc.specs.Claims.{IsRightClaim};
 ghost use Rattle.sysmem_alloc.specs.Sound.{MayWait};
 ghost use Rattle.sysmem_alloc.specs.State.{base_of, next_ready};
-ghost use Rattle.sysmem_proof.specs.Claim.{IsTrueClaim};
 ghost use Rattle.sysmem_tree.specs.Nodes.{HasNode};
 
 use serde_json::Value;
@@ -16,7 +16,7 @@ use std::test::Fail;
 use sysmem_alloc::Book;
 use sysmem_formats::Offer;
 use sysmem_memory::{CoherencyDomain, Place};
-use sysmem_proof::{Base, Claim, Verdict};
+use sysmem_proof::{Base, Claim, Proof, Verdict};
 use sysmem_sanitise::{Platform, read_constraints, read_platform};
 use sysmem_search::{NoGate, search};
 use sysmem_tree::{Action, DomainId, Event, NodeId, Path};
@@ -134,12 +134,12 @@ fn play(alloc: Global, book: &mut Book, steps: &[(&[u32], Deed)]) -> Result<(), 
     Ok(())
 }
 
-// An optimal verdict of the domain that is to be decided next, with what proves it; `None` where memory is refused.
+// An optimal verdict of the domain that is to be decided next; `None` where memory is refused.
 fn claim_for(alloc: Global, book: &Book, domain: DomainId) -> Option<Arc<Claim>>
     requires next { next_ready book.now.state ≡ Some domain }
     requires waits { MayWait book.now.state.tree domain }
     ensures { IfSome result (λ shared.
-        IsTrueClaim book.now.platform book.now.state.tree.nodes domain
+        IsRightClaim book.now.platform book.now.state.tree.nodes domain
         (base_of book.now.state domain) (arc_value shared)) }
 {
     let Ok(base) = book.base(domain) else {
@@ -151,7 +151,7 @@ fn claim_for(alloc: Global, book: &Book, domain: DomainId) -> Option<Arc<Claim>>
     };
     let claim = Claim {
         verdict: found.verdict,
-        proof: found.proof,
+        proof: Proof::Nothing,
     };
     let Ok(shared) = Arc::new(alloc, claim) else {
         return None;

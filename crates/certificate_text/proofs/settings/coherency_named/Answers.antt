@@ -1,4 +1,4 @@
-use Rattle.certificate_text.proofs.Names.{domain_found}
+use Rattle.sysmem_sanitise.proofs.CallerLemmas.{domain_found}
 use Rattle.certificate_text.proofs.settings.coherency_named.Goals as goal
 
 pub returns : goal.returns

@@ -1,4 +1,4 @@
-use Rattle.certificate_text.proofs.Names.{colour_found}
+use Rattle.sysmem_sanitise.proofs.CallerLemmas.{colour_found}
 use Rattle.certificate_text.proofs.settings.colour_named.Goals as goal
 
 pub returns : goal.returns

@@ -1,4 +1,4 @@
-use Rattle.certificate_text.proofs.Names.{format_found}
+use Rattle.sysmem_sanitise.proofs.CallerLemmas.{format_found}
 use Rattle.certificate_text.proofs.settings.format_named.Goals as goal
 
 pub returns : goal.returns

@@ -1,4 +1,4 @@
-use Rattle.certificate_text.proofs.Names.{modifier_found}
+use Rattle.sysmem_sanitise.proofs.CallerLemmas.{modifier_found}
 use Rattle.certificate_text.proofs.settings.modifier_named.Goals as goal
 
 pub returns : goal.returns

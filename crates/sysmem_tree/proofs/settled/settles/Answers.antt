@@ -7,10 +7,10 @@ use Rattle.sysmem_tree.proofs.settled.settles.Goals as goal
 pub loop-at-init : goal.loop-at-init
 loop-at-init c = λ w g next l s. (settled w, subst (λ i. Meets c.args.layout.now.places c.args.to i (settled w)) s (meets_settled c.args.layout.now.places g w c.args.to next l), refl)
 
-pub returns-then-place-node : goal.returns-then-place-node
-returns-then-place-node c = λ w g next l s.
+pub returns-then-from-node : goal.returns-then-from-node
+returns-then-from-node c = λ w g next l s.
     let (ss, m, same) = c.loop-at.invariant w g next l s in
-    sym (same ∙ stops_at c.args.layout.now.places c.args.to c.loop-at.at _ c.loop-at-test.true c.args.node ss m c.if-place-node.true)
+    sym (same ∙ stops_at c.args.layout.now.places c.args.to c.loop-at.at _ c.loop-at-test.true c.args.node ss m (sym c.from.ensures ∙ c.if-from-node.true))
 
 pub loop-at-smaller : goal.loop-at-smaller
 loop-at-smaller c =
@@ -22,7 +22,7 @@ loop-at-smaller c =
 pub loop-at-preserved : goal.loop-at-preserved
 loop-at-preserved c = λ w g next l s.
     let (ss, m, same) = c.loop-at.invariant w g next l s in
-    let (rest, on, is) = goes_past c.args.layout.now.places c.args.to c.loop-at.at _ c.loop-at-test.true c.args.node ss m c.if-place-node.false in
+    let (rest, on, is) = goes_past c.args.layout.now.places c.args.to c.loop-at.at _ c.loop-at-test.true c.args.node ss m (λ same. c.if-from-node.false (c.from.ensures ∙ same)) in
     (rest, subst (λ i. Meets c.args.layout.now.places c.args.to i rest) (sym c.past-at.ensures) on, same ∙ is)
 
 pub returns : goal.returns

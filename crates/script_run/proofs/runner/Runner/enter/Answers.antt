@@ -9,8 +9,8 @@ use Rattle.script_run.proofs.Growing.{decided_there}
 use Rattle.script_run.proofs.Told.{if_unmapped}
 use Rattle.script_run.proofs.runner.Runner.enter.Goals as goal
 
-pub decide-requires-clause-true_of : goal.decide-requires-clause-true_of
-decide-requires-clause-true_of c = if_unmapped (λ shared. arc_value shared) _ c.args.claim c.requires.1
+pub decide-requires-clause-right : goal.decide-requires-clause-right
+decide-requires-clause-right c = if_unmapped (λ shared. arc_value shared) _ c.args.claim c.requires.1
 
 pub invariant_of-self : goal.invariant_of-self
 invariant_of-self c =

@@ -27,13 +27,13 @@ removed (x ∷ xs) = refl
 pub add_chosen-requires-clause-chosen : goal.add_chosen-requires-clause-chosen
 add_chosen-requires-clause-chosen c =
     let d : Claimed = record { domain = c.args.domain; claim = option_map (λ shared. arc_value shared) c.args.claim } in
-    let ok = subst (λ b. Allows b.platform b.state (Decided d)) (sym c.self.view_is) (c.requires.next, if_map (λ shared. arc_value shared) _ c.args.claim c.requires.true_of) in
+    let ok = subst (λ b. Allows b.platform b.state (Decided d)) (sym c.self.view_is) (c.requires.next, if_map (λ shared. arc_value shared) _ c.args.claim c.requires.right) in
     chosen_leads c.legal_is_sound.ensures c.forest_stays.ensures c.one_forest.ensures _ d c.self.invariant.0 ok
 
 pub add_chosen-requires-clause-room : goal.add_chosen-requires-clause-room
 add_chosen-requires-clause-room c =
     let d : Claimed = record { domain = c.args.domain; claim = option_map (λ shared. arc_value shared) c.args.claim } in
-    let ok = subst (λ b. Allows b.platform b.state (Decided d)) (sym c.self.view_is) (c.requires.next, if_map (λ shared. arc_value shared) _ c.args.claim c.requires.true_of) in
+    let ok = subst (λ b. Allows b.platform b.state (Decided d)) (sym c.self.view_is) (c.requires.next, if_map (λ shared. arc_value shared) _ c.args.claim c.requires.right) in
     let room = chosen_room c.legal_is_sound.ensures c.forest_stays.ensures c.one_forest.ensures _ d c.self.invariant.0 ok c.legal_agrees.ensures c.members_stand_once.ensures in
     let kept = ap length c.self.invariant.6 in
     omega (arith, room, kept, c.self.invariant.5)
@@ -41,13 +41,13 @@ add_chosen-requires-clause-room c =
 pub decided-requires : goal.decided-requires
 decided-requires c =
     let d : Claimed = record { domain = c.args.domain; claim = option_map (λ shared. arc_value shared) c.args.claim } in
-    let ok = subst (λ b. Allows b.platform b.state (Decided d)) (sym c.self.view_is) (c.requires.next, if_map (λ shared. arc_value shared) _ c.args.claim c.requires.true_of) in
+    let ok = subst (λ b. Allows b.platform b.state (Decided d)) (sym c.self.view_is) (c.requires.next, if_map (λ shared. arc_value shared) _ c.args.claim c.requires.right) in
     subst (IsDecidable c.self.inside.tree c.args.domain) (sym c.choices_of.ensures) (may_enter c.legal_is_sound.ensures c.one_forest.ensures _ d c.self.invariant.0 ok)
 
 pub add_ready-requires : goal.add_ready-requires
 add_ready-requires c =
     let d : Claimed = record { domain = c.args.domain; claim = option_map (λ shared. arc_value shared) c.args.claim } in
-    let ok = subst (λ b. Allows b.platform b.state (Decided d)) (sym c.self.view_is) (c.requires.next, if_map (λ shared. arc_value shared) _ c.args.claim c.requires.true_of) in
+    let ok = subst (λ b. Allows b.platform b.state (Decided d)) (sym c.self.view_is) (c.requires.next, if_map (λ shared. arc_value shared) _ c.args.claim c.requires.right) in
     let tree = c.decided.ensures ∙ ap (decided c.self.inside.tree c.args.domain) c.choices_of.ensures in
     let room = subst (λ u. length (drop 1 c.self.inside.waiting.items) + length (ready_unmarked u c.ready_domains-were_ready.result 0 (roots_of u)) ≤ 128) (sym tree)
     (decided_room c.legal_is_sound.ensures c.self.inside.platform c.self.inside.tree c.self.inside.history.items c.self.inside.waiting.items c.self.inside.were_open c.ready_domains-were_ready.result d
@@ -58,7 +58,7 @@ add_ready-requires c =
 pub invariant_of-self : goal.invariant_of-self
 invariant_of-self c =
     let d : Claimed = record { domain = c.args.domain; claim = option_map (λ shared. arc_value shared) c.args.claim } in
-    let ok = subst (λ b. Allows b.platform b.state (Decided d)) (sym c.self.view_is) (c.requires.next, if_map (λ shared. arc_value shared) _ c.args.claim c.requires.true_of) in
+    let ok = subst (λ b. Allows b.platform b.state (Decided d)) (sym c.self.view_is) (c.requires.next, if_map (λ shared. arc_value shared) _ c.args.claim c.requires.right) in
     let tree = c.decided.ensures ∙ ap (decided c.self.inside.tree c.args.domain) c.choices_of.ensures in
     let grown = c.add_ready.ensures.items
     ∙ ap (λ ys. ys ++ ready_unmarked c.decided.new.self c.ready_domains-were_ready.result 0 (roots_of c.decided.new.self)) (c.remove.ensures.items ∙ removed c.self.inside.waiting.items) in
@@ -80,7 +80,7 @@ invariant_of-self c =
 pub returns-clause-entered : goal.returns-clause-entered
 returns-clause-entered c =
     let d : Claimed = record { domain = c.args.domain; claim = option_map (λ shared. arc_value shared) c.args.claim } in
-    let ok = subst (λ b. Allows b.platform b.state (Decided d)) (sym c.self.view_is) (c.requires.next, if_map (λ shared. arc_value shared) _ c.args.claim c.requires.true_of) in
+    let ok = subst (λ b. Allows b.platform b.state (Decided d)) (sym c.self.view_is) (c.requires.next, if_map (λ shared. arc_value shared) _ c.args.claim c.requires.right) in
     let tree = c.decided.ensures ∙ ap (decided c.self.inside.tree c.args.domain) c.choices_of.ensures in
     let grown = c.add_ready.ensures.items
     ∙ ap (λ ys. ys ++ ready_unmarked c.decided.new.self c.ready_domains-were_ready.result 0 (roots_of c.decided.new.self)) (c.remove.ensures.items ∙ removed c.self.inside.waiting.items) in
@@ -91,6 +91,6 @@ returns-clause-entered c =
 
 pub returns-clause-step : goal.returns-clause-step
 returns-clause-step c = record {
-  allowed = (c.requires.next, if_map (λ shared. arc_value shared) _ c.args.claim c.requires.true_of);
+  allowed = (c.requires.next, if_map (λ shared. arc_value shared) _ c.args.claim c.requires.right);
   leads = ap (λ (b : BookFacts). b.state) (returns-clause-entered c);
 }

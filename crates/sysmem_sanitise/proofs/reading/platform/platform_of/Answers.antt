@@ -1,26 +1,14 @@
 use Rattle.std.proofs.Common.{rules}
 use Rattle.std.proofs.lemmas.Result.{err_from_is_err_and}
 use Rattle.serde_json.specs.View.{view}
-use Rattle.sysmem_sanitise.proofs.Platforms.{heaps_of-are, pairs_of-are, colours_of-are}
+use Rattle.sysmem_sanitise.proofs.Platforms.{heaps_of-are, pairs_of-are, colours_of-are, is_stated}
 use Rattle.sysmem_sanitise.proofs.Refusals.{later-pairs, later-colours}
 use Rattle.sysmem_sanitise.proofs.reading.platform.platform_of.Goals as goal
 
 pub new-requires : goal.new-requires
 new-requires c =
-    let hs = heaps_of-are _ _ c.in_ok-heaps.ensures in
-    let ps = pairs_of-are _ _ c.in_ok-pairs.ensures in
-    let cs = colours_of-are _ _ c.in_ok-colours.ensures in
-    record {
-      some_heaps = hs.some;
-      few_heaps = hs.few;
-      distinct_heaps = hs.distinct;
-      each_heap = hs.each;
-      some_pairs = ps.some;
-      distinct_pairs = ps.distinct;
-      fitting_pairs = ps.fitting;
-      some_colours = cs.some;
-      distinct_colours = cs.distinct;
-    }
+    (is_stated (record { heaps = _; pairs = _; colours = _ }) (heaps_of-are _ _ c.in_ok-heaps.ensures) (pairs_of-are _ _ c.in_ok-pairs.ensures)
+    (colours_of-are _ _ c.in_ok-colours.ensures)).platform
 
 pub returns-in_err-pairs : goal.returns-in_err-pairs
 returns-in_err-pairs c =

@@ -1,5 +1,6 @@
 -- One node of a walk.
-use Rattle.std.proofs.Common.{subst, arith}
+use Rattle.std.proofs.Common.{◌≡◌, ℕ, List, ◌∷◌, sym, subst, arith}
+use Rattle.sysmem_tree.specs.Nodes.{HasNode}
 use Rattle.sysmem_tree.specs.OpenGroups.{HasLeft}
 use Rattle.sysmem_tree.proofs.GroupWalks.{place_there}
 use Rattle.sysmem_tree.proofs.Shares.{ends, walk_within, walks_on}
@@ -23,9 +24,11 @@ past-walk-requires c = let (ns, g) = c.requires in
     let less = walk_within c.args.self.now.places c.args.walk.now.at c.args.walk.now.end ns (omega (arith, c.if-walk.false)) g in omega (arith, less)
 
 pub returns-clause-next : goal.returns-clause-next
-returns-clause-next c = λ ns g. walks_on c.args.self.now.places c.args.walk.now.at c.args.walk.now.end _ ns c.past-walk.result (omega (arith, c.if-walk.false)) g c.past-walk.ensures
+returns-clause-next c = λ ns g.
+    subst (λ n. (rest : List ℕ) × (ns ≡ n ∷ rest) × HasLeft c.args.self.now (record { at = c.past-walk.result; end = c.args.walk.now.end }) rest) (sym c.from.ensures)
+    (walks_on c.args.self.now.places c.args.walk.now.at c.args.walk.now.end _ ns c.past-walk.result (omega (arith, c.if-walk.false)) g c.past-walk.ensures)
 
 pub returns-clause-there : goal.returns-clause-there
 returns-clause-there c = λ nodes holds. let (ns, g) = c.requires in
     let less = walk_within c.args.self.now.places c.args.walk.now.at c.args.walk.now.end ns (omega (arith, c.if-walk.false)) g in
-    place_there c.args.self.now.places c.args.walk.now.at _ _ (omega (arith, less)) (omega arith) holds
+    subst (HasNode nodes) (sym c.from.ensures) (place_there c.args.self.now.places c.args.walk.now.at _ _ (omega (arith, less)) (omega arith) holds)
