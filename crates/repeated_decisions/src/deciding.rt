@@ -1,18 +1,25 @@
-//! What is repeated: the search for a verdict, and the check of one.
+//! What is repeated: the search for a verdict, the making of its proof, and the check of both.
+
+ghost use Rattle.std.specs.Prelude.{None, IfOk, OnOk};
+ghost use Rattle.sysmem_proof.specs.Base.{IsGivenBase};
+ghost use Rattle.sysmem_proof.specs.Verdict.{IsOptimalIn};
+ghost use Rattle.sysmem_tree.specs.Domain.{HasDomain};
 
 use anyhow::{Result, bail};
 use std::alloc::Global;
 use sysmem_proof::{Claim, check};
 use sysmem_sanitise::Platform;
-use sysmem_search::{Found, NoGate, search};
-use sysmem_tree::Tree;
+use sysmem_search::{Found, NoGate, prove, search};
+use sysmem_tree::{DomainId, Tree};
 
 /// The verdict of the initial domain with what proves it.
 pub(crate) fn claim_of(alloc: Global, platform: &Platform, tree: &Tree) -> Result<Claim> {
-    let found = found_in(alloc, platform, tree)?;
+    let domain = tree.domain_of(tree.root());
+    let found = found_in(alloc, platform, tree, domain)?;
+    let proof = prove(alloc, platform, tree, domain, None, &found.verdict)?;
     Ok(Claim {
         verdict: found.verdict,
-        proof: found.proof,
+        proof,
     })
 }
 
@@ -23,8 +30,24 @@ pub(crate) fn search_again(
     tree: &Tree,
     times: u32,
 ) -> Result<()> {
+    let domain = tree.domain_of(tree.root());
     for _ in 0..times {
-        found_in(alloc, platform, tree)?;
+        found_in(alloc, platform, tree, domain)?;
+    }
+    Ok(())
+}
+
+/// Makes what proves the initial domain's verdict so many times.
+pub(crate) fn prove_again(
+    alloc: Global,
+    platform: &Platform,
+    tree: &Tree,
+    times: u32,
+) -> Result<()> {
+    let domain = tree.domain_of(tree.root());
+    let found = found_in(alloc, platform, tree, domain)?;
+    for _ in 0..times {
+        prove(alloc, platform, tree, domain, None, &found.verdict)?;
     }
     Ok(())
 }
@@ -48,8 +71,13 @@ pub(crate) fn check_again(
     Ok(())
 }
 
-fn found_in(alloc: Global, platform: &Platform, tree: &Tree) -> Result<Found> {
-    let domain = tree.domain_of(tree.root());
+/// What a search finds for a domain, which is to be an initial one.
+fn found_in(alloc: Global, platform: &Platform, tree: &Tree, domain: DomainId) -> Result<Found>
+    requires { HasDomain tree.now.nodes domain }
+    ensures initial { OnOk result (IsGivenBase platform.now tree.now.nodes domain None) }
+    ensures optimal { IfOk result
+        (λ found. IsOptimalIn platform.now tree.now.nodes domain None found.verdict) }
+{
     if !tree.ready(domain) || tree.host_of(domain).is_some() {
         bail!("the initial domain isn't ready");
     }

@@ -4,4 +4,4 @@ pub mod Question
 pub mod Kept
 pub mod Standing
 pub mod Searching
-pub mod Trail
+pub mod Refuting

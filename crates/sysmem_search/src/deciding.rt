@@ -2,7 +2,6 @@
 
 ghost use Rattle.std.specs.Prelude.{◌≡◌, true, option_map, IfOk};
 ghost use Rattle.sysmem_proof.specs.Base.{IsGivenBase};
-ghost use Rattle.sysmem_proof.specs.Claim.{IsProofIn};
 ghost use Rattle.sysmem_proof.specs.Verdict.{IsOptimalIn};
 ghost use Rattle.sysmem_search.specs.Visits.{AreVisitsIn};
 ghost use Rattle.sysmem_tree.specs.Domain.{HasDomain, is_ready};
@@ -10,9 +9,8 @@ ghost use Rattle.sysmem_tree.specs.Domain.{HasDomain, is_ready};
 use crate::gate::Gate;
 use crate::question::Question;
 use crate::searching::search_from;
-use crate::trail::Trail;
 use std::alloc::{AllocError, Global};
-use sysmem_proof::{Base, Certificate, Chosen, MOST_SELECTIONS, Proof, Verdict, lines_before};
+use sysmem_proof::{Base, Chosen, MOST_SELECTIONS, Verdict};
 use sysmem_sanitise::Platform;
 use sysmem_tree::{DomainId, Tree};
 
@@ -21,17 +19,15 @@ use sysmem_tree::{DomainId, Tree};
 pub struct Found {
     /// `Chosen`, `IntersectionEmpty` or `TooMany`.
     pub verdict: Verdict,
-    /// What proves it.
-    pub proof: Proof,
     /// How many prefixes were visited, the empty one included; at most `u64::MAX`.
     pub visits: u64,
 }
 
 /// Decides a domain of the tree that is ready, for an attached one on the base that is given: the first selection that any settings meet,
-/// with the best settings for it, and what proves that. Where there are more than 4,096 selections it answers `TooMany`, and visits none. It
-/// goes through prefixes of choices, the first child first, and not beyond one of which nothing meets the settled participants, where it
-/// leaves a conflict; that nobody names an image's format, modifier or colour space is asked of whole selections alone. The gate is told of
-/// each visit. `AllocError` where memory is refused.
+/// with the best settings for it. Where there are more than 4,096 selections it answers `TooMany`, and visits none. It goes through prefixes
+/// of choices, the first child first, and not beyond one of which nothing meets the settled participants; that nobody names an image's
+/// format, modifier or colour space is asked of whole selections alone. The gate is told of each visit. A visit takes memory only where what
+/// it reads is read for the first time. `AllocError` where memory is refused.
 pub fn search<G: Gate>(
     alloc: Global,
     platform: &Platform,
@@ -47,9 +43,6 @@ pub fn search<G: Gate>(
     ensures optimal { IfOk result (λ found.
         IsOptimalIn platform.now tree.now.nodes domain (option_map (λ b. b.now) base.entry)
         found.verdict) }
-    ensures proved { IfOk result (λ found.
-        IsProofIn platform.now tree.now.nodes domain (option_map (λ b. b.now) base.entry)
-        found.verdict found.proof) }
     ensures visits { IfOk result (λ found.
         AreVisitsIn platform.now tree.now.nodes domain (option_map (λ b. b.now) base.entry)
         found.verdict found.visits) }
@@ -57,26 +50,19 @@ pub fn search<G: Gate>(
     if tree.count_selections(domain) > MOST_SELECTIONS {
         return Ok(Found {
             verdict: Verdict::TooMany,
-            proof: Proof::Nothing,
             visits: 0,
         });
     }
     let mut question = Question::new(alloc, platform, tree, domain, base)?;
     let mut visits = 0;
-    let mut trail = Trail::new(alloc);
-    let Some(settings) = search_from(&mut question, gate, &mut visits, &mut trail)? else {
+    let Some(settings) = search_from(&mut question, gate, &mut visits)? else {
         return Ok(Found {
             verdict: Verdict::IntersectionEmpty,
-            proof: Proof::Empty(trail.into_refutation()),
             visits,
         });
     };
-    let selection = question.into_prefix();
-    let earlier = trail.into_earlier(alloc, &selection)?;
-    let lines = lines_before(alloc, platform, tree, domain, base, &selection, &settings)?;
     Ok(Found {
-        verdict: Verdict::Chosen(Chosen::new(selection, settings)),
-        proof: Proof::Choice(Certificate::new(earlier, lines.offers, lines.places)),
+        verdict: Verdict::Chosen(Chosen::new(question.into_prefix(), settings)),
         visits,
     })
 }

@@ -1,20 +1,22 @@
-//! The decision of a domain: the first selection of children that any settings can meet.
+//! The decision of a domain: the first selection of children that any settings can meet; and what proves it, where that is asked for.
 //!
 //! ```
 //! let found = search(rt.alloc(), &platform, &tree, domain, None, &NoGate)?;
+//! let proof = prove(rt.alloc(), &platform, &tree, domain, None, &found.verdict)?;
 //! ```
 #![tactic(auto)]
 
-mod cutting;
 mod deciding;
 mod gate;
 mod kept;
 mod levels;
 mod on_base;
+mod proving;
 mod question;
+mod refuting;
 mod searching;
 mod settling;
-mod trail;
 
 pub use deciding::{Found, search};
 pub use gate::{Gate, NoGate};
+pub use proving::prove;

@@ -1,0 +1,18 @@
+-- What refutes a forest that can't be met, and the first choices for its first group.
+use Rattle.std.specs.Prelude.{◌≡◌, ◌++◌, ℕ, List, IsSomeAnd, take}
+use Rattle.std.specs.List.{AllZip}
+use Rattle.sysmem_proof.specs.Certificate.{IsRefutation}
+use Rattle.sysmem_proof.specs.Matter.{Matter, terms}
+use Rattle.sysmem_proof.specs.declared.refutation.Item.{Item}
+use Rattle.sysmem_tree.specs.Forest.{Forest, choices}
+use Rattle.sysmem_tree.specs.Shape.{Member}
+
+-- a refutation of the forest joined the items
+pub record AddsRefutation (m : Matter) (d : Forest Member) (old new : List Item) : Type 0 where
+  pub refutation : List Item
+  pub items : new ≡ old ++ refutation
+  pub refutes : IsRefutation m.platform (terms m) d refutation
+
+-- refutations of the first choices for the first group, so many, one of each
+abbrev pub RefutesFirst : Matter → Forest Member → ℕ → List (List Item) → Type 0
+RefutesFirst m d c refutations = IsSomeAnd (choices d) (λ es. AllZip (IsRefutation m.platform (terms m)) (take c es) refutations)

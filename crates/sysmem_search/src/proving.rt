@@ -1,0 +1,101 @@
+//! What proves a verdict that is optimal, made where it is asked for.
+
+ghost use Rattle.std.specs.Prelude.{option_map, IfOk};
+ghost use Rattle.sysmem_proof.specs.Base.{IsGivenBase};
+ghost use Rattle.sysmem_proof.specs.Claim.{IsProofIn};
+ghost use Rattle.sysmem_proof.specs.Verdict.{IsOptimalIn};
+ghost use Rattle.sysmem_proof.specs.declared.certificate.Proof.TheVariants as proves;
+ghost use Rattle.sysmem_proof.specs.declared.verdict.Verdict.TheVariants as verdicts;
+ghost use Rattle.sysmem_tree.specs.Domain.{HasDomain};
+
+use crate::question::Question;
+use crate::refuting::{refute_earlier, refute_from};
+use std::alloc::{AllocError, Global};
+use sysmem_proof::{Base, Certificate, Chosen, Proof, Refutation, Verdict, lines_before};
+use sysmem_sanitise::Platform;
+use sysmem_tree::layout_laws::few_choices;
+use sysmem_tree::{DomainId, Tree};
+
+/// What proves a verdict that is optimal for a domain, for an attached one on the base that is given: of a choice refutations of each choice
+/// before those of its selection, and lines that refuse each offer and each place before those of its settings; where no settings meet any
+/// selection a refutation of the whole domain; of more than 4,096 selections nothing. `AllocError` where memory is refused.
+pub fn prove(
+    alloc: Global,
+    platform: &Platform,
+    tree: &Tree,
+    domain: DomainId,
+    base: Option<&Base>,
+    verdict: &Verdict,
+) -> Result<Proof, AllocError>
+    requires domain { HasDomain tree.now.nodes domain }
+    requires base { IsGivenBase platform.now tree.now.nodes domain
+        (option_map (λ b. b.now) base) }
+    requires optimal { IsOptimalIn platform.now tree.now.nodes domain
+        (option_map (λ b. b.now) base) verdict.now }
+    ensures proved { IfOk result (λ proof.
+        IsProofIn platform.now tree.now.nodes domain (option_map (λ b. b.now) base.entry)
+        verdict.now proof) }
+{
+    match verdict {
+        Verdict::Chosen(chosen) => {
+            let certificate = certify(alloc, platform, tree, domain, base, chosen)?;
+            Ok(Proof::Choice(certificate))
+        }
+        Verdict::IntersectionEmpty => {
+            let refutation = refute(alloc, platform, tree, domain, base)?;
+            Ok(Proof::Empty(refutation))
+        }
+        Verdict::TooMany | Verdict::Failed | Verdict::NoMemory => Ok(Proof::Nothing),
+    }
+}
+
+/// What shows that a choice is the first that can be met, and its settings the best.
+fn certify(
+    alloc: Global,
+    platform: &Platform,
+    tree: &Tree,
+    domain: DomainId,
+    base: Option<&Base>,
+    chosen: &Chosen,
+) -> Result<Certificate, AllocError>
+    requires domain { HasDomain tree.now.nodes domain }
+    requires base { IsGivenBase platform.now tree.now.nodes domain
+        (option_map (λ b. b.now) base) }
+    requires optimal { IsOptimalIn platform.now tree.now.nodes domain
+        (option_map (λ b. b.now) base) (verdicts.Chosen chosen.now) }
+    ensures proved { IfOk result (λ certificate.
+        IsProofIn platform.now tree.now.nodes domain (option_map (λ b. b.now) base.entry)
+        (verdicts.Chosen chosen.now) (proves.Choice certificate)) }
+{
+    few_choices();
+    tree.nodes();
+    let mut question = Question::new(alloc, platform, tree, domain, base)?;
+    let selection = chosen.selection();
+    let settings = chosen.settings();
+    let earlier = refute_earlier(alloc, &mut question, selection)?;
+    let lines = lines_before(alloc, platform, tree, domain, base, selection, &settings)?;
+    Ok(Certificate::new(earlier, lines.offers, lines.places))
+}
+
+/// What shows that no settings meet any selection of a domain.
+fn refute(
+    alloc: Global,
+    platform: &Platform,
+    tree: &Tree,
+    domain: DomainId,
+    base: Option<&Base>,
+) -> Result<Refutation, AllocError>
+    requires domain { HasDomain tree.now.nodes domain }
+    requires base { IsGivenBase platform.now tree.now.nodes domain
+        (option_map (λ b. b.now) base) }
+    requires optimal { IsOptimalIn platform.now tree.now.nodes domain
+        (option_map (λ b. b.now) base) verdicts.IntersectionEmpty }
+    ensures proved { IfOk result (λ refutation.
+        IsProofIn platform.now tree.now.nodes domain (option_map (λ b. b.now) base.entry)
+        verdicts.IntersectionEmpty (proves.Empty refutation)) }
+{
+    let mut question = Question::new(alloc, platform, tree, domain, base)?;
+    let mut items = Vec::new(alloc);
+    refute_from(&mut question, &mut items)?;
+    Ok(Refutation::new(items))
+}
