@@ -17,7 +17,7 @@ use Rattle.sysmem_tree.specs.Forest.{Forest, choices, settled}
 use Rattle.sysmem_tree.specs.Selection.{after, IsPrefix}
 use Rattle.sysmem_tree.specs.Shape.{Member}
 
-none_many : {A : Type 0} (o : Option (List A)) → option_map length o ≡ None → o ≡ None
+pub none_many : {A : Type 0} (o : Option (List A)) → option_map length o ≡ None → o ≡ None
 none_many None e = refl
 none_many (Some xs) e = absurd (cc)
 
@@ -82,13 +82,6 @@ module _ (m : Matter) where
     by None is' e = absurd (cc)
     by (Some es) is' e = (es, is', none_yet (MeetsOf m) (IsBestOf m) (MeetsSoFar m) d es is' from to is)
 
-  -- the results of a search at a whole selection are those of the question
-  pub whole_found : {E : Type 0} (r : Result (Option Settings) E) (o : Option (Forest Member)) (old : List ℕ) (from to : ℕ) → IfSome o (λ d. option_map length (choices d) ≡ None)
-      → to ≡ min (from + 1) 18446744073709551615 → IfOk r (λ best. IfSome o (λ d. MatchOption best ((t : Settings) → ¬ (MeetsOf m (settled d) t)) (IsBestOf m (settled d))))
-      → IfOk r (λ found. IfSome o (λ d. IsFoundOf m d old old from to found))
-  whole_found (Ok best) o old from to none is h = found_here o old from to best none is h
-  whole_found (Err e) o old from to none is h = tt
-
 if_some : {X : Type 0} (P : X → Type 0) (o : Option X) → ((x : X) → o ≡ Some x → P x) → IfSome o P
 if_some P None h = tt
 if_some P (Some x) h = h x refl
@@ -98,7 +91,7 @@ of_some P None x is h = absurd (cc)
 of_some P (Some y) x is h = subst P (same_Some y x is) h
 
 -- a choice behind choices
-after_push : (cs : List ℕ) (f d e : Forest Member) (es : List (Forest Member)) (c : ℕ) → after f cs ≡ Some d → choices d ≡ Some es → slice_get es c ≡ Some e → after f (cs ++ c ∷ []) ≡ Some e
+pub after_push : (cs : List ℕ) (f d e : Forest Member) (es : List (Forest Member)) (c : ℕ) → after f cs ≡ Some d → choices d ≡ Some es → slice_get es c ≡ Some e → after f (cs ++ c ∷ []) ≡ Some e
 after_push [] f d e es c leads open' here = ap (λ x. option_and_then (λ y. Some y) (choose x c)) (same_Some f d leads)
     ∙ (ap (λ o. option_and_then (λ y. Some y) (option_and_then (λ xs. slice_get xs c) o)) open' ∙ ap (option_and_then (λ y. Some y)) here)
 after_push (x ∷ cs) f d e es c leads open' here = option_and_then_some (λ y. after y cs) (choose f x) d leads

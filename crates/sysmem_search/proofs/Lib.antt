@@ -11,5 +11,5 @@ pub mod Accepting
 pub mod Keeping
 pub mod Entering
 pub mod Unmet
-pub mod Trailing
-pub mod Pieces
+pub mod Refuted
+pub mod Proved

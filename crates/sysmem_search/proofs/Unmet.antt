@@ -1,16 +1,17 @@
 -- Where no settings meet what is settled.
-use Rattle.std.proofs.Common.{◌≡◌, ℕ, Bool, true, false, List, Option, Some, None, length, refl, subst}
-use Rattle.std.specs.Prelude.{◌↔◌, IfSome, IfNone, IsTrue, MatchOption, is_none, is_some, not, option_map}
+use Rattle.std.proofs.Common.{◌≡◌, ℕ, Bool, true, false, List, [], Option, Some, None, length, refl, subst}
+use Rattle.std.specs.Prelude.{◌↔◌, IfSome, IfNone, IsTrue, is_none, is_some, not, option_map}
 use Rattle.sysmem_merge.specs.declared.settings.Settings.{Settings}
 use Rattle.sysmem_merge.specs.Settings.{MeetsAs}
 use Rattle.sysmem_proof.specs.Base.{Terms}
 use Rattle.sysmem_proof.specs.declared.conflict.Conflict.{Conflict}
 use Rattle.sysmem_proof.specs.Members.{participants}
-use Rattle.sysmem_proof.specs.Verdict.{MeetsFor, MeetsLooselyFor, MeetsSettled}
+use Rattle.sysmem_proof.specs.Verdict.{IsForestUnmet, MeetsFor, MeetsLooselyFor, MeetsSettled}
 use Rattle.sysmem_search.specs.Live.{SomeMeet}
-use Rattle.sysmem_search.specs.Question.{MeetsOf, MeetsHere, MeetsSoFar, IsBestOf}
+use Rattle.sysmem_search.specs.Question.{MeetsOf, MeetsHere, MeetsSoFar}
 use Rattle.sysmem_proof.specs.Matter.{Matter, forest, terms}
 use Rattle.sysmem_search.proofs.AskedMembers.{if_some, of_some, some_of}
+use Rattle.sysmem_search.proofs.Finding.{none_many}
 use Rattle.sysmem_tree.specs.Forest.{Forest, choices, settled}
 use Rattle.sysmem_tree.specs.Selection.{IsPrefix, after}
 use Rattle.sysmem_tree.specs.Shape.{Member}
@@ -30,13 +31,12 @@ none_before m d es open' unmet = by (terms m) unmet where
   by None unmet t met = unmet t (subst (λ x. MeetsAs (is_none x) m.platform (participants (settled d)) t) open' met)
   by (Some terms) unmet t met = unmet t met
 
--- where no settings are best for a selection, none meet it
-pub unmet_selection : (m : Matter) (o : Option (Forest Member)) (best : Option Settings) → best ≡ None → IfSome o (λ d. choices d ≡ None)
-    → IfSome o (λ d. MatchOption best ((t : Settings) → ¬ (MeetsOf m (settled d) t)) (IsBestOf m (settled d))) → IfSome o (λ d. (t : Settings) → ¬ (MeetsHere m d t))
-unmet_selection m o best none whole asked = if_some _ o (λ d here.
-    none_at_selection m d (of_some (λ x. choices x ≡ None) o d here whole)
-    (subst (λ b. MatchOption b ((t : Settings) → ¬ (MeetsOf m (settled d) t)) (IsBestOf m (settled d))) none
-    (of_some (λ x. MatchOption best ((t : Settings) → ¬ (MeetsOf m (settled x) t)) (IsBestOf m (settled x))) o d here asked)))
+-- where none meet a selection that goes on from a selection, none meet it
+pub unmet_selection : (m : Matter) (o : Option (Forest Member)) → IfSome o (λ d. option_map length (choices d) ≡ None) → IfSome o (λ d. IsForestUnmet (MeetsOf m) d)
+    → IfSome o (λ d. (t : Settings) → ¬ (MeetsHere m d t))
+unmet_selection m o whole unmet = if_some _ o (λ d here.
+    let none = none_many (choices d) (of_some (λ x. option_map length (choices x) ≡ None) o d here whole) in
+    none_at_selection m d none (λ t met. of_some (λ x. IsForestUnmet (MeetsOf m) x) o d here unmet [] d t (record { leads = refl; whole = none }) met))
 
 -- where what is settled before a group can't be met, none meet it
 pub unmet_prefix : (m : Matter) (o : Option (Forest Member)) (n : ℕ) (met : Bool) → met ≡ false → IfSome o (λ d. option_map length (choices d) ≡ Some n)

@@ -1,19 +1,16 @@
 -- What was found at this prefix, by what was asked and found below it.
-use Rattle.std.proofs.Common.{[], ◌∷◌, ◌++◌, length, ◌≤◌, refl, sym, ◌∙◌, ap, subst, arith}
+use Rattle.std.proofs.Common.{◌≡◌, [], ◌∷◌, ◌++◌, refl, sym, ◌∙◌, ap, subst, arith}
 use Rattle.std.specs.Prelude.{IfSome}
 use Rattle.sysmem_proof.specs.Matter.{forest}
 use Rattle.sysmem_search.specs.Searching.{IsFoundOf}
 use Rattle.sysmem_search.specs.Standing.{Standing}
-use Rattle.sysmem_search.specs.Trail.{LeavesOnTrail}
-use Rattle.sysmem_search.proofs.Finding.{entered_at, whole_found, found_cut, begun, long_push, pushed_prefix, found_below, unmet_below, same_below, all_below}
-use Rattle.sysmem_search.proofs.Trailing.{no_choice_passed, choice_passed, choice_found, all_choices_passed, longer_trail}
-use Rattle.sysmem_search.proofs.Unmet.{unmet_prefix}
+use Rattle.sysmem_search.proofs.Finding.{entered_at, found_here, found_cut, begun, long_push, pushed_prefix, found_below, unmet_below, same_below, all_below}
 use Rattle.sysmem_tree.specs.Selection.{IsPrefix, after}
 use Rattle.sysmem_search.proofs.searching.+search_from.Goals as goal
 
 pub returns-in_default-clause-found : goal.returns-in_default-clause-found
-returns-in_default-clause-found g t c = whole_found c.args.question.now.matter c.search_selection.result (after (forest c.args.question.now.matter) c.args.question.now.choices) c.args.question.now.choices _ _
-    c.in_default.ensures.number c.saturating_add.ensures c.search_selection.ensures.best
+returns-in_default-clause-found g t c = found_here c.args.question.now.matter (after (forest c.args.question.now.matter) c.args.question.now.choices) c.args.question.now.choices _ _ c.best.result
+    c.in_default.ensures.number c.saturating_add.ensures c.best.ensures
 
 pub returns-then-not-is_met-clause-found : goal.returns-then-not-is_met-clause-found
 returns-then-not-is_met-clause-found g t c = found_cut c.args.question.now.matter (after (forest c.args.question.now.matter) c.args.question.now.choices) c.args.question.now.choices _ _ c.is_met.result
@@ -23,39 +20,7 @@ pub loop-choice-init : goal.loop-choice-init
 loop-choice-init g t c = record {
   same = refl;
   gone = begun c.args.question.now.matter (after (forest c.args.question.now.matter) c.args.question.now.choices) c.in-Some.children _ _ c.in-Some.ensures.number c.saturating_add.ensures;
-  passed = no_choice_passed c.args.question.now.matter (after (forest c.args.question.now.matter) c.args.question.now.choices) c.in-Some.children c.args.trail.now c.add_split.new.self c.in-Some.ensures.number
-      c.in_ok-add_split.ensures.items c.in_ok-add_split.ensures.sizes;
 }
-
-pub refute_here-requires-clause-unmet : goal.refute_here-requires-clause-unmet
-refute_here-requires-clause-unmet g t c = unmet_prefix c.args.question.now.matter (after (forest c.args.question.now.matter) c.args.question.now.choices) c.in-Some.children c.is_met.result
-    c.if-not-is_met.true c.in-Some.ensures.number c.is_met.ensures
-
-pub returns-in-Some-2-clause-trail : goal.returns-in-Some-2-clause-trail
-returns-in-Some-2-clause-trail g t c =
-    let q = c.args.question.now in
-    let (matter_is, is) = entered_at c.enter.new.self c.loop-choice.question q c.loop-choice.choice c.in_ok-enter.ensures c.loop-choice.invariant.same in
-    let left = subst (λ x. IfSome (after (forest x) c.enter.new.self.choices) (λ e. LeavesOnTrail x e c.enter.new.self.choices c.search_from.new.question.choices c.loop-choice.trail c.search_from.new.trail c.in_ok-settings.field-0))
-    matter_is c.in_ok-settings.ensures.trail in
-    let left_is = subst (λ f. IfSome (after (forest q.matter) c.enter.new.self.choices) (λ e. LeavesOnTrail q.matter e c.enter.new.self.choices c.search_from.new.question.choices c.loop-choice.trail c.search_from.new.trail f)) c.in-Some-2.is left in
-    choice_found q.matter q.choices c.enter.new.self.choices c.loop-choice.choice c.in-Some.children c.requires.prefix c.loop-choice-test.true is c.in-Some.ensures.number c.args.trail.now c.loop-choice.trail
-    c.loop-choice.invariant.passed c.search_from.new.question.choices c.search_from.new.trail left_is
-
-pub pass_choice-requires : goal.pass_choice-requires
-pass_choice-requires g t c =
-    let q = c.args.question.now in
-    let (matter_is, is) = entered_at c.enter.new.self c.loop-choice.question q c.loop-choice.choice c.in_ok-enter.ensures c.loop-choice.invariant.same in
-    let left = subst (λ x. IfSome (after (forest x) c.enter.new.self.choices) (λ e. LeavesOnTrail x e c.enter.new.self.choices c.search_from.new.question.choices c.loop-choice.trail c.search_from.new.trail c.in_ok-settings.field-0))
-    matter_is c.in_ok-settings.ensures.trail in
-    let left_is = subst (λ f. IfSome (after (forest q.matter) c.enter.new.self.choices) (λ e. LeavesOnTrail q.matter e c.enter.new.self.choices c.search_from.new.question.choices c.loop-choice.trail c.search_from.new.trail f)) c.in_default-2.is left in
-    subst (λ n. n ≤ length c.search_from.new.trail.items.items) (sym c.len-start.ensures) (longer_trail q.matter (after (forest q.matter) c.enter.new.self.choices) c.loop-choice.trail c.search_from.new.trail
-    (pushed_prefix q.matter q.choices c.enter.new.self.choices c.loop-choice.choice c.in-Some.children 0 c.requires.prefix c.loop-choice-test.true is c.in-Some.ensures.number) left_is)
-
-pub returns-clause-trail : goal.returns-clause-trail
-returns-clause-trail g t c =
-    let q = c.args.question.now in
-    all_choices_passed q.matter (after (forest q.matter) q.choices) c.loop-choice.choice c.in-Some.children c.args.trail.now c.loop-choice.trail c.pass_group.new.self c.passed-passed.result
-    (omega (arith, c.loop-choice-test.false)) c.loop-choice.auto.choice-end c.in-Some.ensures.number c.loop-choice.invariant.passed c.passed-passed.ensures c.pass_group.ensures.items c.pass_group.ensures.sizes
 
 pub enter-requires-clause-prefix : goal.enter-requires-clause-prefix
 enter-requires-clause-prefix g t c =
@@ -96,17 +61,12 @@ loop-choice-preserved g t c =
     let found = subst (λ x. IfSome (after (forest x) c.enter.new.self.choices) (λ e. IsFoundOf x e c.enter.new.self.choices c.search_from.new.question.choices c.loop-choice.visits c.search_from.new.visits c.in_ok-settings.field-0))
     matter_is c.in_ok-settings.ensures.found in
     let found_is = subst (λ f. IfSome (after (forest q.matter) c.enter.new.self.choices) (λ e. IsFoundOf q.matter e c.enter.new.self.choices c.search_from.new.question.choices c.loop-choice.visits c.search_from.new.visits f)) c.in_default-2.is found in
-    let left = subst (λ x. IfSome (after (forest x) c.enter.new.self.choices) (λ e. LeavesOnTrail x e c.enter.new.self.choices c.search_from.new.question.choices c.loop-choice.trail c.search_from.new.trail c.in_ok-settings.field-0))
-    matter_is c.in_ok-settings.ensures.trail in
-    let left_is = subst (λ f. IfSome (after (forest q.matter) c.enter.new.self.choices) (λ e. LeavesOnTrail q.matter e c.enter.new.self.choices c.search_from.new.question.choices c.loop-choice.trail c.search_from.new.trail f)) c.in_default-2.is left in
     let back = same_below q.matter q.choices c.enter.new.self.choices c.loop-choice.choice c.in-Some.children _ c.requires.prefix c.loop-choice-test.true is c.in-Some.ensures.number
     c.is_met.result c.if-not-is_met.false c.is_met.ensures _ _ _ c.loop-choice.invariant.gone found_is in
     record {
       same = c.leave.ensures q.choices c.loop-choice.choice (back ∙ is) ∙ ap (λ x. record { matter = x; choices = q.choices }) (c.in_ok-settings.ensures.matter ∙ matter_is);
       gone = unmet_below q.matter q.choices c.enter.new.self.choices c.loop-choice.choice c.in-Some.children _ c.requires.prefix c.loop-choice-test.true is c.in-Some.ensures.number
           c.is_met.result c.if-not-is_met.false c.is_met.ensures _ _ _ c.loop-choice.invariant.gone found_is;
-      passed = choice_passed q.matter q.choices c.enter.new.self.choices c.loop-choice.choice c.in-Some.children c.requires.prefix c.loop-choice-test.true is c.in-Some.ensures.number c.args.trail.now
-          c.loop-choice.trail c.loop-choice.invariant.passed c.search_from.new.trail c.pass_choice.new.self c.len-start.result left_is c.len-start.ensures c.pass_choice.ensures.items c.in_ok-pass_choice.ensures.sizes;
     }
 
 pub returns-clause-found : goal.returns-clause-found

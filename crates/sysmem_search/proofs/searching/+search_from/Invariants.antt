@@ -3,7 +3,6 @@ use Rattle.std.proofs.Common.{◌≡◌, ◌-◌, length}
 use Rattle.std.specs.Prelude.{IfSome}
 use Rattle.sysmem_proof.specs.Matter.{forest}
 use Rattle.sysmem_search.proofs.Finding.{GoneThrough}
-use Rattle.sysmem_search.proofs.Trailing.{PassesChoices}
 use Rattle.sysmem_tree.specs.Selection.{after}
 use Rattle.sysmem_search.proofs.searching.+search_from.Given as goal
 
@@ -14,5 +13,4 @@ abbrev pub invariant-loop-choice : goal.invariant-loop-choice
 invariant-loop-choice g l = record {
   same : l.question ≡ l.fn.question;
   gone : IfSome (after (forest l.fn.question.matter) l.fn.question.choices) (λ d. GoneThrough l.fn.question.matter d l.choice l.fn.visits l.visits);
-  passed : IfSome (after (forest l.fn.question.matter) l.fn.question.choices) (λ d. PassesChoices l.fn.question.matter d l.choice l.fn.trail l.trail);
 }

@@ -1,0 +1,70 @@
+-- What refutes each choice for the next group refutes all that goes on from there.
+use Rattle.std.proofs.Common.{◌≡◌, [], ◌∷◌, ◌++◌, length, ◌≤◌, refl, sym, ◌∙◌, ap, subst, arith}
+use Rattle.std.specs.Prelude.{IfSome}
+use Rattle.sysmem_proof.specs.Matter.{forest}
+use Rattle.sysmem_proof.specs.Verdict.{IsForestUnmet}
+use Rattle.sysmem_search.specs.Question.{MeetsOf}
+use Rattle.sysmem_search.specs.Refuting.{AddsRefutation}
+use Rattle.sysmem_search.specs.Standing.{Standing}
+use Rattle.sysmem_search.proofs.Finding.{entered_at, long_push, pushed_prefix}
+use Rattle.sysmem_search.proofs.Refuted.{no_choice_added, choice_unmet, choice_added, all_choices_added}
+use Rattle.sysmem_search.proofs.Unmet.{unmet_prefix, unmet_selection}
+use Rattle.sysmem_tree.specs.Selection.{IsPrefix, after}
+use Rattle.sysmem_search.proofs.refuting.+refute_from.Goals as goal
+
+pub refute_here-requires-clause-unmet : goal.refute_here-requires-clause-unmet
+refute_here-requires-clause-unmet t c =
+    let q = c.args.question.now in
+    unmet_selection q.matter (after (forest q.matter) q.choices) c.in_default.ensures.number c.requires.unmet
+
+pub refute_here-2-requires-clause-unmet : goal.refute_here-2-requires-clause-unmet
+refute_here-2-requires-clause-unmet t c =
+    let q = c.args.question.now in
+    unmet_prefix q.matter (after (forest q.matter) q.choices) c.in-Some.children c.is_met.result c.if-not-is_met.true c.in-Some.ensures.number c.is_met.ensures
+
+pub loop-choice-init : goal.loop-choice-init
+loop-choice-init t c =
+    let q = c.args.question.now in
+    record {
+      same = refl;
+      added = no_choice_added q.matter (after (forest q.matter) q.choices) c.in-Some.children c.args.items.now.items c.push.new.self.items c.in-Some.ensures.number c.in_ok-push.ensures.items;
+    }
+
+pub enter-requires-clause-prefix : goal.enter-requires-clause-prefix
+enter-requires-clause-prefix t c =
+    let q = c.args.question.now in
+    subst (λ (s : Standing). IsPrefix (forest s.matter) (s.choices ++ c.loop-choice.choice ∷ [])) (sym c.loop-choice.invariant.same)
+    (pushed_prefix q.matter q.choices (q.choices ++ c.loop-choice.choice ∷ []) c.loop-choice.choice c.in-Some.children 0 c.requires.prefix c.loop-choice-test.true refl c.in-Some.ensures.number)
+
+pub refute_from-requires : goal.refute_from-requires
+refute_from-requires t c =
+    let q = c.args.question.now in
+    let (matter_is, is) = entered_at c.enter.new.self c.loop-choice.question q c.loop-choice.choice c.in_ok-enter.ensures c.loop-choice.invariant.same in
+    let long = long_push q.choices c.enter.new.self.choices c.loop-choice.choice is in (
+      omega (arith, c.decreases, long, c.in-Some.ensures.room),
+      (
+        subst (λ x. IsPrefix (forest x) c.enter.new.self.choices) (sym matter_is)
+            (pushed_prefix q.matter q.choices c.enter.new.self.choices c.loop-choice.choice c.in-Some.children 0 c.requires.prefix c.loop-choice-test.true is c.in-Some.ensures.number),
+        omega (arith, long, c.in-Some.ensures.room),
+        subst (λ x. IfSome (after (forest x) c.enter.new.self.choices) (λ d. IsForestUnmet (MeetsOf x) d)) (sym matter_is)
+            (choice_unmet q.matter q.choices c.enter.new.self.choices c.loop-choice.choice c.in-Some.children c.requires.prefix c.loop-choice-test.true is c.in-Some.ensures.number c.requires.unmet),
+      ),
+    )
+
+pub loop-choice-preserved : goal.loop-choice-preserved
+loop-choice-preserved t c =
+    let q = c.args.question.now in
+    let (matter_is, is) = entered_at c.enter.new.self c.loop-choice.question q c.loop-choice.choice c.in_ok-enter.ensures c.loop-choice.invariant.same in
+    let back = c.in_ok-refute_from.ensures.same in
+    record {
+      same = c.leave.ensures q.choices c.loop-choice.choice (ap (λ (s : Standing). s.choices) back ∙ is) ∙ ap (λ x. record { matter = x; choices = q.choices }) (ap (λ (s : Standing). s.matter) back ∙ matter_is);
+      added = choice_added q.matter q.choices c.enter.new.self.choices c.loop-choice.choice c.in-Some.children c.requires.prefix c.loop-choice-test.true is c.in-Some.ensures.number
+          c.args.items.now.items c.loop-choice.items.items c.refute_from.new.items.items c.loop-choice.invariant.added
+          (subst (λ x. IfSome (after (forest x) c.enter.new.self.choices) (λ d. AddsRefutation x d c.loop-choice.items.items c.refute_from.new.items.items)) matter_is c.in_ok-refute_from.ensures.refuted);
+    }
+
+pub returns-clause-refuted : goal.returns-clause-refuted
+returns-clause-refuted t c =
+    let q = c.args.question.now in
+    all_choices_added q.matter (after (forest q.matter) q.choices) c.loop-choice.choice c.in-Some.children c.args.items.now.items c.loop-choice.items.items
+    (omega (arith, c.loop-choice-test.false)) c.loop-choice.auto.choice-end c.in-Some.ensures.number c.loop-choice.invariant.added
