@@ -18,11 +18,7 @@ type Group = (&'static str, &'static str, u8);
 // Groups in the order of their choices: those of a child before the next one of the node above it.
 const SHAPES: [&[Group]; 4] = [
     &[("/", "/0", 2), ("/", "/1", 3)],
-    &[
-        ("/", "/0", 2),
-        ("/0/0", "/0/0/0", 2),
-        ("/", "/1", 2),
-    ],
+    &[("/", "/0", 2), ("/0/0", "/0/0/0", 2), ("/", "/1", 2)],
     &[
         ("/", "/0", 3),
         ("/0/1", "/0/1/0", 2),

@@ -58,7 +58,14 @@ fn claim_for(alloc: Global, book: &Book, domain: DomainId) -> Option<Arc<Claim>>
     let Ok(found) = search(alloc, platform, book.tree(), domain, base.as_ref(), &NoGate) else {
         return None;
     };
-    let Ok(proof) = prove(alloc, platform, book.tree(), domain, base.as_ref(), &found.verdict) else {
+    let Ok(proof) = prove(
+        alloc,
+        platform,
+        book.tree(),
+        domain,
+        base.as_ref(),
+        &found.verdict,
+    ) else {
         return None;
     };
     let claim = Claim {

@@ -45,10 +45,7 @@ const ASKED: [(&str, &str); 15] = [
         "never",
         r#"{"usage":["cpu"],"min_buffer_count":2,"max_buffer_count":1}"#,
     ),
-    (
-        "at_most_90",
-        r#"{"usage":["cpu"],"max_buffer_count":90}"#,
-    ),
+    ("at_most_90", r#"{"usage":["cpu"],"max_buffer_count":90}"#),
     (
         "camps_on_1",
         r#"{"usage":["cpu"],"min_buffer_count_for_camping":1}"#,
