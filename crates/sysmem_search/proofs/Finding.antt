@@ -1,6 +1,6 @@
 -- What a search from a prefix on finds, by what it asked there.
 use Rattle.std.proofs.Common.{◌≡◌, ◌<◌, ℕ, ◌+◌, Bool, true, false, List, [], ◌∷◌, ◌++◌, Option, Some, None, length, min, slice_get, refl, sym, ◌∙◌, ap, subst, arith, length-append, zero, suc, is_some}
-use Rattle.std.specs.Prelude.{◌↔◌, ◌≤◌, IsTrue, Result, Ok, Err, IfOk, IfSome, IsSome, IsSomeAnd, MatchOption, option_map, option_and_then}
+use Rattle.std.specs.Prelude.{◌↔◌, ◌≤◌, IsTrue, IfSome, IsSome, IsSomeAnd, MatchOption, option_map, option_and_then}
 use Rattle.std.proofs.lemmas.Option.{same_Some, none-some, option_and_then_some}
 use Rattle.std.proofs.lemmas.List.{append-nil}
 use Rattle.sysmem_merge.specs.declared.settings.Settings.{Settings}

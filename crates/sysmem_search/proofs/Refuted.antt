@@ -1,10 +1,9 @@
 -- What refutes a forest that can't be met, choice by choice.
-use Rattle.std.proofs.Common.{◌≡◌, ◌≤◌, ◌<◌, ℕ, ◌+◌, zero, suc, List, [], ◌∷◌, ◌++◌, Option, Some, None, length, drop, take, slice_get, inl, inr, is_some, refl, sym, ◌∙◌, ap, subst, arith, append_assoc, add-one}
+use Rattle.std.proofs.Common.{◌≡◌, ◌≤◌, ◌<◌, ℕ, ◌+◌, zero, suc, List, [], ◌∷◌, ◌++◌, Option, Some, None, length, drop, get_or, take, slice_get, inl, inr, is_some, refl, sym, ◌∙◌, ap, subst, arith, append_assoc, add-one}
 use Rattle.std.specs.Prelude.{IfSome, IsSome, IsSomeAnd, option_map, option_and_then}
 use Rattle.std.specs.List.{AllZip, flat_map}
-use Rattle.std.proofs.lemmas.List.{append-nil, flat_map_more}
+use Rattle.std.proofs.lemmas.List.{append-nil, drop_more, flat_map_more, length-take-le, take_more}
 use Rattle.std.proofs.lemmas.Option.{same_Some, none-some, slice_get_within}
-use Rattle.sysmem_merge.specs.declared.settings.Settings.{Settings}
 use Rattle.sysmem_proof.specs.Certificate.{IsRefutation, RefutesEarlier}
 use Rattle.sysmem_proof.specs.Conflict.{IsConflictFor}
 use Rattle.sysmem_proof.specs.declared.refutation.Item.{Item}
@@ -14,10 +13,11 @@ use Rattle.sysmem_proof.specs.Verdict.{Meeting, IsForestUnmet, IsUnmetBefore}
 use Rattle.sysmem_proof.proofs.CallerLemmas.{splits_refute, earlier_grows}
 use Rattle.sysmem_search.specs.Question.{MeetsOf}
 use Rattle.sysmem_search.specs.Refuting.{AddsRefutation, RefutesFirst}
+use Rattle.sysmem_search.specs.Standing.{Standing}
 use Rattle.sysmem_search.proofs.AskedMembers.{if_some, of_some}
 use Rattle.sysmem_search.proofs.Finding.{Child, after_push, child}
 use Rattle.sysmem_search.proofs.Sofar.{some_and, and_some}
-use Rattle.sysmem_tree.specs.Forest.{Forest, choices, settled}
+use Rattle.sysmem_tree.specs.Forest.{Forest, choices}
 use Rattle.sysmem_tree.specs.Selection.{IsEarlierSelection, IsPrefix, IsSelection, after}
 use Rattle.sysmem_tree.specs.Shape.{Member}
 
@@ -209,6 +209,31 @@ module _ (m : Matter) (cs pushed : List ℕ) (c n : ℕ) (prefix : IsPrefix (for
   choice_refuted rs none items r empty same = of_both (λ d. RefutesFirst m d c rs) (λ e. AddsRefutation m e none items) (λ d. RefutesFirst m d (c + 1) (rs ++ r ∷ []))
       (λ so adds. one_refuted m next.forest_here next.child next.alternatives c rs r next.open' next.here so
       (subst (IsRefutation m.platform (terms m) next.child) (sym (same ∙ (adds.items ∙ ap (λ xs. xs ++ adds.refutation) empty))) adds.refutes))
+
+-- a search that has made no choice
+pub at_start : (q : Standing) → q.choices ≡ [] → q ≡ record { matter = q.matter; choices = [] }
+at_start q none = ap (λ xs. record { matter = q.matter; choices = xs }) none
+
+-- and where it stands after one choice more
+pub went_on : (m : Matter) (s t : Standing) (c : ℕ) (xs ys : List ℕ) → s ≡ record { matter = t.matter; choices = t.choices ++ c ∷ [] } → t ≡ record { matter = m; choices = xs } → ys ≡ xs ++ c ∷ []
+    → s ≡ record { matter = m; choices = ys }
+went_on m s t c xs ys entered same longer = entered ∙ (ap (λ (x : Standing). record { matter = x.matter; choices = x.choices ++ c ∷ [] }) same ∙ ap (λ zs. record { matter = m; choices = zs }) (sym longer))
+
+-- the next of a selection's choices
+pub next_choice : (xs selection : List ℕ) (k : ℕ) → xs ≡ selection → k < length xs
+    → (drop k selection ≡ get_or xs k 0 ∷ drop (k + 1) selection) × (take (k + 1) selection ≡ take k selection ++ get_or xs k 0 ∷ [])
+next_choice xs selection k same less = (
+  ap (drop k) (sym same) ∙ (drop_more xs k 0 less ∙ ap (λ ys. get_or xs k 0 ∷ drop (k + 1) ys) same),
+  ap (take (k + 1)) (sym same) ∙ (take_more xs k 0 less ∙ ap (λ ys. take k ys ++ get_or xs k 0 ∷ []) same),
+)
+
+-- fewer choices were made than it has
+pub room_on_way : (m : Matter) (q : Standing) (xs selection : List ℕ) (k : ℕ) → q ≡ record { matter = m; choices = take k selection } → xs ≡ selection → k < length xs → length selection ≤ 128
+    → length q.choices < 128
+room_on_way m q xs selection k is same less few =
+    let all = ap length same in
+    let made = ap (λ (s : Standing). length s.choices) is in
+    let long = length-take-le k selection (omega (arith, all, less)) in omega (arith, made, long, all, less, few)
 
 -- so many choices of a selection were made, and what is earlier up to there is refuted
 pub record OnWay (m : Matter) (selection : List ℕ) (k : ℕ) (earlier : List (List (List Item))) : Type 0 where

@@ -11,5 +11,7 @@ refute_from-requires-clause-unmet c =
 pub returns : goal.returns
 returns c =
     let base = option_map (λ b. b.now) c.args.base in
-    refuted_all c.args.platform.now c.args.tree.now.nodes c.args.domain base c.in_ok-question.question c.new-items.result.items c.refute_from.new.items.items c.new-2.result c.in_ok-question.ensures
-    c.new-items.ensures.items c.new-2.ensures c.in_ok-refute_from.ensures.refuted
+    record {
+      proved = refuted_all c.args.platform.now c.args.tree.now.nodes c.args.domain base c.in_ok-question.question c.new-items.result.items c.refute_from.new.items.items c.new-2.result c.in_ok-question.ensures
+          c.new-items.ensures.items c.new-2.ensures c.in_ok-refute_from.ensures.refuted;
+    }

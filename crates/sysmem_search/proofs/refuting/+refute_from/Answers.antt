@@ -1,5 +1,5 @@
 -- What refutes each choice for the next group refutes all that goes on from there.
-use Rattle.std.proofs.Common.{◌≡◌, [], ◌∷◌, ◌++◌, length, ◌≤◌, refl, sym, ◌∙◌, ap, subst, arith}
+use Rattle.std.proofs.Common.{[], ◌∷◌, ◌++◌, refl, sym, ◌∙◌, ap, subst, arith}
 use Rattle.std.specs.Prelude.{IfSome}
 use Rattle.sysmem_proof.specs.Matter.{forest}
 use Rattle.sysmem_proof.specs.Verdict.{IsForestUnmet}
@@ -17,8 +17,8 @@ refute_here-requires-clause-unmet t c =
     let q = c.args.question.now in
     unmet_selection q.matter (after (forest q.matter) q.choices) c.in_default.ensures.number c.requires.unmet
 
-pub refute_here-2-requires-clause-unmet : goal.refute_here-2-requires-clause-unmet
-refute_here-2-requires-clause-unmet t c =
+pub refute_here-requires-then-not-is_met-clause-unmet : goal.refute_here-requires-then-not-is_met-clause-unmet
+refute_here-requires-then-not-is_met-clause-unmet t c =
     let q = c.args.question.now in
     unmet_prefix q.matter (after (forest q.matter) q.choices) c.in-Some.children c.is_met.result c.if-not-is_met.true c.in-Some.ensures.number c.is_met.ensures
 
@@ -45,9 +45,11 @@ refute_from-requires t c =
       (
         subst (λ x. IsPrefix (forest x) c.enter.new.self.choices) (sym matter_is)
             (pushed_prefix q.matter q.choices c.enter.new.self.choices c.loop-choice.choice c.in-Some.children 0 c.requires.prefix c.loop-choice-test.true is c.in-Some.ensures.number),
-        omega (arith, long, c.in-Some.ensures.room),
-        subst (λ x. IfSome (after (forest x) c.enter.new.self.choices) (λ d. IsForestUnmet (MeetsOf x) d)) (sym matter_is)
-            (choice_unmet q.matter q.choices c.enter.new.self.choices c.loop-choice.choice c.in-Some.children c.requires.prefix c.loop-choice-test.true is c.in-Some.ensures.number c.requires.unmet),
+        (
+          omega (arith, long, c.in-Some.ensures.room),
+          subst (λ x. IfSome (after (forest x) c.enter.new.self.choices) (λ d. IsForestUnmet (MeetsOf x) d)) (sym matter_is)
+              (choice_unmet q.matter q.choices c.enter.new.self.choices c.loop-choice.choice c.in-Some.children c.requires.prefix c.loop-choice-test.true is c.in-Some.ensures.number c.requires.unmet),
+        ),
       ),
     )
 

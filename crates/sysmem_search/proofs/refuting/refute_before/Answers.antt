@@ -1,5 +1,5 @@
 -- Each choice before this one is refuted.
-use Rattle.std.proofs.Common.{◌≡◌, [], ◌∷◌, ◌++◌, length, refl, sym, ◌∙◌, ap, subst, arith}
+use Rattle.std.proofs.Common.{◌≡◌, [], ◌∷◌, ◌++◌, ◌+◌, refl, sym, ◌∙◌, ap, subst, arith}
 use Rattle.std.specs.Prelude.{IfSome}
 use Rattle.sysmem_proof.specs.Matter.{forest}
 use Rattle.sysmem_proof.specs.Verdict.{IsForestUnmet}
@@ -60,9 +60,13 @@ loop-earlier-preserved c =
       same = c.leave.ensures q.choices c.loop-earlier.earlier (ap (λ (s : Standing). s.choices) back ∙ is) ∙ ap (λ x. record { matter = x; choices = q.choices }) (ap (λ (s : Standing). s.matter) back ∙ matter_is);
       refuted = subst (λ rs. IfSome (after (forest q.matter) q.choices) (λ d. RefutesFirst q.matter d (c.loop-earlier.earlier + 1) rs)) (sym c.in_ok-push.ensures.items)
           (choice_refuted q.matter q.choices c.enter.new.self.choices c.loop-earlier.earlier there.many there.prefix (omega (arith, c.loop-earlier-test.true, there.less)) is there.number
-          c.loop-earlier.refutations.items c.new-items.result.items c.refute_from.new.items.items c.new-2.result c.new-items.ensures.items c.new-2.ensures c.loop-earlier.invariant.refuted
+          c.loop-earlier.refutations.items c.new-items.result.items c.refute_from.new.items.items c.new.result c.new-items.ensures.items c.new.ensures c.loop-earlier.invariant.refuted
           (subst (λ x. IfSome (after (forest x) c.enter.new.self.choices) (λ d. AddsRefutation x d c.new-items.result.items c.refute_from.new.items.items)) matter_is c.in_ok-refute_from.ensures.refuted));
     }
 
 pub returns-clause-refuted : goal.returns-clause-refuted
-returns-clause-refuted c = ?
+returns-clause-refuted c =
+    let q = c.args.question.now in
+    let all : c.loop-earlier.earlier ≡ c.args.choice = omega (arith, c.loop-earlier-test.false, c.loop-earlier.auto.earlier-end) in
+    subst (λ rs. IfSome (after (forest q.matter) q.choices) (λ d. RefutesFirst q.matter d c.args.choice rs)) (sym c.new-2.ensures)
+    (subst (λ k. IfSome (after (forest q.matter) q.choices) (λ d. RefutesFirst q.matter d k c.loop-earlier.refutations.items)) all c.loop-earlier.invariant.refuted)

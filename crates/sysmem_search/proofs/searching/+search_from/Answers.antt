@@ -1,5 +1,5 @@
 -- What was found at this prefix, by what was asked and found below it.
-use Rattle.std.proofs.Common.{◌≡◌, [], ◌∷◌, ◌++◌, refl, sym, ◌∙◌, ap, subst, arith}
+use Rattle.std.proofs.Common.{[], ◌∷◌, ◌++◌, refl, sym, ◌∙◌, ap, subst, arith}
 use Rattle.std.specs.Prelude.{IfSome}
 use Rattle.sysmem_proof.specs.Matter.{forest}
 use Rattle.sysmem_search.specs.Searching.{IsFoundOf}
