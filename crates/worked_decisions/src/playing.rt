@@ -55,17 +55,12 @@ fn claim_for(alloc: Global, book: &Book, domain: DomainId) -> Option<Arc<Claim>>
         return None;
     };
     let platform = book.platform();
-    let Ok(found) = search(alloc, platform, book.tree(), domain, base.as_ref(), &NoGate) else {
+    let tree = book.tree();
+    let lent = base.as_ref();
+    let Ok(found) = search(alloc, platform, tree, domain, lent, &NoGate) else {
         return None;
     };
-    let Ok(proof) = prove(
-        alloc,
-        platform,
-        book.tree(),
-        domain,
-        base.as_ref(),
-        &found.verdict,
-    ) else {
+    let Ok(proof) = prove(alloc, platform, tree, domain, lent, &found.verdict) else {
         return None;
     };
     let claim = Claim {

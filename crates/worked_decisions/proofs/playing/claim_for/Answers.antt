@@ -6,11 +6,11 @@ use Rattle.worked_decisions.proofs.Lent.{true_as}
 use Rattle.worked_decisions.proofs.playing.claim_for.Goals as goal
 
 pub search-requires-clause-ready : goal.search-requires-clause-ready
-search-requires-clause-ready c = subst (λ (t : TreeFacts). is_ready t c.args.domain ≡ true) (sym c.tree.ensures) c.requires.waits.ready
+search-requires-clause-ready c = subst (λ (t : TreeFacts). is_ready t c.args.domain ≡ true) (sym c.tree-tree.ensures) c.requires.waits.ready
 
 pub returns : goal.returns
 returns c =
-    let claim : Claim = record { verdict = c.in-Ok-search.found.verdict; proof = c.in-Ok-search.found.proof } in
-    true_as c.platform-platform.result.now c.args.book.now.platform c.tree.result.now c.args.book.now.state.tree c.args.domain _ (base_of c.args.book.now.state c.args.domain)
-    claim _ c.platform-platform.ensures.platform c.tree.ensures (c.as_ref.ensures.value ∙ c.in-Ok.ensures.base) (sym c.in-Ok-new.ensures.ok)
-    (record { optimal = c.in-Ok-search.ensures.optimal; proved = c.in-Ok-search.ensures.proved })
+    let claim : Claim = record { verdict = c.in-Ok-search.found.verdict; proof = c.in-Ok-prove.proof } in
+    true_as c.platform-platform.result.now c.args.book.now.platform c.tree-tree.result.now c.args.book.now.state.tree c.args.domain _ (base_of c.args.book.now.state c.args.domain)
+    claim _ c.platform-platform.ensures.platform c.tree-tree.ensures (c.as_ref-lent.ensures.value ∙ c.in-Ok.ensures.base) (sym c.in-Ok-new.ensures.ok)
+    (record { optimal = c.in-Ok-search.ensures.optimal; proved = c.in-Ok-prove.ensures.proved })
