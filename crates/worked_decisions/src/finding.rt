@@ -36,8 +36,10 @@ pub(crate) fn search_frozen(alloc: Global, frozen: &Frozen) -> Result<Searched, 
         visits: Cell::new(0),
         most_choices: Cell::new(0),
     };
-    let (platform, tree, base) = (frozen.platform(), frozen.tree(), frozen.base());
+    let platform = frozen.platform();
+    let tree = frozen.tree();
     let domain = frozen.domain();
+    let base = frozen.base();
     let found = search(alloc, platform, tree, domain, base, &gate)?;
     let proof = prove(alloc, platform, tree, domain, base, &found.verdict)?;
     Ok(Searched {
