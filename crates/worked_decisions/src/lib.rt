@@ -7,4 +7,12 @@ mod attached;
 #[cfg(test)]
 mod books;
 #[cfg(test)]
+mod every_selection;
+#[cfg(test)]
+mod finding;
+#[cfg(test)]
+mod playing;
+#[cfg(test)]
 mod searches;
+#[cfg(test)]
+mod steps;

@@ -4,7 +4,7 @@ use Rattle.sysmem_proof.specs.declared.certificate.Claim.{Claim}
 use Rattle.sysmem_proof.specs.declared.certificate.Proof.TheVariants.{Nothing}
 use Rattle.sysmem_tree.specs.Domain.{TreeFacts, is_ready}
 use Rattle.worked_decisions.proofs.Lent.{right_as}
-use Rattle.worked_decisions.proofs.attached.claim_for.Goals as goal
+use Rattle.worked_decisions.proofs.playing.claim_for.Goals as goal
 
 pub search-requires-clause-ready : goal.search-requires-clause-ready
 search-requires-clause-ready c = subst (λ (t : TreeFacts). is_ready t c.args.domain ≡ true) (sym c.tree.ensures) c.requires.waits.ready
