@@ -46,10 +46,13 @@ fn name_in(call: &Value) -> Option<&str>
     text_at(call, "as")
 }
 
+/// What a call of this name does. The kinds that a script may repeat most come first, as the names are compared in this order.
 fn act_of<'a>(name: &str, call: &'a Value) -> Option<Act<'a>>
     ensures { option_map act_seen result ≡ act_of name.now (view call.now) }
 {
     match name {
+        "check" => Some(Act::Check),
+        "wait" => Some(Act::Wait),
         "duplicate" => Some(Act::Duplicate(name_in(call)?)),
         "bind" => Some(Act::Bind),
         "set_constraints" => Some(Act::SetConstraints(constraints_of(call))),
@@ -59,8 +62,6 @@ fn act_of<'a>(name: &str, call: &'a Value) -> Option<Act<'a>>
         "attach_token" => Some(Act::AttachToken(name_in(call)?)),
         "release" => Some(Act::Release),
         "close" => Some(Act::Close),
-        "check" => Some(Act::Check),
-        "wait" => Some(Act::Wait),
         _ => None,
     }
 }

@@ -26,22 +26,22 @@ pub(crate) fn put_call(
     put_reply(text, reply)
 }
 
-/// The name of what a call does.
-fn act_name(act: &Act<'_>) -> &'static str
-    ensures { result.now ≡ act_name (act_seen act.now) }
+/// The name of what a call does, between spaces.
+fn spaced_name(act: &Act<'_>) -> &'static str
+    ensures { result.now ≡ codes " " ++ act_name (act_seen act.now) ++ codes " " }
 {
     match act {
-        Act::Duplicate(_) => "duplicate",
-        Act::Bind => "bind",
-        Act::SetConstraints(_) => "set_constraints",
-        Act::CreateGroup(_) => "create_group",
-        Act::CreateChild(_) => "create_child",
-        Act::AllChildrenPresent => "all_children_present",
-        Act::AttachToken(_) => "attach_token",
-        Act::Release => "release",
-        Act::Close => "close",
-        Act::Check => "check",
-        Act::Wait => "wait",
+        Act::Duplicate(_) => " duplicate ",
+        Act::Bind => " bind ",
+        Act::SetConstraints(_) => " set_constraints ",
+        Act::CreateGroup(_) => " create_group ",
+        Act::CreateChild(_) => " create_child ",
+        Act::AllChildrenPresent => " all_children_present ",
+        Act::AttachToken(_) => " attach_token ",
+        Act::Release => " release ",
+        Act::Close => " close ",
+        Act::Check => " check ",
+        Act::Wait => " wait ",
     }
 }
 
@@ -49,8 +49,10 @@ fn put_head(text: &mut String, number: usize, act: &Act<'_>, on: &str) -> Result
     ensures { Puts result text.old text.new
         (decimal number ++ codes " " ++ act_name (act_seen act.now) ++ codes " " ++ on.now) }
 {
-    let name = act_name(act);
-    write!(text, "{number} {name} {on}")
+    let mut digits = itoa::Buffer::new();
+    text.push_str(digits.format(number))?;
+    text.push_str(spaced_name(act))?;
+    text.push_str(on)
 }
 
 fn put_new_name(text: &mut String, act: &Act<'_>) -> Result<(), AllocError>

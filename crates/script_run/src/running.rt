@@ -6,6 +6,7 @@ ghost use Rattle.std.specs.String.{string_bytes};
 ghost use Rattle.serde_json.specs.View.{view};
 ghost use Rattle.script_reading.specs.Faults.{GivesOneOf};
 ghost use Rattle.script_reading.specs.Seen.{script_seen};
+ghost use Rattle.script_reading.specs.Text.{IsValue, Outcome};
 ghost use Rattle.script_run.specs.Outcome.{RunsWith, ValueRunsTo, report_seen};
 ghost use Rattle.script_run.specs.Report.{IsReported};
 ghost use Rattle.script_run.specs.Run.{IsCausedBy, Ran, RanWithProof, WritesFronts, both_counts};
@@ -50,7 +51,7 @@ pub fn run<R: Source, W: Sink>(
         (W.failures writer.old) (W.failures writer.new) }
 {
     let bytes = read_up_to_limit(alloc, reader, LONGEST)?;
-    let report = report_on(alloc, &bytes, &mut Searching)?;
+    let report = report_on(alloc, bytes, &mut Searching)?;
     write_fully(writer, report.text.as_bytes())?;
     if report.starved {
         return Ok(Ended::MemoryRefused);
@@ -79,7 +80,7 @@ pub fn run_with_proof<R: Source, W: Sink, P: Sink>(
         (both_counts (W.failures writer.new) (P.failures proof.new)) }
 {
     let bytes = read_up_to_limit(alloc, reader, LONGEST)?;
-    let certified = certified_report(alloc, &bytes)?;
+    let certified = certified_report(alloc, bytes)?;
     let text = certified.report.text.as_bytes();
     write_both(writer, text, proof, &certified.certificate)?;
     if certified.report.starved {
@@ -96,8 +97,8 @@ struct CertifiedReport {
 }
 
 /// The report of a script's bytes with its certificate.
-fn certified_report(alloc: Global, bytes: &[u8]) -> Result<CertifiedReport, ParseFault>
-    ensures { GivesOneOf certified_seen result (CertifiesTo bytes.now) }
+fn certified_report(alloc: Global, bytes: Vec<u8>) -> Result<CertifiedReport, ParseFault>
+    ensures { GivesOneOf certified_seen result (CertifiesTo bytes.items) }
 {
     let Ok(mut certifying) = Certifying::new(alloc) else {
         return Err(ParseFault::NoMemory);
@@ -139,14 +140,25 @@ fn write_both<W: Sink, P: Sink>(
 }
 
 /// The report of a script's bytes, whose domains are decided so.
-fn report_on<D: Decider>(alloc: Global, bytes: &[u8], decider: &mut D) -> Result<Report, ParseFault>
+fn report_on<D: Decider>(
+    alloc: Global,
+    bytes: Vec<u8>,
+    decider: &mut D,
+) -> Result<Report, ParseFault>
     requires { (platform : PlatformFacts) → D.gave decider.old platform [] }
-    ensures { GivesOneOf report_seen result (RunsWith (D.gave decider.new) bytes.now) }
+    ensures { GivesOneOf report_seen result (RunsWith (D.gave decider.new) bytes.items) }
 {
-    match parse_script(alloc, bytes) {
+    match parse_owned(alloc, bytes) {
         Ok(value) => report_on_value(alloc, &value, decider),
         Err(fault) => Err(fault),
     }
+}
+
+/// The value that a script's bytes spell; the bytes are dropped.
+fn parse_owned(alloc: Global, bytes: Vec<u8>) -> Result<Value, ParseFault>
+    ensures { GivesOneOf view result (Outcome IsValue bytes.items) }
+{
+    parse_script(alloc, &bytes)
 }
 
 /// The report of a script's value.

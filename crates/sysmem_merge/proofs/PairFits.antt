@@ -1,5 +1,5 @@
 -- The first offer that suits participants, by pairs.
-use Rattle.std.proofs.Common.{arith, ℕ, suc, ◌+◌, ◌-◌, ◌≡◌, ◌≤◌, inl, inr, Bool, true, List, [], ◌∷◌, ◌++◌, Some, Contains, length, map, take, drop, slice_get, refl, sym, ap, ◌∙◌, subst}
+use Rattle.std.proofs.Common.{arith, ℕ, suc, ◌+◌, ◌-◌, ◌≡◌, ◌≤◌, inl, inr, Bool, true, false, ◌&&◌, List, [], ◌∷◌, ◌++◌, Some, Contains, length, map, take, drop, slice_get, refl, sym, ap, ◌∙◌, subst}
 use Rattle.std.specs.Option.{option_map}
 use Rattle.std.proofs.lemmas.Bool.{cases_lt}
 use Rattle.std.proofs.lemmas.Grind.{flat_map-append}
@@ -24,9 +24,9 @@ use Rattle.sysmem_merge.specs.Best.{IsEarlierOffer}
 use Rattle.sysmem_merge.specs.Demands.{OfferDemand}
 use Rattle.sysmem_merge.specs.FirstFit.{IsFirstFit}
 use Rattle.sysmem_merge.specs.Fit.{IsBestFit}
-use Rattle.sysmem_merge.specs.Offers.{is_named}
+use Rattle.sysmem_merge.specs.Offers.{is_named, is_format_named, is_modifier_named, is_colour_named}
 use Rattle.sysmem_merge.specs.Reasons.{IsOfferRefused, AreOffersRefused}
-use Rattle.sysmem_merge.proofs.FirstFits.{place_of, contained_at}
+use Rattle.sysmem_merge.proofs.FirstFits.{place_of, contained_at, unnamed_line}
 
 -- two lists of refused offers
 pub refused_both : (whole : Bool) (xs ys : List Offer) (ds : List OfferDemand) → AreOffersRefused whole xs ds → AreOffersRefused whole ys ds → AreOffersRefused whole (xs ++ ys) ds
@@ -154,3 +154,24 @@ refused_pair whole pair colours ds kept f is keeps o has =
     let c = slice_get_some colours at.0 (omega (arith, at.1, length-map colours (Image pair))) in
     subst (λ p. IsOfferRefused whole p ds) (offer_in pair colours at.0 c.0 o c.1 at.2)
     (inl (refused_offer (Image pair c.0) ds (pairs.has kept.taken c.0) f (rw is at (keeps.each c.0).bounds)))
+
+-- a name is not whole without its first two parts
+two_false : (f m c : Bool) → (f && m) ≡ false → (f && m && c) ≡ false
+two_false false m c missing = refl
+two_false true false c missing = refl
+two_false true true c missing = absurd (cc missing)
+
+-- where nobody names the pair's format, or its modifier, each of its offers lacks a name
+pub unnamed_pair : (whole : Bool) (pair : Pair) (colours : List ColourSpace) (ds : List OfferDemand) (kept : KeptPair) → whole ≡ true
+    → (kept.format_named && kept.modifier_named) ≡ false → IsPairKept pair ds kept → AreOffersRefused whole (map (Image pair) colours) ds
+unnamed_pair whole pair colours ds kept is missing keeps o has =
+    let at = place_of (map (Image pair) colours) o has in
+    let c = slice_get_some colours at.0 (omega (arith, at.1, length-map colours (Image pair))) in
+    let offer = Image pair c.0 in
+    let one = keeps.each c.0 in
+    subst (λ p. IsOfferRefused whole p ds) (offer_in pair colours at.0 c.0 o c.1 at.2)
+    (inr (
+      is,
+      unnamed_line offer ds
+          (two_false (is_format_named offer ds) (is_modifier_named offer ds) (is_colour_named offer ds) (rw one.format at (rw one.modifier at missing))),
+    ))

@@ -1,6 +1,6 @@
 //! What is kept of a pair for the participants that were added: of its offers, one for each colour space.
 
-ghost use Rattle.std.specs.Prelude.{◌≡◌, [], ◌++◌, ◌∷◌, List, Some, true};
+ghost use Rattle.std.specs.Prelude.{◌≡◌, ◌&&◌, [], ◌++◌, ◌∷◌, List, Some, true};
 ghost use Rattle.sysmem_formats.specs.declared.colour_space.ColourSpace.TheVariants.{Srgb};
 ghost use Rattle.sysmem_formats.specs.declared.offer.Offer.TheVariants.{Image};
 ghost use Rattle.sysmem_formats.specs.declared.offer.Pair.{Pair as APair};
@@ -75,6 +75,13 @@ impl KeptPair {
         self.named = self.named.in_either(&Colours::listed(&entry.colours));
     }
 
+    /// Whether somebody named the pair's format and its modifier.
+    pub(crate) fn is_named_itself(&self) -> bool
+        ensures { result ≡ (self.now.format_named && self.now.modifier_named) }
+    {
+        self.format_named && self.modifier_named
+    }
+
     /// Whether somebody named each part of the name of the pair's offer in a colour space.
     pub(crate) fn is_named(&self, colour: ColourSpace) -> bool
         ensures { (pair : APair) (ds : List OfferDemand) → IsPairKept pair ds self.now
@@ -88,15 +95,15 @@ impl KeptPair {
         ensures { (pair : APair) (ds es : List OfferDemand) → IsPairKept pair ds above.now
             → IsPairKept pair es more.now → IsPairKept pair (ds ++ es) self.new }
     {
-        self.bounds = above.bounds;
+        *self = *above;
         if !more.is_plain {
             self.bounds.join(&more.bounds);
         }
-        self.is_plain = above.is_plain & more.is_plain;
-        self.format_named = above.format_named | more.format_named;
-        self.modifier_named = above.modifier_named | more.modifier_named;
-        self.taken = above.taken.in_both(&more.taken);
-        self.named = above.named.in_either(&more.named);
+        self.is_plain &= more.is_plain;
+        self.format_named |= more.format_named;
+        self.modifier_named |= more.modifier_named;
+        self.taken = self.taken.in_both(&more.taken);
+        self.named = self.named.in_either(&more.named);
     }
 }
 

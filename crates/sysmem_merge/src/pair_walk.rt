@@ -96,6 +96,9 @@ fn fit_of_pair(
     if let KeptBounds::Refused(_) = kept.bounds {
         return None;
     }
+    if whole && !kept.is_named_itself() {
+        return None;
+    }
     for colour in colours {
         if let Some(fit) = fit_in_colour(kept, pair, *colour, least_size, greatest_size, whole) {
             return Some(fit);

@@ -14,5 +14,5 @@ returns-in-Err c = fault-so _ _ c.in-Err.fault c.in-Err.ensures
 
 pub returns : goal.returns
 returns c =
-    runs-so (λ platform cs. HasTaken c.report_on.new.decider.writer (data_of platform cs) × AreProved cs) (IsCertifiedBy c.in-Ok-finish.certificate.items) c.args.bytes.now
+    runs-so (λ platform cs. HasTaken c.report_on.new.decider.writer (data_of platform cs) × AreProved cs) (IsCertifiedBy c.in-Ok-finish.certificate.items) c.args.bytes.items
     (Ok (report_seen c.in-Ok-report_on.report)) (λ platform cs held. record { text = c.in-Ok-finish.ensures (data_of platform cs) held.0; proved = held.1 }) c.in-Ok-report_on.ensures

@@ -6,12 +6,10 @@ use Rattle.script_run.proofs.running.run.Goals as goal
 pub returns-in_err-report-clause-ran : goal.returns-in_err-report-clause-ran
 returns-in_err-report-clause-ran g c =
     let failed = err_from_is_err_and c.from_residual-in_err-report.result c.from_residual-in_err-report.ensures.1 in
-    let said = rw c.deref.ensures.value at c.in_err-report.ensures in
-    ran-refused _ c.in_err-report.field-0.0 _ _ _ c.in_ok-bytes.bytes.items (cc (failed.1, failed.2)) c.in_ok-bytes.ensures.bytes said
+    ran-refused _ c.in_err-report.field-0.0 _ _ _ c.in_ok-bytes.bytes.items (cc (failed.1, failed.2)) c.in_ok-bytes.ensures.bytes c.in_err-report.ensures
 
 pub returns-in_err-write_fully-clause-ran : goal.returns-in_err-write_fully-clause-ran
 returns-in_err-write_fully-clause-ran g c =
     let failed = err_from_is_err_and c.from_residual-in_err-write_fully.result c.from_residual-in_err-write_fully.ensures.1 in
-    let said = rw c.deref.ensures.value at c.in_ok-report.ensures in
     let front = rw c.as_bytes.ensures.value at c.in_err-write_fully.ensures.front in
-    ran-part _ _ _ _ c.in_ok-bytes.bytes.items (report_seen c.in_ok-report.report) c.in_ok-bytes.ensures.bytes said _ (cc (failed.1, failed.2)) front
+    ran-part _ _ _ _ c.in_ok-bytes.bytes.items (report_seen c.in_ok-report.report) c.in_ok-bytes.ensures.bytes c.in_ok-report.ensures _ (cc (failed.1, failed.2)) front

@@ -6,12 +6,10 @@ use Rattle.script_run.proofs.running.run_with_proof.Goals as goal
 pub returns-in_err-certified-clause-ran : goal.returns-in_err-certified-clause-ran
 returns-in_err-certified-clause-ran g c =
     let failed = err_from_is_err_and c.from_residual-in_err-certified.result c.from_residual-in_err-certified.ensures.1 in
-    let said = rw c.deref.ensures.value at c.in_err-certified.ensures in
-    both-refused _ _ _ _ c.in_err-certified.field-0.0 _ c.in_ok-bytes.bytes.items (cc (failed.1, failed.2)) c.in_ok-bytes.ensures.bytes said
+    both-refused _ _ _ _ c.in_err-certified.field-0.0 _ c.in_ok-bytes.bytes.items (cc (failed.1, failed.2)) c.in_ok-bytes.ensures.bytes c.in_err-certified.ensures
 
 pub returns-in_err-write_both-clause-ran : goal.returns-in_err-write_both-clause-ran
 returns-in_err-write_both-clause-ran g c =
     let failed = err_from_is_err_and c.from_residual-in_err-write_both.result c.from_residual-in_err-write_both.ensures.1 in
-    let said = rw c.deref.ensures.value at c.in_ok-certified.ensures in
-    let fronts = rw (c.as_bytes-text.ensures.value, c.deref-2.ensures.value) at c.in_err-write_both.ensures.fronts in
-    both-part _ _ _ _ _ _ c.in_ok-bytes.bytes.items (certified_seen c.in_ok-certified.certified) c.in_ok-bytes.ensures.bytes said _ (cc (failed.1, failed.2)) fronts
+    let fronts = rw (c.as_bytes-text.ensures.value, c.deref.ensures.value) at c.in_err-write_both.ensures.fronts in
+    both-part _ _ _ _ _ _ c.in_ok-bytes.bytes.items (certified_seen c.in_ok-certified.certified) c.in_ok-bytes.ensures.bytes c.in_ok-certified.ensures _ (cc (failed.1, failed.2)) fronts

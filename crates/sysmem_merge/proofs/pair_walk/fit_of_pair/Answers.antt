@@ -1,4 +1,4 @@
-use Rattle.std.proofs.Common.{arith, ◌≡◌, true, Some, map, slice_get, subst, below_more}
+use Rattle.std.proofs.Common.{arith, sym, ◌∙◌, ◌≡◌, true, Some, map, slice_get, subst, below_more}
 use Rattle.std.proofs.lemmas.List.{length-map}
 use Rattle.std.proofs.lemmas.Option.{slice_get-get_or}
 use Rattle.sysmem_formats.specs.declared.colour_space.ColourSpace.TheVariants.{Srgb}
@@ -8,12 +8,16 @@ use Rattle.sysmem_merge.specs.Fit.{IsBestFit}
 use Rattle.sysmem_merge.specs.Offers.{is_named}
 use Rattle.sysmem_merge.specs.Reasons.{IsOfferRefused}
 use Rattle.sysmem_merge.proofs.FirstFits.{place_of, first_from}
-use Rattle.sysmem_merge.proofs.PairFits.{offer_in, refused_pair}
+use Rattle.sysmem_merge.proofs.PairFits.{offer_in, refused_pair, unnamed_pair}
 use Rattle.sysmem_merge.proofs.pair_walk.fit_of_pair.Goals as goal
 
 pub returns-in-Refused-clause-none : goal.returns-in-Refused-clause-none
 returns-in-Refused-clause-none c ds kept sizes =
     refused_pair c.args.whole c.args.pair c.args.colours.now ds c.args.kept.now c.in-Refused.field-0 c.in-Refused.is kept
+
+pub returns-then-not-is_named_itself-clause-none : goal.returns-then-not-is_named_itself-clause-none
+returns-then-not-is_named_itself-clause-none c ds kept sizes =
+    unnamed_pair c.args.whole c.args.pair c.args.colours.now ds c.args.kept.now c.if-whole.true (sym c.is_named_itself.ensures ∙ c.if-not-is_named_itself.true) kept
 
 pub returns-in-Some-clause-first : goal.returns-in-Some-clause-first
 returns-in-Some-clause-first c ds kept sizes =
