@@ -1,3 +1,4 @@
+pub mod PathLists
 pub mod Walks
 pub mod Ways
 pub mod Left

@@ -5,6 +5,7 @@ pub mod Verdict
 pub mod Laws
 pub mod Naming
 pub mod Line
+pub mod PathList
 pub mod Conflict
 pub mod CertificateFacts
 pub mod Certificate

@@ -1,0 +1,93 @@
+//! Lists of paths, as lines have them.
+
+ghost use Rattle.std.specs.Prelude.{◌≡◌, ◌++◌, [], ◌∷◌, IfOk};
+
+use smallvec::SmallVec;
+use std::alloc::{AllocError, Global};
+use std::marker::Model;
+
+/// Paths in one list of numbers: how many steps a path has, and behind that its ordinals. A list of one path of up to 3 steps takes
+/// no memory beside it, and any other takes one block.
+#[derive(Debug, Drop)]
+pub struct PathList {
+    numbers: SmallVec<u32, 4>,
+}
+
+impl Model for PathList {
+    ghost use Rattle.std.specs.Prelude.{ℕ, List};
+    ghost use Rattle.sysmem_proof.specs.PathList.{AreOfPaths, paths_in};
+
+    ghost Value = { List (List ℕ) };
+
+    ghost view = { λ l. paths_in l.numbers.items };
+
+    ghost invariant = { λ l. AreOfPaths l.numbers.items };
+}
+
+impl PathList {
+    /// No paths.
+    pub fn new(alloc: Global) -> PathList
+        ensures { result ≡ [] }
+    {
+        PathList {
+            numbers: SmallVec::new(alloc),
+        }
+    }
+
+    /// These paths and behind them that of these ordinals. `AllocError` where memory is refused, and for a path of 2^32 steps or more.
+    pub fn with(self, ordinals: &[u32]) -> Result<PathList, AllocError>
+        ensures { IfOk result (λ list. list ≡ self ++ ordinals.now ∷ []) }
+    {
+        let PathList { mut numbers } = self;
+        let many = ordinals.len();
+        if many > u32::MAX as usize {
+            return Err(AllocError);
+        }
+        numbers.push(many as u32)?;
+        numbers.extend_from_slice(ordinals)?;
+        Ok(PathList { numbers })
+    }
+
+    /// The paths, from the first on.
+    pub fn iter(&self) -> Paths<'_>
+        ensures { result ≡ self.now }
+    {
+        Paths {
+            numbers: self.numbers.as_slice(),
+        }
+    }
+}
+
+/// Paths of a list that are left to be read.
+#[derive(Debug, Drop)]
+pub struct Paths<'a> {
+    numbers: &'a [u32],
+}
+
+impl<'a> Model for Paths<'a> {
+    ghost use Rattle.std.specs.Prelude.{ℕ, List};
+    ghost use Rattle.sysmem_proof.specs.PathList.{AreOfPaths, paths_in};
+
+    ghost Value = { List (List ℕ) };
+
+    ghost view = { λ p. paths_in p.numbers.now };
+
+    ghost invariant = { λ p. AreOfPaths p.numbers.now };
+}
+
+impl<'a> Iterator for Paths<'a> {
+    ghost use Rattle.std.specs.Iterator.{YieldsFirstRef, item_count};
+
+    type Item = &'a [u32];
+
+    ghost next_gives = { YieldsFirstRef (λ left. left) };
+
+    ghost remaining = { item_count (λ left. left) };
+
+    fn next(&mut self) -> Option<&'a [u32]> {
+        let (many, behind) = self.numbers.split_first()?;
+        let (path, others) = behind.split_at(*many as usize);
+        self.numbers = others;
+        Some(path)
+    }
+}
