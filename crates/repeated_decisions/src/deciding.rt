@@ -1,4 +1,4 @@
-//! What is repeated: the search for a verdict, the making of its proof, and the check of both.
+//! What is repeated of a decision: the search for a verdict, the making of its proof, and the check of both.
 
 ghost use Rattle.std.specs.Prelude.{None, IfOk, OnOk};
 ghost use Rattle.sysmem_proof.specs.Base.{IsGivenBase};
@@ -13,7 +13,7 @@ use sysmem_search::{Found, NoGate, prove, search};
 use sysmem_tree::{DomainId, Tree};
 
 /// The verdict of the initial domain with what proves it.
-pub(crate) fn claim_of(alloc: Global, platform: &Platform, tree: &Tree) -> Result<Claim> {
+fn claim_of(alloc: Global, platform: &Platform, tree: &Tree) -> Result<Claim> {
     let domain = tree.domain_of(tree.root());
     let found = found_in(alloc, platform, tree, domain)?;
     let proof = prove(alloc, platform, tree, domain, None, &found.verdict)?;
@@ -52,19 +52,20 @@ pub(crate) fn prove_again(
     Ok(())
 }
 
-/// Checks a claim of the initial domain so many times.
+/// Checks the initial domain's verdict with what proves it so many times.
 pub(crate) fn check_again(
+    alloc: Global,
     platform: &Platform,
     tree: &Tree,
-    claim: &Claim,
     times: u32,
 ) -> Result<()> {
+    let claim = claim_of(alloc, platform, tree)?;
     let domain = tree.domain_of(tree.root());
     if tree.host_of(domain).is_some() {
         bail!("the initial domain has a host");
     }
     for _ in 0..times {
-        if let Err(no) = check(platform, tree, domain, None, claim) {
+        if let Err(no) = check(platform, tree, domain, None, &claim) {
             bail!("the claim isn't true: {no:?}");
         }
     }
@@ -72,7 +73,12 @@ pub(crate) fn check_again(
 }
 
 /// What a search finds for a domain, which is to be an initial one.
-fn found_in(alloc: Global, platform: &Platform, tree: &Tree, domain: DomainId) -> Result<Found>
+pub(crate) fn found_in(
+    alloc: Global,
+    platform: &Platform,
+    tree: &Tree,
+    domain: DomainId,
+) -> Result<Found>
     requires { HasDomain tree.now.nodes domain }
     ensures initial { OnOk result (IsGivenBase platform.now tree.now.nodes domain None) }
     ensures optimal { IfOk result

@@ -1,25 +1,37 @@
-//! A measure of the bench: decides the initial domain of a script, and then searches for its verdict again, makes its proof again, or checks the verdict that
-//! was found with its proof, as often as the last word says.
+//! A measure of the bench: does a job for the initial domain of a script as often as the last word says, or several, one after the other.
 //!
-//! `repeated_decisions FILE search 100`, `repeated_decisions FILE prove 100`, `repeated_decisions FILE check 100`
+//! `repeated_decisions FILE search 100`, `repeated_decisions FILE add,settle 100`
+//!
+//! | Job | What is repeated |
+//! |---|---|
+//! | `search` | the search for the verdict |
+//! | `add` | adding the participants of the selection that is found to a fresh aggregate; where none is, those of the first selection |
+//! | `settle` | asking such an aggregate for its best settings |
+//! | `prove` | making what proves the verdict |
+//! | `check` | checking the verdict with its proof |
 //!
 //! Calls that the tree refuses, checks and waits are passed over.
 #![tactic(auto)]
 
+mod adding;
 mod deciding;
 mod playing;
 
+use adding::{add_again, settle_again};
 use anyhow::{Result, bail};
-use deciding::{check_again, claim_of, prove_again, search_again};
+use deciding::{check_again, prove_again, search_again};
 use playing::play;
 use script_reading::{parse_script, read_script};
+use std::alloc::Global;
 use std::{env, fs};
+use sysmem_sanitise::Platform;
+use sysmem_tree::Tree;
 
 fn main(rt: HostRuntime) -> Result<()> {
     let mut words = env::args(&rt)?;
     let _program = words.next();
-    let (Some(file), Some(job), Some(times)) = (words.next(), words.next(), words.next()) else {
-        bail!("usage: repeated_decisions FILE search|prove|check TIMES");
+    let (Some(file), Some(jobs), Some(times)) = (words.next(), words.next(), words.next()) else {
+        bail!("usage: repeated_decisions FILE search|add|settle|prove|check[,..] TIMES");
     };
     let times = times.parse::<u32>()?;
     let bytes = fs::read(&rt, &file)?;
@@ -30,11 +42,20 @@ fn main(rt: HostRuntime) -> Result<()> {
         bail!("the script is refused");
     };
     let tree = play(rt.alloc(), &script.calls)?;
-    let claim = claim_of(rt.alloc(), &script.platform, &tree)?;
-    match job.as_str() {
-        "search" => search_again(rt.alloc(), &script.platform, &tree, times),
-        "prove" => prove_again(rt.alloc(), &script.platform, &tree, times),
-        "check" => check_again(&script.platform, &tree, &claim, times),
+    for job in jobs.split(',') {
+        repeat(rt.alloc(), job, &script.platform, &tree, times)?;
+    }
+    Ok(())
+}
+
+/// Does the job of this name so many times.
+fn repeat(alloc: Global, job: &str, platform: &Platform, tree: &Tree, times: u32) -> Result<()> {
+    match job {
+        "search" => search_again(alloc, platform, tree, times),
+        "add" => add_again(alloc, platform, tree, times),
+        "settle" => settle_again(alloc, platform, tree, times),
+        "prove" => prove_again(alloc, platform, tree, times),
+        "check" => check_again(alloc, platform, tree, times),
         _ => bail!("{job:?} is no job"),
     }
 }
