@@ -32,7 +32,8 @@ fn matches(entry: &Entry, offer: &Offer) -> bool
     match offer {
         Offer::NoImage => false,
         Offer::Image(pair, _) => {
-            agrees_format(pair.format, entry.format) && agrees_modifier(pair.modifier, entry.modifier)
+            agrees_format(pair.format, entry.format)
+                && agrees_modifier(pair.modifier, entry.modifier)
         }
     }
 }
