@@ -14,3 +14,4 @@ pub mod KeptBounds
 pub mod KeptLines
 pub mod CallerLemmas
 pub mod KeptMerged
+pub mod MergedFields

@@ -2,10 +2,10 @@
 
 ghost use Rattle.std.specs.Prelude.{◌≡◌};
 ghost use Rattle.std.specs.Option.{option_copied};
-ghost use Rattle.sysmem_image.specs.Entries.{matches, first_match, takes_colour};
+ghost use Rattle.sysmem_image.specs.Entries.{matches, agrees_format, agrees_modifier, first_match, takes_colour};
 
 use crate::entry::Entry;
-use sysmem_formats::Offer;
+use sysmem_formats::{Modifier, Offer, PixelFormat};
 
 /// A participant's entry for an offer: the first whose format and modifier match, or `None`. No entry
 /// is one for no image.
@@ -32,15 +32,26 @@ fn matches(entry: &Entry, offer: &Offer) -> bool
     match offer {
         Offer::NoImage => false,
         Offer::Image(pair, _) => {
-            let format = match entry.format {
-                Some(format) => format == pair.format,
-                None => true,
-            };
-            let modifier = match entry.modifier {
-                Some(modifier) => modifier == pair.modifier,
-                None => true,
-            };
-            format && modifier
+            agrees_format(pair.format, entry.format)
+                && agrees_modifier(pair.modifier, entry.modifier)
         }
+    }
+}
+
+fn agrees_format(own: PixelFormat, format: Option<PixelFormat>) -> bool
+    ensures { result ≡ agrees_format own format }
+{
+    match format {
+        Some(format) => format as u32 == own as u32,
+        None => true,
+    }
+}
+
+fn agrees_modifier(own: Modifier, modifier: Option<Modifier>) -> bool
+    ensures { result ≡ agrees_modifier own modifier }
+{
+    match modifier {
+        Some(modifier) => modifier as u32 == own as u32,
+        None => true,
     }
 }

@@ -41,8 +41,6 @@ pub(crate) fn copied<T: Copy>(alloc: Global, items: &[T]) -> Result<Vec<T>, Allo
     ensures { IfOk result (λ copy. copy.items ≡ items.now) }
 {
     let mut copy = Vec::new(alloc);
-    for item in items {
-        copy.push(*item)?;
-    }
+    copy.extend_from_slice(items)?;
     Ok(copy)
 }

@@ -3,7 +3,7 @@
 ghost use Rattle.std.specs.Prelude.{◌≡◌, [], None};
 ghost use Rattle.serde_json.specs.View.{view, items_view};
 ghost use Rattle.sysmem_counts.specs.declared.field.Field.TheVariants.{PixelFormatAndModifiers};
-ghost use Rattle.sysmem_sanitise.specs.Reading.Entries.{pair_asked, same_format, same_modifier, same_asked, asks_misfit, modifier_beside, asked_of, is_asked_already, has_asked, with_asked, has_further, no_pair, own_pair, with_further, asked_pairs};
+ghost use Rattle.sysmem_sanitise.specs.Reading.Entries.{pair_asked, same_format, same_modifier, same_asked, asks_misfit, modifier_beside, asked_of, is_asked_already, has_asked, with_asked, has_further, no_pair, own_pair, with_further, further_of, asked_pairs};
 ghost use Rattle.sysmem_sanitise.specs.Reading.Fields.{Reads, read_each, seen_by};
 
 use super::field::{add, expect_object, list_of, stated};
@@ -178,6 +178,21 @@ fn further_in(
     Ok(pairs)
 }
 
+fn further_of(
+    entries: &[Entry],
+    own: Vec<AskedPair>,
+    value: &Value,
+) -> Result<Vec<AskedPair>, Fault>
+    ensures { Reads (λ lack. further_of lack entries.now own.items (view value.now))
+        (seen_by (λ pairs. pairs.items) result) }
+{
+    further_in(
+        entries,
+        own,
+        list_of(value, Field::PixelFormatAndModifiers)?,
+    )
+}
+
 /// The pairs that an entry asks for: its own, then its further ones. None of them, and none of the entries before,
 /// asks for what another does.
 pub(super) fn asked_pairs(
@@ -191,10 +206,6 @@ pub(super) fn asked_pairs(
     let own = own_pair(alloc, entries, object)?;
     match object.get(Field::PixelFormatAndModifiers.name()) {
         None => Ok(own),
-        Some(value) => further_in(
-            entries,
-            own,
-            list_of(value, Field::PixelFormatAndModifiers)?,
-        ),
+        Some(value) => further_of(entries, own, value),
     }
 }

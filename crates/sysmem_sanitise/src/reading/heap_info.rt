@@ -2,7 +2,8 @@
 
 ghost use Rattle.std.specs.Prelude.{◌≡◌, []};
 ghost use Rattle.serde_json.specs.View.{view, items_view};
-ghost use Rattle.sysmem_sanitise.specs.Reading.Fields.{seen_by, read_each, Reads};
+ghost use Rattle.sysmem_counts.specs.declared.field.Field.TheVariants.{Domains};
+ghost use Rattle.sysmem_sanitise.specs.Reading.Fields.{seen_by, read_each, required, Reads};
 ghost use Rattle.sysmem_sanitise.specs.Reading.Heaps.{no_domains, with_domain, with_named, has_domains, domains_of, heap_of, has_heap, with_heap, heaps_of};
 
 use super::field::{add, expect_object, flag_or, list_of, stated};
@@ -63,6 +64,12 @@ fn domains_of(value: &Value) -> Result<CoherencyDomains, Fault>
     }
 }
 
+fn domains_at(object: &Value) -> Result<CoherencyDomains, Fault>
+    ensures { result ≡ required Domains domains_of (view object.now) }
+{
+    domains_of(stated(object, Code::WrongKind, Field::Domains)?)
+}
+
 fn heap_of(alloc: Global, object: &Value) -> Result<HeapInfo, Fault>
     ensures { Reads (λ lack. heap_of lack (view object.now)) result }
 {
@@ -77,7 +84,7 @@ fn heap_of(alloc: Global, object: &Value) -> Result<HeapInfo, Fault>
     let heap = heap_name_of(alloc, object)?;
     let contiguous = flag_or(object, Field::Contiguous, false)?;
     let secure = flag_or(object, Field::Secure, false)?;
-    let domains = domains_of(stated(object, Code::WrongKind, Field::Domains)?)?;
+    let domains = domains_at(object)?;
     Ok(HeapInfo {
         heap,
         contiguous,

@@ -53,7 +53,7 @@ fn has_pair(pairs: &[Pair], new: Pair) -> bool
 fn is_same(a: Pair, b: Pair) -> bool
     ensures { result ≡ same_pair a b }
 {
-    a == b
+    a.format as u32 == b.format as u32 && a.modifier as u32 == b.modifier as u32
 }
 
 fn is_tiled_misfit(pair: Pair) -> bool

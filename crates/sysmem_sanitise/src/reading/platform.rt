@@ -2,10 +2,12 @@
 
 ghost use Rattle.std.specs.Prelude.{◌≡◌, ◌≢◌, Ok, Err, IfOk, IfErr};
 ghost use Rattle.serde_json.specs.View.{view};
+ghost use Rattle.sysmem_counts.specs.declared.field.Field.TheVariants.{Heaps, Pairs, ColorSpaces};
 ghost use Rattle.sysmem_sanitise.specs.declared.fault.Code.TheVariants.{WantOfMemory};
 ghost use Rattle.sysmem_sanitise.specs.Faults.{lack_of};
-ghost use Rattle.sysmem_sanitise.specs.Reading.Fields.{Reads};
-ghost use Rattle.sysmem_sanitise.specs.Reading.Platform.{platform_of, platform_with};
+ghost use Rattle.sysmem_sanitise.specs.Reading.Fields.{Reads, required, seen_by};
+ghost use Rattle.sysmem_sanitise.specs.Reading.Heaps.{heaps_of};
+ghost use Rattle.sysmem_sanitise.specs.Reading.Platform.{pairs_of, colours_of, platform_of, platform_with};
 
 use super::field::{expect_object, stated};
 use super::heap_info::heaps_of;
@@ -15,6 +17,29 @@ use crate::platform::Platform;
 use serde_json::Value;
 use std::alloc::Global;
 use sysmem_counts::Field;
+use sysmem_formats::{ColourSpace, Pair};
+use sysmem_memory::HeapInfo;
+
+fn heaps_in(alloc: Global, object: &Value) -> Result<Vec<HeapInfo>, Fault>
+    ensures { Reads (λ lack. required Heaps (heaps_of lack) (view object.now))
+        (seen_by (λ heaps. heaps.items) result) }
+{
+    heaps_of(alloc, stated(object, Code::WrongKind, Field::Heaps)?)
+}
+
+fn pairs_in(alloc: Global, object: &Value) -> Result<Vec<Pair>, Fault>
+    ensures { Reads (λ lack. required Pairs (pairs_of lack) (view object.now))
+        (seen_by (λ pairs. pairs.items) result) }
+{
+    pairs_of(alloc, stated(object, Code::WrongKind, Field::Pairs)?)
+}
+
+fn colours_in(alloc: Global, object: &Value) -> Result<Vec<ColourSpace>, Fault>
+    ensures { Reads (λ lack. required ColorSpaces (colours_of lack) (view object.now))
+        (seen_by (λ colours. colours.items) result) }
+{
+    colours_of(alloc, stated(object, Code::WrongKind, Field::ColorSpaces)?)
+}
 
 fn platform_of(alloc: Global, object: &Value) -> Result<Platform, Fault>
     ensures { Reads (λ lack. platform_with lack (view object.now)) result }
@@ -24,9 +49,9 @@ fn platform_of(alloc: Global, object: &Value) -> Result<Platform, Fault>
         FaultPlace::Whole,
         &[Field::Heaps, Field::Pairs, Field::ColorSpaces],
     )?;
-    let heaps = heaps_of(alloc, stated(object, Code::WrongKind, Field::Heaps)?)?;
-    let pairs = pairs_of(alloc, stated(object, Code::WrongKind, Field::Pairs)?)?;
-    let colours = colours_of(alloc, stated(object, Code::WrongKind, Field::ColorSpaces)?)?;
+    let heaps = heaps_in(alloc, object)?;
+    let pairs = pairs_in(alloc, object)?;
+    let colours = colours_in(alloc, object)?;
     Ok(Platform::new(heaps, pairs, colours))
 }
 

@@ -3,6 +3,6 @@ use Rattle.serde_json.specs.View.{view}
 use Rattle.sysmem_sanitise.proofs.Refusals.{reads-further}
 use Rattle.sysmem_sanitise.proofs.reading.asked.asked_pairs.Goals as goal
 
-pub returns-in_ok-list_of-in-Some : goal.returns-in_ok-list_of-in-Some
-returns-in_ok-list_of-in-Some c =
+pub returns-in-Some : goal.returns-in-Some
+returns-in-Some c =
     reads-further c.args.entries.now (view c.args.object.now) c.in_ok-own.own.items _ c.in_ok-own.ensures (search rules)
