@@ -2,15 +2,15 @@
 
 ghost use Rattle.std.specs.Prelude.{◌≡◌};
 
+use crate::path_list::PathList;
 use std::marker::Model;
 use sysmem_counts::Field;
-use sysmem_tree::Path;
 
 /// A field that fails for the participants at some paths, in any order.
 #[derive(Debug, Drop)]
 pub struct Line {
     field: Field,
-    nodes: Vec<Path>,
+    nodes: PathList,
 }
 
 impl Model for Line {
@@ -20,16 +20,19 @@ impl Model for Line {
 
     ghost view = { λ l. record {
       field = l.field;
-      nodes = l.nodes.items;
+      nodes = l.nodes;
     } };
 }
 
 impl Line {
     /// This field, for the participants at these paths. Any are a line; whether it is true is a checker's matter.
-    pub fn new(field: Field, nodes: Vec<Path>) -> Line
-        ensures { result ≡ record { field = field; nodes = nodes.items } }
+    pub fn new(field: Field, nodes: PathList) -> Line
+        ensures { result ≡ record { field = field; nodes = nodes } }
     {
-        Line { field, nodes }
+        Line {
+            field,
+            nodes: nodes.fitted(),
+        }
     }
 
     /// The field that heads the line.
@@ -40,7 +43,7 @@ impl Line {
     }
 
     /// The paths of the participants for whom it fails.
-    pub fn nodes(&self) -> &[Path]
+    pub fn nodes(&self) -> &PathList
         ensures { result.now ≡ self.now.nodes }
     {
         &self.nodes
@@ -64,9 +67,10 @@ impl Model for Lines {
 
 impl Lines {
     /// These lines.
-    pub fn new(lines: Vec<Line>) -> Lines
+    pub fn new(mut lines: Vec<Line>) -> Lines
         ensures { result ≡ lines.items }
     {
+        lines.shrink_to_fit();
         Lines { lines }
     }
 

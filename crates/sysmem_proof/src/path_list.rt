@@ -48,6 +48,15 @@ impl PathList {
         Ok(PathList { numbers })
     }
 
+    /// The same paths, without room that isn't used.
+    pub(crate) fn fitted(self) -> PathList
+        ensures { result ≡ self }
+    {
+        let PathList { mut numbers } = self;
+        numbers.shrink_to_fit();
+        PathList { numbers }
+    }
+
     /// The paths, from the first on.
     pub fn iter(&self) -> Paths<'_>
         ensures { result ≡ self.now }
