@@ -1,8 +1,9 @@
 //! Lines of the conflict table: a field, and for whom it fails.
 
-ghost use Rattle.std.specs.Prelude.{◌≡◌};
+ghost use Rattle.std.specs.Prelude.{◌≡◌, IfOk};
 
 use crate::path_list::PathList;
+use std::alloc::AllocError;
 use std::marker::Model;
 use sysmem_counts::Field;
 
@@ -29,10 +30,7 @@ impl Line {
     pub fn new(field: Field, nodes: PathList) -> Line
         ensures { result ≡ record { field = field; nodes = nodes } }
     {
-        Line {
-            field,
-            nodes: nodes.fitted(),
-        }
+        Line { field, nodes }
     }
 
     /// The field that heads the line.
@@ -67,11 +65,21 @@ impl Model for Lines {
 
 impl Lines {
     /// These lines.
-    pub fn new(mut lines: Vec<Line>) -> Lines
+    pub fn new(lines: Vec<Line>) -> Lines
         ensures { result ≡ lines.items }
     {
-        lines.shrink_to_fit();
         Lines { lines }
+    }
+
+    /// These lines, without room that isn't used. `AllocError` where the smaller room is refused.
+    pub(crate) fn fitted(mut lines: Vec<Line>) -> Result<Lines, AllocError>
+        ensures { IfOk result (λ fitted. fitted ≡ lines.items) }
+    {
+        lines.shrink_to_fit();
+        if lines.len() < lines.capacity() {
+            return Err(AllocError);
+        }
+        Ok(Lines { lines })
     }
 
     /// The lines, that for the first place or offer first.

@@ -48,13 +48,16 @@ impl PathList {
         Ok(PathList { numbers })
     }
 
-    /// The same paths, without room that isn't used.
-    pub(crate) fn fitted(self) -> PathList
-        ensures { result ≡ self }
+    /// The same paths, without room that isn't used. `AllocError` where the smaller room is refused.
+    pub(crate) fn fitted(self) -> Result<PathList, AllocError>
+        ensures { IfOk result (λ list. list ≡ self) }
     {
         let PathList { mut numbers } = self;
         numbers.shrink_to_fit();
-        PathList { numbers }
+        if numbers.spilled() && numbers.len() < numbers.capacity() {
+            return Err(AllocError);
+        }
+        Ok(PathList { numbers })
     }
 
     /// The paths, from the first on.

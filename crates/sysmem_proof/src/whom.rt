@@ -83,5 +83,5 @@ pub(crate) fn line_of(
             paths = paths.with(tree.path_of(*node)?.ordinals())?;
         }
     }
-    Ok(Line::new(field, paths))
+    Ok(Line::new(field, paths.fitted()?))
 }

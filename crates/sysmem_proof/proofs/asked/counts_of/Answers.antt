@@ -1,5 +1,5 @@
 -- One more is counted.
-use Rattle.std.proofs.Common.{◌+◌, length, take, sym, ap, ◌∙◌, subst, arith}
+use Rattle.std.proofs.Common.{length, take, sym, ap, ◌∙◌, subst, arith}
 use Rattle.sysmem_counts.specs.Bounds.{IsTallyOf}
 use Rattle.sysmem_merge.specs.Demands.{counts_asked}
 use Rattle.sysmem_proof.specs.Roll.{asked_by, listed}

@@ -1,5 +1,5 @@
 -- One path more.
-use Rattle.std.proofs.Common.{◌≡◌, ℕ, Some, ◌∙◌, true, false, get_or, slice_set, length, take, refl, sym, ap, subst, arith}
+use Rattle.std.proofs.Common.{◌≡◌, Some, ◌∙◌, true, false, get_or, slice_set, length, take, refl, sym, ap, subst, arith}
 use Rattle.std.specs.Prelude.{◌↔◌, Any, IsTrue, is_some}
 use Rattle.std.proofs.lemmas.List.{length-set, take_all}
 use Rattle.sysmem_tree.specs.Path.{node_at}
@@ -37,9 +37,11 @@ loop-path-preserved c =
       long = length-set c.loop-path.seen c.in-Some-number_of.number true ∙ c.loop-path.invariant.long;
       named = subst (λ k. AreNamed (listed c.args.roll.now) (take k c.args.paths.now)) (sym here.one_more)
           (named_more (listed c.args.roll.now) c.args.paths.now (length c.loop-path.yielded) c.in-Some.path.now (is_some c.number_of.result) here.inside here.is c.loop-path.invariant.named
-          c.number_of.ensures.named (ap is_some c.in-Some-number_of.is) false refl
-          (λ is. absurd (cc), λ has. absurd (not_seen c.args.roll.now.nodes _ c.in-Some.path.now c.in-Some-number_of.number c.in-Some-number_of.ensures.at _ c.if-seen-number.false
-          (c.loop-path.invariant.seen c.in-Some-number_of.number) has)));
+          c.number_of.ensures.named (ap is_some c.in-Some-number_of.is) false refl (
+            λ is. absurd (cc),
+            λ has. absurd (not_seen c.args.roll.now.nodes _ c.in-Some.path.now c.in-Some-number_of.number c.in-Some-number_of.ensures.at _ c.if-seen-number.false
+                (c.loop-path.invariant.seen c.in-Some-number_of.number) has),
+          ));
       seen = λ n. subst (λ k. IsTrue (get_or (slice_set c.loop-path.seen c.in-Some-number_of.number true) n false) ↔ Any (λ p. node_at c.args.roll.now.nodes p ≡ Some n) (take k c.args.paths.now)) (sym here.one_more)
           (one_seen c.args.roll.now.nodes c.args.paths.now (length c.loop-path.yielded) c.in-Some.path.now c.in-Some-number_of.number c.loop-path.seen here.inside here.is c.in-Some-number_of.ensures.at
           (omega (arith, c.loop-path.invariant.long, c.in-Some-number_of.ensures.few)) c.loop-path.invariant.seen n);
