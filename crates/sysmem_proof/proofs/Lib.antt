@@ -1,4 +1,5 @@
 pub mod PathLists
+pub mod Yielded
 pub mod Walks
 pub mod Ways
 pub mod Left

@@ -15,13 +15,13 @@ ghost use Rattle.sysmem_merge.specs.Reasons.{IsUnnamedLine};
 ghost use Rattle.sysmem_proof.specs.Members.{participants};
 ghost use Rattle.sysmem_proof.specs.Roll.{asked_by, listed};
 
+use crate::path_list::PathList;
 use crate::roll::Roll;
 use sysmem_counts::{CountBounds, Field};
 use sysmem_formats::Offer;
 use sysmem_memory::{CoherencyDomain, HeapInfo, refuses_in};
 use sysmem_merge::{OfferRead, Settings, fails_in};
 use sysmem_sanitise::{Constraints, Platform};
-use sysmem_tree::Path;
 
 /// Adds what one more asks of the number of buffers, if there is one.
 pub(crate) fn add_count(counts: &mut CountBounds, asked: Option<&Constraints>)
@@ -36,12 +36,12 @@ pub(crate) fn add_count(counts: &mut CountBounds, asked: Option<&Constraints>)
 }
 
 /// What they ask of the number of buffers.
-pub(crate) fn counts_of(roll: &Roll<'_>, paths: &[Path]) -> CountBounds
+pub(crate) fn counts_of(roll: &Roll<'_>, paths: &PathList) -> CountBounds
     requires few { length paths.now ≤ 128 }
     ensures { IsTallyOf result (counts_asked (asked_by (listed roll.now) paths.now)) }
 {
     let mut counts = CountBounds::new();
-    for path in paths {
+    for path in paths.iter() {
         add_count(&mut counts, roll.at(path));
     }
     counts
@@ -58,11 +58,11 @@ pub(crate) fn add_read(read: &mut OfferRead, asked: Option<&Constraints>)
 }
 
 /// What they ask of an offer.
-pub(crate) fn read_of(roll: &Roll<'_>, offer: &Offer, paths: &[Path]) -> OfferRead
+pub(crate) fn read_of(roll: &Roll<'_>, offer: &Offer, paths: &PathList) -> OfferRead
     ensures { IsOfferRead offer.now (offer_demands (asked_by (listed roll.now) paths.now)) result }
 {
     let mut read = OfferRead::new(offer);
-    for path in paths {
+    for path in paths.iter() {
         add_read(&mut read, roll.at(path));
     }
     read
@@ -104,12 +104,12 @@ pub(crate) fn refuse_place(
     field: Field,
     heap: &HeapInfo,
     domain: CoherencyDomain,
-    paths: &[Path],
+    paths: &PathList,
 ) -> bool
     ensures { IsTrue result ↔ Any (λ p. refuses_by field p.memory p.usage heap.now domain ≡ true)
         (asked_by (listed roll.now) paths.now) }
 {
-    for path in paths {
+    for path in paths.iter() {
         if is_refused(field, heap, domain, roll.at(path)) {
             return true;
         }
@@ -139,7 +139,7 @@ pub(crate) fn fail_at(
     field: Field,
     platform: &Platform,
     settings: &Settings,
-    path: &Path,
+    path: &[u32],
 ) -> bool
     ensures { IsTrue result ↔ Any (FailsOn field platform.now settings.now)
         (asked_by (listed roll.now) (path.now ∷ [])) }

@@ -26,7 +26,7 @@ use crate::offer_lines::refuse_offers;
 use crate::place_lines::refuse_places;
 use crate::roll::Roll;
 use sysmem_sanitise::Platform;
-use sysmem_tree::{Path, Prefix};
+use sysmem_tree::Prefix;
 
 /// Of lines for all places of the platform.
 fn places_fault(platform: &Platform, roll: &Roll<'_>, lines: &[Line]) -> Result<(), No>
@@ -69,7 +69,7 @@ fn offers_fault(platform: &Platform, roll: &Roll<'_>, whole: bool, lines: &[Line
 }
 
 /// Of a field in which settings fail a participant, where no settings are given: it is no conflict, whomever it names.
-fn unfixed_fault(roll: &Roll<'_>, path: &Path) -> No
+fn unfixed_fault(roll: &Roll<'_>, path: &[u32]) -> No
     ensures { First (AreNamed (listed roll.now) (path.now ∷ []))
         (Fails (AreNamed (listed roll.now) (path.now ∷ [])) WrongNode) (Fails ⊥ Untrue) result }
 {
@@ -109,7 +109,7 @@ fn initial_conflict_fault(
             let whole = is_whole(checker, prefix);
             offers_fault(platform, &roll, whole, lines.as_slice())
         }
-        Conflict::Fixed(_, path) => Err(unfixed_fault(&roll, path)),
+        Conflict::Fixed(_, path) => Err(unfixed_fault(&roll, path.ordinals())),
     }
 }
 

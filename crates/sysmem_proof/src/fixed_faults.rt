@@ -100,7 +100,10 @@ pub(crate) fn fixed_conflict_fault(
 {
     match conflict {
         Conflict::Count(line) => fixed_count_fault(wider, settings.count, line),
-        Conflict::Fixed(field, path) => failing_fault(roll, platform, settings, *field, path),
+        Conflict::Fixed(field, node) => {
+            let path = node.ordinals();
+            failing_fault(roll, platform, settings, *field, path)
+        }
         Conflict::Places(lines) => {
             let lines = lines.as_slice();
             if lines.len() != count_places(platform.heaps()) {

@@ -1,16 +1,17 @@
 //! Lines of the conflict table: a field, and for whom it fails.
 
-ghost use Rattle.std.specs.Prelude.{◌≡◌};
+ghost use Rattle.std.specs.Prelude.{◌≡◌, IfOk};
 
+use crate::path_list::PathList;
+use std::alloc::AllocError;
 use std::marker::Model;
 use sysmem_counts::Field;
-use sysmem_tree::Path;
 
 /// A field that fails for the participants at some paths, in any order.
 #[derive(Debug, Drop)]
 pub struct Line {
     field: Field,
-    nodes: Vec<Path>,
+    nodes: PathList,
 }
 
 impl Model for Line {
@@ -20,14 +21,14 @@ impl Model for Line {
 
     ghost view = { λ l. record {
       field = l.field;
-      nodes = l.nodes.items;
+      nodes = l.nodes;
     } };
 }
 
 impl Line {
     /// This field, for the participants at these paths. Any are a line; whether it is true is a checker's matter.
-    pub fn new(field: Field, nodes: Vec<Path>) -> Line
-        ensures { result ≡ record { field = field; nodes = nodes.items } }
+    pub fn new(field: Field, nodes: PathList) -> Line
+        ensures { result ≡ record { field = field; nodes = nodes } }
     {
         Line { field, nodes }
     }
@@ -40,7 +41,7 @@ impl Line {
     }
 
     /// The paths of the participants for whom it fails.
-    pub fn nodes(&self) -> &[Path]
+    pub fn nodes(&self) -> &PathList
         ensures { result.now ≡ self.now.nodes }
     {
         &self.nodes
@@ -68,6 +69,17 @@ impl Lines {
         ensures { result ≡ lines.items }
     {
         Lines { lines }
+    }
+
+    /// These lines, without room that isn't used. `AllocError` where the smaller room is refused.
+    pub(crate) fn fitted(mut lines: Vec<Line>) -> Result<Lines, AllocError>
+        ensures { IfOk result (λ fitted. fitted ≡ lines.items) }
+    {
+        lines.shrink_to_fit();
+        if lines.len() < lines.capacity() {
+            return Err(AllocError);
+        }
+        Ok(Lines { lines })
     }
 
     /// The lines, that for the first place or offer first.

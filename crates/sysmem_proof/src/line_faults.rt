@@ -18,7 +18,6 @@ use sysmem_counts::Field;
 use sysmem_memory::{HeapInfo, Place};
 use sysmem_merge::Settings;
 use sysmem_sanitise::Platform;
-use sysmem_tree::Path;
 
 /// Of a line that says that no count suits participants.
 pub(crate) fn count_fault(roll: &Roll<'_>, line: &Line) -> Result<(), No>
@@ -82,7 +81,7 @@ pub(crate) fn failing_fault(
     platform: &Platform,
     settings: &Settings,
     field: Field,
-    path: &Path,
+    path: &[u32],
 ) -> Result<(), No>
     ensures { MatchResult result
         (λ _. IsTrueOf (listed roll.now) (path.now ∷ [])

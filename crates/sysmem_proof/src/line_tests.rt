@@ -18,7 +18,6 @@ use sysmem_formats::Offer;
 use sysmem_memory::{CoherencyDomain, HeapInfo};
 use sysmem_merge::Settings;
 use sysmem_sanitise::Platform;
-use sysmem_tree::Path;
 
 /// Whether no count suits the participants whom the line names, by its field.
 pub(crate) fn is_count_line(roll: &Roll<'_>, line: &Line) -> bool
@@ -71,7 +70,7 @@ pub(crate) fn is_failed_at(
     platform: &Platform,
     settings: &Settings,
     field: Field,
-    path: &Path,
+    path: &[u32],
 ) -> bool
     requires { AreNamed (listed roll.now) (path.now ∷ []) }
     ensures { IsTrue result ↔ IsTrueOf (listed roll.now) (path.now ∷ [])

@@ -4,15 +4,15 @@ ghost use Rattle.std.specs.Prelude.{◌↔◌, [], ◌∷◌, IsTrue};
 ghost use Rattle.sysmem_proof.specs.Fault.{AreNamed};
 ghost use Rattle.sysmem_proof.specs.Roll.{listed};
 
+use crate::path_list::PathList;
 use crate::roll::Roll;
-use sysmem_tree::Path;
 
 /// Whether each path is that of a participant on the roll, and none stands there twice.
-pub(crate) fn are_named(roll: &Roll<'_>, paths: &[Path]) -> bool
+pub(crate) fn are_named(roll: &Roll<'_>, paths: &PathList) -> bool
     ensures { IsTrue result ↔ AreNamed (listed roll.now) paths.now }
 {
     let mut seen = [false; 128];
-    for path in paths {
+    for path in paths.iter() {
         let Some(number) = roll.number_of(path) else {
             return false;
         };
@@ -25,7 +25,7 @@ pub(crate) fn are_named(roll: &Roll<'_>, paths: &[Path]) -> bool
 }
 
 /// Whether the path is that of a participant on the roll.
-pub(crate) fn is_named(roll: &Roll<'_>, path: &Path) -> bool
+pub(crate) fn is_named(roll: &Roll<'_>, path: &[u32]) -> bool
     ensures { IsTrue result ↔ AreNamed (listed roll.now) (path.now ∷ []) }
 {
     roll.has(path)

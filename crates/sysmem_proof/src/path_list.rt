@@ -48,6 +48,18 @@ impl PathList {
         Ok(PathList { numbers })
     }
 
+    /// The same paths, without room that isn't used. `AllocError` where the smaller room is refused.
+    pub(crate) fn fitted(self) -> Result<PathList, AllocError>
+        ensures { IfOk result (λ list. list ≡ self) }
+    {
+        let PathList { mut numbers } = self;
+        numbers.shrink_to_fit();
+        if numbers.spilled() && numbers.len() < numbers.capacity() {
+            return Err(AllocError);
+        }
+        Ok(PathList { numbers })
+    }
+
     /// The paths, from the first on.
     pub fn iter(&self) -> Paths<'_>
         ensures { result ≡ self.now }

@@ -119,7 +119,7 @@ pub(crate) fn refused_offers(
         };
         lines.push(line)?;
     }
-    Ok(Refusals::Whole(Lines::new(lines)))
+    Ok(Refusals::Whole(Lines::fitted(lines)?))
 }
 
 /// The line of the first of the participants at these nodes to whom the place is refused, `None` where they share it or it is `until`.
@@ -238,5 +238,5 @@ pub(crate) fn refused_places(
             return Ok(Refusals::UpTo(Lines::new(lines)));
         }
     }
-    Ok(Refusals::Whole(Lines::new(lines)))
+    Ok(Refusals::Whole(Lines::fitted(lines)?))
 }

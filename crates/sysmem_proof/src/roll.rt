@@ -14,11 +14,12 @@ ghost use Rattle.sysmem_tree.specs.OpenGroups.{HoldsNodes};
 ghost use Rattle.sysmem_tree.specs.Selection.{IsPrefix};
 ghost use Rattle.sysmem_tree.specs.Shape.{by_number, forest_of, shape_of};
 
+use crate::path_list::PathList;
 use std::marker::Model;
 use sysmem_sanitise::Constraints;
 use sysmem_tree::laws::{one_forest, one_path};
 use sysmem_tree::layout_laws::choices_leave_one_forest;
-use sysmem_tree::{DomainId, Layout, NodeId, Path, Prefix, Tree};
+use sysmem_tree::{DomainId, Layout, NodeId, Prefix, Tree};
 
 /// The participants that choices settle in a domain of a tree, and those that were accepted before where they may be named too.
 #[derive(Drop)]
@@ -89,7 +90,7 @@ impl<'a> Roll<'a> {
     }
 
     /// What the participant at the path asks, if it is one of them.
-    pub(crate) fn at(&self, path: &Path) -> Option<&'a Constraints>
+    pub(crate) fn at(&self, path: &[u32]) -> Option<&'a Constraints>
         ensures { option_map (λ asked. asked.now) result ≡ asked_at (listed self.now) path.now }
     {
         one_path();
@@ -107,7 +108,7 @@ impl<'a> Roll<'a> {
     }
 
     /// The number of the participant at the path, if it is one of them.
-    pub(crate) fn number_of(&self, path: &Path) -> Option<usize>
+    pub(crate) fn number_of(&self, path: &[u32]) -> Option<usize>
         ensures named { is_some result ≡ is_some (asked_at (listed self.now) path.now) }
         ensures at { IfSome result (λ n. IsOnlyPath self.now.nodes n path.now) }
         ensures few { IfSome result (λ n. n < 128) }
@@ -138,7 +139,7 @@ impl<'a> Roll<'a> {
     }
 
     /// Participants that are named, each once, are at most as many as a tree has nodes.
-    pub(crate) fn few_named(&self, paths: &[Path])
+    pub(crate) fn few_named(&self, paths: &PathList)
         requires { AreNamed (listed self.now) paths.now }
         ensures { length paths.now ≤ 128 }
     {
@@ -146,7 +147,7 @@ impl<'a> Roll<'a> {
     }
 
     /// Whether the path is that of one of them.
-    pub(crate) fn has(&self, path: &Path) -> bool
+    pub(crate) fn has(&self, path: &[u32]) -> bool
         ensures { result ≡ is_some (asked_at (listed self.now) path.now) }
     {
         is_there(self.at(path))
@@ -177,7 +178,7 @@ fn marked<'a>(tree: &'a Tree, marks: &[bool; 128], node: NodeId) -> Option<&'a C
 }
 
 /// Paths that name participants, each once, are at most as many as a tree has nodes.
-fn few_paths(tree: &Tree, domain: DomainId, prefix: &Prefix, accepted: &[NodeId], paths: &[Path])
+fn few_paths(tree: &Tree, domain: DomainId, prefix: &Prefix, accepted: &[NodeId], paths: &PathList)
     requires domain { HasDomain tree.now.nodes domain }
     requires there { All (HasNode tree.now.nodes) accepted.now }
     requires named { AreNamed (listed (record {

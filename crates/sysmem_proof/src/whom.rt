@@ -9,6 +9,7 @@ ghost use Rattle.sysmem_proof.specs.Whom.{line_on, names};
 ghost use Rattle.sysmem_tree.specs.Nodes.{HasNode};
 
 use crate::line::Line;
+use crate::path_list::PathList;
 use std::alloc::{AllocError, Global};
 use sysmem_counts::{CountConstraints, Field};
 use sysmem_formats::Offer;
@@ -76,11 +77,11 @@ pub(crate) fn line_of(
     requires { All (HasNode tree.now.nodes) nodes.now }
     ensures { IfOk result (λ line. line ≡ line_on tree.now.nodes nodes.now field whom) }
 {
-    let mut paths = Vec::new(alloc);
+    let mut paths = PathList::new(alloc);
     for node in nodes {
         if is_named(whom, tree.constraints_of(*node)) {
-            paths.push(tree.path_of(*node)?)?;
+            paths = paths.with(tree.path_of(*node)?.ordinals())?;
         }
     }
-    Ok(Line::new(field, paths))
+    Ok(Line::new(field, paths.fitted()?))
 }

@@ -91,12 +91,12 @@ impl Tree {
         self.nodes.len() as u32
     }
 
-    /// The node at a path; `None` where the tree has none there.
-    pub fn node_at(&self, path: &Path) -> Option<NodeId>
+    /// The node to which these ordinals lead from the root; `None` where the tree has none there.
+    pub fn node_at(&self, path: &[u32]) -> Option<NodeId>
         ensures node { result ≡ node_at self.now.nodes path.now }
         ensures there { IfSome result (HasNode self.now.nodes) }
     {
-        let number = node_at(&self.nodes, path.ordinals())?;
+        let number = node_at(&self.nodes, path)?;
         Some(NodeId(number))
     }
 

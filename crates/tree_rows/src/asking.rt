@@ -26,7 +26,7 @@ pub(crate) fn next_group(
         return Ok(text);
     };
     for path in &all_paths(alloc, tree)? {
-        if tree.node_at(path) == Some(group) {
+        if tree.node_at(path.ordinals()) == Some(group) {
             push_path(&mut text, path)?;
         }
     }
@@ -48,7 +48,7 @@ pub(crate) fn settled(
     let mut text = String::new(alloc);
     text.push_str("settled")?;
     for path in &all_paths(alloc, tree)? {
-        let Some(node) = tree.node_at(path) else {
+        let Some(node) = tree.node_at(path.ordinals()) else {
             continue;
         };
         if tree.settled(domain, prefix, node) {
@@ -65,7 +65,7 @@ pub(crate) fn shape(alloc: Global, tree: &Tree, domain: DomainId) -> Result<Stri
     let mut text = String::new(alloc);
     text.push_str("shape")?;
     for path in &all_paths(alloc, &tree)? {
-        let Some(node) = tree.node_at(path) else {
+        let Some(node) = tree.node_at(path.ordinals()) else {
             continue;
         };
         if tree.domain_of(node) != domain {

@@ -20,7 +20,7 @@ pub(crate) fn node_at(alloc: Global, tree: &Tree, text: &str) -> Result<Option<N
             ordinals.push(step.parse::<u32>()?)?;
         }
     }
-    Ok(tree.node_at(&Path::new(ordinals)))
+    Ok(tree.node_at(&ordinals))
 }
 
 /// The paths of all nodes, the shorter first.
@@ -28,7 +28,7 @@ pub(crate) fn all_paths(alloc: Global, tree: &Tree) -> Result<Vec<Path>> {
     let mut paths = Vec::new(alloc);
     paths.push(Path::new(Vec::new(alloc)))?;
     for at in 0..MOST_NODES {
-        let Some(node) = paths.get(at).and_then(|path| tree.node_at(path)) else {
+        let Some(node) = paths.get(at).and_then(|path| tree.node_at(path.ordinals())) else {
             break;
         };
         for child in 0..tree.state(node).children {

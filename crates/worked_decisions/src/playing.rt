@@ -20,7 +20,7 @@ use sysmem_tree::{DomainId, Event, NodeId, Refusal};
 pub(crate) fn at(alloc: Global, book: &Book, text: &str) -> Result<NodeId, Fail>
     ensures { IfOk result (λ node. HasNode book.now.state.tree.nodes node) }
 {
-    match book.tree().node_at(&path(alloc, text)?) {
+    match book.tree().node_at(path(alloc, text)?.ordinals()) {
         Some(node) => Ok(node),
         None => Err(Fail::new("no node at this path")),
     }

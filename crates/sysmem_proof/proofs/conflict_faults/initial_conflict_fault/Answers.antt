@@ -1,6 +1,7 @@
 -- What is told of the lines is told of the conflict.
 use Rattle.std.proofs.Common.{None, sym, subst}
 use Rattle.std.specs.Prelude.{MatchResult}
+use Rattle.sysmem_proof.specs.declared.conflict.Conflict.TheVariants.{Fixed}
 use Rattle.sysmem_proof.specs.Conflict.{IsConflict}
 use Rattle.sysmem_proof.specs.Fault.{ConflictFaults}
 use Rattle.sysmem_proof.specs.Roll.{listed}
@@ -22,4 +23,5 @@ returns-in-Offers c = λ d leads.
 pub returns-in-Fixed : goal.returns-in-Fixed
 returns-in-Fixed c = λ d leads.
     subst (λ x. ConflictFaults c.args.checker.now.platform None d x c.unfixed_fault.result) (sym c.in-Fixed.is)
-    (of_field c.args.checker.now.platform (listed c.settled-roll.result) _ _ c.unfixed_fault.result d (c.settled-roll.ensures d leads) c.unfixed_fault.ensures)
+    (subst (λ path. ConflictFaults c.args.checker.now.platform None d (Fixed c.in-Fixed.field-0 path) c.unfixed_fault.result) c.ordinals.ensures
+    (of_field c.args.checker.now.platform (listed c.settled-roll.result) _ _ c.unfixed_fault.result d (c.settled-roll.ensures d leads) c.unfixed_fault.ensures))

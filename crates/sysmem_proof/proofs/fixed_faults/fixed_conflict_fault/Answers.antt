@@ -1,6 +1,7 @@
 -- What is told of a line is told of the conflict.
 use Rattle.std.proofs.Common.{Some, sym, subst}
 use Rattle.std.specs.Prelude.{MatchResult}
+use Rattle.sysmem_proof.specs.declared.conflict.Conflict.TheVariants.{Fixed}
 use Rattle.sysmem_proof.specs.Conflict.{IsFixedConflict}
 use Rattle.sysmem_proof.specs.Fault.{ConflictFaults}
 use Rattle.sysmem_proof.specs.Roll.{listed}
@@ -10,7 +11,8 @@ use Rattle.sysmem_proof.proofs.fixed_faults.fixed_conflict_fault.Goals as goal
 pub returns-in-Fixed : goal.returns-in-Fixed
 returns-in-Fixed c = λ terms d same one two.
     subst (λ x. MatchResult c.failing_fault.result (λ _. IsFixedConflict c.args.platform.now terms d x) (ConflictFaults c.args.platform.now (Some terms) d x)) (sym c.in-Fixed.is)
-    (fixed_told c.args.platform.now (listed c.args.roll.now) c.args.settings.now _ _ c.failing_fault.result c.failing_fault.ensures terms d same one)
+    (subst (λ path. MatchResult c.failing_fault.result (λ _. IsFixedConflict c.args.platform.now terms d (Fixed c.in-Fixed.field path)) (ConflictFaults c.args.platform.now (Some terms) d (Fixed c.in-Fixed.field path)))
+    c.ordinals-path.ensures (fixed_told c.args.platform.now (listed c.args.roll.now) c.args.settings.now _ _ c.failing_fault.result c.failing_fault.ensures terms d same one))
 
 pub returns-else-lines-count_places : goal.returns-else-lines-count_places
 returns-else-lines-count_places c = λ terms d same one two.

@@ -9,6 +9,6 @@ use Rattle.sysmem_proof.proofs.names.are_named.Given as goal
 abbrev pub invariant-loop-path : goal.invariant-loop-path
 invariant-loop-path l = record {
   long : length l.seen ≡ 128;
-  named : AreNamed (listed l.roll) (take l.path-index l.paths);
-  seen : (k : ℕ) → IsTrue (get_or l.seen k false) ↔ Any (λ p. node_at l.roll.nodes p ≡ Some k) (take l.path-index l.paths);
+  named : AreNamed (listed l.roll) (take (length l.yielded) l.paths);
+  seen : (k : ℕ) → IsTrue (get_or l.seen k false) ↔ Any (λ p. node_at l.roll.nodes p ≡ Some k) (take (length l.yielded) l.paths);
 }

@@ -43,5 +43,5 @@ loop-offer-preserved c = λ ms stand.
 pub returns : goal.returns
 returns c = λ ms stand.
     let past = offer_read c.args.platform.now _ _ c.pairs.ensures.pairs c.colours.ensures.colours _ c.loop-offer.lines.items _ (c.len.ensures ∙ omega (arith, c.loop-offer.lines.ok)) c.in_default.ensures in
-    subst (AllZip (RefusesOffer c.args.whole ms) (offers_of c.args.platform.now)) (sym c.new-2.ensures)
+    subst (AllZip (RefusesOffer c.args.whole ms) (offers_of c.args.platform.now)) (sym c.in_ok-fitted.ensures)
     (all_offers (RefusesOffer c.args.whole ms) (offers_of c.args.platform.now) c.loop-offer.lines.items (sym past) (c.loop-offer.invariant ms stand))

@@ -28,7 +28,7 @@ loop-index-preserved c = λ ms stand.
 
 pub returns : goal.returns
 returns c = λ ms stand.
-    subst (AllZip (RefusesPlace ms) (places_of c.args.platform.now.heaps)) (sym c.new-2.ensures)
+    subst (AllZip (RefusesPlace ms) (places_of c.args.platform.now.heaps)) (sym c.in_ok-fitted.ensures)
     (all_done (RefusesPlace ms) (places_of c.args.platform.now.heaps) c.loop-index.lines.items
     (subst (AreSoFar (RefusesPlace ms) (places_of c.args.platform.now.heaps) c.loop-index.lines.items)
     (no_heap c.args.platform.now.heaps c.loop-index.index (omega (arith, c.loop-index-test.false, ap length c.heaps-heap-items.ensures.heaps))) (c.loop-index.invariant ms stand)))

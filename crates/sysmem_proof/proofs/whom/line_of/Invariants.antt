@@ -5,4 +5,4 @@ use Rattle.sysmem_proof.specs.Whom.{members_named}
 use Rattle.sysmem_proof.proofs.whom.line_of.Given as goal
 
 abbrev pub invariant-loop-node : goal.invariant-loop-node
-invariant-loop-node l = l.paths.items ≡ map (λ m. m.path) (members_named l.whom (members_at l.tree.nodes (take l.node-index l.nodes)))
+invariant-loop-node l = l.paths ≡ map (λ m. m.path) (members_named l.whom (members_at l.tree.nodes (take l.node-index l.nodes)))
