@@ -15,9 +15,8 @@ use crate::unread::Unread;
 use json::Writer;
 use serde_json::{Map, Value, put};
 use std::alloc::{AllocError, Global};
-use std::slice;
 use sysmem_counts::Field;
-use sysmem_proof::{Conflict, EarlierChoices, Item, Line, Lines, Refutation};
+use sysmem_proof::{Conflict, EarlierChoices, Item, Line, Lines, PathList, Refutation};
 use sysmem_tree::Path;
 
 impl Part for Item {
@@ -97,13 +96,10 @@ fn put_conflict(out: &mut Writer, text: &mut String, conflict: &Conflict) -> Res
 {
     match conflict {
         Conflict::Count(line) => put_named(out, text, "count", line.field(), line.nodes()),
-        Conflict::Fixed(field, node) => put_named(
-            out,
-            text,
-            "fixed",
-            *field,
-            slice::from_ref(node),
-        ),
+        Conflict::Fixed(field, node) => {
+            let nodes = PathList::new(*text.allocator()).with(node.ordinals())?;
+            put_named(out, text, "fixed", *field, &nodes)
+        }
         Conflict::Places(lines) => put_lines(out, text, "places", lines),
         Conflict::Offers(lines) => put_lines(out, text, "offers", lines),
     }
@@ -138,7 +134,10 @@ fn conflict_value(alloc: Global, conflict: &Conflict) -> Result<Value, AllocErro
 {
     match conflict {
         Conflict::Count(line) => named_value(alloc, "count", line.field(), line.nodes()),
-        Conflict::Fixed(field, node) => named_value(alloc, "fixed", *field, slice::from_ref(node)),
+        Conflict::Fixed(field, node) => {
+            let nodes = PathList::new(alloc).with(node.ordinals())?;
+            named_value(alloc, "fixed", *field, &nodes)
+        }
         Conflict::Places(lines) => lines_value(alloc, "places", lines),
         Conflict::Offers(lines) => lines_value(alloc, "offers", lines),
     }
@@ -168,7 +167,7 @@ fn conflict_of(alloc: Global, value: &Value) -> Result<Conflict, Unread>
         Ok(Conflict::Count(Line::new(field, nodes)))
     } else if has_key(value, "fixed") {
         let (field, nodes) = read_named(alloc, value, "fixed")?;
-        fixed_by(field, nodes).ok_or(Unread::WrongForm)
+        fixed_by(alloc, field, &nodes)?.ok_or(Unread::WrongForm)
     } else if has_key(value, "places") {
         Ok(Conflict::Places(lines_of(alloc, value, "places")?))
     } else {
@@ -177,15 +176,18 @@ fn conflict_of(alloc: Global, value: &Value) -> Result<Conflict, Unread>
 }
 
 /// The conflict of a field and one node.
-fn fixed_by(field: Field, mut nodes: Vec<Path>) -> Option<Conflict>
-    ensures { result ≡ fixed_by field nodes.items }
+fn fixed_by(alloc: Global, field: Field, nodes: &PathList) -> Result<Option<Conflict>, AllocError>
+    ensures { IfOk result (λ found. found ≡ fixed_by field nodes.now) }
 {
-    let node = nodes.pop()?;
-    if nodes.is_empty() {
-        Some(Conflict::Fixed(field, node))
-    } else {
-        None
+    let mut left = nodes.iter();
+    let Some(node) = left.next() else {
+        return Ok(None);
+    };
+    if left.next().is_some() {
+        return Ok(None);
     }
+    let ordinals = Vec::from_slice(alloc, node)?;
+    Ok(Some(Conflict::Fixed(field, Path::new(ordinals))))
 }
 
 /// The lines that an object has alone, under a kind.

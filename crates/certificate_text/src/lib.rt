@@ -15,6 +15,7 @@ mod line;
 mod member;
 mod part;
 mod path;
+mod path_list;
 mod reading;
 mod settings;
 mod unread;

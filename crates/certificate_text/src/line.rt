@@ -11,15 +11,15 @@ ghost use Rattle.certificate_text.specs.Said.{line_said, named_said};
 ghost use Rattle.certificate_text.specs.Told.{line_data, named_data};
 ghost use Rattle.serde_json.specs.View.{view};
 
-use crate::part::{Part, list_value, put_list};
-use crate::reading::{expect_object, list_at, text_at};
+use crate::part::Part;
+use crate::path_list::paths_at;
+use crate::reading::{expect_object, text_at};
 use crate::unread::Unread;
 use json::Writer;
 use serde_json::{Map, Value, put};
 use std::alloc::{AllocError, Global};
 use sysmem_counts::Field;
-use sysmem_proof::Line;
-use sysmem_tree::Path;
+use sysmem_proof::{Line, PathList};
 
 impl Part for Line {
     ghost told = { line_data };
@@ -46,7 +46,7 @@ pub(crate) fn put_named(
     text: &mut String,
     kind: &str,
     field: Field,
-    nodes: &[Path],
+    nodes: &PathList,
 ) -> Result<(), AllocError>
     ensures { PutsData result out.old out.new (named_data kind.now field nodes.now) }
 {
@@ -54,7 +54,7 @@ pub(crate) fn put_named(
     out.key(kind)?;
     out.string(field.name())?;
     out.key("nodes")?;
-    put_list(out, text, nodes)?;
+    nodes.put(out, text)?;
     out.end_object()
 }
 
@@ -63,7 +63,7 @@ pub(crate) fn named_value(
     alloc: Global,
     kind: &str,
     field: Field,
-    nodes: &[Path],
+    nodes: &PathList,
 ) -> Result<Value, AllocError>
     requires { slice_cmp nat_cmp (codes "nodes") kind.now ≡ Greater }
     ensures { IfOk result (λ value. view value ≡ named_data kind.now field nodes.now) }
@@ -75,7 +75,7 @@ pub(crate) fn named_value(
         kind,
         Value::try_from_str(alloc, field.name())?,
     )?;
-    put(&mut map, alloc, "nodes", list_value(alloc, nodes)?)?;
+    put(&mut map, alloc, "nodes", nodes.value(alloc)?)?;
     Ok(Value::Object(map))
 }
 
@@ -98,12 +98,12 @@ pub(crate) fn read_named(
     alloc: Global,
     value: &Value,
     kind: &str,
-) -> Result<(Field, Vec<Path>), Unread>
-    ensures { SaysAs (λ named. record { field = named.0; nodes = named.1.items }) result
+) -> Result<(Field, PathList), Unread>
+    ensures { SaysAs (λ named. record { field = named.0; nodes = named.1 }) result
         (named_said kind.now (view value.now)) }
 {
     expect_object(value, 2).ok_or(Unread::WrongForm)?;
     let field = field_at(value, kind).ok_or(Unread::WrongForm)?;
-    let nodes = list_at(alloc, value, "nodes")?;
+    let nodes = paths_at(alloc, value, "nodes")?;
     Ok((field, nodes))
 }

@@ -1,12 +1,14 @@
 //! Paths.
 
-ghost use Rattle.std.specs.Prelude.{◌≡◌, ◌++◌, ◌≤◌, None, codes, OnOk};
+ghost use Rattle.std.specs.Prelude.{◌≡◌, ◌++◌, ◌≤◌, None, codes, IfOk, OnOk};
 ghost use Rattle.std.specs.Fmt.{decimal};
 ghost use Rattle.std.specs.String.{string_bytes};
+ghost use Rattle.certificate_text.specs.Certificate.{PutsData};
 ghost use Rattle.certificate_text.specs.Paths.{path_said, path_text, path_behind, steps_said, steps_text, with_byte, with_digit};
 ghost use Rattle.certificate_text.specs.Reading.{SaysAs, Says};
 ghost use Rattle.certificate_text.specs.Said.{node_said};
 ghost use Rattle.certificate_text.specs.Told.{path_data};
+ghost use Rattle.serde_json.specs.View.{view};
 
 use crate::part::Part;
 use crate::unread::Unread;
@@ -21,15 +23,11 @@ impl Part for Path {
     ghost said = { node_said };
 
     fn put(&self, out: &mut Writer, text: &mut String) -> Result<(), AllocError> {
-        text.clear();
-        push_path(text, self.ordinals())?;
-        out.string(text.as_str())
+        put_path(out, text, self.ordinals())
     }
 
     fn value(&self, alloc: Global) -> Result<Value, AllocError> {
-        let mut text = String::new(alloc);
-        push_path(&mut text, self.ordinals())?;
-        Ok(Value::String(text))
+        path_value(alloc, self.ordinals())
     }
 
     fn read(alloc: Global, value: &Value) -> Result<Path, Unread> {
@@ -38,6 +36,28 @@ impl Part for Path {
             None => Err(Unread::WrongForm),
         }
     }
+}
+
+/// Puts the path of these ordinals behind what is written, and writes it in the text on the way.
+pub(crate) fn put_path(
+    out: &mut Writer,
+    text: &mut String,
+    ordinals: &[u32],
+) -> Result<(), AllocError>
+    ensures { PutsData result out.old out.new (path_data ordinals.now) }
+{
+    text.clear();
+    push_path(text, ordinals)?;
+    out.string(text.as_str())
+}
+
+/// The path of these ordinals as a value.
+pub(crate) fn path_value(alloc: Global, ordinals: &[u32]) -> Result<Value, AllocError>
+    ensures { IfOk result (λ value. view value ≡ path_data ordinals.now) }
+{
+    let mut text = String::new(alloc);
+    push_path(&mut text, ordinals)?;
+    Ok(Value::String(text))
 }
 
 /// Puts the text of a path behind the text so far: `/` or `/0/1`.

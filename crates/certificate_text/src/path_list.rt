@@ -1,0 +1,75 @@
+//! Lists of paths.
+
+ghost use Rattle.certificate_text.specs.Reading.{at_key, each_said, list_said, Says};
+ghost use Rattle.certificate_text.specs.Said.{node_said};
+ghost use Rattle.certificate_text.specs.Told.{path_data, paths_data};
+ghost use Rattle.serde_json.specs.View.{items_of, items_view, view};
+ghost use Rattle.std.specs.Prelude.{◌≡◌, map, IfOk};
+
+use crate::part::Part;
+use crate::path::{path_value, put_path};
+use crate::unread::Unread;
+use json::Writer;
+use serde_json::Value;
+use std::alloc::{AllocError, Global};
+use sysmem_proof::PathList;
+use sysmem_tree::Path;
+
+impl Part for PathList {
+    ghost told = { paths_data };
+
+    ghost said = { list_said node_said };
+
+    fn put(&self, out: &mut Writer, text: &mut String) -> Result<(), AllocError> {
+        out.begin_array()?;
+        for path in self.iter() {
+            put_path(out, text, path)?;
+        }
+        out.end_array()
+    }
+
+    fn value(&self, alloc: Global) -> Result<Value, AllocError> {
+        Ok(Value::Array(path_values(alloc, self)?))
+    }
+
+    fn read(alloc: Global, value: &Value) -> Result<PathList, Unread> {
+        match value.as_array() {
+            Some(values) => each_path(alloc, values),
+            None => Err(Unread::WrongForm),
+        }
+    }
+}
+
+/// Paths as values.
+fn path_values(alloc: Global, paths: &PathList) -> Result<Vec<Value>, AllocError>
+    ensures { IfOk result (λ values. items_view values.items ≡ items_of (map path_data paths.now)) }
+{
+    let mut values = Vec::new(alloc);
+    for path in paths.iter() {
+        let value = path_value(alloc, path)?;
+        values.push(value)?;
+    }
+    Ok(values)
+}
+
+/// The paths that each of the items says.
+fn each_path(alloc: Global, values: &[Value]) -> Result<PathList, Unread>
+    ensures { Says result (each_said node_said (items_view values.now)) }
+{
+    let mut paths = PathList::new(alloc);
+    for value in values {
+        let path = Path::read(alloc, value)?;
+        paths = paths.with(path.ordinals())?;
+    }
+    Ok(paths)
+}
+
+/// The paths at a key.
+pub(crate) fn paths_at(alloc: Global, value: &Value, key: &str) -> Result<PathList, Unread>
+    ensures { Says result (at_key key.now (list_said node_said) (view value.now)) }
+{
+    match value.get(key) {
+        Some(list) => PathList::read(alloc, list),
+        None => Err(Unread::WrongForm),
+    }
+}
