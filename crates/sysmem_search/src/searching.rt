@@ -31,7 +31,7 @@ pub(crate) fn search_from<G: Gate>(
     gate.at_prefix(question.prefix().choices().len() as u32);
     *visits = visits.saturating_add(1);
     let Some(children) = question.children() else {
-        return Ok(question.best().is_some());
+        return Ok(question.has_best());
     };
     if !question.is_met() {
         cuts_lose_nothing();

@@ -9,12 +9,13 @@ use Rattle.sysmem_tree.specs.Selection.{IsPrefix, after}
 use Rattle.sysmem_search.proofs.searching.+search_from.Goals as goal
 
 pub returns-in_default-clause-found : goal.returns-in_default-clause-found
-returns-in_default-clause-found g t c = (
-  c.best.result,
-  c.is_some.ensures,
-  found_here c.args.question.now.matter (after (forest c.args.question.now.matter) c.args.question.now.choices) c.args.question.now.choices _ _ c.best.result
-      c.in_default.ensures.number c.saturating_add.ensures c.best.ensures,
-)
+returns-in_default-clause-found g t c =
+    let (best, is, asked) = c.has_best.ensures in (
+      best,
+      is,
+      found_here c.args.question.now.matter (after (forest c.args.question.now.matter) c.args.question.now.choices) c.args.question.now.choices _ _ best
+          c.in_default.ensures.number c.saturating_add.ensures asked,
+    )
 
 pub returns-then-not-is_met-clause-found : goal.returns-then-not-is_met-clause-found
 returns-then-not-is_met-clause-found g t c = (
