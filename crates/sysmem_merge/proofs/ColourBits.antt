@@ -80,6 +80,9 @@ module _ (set : ColourSet) (a b c d e f g h : ℕ)
   small_h : h < 2
   small_h = omega (arith, is_h, flag_small (lists set Rec2100))
 
+  pub listed_small : a + 2 * b + 4 * c + 8 * d + 16 * e + 32 * f + 64 * g + 128 * h < 256
+  listed_small = omega (arith, small_a, small_b, small_c, small_d, small_e, small_f, small_g, small_h)
+
   pub listed_bits : (colour : ColourSpace) → (bit_at (a + 2 * b + 4 * c + 8 * d + 16 * e + 32 * f + 64 * g + 128 * h) (colour_bit colour) == 1) ≡ lists set colour
   listed_bits Srgb = flag_read a (lists set Srgb) ((a + 2 * b + 4 * c + 8 * d + 16 * e + 32 * f + 64 * g + 128 * h) / 1 % 2) is_a (omega (arith, small_a))
   listed_bits Rec601Ntsc = flag_read b (lists set Rec601Ntsc) ((a + 2 * b + 4 * c + 8 * d + 16 * e + 32 * f + 64 * g + 128 * h) / 2 % 2) is_b (omega (arith, small_a, small_b))
@@ -89,3 +92,21 @@ module _ (set : ColourSet) (a b c d e f g h : ℕ)
   listed_bits Rec709 = flag_read f (lists set Rec709) ((a + 2 * b + 4 * c + 8 * d + 16 * e + 32 * f + 64 * g + 128 * h) / 32 % 2) is_f (omega (arith, small_a, small_b, small_c, small_d, small_e, small_f))
   listed_bits Rec2020 = flag_read g (lists set Rec2020) ((a + 2 * b + 4 * c + 8 * d + 16 * e + 32 * f + 64 * g + 128 * h) / 64 % 2) is_g (omega (arith, small_a, small_b, small_c, small_d, small_e, small_f, small_g))
   listed_bits Rec2100 = flag_read h (lists set Rec2100) ((a + 2 * b + 4 * c + 8 * d + 16 * e + 32 * f + 64 * g + 128 * h) / 128 % 2) is_h (omega (arith, small_a, small_b, small_c, small_d, small_e, small_f, small_g, small_h))
+
+-- a word of colour spaces with two flags above them
+module _ (l f m : ℕ) (small : l < 256) where
+  pub named_bits : (c : ColourSpace) → bit_at (l + 256 * f + 512 * m) (colour_bit c) ≡ bit_at l (colour_bit c)
+  named_bits Srgb = let is : (l + 256 * f + 512 * m) / 1 % 2 ≡ l / 1 % 2 = omega (arith, small) in is
+  named_bits Rec601Ntsc = let is : (l + 256 * f + 512 * m) / 2 % 2 ≡ l / 2 % 2 = omega (arith, small) in is
+  named_bits Rec601NtscFullRange = let is : (l + 256 * f + 512 * m) / 4 % 2 ≡ l / 4 % 2 = omega (arith, small) in is
+  named_bits Rec601Pal = let is : (l + 256 * f + 512 * m) / 8 % 2 ≡ l / 8 % 2 = omega (arith, small) in is
+  named_bits Rec601PalFullRange = let is : (l + 256 * f + 512 * m) / 16 % 2 ≡ l / 16 % 2 = omega (arith, small) in is
+  named_bits Rec709 = let is : (l + 256 * f + 512 * m) / 32 % 2 ≡ l / 32 % 2 = omega (arith, small) in is
+  named_bits Rec2020 = let is : (l + 256 * f + 512 * m) / 64 % 2 ≡ l / 64 % 2 = omega (arith, small) in is
+  named_bits Rec2100 = let is : (l + 256 * f + 512 * m) / 128 % 2 ≡ l / 128 % 2 = omega (arith, small) in is
+
+  pub format_bit : (b : Bool) → f ≡ from_bool b → (bit_at (l + 256 * f + 512 * m) 8 == 1) ≡ b
+  format_bit b is = flag_read f b ((l + 256 * f + 512 * m) / 256 % 2) is (omega (arith, small, is, flag_small b))
+
+  pub modifier_bit : (b b' : Bool) → f ≡ from_bool b → m ≡ from_bool b' → (bit_at (l + 256 * f + 512 * m) 9 == 1) ≡ b'
+  modifier_bit b b' is is' = flag_read m b' ((l + 256 * f + 512 * m) / 512 % 2) is' (omega (arith, small, is, is', flag_small b, flag_small b'))

@@ -163,7 +163,7 @@ two_false true true c missing = absurd (cc missing)
 
 -- where nobody names the pair's format, or its modifier, each of its offers lacks a name
 pub unnamed_pair : (whole : Bool) (pair : Pair) (colours : List ColourSpace) (ds : List OfferDemand) (kept : KeptPair) → whole ≡ true
-    → (kept.format_named && kept.modifier_named) ≡ false → IsPairKept pair ds kept → AreOffersRefused whole (map (Image pair) colours) ds
+    → (pairs.says_format kept.named && pairs.says_modifier kept.named) ≡ false → IsPairKept pair ds kept → AreOffersRefused whole (map (Image pair) colours) ds
 unnamed_pair whole pair colours ds kept is missing keeps o has =
     let at = place_of (map (Image pair) colours) o has in
     let c = slice_get_some colours at.0 (omega (arith, at.1, length-map colours (Image pair))) in

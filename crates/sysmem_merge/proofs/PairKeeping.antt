@@ -1,5 +1,5 @@
 -- What is kept of a pair, in each of its colour spaces.
-use Rattle.std.proofs.Common.{◌≡◌, ◌&&◌, ◌||◌, ◌==◌, Bool, true, false, List, [], ◌∷◌, ◌++◌, length, refl, sym, ap, ◌∙◌, subst}
+use Rattle.std.proofs.Common.{◌≡◌, ◌≤◌, ◌&&◌, ◌||◌, ◌==◌, Bool, true, false, List, [], ◌∷◌, ◌++◌, length, refl, sym, ap, ◌∙◌, subst}
 use Rattle.std.specs.Prelude.{Some, None}
 use Rattle.std.specs.Option.{option_map_or}
 use Rattle.std.specs.Bool.{Decides}
@@ -18,7 +18,8 @@ use Rattle.sysmem_image.specs.declared.bounds.ImageBounds.{ImageBounds}
 use Rattle.sysmem_image.specs.declared.entry.Entry.{Entry}
 use Rattle.sysmem_image.specs.Entries.{effective, first_match, takes_colour}
 use Rattle.sysmem_image.specs.Lines.{IsBoundsLine}
-use Rattle.sysmem_image.specs.Merged.{MergedOf}
+use Rattle.sysmem_image.specs.Fields.{Keeps, rule_of, value, own_value, most}
+use Rattle.sysmem_image.specs.Merged.{IsMergeOf, MergedOf}
 use Rattle.sysmem_image.proofs.CallerLemmas.{own_adds_nothing}
 use Rattle.sysmem_merge.specs.declared.kept.KeptBounds.{KeptBounds}
 use Rattle.sysmem_merge.specs.declared.kept.KeptBounds.TheVariants.{Merged, Refused}
@@ -26,7 +27,7 @@ use Rattle.sysmem_merge.specs.declared.pair.KeptPair.{KeptPair}
 use Rattle.sysmem_merge.specs.Aggregate.{IsListed, AreKeptBounds}
 use Rattle.sysmem_merge.specs.Demands.{OfferDemand}
 use Rattle.sysmem_merge.specs.Offers.{has_colour, bounds_asked, names_format, names_modifier}
-use Rattle.sysmem_merge.specs.Pairs.{has, bounds_where, in_colour, IsMergedWith, ArePlain, IsPairKept}
+use Rattle.sysmem_merge.specs.Pairs.{has, says_format, says_modifier, bounds_where, in_colour, IsMergedWith, ArePlain, IsPairKept}
 use Rattle.sysmem_merge.specs.Reasons.{IsOfferLine}
 use Rattle.sysmem_merge.proofs.AnyColour.{is_own_any, merged_any, steady_any, first_any}
 use Rattle.sysmem_merge.proofs.Joining.{refused_first, refused_second, merged_together, kept_together}
@@ -67,7 +68,7 @@ entry_bounds pair c ds d entry true true (Refused f) new found is merging are = 
 
 -- with one more participant, whose entry for the pair this is
 pub with_entry : (pair : Pair) (ds : List OfferDemand) (d : OfferDemand) (entry : Entry) (old new : KeptPair) → Some entry ≡ first_match (Image pair Srgb) d.entries
-    → IsMerging pair entry old.bounds new.bounds → new.format_named ≡ (old.format_named || names_format (Some entry)) → new.modifier_named ≡ (old.modifier_named || names_modifier (Some entry))
+    → IsMerging pair entry old.bounds new.bounds → says_format new.named ≡ (says_format old.named || names_format (Some entry)) → says_modifier new.named ≡ (says_modifier old.named || names_modifier (Some entry))
     → ((c : ColourSpace) → has new.taken c ≡ (has old.taken c && accepts entry.colours c)) → ((c : ColourSpace) → has new.named c ≡ (has old.named c || lists entry.colours c))
     → (new.is_plain ≡ true → ArePlain pair new.bounds) → IsPairKept pair ds old → IsPairKept pair (ds ++ d ∷ []) new
 with_entry pair ds d entry old new found merging format modifier taken named plain kept = record {
@@ -107,7 +108,7 @@ without_entries pair ds d old found none kept = record {
 
 -- before any participant
 pub new_pair : (pair : Pair) (b : ImageBounds) (kept : KeptPair) → kept.bounds ≡ Merged b → IsOwn (Image pair Srgb) b → MergedOf (Image pair Srgb) [] b
-    → ((c : ColourSpace) → has kept.taken c ≡ true) → ((c : ColourSpace) → has kept.named c ≡ false) → kept.format_named ≡ false → kept.modifier_named ≡ false → IsPairKept pair [] kept
+    → ((c : ColourSpace) → has kept.taken c ≡ true) → ((c : ColourSpace) → has kept.named c ≡ false) → says_format kept.named ≡ false → says_modifier kept.named ≡ false → IsPairKept pair [] kept
 new_pair pair b kept is own merged taken named format modifier = record {
   each = λ c. record {
     bounds = rw (taken c, is) (merged_any pair Srgb c [] b merged, All-nil (IsListed (Image pair c)));
@@ -137,10 +138,24 @@ joined_where o ds es false b first second joined left right both = refused_first
 joined_where o ds es true false first second joined left right both = refused_second ColorSpaces o ds es right
 joined_where o ds es true true first second joined left right both = both left right
 
+-- bounds that are the pair's own, where other ones are
+same_merged_of : (o : Offer) (es : List ImageBounds) (a b : ImageBounds) → IsOwn o a → IsOwn o b → MergedOf o es a → MergedOf o es b
+same_merged_of o es a b own own' m = record {
+  in_range = λ f side. subst (λ v. v ≤ most f) (own f side ∙ sym (own' f side)) (m.in_range f side);
+  each = λ f side. subst (λ v. IsMergeOf (Keeps (rule_of f)) (own_value o f side) (value f side) es v) (own f side ∙ sym (own' f side)) (m.each f side);
+}
+
+-- plain bounds stand for what other plain ones stand for
+pub still_plain : (pair : Pair) (ds : List OfferDemand) (old above : KeptBounds) → ArePlain pair old → ArePlain pair above
+    → (c : ColourSpace) → AreKeptBounds (Image pair c) ds above → AreKeptBounds (Image pair c) ds old
+still_plain pair ds old above was plain c are =
+    let (merged, listed) = rw plain.merged at are in
+    rw was.merged (same_merged_of (Image pair c) (bounds_asked (Image pair c) ds) plain.bounds was.bounds (plain.own c) (was.own c) merged, listed)
+
 -- what is kept of a pair for both lists
 pub joined_pair : (pair : Pair) (ds es : List OfferDemand) (a b new : KeptPair)
     → ((c : ColourSpace) → AreKeptBounds (Image pair c) ds a.bounds → AreKeptBounds (Image pair c) es b.bounds → AreKeptBounds (Image pair c) (ds ++ es) new.bounds)
-    → new.format_named ≡ (a.format_named || b.format_named) → new.modifier_named ≡ (a.modifier_named || b.modifier_named)
+    → says_format new.named ≡ (says_format a.named || says_format b.named) → says_modifier new.named ≡ (says_modifier a.named || says_modifier b.named)
     → ((c : ColourSpace) → has new.taken c ≡ (has a.taken c && has b.taken c)) → ((c : ColourSpace) → has new.named c ≡ (has a.named c || has b.named c))
     → (new.is_plain ≡ true → ArePlain pair new.bounds) → IsPairKept pair ds a → IsPairKept pair es b → IsPairKept pair (ds ++ es) new
 joined_pair pair ds es a b new bounds format modifier taken named plain left right = record {

@@ -66,13 +66,3 @@ one_done i pairs new old kept one next here is before = record {
 pub all_done : (i : ℕ) (pairs : List Pair) (new old : List OfferDemand) (kept : List KeptPair) → length kept ≤ i → ArePairsUpTo i pairs new old kept → ArePairsKept pairs new kept
 all_done i pairs new old kept past before =
     record { many = before.many; each = λ k pair one there got. before.done k (omega (arith, past, slice_get_within kept k one got)) pair one there got }
-
--- what is kept of the pair at a place of both lists
-pub pair_joined_at : (i : ℕ) (pairs : List Pair) (ds es : List OfferDemand) (above more : List KeptPair) (new : KeptPair) → ArePairsKept pairs ds above → ArePairsKept pairs es more
-    → ((a b : KeptPair) → slice_get above i ≡ Some a → slice_get more i ≡ Some b → (pair : Pair) (ds es : List OfferDemand) → IsPairKept pair ds a → IsPairKept pair es b → IsPairKept pair (ds ++ es) new)
-    → (pair : Pair) → slice_get pairs i ≡ Some pair → IsPairKept pair (ds ++ es) new
-pair_joined_at i pairs ds es above more new kept_above kept_more joins pair there =
-    let within = slice_get_within pairs i pair there in
-    let a = slice_get_some above i (omega (arith, within, kept_above.many)) in
-    let b = slice_get_some more i (omega (arith, within, kept_more.many)) in
-    joins a.0 b.0 a.1 b.1 pair ds es (kept_above.each i pair a.0 there a.1) (kept_more.each i pair b.0 there b.1)

@@ -36,6 +36,13 @@ colour_bit Rec2100 = 7
 abbrev pub has : Colours → ColourSpace → Bool
 has colours c = bit_at colours.bits (colour_bit c) == 1
 
+-- whether somebody names a pair's format, and its modifier
+abbrev pub says_format : Colours → Bool
+says_format colours = bit_at colours.bits 8 == 1
+
+abbrev pub says_modifier : Colours → Bool
+says_modifier colours = bit_at colours.bits 9 == 1
+
 -- bounds in a colour space: an offer whose colour space somebody doesn't take is refused
 abbrev pub bounds_where : Bool → KeptBounds → KeptBounds
 bounds_where true bounds = bounds
@@ -45,8 +52,8 @@ bounds_where false bounds = Refused ColorSpaces
 abbrev pub in_colour : KeptPair → ColourSpace → KeptOffer
 in_colour kept c = record {
   bounds = bounds_where (has kept.taken c) kept.bounds;
-  format_named = kept.format_named;
-  modifier_named = kept.modifier_named;
+  format_named = says_format kept.named;
+  modifier_named = says_modifier kept.named;
   colour_named = has kept.named c;
 }
 

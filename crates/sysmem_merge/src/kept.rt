@@ -81,8 +81,7 @@ impl KeptOffer {
         ensures { (o : Offer) (ds es : List OfferDemand) → IsKept o ds above.now
             → IsKept o es more.now → IsKept o (ds ++ es) self.new }
     {
-        self.bounds = above.bounds;
-        self.bounds.join(&more.bounds);
+        self.bounds.join_of(&above.bounds, &more.bounds);
         self.format_named = above.format_named | more.format_named;
         self.modifier_named = above.modifier_named | more.modifier_named;
         self.colour_named = above.colour_named | more.colour_named;
@@ -150,6 +149,41 @@ impl KeptBounds {
                     }
                 }
             }
+        }
+    }
+
+    /// Becomes the bounds above, joined with those for more participants, whatever it was.
+    pub(crate) fn join_of(&mut self, above: &KeptBounds, more: &KeptBounds)
+        ensures { (o : Offer) (ds es : List OfferDemand) → AreKeptBounds o ds above.now
+            → AreKeptBounds o es more.now → AreKeptBounds o (ds ++ es) self.new }
+    {
+        if let KeptBounds::Refused(field) = above {
+            return self.become_refused(*field);
+        }
+        if let KeptBounds::Refused(field) = more {
+            return self.become_refused(*field);
+        }
+        *self = *above;
+        self.join(more);
+    }
+
+    /// Becomes the bounds above, whatever it was.
+    pub(crate) fn copy_of(&mut self, above: &KeptBounds)
+        ensures { self.new ≡ above.now }
+    {
+        match above {
+            KeptBounds::Refused(field) => self.become_refused(*field),
+            KeptBounds::Merged(_) => *self = *above,
+        }
+    }
+
+    /// Becomes refused for a field, whatever it was.
+    fn become_refused(&mut self, field: Field)
+        ensures { self.new ≡ Refused field }
+    {
+        match self {
+            KeptBounds::Refused(old) => *old = field,
+            KeptBounds::Merged(_) => *self = KeptBounds::Refused(field),
         }
     }
 

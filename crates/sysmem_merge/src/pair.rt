@@ -1,13 +1,15 @@
 //! What is kept of a pair for the participants that were added: of its offers, one for each colour space.
 
 ghost use Rattle.std.specs.Prelude.{◌≡◌, ◌&&◌, [], ◌++◌, ◌∷◌, List, Some, true};
+ghost use Rattle.sysmem_formats.specs.declared.colour_space.ColourSpace.{ColourSpace as Colour};
 ghost use Rattle.sysmem_formats.specs.declared.colour_space.ColourSpace.TheVariants.{Srgb};
 ghost use Rattle.sysmem_formats.specs.declared.offer.Offer.TheVariants.{Image};
 ghost use Rattle.sysmem_formats.specs.declared.offer.Pair.{Pair as APair};
 ghost use Rattle.sysmem_image.specs.Entries.{first_match};
+ghost use Rattle.sysmem_merge.specs.Aggregate.{AreKeptBounds};
 ghost use Rattle.sysmem_merge.specs.Demands.{OfferDemand};
 ghost use Rattle.sysmem_merge.specs.Offers.{is_named};
-ghost use Rattle.sysmem_merge.specs.Pairs.{ArePlain, IsPairKept};
+ghost use Rattle.sysmem_merge.specs.Pairs.{ArePlain, IsPairKept, says_format, says_modifier};
 
 use crate::colours::Colours;
 use crate::kept::KeptBounds;
@@ -22,11 +24,9 @@ pub(crate) struct KeptPair {
     pub bounds: KeptBounds,
     /// Whether the bounds are merged ones that are no more than the pair's own.
     pub is_plain: bool,
-    pub format_named: bool,
-    pub modifier_named: bool,
     /// The colour spaces that everybody takes.
     pub taken: Colours,
-    /// The colour spaces that somebody names.
+    /// The colour spaces that somebody names, and whether somebody names its format and its modifier.
     pub named: Colours,
 }
 
@@ -38,8 +38,6 @@ impl KeptPair {
         KeptPair {
             bounds: KeptBounds::Merged(ImageBounds::of(&any_offer(pair))),
             is_plain: true,
-            format_named: false,
-            modifier_named: false,
             taken: Colours::all(),
             named: Colours::none(),
         }
@@ -69,17 +67,19 @@ impl KeptPair {
     {
         self.bounds.merge(&any_offer(pair), entry);
         self.is_plain = is_plain(&self.bounds, pair);
-        self.format_named |= entry.format.is_some();
-        self.modifier_named |= entry.modifier.is_some();
         self.taken = self.taken.in_both(&Colours::taken(&entry.colours));
-        self.named = self.named.in_either(&Colours::listed(&entry.colours));
+        self.named = self.named.in_either(&Colours::names(
+            &entry.colours,
+            entry.format.is_some(),
+            entry.modifier.is_some(),
+        ));
     }
 
     /// Whether somebody named the pair's format and its modifier.
     pub(crate) fn is_named_itself(&self) -> bool
-        ensures { result ≡ (self.now.format_named && self.now.modifier_named) }
+        ensures { result ≡ (says_format self.now.named && says_modifier self.now.named) }
     {
-        self.format_named && self.modifier_named
+        self.named.has_pair()
     }
 
     /// Whether somebody named each part of the name of the pair's offer in a colour space.
@@ -87,23 +87,38 @@ impl KeptPair {
         ensures { (pair : APair) (ds : List OfferDemand) → IsPairKept pair ds self.now
             → result ≡ is_named (Image pair colour) ds }
     {
-        self.format_named && self.modifier_named && self.named.has(colour)
+        self.named.has_pair() && self.named.has(colour)
     }
 
-    /// Becomes what is kept for the participants above, then more, whatever it was. Bounds that are plain add nothing.
+    /// Becomes what is kept for the participants above, then more, whatever was kept of the pair. Where all three have plain
+    /// bounds, these are as they are to be.
     pub(crate) fn join_of(&mut self, above: &KeptPair, more: &KeptPair)
-        ensures { (pair : APair) (ds es : List OfferDemand) → IsPairKept pair ds above.now
+        ensures { (pair : APair) (others ds es : List OfferDemand)
+            → IsPairKept pair others self.old → IsPairKept pair ds above.now
             → IsPairKept pair es more.now → IsPairKept pair (ds ++ es) self.new }
     {
-        *self = *above;
-        if !more.is_plain {
-            self.bounds.join(&more.bounds);
+        if !(self.is_plain & above.is_plain & more.is_plain) {
+            self.join_bounds(above, more);
         }
-        self.is_plain &= more.is_plain;
-        self.format_named |= more.format_named;
-        self.modifier_named |= more.modifier_named;
-        self.taken = self.taken.in_both(&more.taken);
-        self.named = self.named.in_either(&more.named);
+        self.taken = above.taken.in_both(&more.taken);
+        self.named = above.named.in_either(&more.named);
+    }
+
+    /// Takes the bounds of the participants above, then more, whatever they were. Bounds that are plain add nothing.
+    fn join_bounds(&mut self, above: &KeptPair, more: &KeptPair)
+        ensures bounds { (pair : APair) (ds es : List OfferDemand) (c : Colour)
+            → IsPairKept pair es more.now → AreKeptBounds (Image pair c) ds above.now.bounds
+            → AreKeptBounds (Image pair c) es more.now.bounds
+            → AreKeptBounds (Image pair c) (ds ++ es) self.new.bounds }
+        ensures plain { (pair : APair) (ds : List OfferDemand) → IsPairKept pair ds above.now
+            → self.new.is_plain ≡ true → ArePlain pair self.new.bounds }
+    {
+        if more.is_plain {
+            self.bounds.copy_of(&above.bounds);
+        } else {
+            self.bounds.join_of(&above.bounds, &more.bounds);
+        }
+        self.is_plain = above.is_plain & more.is_plain;
     }
 }
 

@@ -48,20 +48,10 @@ pub(crate) fn join_pairs(kept: &mut [KeptPair], above: &[KeptPair], more: &[Kept
         → ArePairsKept pairs others kept.old → ArePairsKept pairs ds above.now
         → ArePairsKept pairs es more.now → ArePairsKept pairs (ds ++ es) kept.new }
 {
-    for (index, one) in kept.iter_mut().enumerate() {
-        join_at(one, index, above, more);
+    if above.len() < kept.len() || more.len() < kept.len() {
+        return;
     }
-}
-
-/// Keeps of the pair at this index what those above ask, then more participants.
-fn join_at(kept: &mut KeptPair, index: usize, above: &[KeptPair], more: &[KeptPair])
-    ensures { (a b : _) → slice_get above.now index ≡ Some a → slice_get more.now index ≡ Some b
-        → (pair : APair) (ds es : List OfferDemand) → IsPairKept pair ds a → IsPairKept pair es b
-        → IsPairKept pair (ds ++ es) kept.new }
-{
-    if let Some(above) = above.get(index) {
-        if let Some(more) = more.get(index) {
-            kept.join_of(above, more);
-        }
+    for (index, one) in kept.iter_mut().enumerate() {
+        one.join_of(&above[index], &more[index]);
     }
 }

@@ -1,22 +1,28 @@
 -- What a search from no choices on decides.
-use Rattle.std.proofs.Common.{◌≡◌, ◌<◌, ◌≤◌, ℕ, List, [], Option, Some, None, min, sym, subst, arith}
-use Rattle.std.specs.Prelude.{IfSome}
+use Rattle.std.proofs.Common.{◌≡◌, ◌<◌, ◌≤◌, ℕ, true, List, [], Option, Some, None, is_some, min, sym, ap, ◌∙◌, subst, arith}
+use Rattle.std.specs.Prelude.{IfSome, MatchOption, option_map}
 use Rattle.sysmem_merge.specs.declared.settings.Settings.{Settings}
-use Rattle.sysmem_proof.specs.Base.{BaseFacts}
+use Rattle.sysmem_proof.specs.Base.{BaseFacts, Terms, terms_of}
 use Rattle.sysmem_proof.specs.Chosen.{ChosenFacts}
 use Rattle.sysmem_proof.specs.Matter.{Matter, forest}
 use Rattle.sysmem_proof.specs.declared.verdict.Verdict.TheVariants as verdicts
-use Rattle.sysmem_proof.specs.Verdict.{IsChosen, IsOptimalIn}
+use Rattle.sysmem_proof.specs.Verdict.{IsChosen, IsBestFor, IsOptimalIn, MeetsFor}
 use Rattle.sysmem_sanitise.specs.Platform.{PlatformFacts}
 use Rattle.sysmem_search.specs.Live.{IsLiveUpTo}
 use Rattle.sysmem_search.specs.Question.{MeetsOf, MeetsSoFar, IsBestOf}
-use Rattle.sysmem_search.specs.Searching.{IsFoundOf}
+use Rattle.sysmem_search.specs.Searching.{FirstFound, IsFoundOf}
 use Rattle.sysmem_search.specs.Visits.{IsRaised, AreVisitsIn}
+use Rattle.sysmem_search.proofs.Finding.{of_some}
 use Rattle.sysmem_search.proofs.Shapes.{same_count}
-use Rattle.sysmem_tree.specs.Forest.{count}
+use Rattle.sysmem_tree.specs.Forest.{count, settled}
 use Rattle.sysmem_tree.specs.Node.{NodeFacts}
 use Rattle.sysmem_tree.specs.Selection.{after}
-use Rattle.sysmem_tree.specs.Shape.{by_number, forest_of, shape_of}
+use Rattle.sysmem_tree.specs.Shape.{Member, by_number, forest_of, shape_of}
+
+-- the best settings meet
+best_is_met : (platform : PlatformFacts) (terms : Option Terms) (ms : List Member) (s : Settings) → IsBestFor platform terms ms s → MeetsFor platform terms ms s
+best_is_met platform None ms s best = best.meets
+best_is_met platform (Some terms) ms s best = best
 
 module _ (platform : PlatformFacts) (nodes : List NodeFacts) (domain : ℕ) (base : Option BaseFacts) where
   abbrev matter : Matter
@@ -40,11 +46,33 @@ module _ (platform : PlatformFacts) (nodes : List NodeFacts) (domain : ℕ) (bas
   decided_empty q old new to found same empty none few h =
       let f = subst (λ o. IsFoundOf matter (shape_of nodes domain) [] new 0 to o) none (from_none q old new to found same empty h) in ((few, f.unmet), f.visited)
 
-  pub decided_chosen : (q : Matter) (old new : List ℕ) (to : ℕ) (found : Option Settings) (s : Settings) (chosen : ChosenFacts) → q ≡ matter → old ≡ [] → found ≡ Some s → count (shape_of nodes domain) ≤ 4096
-      → IfSome (after (forest q) old) (λ d. IsFoundOf q d old new 0 to found) → chosen ≡ record { selection = new; settings = s }
+  -- the best settings where a search found some, for what is settled there
+  pub best_found : (q : Matter) (old new : List ℕ) (to : ℕ) (found : Option Settings) (r : Matter) (best : Option Settings) → q ≡ matter → old ≡ [] → is_some found ≡ true
+      → IfSome (after (forest q) old) (λ d. IsFoundOf q d old new 0 to found) → r ≡ matter
+      → IfSome (after (forest r) new) (λ d. MatchOption best ((t : Settings) → ¬ (MeetsOf r (settled d) t)) (IsBestOf r (settled d)))
+      → MatchOption best ⊥ (λ s. IsFoundOf matter (shape_of nodes domain) [] new 0 to (Some s))
+  best_found q old new to None r best same empty any h same' here = absurd (cc any)
+  best_found q old new to (Some s) r best same empty any h same' here = by best
+      (of_some (λ d. MatchOption best ((t : Settings) → ¬ (MeetsOf matter (settled d) t)) (IsBestOf matter (settled d))) (after (shape_of nodes domain) new) f.chosen.members
+      (ap (after (shape_of nodes domain)) f.goes_on ∙ f.chosen.selects.leads)
+      (subst (λ m. IfSome (after (forest m) new) (λ d. MatchOption best ((t : Settings) → ¬ (MeetsOf m (settled d) t)) (IsBestOf m (settled d)))) same' here)) where
+        f : FirstFound (MeetsOf matter) (IsBestOf matter) (MeetsSoFar matter) (shape_of nodes domain) [] new 0 to s
+        f = from_none q old new to (Some s) same empty h
+
+        by : (o : Option Settings) → MatchOption o ((t : Settings) → ¬ (MeetsOf matter (settled f.chosen.members) t)) (IsBestOf matter (settled f.chosen.members))
+            → MatchOption o ⊥ (λ b. IsFoundOf matter (shape_of nodes domain) [] new 0 to (Some b))
+        by None none = none s (best_is_met platform (option_map (terms_of nodes) base) (settled f.chosen.members) s f.chosen.best)
+        by (Some b) is = record {
+          selection = f.selection;
+          goes_on = f.goes_on;
+          chosen = record { members = f.chosen.members; selects = f.chosen.selects; best = is; first = f.chosen.first };
+          visited = f.visited;
+        }
+
+  pub decided_chosen : (new : List ℕ) (to : ℕ) (s : Settings) (chosen : ChosenFacts) → count (shape_of nodes domain) ≤ 4096
+      → IsFoundOf matter (shape_of nodes domain) [] new 0 to (Some s) → chosen ≡ record { selection = new; settings = s }
       → IsOptimalIn platform nodes domain base (verdicts.Chosen chosen) × AreVisitsIn platform nodes domain base (verdicts.Chosen chosen) to
-  decided_chosen q old new to found s chosen same empty some few h is =
-      let f = subst (λ o. IsFoundOf matter (shape_of nodes domain) [] new 0 to o) some (from_none q old new to found same empty h) in
+  decided_chosen new to s chosen few f is =
       let all : (count (shape_of nodes domain) ≤ 4096) × IsChosen (MeetsOf matter) (IsBestOf matter) (shape_of nodes domain) new s
       × IsRaised (IsLiveUpTo (MeetsSoFar matter) (shape_of nodes domain) new) 0 to = (
         few,

@@ -86,9 +86,18 @@ if_some : {X : Type 0} (P : X → Type 0) (o : Option X) → ((x : X) → o ≡ 
 if_some P None h = tt
 if_some P (Some x) h = h x refl
 
-of_some : {X : Type 0} (P : X → Type 0) (o : Option X) (x : X) → o ≡ Some x → IfSome o P → P x
+pub of_some : {X : Type 0} (P : X → Type 0) (o : Option X) (x : X) → o ≡ Some x → IfSome o P → P x
 of_some P None x is h = absurd (cc)
 of_some P (Some y) x is h = subst P (same_Some y x is) h
+
+-- what was found, by whether anything was
+pub some_best : (best : Option Settings) → is_some best ≡ true → (s : Settings) × (best ≡ Some s)
+some_best None is = absurd (cc is)
+some_best (Some s) is = (s, refl)
+
+pub none_best : (best : Option Settings) → is_some best ≡ false → best ≡ None
+none_best None is = refl
+none_best (Some s) is = absurd (cc is)
 
 -- a choice behind choices
 pub after_push : (cs : List ℕ) (f d e : Forest Member) (es : List (Forest Member)) (c : ℕ) → after f cs ≡ Some d → choices d ≡ Some es → slice_get es c ≡ Some e → after f (cs ++ c ∷ []) ≡ Some e

@@ -55,11 +55,14 @@ pub fn search<G: Gate>(
     }
     let mut question = Question::new(alloc, platform, tree, domain, base)?;
     let mut visits = 0;
-    let Some(settings) = search_from(&mut question, gate, &mut visits)? else {
+    if !search_from(&mut question, gate, &mut visits)? {
         return Ok(Found {
             verdict: Verdict::IntersectionEmpty,
             visits,
         });
+    }
+    let Some(settings) = question.best() else {
+        unreachable!();
     };
     Ok(Found {
         verdict: Verdict::Chosen(Chosen::new(question.into_prefix(), settings)),

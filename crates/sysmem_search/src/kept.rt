@@ -1,6 +1,6 @@
 //! What a search keeps of participants, so that each is read once and not again at each prefix that settles it.
 
-ghost use Rattle.std.specs.Prelude.{◌≡◌, ◌↔◌, ◌++◌, List, [], ◌∷◌, IfOk, IsTrue, MatchOption, Option, option_map};
+ghost use Rattle.std.specs.Prelude.{◌≡◌, ◌↔◌, ◌++◌, List, [], ◌∷◌, IfOk, IsTrue, MatchOption, Option, is_some, option_map};
 ghost use Rattle.sysmem_merge.specs.declared.settings.Settings.{Settings as Settled};
 ghost use Rattle.sysmem_proof.specs.Base.{BaseFacts, IsGivenBase, terms_of};
 ghost use Rattle.sysmem_proof.specs.Members.{participants};
@@ -126,6 +126,7 @@ impl Kept {
     }
 
     /// The best settings for the participants, who are all that there are; `None` where none meet them. It takes no memory.
+    #[inline(always)]
     pub(crate) fn best(&self, platform: &Platform, base: Option<&Base>) -> Option<Settings>
         ensures { (nodes : List NodeFacts) (ms : List Member) → IsKeptOf platform.now nodes
             (option_map (λ b. b.now) base.entry) self.now (participants ms) → MatchOption result
@@ -145,6 +146,19 @@ impl Kept {
                 }
             }
         }
+    }
+
+    /// Whether there are best settings for the participants, who are all that there are. It takes no memory.
+    pub(crate) fn has_best(&self, platform: &Platform, base: Option<&Base>) -> bool
+        ensures { (best : Option Settled) × (result ≡ is_some best)
+            × ((nodes : List NodeFacts) (ms : List Member) → IsKeptOf platform.now nodes
+            (option_map (λ b. b.now) base.entry) self.now (participants ms) → MatchOption best
+            ((t : Settled) → ¬ (MeetsFor platform.now
+            (option_map (terms_of nodes) (option_map (λ b. b.now) base.entry)) ms t))
+            (IsBestFor platform.now
+            (option_map (terms_of nodes) (option_map (λ b. b.now) base.entry)) ms)) }
+    {
+        self.best(platform, base).is_some()
     }
 }
 

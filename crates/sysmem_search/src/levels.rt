@@ -160,6 +160,35 @@ pub(crate) fn keep_part(
     if parts[slot].is_some() {
         return Ok(());
     }
+    read_part(parts, slot, child, alloc, platform, tree, base, layout)
+}
+
+/// Reads what the choice of a child settles, and keeps it in its slot. A visit that needn't read it isn't burdened with the memory
+/// that a new part takes on the stack.
+#[cold]
+#[inline(never)]
+fn read_part(
+    parts: &mut Vec<Option<Part>>,
+    slot: usize,
+    child: ChildPlace,
+    alloc: Global,
+    platform: &Platform,
+    tree: &Tree,
+    base: Option<&Base>,
+    layout: &Layout,
+) -> Result<(), AllocError>
+    requires within { child < 128 }
+    requires slot { IsSlot child slot }
+    requires room { slot < length parts.old.items }
+    requires child { HasChild layout.now child }
+    requires few { length (share_of layout.now child) ≤ 128 }
+    requires nodes { HoldsNodes layout.now tree.now.nodes }
+    ensures parts { AreParts platform.now tree.now.nodes (option_map (λ b. b.now) base.entry)
+        layout.now parts.old.items → AreParts platform.now tree.now.nodes
+        (option_map (λ b. b.now) base.entry) layout.now parts.new.items }
+    ensures there { OnOk result ((own : ℕ) → IsSlot child own → (part : APart)
+        × (slice_get parts.new.items own ≡ Some (Some part))) }
+{
     let walk = layout.settled_with(child);
     let part = part_of(alloc, platform, tree, base, layout, walk)?;
     parts[slot] = Some(part);

@@ -1,6 +1,6 @@
 //! What a search asks where it stands.
 
-ghost use Rattle.std.specs.Prelude.{◌≡◌, ◌≤◌, ◌<◌, ◌↔◌, ◌++◌, [], ◌∷◌, ℕ, List, length, option_map, IfOk, IfSome, IsTrue, MatchOption, OnOk};
+ghost use Rattle.std.specs.Prelude.{◌≡◌, ◌≤◌, ◌<◌, ◌↔◌, ◌++◌, [], ◌∷◌, ℕ, List, length, is_some, option_map, Option, IfOk, IfSome, IsTrue, MatchOption, OnOk};
 ghost use Rattle.sysmem_merge.specs.declared.settings.Settings.{Settings as Settled};
 ghost use Rattle.sysmem_search.specs.Live.{SomeMeet};
 ghost use Rattle.sysmem_proof.specs.Conflict.{IsConflictFor};
@@ -152,6 +152,17 @@ impl<'a> Question<'a> {
     {
         let level = &self.levels[self.prefix.choices().len()];
         level.kept.best(self.platform, self.base)
+    }
+
+    /// Whether there are best settings for the participants of a selection. It takes no memory.
+    pub(crate) fn has_best(&self) -> bool
+        ensures { (best : Option Settled) × (result ≡ is_some best)
+            × IfSome (after (forest self.now.matter) self.now.choices) (λ d. MatchOption best
+            ((t : Settled) → ¬ (MeetsOf self.now.matter (settled d) t))
+            (IsBestOf self.now.matter (settled d))) }
+    {
+        let level = &self.levels[self.prefix.choices().len()];
+        level.kept.has_best(self.platform, self.base)
     }
 
     /// A conflict of the participants that the choices settle, where no settings meet them.

@@ -1,6 +1,7 @@
 //! The search from a prefix on.
 
-ghost use Rattle.std.specs.Prelude.{◌≡◌, ◌<◌, ◌≤◌, length, IfOk, IfSome, OnOk};
+ghost use Rattle.std.specs.Prelude.{◌≡◌, ◌<◌, ◌≤◌, length, is_some, Option, IfOk, IfSome, OnOk};
+ghost use Rattle.sysmem_merge.specs.declared.settings.Settings.{Settings as Settled};
 ghost use Rattle.sysmem_proof.specs.Matter.{forest};
 ghost use Rattle.sysmem_search.specs.Searching.{IsFoundOf};
 ghost use Rattle.sysmem_tree.specs.Selection.{IsPrefix, after};
@@ -8,40 +9,40 @@ ghost use Rattle.sysmem_tree.specs.Selection.{IsPrefix, after};
 use crate::gate::Gate;
 use crate::question::Question;
 use std::alloc::AllocError;
-use sysmem_merge::Settings;
 use sysmem_proof::laws::cuts_lose_nothing;
 
-/// The best settings for the first selection that begins with the question's choices and that any settings meet, and then the choices go on
-/// to that selection; `None` where no settings meet such a selection, and then they are as before. What is settled by a prefix that can't be
-/// met isn't gone on with. The visits of prefixes are counted, at most to `u64::MAX`.
+/// Whether any settings meet a selection that begins with the question's choices, and then the choices go on to the first such
+/// selection; where none do, they are as before. What is settled by a prefix that can't be met isn't gone on with. The visits of
+/// prefixes are counted, at most to `u64::MAX`.
 pub(crate) fn search_from<G: Gate>(
     question: &mut Question<'_>,
     gate: &G,
     visits: &mut u64,
-) -> Result<Option<Settings>, AllocError>
+) -> Result<bool, AllocError>
     requires prefix { IsPrefix (forest question.old.matter) question.old.choices }
     requires room { length question.old.choices ≤ 128 }
     ensures matter { OnOk result (question.new.matter ≡ question.old.matter) }
     ensures found { IfOk result (λ found.
-        IfSome (after (forest question.old.matter) question.old.choices)
+        (best : Option Settled) × (found ≡ is_some best)
+        × IfSome (after (forest question.old.matter) question.old.choices)
         (λ d. IsFoundOf question.old.matter d question.old.choices question.new.choices visits.old
-        visits.new found)) }
+        visits.new best)) }
 {
     gate.at_prefix(question.prefix().choices().len() as u32);
     *visits = visits.saturating_add(1);
     let Some(children) = question.children() else {
-        return Ok(question.best());
+        return Ok(question.has_best());
     };
     if !question.is_met() {
         cuts_lose_nothing();
-        return Ok(None);
+        return Ok(false);
     }
     for choice in 0..children {
         question.enter(choice)?;
-        if let Some(settings) = search_from(question, gate, visits)? {
-            return Ok(Some(settings));
+        if search_from(question, gate, visits)? {
+            return Ok(true);
         }
         question.leave();
     }
-    Ok(None)
+    Ok(false)
 }

@@ -1,6 +1,6 @@
-use Rattle.std.proofs.Common.{arith, ◌++◌}
-use Rattle.std.proofs.lemmas.Option.{slice_get-get_or}
-use Rattle.sysmem_merge.proofs.PairLists.{none_done, one_done, all_done, pair_joined_at}
+use Rattle.std.proofs.Common.{arith, ◌++◌, refl}
+use Rattle.std.proofs.lemmas.Option.{slice_get-get_or, slice_get_read}
+use Rattle.sysmem_merge.proofs.PairLists.{none_done, one_done, all_done}
 use Rattle.sysmem_merge.proofs.pairs.join_pairs.Goals as goal
 
 pub loop-index-init : goal.loop-index-init
@@ -8,9 +8,12 @@ loop-index-init c pairs others ds es was above more = none_done pairs (ds ++ es)
 
 pub loop-index-preserved : goal.loop-index-preserved
 loop-index-preserved c pairs others ds es was above more =
-    one_done c.loop-index.index pairs (ds ++ es) others c.loop-index.kept _ c.join_at.new.kept
-    (slice_get-get_or c.loop-index.kept c.loop-index.index c.index-kept-index.result (omega arith))
-    (λ pair there _. pair_joined_at c.loop-index.index pairs ds es c.args.above.now c.args.more.now c.join_at.new.kept above more c.join_at.ensures pair there)
+    let i = c.loop-index.index in
+    let first = slice_get_read c.args.above.now _ i c.index-above-index.result refl (omega arith) c.index-above-index.is in
+    let second = slice_get_read c.args.more.now _ i c.index-more-index.result refl (omega arith) c.index-more-index.is in
+    one_done i pairs (ds ++ es) others c.loop-index.kept _ c.join_of.new.self
+    (slice_get-get_or c.loop-index.kept i c.index-kept-index.result (omega arith))
+    (λ pair there one. c.join_of.ensures pair others ds es one (above.each i pair c.index-above-index.result there first) (more.each i pair c.index-more-index.result there second))
     (c.loop-index.invariant pairs others ds es was above more)
 
 pub returns : goal.returns

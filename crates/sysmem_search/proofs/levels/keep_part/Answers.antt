@@ -1,8 +1,6 @@
 -- The part stands in its child's slot.
 use Rattle.std.proofs.Common.{Some, ◌∙◌, ap}
-use Rattle.std.specs.Prelude.{option_map}
-use Rattle.sysmem_search.proofs.Entering.{at_index, only_slot, some_there, part_kept, part_there}
-use Rattle.sysmem_tree.specs.OpenGroups.{share_of}
+use Rattle.sysmem_search.proofs.Entering.{at_index, only_slot, some_there}
 use Rattle.sysmem_search.proofs.levels.keep_part.Goals as goal
 
 pub returns-then-is_some-clause-there : goal.returns-then-is_some-clause-there
@@ -12,13 +10,4 @@ returns-then-is_some-clause-there c = λ slot own.
     (part, only_slot c.reserve_slot.new.parts.items c.args.child slot c.slot_of-slot.result (Some part) own c.slot_of-slot.ensures (here ∙ ap Some is))
 
 pub returns-clause-parts : goal.returns-clause-parts
-returns-clause-parts c = λ are. part_kept c.args.platform.now c.args.tree.now.nodes (option_map (λ b. b.now) c.args.base) c.args.layout.now c.reserve_slot.new.parts.items c.args.child c.slot_of-slot.result
-    c.in_ok-part.part c.slot_of-slot.ensures (c.in_ok-part.ensures (share_of c.args.layout.now c.args.child) c.settled_with-walk.ensures)
-    (λ place slot part own here. are place slot part own (c.reserve_slot.ensures.kept slot part here))
-
-pub returns-clause-there : goal.returns-clause-there
-returns-clause-there c = λ slot own. (
-  c.in_ok-part.part,
-  only_slot _ c.args.child slot c.slot_of-slot.result (Some c.in_ok-part.part) own c.slot_of-slot.ensures
-      (part_there c.reserve_slot.new.parts.items c.slot_of-slot.result c.in_ok-part.part c.in_ok-reserve_slot.ensures.there),
-)
+returns-clause-parts c = λ are. c.read_part.ensures.parts (λ place slot part own here. are place slot part own (c.reserve_slot.ensures.kept slot part here))

@@ -3,4 +3,4 @@ use Rattle.sysmem_merge.proofs.kept.KeptOffer.join_of.Goals as goal
 
 pub returns : goal.returns
 returns c o ds es left right =
-    kept_together o ds es c.args.above.now c.args.more.now _ (c.join.ensures o ds es left.bounds right.bounds) left right
+    kept_together o ds es c.args.above.now c.args.more.now _ (c.join_of.ensures o ds es left.bounds right.bounds) left right

@@ -9,4 +9,4 @@ pub returns : goal.returns
 returns c = new_pair c.args.pair c.of.result _ refl
     (subst (λ (o : Offer). IsOwn o c.of.result) c.any_offer.ensures c.of.ensures.own)
     (subst (λ (o : Offer). MergedOf o [] c.of.result) c.any_offer.ensures c.of.ensures.merged)
-    c.all.ensures c.none.ensures refl refl
+    c.all.ensures c.none.ensures.colours c.none.ensures.format c.none.ensures.modifier
