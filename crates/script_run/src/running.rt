@@ -218,8 +218,8 @@ fn report_on_script<D: Decider>(
     decider: &mut D,
 ) -> Result<Report, ParseFault>
     requires { (platform : PlatformFacts) → D.gave decider.old platform [] }
-    ensures report { IfOk result (λ report. IsReported (script_seen script).platform
-        (script_seen script).calls (D.gave decider.new (script_seen script).platform)
+    ensures report { IfOk result (λ report. IsReported (script_seen script.entry).platform
+        (script_seen script.entry).calls (D.gave decider.new (script_seen script.entry).platform)
         (string_bytes report.text) report.starved) }
     ensures fault { IfErr result (λ fault. fault ≡ ParseFault.NoMemory) }
 {
