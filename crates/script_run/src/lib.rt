@@ -26,4 +26,4 @@ mod telling;
 
 pub use checked_file::check_file;
 pub use fault::RunFault;
-pub use running::{Ended, run, run_with_proof};
+pub use running::{Ended, run, run_leaving, run_with_proof};

@@ -50,8 +50,26 @@ pub fn run<R: Source, W: Sink>(
     ensures write_fault { IsCausedBy (result ≡ Err RunFault.Write)
         (W.failures writer.old) (W.failures writer.new) }
 {
+    let mut left = None;
+    run_leaving(alloc, reader, writer, &mut left)
+}
+
+/// `run`, which leaves the value that the bytes spell, if they do, in `left`: where the process ends next, it needn't be dropped.
+pub fn run_leaving<R: Source, W: Sink>(
+    alloc: Global,
+    reader: &mut R,
+    writer: &mut W,
+    left: &mut Option<Value>,
+) -> Result<Ended, RunFault>
+    ensures ran { Ran result
+        (R.remaining reader.old) (W.contents writer.old) (W.contents writer.new) }
+    ensures read_fault { IsCausedBy (result ≡ Err RunFault.Read)
+        (R.failures reader.old) (R.failures reader.new) }
+    ensures write_fault { IsCausedBy (result ≡ Err RunFault.Write)
+        (W.failures writer.old) (W.failures writer.new) }
+{
     let bytes = read_up_to_limit(alloc, reader, LONGEST)?;
-    let report = report_on(alloc, bytes, &mut Searching)?;
+    let report = report_leaving(alloc, bytes, &mut Searching, left)?;
     write_fully(writer, report.text.as_bytes())?;
     if report.starved {
         return Ok(Ended::MemoryRefused);
@@ -148,8 +166,26 @@ fn report_on<D: Decider>(
     requires { (platform : PlatformFacts) → D.gave decider.old platform [] }
     ensures { GivesOneOf report_seen result (RunsWith (D.gave decider.new) bytes.items) }
 {
+    let mut left = None;
+    report_leaving(alloc, bytes, decider, &mut left)
+}
+
+/// The same, where the value that the bytes spell, if they do, is left in `left`.
+fn report_leaving<D: Decider>(
+    alloc: Global,
+    bytes: Vec<u8>,
+    decider: &mut D,
+    left: &mut Option<Value>,
+) -> Result<Report, ParseFault>
+    requires { (platform : PlatformFacts) → D.gave decider.old platform [] }
+    ensures { GivesOneOf report_seen result (RunsWith (D.gave decider.new) bytes.items) }
+{
     match parse_owned(alloc, bytes) {
-        Ok(value) => report_on_value(alloc, &value, decider),
+        Ok(value) => {
+            let report = report_on_value(alloc, &value, decider);
+            *left = Some(value);
+            report
+        }
         Err(fault) => Err(fault),
     }
 }
@@ -171,26 +207,23 @@ fn report_on_value<D: Decider>(
     ensures { GivesOneOf report_seen result (ValueRunsTo (D.gave decider.new) (view value.now)) }
 {
     match read_script(alloc, value) {
-        Ok(script) => report_on_script(alloc, &script, decider),
+        Ok(script) => report_on_script(alloc, script, decider),
         Err(fault) => Err(fault),
     }
 }
 
 fn report_on_script<D: Decider>(
     alloc: Global,
-    script: &Script<'_>,
+    script: Script<'_>,
     decider: &mut D,
 ) -> Result<Report, ParseFault>
     requires { (platform : PlatformFacts) → D.gave decider.old platform [] }
-    ensures report { IfOk result (λ report. IsReported (script_seen script.now).platform
-        (script_seen script.now).calls (D.gave decider.new (script_seen script.now).platform)
+    ensures report { IfOk result (λ report. IsReported (script_seen script.entry).platform
+        (script_seen script.entry).calls (D.gave decider.new (script_seen script.entry).platform)
         (string_bytes report.text) report.starved) }
     ensures fault { IfErr result (λ fault. fault ≡ ParseFault.NoMemory) }
 {
-    let Ok(platform) = script.platform.copy() else {
-        return Err(ParseFault::NoMemory);
-    };
-    match report_of(alloc, platform, &script.calls, decider) {
+    match report_of(alloc, script.platform, &script.calls, decider) {
         Ok(report) => Ok(report),
         Err(_) => Err(ParseFault::NoMemory),
     }

@@ -11,7 +11,7 @@ use Rattle.sysmem_replay.specs.CommandLine.{AsksForNone, IsCheckOf, IsRunOf, che
 use Rattle.sysmem_replay.proofs.Filled.{each_has_value, faults, given_is_read, level_parts}
 
 -- the subcommands as clap builds them
-run_shape : Shape
+unfoldable pub run_shape : Shape
 run_shape = built_leaf (inherited (with_leaf_noted (marked_built replay_app.top)) run_app.top)
 
 check_shape : Shape

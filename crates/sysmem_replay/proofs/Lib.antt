@@ -1,3 +1,4 @@
 mod Asked
 mod Entries
 mod Filled
+mod Plain

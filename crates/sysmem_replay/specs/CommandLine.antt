@@ -1,7 +1,8 @@
 -- The command line: what clap is given of it, and which job its entries ask for.
-use Rattle.std.specs.Prelude.{◌≡◌, List, true, Option, Some, codes, option_map}
+use Rattle.std.specs.Prelude.{◌≡◌, List, [], ◌∷◌, true, Option, Some, None, codes, option_map}
 use Rattle.clap.specs.Words.{App, Row, Rule, Shape, Text, first_of, new_app, new_rule, with_rule}
 use Rattle.clap.specs.Words.{with_subcommand}
+use Rattle.clap.specs.Lexer.{strip_byte}
 use Rattle.clap.specs.Simple.{on_top}
 use Rattle.sysmem_replay.specs.declared.words.Job.{Job}
 use Rattle.sysmem_replay.specs.declared.words.Job.TheVariants.{Run, Check}
@@ -66,3 +67,8 @@ AsksForJob entries (Check file proof) = IsCheckOf entries file.now proof.now
 pub record AsksForNone (entries : Text × List Row) : Type 0 where
   pub run : (file : Text) (proof : Option Text) → ¬ IsRunOf entries file proof
   pub check : (file proof : Text) → ¬ IsCheckOf entries file proof
+
+-- the words are `run` and this file, which doesn't begin with a hyphen
+pub record IsPlainRun (words : List Text) (file : Text) : Type 0 where
+  pub two : words ≡ codes "run" ∷ file ∷ []
+  pub plain : strip_byte 45 file ≡ None

@@ -6,13 +6,14 @@
 mod ending;
 mod words;
 
-use byte_transfer::Counted;
+use byte_transfer::{Counted, Sink, Source};
 use clap::Error;
 pub use ending::{Ending, ending_of, refusal_ending};
-pub use script_run::{Ended, RunFault, check_file, run, run_with_proof};
+pub use script_run::{Ended, RunFault, check_file, run, run_leaving, run_with_proof};
+use std::alloc::Global;
 use std::fs::File;
 use std::process::ExitCode;
-use std::{env, io};
+use std::{env, io, mem};
 pub use words::{Job, read_words};
 
 fn main(rt: HostRuntime) -> ExitCode {
@@ -71,13 +72,25 @@ fn run_file(rt: &HostRuntime, file: &str, proof: Option<&str>) -> Result<Ended, 
     let mut reader = Counted::new(script);
     let mut writer = Counted::new(io::writer(rt));
     let Some(out) = proof else {
-        return run(rt.alloc(), &mut reader, &mut writer);
+        return run_last(rt.alloc(), &mut reader, &mut writer);
     };
     let Ok(certificate) = File::create(rt, out) else {
         return Err(RunFault::Write);
     };
     let mut certificate = Counted::new(certificate);
     run_with_proof(rt.alloc(), &mut reader, &mut writer, &mut certificate)
+}
+
+/// Replays as the last thing that the process does: the script's value goes with it.
+fn run_last<R: Source, W: Sink>(
+    alloc: Global,
+    reader: &mut R,
+    writer: &mut W,
+) -> Result<Ended, RunFault> {
+    let mut left = None;
+    let ended = run_leaving(alloc, reader, writer, &mut left);
+    mem::forget(left);
+    ended
 }
 
 /// Opens the script and then the certificate, and tests that.

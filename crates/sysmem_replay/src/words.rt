@@ -2,7 +2,7 @@
 ghost use Rattle.std.specs.Prelude.{◌≡◌, IfNone, IfOk, IfSome, IsSomeAnd, false, map, string_bytes};
 ghost use Rattle.clap.specs.Words.{FailsBy, app_of, fault_of, subcommand_of, subcommand_rows_of};
 ghost use Rattle.clap.specs.declared.builder.command.Command.TheViews.{out-Command as fields_of};
-ghost use Rattle.sysmem_replay.specs.CommandLine.{AsksForJob, AsksForNone, check_app, replay_app, run_app, runs_app};
+ghost use Rattle.sysmem_replay.specs.CommandLine.{AsksForJob, AsksForNone, IsPlainRun, check_app, replay_app, run_app, runs_app};
 
 use clap::error::ErrorKind;
 use clap::{Arg, ArgMatches, Command, Error};
@@ -29,6 +29,30 @@ pub enum Job<'a> {
 /// Reads the words behind the program's name. It answers a request for help by an `Err` of the kind
 /// `DisplayHelp`, and want of memory by one of the kind `OutOfMemory`.
 pub fn read_words<'a>(alloc: Global, words: &'a [String]) -> Result<Job<'a>, Error>
+    ensures entries { IfOk result (λ job. IsSomeAnd (subcommand_of replay_app
+        (map string_bytes words.entry.now)) (λ entries. AsksForJob entries job)) }
+    ensures kinds { FailsBy (fault_of replay_app (map string_bytes words.entry.now)) result }
+{
+    if let Some(file) = plain_run(words) {
+        return Ok(Job::Run { file, proof: None });
+    }
+    parse_words(alloc, words)
+}
+
+/// The file of the words `run FILE`, where it doesn't begin as an option does: what these ask for is told without the parser.
+fn plain_run<'a>(words: &'a [String]) -> Option<&'a str>
+    ensures { IfSome result (λ file. IsPlainRun (map string_bytes words.entry.now) file.now) }
+{
+    let (job, others) = words.split_first()?;
+    let (file, rest) = others.split_first()?;
+    if job.as_str() != "run" || !rest.is_empty() || file.as_bytes().starts_with(b"-") {
+        return None;
+    }
+    Some(file.as_str())
+}
+
+/// Reads the words by the parser.
+fn parse_words<'a>(alloc: Global, words: &'a [String]) -> Result<Job<'a>, Error>
     ensures entries { IfOk result (λ job. IsSomeAnd (subcommand_of replay_app
         (map string_bytes words.entry.now)) (λ entries. AsksForJob entries job)) }
     ensures kinds { FailsBy (fault_of replay_app (map string_bytes words.entry.now)) result }

@@ -1,29 +1,13 @@
-use Rattle.std.proofs.Common.{◌≡◌, ◌∙◌, ap, sym, subst, map, string_bytes, [], IfSome}
-use Rattle.clap.specs.Words.{app_of, fault_of}
-use Rattle.clap.specs.Faults.{is_simple_and_free}
-use Rattle.sysmem_replay.specs.CommandLine.{AsksForNone, replay_app}
-use Rattle.clap.specs.Words.{HasKind, is_simple, subcommand_of, subcommand_rows_of}
-use Rattle.clap.proofs.FaultLemmas.{failed_up}
-use Rattle.sysmem_replay.proofs.Asked.{job_asked, none_asked}
+use Rattle.std.proofs.Common.{◌≡◌, ◌∙◌, ap, sym, subst, None, IsSomeAnd}
+use Rattle.clap.specs.Words.{fault_of, subcommand_of}
+use Rattle.sysmem_replay.specs.CommandLine.{IsRunOf, replay_app}
+use Rattle.sysmem_replay.proofs.Plain.{plain_asked, plain_fault}
 use Rattle.sysmem_replay.proofs.words.read_words.Goals as goal
 
+pub returns-in-Some-clause-entries : goal.returns-in-Some-clause-entries
+returns-in-Some-clause-entries c =
+    subst (λ words. IsSomeAnd (subcommand_of replay_app words) (λ e. IsRunOf e c.in-Some.file.now None)) (sym c.in-Some.ensures.two)
+    (plain_asked c.in-Some.file.now c.in-Some.ensures.plain)
+
 pub returns-in-Some-clause-kinds : goal.returns-in-Some-clause-kinds
-returns-in-Some-clause-kinds c =
-    let app : app_of c.in_ok-command.command ≡ replay_app = c.in_ok-command.ensures in
-    ap (λ a. fault_of a (map string_bytes c.args.words.now)) (sym app) ∙ c.in_ok-matches.ensures.kinds (ap is_simple_and_free app)
-
-pub returns-in_err-matches-clause-kinds : goal.returns-in_err-matches-clause-kinds
-returns-in_err-matches-clause-kinds c =
-    let app : app_of c.in_ok-command.command ≡ replay_app = c.in_ok-command.ensures in
-    failed_up c.from_residual-in_err-matches.result _ _ _ c.from_residual-in_err-matches.ensures.1
-    (subst (λ a. HasKind (fault_of a (map string_bytes c.args.words.now)) c.in_err-matches.field-0.0) app (c.in_err-matches.ensures.kinds (ap is_simple_and_free app)))
-
-pub returns-clause-kinds : goal.returns-clause-kinds
-returns-clause-kinds c =
-    let app : app_of c.in_ok-command.command ≡ replay_app = c.in_ok-command.ensures in
-    let words = map string_bytes c.args.words.now in
-    let fine : fault_of replay_app words ≡ [] = ap (λ a. fault_of a words) (sym app) ∙ c.in_ok-matches.ensures.kinds (ap is_simple_and_free app) in
-    let rows : subcommand_rows_of c.in_ok-matches.matches ≡ subcommand_of replay_app words =
-    (c.in_ok-matches.ensures.ok.2 (ap is_simple app)).1 ∙ ap (λ a. subcommand_of a words) app in
-    let unasked : IfSome (subcommand_rows_of c.in_ok-matches.matches) AsksForNone = c.in-None.ensures.none in
-    absurd (none_asked (subcommand_of replay_app words) (subst (λ o. IfSome o AsksForNone) rows unasked) (job_asked words fine))
+returns-in-Some-clause-kinds c = ap (fault_of replay_app) c.in-Some.ensures.two ∙ plain_fault c.in-Some.file.now c.in-Some.ensures.plain

@@ -1,7 +1,7 @@
 use Rattle.std.proofs.lemmas.Result.{err_from_is_err_and}
 use Rattle.script_run.specs.Outcome.{report_seen}
 use Rattle.script_run.proofs.RunLemmas.{ran-part, ran-refused}
-use Rattle.script_run.proofs.running.run.Goals as goal
+use Rattle.script_run.proofs.running.run_leaving.Goals as goal
 
 pub returns-in_err-report-clause-ran : goal.returns-in_err-report-clause-ran
 returns-in_err-report-clause-ran g c =
