@@ -1,5 +1,6 @@
 //! Records that are equal, a platform and its copy, and records that differ in one place.
 
+use crate::rows::are_equal;
 use serde_json::Value;
 use std::alloc::Global;
 use std::test::Fail;
@@ -23,21 +24,53 @@ fn had(alloc: Global, id: u32, colours: &str) -> Result<Platform, Fail> {
     Ok(read_platform(alloc, &value)?)
 }
 
+/// Whether the participant of heap 1 and width 3 is equal to another, and whether it isn't.
+fn same_asked(alloc: Global, id: u32, width: u32) -> Result<[bool; 2], Fail> {
+    let first = asked(alloc, 1, 3)?;
+    let other = asked(alloc, id, width)?;
+    Ok([first == other, first != other])
+}
+
 #[test]
 fn participants(rt: HostRuntime) -> Result<(), Fail> {
-    let first = asked(rt.alloc(), 1, 3)?;
-    assert!(rt; first == asked(rt.alloc(), 1, 3)?);
-    assert!(rt; first != asked(rt.alloc(), 2, 3)?);
-    assert!(rt; first != asked(rt.alloc(), 1, 4)?);
+    are_equal(
+        &rt,
+        &[
+            (same_asked(rt.alloc(), 1, 3)?, [true, false]),
+            (same_asked(rt.alloc(), 2, 3)?, [false, true]),
+            (same_asked(rt.alloc(), 1, 4)?, [false, true]),
+        ],
+    );
     Ok(())
+}
+
+/// Whether the platform of heap 1 in sRGB is equal to another, and whether it isn't.
+fn same_had(alloc: Global, id: u32, colours: &str) -> Result<[bool; 2], Fail> {
+    let first = had(alloc, 1, "\"SRGB\"")?;
+    let other = had(alloc, id, colours)?;
+    Ok([first == other, first != other])
+}
+
+/// The same of its copy.
+fn same_copy(alloc: Global) -> Result<[bool; 2], Fail> {
+    let first = had(alloc, 1, "\"SRGB\"")?;
+    let other = first.copy()?;
+    Ok([first == other, first != other])
 }
 
 #[test]
 fn platforms(rt: HostRuntime) -> Result<(), Fail> {
-    let first = had(rt.alloc(), 1, "\"SRGB\"")?;
-    assert!(rt; first == had(rt.alloc(), 1, "\"SRGB\"")?);
-    assert!(rt; first == first.copy()?);
-    assert!(rt; first != had(rt.alloc(), 2, "\"SRGB\"")?);
-    assert!(rt; first != had(rt.alloc(), 1, "\"SRGB\",\"REC709\"")?);
+    are_equal(
+        &rt,
+        &[
+            (same_had(rt.alloc(), 1, "\"SRGB\"")?, [true, false]),
+            (same_copy(rt.alloc())?, [true, false]),
+            (same_had(rt.alloc(), 2, "\"SRGB\"")?, [false, true]),
+            (
+                same_had(rt.alloc(), 1, "\"SRGB\",\"REC709\"")?,
+                [false, true],
+            ),
+        ],
+    );
     Ok(())
 }

@@ -1,6 +1,8 @@
 //! Bounds, corners and entries, as they were worked out by hand.
 
-use std::test::Fail;
+ghost use Rattle.std.specs.Prelude.{◌≤◌};
+
+use crate::rows::are_equal;
 use sysmem_counts::Field;
 use sysmem_formats::{ColourSpace, Modifier, Offer, Pair, PixelFormat};
 use sysmem_image::{
@@ -11,6 +13,11 @@ use sysmem_image::{
 
 fn offer(format: PixelFormat, modifier: Modifier) -> Offer {
     Offer::Image(Pair { format, modifier }, ColourSpace::Srgb)
+}
+
+/// Linear images of the format.
+fn linear(format: PixelFormat) -> Offer {
+    offer(format, Modifier::Linear)
 }
 
 /// An entry of a format that asks for nothing else.
@@ -35,13 +42,77 @@ fn at_least(format: PixelFormat, width: u32, height: u32) -> Entry {
     asked
 }
 
+/// The entry, with rows of a multiple of so many bytes.
+fn rows_of(mut asked: Entry, bytes: u32) -> Entry
+    requires some { 1 ≤ bytes }
+    requires small { bytes ≤ 65536 }
+{
+    asked.bounds.asked.bytes_per_row_divisor = bytes;
+    asked
+}
+
+/// The entry, with rows of a multiple of so many bytes that end at a pixel.
+fn rows_to_pixel(asked: Entry, bytes: u32) -> Entry
+    requires some { 1 ≤ bytes }
+    requires small { bytes ≤ 65536 }
+{
+    let mut asked = rows_of(asked, bytes);
+    asked.bounds.at_pixel_boundary = true;
+    asked
+}
+
+/// The entry, with images of so many pixels at most.
+fn of_pixels(mut asked: Entry, most: u64) -> Entry {
+    asked.bounds.asked.max_width_times_height = most;
+    asked
+}
+
+/// The entry, with images of this size at most.
+fn at_most(mut asked: Entry, width: u32, height: u32) -> Entry {
+    asked.bounds.asked.max_size = Size { width, height };
+    asked
+}
+
+/// The entry, with images that have to have sides of so many pixels at most.
+fn small(mut asked: Entry, width: u32, height: u32) -> Entry {
+    asked.bounds.asked.required_min_size = Size { width, height };
+    asked
+}
+
+/// An entry of R8 images of 16 by 16 pixels at least.
+fn large() -> Entry {
+    let mut asked = entry(PixelFormat::R8);
+    asked.bounds.asked.min_size = Size {
+        width: 16,
+        height: 16,
+    };
+    asked
+}
+
+/// The entry, with sizes of which the width is a multiple of this, and the height of that.
+fn aligned(mut asked: Entry, width: u32, height: u32) -> Entry
+    requires width { 1 ≤ width }
+    requires height { 1 ≤ height }
+{
+    asked.bounds.asked.size_alignment = Size { width, height };
+    asked
+}
+
+/// An entry of R8 images with rows of a multiple of so many bytes.
+fn r8_rows(bytes: u32) -> Entry
+    requires some { 1 ≤ bytes }
+    requires small { bytes ≤ 65536 }
+{
+    rows_of(entry(PixelFormat::R8), bytes)
+}
+
 /// The corner of merged entries, or the field that refuses it.
-fn smallest(offer: &Offer, entries: &[Entry]) -> Result<Corner, Field> {
-    let mut bounds = ImageBounds::of(offer);
+fn smallest(offer: Offer, entries: &[Entry]) -> Result<Corner, Field> {
+    let mut bounds = ImageBounds::of(&offer);
     for entry in entries {
-        merge_into(&mut bounds, entry, offer)?;
+        merge_into(&mut bounds, entry, &offer)?;
     }
-    corner(&bounds, offer)
+    corner(&bounds, &offer)
 }
 
 fn image(width: u32, height: u32, bytes_per_row: u32, bytes: u128) -> Result<Corner, Field> {
@@ -55,75 +126,52 @@ fn image(width: u32, height: u32, bytes_per_row: u32, bytes: u128) -> Result<Cor
 
 #[test]
 fn bgra_1080p(rt: HostRuntime) {
-    let mut asked = at_least(PixelFormat::B8G8R8A8, 1920, 1080);
-    asked.bounds.asked.bytes_per_row_divisor = 64;
-    let offer = offer(PixelFormat::B8G8R8A8, Modifier::Linear);
-    assert_eq!(rt;
-        smallest(&offer, &[asked]),
-        image(1920, 1080, 7680, 8294400)
-    );
+    let asked = rows_of(at_least(PixelFormat::B8G8R8A8, 1920, 1080), 64);
+    let found = smallest(linear(PixelFormat::B8G8R8A8), &[asked]);
+    are_equal(&rt, &[(found, image(1920, 1080, 7680, 8294400))]);
 }
 
 #[test]
 fn nv12(rt: HostRuntime) {
-    let offer = offer(PixelFormat::NV12, Modifier::Linear);
-    let mut asked = at_least(PixelFormat::NV12, 1920, 1080);
-    asked.bounds.asked.size_alignment = Size {
-        width: 16,
-        height: 16,
-    };
-    assert_eq!(rt;
-        smallest(&offer, &[asked]),
-        image(1920, 1088, 1920, 3133440)
+    let nv12 = linear(PixelFormat::NV12);
+    let asked = aligned(at_least(PixelFormat::NV12, 1920, 1080), 16, 16);
+    are_equal(
+        &rt,
+        &[
+            (smallest(nv12, &[asked]), image(1920, 1088, 1920, 3133440)),
+            (
+                smallest(nv12, &[at_least(PixelFormat::NV12, 3, 3)]),
+                image(4, 4, 4, 24),
+            ),
+            (smallest(nv12, &[]), image(2, 2, 2, 6)),
+            (smallest(Offer::NoImage, &[]), image(1, 1, 1, 0)),
+        ],
     );
-    assert_eq!(rt;
-        smallest(&offer, &[at_least(PixelFormat::NV12, 3, 3)]),
-        image(4, 4, 4, 24)
-    );
-    assert_eq!(rt; smallest(&offer, &[]), image(2, 2, 2, 6));
-    assert_eq!(rt; smallest(&Offer::NoImage, &[]), image(1, 1, 1, 0));
 }
 
 #[test]
 fn divisors(rt: HostRuntime) {
-    let mut first = at_least(PixelFormat::R8, 100, 10);
-    first.bounds.asked.required_min_size = Size {
-        width: 15,
-        height: 5,
-    };
-    first.bounds.asked.bytes_per_row_divisor = 48;
-    let mut second = entry(PixelFormat::R8);
-    second.bounds.asked.bytes_per_row_divisor = 64;
-    let offer = offer(PixelFormat::R8, Modifier::Linear);
-    assert_eq!(rt;
-        smallest(&offer, &[first, second]),
-        image(100, 10, 192, 1920)
-    );
-    assert_eq!(rt; lcm_capped(48, 64), Some(192));
+    let first = rows_of(small(at_least(PixelFormat::R8, 100, 10), 15, 5), 48);
+    let found = smallest(linear(PixelFormat::R8), &[first, r8_rows(64)]);
+    are_equal(&rt, &[(found, image(100, 10, 192, 1920))]);
+    are_equal(&rt, &[(lcm_capped(48, 64), Some(192))]);
 }
 
 #[test]
 fn widest_and_tallest(rt: HostRuntime) {
-    let offer = offer(PixelFormat::R8, Modifier::Linear);
+    let r8 = linear(PixelFormat::R8);
     let wide = at_least(PixelFormat::R8, 1920, 100);
     let tall = at_least(PixelFormat::R8, 100, 1080);
-    assert_eq!(rt;
-        smallest(&offer, &[wide, tall]),
-        image(1920, 1080, 1920, 2073600)
-    );
-    let mut small = entry(PixelFormat::R8);
-    small.bounds.asked.required_min_size = Size {
-        width: 15,
-        height: 15,
-    };
-    let mut large = entry(PixelFormat::R8);
-    large.bounds.asked.min_size = Size {
-        width: 16,
-        height: 16,
-    };
-    assert_eq!(rt;
-        smallest(&offer, &[small, large]),
-        Err(Field::RequiredMinSize)
+    let small = small(entry(PixelFormat::R8), 15, 15);
+    are_equal(
+        &rt,
+        &[
+            (
+                smallest(r8, &[wide, tall]),
+                image(1920, 1080, 1920, 2073600),
+            ),
+            (smallest(r8, &[small, large()]), Err(Field::RequiredMinSize)),
+        ],
     );
 }
 
@@ -131,332 +179,456 @@ fn widest_and_tallest(rt: HostRuntime) {
 fn x_tiled(rt: HostRuntime) {
     let offer = offer(PixelFormat::B8G8R8A8, Modifier::IntelXTiled);
     let asked = at_least(PixelFormat::B8G8R8A8, 100, 10);
-    assert_eq!(rt; smallest(&offer, &[asked]), image(100, 10, 512, 8192));
+    are_equal(
+        &rt,
+        &[(smallest(offer, &[asked]), image(100, 10, 512, 8192))],
+    );
 }
 
 #[test]
 fn row_too_long(rt: HostRuntime) {
-    let offer = offer(PixelFormat::R8G8B8A8, Modifier::Linear);
-    let mut asked = at_least(PixelFormat::R8G8B8A8, 4294967295, 1);
-    assert_eq!(rt; smallest(&offer, &[asked]), Err(Field::MaxBytesPerRow));
-    asked.bounds.asked.max_size = Size {
-        width: 4294967294,
-        height: 1,
-    };
-    assert_eq!(rt; smallest(&offer, &[asked]), Err(Field::MaxSize));
+    let rgba = linear(PixelFormat::R8G8B8A8);
+    let asked = at_least(PixelFormat::R8G8B8A8, 4294967295, 1);
+    are_equal(
+        &rt,
+        &[
+            (smallest(rgba, &[asked]), Err(Field::MaxBytesPerRow)),
+            (
+                smallest(rgba, &[at_most(asked, 4294967294, 1)]),
+                Err(Field::MaxSize),
+            ),
+        ],
+    );
 }
 
 #[test]
 fn large_divisors(rt: HostRuntime) {
-    let offer = offer(PixelFormat::R8, Modifier::Linear);
-    let mut first = entry(PixelFormat::R8);
-    first.bounds.asked.bytes_per_row_divisor = 65521;
-    let mut second = entry(PixelFormat::R8);
-    second.bounds.asked.bytes_per_row_divisor = 65519;
-    let mut third = entry(PixelFormat::R8);
-    third.bounds.asked.bytes_per_row_divisor = 2;
-    let both = image(1, 1, 4292870399, 4292870399);
-    assert_eq!(rt; smallest(&offer, &[first, second]), both);
-    assert_eq!(rt;
-        smallest(&offer, &[first, second, third]),
-        Err(Field::BytesPerRowDivisor)
+    let r8 = linear(PixelFormat::R8);
+    let (first, second) = (r8_rows(65521), r8_rows(65519));
+    are_equal(
+        &rt,
+        &[
+            (
+                smallest(r8, &[first, second]),
+                image(1, 1, 4292870399, 4292870399),
+            ),
+            (
+                smallest(r8, &[first, second, r8_rows(2)]),
+                Err(Field::BytesPerRowDivisor),
+            ),
+        ],
     );
-    assert_eq!(rt; lcm_capped(65521, 65519), Some(4292870399));
-    assert_eq!(rt; lcm_capped(4292870399, 2), None);
+    are_equal(
+        &rt,
+        &[
+            (lcm_capped(65521, 65519), Some(4292870399)),
+            (lcm_capped(4292870399, 2), None),
+        ],
+    );
+}
+
+/// An entry of 7 by 7 pixels at least, of each format where none is given, and of each modifier.
+fn any_of_seven(format: Option<PixelFormat>) -> Entry {
+    let mut any = at_least(PixelFormat::R8, 7, 7);
+    any.format = format;
+    any.modifier = None;
+    any
+}
+
+/// The width that the entry found for an offer asks for.
+fn width_for(entries: &[Entry], offer: Offer) -> Option<u32> {
+    let found = entry_for(entries, &offer)?;
+    Some(found.bounds.asked.required_max_size.width)
 }
 
 /// The first entry that matches is taken, and DO_NOT_CARE matches each format and modifier.
 #[test]
 fn first_entry(rt: HostRuntime) {
-    let mut any = at_least(PixelFormat::R8, 7, 7);
-    any.format = None;
-    any.modifier = None;
-    let entries = [entry(PixelFormat::R8), any, entry(PixelFormat::NV12)];
-    let found = |offer: &Offer| entry_for(&entries, offer).map(|entry| entry
-        .bounds
-        .asked
-        .required_max_size
-        .width);
-    assert_eq!(rt; found(&offer(PixelFormat::R8, Modifier::Linear)), Some(0));
-    assert_eq!(rt; found(&offer(PixelFormat::NV12, Modifier::Linear)), Some(7));
-    assert_eq!(rt;
-        found(&offer(PixelFormat::B8G8R8A8, Modifier::IntelXTiled)),
-        Some(7)
+    let r8 = entry(PixelFormat::R8);
+    let entries = [r8, any_of_seven(None), entry(PixelFormat::NV12)];
+    are_equal(
+        &rt,
+        &[
+            (width_for(&entries, linear(PixelFormat::R8)), Some(0)),
+            (width_for(&entries, linear(PixelFormat::NV12)), Some(7)),
+            (
+                width_for(
+                    &entries,
+                    offer(PixelFormat::B8G8R8A8, Modifier::IntelXTiled),
+                ),
+                Some(7),
+            ),
+            (width_for(&entries, Offer::NoImage), None),
+            (width_for(&[r8], linear(PixelFormat::NV12)), None),
+        ],
     );
-    assert_eq!(rt; found(&Offer::NoImage), None);
-    assert!(rt; entry_for(&entries[..1], &offer(PixelFormat::NV12, Modifier::Linear)).is_none());
+}
+
+/// The width that the entry found in the table of entries for an offer asks for.
+fn table_width(entries: &[Entry], offer: Offer) -> Option<u32> {
+    let matches = FirstMatches::of(entries);
+    let found = matches.entry_for(&offer)?;
+    Some(found.bounds.asked.required_max_size.width)
 }
 
 /// The table finds the first of two with the same names, and DO_NOT_CARE before a named one.
 #[test]
 fn first_matches(rt: HostRuntime) {
-    let mut any = at_least(PixelFormat::R8, 7, 7);
-    any.modifier = None;
     let entries = [
         entry(PixelFormat::NV12),
         at_least(PixelFormat::NV12, 5, 5),
-        any,
+        any_of_seven(Some(PixelFormat::R8)),
         entry(PixelFormat::R8),
     ];
-    let matches = FirstMatches::of(&entries);
-    let found = |offer: &Offer| matches
-        .entry_for(offer)
-        .map(|entry| entry.bounds.asked.required_max_size.width);
-    assert_eq!(rt; found(&offer(PixelFormat::NV12, Modifier::Linear)), Some(0));
-    assert_eq!(rt; found(&offer(PixelFormat::R8, Modifier::Linear)), Some(7));
-    assert_eq!(rt;
-        found(&offer(PixelFormat::R8, Modifier::IntelYTiled)),
-        Some(7)
+    are_equal(
+        &rt,
+        &[
+            (table_width(&entries, linear(PixelFormat::NV12)), Some(0)),
+            (table_width(&entries, linear(PixelFormat::R8)), Some(7)),
+            (
+                table_width(&entries, offer(PixelFormat::R8, Modifier::IntelYTiled)),
+                Some(7),
+            ),
+            (
+                table_width(&entries, offer(PixelFormat::NV12, Modifier::IntelYTiled)),
+                None,
+            ),
+            (table_width(&entries, Offer::NoImage), None),
+        ],
     );
-    assert_eq!(rt;
-        found(&offer(PixelFormat::NV12, Modifier::IntelYTiled)),
-        None
-    );
-    assert_eq!(rt; found(&Offer::NoImage), None);
-    assert!(rt; FirstMatches::of(&[]).is_empty());
+    are_equal(&rt, &[(FirstMatches::of(&[]).is_empty(), true)]);
 }
 
 #[test]
 fn colours(rt: HostRuntime) {
-    let offer = offer(PixelFormat::R8, Modifier::Linear);
-    let mut asked = entry(PixelFormat::R8);
-    assert!(rt; !takes_colour(&asked, &offer));
-    assert!(rt; takes_colour(&asked, &Offer::NoImage));
-    asked.colours.insert(ColourSpace::Rec709);
-    assert!(rt; !takes_colour(&asked, &offer));
-    assert!(rt; asked.colours.lists(ColourSpace::Rec709));
-    asked.colours.insert_any();
-    assert!(rt; takes_colour(&asked, &offer));
-    assert!(rt; asked.colours.lists_any());
-    assert!(rt; !asked.colours.lists(ColourSpace::Srgb));
-    assert!(rt; asked.colours.accepts(ColourSpace::Srgb));
+    let r8 = linear(PixelFormat::R8);
+    let none = entry(PixelFormat::R8);
+    let mut one = none;
+    one.colours.insert(ColourSpace::Rec709);
+    let mut any = one;
+    any.colours.insert_any();
+    are_equal(
+        &rt,
+        &[
+            (takes_colour(&none, &r8), false),
+            (takes_colour(&none, &Offer::NoImage), true),
+            (takes_colour(&one, &r8), false),
+            (one.colours.lists(ColourSpace::Rec709), true),
+            (takes_colour(&any, &r8), true),
+            (any.colours.lists_any(), true),
+            (any.colours.lists(ColourSpace::Srgb), false),
+            (any.colours.accepts(ColourSpace::Srgb), true),
+        ],
+    );
+}
+
+/// The bounds of entries on an offer.
+fn bounds_of(entries: &[Entry], offer: Offer) -> Result<ImageBounds, Field> {
+    let mut bounds = ImageBounds::of(&offer);
+    for entry in entries {
+        merge_into(&mut bounds, entry, &offer)?;
+    }
+    Ok(bounds)
+}
+
+/// The field in which the merged bounds of entries first fail one of them.
+fn merged_failing(entries: &[Entry], entry: &Entry, offer: Offer) -> Result<Option<Field>, Field> {
+    let merged = bounds_of(entries, offer)?;
+    Ok(first_failing(&merged, entry, &offer))
+}
+
+/// The field in which the bounds that an entry asks for first fail another.
+fn own_failing(own: &Entry, entry: &Entry, offer: Offer) -> Result<Option<Field>, Field> {
+    Ok(first_failing(&own.bounds.asked, entry, &offer))
 }
 
 /// Merged bounds keep to each entry, and an entry's own bounds to none that asks for more.
 #[test]
 fn failing_fields(rt: HostRuntime) {
-    let mut first = at_least(PixelFormat::R8, 100, 10);
-    first.bounds.asked.bytes_per_row_divisor = 48;
-    let mut second = entry(PixelFormat::R8);
-    second.bounds.asked.bytes_per_row_divisor = 64;
+    let first = rows_of(at_least(PixelFormat::R8, 100, 10), 48);
+    let mut second = r8_rows(64);
     second.bounds.asked.max_bytes_per_row = 9600;
-    let offer = offer(PixelFormat::R8, Modifier::Linear);
-    let mut merged = ImageBounds::of(&offer);
-    assert_eq!(rt; merge_into(&mut merged, &first, &offer), Ok(()));
-    assert_eq!(rt; merge_into(&mut merged, &second, &offer), Ok(()));
-    assert_eq!(rt; first_failing(&merged, &first, &offer), None);
-    assert_eq!(rt; first_failing(&merged, &second, &offer), None);
-    assert_eq!(rt;
-        first_failing(&first.bounds.asked, &second, &offer),
-        Some(Field::MaxBytesPerRow)
+    let r8 = linear(PixelFormat::R8);
+    are_equal(
+        &rt,
+        &[
+            (merged_failing(&[first, second], &first, r8), Ok(None)),
+            (merged_failing(&[first, second], &second, r8), Ok(None)),
+            (
+                own_failing(&first, &second, r8),
+                Ok(Some(Field::MaxBytesPerRow)),
+            ),
+            (
+                own_failing(&second, &first, r8),
+                Ok(Some(Field::BytesPerRowDivisor)),
+            ),
+        ],
     );
-    assert_eq!(rt;
-        first_failing(&second.bounds.asked, &first, &offer),
-        Some(Field::BytesPerRowDivisor)
+    let own = second.bounds.asked;
+    are_equal(
+        &rt,
+        &[
+            (keeps_field(Field::MaxBytesPerRow, &own, &first, &r8), true),
+            (
+                keeps_field(Field::BytesPerRowDivisor, &own, &first, &r8),
+                false,
+            ),
+            (keeps_field(Field::MinSize, &own, &first, &r8), true),
+            (
+                keeps_field(Field::RequiredMaxSize, &own, &first, &r8),
+                false,
+            ),
+            (keeps_field(Field::Usage, &own, &first, &r8), true),
+        ],
     );
-    let kept = |field| keeps_field(field, &second.bounds.asked, &first, &offer);
-    assert!(rt; kept(Field::MaxBytesPerRow) && !kept(Field::BytesPerRowDivisor));
-    assert!(rt; kept(Field::MinSize) && !kept(Field::RequiredMaxSize));
-    assert!(rt; kept(Field::Usage));
 }
 
-/// The bounds of one entry on an offer.
-fn bounds_of(entry: &Entry, offer: &Offer) -> Result<ImageBounds, Field> {
-    let mut bounds = ImageBounds::of(offer);
-    merge_into(&mut bounds, entry, offer)?;
-    Ok(bounds)
+/// The bounds of two entries, made apart and joined.
+fn joined(first: Entry, second: Entry, offer: Offer) -> Result<ImageBounds, Field> {
+    let mut both = bounds_of(&[first], offer)?;
+    let more = bounds_of(&[second], offer)?;
+    merge_bounds(&mut both, &more)?;
+    Ok(both)
+}
+
+/// Their smallest image.
+fn joined_corner(first: Entry, second: Entry, offer: Offer) -> Result<Corner, Field> {
+    corner(&joined(first, second, offer)?, &offer)
+}
+
+/// What joining them to those of the second again answers where their starts have no common multiple, and whether they are
+/// left as they were.
+fn starts_joined(
+    first: Entry,
+    second: Entry,
+    offer: Offer,
+) -> Result<(Option<Field>, bool), Field> {
+    let mut large = joined(first, second, offer)?;
+    large.start_offset_divisor = 4294967291;
+    let mut other = bounds_of(&[second], offer)?;
+    other.start_offset_divisor = 4294967279;
+    let before = large;
+    let refused = merge_bounds(&mut large, &other).err();
+    Ok((refused, large == before))
 }
 
 /// Bounds that were merged apart, then with one another: rows of 48 and of 64 bytes meet at 192.
 #[test]
-fn bounds_merged_apart(rt: HostRuntime) -> Result<(), Fail> {
-    let offer = offer(PixelFormat::R8, Modifier::Linear);
-    let mut first = at_least(PixelFormat::R8, 100, 10);
-    first.bounds.asked.bytes_per_row_divisor = 48;
-    let mut second = at_least(PixelFormat::R8, 10, 30);
-    second.bounds.asked.bytes_per_row_divisor = 64;
-    let (Ok(mut both), Ok(more)) = (bounds_of(&first, &offer), bounds_of(&second, &offer)) else {
-        return Err(Fail::from("no bounds"));
-    };
-    assert_eq!(rt; merge_bounds(&mut both, &more), Ok(()));
-    assert_eq!(rt; corner(&both, &offer), image(100, 30, 192, 5760));
-    let mut large = both;
-    large.start_offset_divisor = 4294967291;
-    let mut other = more;
-    other.start_offset_divisor = 4294967279;
-    let before = large;
-    assert_eq!(rt;
-        merge_bounds(&mut large, &other),
-        Err(Field::StartOffsetDivisor)
+fn bounds_merged_apart(rt: HostRuntime) {
+    let r8 = linear(PixelFormat::R8);
+    let first = rows_of(at_least(PixelFormat::R8, 100, 10), 48);
+    let second = rows_of(at_least(PixelFormat::R8, 10, 30), 64);
+    are_equal(
+        &rt,
+        &[(joined_corner(first, second, r8), image(100, 30, 192, 5760))],
     );
-    assert_eq!(rt; large, before);
-    Ok(())
+    let starts = starts_joined(first, second, r8);
+    are_equal(
+        &rt,
+        &[(starts, Ok((Some(Field::StartOffsetDivisor), true)))],
+    );
 }
 
 #[test]
 fn pixels_limit(rt: HostRuntime) {
-    let offer = offer(PixelFormat::R8, Modifier::Linear);
-    let mut asked = at_least(PixelFormat::R8, 100, 10);
-    asked.bounds.asked.max_width_times_height = 1000;
-    assert_eq!(rt; smallest(&offer, &[asked]), image(100, 10, 100, 1000));
-    asked.bounds.asked.max_width_times_height = 999;
-    assert_eq!(rt; smallest(&offer, &[asked]), Err(Field::MaxWidthTimesHeight));
-    assert_eq!(rt;
-        smallest(&offer, &[asked, at_least(PixelFormat::R8, 1, 11)]),
-        Err(Field::MaxWidthTimesHeight)
+    let r8 = linear(PixelFormat::R8);
+    let asked = of_pixels(at_least(PixelFormat::R8, 100, 10), 1000);
+    let fewer = of_pixels(asked, 999);
+    let mut short = fewer;
+    short.bounds.asked.max_bytes_per_row = 99;
+    are_equal(
+        &rt,
+        &[
+            (smallest(r8, &[asked]), image(100, 10, 100, 1000)),
+            (smallest(r8, &[fewer]), Err(Field::MaxWidthTimesHeight)),
+            (
+                smallest(r8, &[fewer, at_least(PixelFormat::R8, 1, 11)]),
+                Err(Field::MaxWidthTimesHeight),
+            ),
+            (smallest(r8, &[short]), Err(Field::MaxWidthTimesHeight)),
+            (smallest(r8, &[at_most(short, 99, 10)]), Err(Field::MaxSize)),
+        ],
     );
-    asked.bounds.asked.max_bytes_per_row = 99;
-    assert_eq!(rt; smallest(&offer, &[asked]), Err(Field::MaxWidthTimesHeight));
-    asked.bounds.asked.max_size = Size {
-        width: 99,
-        height: 10,
-    };
-    assert_eq!(rt; smallest(&offer, &[asked]), Err(Field::MaxSize));
 }
 
 /// A row that ends at a pixel is a multiple of its bytes, and of the divisor too.
 #[test]
 fn pixel_boundary(rt: HostRuntime) {
-    let linear = offer(PixelFormat::B8G8R8A8, Modifier::Linear);
-    let mut asked = at_least(PixelFormat::B8G8R8A8, 5, 1);
-    asked.bounds.asked.bytes_per_row_divisor = 3;
-    assert_eq!(rt; smallest(&linear, &[asked]), image(5, 1, 21, 21));
-    let own = asked.bounds.asked;
-    asked.bounds.at_pixel_boundary = true;
-    assert_eq!(rt; smallest(&linear, &[asked]), image(5, 1, 24, 24));
-    assert_eq!(rt;
-        first_failing(&own, &asked, &linear),
-        Some(Field::BytesPerRowDivisor)
+    let bgra = linear(PixelFormat::B8G8R8A8);
+    let size = at_least(PixelFormat::B8G8R8A8, 5, 1);
+    let three = rows_of(size, 3);
+    are_equal(
+        &rt,
+        &[
+            (smallest(bgra, &[three]), image(5, 1, 21, 21)),
+            (
+                smallest(bgra, &[rows_to_pixel(size, 3)]),
+                image(5, 1, 24, 24),
+            ),
+            (
+                smallest(bgra, &[rows_to_pixel(size, 6)]),
+                image(5, 1, 24, 24),
+            ),
+            (
+                smallest(linear(PixelFormat::R8G8B8), &[rows_to_pixel(size, 32)]),
+                image(5, 1, 96, 96),
+            ),
+        ],
     );
-    assert_eq!(rt; first_failing(&own, &asked, &Offer::NoImage), None);
-    asked.bounds.asked.bytes_per_row_divisor = 6;
-    assert_eq!(rt; smallest(&linear, &[asked]), image(5, 1, 24, 24));
-    let three = offer(PixelFormat::R8G8B8, Modifier::Linear);
-    asked.bounds.asked.bytes_per_row_divisor = 32;
-    assert_eq!(rt; smallest(&three, &[asked]), image(5, 1, 96, 96));
+    are_equal(
+        &rt,
+        &[
+            (
+                own_failing(&three, &rows_to_pixel(size, 3), bgra),
+                Ok(Some(Field::BytesPerRowDivisor)),
+            ),
+            (
+                own_failing(&three, &rows_to_pixel(size, 3), Offer::NoImage),
+                Ok(None),
+            ),
+        ],
+    );
 }
 
-/// The field named is the first of the conflict table, whichever multiple is above the limit too.
-#[test]
-fn first_multiple(rt: HostRuntime) {
-    let three = offer(PixelFormat::R8G8B8, Modifier::Linear);
+/// What merging an entry into bounds of R8G8B8 images with a great alignment and a great divisor answers.
+fn with_great_multiples(asked: Entry) -> Result<(), Field> {
+    let three = linear(PixelFormat::R8G8B8);
     let mut bounds = ImageBounds::of(&three);
     bounds.size_alignment = Size {
         width: 4294967295,
         height: 1,
     };
     bounds.bytes_per_row_divisor = 4294967291;
-    let mut asked = at_least(PixelFormat::R8G8B8, 1, 1);
-    asked.bounds.at_pixel_boundary = true;
-    assert_eq!(rt;
-        merge_into(&mut bounds, &asked, &three),
-        Err(Field::BytesPerRowDivisor)
-    );
-    asked.bounds.asked.size_alignment = Size {
-        width: 2,
-        height: 1,
-    };
-    assert_eq!(rt;
-        merge_into(&mut bounds, &asked, &three),
-        Err(Field::SizeAlignment)
+    merge_into(&mut bounds, &asked, &three)
+}
+
+/// The field named is the first of the conflict table, whichever multiple is above the limit too.
+#[test]
+fn first_multiple(rt: HostRuntime) {
+    let asked = rows_to_pixel(at_least(PixelFormat::R8G8B8, 1, 1), 1);
+    are_equal(
+        &rt,
+        &[
+            (with_great_multiples(asked), Err(Field::BytesPerRowDivisor)),
+            (
+                with_great_multiples(aligned(asked, 2, 1)),
+                Err(Field::SizeAlignment),
+            ),
+        ],
     );
 }
 
 #[test]
 fn suited_bounds(rt: HostRuntime) {
-    let nv12 = offer(PixelFormat::NV12, Modifier::Linear);
+    let nv12 = linear(PixelFormat::NV12);
     let tiled = offer(PixelFormat::B8G8R8A8, Modifier::IntelXTiled);
-    assert!(rt; suits(&ImageBounds::of(&nv12), &nv12));
-    assert!(rt; !suits(&ImageBounds::of(&tiled), &nv12));
-    assert!(rt; !suits(&ImageBounds::of(&nv12), &tiled));
-    assert!(rt; suits(&ImageBounds::of(&nv12), &Offer::NoImage));
+    let (for_nv12, for_tiled) = (ImageBounds::of(&nv12), ImageBounds::of(&tiled));
+    are_equal(
+        &rt,
+        &[
+            (suits(&for_nv12, &nv12), true),
+            (suits(&for_tiled, &nv12), false),
+            (suits(&for_nv12, &tiled), false),
+            (suits(&for_nv12, &Offer::NoImage), true),
+        ],
+    );
 }
 
 /// What is kept of an offer once the entries were added.
-fn read(offer: &Offer, entries: &[Entry]) -> BoundsRead {
-    let mut kept = BoundsRead::new(offer);
+fn read(offer: Offer, entries: &[Entry]) -> BoundsRead {
+    let mut kept = BoundsRead::new(&offer);
     for entry in entries {
-        kept.add(entry, offer);
+        kept.add(entry, &offer);
     }
     kept
+}
+
+/// Whether the line of a field is true of an offer once the entries were added.
+fn is_line(offer: Offer, entries: &[Entry], field: Field) -> bool {
+    read(offer, entries).is_line(&offer, field)
 }
 
 /// Each line can be asked, also after one whose common multiple is above the limit.
 #[test]
 fn true_lines(rt: HostRuntime) {
-    let linear = offer(PixelFormat::R8, Modifier::Linear);
-    let mut first = entry(PixelFormat::R8);
-    first.bounds.asked.bytes_per_row_divisor = 65521;
-    let mut second = entry(PixelFormat::R8);
-    second.bounds.asked.bytes_per_row_divisor = 65519;
-    let mut third = entry(PixelFormat::R8);
-    third.bounds.asked.bytes_per_row_divisor = 2;
-    let both = read(&linear, &[first, second]);
-    assert!(rt; !both.is_line(&linear, Field::BytesPerRowDivisor));
-    let mut small = entry(PixelFormat::R8);
-    small.bounds.asked.required_min_size = Size {
-        width: 15,
-        height: 15,
-    };
-    let mut large = entry(PixelFormat::R8);
-    large.bounds.asked.min_size = Size {
-        width: 16,
-        height: 16,
-    };
-    let all = read(&linear, &[first, second, third, small, large]);
-    assert!(rt; all.is_line(&linear, Field::BytesPerRowDivisor));
-    assert!(rt; all.is_line(&linear, Field::RequiredMinSize));
-    assert!(rt; !all.is_line(&linear, Field::SizeAlignment));
-    assert!(rt; !all.is_line(&linear, Field::MaxBytesPerRow));
-    assert!(rt; !read(&linear, &[large]).is_line(&linear, Field::RequiredMinSize));
+    let r8 = linear(PixelFormat::R8);
+    let (first, second, third) = (r8_rows(65521), r8_rows(65519), r8_rows(2));
+    let small = small(entry(PixelFormat::R8), 15, 15);
+    let all = [first, second, third, small, large()];
+    are_equal(
+        &rt,
+        &[
+            (
+                is_line(r8, &[first, second], Field::BytesPerRowDivisor),
+                false,
+            ),
+            (is_line(r8, &all, Field::BytesPerRowDivisor), true),
+            (is_line(r8, &all, Field::RequiredMinSize), true),
+            (is_line(r8, &all, Field::SizeAlignment), false),
+            (is_line(r8, &all, Field::MaxBytesPerRow), false),
+            (is_line(r8, &[large()], Field::RequiredMinSize), false),
+        ],
+    );
+}
+
+/// The row divisor of merged entries, their least and their greatest row.
+fn merged_rows(offer: Offer, entries: &[Entry]) -> Option<[u32; 3]> {
+    let merged = read(offer, entries).merged()?;
+    Some([
+        merged.bytes_per_row_divisor,
+        merged.min_bytes_per_row,
+        merged.max_bytes_per_row,
+    ])
 }
 
 /// The bounds of two entries together, where both have a row divisor in common.
 #[test]
 fn merged_read(rt: HostRuntime) {
-    let linear = offer(PixelFormat::R8, Modifier::Linear);
-    let mut first = entry(PixelFormat::R8);
-    first.bounds.asked.bytes_per_row_divisor = 64;
+    let r8 = linear(PixelFormat::R8);
+    let mut first = r8_rows(64);
     first.bounds.asked.min_bytes_per_row = 100;
-    let mut second = entry(PixelFormat::R8);
-    second.bounds.asked.bytes_per_row_divisor = 48;
+    let mut second = r8_rows(48);
     second.bounds.asked.max_bytes_per_row = 500;
-    let merged = read(&linear, &[first, second]).merged();
-    assert_eq!(rt;
-        merged.map(|bounds| bounds.bytes_per_row_divisor),
-        Some(192)
+    let (third, fourth) = (rows_of(first, 65521), rows_of(second, 65519));
+    are_equal(
+        &rt,
+        &[
+            (merged_rows(r8, &[first, second]), Some([192, 100, 500])),
+            (merged_rows(r8, &[third, fourth, r8_rows(2)]), None),
+        ],
     );
-    assert_eq!(rt; merged.map(|bounds| bounds.min_bytes_per_row), Some(100));
-    assert_eq!(rt; merged.map(|bounds| bounds.max_bytes_per_row), Some(500));
-    assert_eq!(rt; read(&linear, &[]).merged(), Some(ImageBounds::of(&linear)));
-    first.bounds.asked.bytes_per_row_divisor = 65521;
-    second.bounds.asked.bytes_per_row_divisor = 65519;
-    let mut third = entry(PixelFormat::R8);
-    third.bounds.asked.bytes_per_row_divisor = 2;
-    assert_eq!(rt; read(&linear, &[first, second, third]).merged(), None);
+    let nobody = read(r8, &[]).merged();
+    are_equal(&rt, &[(nobody, Some(ImageBounds::of(&r8)))]);
 }
 
 /// The lines that the smallest image heads: its sides, its pixels and its row.
 #[test]
 fn true_corner_lines(rt: HostRuntime) {
-    let linear = offer(PixelFormat::R8, Modifier::Linear);
-    let mut asked = at_least(PixelFormat::R8, 100, 10);
-    asked.bounds.asked.max_width_times_height = 999;
-    let few = read(&linear, &[asked]);
-    assert!(rt; few.is_line(&linear, Field::MaxWidthTimesHeight));
-    assert!(rt; !few.is_line(&linear, Field::MaxSize));
-    asked.bounds.asked.max_width_times_height = 1000;
-    assert!(rt; !read(&linear, &[asked]).is_line(&linear, Field::MaxWidthTimesHeight));
-    let wide = offer(PixelFormat::R8G8B8A8, Modifier::Linear);
-    let mut row = at_least(PixelFormat::R8G8B8A8, 4294967295, 1);
-    let long = read(&wide, &[row]);
-    assert!(rt; long.is_line(&wide, Field::MaxBytesPerRow));
-    assert!(rt; !long.is_line(&wide, Field::MaxSize));
-    assert_eq!(rt; long.least_sides(), Some((4294967295, 1)));
-    assert_eq!(rt; long.least_row(&wide, 4294967295), Some(17179869180));
-    row.bounds.asked.max_size = Size {
-        width: 4294967294,
-        height: 1,
-    };
-    assert!(rt; read(&wide, &[row]).is_line(&wide, Field::MaxSize));
+    let r8 = linear(PixelFormat::R8);
+    let asked = of_pixels(at_least(PixelFormat::R8, 100, 10), 999);
+    let rgba = linear(PixelFormat::R8G8B8A8);
+    let row = at_least(PixelFormat::R8G8B8A8, 4294967295, 1);
+    are_equal(
+        &rt,
+        &[
+            (is_line(r8, &[asked], Field::MaxWidthTimesHeight), true),
+            (is_line(r8, &[asked], Field::MaxSize), false),
+            (
+                is_line(r8, &[of_pixels(asked, 1000)], Field::MaxWidthTimesHeight),
+                false,
+            ),
+            (is_line(rgba, &[row], Field::MaxBytesPerRow), true),
+            (is_line(rgba, &[row], Field::MaxSize), false),
+            (
+                is_line(rgba, &[at_most(row, 4294967294, 1)], Field::MaxSize),
+                true,
+            ),
+        ],
+    );
+    let long = read(rgba, &[row]);
+    are_equal(&rt, &[(long.least_sides(), Some((4294967295, 1)))]);
+    are_equal(
+        &rt,
+        &[(long.least_row(&rgba, 4294967295), Some(17179869180))],
+    );
 }

@@ -17,6 +17,8 @@ mod lines;
 #[cfg(test)]
 mod memory;
 #[cfg(test)]
+mod rows;
+#[cfg(test)]
 mod settings;
 #[cfg(test)]
 mod sums;

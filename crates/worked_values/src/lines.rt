@@ -1,5 +1,6 @@
 //! The lines of the conflict table about one offer, asked of participants whose numbers were worked out by hand.
 
+use crate::rows::are_equal;
 use crate::settings::{asked, linear};
 use std::alloc::Global;
 use std::test::Fail;
@@ -39,36 +40,62 @@ const WIDE_65497: &str =
 // isn't.
 #[test]
 fn first_in_the_table(rt: HostRuntime) -> Result<(), Fail> {
-    let offer = linear(PixelFormat::R8);
-    let two = read(rt.alloc(), &offer, &[BOTH_65521, BOTH_65519])?;
-    assert_eq!(rt; two.first_line(true), None);
-    let three = read(rt.alloc(), &offer, &[BOTH_65521, BOTH_65519, SHOWN_65497])?;
-    assert_eq!(rt; three.first_line(true), Some(Field::DisplayRectAlignment));
-    assert!(rt; !three.is_line(Field::SizeAlignment));
+    let r8 = linear(PixelFormat::R8);
+    let two = read(rt.alloc(), &r8, &[BOTH_65521, BOTH_65519])?;
+    let three = read(rt.alloc(), &r8, &[BOTH_65521, BOTH_65519, SHOWN_65497])?;
     let all = [BOTH_65521, BOTH_65519, SHOWN_65497, WIDE_65497];
-    let four = read(rt.alloc(), &offer, &all)?;
-    assert_eq!(rt; four.first_line(true), Some(Field::SizeAlignment));
-    assert!(rt; four.is_line(Field::DisplayRectAlignment));
-    assert!(rt; !four.is_line(Field::MaxSize));
-    assert!(rt; four.least_fit().is_none());
+    let four = read(rt.alloc(), &r8, &all)?;
+    are_equal(
+        &rt,
+        &[
+            (two.first_line(true), None),
+            (three.first_line(true), Some(Field::DisplayRectAlignment)),
+            (four.first_line(true), Some(Field::SizeAlignment)),
+        ],
+    );
+    are_equal(
+        &rt,
+        &[
+            (three.is_line(Field::SizeAlignment), false),
+            (four.is_line(Field::DisplayRectAlignment), true),
+            (four.is_line(Field::MaxSize), false),
+            (four.least_fit().is_none(), true),
+        ],
+    );
     Ok(())
+}
+
+// The least size that fits what is read.
+fn least_size(read: &OfferRead) -> Option<u64> {
+    let fit = read.least_fit()?;
+    Some(fit.size_bytes)
 }
 
 // R8 of 16 by 16 are 256 bytes.
 #[test]
 fn least_and_greatest_sizes(rt: HostRuntime) -> Result<(), Fail> {
-    let offer = linear(PixelFormat::R8);
+    let r8 = linear(PixelFormat::R8);
     let fits = r#"{"usage":["cpu"],"buffer_memory_constraints":{"max_size_bytes":256}}"#;
     let small = r#"{"usage":["cpu"],"buffer_memory_constraints":{"max_size_bytes":255}}"#;
     let large = r#"{"usage":["cpu"],"buffer_memory_constraints":{"min_size_bytes":257}}"#;
-    let fit = read(rt.alloc(), &offer, &[R8, fits])?;
-    assert_eq!(rt; fit.first_line(true), None);
-    assert_eq!(rt; fit.least_fit().map(|fit| fit.size_bytes), Some(256));
-    let above = read(rt.alloc(), &offer, &[R8, small])?;
-    assert_eq!(rt; above.first_line(true), Some(Field::MaxSizeBytes));
-    let apart = read(rt.alloc(), &offer, &[large, R8, fits])?;
-    assert!(rt; apart.is_line(Field::MaxSizeBytes));
-    assert!(rt; !apart.is_line(Field::PixelFormat));
+    let fit = read(rt.alloc(), &r8, &[R8, fits])?;
+    let above = read(rt.alloc(), &r8, &[R8, small])?;
+    let apart = read(rt.alloc(), &r8, &[large, R8, fits])?;
+    are_equal(
+        &rt,
+        &[
+            (fit.first_line(true), None),
+            (above.first_line(true), Some(Field::MaxSizeBytes)),
+        ],
+    );
+    are_equal(&rt, &[(least_size(&fit), Some(256))]);
+    are_equal(
+        &rt,
+        &[
+            (apart.is_line(Field::MaxSizeBytes), true),
+            (apart.is_line(Field::PixelFormat), false),
+        ],
+    );
     Ok(())
 }
 
@@ -76,17 +103,27 @@ fn least_and_greatest_sizes(rt: HostRuntime) -> Result<(), Fail> {
 fn formats_and_names(rt: HostRuntime) -> Result<(), Fail> {
     let nv12 = linear(PixelFormat::NV12);
     let unnamed = read(rt.alloc(), &nv12, &[ANY, ANY])?;
-    assert_eq!(rt; unnamed.first_line(false), None);
-    assert_eq!(rt; unnamed.first_line(true), Some(Field::UnnamedPixelFormat));
-    assert!(rt; unnamed.is_unnamed(Field::UnnamedColorSpace));
-    assert!(rt; !unnamed.is_unnamed(Field::PixelFormat));
-    assert_eq!(rt; unnamed.least_fit().map(|fit| fit.size_bytes), Some(6));
     let other = read(rt.alloc(), &nv12, &[ANY, R8])?;
-    assert_eq!(rt; other.first_line(false), Some(Field::PixelFormat));
     let none = read(rt.alloc(), &Offer::NoImage, &[ANY])?;
-    assert_eq!(rt; none.first_line(true), Some(Field::PixelFormat));
-    assert!(rt; !none.is_unnamed(Field::UnnamedPixelFormat));
     let named = read(rt.alloc(), &linear(PixelFormat::R8), &[ANY, R8])?;
-    assert_eq!(rt; named.first_line(true), None);
+    are_equal(
+        &rt,
+        &[
+            (unnamed.first_line(false), None),
+            (unnamed.first_line(true), Some(Field::UnnamedPixelFormat)),
+            (other.first_line(false), Some(Field::PixelFormat)),
+            (none.first_line(true), Some(Field::PixelFormat)),
+            (named.first_line(true), None),
+        ],
+    );
+    are_equal(
+        &rt,
+        &[
+            (unnamed.is_unnamed(Field::UnnamedColorSpace), true),
+            (unnamed.is_unnamed(Field::PixelFormat), false),
+            (none.is_unnamed(Field::UnnamedPixelFormat), false),
+        ],
+    );
+    are_equal(&rt, &[(least_size(&unnamed), Some(6))]);
     Ok(())
 }

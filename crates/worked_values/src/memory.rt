@@ -2,6 +2,7 @@
 
 ghost use Rattle.std.specs.Prelude.{◌≡◌, ◌≤◌, length};
 
+use crate::rows::are_equal;
 use std::alloc::{AllocError, Global};
 use std::test::Fail;
 use sysmem_counts::{Field, Usage};
@@ -93,175 +94,240 @@ fn refusals(heaps: &[HeapInfo], memory: &MemoryConstraints, usage: Usage) -> [Op
     ]
 }
 
+// The first place that one participant of the platform leaves, and that it leaves beside a processor.
+fn placed(
+    alloc: Global,
+    memory: &MemoryConstraints,
+    usage: Usage,
+) -> Result<(Option<Place>, Option<Place>), Fail> {
+    let heaps = platform(alloc)?;
+    if heaps.len() != 3 {
+        return Err(Fail::new("not three heaps"));
+    }
+    Ok(first_places(alloc, &heaps, memory, usage))
+}
+
+// Each place of the platform in order, with the field that refuses it.
+fn refused(
+    alloc: Global,
+    memory: &MemoryConstraints,
+    usage: Usage,
+) -> Result<[Option<Field>; 5], Fail> {
+    let heaps = platform(alloc)?;
+    if heaps.len() != 3 {
+        return Err(Fail::new("not three heaps"));
+    }
+    Ok(refusals(&heaps, memory, usage))
+}
+
+// The place of this heap.
+fn place(heap: usize, coherency: CoherencyDomain) -> Option<Place> {
+    Some(Place { heap, coherency })
+}
+
+// The first place that nobody refuses.
+fn for_nobody(alloc: Global) -> Result<Option<Place>, Fail> {
+    let heaps = platform(alloc)?;
+    if heaps.len() != 3 {
+        return Err(Fail::new("not three heaps"));
+    }
+    Ok(MemoryBounds::new(&heaps).first_place(&heaps))
+}
+
 #[test]
 fn nobody_asked(rt: HostRuntime) -> Result<(), Fail> {
-    let heaps = platform(rt.alloc())?;
-    assert_eq!(rt; heaps.len(), 3);
-    let bounds = MemoryBounds::new(&heaps);
-    let first = Place {
-        heap: 0,
-        coherency: CoherencyDomain::Cpu,
-    };
-    assert_eq!(rt; bounds.first_place(&heaps), Some(first));
-    assert_eq!(rt; MemoryBounds::new(&[]).first_place(&[]), None);
+    are_equal(
+        &rt,
+        &[
+            (for_nobody(rt.alloc())?, place(0, CoherencyDomain::Cpu)),
+            (MemoryBounds::new(&[]).first_place(&[]), None),
+        ],
+    );
     Ok(())
 }
 
 #[test]
 fn secure_heap(rt: HostRuntime) -> Result<(), Fail> {
-    let heaps = platform(rt.alloc())?;
-    assert_eq!(rt; heaps.len(), 3);
     let memory = secure(rt.alloc());
     let insecure = Some(Field::SecureRequired);
-    assert_eq!(rt;
-        refusals(&heaps, &memory, Usage::VIDEO),
-        [insecure, insecure, insecure, insecure, None]
+    let found = refused(rt.alloc(), &memory, Usage::VIDEO)?;
+    let vault = place(2, CoherencyDomain::Inaccessible);
+    let places = placed(rt.alloc(), &memory, Usage::VIDEO)?;
+    are_equal(
+        &rt,
+        &[(found, [insecure, insecure, insecure, insecure, None])],
     );
-    let vault = Place {
-        heap: 2,
-        coherency: CoherencyDomain::Inaccessible,
-    };
-    assert_eq!(rt;
-        first_places(rt.alloc(), &heaps, &memory, Usage::VIDEO),
-        (Some(vault), None)
-    );
+    are_equal(&rt, &[(places, (vault, None))]);
     Ok(())
+}
+
+// What a secure participant leaves beside a processor, and beside a video device, which both take any place.
+fn joined_places(
+    heaps: &[HeapInfo],
+    secure: &MemoryConstraints,
+    any: &MemoryConstraints,
+) -> [Option<Place>; 2]
+    requires { length heaps.now ≤ 64 }
+{
+    let mut player = MemoryBounds::new(heaps);
+    player.add(heaps, secure, Usage::VIDEO);
+    let mut processor = MemoryBounds::new(heaps);
+    processor.add(heaps, any, Usage::CPU);
+    let mut video = MemoryBounds::new(heaps);
+    video.add(heaps, any, Usage::VIDEO);
+    processor.join(heaps, &player);
+    player.join(heaps, &video);
+    [processor.first_place(heaps), player.first_place(heaps)]
+}
+
+// One that takes any place.
+fn anywhere(alloc: Global) -> MemoryConstraints {
+    let mut any = MemoryConstraints::permitting(Vec::new(alloc));
+    any.inaccessible_domain_supported = true;
+    any
+}
+
+fn joined_here(alloc: Global) -> Result<[Option<Place>; 2], Fail> {
+    let heaps = platform(alloc)?;
+    if heaps.len() != 3 {
+        return Err(Fail::new("not three heaps"));
+    }
+    Ok(joined_places(&heaps, &secure(alloc), &anywhere(alloc)))
 }
 
 // The same two participants, their bounds made apart and joined: secure memory, and a processor or a video device.
 #[test]
 fn joined(rt: HostRuntime) -> Result<(), Fail> {
-    let heaps = platform(rt.alloc())?;
-    assert_eq!(rt; heaps.len(), 3);
-    let mut any = MemoryConstraints::permitting(Vec::new(rt.alloc()));
-    any.inaccessible_domain_supported = true;
-    let mut player = MemoryBounds::new(&heaps);
-    player.add(&heaps, &secure(rt.alloc()), Usage::VIDEO);
-    let mut processor = MemoryBounds::new(&heaps);
-    processor.add(&heaps, &any, Usage::CPU);
-    let mut video = MemoryBounds::new(&heaps);
-    video.add(&heaps, &any, Usage::VIDEO);
-    let vault = Place {
-        heap: 2,
-        coherency: CoherencyDomain::Inaccessible,
-    };
-    processor.join(&heaps, &player);
-    assert_eq!(rt; processor.first_place(&heaps), None);
-    player.join(&heaps, &video);
-    assert_eq!(rt; player.first_place(&heaps), Some(vault));
+    let vault = place(2, CoherencyDomain::Inaccessible);
+    are_equal(&rt, &[(joined_here(rt.alloc())?, [None, vault])]);
     Ok(())
 }
 
 #[test]
 fn a_processor_alone(rt: HostRuntime) -> Result<(), Fail> {
-    let heaps = platform(rt.alloc())?;
-    assert_eq!(rt; heaps.len(), 3);
+    let memory = MemoryConstraints::permitting(Vec::new(rt.alloc()));
+    let found = refused(rt.alloc(), &memory, Usage::CPU)?;
     let no_ram = Some(Field::RamDomainSupported);
-    assert_eq!(rt;
-        refusals(
-            &heaps,
-            &MemoryConstraints::permitting(Vec::new(rt.alloc())),
-            Usage::CPU
-        ),
-        [
-            None,
-            no_ram,
-            None,
-            no_ram,
-            Some(Field::InaccessibleDomainSupported)
-        ]
-    );
+    let hidden = Some(Field::InaccessibleDomainSupported);
+    are_equal(&rt, &[(found, [None, no_ram, None, no_ram, hidden])]);
     Ok(())
 }
 
 #[test]
 fn contiguous_heap(rt: HostRuntime) -> Result<(), Fail> {
-    let heaps = platform(rt.alloc())?;
-    assert_eq!(rt; heaps.len(), 3);
     let mut memory = MemoryConstraints::permitting(Vec::new(rt.alloc()));
     memory.physically_contiguous_required = true;
-    let cma = Place {
-        heap: 1,
-        coherency: CoherencyDomain::Cpu,
-    };
-    assert_eq!(rt;
-        first_places(rt.alloc(), &heaps, &memory, Usage::NONE),
-        (Some(cma), Some(cma))
-    );
+    let places = placed(rt.alloc(), &memory, Usage::NONE)?;
+    let cma = place(1, CoherencyDomain::Cpu);
+    are_equal(&rt, &[(places, (cma, cma))]);
     Ok(())
+}
+
+// A secure participant that permits vault 1 and cma 0.
+fn permitting_two(alloc: Global) -> Result<MemoryConstraints, Fail> {
+    let mut memory = secure(alloc);
+    memory.permitted_heaps.push(named(alloc, "vault", 1)?)?;
+    memory.permitted_heaps.push(named(alloc, "cma", 0)?)?;
+    Ok(memory)
 }
 
 #[test]
 fn permitted_heaps(rt: HostRuntime) -> Result<(), Fail> {
-    let heaps = platform(rt.alloc())?;
-    assert_eq!(rt; heaps.len(), 3);
-    let mut memory = secure(rt.alloc());
-    memory.permitted_heaps.push(named(rt.alloc(), "vault", 1)?)?;
-    memory.permitted_heaps.push(named(rt.alloc(), "cma", 0)?)?;
+    let memory = permitting_two(rt.alloc())?;
+    let found = refused(rt.alloc(), &memory, Usage::VIDEO)?;
     let not_permitted = Some(Field::PermittedHeaps);
     let insecure = Some(Field::SecureRequired);
-    assert_eq!(rt;
-        refusals(&heaps, &memory, Usage::VIDEO),
-        [
-            not_permitted,
-            not_permitted,
-            insecure,
-            insecure,
-            not_permitted
-        ]
+    are_equal(
+        &rt,
+        &[(
+            found,
+            [
+                not_permitted,
+                not_permitted,
+                insecure,
+                insecure,
+                not_permitted,
+            ],
+        )],
     );
     Ok(())
 }
 
-#[test]
-fn a_processor_and_a_secure_heap(rt: HostRuntime) -> Result<(), Fail> {
-    let mut memory = MemoryConstraints::permitting(Vec::new(rt.alloc()));
-    memory.inaccessible_domain_supported = true;
-    let mut vault = HeapInfo {
-        heap: named(rt.alloc(), "vault", 0)?,
+// The field in which the heap vault, secure or not, is refused by one that takes any place.
+fn vault_refused(
+    alloc: Global,
+    secure: bool,
+    usage: Usage,
+    coherency: CoherencyDomain,
+) -> Result<Option<Field>, Fail> {
+    let vault = HeapInfo {
+        heap: named(alloc, "vault", 0)?,
         contiguous: false,
-        secure: true,
+        secure,
         domains: HIDDEN,
     };
-    assert_eq!(rt;
-        refuses(&memory, Usage::CPU, &vault, CoherencyDomain::Cpu),
-        Some(Field::Usage)
-    );
-    assert_eq!(rt;
-        refuses(&memory, Usage::VULKAN, &vault, CoherencyDomain::Cpu),
-        None
-    );
-    vault.secure = false;
-    assert_eq!(rt;
-        refuses(&memory, Usage::CPU, &vault, CoherencyDomain::Inaccessible),
-        Some(Field::Usage)
-    );
-    assert_eq!(rt;
-        refuses(&memory, Usage::CPU, &vault, CoherencyDomain::Cpu),
-        None
+    Ok(refuses(&anywhere(alloc), usage, &vault, coherency))
+}
+
+#[test]
+fn a_processor_and_a_secure_heap(rt: HostRuntime) -> Result<(), Fail> {
+    let (cpu, hidden) = (CoherencyDomain::Cpu, CoherencyDomain::Inaccessible);
+    let alloc = rt.alloc();
+    are_equal(
+        &rt,
+        &[
+            (
+                vault_refused(alloc, true, Usage::CPU, cpu)?,
+                Some(Field::Usage),
+            ),
+            (vault_refused(alloc, true, Usage::VULKAN, cpu)?, None),
+            (
+                vault_refused(alloc, false, Usage::CPU, hidden)?,
+                Some(Field::Usage),
+            ),
+            (vault_refused(alloc, false, Usage::CPU, cpu)?, None),
+        ],
     );
     Ok(())
 }
 
 #[test]
 fn names_and_sets(rt: HostRuntime) {
-    assert_eq!(rt; CoherencyDomain::Ram.name(), "ram");
-    assert_eq!(rt;
-        CoherencyDomain::from_name("inaccessible"),
-        Some(CoherencyDomain::Inaccessible)
+    let hidden = Some(CoherencyDomain::Inaccessible);
+    are_equal(&rt, &[(CoherencyDomain::Ram.name(), "ram")]);
+    are_equal(
+        &rt,
+        &[
+            (CoherencyDomain::from_name("inaccessible"), hidden),
+            (CoherencyDomain::from_name("CPU"), None),
+            (HIDDEN.first(), hidden),
+            (CoherencyDomains::NONE.first(), None),
+        ],
     );
-    assert_eq!(rt; CoherencyDomain::from_name("CPU"), None);
-    assert!(rt; CACHED.has(CoherencyDomain::Cpu));
-    assert!(rt; !CACHED.has(CoherencyDomain::Inaccessible));
-    assert_eq!(rt; HIDDEN.first(), Some(CoherencyDomain::Inaccessible));
-    assert_eq!(rt; CoherencyDomains::NONE.first(), None);
+    are_equal(
+        &rt,
+        &[
+            (CACHED.has(CoherencyDomain::Cpu), true),
+            (CACHED.has(CoherencyDomain::Inaccessible), false),
+        ],
+    );
+}
+
+// Whether the heap ram 1 is equal to this one.
+fn is_ram_1(alloc: Global, heap_type: &str, id: u64) -> Result<bool, Fail> {
+    let heap = named(alloc, "ram", 1)?;
+    Ok(heap == named(alloc, heap_type, id)?)
 }
 
 #[test]
 fn equal_heaps(rt: HostRuntime) -> Result<(), Fail> {
-    let heap = named(rt.alloc(), "ram", 1)?;
-    for (heap_type, id, is_same) in [("ram", 1, true), ("ram", 0, false), ("cma", 1, false)] {
-        assert_eq!(rt; heap == named(rt.alloc(), heap_type, id)?, is_same);
-    }
+    are_equal(
+        &rt,
+        &[
+            (is_ram_1(rt.alloc(), "ram", 1)?, true),
+            (is_ram_1(rt.alloc(), "ram", 0)?, false),
+            (is_ram_1(rt.alloc(), "cma", 1)?, false),
+        ],
+    );
     Ok(())
 }

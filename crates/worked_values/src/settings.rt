@@ -1,7 +1,9 @@
 //! Settings and reasons as they were worked out by hand, on a platform of one heap and two formats.
 
+use crate::rows::are_equal;
 use serde_json::Value;
 use std::alloc::Global;
+use std::process::Abort;
 use std::test::Fail;
 use sysmem_counts::Field;
 use sysmem_formats::{ColourSpace, Modifier, Offer, Pair, PixelFormat};
@@ -27,6 +29,20 @@ pub(crate) fn asked(alloc: Global, text: &str) -> Result<Constraints, Fail> {
 }
 
 // The best settings for two participants.
+fn best(
+    alloc: Global,
+    platform: &Platform,
+    first: &Constraints,
+    second: &Constraints,
+    whole: bool,
+) -> Result<Result<Settings, Reason>, Fail> {
+    let mut aggregate = Aggregate::new(alloc, platform)?;
+    aggregate.add(first)?;
+    aggregate.add(second)?;
+    Ok(aggregate.best_settings(whole))
+}
+
+// The same for participants of these records.
 fn shared(
     alloc: Global,
     first: &str,
@@ -36,10 +52,7 @@ fn shared(
     let platform = platform(alloc)?;
     let first = asked(alloc, first)?;
     let second = asked(alloc, second)?;
-    let mut aggregate = Aggregate::new(alloc, &platform)?;
-    aggregate.add(&first)?;
-    aggregate.add(&second)?;
-    Ok(aggregate.best_settings(whole))
+    best(alloc, &platform, &first, &second, whole)
 }
 
 // Settings in the cached memory of the only heap, without an image.
@@ -62,12 +75,21 @@ pub(crate) fn linear(format: PixelFormat) -> Offer {
     Offer::Image(Pair { format, modifier }, ColourSpace::Srgb)
 }
 
+// How many heaps an aggregate of nobody has, and its best settings.
+fn for_nobody(
+    alloc: Global,
+    platform: &Platform,
+) -> Result<(usize, Result<Settings, Reason>), Fail> {
+    let aggregate = Aggregate::new(alloc, platform)?;
+    let heaps = aggregate.platform().heaps().len();
+    Ok((heaps, aggregate.best_settings(true)))
+}
+
 #[test]
 fn no_participant(rt: HostRuntime) -> Result<(), Fail> {
     let platform = platform(rt.alloc())?;
-    let aggregate = Aggregate::new(rt.alloc(), &platform)?;
-    assert_eq!(rt; aggregate.platform().heaps().len(), 1);
-    assert_eq!(rt; aggregate.best_settings(true), Ok(cached(1, 1)));
+    let found = for_nobody(rt.alloc(), &platform)?;
+    are_equal(&rt, &[(found, (1, Ok(cached(1, 1))))]);
     Ok(())
 }
 
@@ -77,13 +99,11 @@ fn counts_and_sizes(rt: HostRuntime) -> Result<(), Fail> {
         r#"{"usage":["cpu"],"min_buffer_count_for_camping":2,"min_buffer_count_for_shared_slack":1,"buffer_memory_constraints":{"min_size_bytes":4096}}"#;
     let second =
         r#"{"usage":["cpu"],"min_buffer_count_for_camping":3,"min_buffer_count_for_dedicated_slack":1,"min_buffer_count_for_shared_slack":2}"#;
-    assert_eq!(rt;
-        shared(rt.alloc(), first, second, true)?,
-        Ok(cached(8, 4096))
-    );
-    assert_eq!(rt;
-        shared(rt.alloc(), second, first, false)?,
-        Ok(cached(8, 4096))
+    let found = shared(rt.alloc(), first, second, true)?;
+    let turned = shared(rt.alloc(), second, first, false)?;
+    are_equal(
+        &rt,
+        &[(found, Ok(cached(8, 4096))), (turned, Ok(cached(8, 4096)))],
     );
     Ok(())
 }
@@ -96,20 +116,36 @@ fn reasons(rt: HostRuntime) -> Result<(), Fail> {
     let secure =
         r#"{"usage":["video"],"buffer_memory_constraints":{"secure_required":true,"max_size_bytes":4096}}"#;
     let limit = Err(Reason::Count(Field::BufferCountLimit));
-    assert_eq!(rt; shared(rt.alloc(), many, secure, true)?, limit);
-    assert_eq!(rt;
-        shared(rt.alloc(), large, secure, true)?,
-        Err(Reason::NoPlace)
-    );
-    assert_eq!(rt;
-        shared(rt.alloc(), large, small, true)?,
-        Err(Reason::NoOffer)
-    );
-    assert_eq!(rt;
-        shared(rt.alloc(), small, large, true)?,
-        Err(Reason::NoOffer)
+    are_equal(
+        &rt,
+        &[
+            (shared(rt.alloc(), many, secure, true)?, limit),
+            (
+                shared(rt.alloc(), large, secure, true)?,
+                Err(Reason::NoPlace),
+            ),
+            (
+                shared(rt.alloc(), large, small, true)?,
+                Err(Reason::NoOffer),
+            ),
+            (
+                shared(rt.alloc(), small, large, true)?,
+                Err(Reason::NoOffer),
+            ),
+        ],
     );
     Ok(())
+}
+
+// The offer and the size in bytes.
+fn offer_and_size(found: Result<Settings, Reason>) -> Result<(Offer, u64), Reason> {
+    let settings = found?;
+    Ok((settings.offer, settings.size_bytes))
+}
+
+// The least width of images.
+fn least_width(found: Result<Settings, Reason>) -> Result<u32, Reason> {
+    Ok(found?.bounds.min_size.width)
 }
 
 // One that takes R8 of 16 by 16 alone, and one that takes whatever is chosen: the first offer, NV12, is passed by.
@@ -119,19 +155,40 @@ fn one_names_the_format(rt: HostRuntime) -> Result<(), Fail> {
         r#"{"usage":["cpu"],"image_format_constraints":[{"pixel_format":"R8","color_spaces":["SRGB"],"min_size":{"width":16,"height":16}}]}"#;
     let any =
         r#"{"usage":["cpu"],"image_format_constraints":[{"pixel_format":"DO_NOT_CARE","color_spaces":["DO_NOT_CARE"]}]}"#;
-    let Ok(settings) = shared(rt.alloc(), camera, any, true)? else {
-        return Err(Fail::from("no settings"));
-    };
-    assert_eq!(rt; settings.offer, linear(PixelFormat::R8));
-    assert_eq!(rt; settings.size_bytes, 256);
-    assert_eq!(rt; settings.bounds.min_size.width, 16);
-    assert_eq!(rt; shared(rt.alloc(), any, ANY, true)?, Err(Reason::NoOffer));
-    let Ok(unnamed) = shared(rt.alloc(), any, ANY, false)? else {
-        return Err(Fail::from("no settings"));
-    };
-    assert_eq!(rt; unnamed.offer, linear(PixelFormat::NV12));
-    assert_eq!(rt; unnamed.size_bytes, 6);
+    let named = shared(rt.alloc(), camera, any, true)?;
+    let whole = shared(rt.alloc(), any, ANY, true)?;
+    let unnamed = shared(rt.alloc(), any, ANY, false)?;
+    are_equal(
+        &rt,
+        &[
+            (offer_and_size(named), Ok((linear(PixelFormat::R8), 256))),
+            (offer_and_size(whole), Err(Reason::NoOffer)),
+            (offer_and_size(unnamed), Ok((linear(PixelFormat::NV12), 6))),
+        ],
+    );
+    are_equal(&rt, &[(least_width(named), Ok(16))]);
     Ok(())
+}
+
+// One that takes anything, and a camera of R8 images with rows of multiples of 64.
+fn accept_alone(rt: &impl Abort, platform: &Platform, any: &Constraints, camera: &Constraints) {
+    let plain = cached(1, 1);
+    let mut image = plain;
+    image.offer = linear(PixelFormat::R8);
+    let mut rows = image;
+    rows.bounds.bytes_per_row_divisor = 128;
+    let mut far = rows;
+    far.place.coherency = CoherencyDomain::Ram;
+    are_equal(
+        rt,
+        &[
+            (meets_one(platform, &plain, any), true),
+            (meets_one(platform, &plain, camera), false),
+            (meets_one(platform, &image, camera), false),
+            (meets_one(platform, &rows, camera), true),
+            (meets_one(platform, &far, camera), false),
+        ],
+    );
 }
 
 #[test]
@@ -142,16 +199,7 @@ fn accepts_alone(rt: HostRuntime) -> Result<(), Fail> {
         rt.alloc(),
         r#"{"usage":["cpu"],"image_format_constraints":[{"pixel_format":"R8","color_spaces":["SRGB"],"bytes_per_row_divisor":64}]}"#,
     )?;
-    let plain = cached(1, 1);
-    assert!(rt; meets_one(&platform, &plain, &any));
-    assert!(rt; !meets_one(&platform, &plain, &camera));
-    let mut image = plain;
-    image.offer = linear(PixelFormat::R8);
-    assert!(rt; !meets_one(&platform, &image, &camera));
-    image.bounds.bytes_per_row_divisor = 128;
-    assert!(rt; meets_one(&platform, &image, &camera));
-    image.place.coherency = CoherencyDomain::Ram;
-    assert!(rt; !meets_one(&platform, &image, &camera));
+    accept_alone(&rt, &platform, &any, &camera);
     Ok(())
 }
 
@@ -164,8 +212,19 @@ fn fails_without_image(rt: HostRuntime) -> Result<(), Fail> {
         r#"{"usage":["video"],"image_format_constraints":[{"pixel_format":"R8","color_spaces":["SRGB"]}]}"#,
     )?;
     let plain = cached(8, 1);
-    assert!(rt; fails_in(Field::PixelFormat, &platform, &plain, &viewer));
-    assert!(rt; !fails_in(Field::ColorSpaces, &platform, &plain, &viewer));
+    are_equal(
+        &rt,
+        &[
+            (
+                fails_in(Field::PixelFormat, &platform, &plain, &viewer),
+                true,
+            ),
+            (
+                fails_in(Field::ColorSpaces, &platform, &plain, &viewer),
+                false,
+            ),
+        ],
+    );
     Ok(())
 }
 
@@ -178,6 +237,54 @@ fn first_field(platform: &Platform, settings: &Settings, asked: &Constraints) ->
     }
 }
 
+// In what settings of main memory fail a camera, before their rows, then their size, then their place are mended.
+fn fail_in_turn(rt: &impl Abort, platform: &Platform, camera: &Constraints) {
+    let mut image = cached(1, 1);
+    image.offer = linear(PixelFormat::R8);
+    image.place.coherency = CoherencyDomain::Ram;
+    let mut rows = image;
+    rows.bounds.bytes_per_row_divisor = 64;
+    let mut large = rows;
+    large.size_bytes = 4096;
+    let mut near = large;
+    near.place.coherency = CoherencyDomain::Cpu;
+    are_equal(
+        rt,
+        &[
+            (
+                first_field(platform, &image, camera),
+                Some(Field::BytesPerRowDivisor),
+            ),
+            (
+                first_field(platform, &rows, camera),
+                Some(Field::MinSizeBytes),
+            ),
+            (
+                first_field(platform, &large, camera),
+                Some(Field::RamDomainSupported),
+            ),
+            (first_field(platform, &near, camera), None),
+        ],
+    );
+    are_equal(
+        rt,
+        &[
+            (
+                fails_in(Field::MinSizeBytes, platform, &image, camera),
+                true,
+            ),
+            (
+                fails_in(Field::RamDomainSupported, platform, &large, camera),
+                true,
+            ),
+            (
+                fails_in(Field::MinSizeBytes, platform, &large, camera),
+                false,
+            ),
+        ],
+    );
+}
+
 // A least size and a coherency domain that isn't supported, beside a divisor of 64.
 #[test]
 fn fails_in_some(rt: HostRuntime) -> Result<(), Fail> {
@@ -186,59 +293,60 @@ fn fails_in_some(rt: HostRuntime) -> Result<(), Fail> {
         rt.alloc(),
         r#"{"usage":["cpu"],"buffer_memory_constraints":{"min_size_bytes":4096},"image_format_constraints":[{"pixel_format":"R8","color_spaces":["SRGB"],"bytes_per_row_divisor":64}]}"#,
     )?;
-    let mut image = cached(1, 1);
-    image.offer = linear(PixelFormat::R8);
-    image.place.coherency = CoherencyDomain::Ram;
-    assert!(rt; fails_in(Field::MinSizeBytes, &platform, &image, &camera));
-    assert_eq!(rt;
-        first_field(&platform, &image, &camera),
-        Some(Field::BytesPerRowDivisor)
-    );
-    image.bounds.bytes_per_row_divisor = 64;
-    assert_eq!(rt;
-        first_field(&platform, &image, &camera),
-        Some(Field::MinSizeBytes)
-    );
-    image.size_bytes = 4096;
-    assert!(rt; fails_in(Field::RamDomainSupported, &platform, &image, &camera));
-    assert!(rt; !fails_in(Field::MinSizeBytes, &platform, &image, &camera));
-    assert_eq!(rt;
-        first_field(&platform, &image, &camera),
-        Some(Field::RamDomainSupported)
-    );
-    image.place.coherency = CoherencyDomain::Cpu;
-    assert_eq!(rt; first_field(&platform, &image, &camera), None);
+    fail_in_turn(&rt, &platform, &camera);
     Ok(())
+}
+
+// Settings without an image: a size of 0, a bound and places that the platform hasn't.
+fn plain_settings(rt: &impl Abort, platform: &Platform) {
+    let plain = cached(1, 1);
+    let mut bounded = plain;
+    bounded.bounds.max_size.width = 4096;
+    let mut hidden = plain;
+    hidden.place.coherency = CoherencyDomain::Inaccessible;
+    let mut beyond = plain;
+    beyond.place.heap = 1;
+    are_equal(
+        rt,
+        &[
+            (is_sound(platform, &plain), true),
+            (is_sound(platform, &cached(1, 0)), false),
+            (is_sound(platform, &bounded), false),
+            (is_sound(platform, &hidden), false),
+            (is_sound(platform, &beyond), false),
+        ],
+    );
+}
+
+// Settings with images of NV12, and of a format that the platform hasn't.
+fn image_settings(rt: &impl Abort, platform: &Platform) {
+    let mut unbounded = cached(1, 6);
+    unbounded.offer = linear(PixelFormat::NV12);
+    let mut image = unbounded;
+    image.bounds = ImageBounds::of(&image.offer);
+    let mut high = image;
+    high.bounds.min_size.height = 3;
+    let mut large = high;
+    large.size_bytes = 12;
+    let mut other = large;
+    other.offer = linear(PixelFormat::I420);
+    are_equal(
+        rt,
+        &[
+            (is_sound(platform, &unbounded), false),
+            (is_sound(platform, &image), true),
+            (is_sound(platform, &high), false),
+            (is_sound(platform, &large), true),
+            (is_sound(platform, &other), false),
+        ],
+    );
 }
 
 // NV12 has two rows and columns at least, of 6 bytes; the platform has one heap, which isn't inaccessible.
 #[test]
 fn sound_settings(rt: HostRuntime) -> Result<(), Fail> {
     let platform = platform(rt.alloc())?;
-    let plain = cached(1, 1);
-    assert!(rt; is_sound(&platform, &plain));
-    assert!(rt; !is_sound(&platform, &cached(1, 0)));
-    let mut bounded = plain;
-    bounded.bounds.max_size.width = 4096;
-    assert!(rt; !is_sound(&platform, &bounded));
-    let mut hidden = plain;
-    hidden.place.coherency = CoherencyDomain::Inaccessible;
-    assert!(rt; !is_sound(&platform, &hidden));
-    hidden.place = Place {
-        heap: 1,
-        coherency: CoherencyDomain::Cpu,
-    };
-    assert!(rt; !is_sound(&platform, &hidden));
-    let mut image = cached(1, 6);
-    image.offer = linear(PixelFormat::NV12);
-    assert!(rt; !is_sound(&platform, &image));
-    image.bounds = ImageBounds::of(&image.offer);
-    assert!(rt; is_sound(&platform, &image));
-    image.bounds.min_size.height = 3;
-    assert!(rt; !is_sound(&platform, &image));
-    image.size_bytes = 12;
-    assert!(rt; is_sound(&platform, &image));
-    image.offer = linear(PixelFormat::I420);
-    assert!(rt; !is_sound(&platform, &image));
+    plain_settings(&rt, &platform);
+    image_settings(&rt, &platform);
     Ok(())
 }
