@@ -81,7 +81,7 @@ fn run_file(rt: &HostRuntime, file: &str, proof: Option<&str>) -> Result<Ended, 
     run_with_proof(rt.alloc(), &mut reader, &mut writer, &mut certificate)
 }
 
-/// Replays as the last thing that the process does: the script's value goes with it.
+/// Replays, and leaves the script's value to the end of the process.
 fn run_last<R: Source, W: Sink>(
     alloc: Global,
     reader: &mut R,

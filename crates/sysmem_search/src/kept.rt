@@ -126,6 +126,7 @@ impl Kept {
     }
 
     /// The best settings for the participants, who are all that there are; `None` where none meet them. It takes no memory.
+    // In line, a caller that asks only whether there are any copies no settings.
     #[inline(always)]
     pub(crate) fn best(&self, platform: &Platform, base: Option<&Base>) -> Option<Settings>
         ensures { (nodes : List NodeFacts) (ms : List Member) → IsKeptOf platform.now nodes
