@@ -1,8 +1,8 @@
 # Mezulobu: the two commands are `make run FILE=examples/NAME.json` and `make test`.
 PROGRAM := crates/sysmem_replay
 FILE ?= examples/one_participant.json
-# How many proofs the gate makes side by side, each by one process, which takes a third less processor time than several for one proof:
-# one a processor, where there are 4 GB of memory for each.
+# How many proofs the gate makes side by side: one a processor, where each has 4 GB of memory. Each is made by one process, which takes about a
+# third less processor time than several.
 JOBS ?= $(shell awk -v n=$$(nproc) '/^MemAvailable/ { m = int($$2 / 4000000); print m < 1 ? 1 : m < n ? m : n }' /proc/meminfo)
 
 .PHONY: run proved test program-test built-test bench
