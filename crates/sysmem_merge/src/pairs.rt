@@ -14,7 +14,7 @@ use sysmem_image::{Entry, FirstMatches};
 pub(crate) fn kept_pairs(alloc: Global, pairs: &[Pair]) -> Result<Vec<KeptPair>, AllocError>
     ensures { IfOk result (λ kept. ArePairsKept pairs.now [] kept.items) }
 {
-    let mut kept = Vec::new(alloc);
+    let mut kept = Vec::with_capacity(alloc, pairs.len())?;
     for pair in pairs {
         kept.push(KeptPair::new(*pair))?;
     }

@@ -6,8 +6,8 @@ use smallvec::SmallVec;
 use std::alloc::{AllocError, Global};
 use std::marker::Model;
 
-/// Paths in one list of numbers: how many steps a path has, and behind that its ordinals. A list of one path of up to 3 steps takes
-/// no memory beside it, and any other takes one block.
+/// Paths in one list of numbers: how many steps a path has, and behind that its ordinals. Up to 4 numbers (one path of 3 steps) take
+/// no memory beside the list, and more take one block.
 #[derive(Debug, Drop)]
 pub struct PathList {
     numbers: SmallVec<u32, 4>,
