@@ -4,17 +4,16 @@
 #![tactic(auto)]
 
 mod ending;
-mod words;
 
 use byte_transfer::{Counted, Sink, Source};
 use clap::Error;
+pub use command_line::{Job, read_words};
 pub use ending::{Ending, ending_of, refusal_ending};
 pub use script_run::{Ended, RunFault, check_file, run, run_leaving, run_with_proof};
 use std::alloc::Global;
 use std::fs::File;
 use std::process::ExitCode;
 use std::{env, io, mem};
-pub use words::{Job, read_words};
 
 fn main(rt: HostRuntime) -> ExitCode {
     let ending = match given_words(&rt) {

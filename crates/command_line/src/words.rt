@@ -2,7 +2,7 @@
 ghost use Rattle.std.specs.Prelude.{◌≡◌, IfNone, IfOk, IfSome, IsSomeAnd, false, map, string_bytes};
 ghost use Rattle.clap.specs.Words.{FailsBy, app_of, fault_of, subcommand_of, subcommand_rows_of};
 ghost use Rattle.clap.specs.declared.builder.command.Command.TheViews.{out-Command as fields_of};
-ghost use Rattle.sysmem_replay.specs.CommandLine.{AsksForJob, AsksForNone, IsPlainRun, check_app, replay_app, run_app, runs_app};
+ghost use Rattle.command_line.specs.CommandLine.{AsksForJob, AsksForNone, IsPlainRun, check_app, replay_app, run_app, runs_app};
 
 use clap::error::ErrorKind;
 use clap::{Arg, ArgMatches, Command, Error};

@@ -1,9 +1,9 @@
 use Rattle.std.proofs.Common.{◌≡◌, ◌∙◌, ap, sym, codes, option_map, Some, None}
 use Rattle.clap.specs.Words.{first_of, found_of, rows_of}
 use Rattle.clap.proofs.WalkLemmas.{first_value-rows}
-use Rattle.sysmem_replay.specs.CommandLine.{AsksForNone, IsCheckOf, IsRunOf}
-use Rattle.sysmem_replay.proofs.Entries.{entered_is, none_entered, some_entered, some≢none}
-use Rattle.sysmem_replay.proofs.words.job_in.Goals as goal
+use Rattle.command_line.specs.CommandLine.{AsksForNone, IsCheckOf, IsRunOf}
+use Rattle.command_line.proofs.Entries.{entered_is, none_entered, some_entered, some≢none}
+use Rattle.command_line.proofs.words.job_in.Goals as goal
 
 other_name : codes "check" ≡ codes "run" → ⊥
 other_name e = absurd (cc)

@@ -1,11 +1,11 @@
 use Rattle.std.proofs.Common.{◌≡◌, ◌∙◌, ap, sym, subst, map, string_bytes, [], IfSome}
 use Rattle.clap.specs.Words.{app_of, fault_of}
 use Rattle.clap.specs.Faults.{is_simple_and_free}
-use Rattle.sysmem_replay.specs.CommandLine.{AsksForNone, replay_app}
+use Rattle.command_line.specs.CommandLine.{AsksForNone, replay_app}
 use Rattle.clap.specs.Words.{HasKind, is_simple, subcommand_of, subcommand_rows_of}
 use Rattle.clap.proofs.FaultLemmas.{failed_up}
-use Rattle.sysmem_replay.proofs.Asked.{job_asked, none_asked}
-use Rattle.sysmem_replay.proofs.words.parse_words.Goals as goal
+use Rattle.command_line.proofs.Asked.{job_asked, none_asked}
+use Rattle.command_line.proofs.words.parse_words.Goals as goal
 
 pub returns-in-Some-clause-kinds : goal.returns-in-Some-clause-kinds
 returns-in-Some-clause-kinds c =

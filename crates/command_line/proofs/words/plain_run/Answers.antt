@@ -1,8 +1,8 @@
 use Rattle.std.proofs.Common.{◌≡◌, ◌∙◌, ap, ap₂, sym, subst, None, map, string_bytes, [], ◌∷◌, nat_eq, codes, false}
 use Rattle.std.specs.List.{starts_with}
 use Rattle.clap.specs.Lexer.{strip_byte}
-use Rattle.sysmem_replay.proofs.Plain.{no_more, plain_of, same_text}
-use Rattle.sysmem_replay.proofs.words.plain_run.Goals as goal
+use Rattle.command_line.proofs.Plain.{no_more, plain_of, same_text}
+use Rattle.command_line.proofs.words.plain_run.Goals as goal
 
 pub returns : goal.returns
 returns c =

@@ -4,8 +4,8 @@ use Rattle.clap.specs.Words.{App, Row, Rule, Shape, Text, first_of, new_app, new
 use Rattle.clap.specs.Words.{with_subcommand}
 use Rattle.clap.specs.Lexer.{strip_byte}
 use Rattle.clap.specs.Simple.{on_top}
-use Rattle.sysmem_replay.specs.declared.words.Job.{Job}
-use Rattle.sysmem_replay.specs.declared.words.Job.TheVariants.{Run, Check}
+use Rattle.command_line.specs.declared.words.Job.{Job}
+use Rattle.command_line.specs.declared.words.Job.TheVariants.{Run, Check}
 
 -- FILE, which has to be there
 abbrev pub file_rule : Rule

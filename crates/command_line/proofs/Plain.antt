@@ -11,9 +11,9 @@ use Rattle.clap.specs.Walk.{idle, trailing, value}
 use Rattle.clap.specs.Simple.{subcommand_of}
 use Rattle.clap.specs.Kinds.{Kinds, or_else}
 use Rattle.clap.specs.Faults.{bundle_fault, check_fault, defaults_fault, fault_of, flag_word_fault, level_fault, settle_fault, step_fault, turn_fault, walk_fault, word_fault}
-use Rattle.sysmem_replay.specs.CommandLine.{IsRunOf, replay_app}
-use Rattle.sysmem_replay.proofs.Asked.{run_shape}
-use Rattle.sysmem_replay.proofs.Entries.{some≢none}
+use Rattle.command_line.specs.CommandLine.{IsRunOf, replay_app}
+use Rattle.command_line.proofs.Asked.{run_shape}
+use Rattle.command_line.proofs.Entries.{some≢none}
 
 -- texts that aren't told apart are the same
 pub same_text : (a b : Text) → false ≡ not (bytes_eq a b) → a ≡ b

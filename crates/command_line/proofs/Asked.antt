@@ -7,8 +7,8 @@ use Rattle.clap.specs.Simple.{Shape, built, built_leaf, entered, inherited, labe
 use Rattle.clap.specs.Takes.{is_given}
 use Rattle.clap.specs.Kinds.{check_kinds}
 use Rattle.clap.specs.Faults.{check_fault, entered_fault, fault_of, level_fault}
-use Rattle.sysmem_replay.specs.CommandLine.{AsksForNone, IsCheckOf, IsRunOf, check_app, replay_app, run_app}
-use Rattle.sysmem_replay.proofs.Filled.{each_has_value, faults, given_is_read, level_parts}
+use Rattle.command_line.specs.CommandLine.{AsksForNone, IsCheckOf, IsRunOf, check_app, replay_app, run_app}
+use Rattle.command_line.proofs.Filled.{each_has_value, faults, given_is_read, level_parts}
 
 -- the subcommands as clap builds them
 unfoldable pub run_shape : Shape

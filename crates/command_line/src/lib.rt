@@ -1,0 +1,14 @@
+//! The command line of `sysmem_replay`: the job that the words behind the program's name ask for, as clap reads them.
+//!
+//! ```
+//! match read_words(rt.alloc(), &words) {
+//!     Ok(Job::Run { file, proof }) => println!(&rt; "run {file}, {proof:?}"),
+//!     Ok(Job::Check { file, proof }) => println!(&rt; "check {file}, {proof}"),
+//!     Err(refusal) => refusal.print(&rt),
+//! }
+//! ```
+#![tactic(auto)]
+
+mod words;
+
+pub use words::{Job, read_words};
