@@ -1,15 +1,12 @@
 //! The command line: the job that the words behind the program's name ask for.
 ghost use Rattle.std.specs.Prelude.{◌≡◌, IfNone, IfOk, IfSome, IsSomeAnd, false, map, string_bytes};
-ghost use Rattle.clap.specs.Words.{FailsBy, app_of, fault_of, subcommand_of, subcommand_rows_of};
+ghost use Rattle.clap.specs.Words.{FailsBy, app_of, fault_of, rule_of, subcommand_of, subcommand_rows_of};
 ghost use Rattle.clap.specs.declared.builder.command.Command.TheViews.{out-Command as fields_of};
-ghost use Rattle.command_line.specs.CommandLine.{AsksForJob, AsksForNone, IsPlainRun, check_app, replay_app, run_app, runs_app};
+ghost use Rattle.command_line.specs.CommandLine.{AsksForJob, AsksForNone, IsPlainRun, certificate_rule, check_app, file_rule, proof_rule, replay_app, run_app, runs_app};
 
 use clap::error::ErrorKind;
 use clap::{Arg, ArgMatches, Command, Error};
 use std::alloc::{AllocError, Global};
-
-const FILE_HELP: &str =
-    "A JSON script, of at most 4194304 bytes: a platform, and the calls to replay on it";
 
 /// What a command line asks for, with the files that it names.
 #[derive(Clone, Copy, Debug, PartialEq, Eq)]
@@ -116,11 +113,8 @@ fn run_command<'a>(alloc: Global) -> Result<Command<'a>, AllocError>
     ensures app { IfOk result (λ c. app_of c ≡ run_app) }
     ensures local { IfOk result (λ c. (fields_of c).has_globals ≡ false) }
 {
-    let file = Arg::new(alloc, "FILE").required(true).help(FILE_HELP);
-    let proof = Arg::new(alloc, "proof")
-        .long("proof")
-        .value_name("OUT")
-        .help("Also writes the certificate of the decisions to OUT, which is emptied first");
+    let file = file_arg(alloc);
+    let proof = out_arg(alloc);
     let command = Command::new(alloc, "run").about(
         "Replays a script, and prints a line for each call and each decision",
     );
@@ -131,12 +125,39 @@ fn check_command<'a>(alloc: Global) -> Result<Command<'a>, AllocError>
     ensures app { IfOk result (λ c. app_of c ≡ check_app) }
     ensures local { IfOk result (λ c. (fields_of c).has_globals ≡ false) }
 {
-    let file = Arg::new(alloc, "FILE").required(true).help(FILE_HELP);
-    let proof = Arg::new(alloc, "PROOF").required(true).help(
-        "A certificate of the script's decisions, of at most 4194304 bytes",
-    );
+    let file = file_arg(alloc);
+    let proof = certificate_arg(alloc);
     let command = Command::new(alloc, "check").about(
         "Tests a certificate: prints yes and the number of its decisions, or the first that fails",
     );
     command.arg(file)?.arg(proof)
+}
+
+fn file_arg<'a>(alloc: Global) -> Arg<'a>
+    ensures rule { rule_of result ≡ file_rule }
+    ensures local { result.global ≡ false }
+{
+    Arg::new(alloc, "FILE").required(true).help(
+        "A JSON script, of at most 4194304 bytes: a platform, and the calls to replay on it",
+    )
+}
+
+/// The option `--proof`.
+fn out_arg<'a>(alloc: Global) -> Arg<'a>
+    ensures rule { rule_of result ≡ proof_rule }
+    ensures local { result.global ≡ false }
+{
+    Arg::new(alloc, "proof")
+        .long("proof")
+        .value_name("OUT")
+        .help("Also writes the certificate of the decisions to OUT, which is emptied first")
+}
+
+fn certificate_arg<'a>(alloc: Global) -> Arg<'a>
+    ensures rule { rule_of result ≡ certificate_rule }
+    ensures local { result.global ≡ false }
+{
+    Arg::new(alloc, "PROOF").required(true).help(
+        "A certificate of the script's decisions, of at most 4194304 bytes",
+    )
 }
