@@ -38,9 +38,13 @@ settings s = record s {
   subcommand_required = true;
 }
 
+-- sysmem_replay with no subcommand
+abbrev pub jobless_app : App
+jobless_app = on_top settings (new_app (codes "sysmem_replay"))
+
 -- sysmem_replay with the subcommand `run` alone
 abbrev pub runs_app : App
-runs_app = with_subcommand (on_top settings (new_app (codes "sysmem_replay"))) run_app.top
+runs_app = with_subcommand jobless_app run_app.top
 
 -- sysmem_replay, with a subcommand for each job
 abbrev pub replay_app : App

@@ -2,9 +2,8 @@
 ghost use Rattle.std.specs.Prelude.{◌≡◌, IfNone, IfOk, IfSome, IsSomeAnd, false, map, string_bytes};
 ghost use Rattle.clap.specs.Words.{FailsBy, app_of, fault_of, rule_of, subcommand_of, subcommand_rows_of};
 ghost use Rattle.clap.specs.declared.builder.command.Command.TheViews.{out-Command as fields_of};
-ghost use Rattle.command_line.specs.CommandLine.{AsksForJob, AsksForNone, IsPlainRun, certificate_rule, check_app, file_rule, proof_rule, replay_app, run_app, runs_app};
+ghost use Rattle.command_line.specs.CommandLine.{AsksForJob, AsksForNone, IsPlainRun, certificate_rule, check_app, file_rule, jobless_app, proof_rule, replay_app, run_app, runs_app};
 
-use clap::error::ErrorKind;
 use clap::{Arg, ArgMatches, Command, Error};
 use std::alloc::{AllocError, Global};
 
@@ -58,7 +57,7 @@ fn parse_words<'a>(alloc: Global, words: &'a [String]) -> Result<Job<'a>, Error>
     let matches = command.try_get_matches_from_mut(words)?;
     match job_in(&matches) {
         Some(job) => Ok(job),
-        None => Err(command.error(ErrorKind::MissingSubcommand, "no job is asked for")?),
+        None => unreachable!(),
     }
 }
 
@@ -97,40 +96,45 @@ fn replay_command<'a>(alloc: Global) -> Result<Command<'a>, AllocError>
 fn command_of_runs<'a>(alloc: Global) -> Result<Command<'a>, AllocError>
     ensures { IfOk result (λ c. app_of c ≡ runs_app) }
 {
+    let command = jobless_command(alloc)?;
+    let run = run_command(alloc)?;
+    command.subcommand(run)
+}
+
+/// The same with no subcommand.
+fn jobless_command<'a>(alloc: Global) -> Result<Command<'a>, AllocError>
+    ensures app { IfOk result (λ c. app_of c ≡ jobless_app) }
+{
     let command = Command::new(alloc, "sysmem_replay")
-        .bin_name("sysmem_replay")?
         .about(
             "Negotiates shared buffers for the calls of a script, by a profile of Fuchsia's sysmem",
         )
         .no_binary_name(true)
         .disable_help_subcommand(true)
         .subcommand_required(true);
-    let run = run_command(alloc)?;
-    command.subcommand(run)
+    command.bin_name("sysmem_replay")
 }
 
 fn run_command<'a>(alloc: Global) -> Result<Command<'a>, AllocError>
     ensures app { IfOk result (λ c. app_of c ≡ run_app) }
     ensures local { IfOk result (λ c. (fields_of c).has_globals ≡ false) }
 {
-    let file = file_arg(alloc);
-    let proof = out_arg(alloc);
-    let command = Command::new(alloc, "run").about(
-        "Replays a script, and prints a line for each call and each decision",
-    );
-    command.arg(file)?.arg(proof)
+    Command::new(alloc, "run")
+        .about("Replays a script, and prints a line for each call and each decision")
+        .arg(file_arg(alloc))?
+        .arg(out_arg(alloc))
 }
 
 fn check_command<'a>(alloc: Global) -> Result<Command<'a>, AllocError>
     ensures app { IfOk result (λ c. app_of c ≡ check_app) }
     ensures local { IfOk result (λ c. (fields_of c).has_globals ≡ false) }
 {
-    let file = file_arg(alloc);
-    let proof = certificate_arg(alloc);
-    let command = Command::new(alloc, "check").about(
-        "Tests a certificate: prints yes and the number of its decisions, or the first that fails",
-    );
-    command.arg(file)?.arg(proof)
+    Command::new(alloc, "check")
+        .about(
+            "Tests a certificate: prints yes and the number of its decisions, or the first that fails",
+        )
+        .arg(file_arg(alloc))?
+        .arg(certificate_arg(alloc))
 }
 
 fn file_arg<'a>(alloc: Global) -> Arg<'a>

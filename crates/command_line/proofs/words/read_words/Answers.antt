@@ -1,4 +1,4 @@
-use Rattle.std.proofs.Common.{◌≡◌, ◌∙◌, ap, sym, subst, None, IsSomeAnd}
+use Rattle.std.proofs.Common.{◌∙◌, ap, sym, subst, None, IsSomeAnd}
 use Rattle.clap.specs.Words.{fault_of, subcommand_of}
 use Rattle.command_line.specs.CommandLine.{IsRunOf, replay_app}
 use Rattle.command_line.proofs.Plain.{plain_asked, plain_fault}
