@@ -103,7 +103,7 @@ fn command_of_runs<'a>(alloc: Global) -> Result<Command<'a>, AllocError>
 
 /// The same with no subcommand.
 fn jobless_command<'a>(alloc: Global) -> Result<Command<'a>, AllocError>
-    ensures app { IfOk result (λ c. app_of c ≡ jobless_app) }
+    ensures { IfOk result (λ c. app_of c ≡ jobless_app) }
 {
     let command = Command::new(alloc, "sysmem_replay")
         .about(

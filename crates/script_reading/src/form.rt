@@ -80,11 +80,12 @@ fn makes_name(name: &str) -> bool
 fn may_have(name: &str, key: &str) -> bool
     ensures { result ≡ may_have name.now key.now }
 {
-    key == "call"
-        || key == "on"
-        || key == "actor"
-        || (key == "as" && makes_name(name))
-        || (key == "constraints" && name == "set_constraints")
+    match key {
+        "call" | "on" | "actor" => true,
+        "as" => makes_name(name),
+        "constraints" => name == "set_constraints",
+        _ => false,
+    }
 }
 
 fn has_only_known(name: &str, members: &Map<String, Value>) -> bool

@@ -1,6 +1,7 @@
 //! A script: the platform that it names and its calls.
-ghost use Rattle.std.specs.Prelude.{◌≡◌, map, option_map};
+ghost use Rattle.std.specs.Prelude.{◌≡◌, codes, map, option_and_then, option_map};
 ghost use Rattle.std.specs.List.{list_all};
+ghost use Rattle.serde_json.specs.Find.{as_array, get};
 ghost use Rattle.serde_json.specs.View.{items_view, members_view, view};
 ghost use Rattle.sysmem_sanitise.specs.Reading.Fields.{keys_of};
 ghost use Rattle.script_reading.specs.Faults.{Gives};
@@ -36,13 +37,20 @@ fn has_only_parts(members: &Map<String, Value>) -> bool
     members.keys().all(|key| is_part(key.as_str()))
 }
 
+fn calls_in(script: &Value) -> Option<&Vec<Value>>
+    ensures { option_map (λ calls. items_view calls.now.items) result
+        ≡ option_and_then as_array (get (codes "calls") (view script.now)) }
+{
+    script.get("calls")?.as_array()
+}
+
 fn parts_of(script: &Value) -> Option<(&Value, &[Value])>
     ensures { option_map (λ parts. (view parts.0.now, items_view parts.1.now)) result
         ≡ parts_of (view script.now) }
 {
     let members = script.as_object()?;
     let platform = script.get("platform")?;
-    let calls = script.get("calls")?.as_array()?;
+    let calls = calls_in(script)?;
     if has_only_parts(members) {
         Some((platform, calls))
     } else {

@@ -4,11 +4,11 @@ use Rattle.script_reading.specs.declared.call.Call.{Call}
 use Rattle.script_reading.specs.Known.{known_seen}
 use Rattle.script_reading.specs.Seen.{call_seen}
 use Rattle.script_reading.proofs.CallsLemmas.{fault_given, turn, turn_fault, turn_end}
-use Rattle.script_reading.proofs.calls.read_calls.Goals as goal
+use Rattle.script_reading.proofs.calls.read_with.Goals as goal
 
 pub returns-in_err-call : goal.returns-in_err-call
 returns-in_err-call c =
-    let p = err_from_is_err_and c.from_residual-in_err-call.result c.from_residual-in_err-call.ensures.1 in
+    let p = err_from_is_err_and c.from_residual.result c.from_residual.ensures.1 in
     rw (p.1, p.2) (fault_given {X = Call} {Y = Vec Call Global} (λ call. (call_seen call, known_seen c.read_call.new.self)) (λ calls. map call_seen calls.items) _ _ _
     (λ f read. sym c.loop-index.invariant
     ∙ turn_fault c.args.values.now c.loop-index.index c.index-values-index.result c.loop-index-test.true c.index-values-index.is (known_seen c.loop-index.known) _ f read)
