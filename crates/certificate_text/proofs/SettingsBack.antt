@@ -1,5 +1,5 @@
 -- Settings are read of what is told of them.
-use Rattle.std.proofs.Common.{◌≡◌, ℕ, zero, suc, ◌+◌, ◌-◌, ◌^◌, ◌<◌, ◌≤◌, ◌&&◌, Bool, true, false, cond, not, List, [], ◌∷◌, length, get_or, AllPairs, Contains, position, slice_get, Option, Some, None, codes, nat_lt, option_map, if◌then◌else◌, Decides, refl, sym, ap, subst, ◌∙◌, arith, rules, tests, le-leb, lt-ltb, eq-eqb}
+use Rattle.std.proofs.Common.{◌≡◌, ℕ, zero, suc, ◌+◌, ◌-◌, ◌^◌, ◌<◌, ◌≤◌, ◌&&◌, Bool, true, false, cond, not, List, [], ◌∷◌, length, map, get_or, AllPairs, Contains, position, slice_get, Option, Some, None, codes, nat_lt, option_map, if◌then◌else◌, Decides, refl, sym, ap, subst, ◌∙◌, arith, rules, tests, le-leb, lt-ltb, eq-eqb}
 use Rattle.std.specs.List.{list_any, position_or_len}
 use Rattle.std.proofs.lemmas.List.Folds.{Any-from_list_any, list_any_at}
 use Rattle.std.proofs.lemmas.Option.{same_Some, none-some, slice_get_within, get_or_from_slice_get}
@@ -18,6 +18,8 @@ use Rattle.sysmem_image.specs.declared.bounds.ImageBounds.{ImageBounds}
 use Rattle.sysmem_image.specs.declared.size.Size.{Size}
 use Rattle.sysmem_image.specs.Bounds.{IsInRange, IsOwn}
 use Rattle.sysmem_image.specs.Fields as f
+use Rattle.sysmem_image.specs.Fields.{Bound, all_bounds, sides_of, values_of}
+use Rattle.sysmem_image.specs.Size.{square}
 use Rattle.sysmem_counts.specs.Bounds.{most_number}
 use Rattle.sysmem_memory.specs.declared.place.Place.{Place}
 use Rattle.sysmem_memory.specs.Domain.{domain_name}
@@ -31,9 +33,9 @@ use Rattle.sysmem_sanitise.specs.Reading.Pairs.{same_pair, has_pair, same_colour
 use Rattle.certificate_text.specs.Bounds.{count_data, size_data, bounds_data}
 use Rattle.certificate_text.specs.CanBeRead.{AreReadableSettings}
 use Rattle.certificate_text.specs.Reading.{◌>>=◌, number_to, at_key, named_at}
-use Rattle.certificate_text.specs.SettingsSaid.{any_number, unless_zero, some_number, size_said, any_size, unless_flat, some_size, product_said, numbers_said, bounds_by, numbers_of, bounds_beside, offered, image_said, offer_said, is_heap, heap_said, place_at, place_said, settings_said}
+use Rattle.certificate_text.specs.SettingsSaid.{any_number, unless_zero, some_number, size_said, any_size, unless_flat, some_size, product_said, said_in, said_each, values_said, bounds_by, bounds_beside, offered, image_said, offer_said, is_heap, heap_said, place_at, place_said, settings_said}
 use Rattle.certificate_text.specs.Told.{heap_data, image_data, image_bounds_data, settings_data}
-use Rattle.certificate_text.proofs.BoundsLemmas.{bounds_by-numbers_of, own_is_no_bounds}
+use Rattle.certificate_text.proofs.BoundsLemmas.{bounds_by-values_of, own_is_no_bounds}
 use Rattle.sysmem_sanitise.proofs.CallerLemmas.{own_format_name, own_modifier_name, own_colour_name, own_domain_name}
 use Rattle.certificate_text.proofs.RefutationsBack.{first, at_back, number_back}
 
@@ -61,24 +63,30 @@ some_size_at : (field : Field) (d : Data) (s : Size) → get (field_name field) 
     → 1 ≤ s.width → 1 ≤ s.height → some_size field d ≡ Some s
 some_size_at field d s stands wide high w h = first (any_size field d) s unless_flat _ (size_at field d s stands wide high) (rw (le-leb 1 s.width w, le-leb 1 s.height h) refl)
 
-numbers_back : (b : ImageBounds) → IsInRange b → numbers_said (bounds_data b) ≡ Some (numbers_of b)
-numbers_back b fits =
-    let d : Data = bounds_data b in
-    first (some_size field.MinSize d) b.min_size _ _ (some_size_at field.MinSize d b.min_size refl (fits f.MinSize f.Width) (fits f.MinSize f.Height) b.min_width_some b.min_height_some)
-    (first (any_size field.MaxSize d) b.max_size _ _ (size_at field.MaxSize d b.max_size refl (fits f.MaxSize f.Width) (fits f.MaxSize f.Height))
-    (first (some_size field.SizeAlignment d) b.size_alignment _ _ (some_size_at field.SizeAlignment d b.size_alignment refl (fits f.SizeAlignment f.Width) (fits f.SizeAlignment f.Height) b.width_alignment_some b.height_alignment_some)
-    (first (some_number field.MinBytesPerRow d) b.min_bytes_per_row _ _ (some_at field.MinBytesPerRow d b.min_bytes_per_row refl (fits f.MinBytesPerRow f.Width) b.min_row_some)
-    (first (any_number field.MaxBytesPerRow d) b.max_bytes_per_row _ _ (number_at field.MaxBytesPerRow d b.max_bytes_per_row refl (fits f.MaxBytesPerRow f.Width))
-    (first (some_number field.BytesPerRowDivisor d) b.bytes_per_row_divisor _ _ (some_at field.BytesPerRowDivisor d b.bytes_per_row_divisor refl (fits f.BytesPerRowDivisor f.Width) b.row_divisor_some)
-    (first (some_number field.StartOffsetDivisor d) b.start_offset_divisor _ _ (some_at field.StartOffsetDivisor d b.start_offset_divisor refl (fits f.StartOffsetDivisor f.Width) b.start_divisor_some)
-    (first (some_size field.DisplayRectAlignment d) b.display_rect_alignment _ _ (some_size_at field.DisplayRectAlignment d b.display_rect_alignment refl (fits f.DisplayRectAlignment f.Width) (fits f.DisplayRectAlignment f.Height) b.display_width_some b.display_height_some)
-    (first (any_size field.RequiredMinSize d) b.required_min_size _ _ (size_at field.RequiredMinSize d b.required_min_size refl (fits f.RequiredMinSize f.Width) (fits f.RequiredMinSize f.Height))
-    (first (any_size field.RequiredMaxSize d) b.required_max_size _ _ (size_at field.RequiredMaxSize d b.required_max_size refl (fits f.RequiredMaxSize f.Width) (fits f.RequiredMaxSize f.Height))
-    (first (product_said (get (field_name field.MaxWidthTimesHeight) d)) b.max_width_times_height _ _ (number_back (2 ^ 64 - 1) b.max_width_times_height (omega (arith, fits f.MaxWidthTimesHeight f.Width))) refl))))))))))
+each_back : (fs : List Bound) (d : Data) (v : Bound → Size) → ((f : Bound) → said_in f d ≡ Some (v f)) → said_each fs d ≡ Some (map v fs)
+each_back [] d v says = refl
+each_back (g ∷ fs) d v says = first (said_in g d) (v g) _ _ (says g) (first (said_each fs d) (map v fs) _ _ (each_back fs d v says) refl)
+
+field_back : (b : ImageBounds) → IsInRange b → (g : Bound) → said_in g (bounds_data b) ≡ Some (sides_of b g)
+field_back b fits f.MinSize = some_size_at field.MinSize (bounds_data b) b.min_size refl (fits f.MinSize f.Width) (fits f.MinSize f.Height) b.min_width_some b.min_height_some
+field_back b fits f.MaxSize = size_at field.MaxSize (bounds_data b) b.max_size refl (fits f.MaxSize f.Width) (fits f.MaxSize f.Height)
+field_back b fits f.SizeAlignment = some_size_at field.SizeAlignment (bounds_data b) b.size_alignment refl (fits f.SizeAlignment f.Width) (fits f.SizeAlignment f.Height) b.width_alignment_some b.height_alignment_some
+field_back b fits f.MinBytesPerRow = ap (option_map square) (some_at field.MinBytesPerRow (bounds_data b) b.min_bytes_per_row refl (fits f.MinBytesPerRow f.Width) b.min_row_some)
+field_back b fits f.MaxBytesPerRow = ap (option_map square) (number_at field.MaxBytesPerRow (bounds_data b) b.max_bytes_per_row refl (fits f.MaxBytesPerRow f.Width))
+field_back b fits f.BytesPerRowDivisor = ap (option_map square) (some_at field.BytesPerRowDivisor (bounds_data b) b.bytes_per_row_divisor refl (fits f.BytesPerRowDivisor f.Width) b.row_divisor_some)
+field_back b fits f.StartOffsetDivisor = ap (option_map square) (some_at field.StartOffsetDivisor (bounds_data b) b.start_offset_divisor refl (fits f.StartOffsetDivisor f.Width) b.start_divisor_some)
+field_back b fits f.DisplayRectAlignment =
+    some_size_at field.DisplayRectAlignment (bounds_data b) b.display_rect_alignment refl (fits f.DisplayRectAlignment f.Width) (fits f.DisplayRectAlignment f.Height) b.display_width_some b.display_height_some
+field_back b fits f.RequiredMinSize = size_at field.RequiredMinSize (bounds_data b) b.required_min_size refl (fits f.RequiredMinSize f.Width) (fits f.RequiredMinSize f.Height)
+field_back b fits f.RequiredMaxSize = size_at field.RequiredMaxSize (bounds_data b) b.required_max_size refl (fits f.RequiredMaxSize f.Width) (fits f.RequiredMaxSize f.Height)
+field_back b fits f.MaxWidthTimesHeight = ap (option_map square) (number_back (2 ^ 64 - 1) b.max_width_times_height (omega (arith, fits f.MaxWidthTimesHeight f.Width)))
+
+values_back : (b : ImageBounds) → IsInRange b → values_said (bounds_data b) ≡ Some (values_of b)
+values_back b fits = each_back all_bounds (bounds_data b) (sides_of b) (field_back b fits)
 
 bounds_back : (o : Offer) (b : ImageBounds) → IsInRange b → (o ≡ NoImage → IsOwn NoImage b) → bounds_beside o (image_bounds_data o b) ≡ Some b
 bounds_back NoImage b fits own = ap Some (sym (own_is_no_bounds b (own refl)))
-bounds_back (Image pair colour) b fits own = ap (option_map bounds_by) (numbers_back b fits) ∙ ap Some (bounds_by-numbers_of b)
+bounds_back (Image pair colour) b fits own = ap (option_map bounds_by) (values_back b fits) ∙ ap Some (bounds_by-values_of b)
 
 -- ---- offers
 

@@ -1,5 +1,5 @@
 -- The settings that an object of a certificate says.
-use Rattle.std.specs.Prelude.{ℕ, ◌≤◌, ◌-◌, ◌^◌, ◌&&◌, ◌==◌, max, Bool, List, Option, Some, None, codes, bytes_eq, is_some, option_map, position, slice_get, nat_le, if◌then◌else◌}
+use Rattle.std.specs.Prelude.{ℕ, ◌≤◌, ◌-◌, ◌^◌, ◌&&◌, ◌==◌, Bool, List, [], ◌∷◌, length, Option, Some, None, codes, bytes_eq, is_some, option_map, position, slice_get, nat_le, if◌then◌else◌}
 use Rattle.serde_json.specs.Data.{Data}
 use Rattle.serde_json.specs.Find.{get, as_null, as_str}
 use Rattle.sysmem_counts.specs.declared.field.Field.{Field}
@@ -9,7 +9,8 @@ use Rattle.sysmem_formats.specs.declared.offer.Offer.{Offer}
 use Rattle.sysmem_formats.specs.declared.offer.Offer.TheVariants.{NoImage, Image}
 use Rattle.sysmem_image.specs.declared.bounds.ImageBounds.{ImageBounds}
 use Rattle.sysmem_image.specs.declared.size.Size.{Size}
-use Rattle.sysmem_image.specs.Entries.{some_max}
+use Rattle.sysmem_image.specs.Fields.{Bound, MaxWidthTimesHeight, all_bounds, field_of, is_size, absent, bounds_with, value_among}
+use Rattle.sysmem_image.specs.Size.{square}
 use Rattle.sysmem_counts.specs.Bounds.{most_number}
 use Rattle.sysmem_memory.specs.declared.domain.CoherencyDomain.{CoherencyDomain}
 use Rattle.sysmem_memory.specs.declared.place.Place.{Place}
@@ -17,7 +18,6 @@ use Rattle.sysmem_memory.specs.Domain.{has_domain}
 use Rattle.sysmem_memory.specs.Heap.{HeapFacts}
 use Rattle.sysmem_merge.specs.declared.settings.Settings.{Settings}
 use Rattle.sysmem_sanitise.specs.Platform.{PlatformFacts}
-use Rattle.sysmem_sanitise.specs.Reading.Bounds.{some_sides}
 use Rattle.sysmem_sanitise.specs.Reading.Names.{format_named, modifier_named, colour_named, domain_named}
 use Rattle.sysmem_sanitise.specs.Reading.Pairs.{has_pair, lists_colour}
 use Rattle.certificate_text.specs.Reading.{◌>>=◌, is_object_of, number_to, at_key, named_at}
@@ -60,116 +60,52 @@ product_said (Some d) = number_to (2 ^ 64 - 1) d
 
 -- how many fields an object of bounds has
 abbrev pub bounds_len : Option Data → ℕ
-bounds_len None = 10
-bounds_len (Some d) = 11
+bounds_len None = length all_bounds - 1
+bounds_len (Some d) = length all_bounds
 
--- the numbers of bounds, field by field
-pub record Numbers : Type 0 where
-  pub min_size : Size
-  pub max_size : Size
-  pub size_alignment : Size
-  pub min_bytes_per_row : ℕ
-  pub max_bytes_per_row : ℕ
-  pub bytes_per_row_divisor : ℕ
-  pub start_offset_divisor : ℕ
-  pub display_rect_alignment : Size
-  pub required_min_size : Size
-  pub required_max_size : Size
-  pub max_width_times_height : ℕ
+-- a field that is 1 or more: one whose absent value is 1
+abbrev pub has_no_zero : Bound → Bool
+has_no_zero f = absent f == 1
 
-abbrev pub numbers_said : Data → Option Numbers
-numbers_said d = do
+-- a field's number, as it is written
+abbrev pub number_in : Bound → Data → Option ℕ
+number_in MaxWidthTimesHeight d = product_said (get (field_name field.MaxWidthTimesHeight) d)
+number_in f d = if has_no_zero f then some_number (field_of f) d else any_number (field_of f) d
+
+-- a field's size, as it is written
+abbrev pub size_in : Bound → Data → Option Size
+size_in f d = if has_no_zero f then some_size (field_of f) d else any_size (field_of f) d
+
+-- what an object of bounds says of a field, which has one number in both dimensions
+abbrev pub said_in : Bound → Data → Option Size
+said_in f d = if is_size f then size_in f d else option_map square (number_in f d)
+
+-- the same of each field of a list, in its order
+abbrev pub said_each : List Bound → Data → Option (List Size)
+said_each [] d = Some []
+said_each (f ∷ fs) d = do
+  value ← said_in f d
+  values ← said_each fs d
+  Some (value ∷ values)
+
+-- the values of all fields, and no others
+abbrev pub values_said : Data → Option (List Size)
+values_said d = do
   _ ← is_object_of (bounds_len (get (field_name field.MaxWidthTimesHeight) d)) d
-  min_size ← some_size field.MinSize d
-  max_size ← any_size field.MaxSize d
-  size_alignment ← some_size field.SizeAlignment d
-  min_bytes_per_row ← some_number field.MinBytesPerRow d
-  max_bytes_per_row ← any_number field.MaxBytesPerRow d
-  bytes_per_row_divisor ← some_number field.BytesPerRowDivisor d
-  start_offset_divisor ← some_number field.StartOffsetDivisor d
-  display_rect_alignment ← some_size field.DisplayRectAlignment d
-  required_min_size ← any_size field.RequiredMinSize d
-  required_max_size ← any_size field.RequiredMaxSize d
-  max_width_times_height ← product_said (get (field_name field.MaxWidthTimesHeight) d)
-  Some (record {
-    min_size = min_size;
-    max_size = max_size;
-    size_alignment = size_alignment;
-    min_bytes_per_row = min_bytes_per_row;
-    max_bytes_per_row = max_bytes_per_row;
-    bytes_per_row_divisor = bytes_per_row_divisor;
-    start_offset_divisor = start_offset_divisor;
-    display_rect_alignment = display_rect_alignment;
-    required_min_size = required_min_size;
-    required_max_size = required_max_size;
-    max_width_times_height = max_width_times_height;
-  })
+  said_each all_bounds d
 
--- the bounds of these numbers: those that must be 1 or more are, as they are read
-abbrev pub bounds_by : Numbers → ImageBounds
-bounds_by s = record {
-  min_size = some_sides s.min_size;
-  max_size = s.max_size;
-  size_alignment = some_sides s.size_alignment;
-  min_bytes_per_row = max s.min_bytes_per_row 1;
-  max_bytes_per_row = s.max_bytes_per_row;
-  bytes_per_row_divisor = max s.bytes_per_row_divisor 1;
-  start_offset_divisor = max s.start_offset_divisor 1;
-  display_rect_alignment = some_sides s.display_rect_alignment;
-  required_min_size = s.required_min_size;
-  required_max_size = s.required_max_size;
-  max_width_times_height = s.max_width_times_height;
-  min_width_some = some_max s.min_size.width;
-  min_height_some = some_max s.min_size.height;
-  width_alignment_some = some_max s.size_alignment.width;
-  height_alignment_some = some_max s.size_alignment.height;
-  min_row_some = some_max s.min_bytes_per_row;
-  row_divisor_some = some_max s.bytes_per_row_divisor;
-  start_divisor_some = some_max s.start_offset_divisor;
-  display_width_some = some_max s.display_rect_alignment.width;
-  display_height_some = some_max s.display_rect_alignment.height;
-}
-
--- the numbers of bounds
-abbrev pub numbers_of : ImageBounds → Numbers
-numbers_of b = record {
-  min_size = b.min_size;
-  max_size = b.max_size;
-  size_alignment = b.size_alignment;
-  min_bytes_per_row = b.min_bytes_per_row;
-  max_bytes_per_row = b.max_bytes_per_row;
-  bytes_per_row_divisor = b.bytes_per_row_divisor;
-  start_offset_divisor = b.start_offset_divisor;
-  display_rect_alignment = b.display_rect_alignment;
-  required_min_size = b.required_min_size;
-  required_max_size = b.required_max_size;
-  max_width_times_height = b.max_width_times_height;
-}
-
--- both sides the same
-abbrev pub square : ℕ → Size
-square n = record { width = n; height = n }
+-- the bounds of these values
+abbrev pub bounds_by : List Size → ImageBounds
+bounds_by values = bounds_with (value_among values)
 
 -- the bounds of no entry on no image
-abbrev pub no_bounds : Numbers
-no_bounds = record {
-  min_size = square 1;
-  max_size = square most_number;
-  size_alignment = square 1;
-  min_bytes_per_row = 1;
-  max_bytes_per_row = most_number;
-  bytes_per_row_divisor = 1;
-  start_offset_divisor = 1;
-  display_rect_alignment = square 1;
-  required_min_size = square most_number;
-  required_max_size = square 0;
-  max_width_times_height = 2 ^ 64 - 1;
-}
+abbrev pub no_bounds : ImageBounds
+no_bounds = bounds_with (λ f. square (absent f))
 
 -- bounds stand exactly beside an image; without one they are those of no entry
 abbrev pub bounds_beside : Offer → Data → Option ImageBounds
-bounds_beside NoImage d = option_map (λ _. bounds_by no_bounds) (as_null d)
-bounds_beside (Image pair colour) d = option_map bounds_by (numbers_said d)
+bounds_beside NoImage d = option_map (λ _. no_bounds) (as_null d)
+bounds_beside (Image pair colour) d = option_map bounds_by (values_said d)
 
 -- ---- offer and place
 

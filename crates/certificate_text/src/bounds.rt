@@ -3,7 +3,8 @@
 ghost use Rattle.std.specs.Prelude.{◌≡◌, ◌≤◌, IfSome, option_map};
 ghost use Rattle.serde_json.specs.View.{view};
 ghost use Rattle.sysmem_counts.specs.Field.{field_name};
-ghost use Rattle.certificate_text.specs.SettingsSaid.{any_number, any_size, bounds_beside, bounds_by, bounds_len, no_bounds, numbers_of, numbers_said, product_said, size_said, some_number, some_size};
+ghost use Rattle.sysmem_image.specs.Fields.{values_of};
+ghost use Rattle.certificate_text.specs.SettingsSaid.{any_number, any_size, bounds_beside, bounds_by, bounds_len, no_bounds, product_said, size_said, some_number, some_size, values_said};
 ghost use Rattle.certificate_text.specs.Bounds.{bounds_data, count_data, size_data};
 ghost use Rattle.certificate_text.specs.Certificate.{PutsData, PutsMember};
 
@@ -21,6 +22,10 @@ macro_rules! read_bounds {
         $(let $name = read_bound!($shape $rule $absent $object, $field);)*
         ImageBounds { $($name,)* }
     }};
+}
+
+macro_rules! count_bounds {
+    (() $($name:ident: $shape:ident $rule:ident $field:ident $absent:ident $range:ident,)*) => { [$(Field::$field,)*].len() };
 }
 
 macro_rules! read_bound {
@@ -109,20 +114,20 @@ pub(crate) fn bounds_beside(offer: Offer, value: &Value) -> Option<ImageBounds>
 }
 
 fn no_bounds() -> ImageBounds
-    ensures { result ≡ bounds_by no_bounds }
+    ensures { result ≡ no_bounds }
 {
     ImageBounds::of(&Offer::NoImage)
 }
 
 fn bounds_of(value: &Value) -> Option<ImageBounds>
-    ensures { result ≡ option_map bounds_by (numbers_said (view value.now)) }
+    ensures { result ≡ option_map bounds_by (values_said (view value.now)) }
 {
-    numbers_of(value)
+    values_of(value)
 }
 
 /// All fields of bounds. One may be missing: the greatest product of width and height.
-fn numbers_of(value: &Value) -> Option<ImageBounds>
-    ensures { option_map numbers_of result ≡ numbers_said (view value.now) }
+fn values_of(value: &Value) -> Option<ImageBounds>
+    ensures { option_map values_of result ≡ values_said (view value.now) }
 {
     expect_object(
         value,
@@ -134,9 +139,10 @@ fn numbers_of(value: &Value) -> Option<ImageBounds>
 fn bounds_len(product: Option<&Value>) -> usize
     ensures { result ≡ bounds_len (option_map (λ d. view d.now) product.entry) }
 {
+    let all = bounds_table!(count_bounds!());
     match product {
-        None => 10,
-        Some(_) => 11,
+        None => all - 1,
+        Some(_) => all,
     }
 }
 

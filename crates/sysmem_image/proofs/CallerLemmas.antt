@@ -1,4 +1,5 @@
 -- What callers need of bounds, corners and lines: the laws as lemmas, and a few more.
+pub use Rattle.sysmem_image.proofs.Values.{max_one, sides_same, with_values}
 pub use Rattle.sysmem_image.proofs.Joined.{own_adds_nothing, steady_first, steady_second}
 use Rattle.std.proofs.Common.{◌↔◌, ◌≤◌, ℕ, List, []}
 use Rattle.sysmem_counts.specs.Bounds.{most_number}

@@ -15,3 +15,4 @@ pub mod KeptLines
 pub mod CallerLemmas
 pub mod KeptMerged
 pub mod MergedFields
+pub mod Values

@@ -1,5 +1,5 @@
 -- The table of image bounds: its fields, and in a column each what it says of them.
-use Rattle.std.specs.Prelude.{ℕ, ◌≤◌, Bool, true, false, List, [], ◌∷◌, nat_lt}
+use Rattle.std.specs.Prelude.{ℕ, ◌≤◌, ◌-◌, max, Bool, true, false, List, [], ◌∷◌, get_or, map, nat_lt}
 use Rattle.std.specs.Int.{◌∣◌}
 use Rattle.std.specs.List.{filter}
 use Rattle.sysmem_counts.specs.declared.field.Field.{Field}
@@ -7,6 +7,9 @@ use Rattle.sysmem_counts.specs.declared.field.Field.TheVariants as field
 use Rattle.sysmem_formats.specs.declared.offer.Offer.{Offer}
 use Rattle.sysmem_formats.specs.Layout.{width_alignment_of, height_alignment_of, row_divisor_of}
 use Rattle.sysmem_image.specs.declared.bounds.ImageBounds.{ImageBounds}
+use Rattle.sysmem_image.specs.declared.size.Size.{Size}
+use Rattle.sysmem_image.specs.Entries.{some_max}
+use Rattle.sysmem_image.specs.Size.{square, some_sides}
 use Rattle.sysmem_counts.specs.Bounds.{most_number}
 
 -- a field of image bounds
@@ -33,6 +36,13 @@ pub data Rule : Type 0 where
   Greatest : Rule
   Least : Rule
   Multiple : Rule
+
+-- which values are read: any of its type; some, where 0 is read as 1; a multiple, 1 to 65,536; or all from 1
+pub data Range : Type 0 where
+  AnyValue : Range
+  SomeValue : Range
+  MultipleValue : Range
+  FromOne : Range
 
 -- the fields in the table's order
 abbrev pub all_bounds : List Bound
@@ -135,12 +145,63 @@ absent RequiredMinSize = most_number
 absent RequiredMaxSize = 0
 absent MaxWidthTimesHeight = 18446744073709551615
 
+-- which of its values are read
+abbrev pub range_of : Bound → Range
+range_of MinSize = SomeValue
+range_of MaxSize = AnyValue
+range_of SizeAlignment = MultipleValue
+range_of MinBytesPerRow = SomeValue
+range_of MaxBytesPerRow = AnyValue
+range_of BytesPerRowDivisor = MultipleValue
+range_of StartOffsetDivisor = MultipleValue
+range_of DisplayRectAlignment = MultipleValue
+range_of RequiredMinSize = SomeValue
+range_of RequiredMaxSize = AnyValue
+range_of MaxWidthTimesHeight = FromOne
+
 -- an offer's own value, where no entry gives any
 abbrev pub own_value : Offer → Bound → Side → ℕ
 own_value o SizeAlignment Width = width_alignment_of o
 own_value o SizeAlignment Height = height_alignment_of o
 own_value o BytesPerRowDivisor _ = row_divisor_of o
 own_value o f _ = absent f
+
+-- bounds of which each field has this value; those that must be 1 or more are
+abbrev pub bounds_with : (Bound → Size) → ImageBounds
+bounds_with v = record {
+  min_size = some_sides (v MinSize);
+  min_width_some = some_max (v MinSize).width;
+  min_height_some = some_max (v MinSize).height;
+  max_size = v MaxSize;
+  size_alignment = some_sides (v SizeAlignment);
+  width_alignment_some = some_max (v SizeAlignment).width;
+  height_alignment_some = some_max (v SizeAlignment).height;
+  min_bytes_per_row = max (v MinBytesPerRow).width 1;
+  min_row_some = some_max (v MinBytesPerRow).width;
+  max_bytes_per_row = (v MaxBytesPerRow).width;
+  bytes_per_row_divisor = max (v BytesPerRowDivisor).width 1;
+  row_divisor_some = some_max (v BytesPerRowDivisor).width;
+  start_offset_divisor = max (v StartOffsetDivisor).width 1;
+  start_divisor_some = some_max (v StartOffsetDivisor).width;
+  display_rect_alignment = some_sides (v DisplayRectAlignment);
+  display_width_some = some_max (v DisplayRectAlignment).width;
+  display_height_some = some_max (v DisplayRectAlignment).height;
+  required_min_size = v RequiredMinSize;
+  required_max_size = v RequiredMaxSize;
+  max_width_times_height = (v MaxWidthTimesHeight).width;
+}
+
+-- its values in both dimensions
+abbrev pub sides_of : ImageBounds → Bound → Size
+sides_of b f = record { width = value f Width b; height = value f Height b }
+
+-- the values of all fields, in the table's order
+abbrev pub values_of : ImageBounds → List Size
+values_of b = map (sides_of b) all_bounds
+
+-- a field's value among those of all fields
+abbrev pub value_among : List Size → Bound → Size
+value_among values f = get_or values (number_of f - number_of MinSize) (square (absent f))
 
 -- the fields that stand before it in the table
 abbrev pub fields_before : Bound → List Bound

@@ -8,6 +8,14 @@ use Rattle.sysmem_image.specs.declared.size.Size.{Size}
 abbrev pub most_multiple : ℕ
 most_multiple = 65536
 
+-- one number in both dimensions
+abbrev pub square : ℕ → Size
+square n = record { width = n; height = n }
+
+-- a size whose dimensions are 1 or more
+abbrev pub some_sides : Size → Size
+some_sides a = record { width = max a.width 1; height = max a.height 1 }
+
 -- both dimensions of a are at most those of b
 pub record IsSizeUpTo (a b : Size) : Type 0 where
   pub width : a.width ≤ b.width

@@ -1,5 +1,5 @@
 -- What the definitions say of some records, computed: a record with each fault, records with two, and some that are taken.
-use Rattle.std.proofs.Common.{◌≡◌, ℕ, zero, suc, ◌^◌, true, false, List, [], ◌∷◌, Some, None, Ok, Err, refl}
+use Rattle.std.proofs.Common.{◌≡◌, ℕ, zero, suc, ◌^◌, Bool, true, false, List, [], ◌∷◌, Some, None, Ok, Err, refl}
 use Rattle.std.specs.Prelude.{codes, map}
 use Rattle.bitflags.specs.Sets.{find_row}
 use Rattle.serde_json.specs.Data.{Data, unsigned, boolean, number, string, array, object, Items, no_items, item, Members, no_members, put}
@@ -11,12 +11,13 @@ use Rattle.sysmem_image.specs.declared.colours.ColourSet.{ColourSet}
 use Rattle.sysmem_image.specs.declared.entry.Entry.{Entry}
 use Rattle.sysmem_image.specs.declared.size.Size.{Size}
 use Rattle.sysmem_image.specs.Colours.{no_colours}
+use Rattle.sysmem_image.specs.Size.{square}
 use Rattle.sysmem_sanitise.specs.declared.fault.Code.TheVariants as code
 use Rattle.sysmem_sanitise.specs.declared.fault.FaultPlace.TheVariants.{Whole}
 use Rattle.sysmem_sanitise.specs.Faults.{wrong}
 use Rattle.sysmem_sanitise.specs.Participant.{Participant}
 use Rattle.sysmem_sanitise.specs.Reading.{participant_of, participant_with, platform_of, platform_with}
-use Rattle.sysmem_sanitise.specs.Reading.Bounds.{StatedBounds, stated_by}
+use Rattle.sysmem_sanitise.specs.Reading.Bounds.{stated_by}
 use Rattle.sysmem_sanitise.specs.Reading.Entries.{pair_asked}
 use Rattle.sysmem_sanitise.specs.Reading.Fields.{is_key_of, seen_by}
 use Rattle.sysmem_sanitise.specs.Reading.Names.{format_named, modifier_named, colour_named, domain_named}
@@ -235,11 +236,12 @@ memory_whole : seen_by (λ (p : Participant). p.memory) (participant_of whole)
 unfolding is_key_of find_row format_named modifier_named colour_named
 memory_whole = refl
 
-abbrev square : ℕ → ℕ → Size
-square width height = record { width = width; height = height }
+abbrev sides : ℕ → ℕ → Size
+sides width height = record { width = width; height = height }
 
-abbrev bounds : StatedBounds
-bounds = record { min_size = square 1 9; max_size = square 10 11; size_alignment = square 12 13; min_bytes_per_row = 1; max_bytes_per_row = 14; bytes_per_row_divisor = 15; start_offset_divisor = 65536; display_rect_alignment = square 16 17; required_min_size = square 18 1; required_max_size = square 19 20; max_width_times_height = 21; at_pixel_boundary = true }
+-- the values of the fields in the table's order
+abbrev bounds : List Size × Bool
+bounds = (sides 1 9 ∷ sides 10 11 ∷ sides 12 13 ∷ square 1 ∷ square 14 ∷ square 15 ∷ square 65536 ∷ sides 16 17 ∷ sides 18 1 ∷ sides 19 20 ∷ square 21 ∷ [], true)
 
 abbrev colours : ColourSet
 colours = record no_colours { any = true; srgb = true }

@@ -1,5 +1,5 @@
 -- What a participant's record states is what a participant may ask.
-use Rattle.std.proofs.Common.{nat_le, ◌≡◌, ◌≢◌, ℕ, ◌^◌, ◌-◌, ◌<◌, ◌≤◌, ◌+◌, ◌==◌, Bool, true, false, not, ◌||◌, ◌&&◌, List, [], ◌∷◌, ◌++◌, length, get_or, Option, Some, None, Ok, refl, sym, ap, ◌∙◌, subst, arith, rules, tests, length-append, append_assoc, append-nil}
+use Rattle.std.proofs.Common.{nat_le, ◌≡◌, ◌≢◌, ℕ, zero, suc, ◌^◌, ◌-◌, ◌<◌, ◌≤◌, ◌+◌, ◌==◌, Bool, true, false, not, ◌||◌, ◌&&◌, List, [], ◌∷◌, ◌++◌, length, get_or, Option, Some, None, Ok, refl, sym, ap, ◌∙◌, subst, arith, rules, tests, length-append, append_assoc, append-nil}
 use Rattle.std.specs.Prelude.{All, AllPairs, map, max, nat_lt, cond}
 use Rattle.std.specs.List.{list_any}
 use Rattle.std.specs.Int.RustNames.{bit_and}
@@ -34,8 +34,9 @@ use Rattle.sysmem_memory.specs.Wishes.{MemoryWishes, no_wishes}
 use Rattle.sysmem_sanitise.specs.declared.reading.asked.AskedPair.{AskedPair}
 use Rattle.sysmem_sanitise.specs.declared.fault.FaultPlace.TheVariants.{At}
 use Rattle.sysmem_sanitise.specs.Participant.{IsUsage, HasSidesUpTo, IsEntry, AreApart}
-use Rattle.sysmem_image.specs.Size.{most_multiple}
-use Rattle.sysmem_sanitise.specs.Reading.Bounds.{is_multiple, multiple, multiple_size, any_size, some_size, some_sides, size_to, size_or, bound_or, any_number, some_number, large_number, stated_bounds, bounds_by, bounds_of}
+use Rattle.sysmem_image.specs.Fields.{Bound, all_bounds, field_of, absent, range_of, value_among, MinSize, SizeAlignment, StartOffsetDivisor, DisplayRectAlignment, RequiredMinSize, MaxWidthTimesHeight}
+use Rattle.sysmem_image.specs.Size.{most_multiple, square, some_sides}
+use Rattle.sysmem_sanitise.specs.Reading.Bounds.{is_multiple, multiple, multiple_size, any_size, some_size, size_to, size_or, bound_or, large_number, number_in, number_stated, stated_in, stated_each, stated_bounds, bounds_by, bounds_of}
 use Rattle.sysmem_sanitise.specs.Reading.Constraints.{no_usage, with_family, is_usage, usage_of, memory_fields, memory_of}
 use Rattle.sysmem_sanitise.specs.Reading.Entries.{same_format, same_modifier, same_asked, asks_misfit, asked_of, pair_asked, has_further, modifier_beside, is_asked_already, has_asked, with_asked, no_pair, own_pair, with_further, further_of, asked_pairs, with_colour_or_any, with_listed, colour_set_of, entry_object, entry_with, with_entry, entries_of}
 use Rattle.sysmem_sanitise.specs.Reading.Fields.{◌>>=◌, passing, list_of, named, number_up_to, number_or, flag_or, optional, stated, text_of, object_of, has_items, read_each}
@@ -173,30 +174,50 @@ large_number-some at d n gives =
 area_some : (d : Data) (n : ℕ) → bound_or large_number field.MaxWidthTimesHeight (2 ^ 64 - 1) d ≡ Ok n → 1 ≤ n
 area_some d n gives = optional-keeps (λ n. 1 ≤ n) field.MaxWidthTimesHeight (2 ^ 64 - 1) (large_number field.MaxWidthTimesHeight) d n (omega arith) (λ v. large_number-some field.MaxWidthTimesHeight v n) gives
 
+-- each field of a list is stated with its value
+each-at : (fs : List Bound) (d : Data) (values : List Size) (k : ℕ) (f : Bound) (v : Size) → stated_each fs d ≡ Ok values → k < length fs → stated_in (get_or fs k f) d ≡ Ok (get_or values k v)
+each-at [] d values k f v gives within = absurd (omega arith)
+each-at (g ∷ fs) d values k f v gives within =
+    bind-then (stated_in g d) _ values gives (λ value is after.
+    bind-then (stated_each fs d) _ values after (λ rest all made.
+    subst (λ values. stated_in (get_or (g ∷ fs) k f) d ≡ Ok (get_or values k v)) (ok-same _ values made) (by value rest is (λ k within. each-at fs d rest k f v all within) k within))) where
+      by : (value : Size) (rest : List Size) → stated_in g d ≡ Ok value → ((k : ℕ) → k < length fs → stated_in (get_or fs k f) d ≡ Ok (get_or rest k v))
+          → (k : ℕ) → k < length (g ∷ fs) → stated_in (get_or (g ∷ fs) k f) d ≡ Ok (get_or (value ∷ rest) k v)
+      by value rest is later zero within = is
+      by value rest is later (suc k) within = later k (omega (arith, within))
+
+number-then : {Goal : Type 0} (f : Bound) (d : Data) (value : Size) → number_stated f d ≡ Ok value
+    → ((n : ℕ) → bound_or (number_in (range_of f)) (field_of f) (absent f) d ≡ Ok n → square n ≡ value → Goal) → Goal
+number-then f d value gives then =
+    bind-then (bound_or (number_in (range_of f)) (field_of f) (absent f) d) _ value gives (λ n is made. then n is (ok-same _ value made))
+
+divisor-stated : (f : Bound) (d : Data) (value : Size) → number_in (range_of f) ≡ multiple → absent f ≡ 1 → number_stated f d ≡ Ok value → max value.width 1 ≤ most_multiple
+divisor-stated f d value reads one gives =
+    number-then f d value gives (λ n is same.
+    subst (λ (v : Size). max v.width 1 ≤ most_multiple) same (divisor-bounded (field_of f) d n (rw (reads, one) at is)))
+
+area-stated : (d : Data) (value : Size) → number_stated MaxWidthTimesHeight d ≡ Ok value → 1 ≤ value.width
+area-stated d value gives = number-then MaxWidthTimesHeight d value gives (λ n is same. subst (λ (v : Size). 1 ≤ v.width) same (area_some d n is))
+
 bounds_of-are : (d : Data) (b : EntryBounds) → bounds_of d ≡ Ok b → AreAsked b
 bounds_of-are d b gives =
     bind-then (stated_bounds d) _ b gives (λ s stated-is made.
-    bind-then (size_or some_size field.MinSize 1 d) _ s stated-is (λ min_size is1 a1.
-    bind-then (size_or any_size field.MaxSize most_number d) _ s a1 (λ max_size is2 a2.
-    bind-then (size_or multiple_size field.SizeAlignment 1 d) _ s a2 (λ size_alignment is3 a3.
-    bind-then (bound_or some_number field.MinBytesPerRow 1 d) _ s a3 (λ min_row is4 a4.
-    bind-then (bound_or any_number field.MaxBytesPerRow most_number d) _ s a4 (λ max_row is5 a5.
-    bind-then (bound_or multiple field.BytesPerRowDivisor 1 d) _ s a5 (λ row_divisor is6 a6.
-    bind-then (bound_or multiple field.StartOffsetDivisor 1 d) _ s a6 (λ start_divisor is7 a7.
-    bind-then (size_or multiple_size field.DisplayRectAlignment 1 d) _ s a7 (λ display_alignment is8 a8.
-    bind-then (size_or some_size field.RequiredMinSize most_number d) _ s a8 (λ required_min is9 a9.
-    bind-then (size_or any_size field.RequiredMaxSize 0 d) _ s a9 (λ required_max is10 a10.
-    bind-then (bound_or large_number field.MaxWidthTimesHeight (2 ^ 64 - 1) d) _ s a10 (λ area is11 a11.
-    bind-then (flag_or field.RequireBytesPerRowAtPixelBoundary false d) _ s a11 (λ pixel is12 all.
-    let required = required_sides d required_min is9 in
+    bind-then (stated_each all_bounds d) _ s stated-is (λ values each after.
+    bind-then (flag_or field.RequireBytesPerRowAtPixelBoundary false d) _ s after (λ pixel is all.
+    let size_alignment : stated_in SizeAlignment d ≡ Ok (value_among values SizeAlignment) = each-at all_bounds d values 2 MinSize _ each (omega arith) in
+    let start_offset_divisor : stated_in StartOffsetDivisor d ≡ Ok (value_among values StartOffsetDivisor) = each-at all_bounds d values 6 MinSize _ each (omega arith) in
+    let display_rect_alignment : stated_in DisplayRectAlignment d ≡ Ok (value_among values DisplayRectAlignment) = each-at all_bounds d values 7 MinSize _ each (omega arith) in
+    let required_min_size : stated_in RequiredMinSize d ≡ Ok (value_among values RequiredMinSize) = each-at all_bounds d values 8 MinSize _ each (omega arith) in
+    let max_width_times_height : stated_in MaxWidthTimesHeight d ≡ Ok (value_among values MaxWidthTimesHeight) = each-at all_bounds d values 10 MinSize _ each (omega arith) in
+    let required = required_sides d (value_among values RequiredMinSize) required_min_size in
     subst AreAsked (ok-same _ b made) (subst (λ s. AreAsked (bounds_by s)) (ok-same _ s all) (record {
-      size_alignment = alignment-bounded field.SizeAlignment d size_alignment is3;
-      start_offset_divisor = divisor-bounded field.StartOffsetDivisor d start_divisor is7;
-      display_rect_alignment = alignment-bounded field.DisplayRectAlignment d display_alignment is8;
+      size_alignment = alignment-bounded field.SizeAlignment d (value_among values SizeAlignment) size_alignment;
+      start_offset_divisor = divisor-stated StartOffsetDivisor d (value_among values StartOffsetDivisor) refl refl start_offset_divisor;
+      display_rect_alignment = alignment-bounded field.DisplayRectAlignment d (value_among values DisplayRectAlignment) display_rect_alignment;
       required_min_width = required.0;
       required_min_height = required.1;
-      max_width_times_height = area_some d area is11;
-    })))))))))))))))
+      max_width_times_height = area-stated d (value_among values MaxWidthTimesHeight) max_width_times_height;
+    })))))
 
 with_colour-some : (set : ColourSet) (colour : ColourSpace) → with_colour set colour ≢ no_colours
 with_colour-some set Srgb e = let t : true ≡ false = ap (λ (s : ColourSet). s.srgb) e in absurd (cc)

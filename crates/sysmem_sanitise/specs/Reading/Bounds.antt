@@ -1,5 +1,5 @@
 -- The bounds that an entry puts on images.
-use Rattle.std.specs.Prelude.{ℕ, ◌≤◌, ◌-◌, ◌^◌, ◌&&◌, ◌||◌, max, min, List, Bool, false, Result, Ok, Err, codes, bytes_eq, nat_le, if◌then◌else◌}
+use Rattle.std.specs.Prelude.{ℕ, ◌≤◌, ◌-◌, ◌^◌, ◌&&◌, ◌||◌, max, min, List, [], ◌∷◌, Bool, false, Result, Ok, Err, codes, bytes_eq, nat_le, if◌then◌else◌}
 use Rattle.std.proofs.Common.{arith}
 use Rattle.std.specs.List.{list_all}
 use Rattle.serde_json.specs.Data.{Data, object}
@@ -7,13 +7,13 @@ use Rattle.serde_json.specs.Find.{get}
 use Rattle.sysmem_counts.specs.declared.field.Field.{Field}
 use Rattle.sysmem_counts.specs.declared.field.Field.TheVariants as field
 use Rattle.sysmem_image.specs.declared.entry.EntryBounds.{EntryBounds}
-use Rattle.sysmem_image.specs.Entries.{some_max}
 use Rattle.sysmem_image.specs.declared.size.Size.{Size}
+use Rattle.sysmem_image.specs.Fields.{Bound, Range, BytesPerRowDivisor, AnyValue, SomeValue, MultipleValue, FromOne, all_bounds, field_of, is_size, absent, range_of, bounds_with, values_of, value_among}
+use Rattle.sysmem_image.specs.Size.{most_multiple, square, some_sides}
 use Rattle.sysmem_counts.specs.Bounds.{most_number}
 use Rattle.sysmem_sanitise.specs.declared.fault.Code.TheVariants as code
 use Rattle.sysmem_sanitise.specs.declared.fault.Fault.{Fault}
 use Rattle.sysmem_sanitise.specs.Faults.{wrong}
-use Rattle.sysmem_image.specs.Size.{most_multiple}
 use Rattle.sysmem_sanitise.specs.Reading.Fields.{◌>>=◌, passing, keys_of, read_or, optional, number_up_to, flag_or}
 
 -- 0 to the greatest
@@ -65,10 +65,6 @@ size_to field greatest d = do
 abbrev pub any_size : Field → Data → Result Size Fault
 any_size field d = size_to field most_number d
 
--- a size whose sides are 1 or more
-abbrev pub some_sides : Size → Size
-some_sides size = record { width = max size.width 1; height = max size.height 1 }
-
 -- both 0 to the greatest, and 0 is read as 1
 abbrev pub some_size : Field → Data → Result Size Fault
 some_size field d = do
@@ -87,51 +83,45 @@ bound_or read field absent d = optional field absent (read field) d
 
 -- a size that is read so, or one with the absent value on both sides
 abbrev pub size_or : (Field → Data → Result Size Fault) → Field → ℕ → Data → Result Size Fault
-size_or read field absent d = optional field (record { width = absent; height = absent }) (read field) d
+size_or read field absent d = optional field (square absent) (read field) d
 
--- what an entry's bounds say, field by field
-pub record StatedBounds : Type 0 where
-  pub min_size : Size
-  pub max_size : Size
-  pub size_alignment : Size
-  pub min_bytes_per_row : ℕ
-  pub max_bytes_per_row : ℕ
-  pub bytes_per_row_divisor : ℕ
-  pub start_offset_divisor : ℕ
-  pub display_rect_alignment : Size
-  pub required_min_size : Size
-  pub required_max_size : Size
-  pub max_width_times_height : ℕ
-  pub at_pixel_boundary : Bool
+-- a number, read by its range
+abbrev pub number_in : Range → Field → Data → Result ℕ Fault
+number_in AnyValue = any_number
+number_in SomeValue = some_number
+number_in MultipleValue = multiple
+number_in FromOne = large_number
 
-abbrev pub stated_bounds : Data → Result StatedBounds Fault
+-- a size, read by its range
+abbrev pub size_in : Range → Field → Data → Result Size Fault
+size_in SomeValue = some_size
+size_in MultipleValue = multiple_size
+size_in _ = any_size
+
+-- a field of one number, which it has in both dimensions
+abbrev pub number_stated : Bound → Data → Result Size Fault
+number_stated f d = do
+  n ← bound_or (number_in (range_of f)) (field_of f) (absent f) d
+  Ok (square n)
+
+-- what an entry's bounds state of a field: its value, or its absent one
+abbrev pub stated_in : Bound → Data → Result Size Fault
+stated_in f d = if is_size f then size_or (size_in (range_of f)) (field_of f) (absent f) d else number_stated f d
+
+-- the same of each field of a list, in its order
+abbrev pub stated_each : List Bound → Data → Result (List Size) Fault
+stated_each [] d = Ok []
+stated_each (f ∷ fs) d = do
+  value ← stated_in f d
+  values ← stated_each fs d
+  Ok (value ∷ values)
+
+-- what an entry's bounds state: the values of all fields, and whether rows end at a pixel
+abbrev pub stated_bounds : Data → Result (List Size × Bool) Fault
 stated_bounds d = do
-  min_size ← size_or some_size field.MinSize 1 d
-  max_size ← size_or any_size field.MaxSize most_number d
-  size_alignment ← size_or multiple_size field.SizeAlignment 1 d
-  min_bytes_per_row ← bound_or some_number field.MinBytesPerRow 1 d
-  max_bytes_per_row ← bound_or any_number field.MaxBytesPerRow most_number d
-  bytes_per_row_divisor ← bound_or multiple field.BytesPerRowDivisor 1 d
-  start_offset_divisor ← bound_or multiple field.StartOffsetDivisor 1 d
-  display_rect_alignment ← size_or multiple_size field.DisplayRectAlignment 1 d
-  required_min_size ← size_or some_size field.RequiredMinSize most_number d
-  required_max_size ← size_or any_size field.RequiredMaxSize 0 d
-  max_width_times_height ← bound_or large_number field.MaxWidthTimesHeight (2 ^ 64 - 1) d
+  values ← stated_each all_bounds d
   at_pixel_boundary ← flag_or field.RequireBytesPerRowAtPixelBoundary false d
-  Ok (record {
-    min_size = min_size;
-    max_size = max_size;
-    size_alignment = size_alignment;
-    min_bytes_per_row = min_bytes_per_row;
-    max_bytes_per_row = max_bytes_per_row;
-    bytes_per_row_divisor = bytes_per_row_divisor;
-    start_offset_divisor = start_offset_divisor;
-    display_rect_alignment = display_rect_alignment;
-    required_min_size = required_min_size;
-    required_max_size = required_max_size;
-    max_width_times_height = max_width_times_height;
-    at_pixel_boundary = at_pixel_boundary;
-  })
+  Ok (values, at_pixel_boundary)
 
 -- a row divisor is 1 to 65,536, as it is read
 abbrev pub divisor_read : ℕ → ℕ
@@ -143,51 +133,20 @@ some_divisor n = omega arith
 pub small_divisor_of : (n : ℕ) → divisor_read n ≤ most_multiple
 small_divisor_of n = omega arith
 
--- the bounds of these numbers: those that must be 1 or more are, as they are read
-abbrev pub bounds_by : StatedBounds → EntryBounds
-bounds_by s = record {
-  asked = record {
-    min_size = some_sides s.min_size;
-    max_size = s.max_size;
-    size_alignment = some_sides s.size_alignment;
-    min_bytes_per_row = max s.min_bytes_per_row 1;
-    max_bytes_per_row = s.max_bytes_per_row;
-    bytes_per_row_divisor = divisor_read s.bytes_per_row_divisor;
-    start_offset_divisor = max s.start_offset_divisor 1;
-    display_rect_alignment = some_sides s.display_rect_alignment;
-    required_min_size = s.required_min_size;
-    required_max_size = s.required_max_size;
-    max_width_times_height = s.max_width_times_height;
-    min_width_some = some_max s.min_size.width;
-    min_height_some = some_max s.min_size.height;
-    width_alignment_some = some_max s.size_alignment.width;
-    height_alignment_some = some_max s.size_alignment.height;
-    min_row_some = some_max s.min_bytes_per_row;
-    row_divisor_some = some_divisor s.bytes_per_row_divisor;
-    start_divisor_some = some_max s.start_offset_divisor;
-    display_width_some = some_max s.display_rect_alignment.width;
-    display_height_some = some_max s.display_rect_alignment.height;
+-- the bounds of these values, with a row divisor as it is read
+abbrev pub bounds_by : List Size × Bool → EntryBounds
+bounds_by (values, at_pixel_boundary) = record {
+  asked = record (bounds_with (value_among values)) {
+    bytes_per_row_divisor = divisor_read (value_among values BytesPerRowDivisor).width;
+    row_divisor_some = some_divisor (value_among values BytesPerRowDivisor).width;
   };
-  at_pixel_boundary = s.at_pixel_boundary;
-  small_divisor = small_divisor_of s.bytes_per_row_divisor;
+  at_pixel_boundary = at_pixel_boundary;
+  small_divisor = small_divisor_of (value_among values BytesPerRowDivisor).width;
 }
 
 -- what these bounds say
-abbrev pub stated_by : EntryBounds → StatedBounds
-stated_by b = record {
-  min_size = b.asked.min_size;
-  max_size = b.asked.max_size;
-  size_alignment = b.asked.size_alignment;
-  min_bytes_per_row = b.asked.min_bytes_per_row;
-  max_bytes_per_row = b.asked.max_bytes_per_row;
-  bytes_per_row_divisor = b.asked.bytes_per_row_divisor;
-  start_offset_divisor = b.asked.start_offset_divisor;
-  display_rect_alignment = b.asked.display_rect_alignment;
-  required_min_size = b.asked.required_min_size;
-  required_max_size = b.asked.required_max_size;
-  max_width_times_height = b.asked.max_width_times_height;
-  at_pixel_boundary = b.at_pixel_boundary;
-}
+abbrev pub stated_by : EntryBounds → List Size × Bool
+stated_by b = (values_of b.asked, b.at_pixel_boundary)
 
 abbrev pub bounds_of : Data → Result EntryBounds Fault
 bounds_of d = do
