@@ -164,7 +164,7 @@ fn conflict_of(alloc: Global, value: &Value) -> Result<Conflict, Unread>
 {
     if has_key(value, "count") {
         let (field, nodes) = read_named(alloc, value, "count")?;
-        Ok(Conflict::Count(Line::new(field, nodes)))
+        Ok(Conflict::Count(Line::new(alloc, field, nodes)?))
     } else if has_key(value, "fixed") {
         let (field, nodes) = read_named(alloc, value, "fixed")?;
         fixed_by(alloc, field, &nodes)?.ok_or(Unread::WrongForm)

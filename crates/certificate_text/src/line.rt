@@ -36,7 +36,7 @@ impl Part for Line {
 
     fn read(alloc: Global, value: &Value) -> Result<Line, Unread> {
         let (field, nodes) = read_named(alloc, value, "field")?;
-        Ok(Line::new(field, nodes))
+        Ok(Line::new(alloc, field, nodes)?)
     }
 }
 

@@ -91,7 +91,7 @@ fn find_initial(
         → IfOk result (λ found. IfNone found ((t : Settled) × MeetsSettled platform.now None d t)) }
 {
     if let Err(field) = counts_at(tree, nodes).least_count() {
-        let line = line_of(alloc, tree, nodes, field, Whom::WithCount)?;
+        let line = line_of(alloc, tree, nodes, field, Whom::WithCount, &[])?;
         return Ok(Some(Conflict::Count(line)));
     }
     if let Refusals::Whole(lines) = refused_places(alloc, platform, tree, nodes, None)? {
@@ -133,7 +133,7 @@ fn find_on_base(
     let settings = base.settings();
     let everyone = joined(alloc, base.accepted(), nodes)?;
     if let Some(field) = fixed_line(&counts_at(tree, &everyone), settings.count) {
-        let line = line_of(alloc, tree, &everyone, field, Whom::WithCount)?;
+        let line = line_of(alloc, tree, &everyone, field, Whom::WithCount, &[])?;
         return Ok(Some(Conflict::Count(line)));
     }
     match first_failing(platform, &settings, tree, nodes) {

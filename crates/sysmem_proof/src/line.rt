@@ -3,34 +3,60 @@
 ghost use Rattle.std.specs.Prelude.{◌≡◌, IfOk};
 
 use crate::path_list::PathList;
-use std::alloc::AllocError;
+use std::alloc::{AllocError, Global};
 use std::marker::Model;
+use std::sync::Arc;
 use sysmem_counts::Field;
 
-/// A field that fails for the participants at some paths, in any order.
+/// Among how many lines before it a line looks for its paths. A platform's colours go by under each of its pairs, and from one to the
+/// next it is often the same few lists that come again.
+const NEAR: usize = 4;
+
+/// A field that fails for the participants at some paths, in any order. Lines with the same paths may keep them once.
 #[derive(Debug, Drop)]
 pub struct Line {
     field: Field,
-    nodes: PathList,
+    nodes: Arc<PathList>,
 }
 
 impl Model for Line {
+    ghost use Rattle.std.specs.Arc.{arc_value};
     ghost use Rattle.sysmem_proof.specs.Line.{LineFacts};
 
     ghost Value = { LineFacts };
 
     ghost view = { λ l. record {
       field = l.field;
-      nodes = l.nodes;
+      nodes = arc_value l.nodes;
     } };
 }
 
 impl Line {
-    /// This field, for the participants at these paths. Any are a line; whether it is true is a checker's matter.
-    pub fn new(field: Field, nodes: PathList) -> Line
-        ensures { result ≡ record { field = field; nodes = nodes } }
+    /// This field, for the participants at these paths. Any are a line; whether it is true is a checker's matter. `AllocError` where
+    /// memory is refused.
+    pub fn new(alloc: Global, field: Field, nodes: PathList) -> Result<Line, AllocError>
+        ensures { IfOk result (λ line. line ≡ record { field = field; nodes = nodes }) }
     {
-        Line { field, nodes }
+        let nodes = Arc::new(alloc, nodes)?;
+        Ok(Line { field, nodes })
+    }
+
+    /// The same, behind these lines: where one of the last of them has the paths, it keeps them for both.
+    pub(crate) fn behind(
+        alloc: Global,
+        lines: &[Line],
+        field: Field,
+        nodes: PathList,
+    ) -> Result<Line, AllocError>
+        ensures { IfOk result (λ line. line ≡ record { field = field; nodes = nodes }) }
+    {
+        for near in lines.iter().rev().take(NEAR) {
+            if near.nodes.is_same(&nodes) {
+                let nodes = Arc::try_clone(&near.nodes)?;
+                return Ok(Line { field, nodes });
+            }
+        }
+        Line::new(alloc, field, nodes.fitted()?)
     }
 
     /// The field that heads the line.

@@ -1,6 +1,6 @@
 //! Lists of paths, as lines have them.
 
-ghost use Rattle.std.specs.Prelude.{◌≡◌, ◌++◌, [], ◌∷◌, IfOk};
+ghost use Rattle.std.specs.Prelude.{◌≡◌, ◌++◌, [], ◌∷◌, IfOk, IsTrue};
 
 use smallvec::SmallVec;
 use std::alloc::{AllocError, Global};
@@ -58,6 +58,13 @@ impl PathList {
             return Err(AllocError);
         }
         Ok(PathList { numbers })
+    }
+
+    /// Whether these are the paths of the other list, in its order.
+    pub(crate) fn is_same(&self, other: &PathList) -> bool
+        ensures { IsTrue result → self.now ≡ other.now }
+    {
+        self.numbers.as_slice() == other.numbers.as_slice()
     }
 
     /// The paths, from the first on.

@@ -71,6 +71,7 @@ fn offer_line(
     offer: &Offer,
     whole: bool,
     lacking: &mut Option<Lacking>,
+    before: &[Line],
 ) -> Result<Option<Line>, AllocError>
     requires { All (HasNode tree.now.nodes) nodes.now }
     ensures line { (ms : List Member) → StandFor (members_at tree.now.nodes nodes.now) ms
@@ -80,14 +81,14 @@ fn offer_line(
 {
     match read_offer(tree, nodes, offer, lacking) {
         Reading::Refused(field, node) => {
-            let line = line_of(alloc, tree, &[node], field, Whom::All)?;
+            let line = line_of(alloc, tree, &[node], field, Whom::All, before)?;
             Ok(Some(line))
         }
         Reading::Read(read) => {
             let Some(field) = read.first_line(whole) else {
                 return Ok(None);
             };
-            let line = line_of(alloc, tree, nodes, field, whom_for(field, offer))?;
+            let line = line_of(alloc, tree, nodes, field, whom_for(field, offer), before)?;
             Ok(Some(line))
         }
     }
@@ -114,7 +115,7 @@ pub(crate) fn refused_offers(
         if until == Some(offer) {
             return Ok(Refusals::UpTo(Lines::new(lines)));
         }
-        let Some(line) = offer_line(alloc, tree, nodes, &offer, whole, &mut lacking)? else {
+        let Some(line) = offer_line(alloc, tree, nodes, &offer, whole, &mut lacking, &lines)? else {
             return Ok(Refusals::UpTo(Lines::new(lines)));
         };
         lines.push(line)?;
@@ -130,6 +131,7 @@ fn place_line(
     place: Place,
     heap: &HeapInfo,
     until: Option<Place>,
+    before: &[Line],
 ) -> Result<Option<Line>, AllocError>
     requires { All (HasNode tree.now.nodes) nodes.now }
     ensures line { (ms : List Member) → StandFor (members_at tree.now.nodes nodes.now) ms
@@ -145,7 +147,7 @@ fn place_line(
     let Some(first) = first_refused(tree, nodes, heap, place.coherency) else {
         return Ok(None);
     };
-    let line = line_of(alloc, tree, &[first.node], first.field, Whom::All)?;
+    let line = line_of(alloc, tree, &[first.node], first.field, Whom::All, before)?;
     Ok(Some(line))
 }
 
@@ -170,7 +172,7 @@ fn push_place(
     if !heap.domains.has(place.coherency) {
         return Ok(true);
     }
-    let Some(line) = place_line(alloc, tree, nodes, place, heap, until)? else {
+    let Some(line) = place_line(alloc, tree, nodes, place, heap, until, lines)? else {
         return Ok(false);
     };
     lines.push(line)?;

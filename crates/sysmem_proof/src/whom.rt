@@ -65,14 +65,14 @@ fn is_named(whom: Whom, asked: Option<&Constraints>) -> bool
     }
 }
 
-/// The line of this field that names them among the participants at these nodes of the tree. Each line owns the paths that it
-/// names.
+/// The line of this field that names them among the participants at these nodes of the tree, behind the lines before it.
 pub(crate) fn line_of(
     alloc: Global,
     tree: &Tree,
     nodes: &[NodeId],
     field: Field,
     whom: Whom,
+    before: &[Line],
 ) -> Result<Line, AllocError>
     requires { All (HasNode tree.now.nodes) nodes.now }
     ensures { IfOk result (λ line. line ≡ line_on tree.now.nodes nodes.now field whom) }
@@ -83,5 +83,5 @@ pub(crate) fn line_of(
             paths = paths.with(tree.path_of(*node)?.ordinals())?;
         }
     }
-    Ok(Line::new(field, paths.fitted()?))
+    Line::behind(alloc, before, field, paths)
 }
