@@ -1,16 +1,17 @@
 -- What is kept of a pair, in each of its colour spaces.
-use Rattle.std.proofs.Common.{◌≡◌, ◌≤◌, ◌&&◌, ◌||◌, ◌==◌, Bool, true, false, List, [], ◌∷◌, ◌++◌, length, refl, sym, ap, ◌∙◌, subst}
+use Rattle.std.proofs.Common.{ℕ, ◌≡◌, ◌≤◌, ◌&&◌, ◌||◌, ◌==◌, Bool, true, false, List, [], ◌∷◌, ◌++◌, length, refl, sym, ap, ◌∙◌, subst}
 use Rattle.std.specs.Prelude.{Some, None}
 use Rattle.std.specs.Option.{option_map_or}
 use Rattle.std.specs.Bool.{Decides}
-use Rattle.std.proofs.lemmas.List.Elements.{All-nil}
+use Rattle.std.proofs.Math.Nat.{one-dvd}
+use Rattle.std.proofs.lemmas.List.Elements.{All-nil, All-push}
 use Rattle.std.proofs.lemmas.List.Quantifiers.{Any-push}
 use Rattle.sysmem_counts.specs.declared.field.Field.{Field}
 use Rattle.sysmem_counts.specs.declared.field.Field.TheVariants.{PixelFormat, ColorSpaces}
 use Rattle.sysmem_formats.specs.declared.colour_space.ColourSpace.{ColourSpace}
 use Rattle.sysmem_formats.specs.declared.colour_space.ColourSpace.TheVariants.{Srgb}
 use Rattle.sysmem_formats.specs.declared.offer.Offer.{Offer}
-use Rattle.sysmem_formats.specs.declared.offer.Offer.TheVariants.{Image}
+use Rattle.sysmem_formats.specs.declared.offer.Offer.TheVariants.{Image, NoImage}
 use Rattle.sysmem_formats.specs.declared.offer.Pair.{Pair}
 use Rattle.sysmem_image.specs.Bounds.{IsOwn}
 use Rattle.sysmem_image.specs.Colours.{lists, accepts}
@@ -18,7 +19,7 @@ use Rattle.sysmem_image.specs.declared.bounds.ImageBounds.{ImageBounds}
 use Rattle.sysmem_image.specs.declared.entry.Entry.{Entry}
 use Rattle.sysmem_image.specs.Entries.{effective, first_match, takes_colour}
 use Rattle.sysmem_image.specs.Lines.{IsBoundsLine}
-use Rattle.sysmem_image.specs.Fields.{Keeps, rule_of, value, own_value, most}
+use Rattle.sysmem_image.specs.Fields.{Bound, MinSize, MaxSize, SizeAlignment, MinBytesPerRow, MaxBytesPerRow, BytesPerRowDivisor, StartOffsetDivisor, DisplayRectAlignment, RequiredMinSize, RequiredMaxSize, MaxWidthTimesHeight, Side, Width, Height, Keeps, rule_of, value, own_value, most}
 use Rattle.sysmem_image.specs.Merged.{IsMergeOf, MergedOf}
 use Rattle.sysmem_image.proofs.CallerLemmas.{own_adds_nothing}
 use Rattle.sysmem_merge.specs.declared.kept.KeptBounds.{KeptBounds}
@@ -31,6 +32,7 @@ use Rattle.sysmem_merge.specs.Pairs.{has, says_format, says_modifier, bounds_whe
 use Rattle.sysmem_merge.specs.Reasons.{IsOfferLine}
 use Rattle.sysmem_merge.proofs.AnyColour.{is_own_any, merged_any, steady_any, first_any}
 use Rattle.sysmem_merge.proofs.Joining.{refused_first, refused_second, merged_together, kept_together}
+use Rattle.sysmem_merge.proofs.Summing.{all_parts}
 use Rattle.sysmem_merge.proofs.Keeping.{merged_more, steady_lasts, asked_entry, still_refused, kept_more, kept_unnamed, kept_formatless, kept_without, IsRefusing}
 
 -- a colour space that the new participant's entry lacks refuses the offer
@@ -77,6 +79,41 @@ with_entry pair ds d entry old new found merging format modifier taken named pla
       (rw (taken c) (entry_bounds pair c ds d entry (has old.taken c) (accepts entry.colours c) old.bounds new.bounds here refl merging (kept.each c).bounds))
       format modifier (named c);
   plain = plain;
+}
+
+-- n keeps to an absent value where it keeps to the offer's own
+absent_kept : (o : Offer) (f : Bound) (side : Side) (n : ℕ) → Keeps (rule_of f) (own_value o f side) n → Keeps (rule_of f) (own_value NoImage f side) n
+absent_kept o MinSize side n kept = kept
+absent_kept o MaxSize side n kept = kept
+absent_kept o SizeAlignment Width n kept = one-dvd n
+absent_kept o SizeAlignment Height n kept = one-dvd n
+absent_kept o MinBytesPerRow side n kept = kept
+absent_kept o MaxBytesPerRow side n kept = kept
+absent_kept o BytesPerRowDivisor side n kept = one-dvd n
+absent_kept o StartOffsetDivisor side n kept = kept
+absent_kept o DisplayRectAlignment side n kept = kept
+absent_kept o RequiredMinSize side n kept = kept
+absent_kept o RequiredMaxSize side n kept = kept
+absent_kept o MaxWidthTimesHeight side n kept = kept
+
+-- bounds of absent values add nothing
+absent_added : (o : Offer) (es : List ImageBounds) (e b : ImageBounds) → IsOwn NoImage e → MergedOf o es b → MergedOf o (es ++ e ∷ []) b
+absent_added o es e b absent merged = record {
+  in_range = merged.in_range;
+  each = λ f side. let exactly = (merged.each f side).exactly in record {
+    suits = (merged.each f side).suits;
+    exactly = λ n own. (
+      λ kept. All-push (λ x. Keeps (rule_of f) (value f side x) n) es e ((exactly n own).0 kept) (rw (absent f side) (absent_kept o f side n own)),
+      λ all. (exactly n own).1 (all_parts (λ x. Keeps (rule_of f) (value f side x) n) es (e ∷ []) all).0,
+    );
+  };
+}
+
+-- bounds that are as they were, where an entry asks for nothing
+pub still_merged : (pair : Pair) (entry : Entry) (old new : KeptBounds) → new ≡ old → IsOwn NoImage (effective (Image pair Srgb) entry) → IsMerging pair entry old new
+still_merged pair entry old new same absent = record {
+  merged = λ b is. rw (same, is) (λ es. absent_added (Image pair Srgb) es (effective (Image pair Srgb) entry) b absent);
+  still = λ f is. same ∙ is;
 }
 
 -- one who has entries, and none for the pair

@@ -15,7 +15,7 @@ use Rattle.sysmem_merge.proofs.Adding.{map_push}
 use Rattle.sysmem_merge.proofs.Sizes.{sizes_push}
 
 -- what holds of each of two lists together holds of each of both
-all_parts : {X : Type 0} (P : X → Type 0) (xs ys : List X) → All P (xs ++ ys) → All P xs × All P ys
+pub all_parts : {X : Type 0} (P : X → Type 0) (xs ys : List X) → All P (xs ++ ys) → All P xs × All P ys
 all_parts P [] ys all = (All-nil P, all)
 all_parts P (x ∷ xs) ys all =
     let rest = all_parts P xs ys (All-tail P x (xs ++ ys) all) in (All-cons P x xs (All-head P x (xs ++ ys) all) rest.0, rest.1)

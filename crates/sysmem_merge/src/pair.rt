@@ -3,9 +3,11 @@
 ghost use Rattle.std.specs.Prelude.{◌≡◌, ◌&&◌, [], ◌++◌, ◌∷◌, List, Some, true};
 ghost use Rattle.sysmem_formats.specs.declared.colour_space.ColourSpace.{ColourSpace as Colour};
 ghost use Rattle.sysmem_formats.specs.declared.colour_space.ColourSpace.TheVariants.{Srgb};
-ghost use Rattle.sysmem_formats.specs.declared.offer.Offer.TheVariants.{Image};
+ghost use Rattle.sysmem_formats.specs.declared.offer.Offer.{Offer as AnOffer};
+ghost use Rattle.sysmem_formats.specs.declared.offer.Offer.TheVariants.{Image, NoImage};
 ghost use Rattle.sysmem_formats.specs.declared.offer.Pair.{Pair as APair};
-ghost use Rattle.sysmem_image.specs.Entries.{first_match};
+ghost use Rattle.sysmem_image.specs.Bounds.{IsOwn};
+ghost use Rattle.sysmem_image.specs.Entries.{effective, first_match};
 ghost use Rattle.sysmem_merge.specs.Aggregate.{AreKeptBounds};
 ghost use Rattle.sysmem_merge.specs.Demands.{OfferDemand};
 ghost use Rattle.sysmem_merge.specs.Offers.{is_named};
@@ -65,14 +67,18 @@ impl KeptPair {
             → Some entry.now ≡ first_match (Image pair Srgb) d.entries
             → IsPairKept pair ds self.old → IsPairKept pair (ds ++ d ∷ []) self.new }
     {
-        self.bounds.merge(&any_offer(pair), entry);
-        self.is_plain = is_plain(&self.bounds, pair);
-        self.taken = self.taken.in_both(&Colours::taken(&entry.colours));
-        self.named = self.named.in_either(&Colours::names(
+        if !asks_nothing(entry) {
+            self.bounds.merge(&any_offer(pair), entry);
+            self.is_plain = is_plain(&self.bounds, pair);
+        }
+        let names = Colours::names(
             &entry.colours,
             entry.format.is_some(),
             entry.modifier.is_some(),
-        ));
+        );
+        let taken = Colours::taken(&entry.colours);
+        self.taken = self.taken.in_both(&taken);
+        self.named = self.named.in_either(&names);
     }
 
     /// Whether somebody named the pair's format and its modifier.
@@ -127,6 +133,13 @@ fn any_offer(pair: Pair) -> Offer
     ensures { result ≡ Image pair Srgb }
 {
     Offer::Image(pair, ColourSpace::Srgb)
+}
+
+/// Whether the bounds that an entry puts on an offer, whichever it is, are the absent values, to which any others keep.
+fn asks_nothing(entry: &Entry) -> bool
+    ensures { result ≡ true → (o : AnOffer) → IsOwn NoImage (effective o entry.now) }
+{
+    !entry.bounds.at_pixel_boundary && entry.bounds.asked == ImageBounds::of(&Offer::NoImage)
 }
 
 /// Whether the bounds are merged ones that are no more than the pair's own.
