@@ -1,6 +1,6 @@
 -- What proves a verdict of a domain of a tree can be read.
 use Rattle.std.proofs.Common.{◌≡◌, ℕ, zero, suc, ◌≤◌, ◌++◌, Bool, true, false, List, [], ◌∷◌, length, map, take, All, Option, Some, None, IsSomeAnd, is_none, slice_get, option_map, refl, sym, subst, ◌∙◌, arith}
-use Rattle.std.specs.List.{AllZip}
+use Rattle.std.specs.List.{AllByRecursion, AllZip}
 use Rattle.std.specs.Cmp.Lexicographic.{same_text}
 use Rattle.std.proofs.lemmas.List.Elements.{All-nil, All-cons, All-head}
 use Rattle.std.proofs.lemmas.Option.{none-some}
@@ -12,7 +12,6 @@ use Rattle.sysmem_tree.specs.LayoutLaws.{ChoicesLeaveOneForest, FewChildren, Few
 use Rattle.sysmem_tree.specs.Node.{NodeFacts}
 use Rattle.sysmem_tree.specs.Nodes.{IsTree}
 use Rattle.sysmem_tree.specs.Shape.{Member, shape_of}
-use Rattle.sysmem_tree.proofs.CallerLemmas.{AllOf}
 use Rattle.sysmem_merge.specs.declared.settings.Settings.{Settings}
 use Rattle.sysmem_proof.specs.declared.conflict.Conflict.{Conflict}
 use Rattle.sysmem_proof.specs.declared.conflict.Conflict.TheVariants.{Count, Places, Offers, Fixed}
@@ -34,14 +33,14 @@ asked_later : (m : Member) (ms : List Member) (path : List ℕ) → same_path m.
 asked_later m ms path other = rw other refl
 
 -- who is asked at a path has that path
-asked_steps : (ms : List Member) → AllOf HasPath ms → (path : List ℕ) (p : Participant) → asked_at ms path ≡ Some p → HasSteps path
+asked_steps : (ms : List Member) → AllByRecursion HasPath ms → (path : List ℕ) (p : Participant) → asked_at ms path ≡ Some p → HasSteps path
 asked_steps [] all path p is = absurd (none-some p is)
 asked_steps (m ∷ ms) all path p is = by (same_path m.path path) refl (asked_steps ms all.1 path p) where
   by : (t : Bool) → same_path m.path path ≡ t → (asked_at ms path ≡ Some p → HasSteps path) → HasSteps path
   by true same rest = subst HasSteps (same_text m.path path (sym same)) all.0
   by false other rest = rest (sym (asked_later m ms path other) ∙ is)
 
-all_asked : (ms : List Member) → AllOf HasPath ms → (paths : List (List ℕ)) (ps : List Participant) → map (asked_at ms) paths ≡ map (λ p. Some p) ps → All HasSteps paths
+all_asked : (ms : List Member) → AllByRecursion HasPath ms → (paths : List (List ℕ)) (ps : List Participant) → map (asked_at ms) paths ≡ map (λ p. Some p) ps → All HasSteps paths
 all_asked ms all [] ps is = All-nil HasSteps
 all_asked ms all (path ∷ paths) [] is = absurd (cc)
 all_asked ms all (path ∷ paths) (p ∷ ps) is = All-cons HasSteps path paths (asked_steps ms all path p (head is)) (all_asked ms all paths ps (tail is)) where
@@ -52,7 +51,7 @@ all_asked ms all (path ∷ paths) (p ∷ ps) is = All-cons HasSteps path paths (
   tail e = cc (e)
 
 -- whom a true line names has paths that can be read
-named_steps : (ms : List Member) → AllOf HasPath ms → (paths : List (List ℕ)) (P : List Participant → Type 0) → IsTrueOf ms paths P → All HasSteps paths
+named_steps : (ms : List Member) → AllByRecursion HasPath ms → (paths : List (List ℕ)) (P : List Participant → Type 0) → IsTrueOf ms paths P → All HasSteps paths
 named_steps ms all paths P said = all_asked ms all paths said.0 said.1.each
 
 -- lines one for each of a list
@@ -71,7 +70,7 @@ module _ (nodes : List NodeFacts) (r : ℕ) (tree : IsTree nodes) (one : Choices
   abbrev terms : Option BaseFacts → Option Terms
   terms base = option_map (terms_of nodes) base
 
-  reached_settled : (e : Forest Member) → IsReached nodes r tree e → AllOf HasPath (settled e)
+  reached_settled : (e : Forest Member) → IsReached nodes r tree e → AllByRecursion HasPath (settled e)
   reached_settled e reached = in_settled HasPath e (reached_paths nodes r tree e reached)
 
   conflict_fits : (base : Option BaseFacts) (e : Forest Member) → IsReached nodes r tree e → (c : Conflict) → IsConflictFor platform (terms base) e c → IsReadableConflict c
@@ -94,14 +93,14 @@ module _ (nodes : List NodeFacts) (r : ℕ) (tree : IsTree nodes) (one : Choices
     abbrev Refuted : List Item → List (Forest Member) → Type 0
     Refuted items ds = Refutes (IsConflictFor platform (terms base)) items ds
 
-    refutes_fits : (items : List Item) (ds : List (Forest Member)) → AllOf (IsReached nodes r tree) ds → Refuted items ds → All IsReadableItem items
+    refutes_fits : (items : List Item) (ds : List (Forest Member)) → AllByRecursion (IsReached nodes r tree) ds → Refuted items ds → All IsReadableItem items
     refutes_fits [] ds reached h = All-nil IsReadableItem
     refutes_fits (Leaf c ∷ items) [] reached h = absurd h
     refutes_fits (Split n ∷ items) [] reached h = absurd h
     refutes_fits (Leaf c ∷ items) (d ∷ ds) reached h = All-cons IsReadableItem (Leaf c) items (conflict_fits base d reached.0 c h.0) (refutes_fits items ds reached.1 h.1)
     refutes_fits (Split n ∷ items) (d ∷ ds) reached h = by (choices d) refl h (λ es all k. refutes_fits items (es ++ ds) all k) where
       by : (o : Option (List (Forest Member))) → choices d ≡ o → IsSomeAnd o (λ es. (length es ≡ n) × Refuted items (es ++ ds))
-          → ((es : List (Forest Member)) → AllOf (IsReached nodes r tree) (es ++ ds) → Refuted items (es ++ ds) → All IsReadableItem items) → All IsReadableItem (Split n ∷ items)
+          → ((es : List (Forest Member)) → AllByRecursion (IsReached nodes r tree) (es ++ ds) → Refuted items (es ++ ds) → All IsReadableItem items) → All IsReadableItem (Split n ∷ items)
       by None open' k rest = absurd k
       by (Some es) open' k rest =
           let many : length es ≡ n = k.0 in
@@ -112,13 +111,13 @@ module _ (nodes : List NodeFacts) (r : ℕ) (tree : IsTree nodes) (one : Choices
     refutation_fits : (d : Forest Member) (items : List Item) → IsReached nodes r tree d → Refuted items (d ∷ []) → IsReadableRefutation items
     refutation_fits d items reached h = refutes_fits items (d ∷ []) (reached, tt) h
 
-    each_refuted : (ds : List (Forest Member)) (rs : List (List Item)) → AllOf (IsReached nodes r tree) ds → AllZip (λ e items. Refuted items (e ∷ [])) ds rs → All IsReadableRefutation rs
+    each_refuted : (ds : List (Forest Member)) (rs : List (List Item)) → AllByRecursion (IsReached nodes r tree) ds → AllZip (λ e items. Refuted items (e ∷ [])) ds rs → All IsReadableRefutation rs
     each_refuted [] [] reached h = All-nil IsReadableRefutation
     each_refuted [] (items ∷ rs) reached h = absurd h
     each_refuted (d ∷ ds) [] reached h = absurd h
     each_refuted (d ∷ ds) (items ∷ rs) reached h = All-cons IsReadableRefutation items rs (refutation_fits d items reached.0 h.0) (each_refuted ds rs reached.1 h.1)
 
-    first_reached : (c : ℕ) (es : List (Forest Member)) → AllOf (IsReached nodes r tree) es → AllOf (IsReached nodes r tree) (take c es)
+    first_reached : (c : ℕ) (es : List (Forest Member)) → AllByRecursion (IsReached nodes r tree) es → AllByRecursion (IsReached nodes r tree) (take c es)
     first_reached zero es all = tt
     first_reached (suc c) [] all = tt
     first_reached (suc c) (e ∷ es) all = (all.0, first_reached c es all.1)

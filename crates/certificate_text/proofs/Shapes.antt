@@ -1,6 +1,6 @@
 -- The members of a domain's shape have paths that can be read, whatever is chosen, and choices are few.
 use Rattle.std.proofs.Common.{◌≡◌, ℕ, suc, ◌+◌, ◌<◌, ◌≤◌, ◌==◌, ◌++◌, Bool, true, false, List, [], ◌∷◌, length, All, Option, Some, None, IfSome, IsSome, slice_get, option_map, option_and_then, refl, sym, ap, subst, ◌∙◌, arith}
-use Rattle.std.specs.List.{cons_option}
+use Rattle.std.specs.List.{AllByRecursion, cons_option}
 use Rattle.std.specs.Prelude.{if◌then◌else◌}
 use Rattle.std.proofs.lemmas.List.Elements.{All-nil, All-cons}
 use Rattle.std.proofs.lemmas.Option.{same_Some, none-some, slice_get_within}
@@ -13,7 +13,7 @@ use Rattle.sysmem_tree.specs.Nodes.{IsTree, ordinal_under}
 use Rattle.sysmem_tree.specs.Path.{path_of}
 use Rattle.sysmem_tree.specs.Selection.{after}
 use Rattle.sysmem_tree.specs.Shape.{Member, by_number, by_path, forest_of, kid_of, before, tree_of, kids_from, rooted, shape_of}
-use Rattle.sysmem_tree.proofs.CallerLemmas.{AllOf, first_many}
+use Rattle.sysmem_tree.proofs.CallerLemmas.{first_many}
 use Rattle.sysmem_proof.specs.Members.{members_at}
 use Rattle.sysmem_proof.proofs.CallerLemmas.{AllIn, in_after, in_tree}
 use Rattle.certificate_text.specs.CanBeRead.{HasSteps}
@@ -40,7 +40,7 @@ kid_ordinal domain p n h = if_some (n.domain == domain) (ordinal_under p n.birth
   under None small = tt
   under (Some b) small = if_some (b.parent == p) (Some b.ordinal) small
 
-in_kids : (domain i : ℕ) (nodes : List NodeFacts) → AllOf HasOrdinal nodes → (p : ℕ) (path : List ℕ) → HasSteps path → HavePaths (kids_from by_path domain i nodes p path)
+in_kids : (domain i : ℕ) (nodes : List NodeFacts) → AllByRecursion HasOrdinal nodes → (p : ℕ) (path : List ℕ) → HasSteps path → HavePaths (kids_from by_path domain i nodes p path)
 in_kids domain i [] all p path steps = tt
 in_kids domain i (n ∷ nodes) all p path steps = at (in_kids domain (i + 1) nodes all.1) (kid_of domain p n) (kid_ordinal domain p n all.0) where
   at : ((q : ℕ) (way : List ℕ) → HasSteps way → HavePaths (kids_from by_path domain (i + 1) nodes q way)) → (o : Option ℕ) → IfSome o (λ k. k ≤ most_number)
@@ -51,7 +51,7 @@ in_kids domain i (n ∷ nodes) all p path steps = at (in_kids domain (i + 1) nod
       in_tree HasPath n.state.kind (by_path i (path ++ o ∷ []) n) (kids_from by_path domain (i + 1) nodes i (path ++ o ∷ [])) (kids_from by_path domain (i + 1) nodes p path)
       on (rest i (path ++ o ∷ []) on) (rest p path steps)
 
-pub all_places : {X : Type 0} (P : X → Type 0) (xs : List X) → ((k : ℕ) (x : X) → slice_get xs k ≡ Some x → P x) → AllOf P xs
+pub all_places : {X : Type 0} (P : X → Type 0) (xs : List X) → ((k : ℕ) (x : X) → slice_get xs k ≡ Some x → P x) → AllByRecursion P xs
 all_places P [] h = tt
 all_places P (x ∷ xs) h = (h 0 x refl, all_places P xs (λ k y here. h (suc k) y here))
 
@@ -63,10 +63,10 @@ shape_paths nodes r tree = at (slice_get nodes r) where
       (in_kids r 0 nodes (all_places HasOrdinal nodes (has_ordinal nodes tree)) r (path_of nodes r) (path_steps nodes r tree)) tt
 
 -- of nodes by their numbers
-pub accepted_paths : (nodes : List NodeFacts) → IsTree nodes → (numbers : List ℕ) → AllOf HasPath (members_at nodes numbers)
+pub accepted_paths : (nodes : List NodeFacts) → IsTree nodes → (numbers : List ℕ) → AllByRecursion HasPath (members_at nodes numbers)
 accepted_paths nodes tree [] = tt
 accepted_paths nodes tree (i ∷ numbers) = by (slice_get nodes i) (accepted_paths nodes tree numbers) where
-  by : (o : Option NodeFacts) → AllOf HasPath (members_at nodes numbers) → AllOf HasPath (cons_option (option_map (by_path i (path_of nodes i)) o) (members_at nodes numbers))
+  by : (o : Option NodeFacts) → AllByRecursion HasPath (members_at nodes numbers) → AllByRecursion HasPath (cons_option (option_map (by_path i (path_of nodes i)) o) (members_at nodes numbers))
   by None rest = rest
   by (Some n) rest = (path_steps nodes i tree, rest)
 
@@ -95,7 +95,7 @@ module _ (nodes : List NodeFacts) (r : ℕ) (tree : IsTree nodes) where
         ∙ (ap (λ o. option_and_then (λ y. after y []) (option_and_then (λ ys. slice_get ys c) o)) open' ∙ ap (option_and_then (λ y. after y [])) here),
   )
 
-  pub choices_reached : (e : Forest Member) (es : List (Forest Member)) → IsReached e → choices e ≡ Some es → AllOf IsReached es
+  pub choices_reached : (e : Forest Member) (es : List (Forest Member)) → IsReached e → choices e ≡ Some es → AllByRecursion IsReached es
   choices_reached e es reached open' = all_places IsReached es (λ c x here. choice_reached e x es c reached open' here)
 
   pub selected_reached : (cs : List ℕ) (e : Forest Member) → after (shape_of nodes r) cs ≡ Some e → IsReached e

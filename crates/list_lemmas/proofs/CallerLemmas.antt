@@ -1,4 +1,5 @@
 -- Lists by index, what all or any of their elements have, what a test finds, and some of a list.
+pub use Rattle.list_lemmas.proofs.TakenInOrder.{taken_in_order}
 use Rattle.std.proofs.Common.{◌≡◌, ◌↔◌, IsTrue, nat_lt, rules, ◌≢◌, ℕ, zero, suc, ◌+◌, ◌*◌, ◌<◌, ◌≤◌, Bool, true, false, ◌&&◌, cond, List, [], ◌∷◌, ◌++◌, length, map, sum_by, All, Any, Contains, Option, Some, None, IfSome, is_some, slice_get, slice_set, refl, sym, ◌∙◌, ap, subst, arith, inl, inr}
 use Rattle.list_lemmas.specs.Some.{AreSomeOf}
 use Rattle.std.specs.List.{find, flat_map, list_all}
@@ -10,6 +11,11 @@ use Rattle.std.proofs.lemmas.List.Elements.{All-nil, All-cons, All-head, All-tai
 use Rattle.std.proofs.lemmas.List.Sorted.{All-permutation, IsPermutation-refl, IsPermutation-cons, IsPermutation-trans, IsPermutation-sym, IsPermutation-map, IsPermutation-middle, IsPermutation-append, IsPermutation-append_left, sum_by-IsPermutation}
 use Rattle.std.proofs.lemmas.List.Sums.{sum_by-append}
 use Rattle.std.proofs.lemmas.Option.{slice_get_cases, slice_get_within, slice_get-get_or, same_Some}
+
+-- what holds of an option's value, if there is one, holds of the value that it has
+pub of_some : {X : Type 0} (P : X → Type 0) (o : Option X) (x : X) → o ≡ Some x → IfSome o P → P x
+of_some P None x is h = absurd (cc)
+of_some P (Some y) x is h = subst P (same_Some y x is) h
 
 -- both of two that hold together hold
 pub and_parts : (a b : Bool) → (a && b) ≡ true → (a ≡ true) × (b ≡ true)

@@ -1,11 +1,11 @@
 -- Domains that have failed and weren't marked as failed are those that an event made fail.
 use Rattle.std.proofs.Common.{◌≡◌, ◌⊎◌, inl, inr, ℕ, zero, suc, ◌==◌, ◌&&◌, ◌||◌, not, Bool, false, List, [], ◌∷◌, ◌++◌, length, Option, Some, None, Ok, get_or, slice_get, refl, sym, ◌∙◌, ap, subst, append-nil}
 use Rattle.std.specs.Prelude.{IsSomeAnd, map, option_and_then, option_map, unwrap_or, if◌then◌else◌}
-use Rattle.std.specs.List.{list_any}
+use Rattle.std.specs.List.{AllByRecursion, list_any}
 use Rattle.std.proofs.lemmas.Bool.{ne_eqb}
 use Rattle.std.proofs.lemmas.Option.{same_Some}
 use Rattle.sysmem_alloc.proofs.CallerLemmas.{acted_roots, added, decided_roots, domains_there}
-use Rattle.sysmem_alloc.specs.Sound.{AllOf, roots_of}
+use Rattle.sysmem_alloc.specs.Sound.{roots_of}
 use Rattle.sysmem_tree.proofs.CallerLemmas.{accepted}
 use Rattle.sysmem_tree.specs.declared.action.ActionKind.{ActionKind}
 use Rattle.sysmem_tree.specs.declared.action.ActionKind.TheVariants.{Duplicate, CreateGroup, Bind, CreateChild, AllChildrenPresent, SetConstraints, AttachToken, Release, Close}
@@ -18,7 +18,7 @@ use Rattle.script_run.specs.Marks.{AreMarksOf, failed_at, failed_unmarked_at}
 use Rattle.script_run.proofs.Walking.{picked}
 
 -- a node that isn't there roots no domain that was closed early
-never_closed : (nodes : List NodeFacts) (r : ℕ) (ds : List Domain) → slice_get nodes r ≡ None → AllOf (HasDomain nodes) (map (λ (d : Domain). d.root) ds) → was_closed_early ds r ≡ false
+never_closed : (nodes : List NodeFacts) (r : ℕ) (ds : List Domain) → slice_get nodes r ≡ None → AllByRecursion (HasDomain nodes) (map (λ (d : Domain). d.root) ds) → was_closed_early ds r ≡ false
 never_closed nodes r [] none all = refl
 never_closed nodes r (d ∷ ds) none all =
     let apart : (d.root == r) ≡ false = ne_eqb d.root r (λ same. not_there (subst (HasDomain nodes) same all.0)) in
@@ -48,19 +48,19 @@ none_failed t sound =
     let none = past_end t.nodes in
     none_above t (length t.nodes) 128 none (fails_not t (length t.nodes) none (never_closed t.nodes (length t.nodes) t.domains none (domains_there t sound)))
 
-all_at : (P : ℕ → Type 0) (ys : List ℕ) (k r : ℕ) → AllOf P ys → slice_get ys k ≡ Some r → P r
+all_at : (P : ℕ → Type 0) (ys : List ℕ) (k r : ℕ) → AllByRecursion P ys → slice_get ys k ≡ Some r → P r
 all_at P [] k r all is = absurd (cc)
 all_at P (y ∷ ys) zero r all is = subst P (same_Some y r is) all.0
 all_at P (y ∷ ys) (suc k) r all is = all_at P ys k r all.1 is
 
-where_at : (P : ℕ → Type 0) (xs ys : List ℕ) (k r : ℕ) → AllOf P ys → slice_get (xs ++ ys) k ≡ Some r → (slice_get xs k ≡ Some r) ⊎ ((slice_get xs k ≡ None) × P r)
+where_at : (P : ℕ → Type 0) (xs ys : List ℕ) (k r : ℕ) → AllByRecursion P ys → slice_get (xs ++ ys) k ≡ Some r → (slice_get xs k ≡ Some r) ⊎ ((slice_get xs k ≡ None) × P r)
 where_at P [] ys k r all is = inr (refl, all_at P ys k r all is)
 where_at P (x ∷ xs) ys zero r all is = inl is
 where_at P (x ∷ xs) ys (suc k) r all is = where_at P xs ys k r all is
 
 -- marks of the domains that had failed are marks of what comes after, where the new domains hadn't failed
 pub marks_after : (old new : TreeFacts) (marks : List Bool) (more : List ℕ) → ((k : ℕ) → get_or marks k false ≡ failed_at old k)
-    → roots_of new ≡ roots_of old ++ more → AllOf (λ r. has_failed old r ≡ false) more → AreMarksOf old new marks
+    → roots_of new ≡ roots_of old ++ more → AllByRecursion (λ r. has_failed old r ≡ false) more → AreMarksOf old new marks
 marks_after old new marks more marked roots fresh k r here =
     let there : slice_get (roots_of old ++ more) k ≡ Some r = sym (ap (λ xs. slice_get xs k) roots) ∙ here in
     elim (where_at (λ x. has_failed old x ≡ false) (roots_of old) more k r fresh there) as (λ _. get_or marks k false ≡ has_failed old r) [
@@ -68,7 +68,7 @@ marks_after old new marks more marked roots fresh k r here =
       | inr (none, not_it) ↦ marked k ∙ (ap (λ o. unwrap_or (option_map (has_failed old) o) false) none ∙ sym not_it)
     ]
 
-added_fresh : (t : TreeFacts) (kind : ActionKind) → has_failed t (length t.nodes) ≡ false → AllOf (λ r. has_failed t r ≡ false) (added kind (length t.nodes))
+added_fresh : (t : TreeFacts) (kind : ActionKind) → has_failed t (length t.nodes) ≡ false → AllByRecursion (λ r. has_failed t r ≡ false) (added kind (length t.nodes))
 added_fresh t AttachToken e = (e, tt)
 added_fresh t Duplicate e = tt
 added_fresh t CreateGroup e = tt

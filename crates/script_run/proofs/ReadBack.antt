@@ -2,6 +2,7 @@
 use Rattle.std.proofs.Common.{◌≡◌, ◌==◌, ◌++◌, ℕ, ◌+◌, All, Bool, true, false, List, [], ◌∷◌, Option, Some, None, IfSome, IsOk, Ok, option_map, option_and_then, refl, sym, ◌∙◌, ap, subst}
 use Rattle.std.specs.Prelude.{if◌then◌else◌}
 use Rattle.std.proofs.lemmas.List.Elements.{All-nil, All-cons, All-head, All-tail, All-weaker}
+use Rattle.std.specs.List.{AllByRecursion}
 use Rattle.sysmem_merge.specs.declared.settings.Settings.{Settings}
 use Rattle.sysmem_sanitise.specs.Platform.{PlatformFacts}
 use Rattle.sysmem_tree.specs.ActionKind.{Deed}
@@ -19,7 +20,6 @@ use Rattle.sysmem_alloc.specs.Decision.{Claimed, Decision, answer_of, decision_f
 use Rattle.sysmem_alloc.specs.Entry.{BookEntry, Acted, Decided}
 use Rattle.sysmem_alloc.specs.History.{Allows, AreAllowed, IsLegal, after_answer, after_entry, replay, replay_from}
 use Rattle.sysmem_alloc.specs.Laws.{LegalIsSound}
-use Rattle.sysmem_alloc.specs.Sound.{AllOf}
 use Rattle.sysmem_alloc.specs.State.{State as BookState, base_of}
 use Rattle.sysmem_alloc.specs.State as books
 use Rattle.sysmem_alloc.proofs.CallerLemmas.{proved_is_true}
@@ -53,12 +53,12 @@ record Stands (platform : PlatformFacts) (b : BookState) : Type 0 where
   history : List BookEntry
   legal : IsLegal platform history
   replayed : b ≡ replay history
-  readable : AllOf (ChoseReadable platform) b.decisions
+  readable : AllByRecursion (ChoseReadable platform) b.decisions
 
 starts : (platform : PlatformFacts) → Stands platform books.first_state
 starts platform = record { history = []; legal = tt; replayed = refl; readable = tt }
 
-goes_on : (platform : PlatformFacts) (b : BookState) (e : BookEntry) → Stands platform b → Allows platform b e → AllOf (ChoseReadable platform) (after_entry b e).decisions → Stands platform (after_entry b e)
+goes_on : (platform : PlatformFacts) (b : BookState) (e : BookEntry) → Stands platform b → Allows platform b e → AllByRecursion (ChoseReadable platform) (after_entry b e).decisions → Stands platform (after_entry b e)
 goes_on platform b e stands allowed readable = record {
   history = stands.history ++ e ∷ [];
   legal = allowed_more platform books.first_state stands.history e stands.legal (subst (λ (x : BookState). Allows platform x e) stands.replayed allowed);
@@ -70,7 +70,7 @@ goes_on platform b e stands allowed readable = record {
 after_act : (platform : PlatformFacts) (b : BookState) (k made : ℕ) (deed : Deed) (tree : TreeFacts) → Stands platform b → applied b.tree k deed ≡ Ok (record { tree = tree; node = made })
     → Stands platform (after_entry b (Acted k deed))
 after_act platform b k made deed tree stands done = goes_on platform b (Acted k deed) stands (subst IsOk (sym done) refl)
-    (subst (AllOf (ChoseReadable platform)) (sym (ap (λ r. (after_answer b r).decisions) done)) stands.readable)
+    (subst (AllByRecursion (ChoseReadable platform)) (sym (ap (λ r. (after_answer b r).decisions) done)) stands.readable)
 
 after_reply : (platform : PlatformFacts) (s t : RunState) (r : CallFacts) (reply : Reply) → Stands platform s.book → Replies s r reply t → Stands platform t.book
 after_reply platform s _ r _ stands (skips none) = stands
@@ -92,7 +92,7 @@ replied_platform s _ r _ (accepts k made deed tree here asks done) = refl
 replied_platform s _ r _ (tells k here asks) = refl
 
 -- what was chosen for a domain can be read
-settings_read : (platform : PlatformFacts) (ds : List Decision) (r : ℕ) → AllOf (ChoseReadable platform) ds → IfSome (settings_for ds r) (AreReadableSettings platform)
+settings_read : (platform : PlatformFacts) (ds : List Decision) (r : ℕ) → AllByRecursion (ChoseReadable platform) ds → IfSome (settings_for ds r) (AreReadableSettings platform)
 settings_read platform [] r all = tt
 settings_read platform (d ∷ ds) r all = by (d.domain == r) (settings_read platform ds r all.1) where
   by : (t : Bool) → IfSome (settings_for ds r) (AreReadableSettings platform)
@@ -101,7 +101,7 @@ settings_read platform (d ∷ ds) r all = by (d.domain == r) (settings_read plat
   by false rest = rest
 
 -- so can what a domain is decided on
-base_read : (platform : PlatformFacts) (b : BookState) (r : ℕ) → AllOf (ChoseReadable platform) b.decisions → IsReadableBase platform (base_of b r)
+base_read : (platform : PlatformFacts) (b : BookState) (r : ℕ) → AllByRecursion (ChoseReadable platform) b.decisions → IsReadableBase platform (base_of b r)
 base_read platform b r all = by (host_node b.tree.nodes r) where
   on : (o : Option Settings) → IfSome o (AreReadableSettings platform) → IsReadableBase platform (option_map (λ settings. record { settings = settings; accepted = b.accepted }) o)
   on None can = tt
@@ -112,7 +112,7 @@ base_read platform b r all = by (host_node b.tree.nodes r) where
   by None = tt
   by (Some host) = on (settings_for b.decisions host.domain) (settings_read platform b.decisions host.domain all)
 
-all_more : {X : Type 0} (P : X → Type 0) (xs : List X) (x : X) → AllOf P xs → P x → AllOf P (xs ++ x ∷ [])
+all_more : {X : Type 0} (P : X → Type 0) (xs : List X) (x : X) → AllByRecursion P xs → P x → AllByRecursion P (xs ++ x ∷ [])
 all_more P [] x all one = (one, tt)
 all_more P (y ∷ xs) x all one = (all.0, all_more P xs x all.1 one)
 

@@ -2,9 +2,10 @@
 use Rattle.std.proofs.Common.{◌≡◌, ◌≢◌, ℕ, ◌+◌, Bool, true, false, not, ◌&&◌, List, ◌++◌, length, refl, sym, ◌∙◌, ap, subst, append-nil}
 use Rattle.std.specs.Prelude.{filter}
 use Rattle.std.proofs.lemmas.List.Elements.{filter-append}
+use Rattle.std.specs.List.{AllByRecursion}
 use Rattle.list_lemmas.proofs.CallerLemmas.{and_parts}
 use Rattle.sysmem_tree.specs.Domain.{TreeFacts, HasDomain, IsSoundTree, decision_of, is_ready, is_undecided}
-use Rattle.sysmem_alloc.specs.Sound.{AllOf, AreDistinct, MayWait, roots_of}
+use Rattle.sysmem_alloc.specs.Sound.{AreDistinct, MayWait, roots_of}
 use Rattle.sysmem_alloc.specs.State.{newly_ready}
 use Rattle.sysmem_alloc.proofs.Lists.{all_append, all_weaken, all_filter, none_pass, apart_append, apart_filter, pass_more}
 use Rattle.sysmem_alloc.proofs.Trees.{domains_there, domains_apart}
@@ -14,14 +15,14 @@ pub record Follows (old new : TreeFacts) (added : List ℕ) : Type 0 where
   pub before : IsSoundTree old
   pub after : IsSoundTree new
   pub roots : roots_of new ≡ roots_of old ++ added
-  pub unready : AllOf (λ r. is_ready new r ≡ false) added
+  pub unready : AllByRecursion (λ r. is_ready new r ≡ false) added
   pub there : (r : ℕ) → HasDomain old.nodes r → HasDomain new.nodes r
   pub ready : (r : ℕ) → HasDomain old.nodes r → is_ready old r ≡ true → is_ready new r ≡ true
   pub undecided : (r : ℕ) → is_ready old r ≡ false → decision_of new.domains r ≡ decision_of old.domains r
 
 -- who waits after it
 pub record Advances (old new : TreeFacts) (waiting : List ℕ) : Type 0 where
-  pub waits : AllOf (MayWait new) (waiting ++ newly_ready old new)
+  pub waits : AllByRecursion (MayWait new) (waiting ++ newly_ready old new)
   pub once : AreDistinct (waiting ++ newly_ready old new)
   pub count : length (filter (is_ready new) (roots_of new)) ≡ length (filter (is_ready old) (roots_of old)) + length (newly_ready old new)
 
@@ -54,12 +55,12 @@ still : (old new : TreeFacts) (r : ℕ) → ((r : ℕ) → HasDomain old.nodes r
 still old new r there ready (w, same) = record { there = there r w.there; ready = ready r w.there w.ready; undecided = ap is_undecided same ∙ w.undecided }
 
 pub advance : (old new : TreeFacts) (added waiting : List ℕ) → Follows old new added
-    → AllOf (λ r. MayWait old r × (decision_of new.domains r ≡ decision_of old.domains r)) waiting → AreDistinct waiting → Advances old new waiting
+    → AllByRecursion (λ r. MayWait old r × (decision_of new.domains r ≡ decision_of old.domains r)) waiting → AreDistinct waiting → Advances old new waiting
 advance old new added waiting f waits once = record {
   waits = all_append (MayWait new) waiting (newly_ready old new) (all_weaken (λ r. MayWait old r × (decision_of new.domains r ≡ decision_of old.domains r)) (MayWait new) waiting (λ r w. still old new r f.there f.ready w) waits)
       (all_weaken Fresh (MayWait new) (newly_ready old new) (λ r w. w.0) fresh);
   once = apart_append waiting (newly_ready old new) once (apart_filter more (roots_of new) (domains_apart new f.after))
-      (all_weaken (λ r. MayWait old r × (decision_of new.domains r ≡ decision_of old.domains r)) (λ x. AllOf (λ y. x ≢ y) (newly_ready old new)) waiting
+      (all_weaken (λ r. MayWait old r × (decision_of new.domains r ≡ decision_of old.domains r)) (λ x. AllByRecursion (λ y. x ≢ y) (newly_ready old new)) waiting
       (λ x w. all_weaken Fresh (λ y. x ≢ y) (newly_ready old new) (λ y n same. ready_not old x y w.0.ready n.1 same) fresh) waits);
   count = counted;
 } where
@@ -69,7 +70,7 @@ advance old new added waiting f waits once = record {
   Fresh : ℕ → Type 0
   Fresh r = MayWait new r × (is_ready old r ≡ false)
 
-  fresh : AllOf Fresh (newly_ready old new)
+  fresh : AllByRecursion Fresh (newly_ready old new)
   fresh = all_weaken (λ r. HasDomain new.nodes r × (more r ≡ true)) Fresh (newly_ready old new) (λ r h. newly old new r f.before f.undecided h.0 h.1)
       (all_filter (HasDomain new.nodes) more (roots_of new) (domains_there new f.after))
 

@@ -4,6 +4,7 @@ use Rattle.std.specs.Prelude.{IsOk, IfSome, IsSomeAnd, filter, map, is_some, opt
 use Rattle.std.proofs.lemmas.Bool.{cases_eq, ne_eqb}
 use Rattle.std.proofs.lemmas.List.{map-append}
 use Rattle.std.proofs.lemmas.Option.{same_Some, slice_get_within}
+use Rattle.std.specs.List.{AllByRecursion}
 use Rattle.sysmem_merge.specs.declared.settings.Settings.{Settings}
 use Rattle.sysmem_merge.specs.Settings.{MeetsLoosely}
 use Rattle.sysmem_proof.specs.declared.verdict.Verdict.{Verdict}
@@ -29,7 +30,7 @@ use Rattle.sysmem_alloc.specs.Decision.{Claimed, Decision, answer_of, choices_of
 use Rattle.sysmem_alloc.specs.Entry.{BookEntry, Acted, Decided}
 use Rattle.sysmem_alloc.specs.History.{after_answer, after_entry, replay_from, replay, Allows, AreAllowed, IsLegal}
 use Rattle.sysmem_alloc.specs.Laws.{LegalIsSound, LegalAgrees}
-use Rattle.sysmem_alloc.specs.Sound.{AgreesWithTree, AllOf, AreDistinct, AreSettingsOn, IsDecisionOn, IsOfReady, IsSoundState, roots_of, standing_of}
+use Rattle.sysmem_alloc.specs.Sound.{AgreesWithTree, AreDistinct, AreSettingsOn, IsDecisionOn, IsOfReady, IsSoundState, roots_of, standing_of}
 use Rattle.sysmem_alloc.specs.State.{State, first_state, after_action, base_of, chosen_in, is_open, kept_for, open_in}
 use Rattle.sysmem_tree.proofs.CallerLemmas.{accepted, decision_acted, decision_by}
 use Rattle.sysmem_alloc.proofs.Choosing.{same_chosen}
@@ -46,7 +47,7 @@ sub_filter p (x ∷ xs) = by (p x) (sub_filter p xs) where
   by true rest = taken x (filter p xs) xs rest
   by false rest = left_out x (filter p xs) xs rest
 
-all_both : {X : Type 0} (P Q : X → Type 0) (xs : List X) → AllOf P xs → AllOf Q xs → AllOf (λ x. P x × Q x) xs
+all_both : {X : Type 0} (P Q : X → Type 0) (xs : List X) → AllByRecursion P xs → AllByRecursion Q xs → AllByRecursion (λ x. P x × Q x) xs
 all_both P Q [] a b = tt
 all_both P Q (x ∷ xs) a b = ((a.0, b.0), all_both P Q xs a.1 b.1)
 
@@ -85,10 +86,10 @@ entered_other [] d r other = ap (λ b. if b then Some d else None) (ne_eqb d.dom
 entered_other (x ∷ ds) d r other = ap (λ o. if x.domain == r then Some x else o) (entered_other ds d r other)
 
 -- where none is entered, all are of other domains
-pub none_entered : (ds : List Decision) (r : ℕ) → decision_for ds r ≡ None → AllOf (λ (d : Decision). d.domain ≢ r) ds
+pub none_entered : (ds : List Decision) (r : ℕ) → decision_for ds r ≡ None → AllByRecursion (λ (d : Decision). d.domain ≢ r) ds
 none_entered [] r none = tt
 none_entered (x ∷ ds) r none = by (x.domain == r) refl none (none_entered ds r) where
-  by : (b : Bool) → (x.domain == r) ≡ b → (if b then Some x else decision_for ds r) ≡ None → (decision_for ds r ≡ None → AllOf (λ (d : Decision). d.domain ≢ r) ds) → AllOf (λ (d : Decision). d.domain ≢ r) (x ∷ ds)
+  by : (b : Bool) → (x.domain == r) ≡ b → (if b then Some x else decision_for ds r) ≡ None → (decision_for ds r ≡ None → AllByRecursion (λ (d : Decision). d.domain ≢ r) ds) → AllByRecursion (λ (d : Decision). d.domain ≢ r) (x ∷ ds)
   by true is e rest = absurd (cc)
   by false is e rest = ((λ same. (let own : (x.domain == r) ≡ true = eq-eqb x.domain r same in absurd (cc))), rest e)
 
@@ -104,7 +105,7 @@ pub none_for : (platform : PlatformFacts) (s : State) (r : ℕ) → AgreesWithTr
 none_for platform s r agrees open' = undecided_none (decision_for s.decisions r) (ap is_undecided (sym (agrees.standing r)) ∙ open')
 
 -- settings of a decision are some on the platform
-pub settings_fit : (platform : PlatformFacts) (nodes : List NodeFacts) (ds : List Decision) (r : ℕ) → AllOf (IsDecisionOn platform nodes) ds → IfSome (settings_for ds r) (AreSettingsOn platform)
+pub settings_fit : (platform : PlatformFacts) (nodes : List NodeFacts) (ds : List Decision) (r : ℕ) → AllByRecursion (IsDecisionOn platform nodes) ds → IfSome (settings_for ds r) (AreSettingsOn platform)
 settings_fit platform nodes [] r all = tt
 settings_fit platform nodes (d ∷ ds) r all = by (d.domain == r) (settings_fit platform nodes ds r all.1) where
   by : (b : Bool) → IfSome (settings_for ds r) (AreSettingsOn platform) → IfSome (option_and_then (λ (x : Decision). settings_of x.verdict) (if b then Some d else decision_for ds r)) (AreSettingsOn platform)
@@ -122,7 +123,7 @@ met_fit platform ps t m = record {
 }
 
 -- the base that a state gives has settings of a decision
-based : (platform : PlatformFacts) (s : State) (r : ℕ) → AllOf (IsDecisionOn platform s.tree.nodes) s.decisions → IfSome (base_of s r) (λ (b : BaseFacts). AreSettingsOn platform b.settings)
+based : (platform : PlatformFacts) (s : State) (r : ℕ) → AllByRecursion (IsDecisionOn platform s.tree.nodes) s.decisions → IfSome (base_of s r) (λ (b : BaseFacts). AreSettingsOn platform b.settings)
 based platform s r all = by (host_node s.tree.nodes r) where
   with' : (o : Option Settings) → IfSome o (AreSettingsOn platform)
       → IfSome (option_map (λ (settings : Settings). record { settings = settings; accepted = s.accepted }) o) (λ (b : BaseFacts). AreSettingsOn platform b.settings)
@@ -166,11 +167,11 @@ still_accepted old new ds (w ∷ ws) acc same is = subst (IsSublist acc) (sym sa
 module _ (stays : ForestStays) (one : OneForest) (platform : PlatformFacts) where
   -- the decisions' domains stay
   pub decided_stay : (s : State) (e : trees.HistoryEntry) (u : TreeFacts) → trees.after_entry s.tree e ≡ u → IsSoundState s → trees.Accepts s.tree e
-      → AllOf (λ (d : Decision). IsSameDomain s.tree.nodes u.nodes d.domain) s.decisions
+      → AllByRecursion (λ (d : Decision). IsSameDomain s.tree.nodes u.nodes d.domain) s.decisions
   decided_stay s e u is sound ok = all_weaken (IsOfReady s.tree) (λ (d : Decision). IsSameDomain s.tree.nodes u.nodes d.domain) s.decisions
       (λ d ready. subst (λ (x : TreeFacts). IsSameDomain s.tree.nodes x.nodes d.domain) is (stays s.tree e d.domain sound.tree.tree ok ready.there ready.ready)) sound.decided
 
-  all_still : (s : State) (u : TreeFacts) → AgreesWithTree platform s → AllOf (λ (d : Decision). IsSameDomain s.tree.nodes u.nodes d.domain) s.decisions → AllOf (IsDecisionOn platform u.nodes) s.decisions
+  all_still : (s : State) (u : TreeFacts) → AgreesWithTree platform s → AllByRecursion (λ (d : Decision). IsSameDomain s.tree.nodes u.nodes d.domain) s.decisions → AllByRecursion (IsDecisionOn platform u.nodes) s.decisions
   all_still s u agrees same = all_weaken (λ (d : Decision). IsSameDomain s.tree.nodes u.nodes d.domain × IsDecisionOn platform s.tree.nodes d) (IsDecisionOn platform u.nodes) s.decisions
       (λ d h. still_decided platform s.tree.nodes u.nodes d one h.0 h.1) (all_both (λ (d : Decision). IsSameDomain s.tree.nodes u.nodes d.domain) (IsDecisionOn platform s.tree.nodes) s.decisions same agrees.chosen)
 
@@ -212,7 +213,7 @@ module _ (stays : ForestStays) (one : OneForest) (platform : PlatformFacts) wher
         chosen = all_append (IsDecisionOn platform u.nodes) s.decisions (d ∷ []) (all_still s u agrees same) (still_decided platform s.tree.nodes u.nodes d one own new, tt);
         accepted = sub_filter (is_open u.nodes) (chosen_in u.nodes (s.decisions ++ d ∷ []));
       } where
-        apart_last : (ds : List Decision) → AllOf (λ (x : Decision). x.domain ≢ e.domain) ds → AllOf (λ x. AllOf (λ y. x ≢ y) (e.domain ∷ [])) (map (λ (x : Decision). x.domain) ds)
+        apart_last : (ds : List Decision) → AllByRecursion (λ (x : Decision). x.domain ≢ e.domain) ds → AllByRecursion (λ x. AllByRecursion (λ y. x ≢ y) (e.domain ∷ [])) (map (λ (x : Decision). x.domain) ds)
         apart_last [] a = tt
         apart_last (x ∷ ds) a = ((a.0, tt), apart_last ds a.1)
 

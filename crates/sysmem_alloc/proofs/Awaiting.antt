@@ -1,7 +1,7 @@
 -- Each domain that is ready and undecided waits, by the counts of a sound state.
 use Rattle.std.proofs.Common.{◌≡◌, ◌≢◌, ◌≤◌, ℕ, zero, suc, ◌+◌, ◌==◌, Bool, true, false, List, [], ◌∷◌, ◌++◌, length, Option, Some, None, slice_get, refl, sym, ◌∙◌, ap, subst, arith, rules, tests, length-append}
 use Rattle.std.specs.Prelude.{IsSomeAnd, filter, is_some, map, if◌then◌else◌}
-use Rattle.std.specs.List.{Contains}
+use Rattle.std.specs.List.{AllByRecursion, Contains}
 use Rattle.std.proofs.lemmas.List.Elements.{Contains-append_right}
 use Rattle.std.proofs.lemmas.Option.{same_Some}
 use Rattle.sysmem_tree.specs.declared.domain.Decision.TheVariants.{Chosen, NoneChosen}
@@ -10,7 +10,7 @@ use Rattle.sysmem_tree.specs.Node.{NodeFacts}
 use Rattle.sysmem_alloc.specs.Decision.{Decision, choices_of, decision_for}
 use Rattle.sysmem_alloc.specs.History.{replay}
 use Rattle.sysmem_alloc.specs.Laws.{LegalAgrees, LegalIsSound, ReadyWaits}
-use Rattle.sysmem_alloc.specs.Sound.{AllOf, AreDistinct, IsOfReady, IsSoundState, MayWait, roots_of, standing_of}
+use Rattle.sysmem_alloc.specs.Sound.{AreDistinct, IsOfReady, IsSoundState, MayWait, roots_of, standing_of}
 use Rattle.sysmem_alloc.specs.State.{State}
 use Rattle.sysmem_alloc.proofs.Lists.{all_append, all_weaken, apart_append}
 
@@ -56,24 +56,24 @@ still_here x z (y ∷ ys) other h = by (y == x) (y == z) refl refl h (still_here
   by false true own that h rest = ap (λ b. if b then true else here z (out x ys)) that
   by false false own that h rest = ap (λ b. if b then true else here z (out x ys)) that ∙ rest h
 
-rest_here : (x : ℕ) (xs ys : List ℕ) → AllOf (λ z. x ≢ z) xs → AllOf (λ z. here z ys ≡ true) xs → AllOf (λ z. here z (out x ys) ≡ true) xs
+rest_here : (x : ℕ) (xs ys : List ℕ) → AllByRecursion (λ z. x ≢ z) xs → AllByRecursion (λ z. here z ys ≡ true) xs → AllByRecursion (λ z. here z (out x ys) ≡ true) xs
 rest_here x [] ys others all = tt
 rest_here x (z ∷ xs) ys others all = (still_here x z ys others.0 all.0, rest_here x xs ys others.1 all.1)
 
 -- numbers of a list, each once, are at most as many as it has
-few_of : (xs ys : List ℕ) → AreDistinct xs → AllOf (λ z. here z ys ≡ true) xs → length xs ≤ length ys
+few_of : (xs ys : List ℕ) → AreDistinct xs → AllByRecursion (λ z. here z ys ≡ true) xs → length xs ≤ length ys
 few_of [] ys apart all = omega arith
 few_of (x ∷ xs) ys apart all = omega (arith, length_out x ys all.0, few_of xs (out x ys) apart.1 (rest_here x xs ys apart.0 all.1))
 
-others : (x : ℕ) (ys : List ℕ) → here x ys ≡ false → AllOf (λ y. x ≢ y) ys
+others : (x : ℕ) (ys : List ℕ) → here x ys ≡ false → AllByRecursion (λ y. x ≢ y) ys
 others x [] h = tt
 others x (y ∷ ys) h = by (y == x) refl h (others x ys) where
-  by : (b : Bool) → (y == x) ≡ b → (if b then true else here x ys) ≡ false → (here x ys ≡ false → AllOf (λ y. x ≢ y) ys) → (x ≢ y) × AllOf (λ y. x ≢ y) ys
+  by : (b : Bool) → (y == x) ≡ b → (if b then true else here x ys) ≡ false → (here x ys ≡ false → AllByRecursion (λ y. x ≢ y) ys) → (x ≢ y) × AllByRecursion (λ y. x ≢ y) ys
   by true own h rest = absurd (cc)
   by false own h rest = (λ same. let e : (y == x) ≡ true = itself x y (sym same) in absurd (cc), rest h)
 
 -- where they are as many, each of the list is among them
-all_found : (xs ys : List ℕ) (z : ℕ) → AreDistinct xs → AllOf (λ x. here x ys ≡ true) xs → length xs ≡ length ys → here z ys ≡ true → here z xs ≡ true
+all_found : (xs ys : List ℕ) (z : ℕ) → AreDistinct xs → AllByRecursion (λ x. here x ys ≡ true) xs → length xs ≡ length ys → here z ys ≡ true → here z xs ≡ true
 all_found xs ys z apart all same h = by (here z xs) refl where
   by : (b : Bool) → here z xs ≡ b → b ≡ true
   by true e = refl
@@ -151,7 +151,7 @@ many_mapped : (ds : List Decision) → length (decided_domains ds) ≡ length ds
 many_mapped [] = refl
 many_mapped (d ∷ ds) = ap suc (many_mapped ds)
 
-of_decided : (P : ℕ → Type 0) (Q : Decision → Type 0) (ds : List Decision) → ((d : Decision) → Q d → P d.domain) → AllOf Q ds → AllOf P (decided_domains ds)
+of_decided : (P : ℕ → Type 0) (Q : Decision → Type 0) (ds : List Decision) → ((d : Decision) → Q d → P d.domain) → AllByRecursion Q ds → AllByRecursion P (decided_domains ds)
 of_decided P Q [] each all = tt
 of_decided P Q (d ∷ ds) each all = (each d all.0, of_decided P Q ds each all.1)
 
@@ -173,9 +173,9 @@ waits_in s sound standing apart r has ready undecided =
       open_yet k e = is_decided k s.decisions ∙ none_entered (decision_for s.decisions k) (ap is_undecided (sym (standing k)) ∙ e)
 
       once : AreDistinct (s.waiting ++ ds)
-      once = apart_append s.waiting ds sound.once apart (all_weaken (MayWait s.tree) (λ x. AllOf (λ y. x ≢ y) ds) s.waiting (λ x w. others x ds (open_yet x w.undecided)) sound.waiting)
+      once = apart_append s.waiting ds sound.once apart (all_weaken (MayWait s.tree) (λ x. AllByRecursion (λ y. x ≢ y) ds) s.waiting (λ x w. others x ds (open_yet x w.undecided)) sound.waiting)
 
-      each : AllOf (λ x. here x ready_roots ≡ true) (s.waiting ++ ds)
+      each : AllByRecursion (λ x. here x ready_roots ≡ true) (s.waiting ++ ds)
       each = all_append (λ x. here x ready_roots ≡ true) s.waiting ds (all_weaken (MayWait s.tree) (λ x. here x ready_roots ≡ true) s.waiting (λ x w. among x w.there w.ready) sound.waiting)
           (of_decided (λ x. here x ready_roots ≡ true) (IsOfReady s.tree) s.decisions (λ d o. among d.domain o.there o.ready) sound.decided)
 

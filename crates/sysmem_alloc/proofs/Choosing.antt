@@ -3,6 +3,7 @@ use Rattle.std.proofs.Common.{◌≡◌, ℕ, zero, suc, ◌+◌, Bool, List, []
 use Rattle.std.specs.Prelude.{IfSome, filter, map, is_some, option_map, option_and_then, unwrap_or, if◌then◌else◌}
 use Rattle.std.proofs.lemmas.List.Concat.{flat_map-cons}
 use Rattle.std.proofs.lemmas.Option.{same_Some, option_and_then_some}
+use Rattle.std.specs.List.{AllByRecursion}
 use Rattle.sysmem_tree.specs.declared.state.NodeKind.{NodeKind}
 use Rattle.sysmem_tree.specs.declared.state.NodeKind.TheVariants as kinds
 use Rattle.sysmem_tree.specs.Forest.{Forest, Empty, Plain, Group, each, kids_else_rest, choices, settled, relabel}
@@ -13,71 +14,17 @@ use Rattle.sysmem_tree.specs.Selection.{after, settled_by}
 use Rattle.sysmem_tree.specs.Shape.{Member, kid_of, before, tree_of, kids_from, rooted, forest_of, members_of, participants_of}
 use Rattle.sysmem_proof.specs.Asked.{asks_at}
 use Rattle.sysmem_alloc.specs.Decision.{Decision, choices_of}
-use Rattle.sysmem_alloc.specs.Sound.{AllOf}
 use Rattle.sysmem_alloc.specs.State.{chosen_by, chosen_in}
-use Rattle.sysmem_tree.proofs.CallerLemmas.{after_relabel, settled_relabel}
-
-all_mapped : {X Y : Type 0} (P : X → Type 0) (Q : Y → Type 0) (f : X → Y) (xs : List X) → ((x : X) → P x → Q (f x)) → AllOf P xs → AllOf Q (map f xs)
-all_mapped P Q f [] h all = tt
-all_mapped P Q f (x ∷ xs) h all = (h x all.0, all_mapped P Q f xs h all.1)
-
-all_at : {X : Type 0} (P : X → Type 0) (xs : List X) (i : ℕ) (x : X) → slice_get xs i ≡ Some x → AllOf P xs → P x
-all_at P [] i x here all = absurd (cc)
-all_at P (y ∷ xs) zero x here all = subst P (same_Some y x here) all.0
-all_at P (y ∷ xs) (suc i) x here all = all_at P xs i x here all.1
+use Rattle.sysmem_tree.proofs.CallerLemmas.{after_relabel, settled_relabel, all_mapped}
+use Rattle.sysmem_proof.proofs.CallerLemmas.{AllIn, in_after, in_settled, in_tree}
 
 module _ {A : Type 0} (P : A → Type 0) where
-  -- what all labels of a forest have
-  abbrev pub AllIn : Forest A → Type 0
-  AllIn Empty = Unit {0}
-  AllIn (Plain n kids rest) = P n × AllIn kids × AllIn rest
-  AllIn (Group n kids rest) = P n × AllIn kids × AllIn rest
-
-  in_each : (d : Forest A) → AllIn d → AllOf AllIn (each d)
-  in_each Empty all = tt
-  in_each (Plain n kids rest) all = ((all.0, all.1, tt), in_each rest all.2)
-  in_each (Group n kids rest) all = ((all.0, all.1, tt), in_each rest all.2)
-
-  in_either : (n : A) (kids rest : Forest A) (ks rs : Option (List (Forest A))) → P n → AllIn kids → AllIn rest → IfSome ks (AllOf AllIn) → IfSome rs (AllOf AllIn)
-      → IfSome (kids_else_rest (λ k. Plain n k rest) (λ r. Plain n kids r) ks rs) (AllOf AllIn)
-  in_either n kids rest (Some ks) rs p a b hk hr = all_mapped AllIn AllIn (λ k. Plain n k rest) ks (λ k h. (p, h, b)) hk
-  in_either n kids rest None (Some rs) p a b hk hr = all_mapped AllIn AllIn (λ r. Plain n kids r) rs (λ r h. (p, a, h)) hr
-  in_either n kids rest None None p a b hk hr = tt
-
-  in_choices : (d : Forest A) → AllIn d → IfSome (choices d) (AllOf AllIn)
-  in_choices Empty all = tt
-  in_choices (Plain n kids rest) all = in_either n kids rest (choices kids) (choices rest) all.0 all.1 all.2 (in_choices kids all.1) (in_choices rest all.2)
-  in_choices (Group n kids rest) all = all_mapped AllIn AllIn (λ kid. Plain n kid rest) (each kids) (λ kid h. (all.0, h, all.2)) (in_each kids all.1)
-
-  one_choice : (c : ℕ) (o : Option (List (Forest A))) (e : Forest A) → IfSome o (AllOf AllIn) → option_and_then (λ es. slice_get es c) o ≡ Some e → AllIn e
-  one_choice c None e all is = absurd (cc)
-  one_choice c (Some es) e all is = all_at AllIn es c e is all
-
-  in_after : (cs : List ℕ) (d e : Forest A) → AllIn d → after d cs ≡ Some e → AllIn e
-  in_after [] d e all is = subst AllIn (same_Some d e is) all
-  in_after (c ∷ cs) d e all is = option_and_then_some (λ x. after x cs) (option_and_then (λ es. slice_get es c) (choices d)) e is
-      (λ x one on. in_after cs x e (one_choice c (choices d) x (in_choices d all) one) on)
-
-  both_all : (xs ys : List A) → AllOf P xs → AllOf P ys → AllOf P (xs ++ ys)
-  both_all [] ys a b = b
-  both_all (x ∷ xs) ys a b = (a.0, both_all xs ys a.1 b)
-
-  in_settled : (d : Forest A) → AllIn d → AllOf P (settled d)
-  in_settled Empty all = tt
-  in_settled (Plain n kids rest) all = (all.0, both_all (settled kids) (settled rest) (in_settled kids all.1) (in_settled rest all.2))
-  in_settled (Group n kids rest) all = (all.0, in_settled rest all.2)
-
   -- what all labels have, all that choices settle has
-  pub in_settled_by : (d : Forest A) (cs : List ℕ) → AllIn d → AllOf P (unwrap_or (settled_by d cs) [])
+  pub in_settled_by : (d : Forest A) (cs : List ℕ) → AllIn P d → AllByRecursion P (unwrap_or (settled_by d cs) [])
   in_settled_by d cs all = by (after d cs) refl where
-    by : (o : Option (Forest A)) → after d cs ≡ o → AllOf P (unwrap_or (option_map settled o) [])
+    by : (o : Option (Forest A)) → after d cs ≡ o → AllByRecursion P (unwrap_or (option_map settled o) [])
     by None is = tt
-    by (Some e) is = in_settled e (in_after cs d e all is)
-
-  pub in_tree : (kind : NodeKind) (n : A) (kids rest : Forest A) → P n → AllIn kids → AllIn rest → AllIn (tree_of kind n kids rest)
-  in_tree kinds.Token n kids rest p a b = (p, a, b)
-  in_tree kinds.Collection n kids rest p a b = (p, a, b)
-  in_tree kinds.Group n kids rest p a b = (p, a, b)
+    by (Some e) is = in_settled P e (in_after P cs d e all is)
 
 -- a label tells the constraints of its node
 abbrev pub Tells : List NodeFacts → ℕ × Member → Type 0
@@ -123,7 +70,7 @@ members_both : (nodes : List NodeFacts) (r : ℕ) (cs : List ℕ) → AreOneFore
 members_both nodes r cs one = ap (λ d. unwrap_or (settled_by d cs) []) (sym one.numbers) ∙ numbers_settled (λ (l : ℕ × Member). l.0) (forest_of by_both nodes r (path_of nodes r)) cs
 
 -- filters by tests that agree
-pub same_filter : (p q : ℕ → Bool) (xs : List ℕ) → AllOf (λ x. p x ≡ q x) xs → filter p xs ≡ filter q xs
+pub same_filter : (p q : ℕ → Bool) (xs : List ℕ) → AllByRecursion (λ x. p x ≡ q x) xs → filter p xs ≡ filter q xs
 same_filter p q [] all = refl
 same_filter p q (x ∷ xs) all = ap (λ b. if b then x ∷ filter p xs else filter p xs) all.0 ∙ ap (λ ys. if q x then x ∷ ys else ys) (same_filter p q xs all.1)
 
@@ -132,16 +79,16 @@ pub same_participants : (old new : List NodeFacts) (r : ℕ) (cs : List ℕ) →
 same_participants old new r cs one same =
     ap (filter (λ i. is_some (asks_at new i))) (same.members cs)
     ∙ same_filter (λ i. is_some (asks_at new i)) (λ i. is_some (asks_at old i)) (members_of old r cs)
-    (subst (AllOf (λ i. is_some (asks_at new i) ≡ is_some (asks_at old i))) (sym (members_both old r cs one))
+    (subst (AllByRecursion (λ i. is_some (asks_at new i) ≡ is_some (asks_at old i))) (sym (members_both old r cs one))
     (all_mapped (λ (l : ℕ × Member). Tells old l × Tells new l) (λ i. is_some (asks_at new i) ≡ is_some (asks_at old i)) (λ (l : ℕ × Member). l.0) (both_of old r cs)
     (λ l h. ap is_some (h.1 ∙ sym h.0)) (paired (both_of old r cs) (in_settled_by (Tells old) (forest_of by_both old r (path_of old r)) cs (labels_tell old r (path_of old r)))
     (in_settled_by (Tells new) (forest_of by_both old r (path_of old r)) cs (subst (AllIn (Tells new)) same.forest (labels_tell new r (path_of new r))))))) where
-      paired : (ls : List (ℕ × Member)) → AllOf (Tells old) ls → AllOf (Tells new) ls → AllOf (λ (l : ℕ × Member). Tells old l × Tells new l) ls
+      paired : (ls : List (ℕ × Member)) → AllByRecursion (Tells old) ls → AllByRecursion (Tells new) ls → AllByRecursion (λ (l : ℕ × Member). Tells old l × Tells new l) ls
       paired [] a b = tt
       paired (l ∷ ls) a b = ((a.0, b.0), paired ls a.1 b.1)
 
 -- so do all decisions of domains that stay
-pub same_chosen : (old new : List NodeFacts) (ds : List Decision) → ((r : ℕ) → AreOneForest old r) → AllOf (λ (d : Decision). IsSameDomain old new d.domain) ds → chosen_in new ds ≡ chosen_in old ds
+pub same_chosen : (old new : List NodeFacts) (ds : List Decision) → ((r : ℕ) → AreOneForest old r) → AllByRecursion (λ (d : Decision). IsSameDomain old new d.domain) ds → chosen_in new ds ≡ chosen_in old ds
 same_chosen old new [] one all = refl
 same_chosen old new (d ∷ ds) one all =
     flat_map-cons (chosen_by new) d ds ∙ (ap (λ xs. xs ++ chosen_in new ds) (by (choices_of d.verdict)) ∙ (ap (λ ys. chosen_by old d ++ ys) (same_chosen old new ds one all.1) ∙ sym (flat_map-cons (chosen_by old) d ds))) where

@@ -2,6 +2,7 @@
 use Rattle.std.proofs.Common.{◌≡◌, ◌⊎◌, ℕ, ◌==◌, Bool, true, false, List, [], ◌∷◌, ◌++◌, Option, Some, None, Result, Ok, Err, slice_get, refl, sym, ◌∙◌, ap, subst, rules, tests, inl, inr}
 use Rattle.std.specs.Prelude.{IfSome, IsSomeAnd, map, option_map, option_and_then, if◌then◌else◌}
 use Rattle.std.proofs.lemmas.Option.{same_Some}
+use Rattle.std.specs.List.{AllByRecursion}
 use Rattle.sysmem_proof.specs.declared.verdict.Verdict.{Verdict}
 use Rattle.sysmem_proof.specs.Base.{terms_of}
 use Rattle.sysmem_proof.specs.Laws.{OneAnswer}
@@ -21,7 +22,7 @@ use Rattle.sysmem_alloc.specs.Decision.{Decision, answer_of, decision_for, setti
 use Rattle.sysmem_alloc.specs.Entry.{BookEntry, Acted, Decided, tree_entry}
 use Rattle.sysmem_alloc.specs.History.{after_answer, after_entry, replay_from, replay, Allows, AreAllowed, IsLegal}
 use Rattle.sysmem_alloc.specs.Laws.{InitialShape, Confluence}
-use Rattle.sysmem_alloc.specs.Sound.{AllOf, IsOfReady, IsSoundState}
+use Rattle.sysmem_alloc.specs.Sound.{IsOfReady, IsSoundState}
 use Rattle.sysmem_alloc.specs.State.{State, first_state, base_of}
 use Rattle.sysmem_alloc.proofs.Stepping.{accepts, claims_optimal, tree_of_entry, sound_step, sound_first}
 
@@ -31,7 +32,7 @@ tree_of_replay s [] = refl
 tree_of_replay s (e ∷ es) = tree_of_replay (after_entry s e) es ∙ ap (λ t. trees.replay_from t (map tree_entry es)) (tree_of_entry s e)
 
 -- the decision of a domain is one of the decisions
-of_decisions : (P : Decision → Type 0) (ds : List Decision) (r : ℕ) (d : Decision) → AllOf P ds → decision_for ds r ≡ Some d → P d × (d.domain ≡ r)
+of_decisions : (P : Decision → Type 0) (ds : List Decision) (r : ℕ) (d : Decision) → AllByRecursion P ds → decision_for ds r ≡ Some d → P d × (d.domain ≡ r)
 of_decisions P [] r d all is = absurd (cc)
 of_decisions P (x ∷ ds) r d all is = by (x.domain == r) refl (of_decisions P ds r d all.1) is where
   by : (b : Bool) → (x.domain == r) ≡ b → (decision_for ds r ≡ Some d → P d × (d.domain ≡ r)) → (if b then Some x else decision_for ds r) ≡ Some d → P d × (d.domain ≡ r)

@@ -1,7 +1,7 @@
 -- What stands for a book after one more entry.
 use Rattle.std.proofs.Common.{◌≡◌, ◌≢◌, ◌≤◌, ℕ, ◌+◌, Bool, false, not, ◌&&◌, List, [], ◌∷◌, ◌++◌, length, drop, Option, Some, None, Ok, get_or, slice_get, refl, sym, ◌∙◌, ap, subst, arith, append-nil, length-append}
 use Rattle.std.specs.Prelude.{IsOk, filter, map, option_map, unwrap_or}
-use Rattle.std.specs.List.{filter_map}
+use Rattle.std.specs.List.{AllByRecursion, filter_map}
 use Rattle.std.proofs.lemmas.List.{map-append}
 use Rattle.std.proofs.lemmas.List.Elements.{filter_map-append}
 use Rattle.sysmem_alloc.specs.declared.entry.Entry.{Entry}
@@ -22,7 +22,7 @@ use Rattle.sysmem_alloc.specs.Entry.{BookEntry, Acted, Decided, entry_in, decisi
 use Rattle.sysmem_alloc.specs.History.{after_answer, after_entry, replay_from, Allows, AreAllowed}
 use Rattle.sysmem_alloc.specs.Laws.{LegalIsSound}
 use Rattle.sysmem_alloc.specs.Marks.{if_ready, ready_at, ready_unmarked}
-use Rattle.sysmem_alloc.specs.Sound.{AllOf, IsOfReady, IsSoundState, roots_of}
+use Rattle.sysmem_alloc.specs.Sound.{IsOfReady, IsSoundState, roots_of}
 use Rattle.sysmem_alloc.specs.State.{State, first_state, newly_ready, is_open, chosen_in, open_in, kept_for}
 use Rattle.sysmem_alloc.proofs.Choosing.{same_chosen, same_filter}
 use Rattle.sysmem_alloc.proofs.Counting.{few_waiting}
@@ -73,7 +73,7 @@ read_push : (platform : PlatformFacts) (t u : TreeFacts) (raw : List Entry) (x :
 read_push platform t u raw x e waiting marks is keeps read =
     map-append (entry_in u.nodes) raw (x ∷ [])
     ∙ (ap (λ ys. ys ++ entry_in u.nodes x ∷ []) (read_later t.nodes u.nodes keeps raw
-    (subst (λ (s : State). AllOf (StandsIn s.tree.nodes) (map (entry_in t.nodes) raw)) (sym is.replayed) (all_stand platform first_state (map (entry_in t.nodes) raw) is.legal)))
+    (subst (λ (s : State). AllByRecursion (StandsIn s.tree.nodes) (map (entry_in t.nodes) raw)) (sym is.replayed) (all_stand platform first_state (map (entry_in t.nodes) raw) is.legal)))
     ∙ ap (λ y. map (entry_in t.nodes) raw ++ y ∷ []) read)
 
 pub no_decision : (raw : List Entry) (x : Entry) → decision_in x ≡ None → filter_map decision_in (raw ++ x ∷ []) ≡ filter_map decision_in raw

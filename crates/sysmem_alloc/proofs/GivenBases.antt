@@ -5,6 +5,7 @@ use Rattle.std.proofs.lemmas.List.Concat.{flat_map-cons}
 use Rattle.std.proofs.lemmas.List.Elements.{All-append, All-cons, All-filter, All-nil, All-weaker, All-head, All-tail}
 use Rattle.std.proofs.lemmas.List.Kept.{AllPairs-cons, AllPairs-filter}
 use Rattle.std.proofs.lemmas.Option.{slice_get_within}
+use Rattle.std.specs.List.{AllByRecursion}
 use Rattle.list_lemmas.proofs.CallerLemmas.{and_parts}
 use Rattle.sysmem_merge.specs.declared.settings.Settings.{Settings}
 use Rattle.sysmem_proof.specs.declared.verdict.Verdict.{Verdict}
@@ -23,7 +24,7 @@ use Rattle.sysmem_alloc.specs.Book.{BookFacts, IsBook}
 use Rattle.sysmem_alloc.specs.Decision.{Decision, choices_of, decision_for, settings_for, settings_of}
 use Rattle.sysmem_alloc.specs.History.{replay}
 use Rattle.sysmem_alloc.specs.Laws.{BaseIsGiven, LegalAgrees, LegalIsSound}
-use Rattle.sysmem_alloc.specs.Sound.{AgreesWithTree, AllOf, AreDistinct, AreSettingsOn, IsDecisionOn, IsOfReady, IsSoundState, MayWait, standing_of}
+use Rattle.sysmem_alloc.specs.Sound.{AgreesWithTree, AreDistinct, AreSettingsOn, IsDecisionOn, IsOfReady, IsSoundState, MayWait, standing_of}
 use Rattle.sysmem_alloc.specs.State.{State, base_of, chosen_by, chosen_in, next_ready}
 use Rattle.sysmem_alloc.proofs.Agreeing.{none_entered, none_for, settings_fit}
 use Rattle.sysmem_alloc.proofs.Entering.{state_sound}
@@ -113,7 +114,7 @@ module _ (law : MembersStandOnce) (nodes : List NodeFacts) (tree : IsTree nodes)
     by None h = h
     by (Some n) h = λ same. other (sym h ∙ same)
 
-  pub all_elsewhere : (r : ℕ) (ds : List Decision) → AllOf (λ (d : Decision). HasDomain nodes d.domain) ds → AllOf (λ (d : Decision). d.domain ≢ r) ds → All (IsElsewhere nodes r) (chosen_in nodes ds)
+  pub all_elsewhere : (r : ℕ) (ds : List Decision) → AllByRecursion (λ (d : Decision). HasDomain nodes d.domain) ds → AllByRecursion (λ (d : Decision). d.domain ≢ r) ds → All (IsElsewhere nodes r) (chosen_in nodes ds)
   all_elsewhere r [] there other = All-nil (IsElsewhere nodes r)
   all_elsewhere r (d ∷ ds) there other = subst (All (IsElsewhere nodes r)) (sym (flat_map-cons (chosen_by nodes) d ds))
       (All-append (IsElsewhere nodes r) (chosen_by nodes d) (chosen_in nodes ds)
@@ -127,7 +128,7 @@ module _ (law : MembersStandOnce) (nodes : List NodeFacts) (tree : IsTree nodes)
     by None is h = absurd h
     by (Some n) is h = slice_get_within nodes i n is
 
-  pub all_there : (ds : List Decision) → AllOf (λ (d : Decision). HasDomain nodes d.domain) ds → All (HasNode nodes) (chosen_in nodes ds)
+  pub all_there : (ds : List Decision) → AllByRecursion (λ (d : Decision). HasDomain nodes d.domain) ds → All (HasNode nodes) (chosen_in nodes ds)
   all_there [] there = All-nil (HasNode nodes)
   all_there (d ∷ ds) there = subst (All (HasNode nodes)) (sym (flat_map-cons (chosen_by nodes) d ds))
       (All-append (HasNode nodes) (chosen_by nodes d) (chosen_in nodes ds)
@@ -146,14 +147,14 @@ module _ (law : MembersStandOnce) (nodes : List NodeFacts) (tree : IsTree nodes)
       (All-append (λ j. x ≢ j) xs ys (λ k d small. a 0 (suc k) d (omega arith) (omega (arith, small))) (All-head (λ i. All (λ j. i ≢ j) ys) x xs c))
       (pairs_append xs ys (λ i j d less small. a (suc i) (suc j) d (omega (arith, less)) (omega (arith, small))) b (All-tail (λ i. All (λ j. i ≢ j) ys) x xs c))
 
-  pub all_once : (ds : List Decision) → AllOf (λ (d : Decision). HasDomain nodes d.domain) ds → AreDistinct (map (λ (d : Decision). d.domain) ds) → AllPairs (λ i j. i ≢ j) (chosen_in nodes ds)
+  pub all_once : (ds : List Decision) → AllByRecursion (λ (d : Decision). HasDomain nodes d.domain) ds → AreDistinct (map (λ (d : Decision). d.domain) ds) → AllPairs (λ i j. i ≢ j) (chosen_in nodes ds)
   all_once [] there apart = λ i j x less small. absurd (omega (arith, small))
   all_once (d ∷ ds) there apart = subst (AllPairs (λ i j. i ≢ j)) (sym (flat_map-cons (chosen_by nodes) d ds))
       (pairs_append (chosen_by nodes d) (chosen_in nodes ds) (own_once d there.0) (all_once ds there.1 apart.1)
       (All-weaker (λ i. IsSomeAnd (slice_get nodes i) (λ (n : NodeFacts). n.domain ≡ d.domain)) (λ i. All (λ j. i ≢ j) (chosen_in nodes ds))
       (λ i h. All-weaker (IsElsewhere nodes d.domain) (λ j. i ≢ j) (λ j e. not_there d.domain i j h e) (chosen_in nodes ds) (all_elsewhere d.domain ds there.1 (others ds apart.0)))
       (chosen_by nodes d) (own_nodes d there.0))) where
-        others : (es : List Decision) → AllOf (λ y. d.domain ≢ y) (map (λ (e : Decision). e.domain) es) → AllOf (λ (e : Decision). e.domain ≢ d.domain) es
+        others : (es : List Decision) → AllByRecursion (λ y. d.domain ≢ y) (map (λ (e : Decision). e.domain) es) → AllByRecursion (λ (e : Decision). e.domain ≢ d.domain) es
         others [] a = tt
         others (e ∷ es) a = ((λ same. a.0 (sym same)), others es a.1)
 
@@ -168,10 +169,10 @@ pairs_sub _ _ (left_out x xs ys p) all = pairs_sub xs ys p (pairs_rest x ys all)
 
 -- what a state gives the first domain that waits is a base for it
 module _ (law : MembersStandOnce) (platform : PlatformFacts) (s : State) (r : ℕ) (sound : IsSoundState s) (agrees : AgreesWithTree platform s) (waits : MayWait s.tree r) where
-  there : AllOf (λ (d : Decision). HasDomain s.tree.nodes d.domain) s.decisions
+  there : AllByRecursion (λ (d : Decision). HasDomain s.tree.nodes d.domain) s.decisions
   there = all_weaken (IsOfReady s.tree) (λ (d : Decision). HasDomain s.tree.nodes d.domain) s.decisions (λ d h. h.there) sound.decided
 
-  others : AllOf (λ (d : Decision). d.domain ≢ r) s.decisions
+  others : AllByRecursion (λ (d : Decision). d.domain ≢ r) s.decisions
   others = none_entered s.decisions r (none_for platform s r agrees waits.undecided)
 
   based : (t : Settings) → AreSettingsOn platform t → IsBase platform s.tree.nodes r (record { settings = t; accepted = s.accepted })

@@ -1,7 +1,7 @@
 -- The participants that the decisions chose, as a book keeps them.
 use Rattle.std.proofs.Common.{◌≡◌, ◌≤◌, ℕ, ◌+◌, Bool, List, [], ◌∷◌, ◌++◌, length, Option, Some, None, Ok, refl, sym, ◌∙◌, ap, subst, arith, append-nil, length-append}
 use Rattle.std.specs.Prelude.{All, IfSome, IsSome}
-use Rattle.std.specs.List.{filter_map}
+use Rattle.std.specs.List.{AllByRecursion, filter_map}
 use Rattle.std.proofs.lemmas.List.Concat.{flat_map-append}
 use Rattle.sysmem_alloc.specs.declared.entry.Entry.{Entry}
 use Rattle.sysmem_alloc.specs.declared.entry.Entry.TheVariants as entries
@@ -23,7 +23,7 @@ use Rattle.sysmem_alloc.specs.Decision.{Claimed, Decision, answer_of, choices_of
 use Rattle.sysmem_alloc.specs.Entry.{Decided, decision_in}
 use Rattle.sysmem_alloc.specs.History.{Allows}
 use Rattle.sysmem_alloc.specs.Laws.{LegalIsSound, LegalAgrees}
-use Rattle.sysmem_alloc.specs.Sound.{AllOf, IsOfReady}
+use Rattle.sysmem_alloc.specs.Sound.{IsOfReady}
 use Rattle.sysmem_alloc.specs.State.{State, chosen_by, chosen_in}
 use Rattle.sysmem_tree.proofs.CallerLemmas.{few_different}
 use Rattle.sysmem_alloc.proofs.Agreeing.{decided_stay}
@@ -36,7 +36,7 @@ use Rattle.sysmem_alloc.proofs.Stepping.{accepts}
 
 -- they are nodes of the tree, and at most 128
 module _ (sound : LegalIsSound) (law : MembersStandOnce) (b : BookFacts) (is : IsBook b) where
-  there : AllOf (λ (d : Decision). HasDomain b.state.tree.nodes d.domain) b.state.decisions
+  there : AllByRecursion (λ (d : Decision). HasDomain b.state.tree.nodes d.domain) b.state.decisions
   there = all_weaken (IsOfReady b.state.tree) (λ (d : Decision). HasDomain b.state.tree.nodes d.domain) b.state.decisions (λ d h. h.there) (state_sound sound b is).decided
 
   pub chosen_there : All (HasNode b.state.tree.nodes) (chosen_in b.state.tree.nodes b.state.decisions)

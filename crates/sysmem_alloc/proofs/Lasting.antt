@@ -1,6 +1,7 @@
 -- A verdict stays.
 use Rattle.std.proofs.Common.{◌≡◌, ℕ, Bool, true, false, not, ◌&&◌, ◌==◌, List, [], ◌∷◌, ◌++◌, Option, Some, None, Result, Ok, Err, refl, sym, ◌∙◌, ap, subst, rules, tests}
 use Rattle.std.specs.Prelude.{option_map, unwrap_or, if◌then◌else◌}
+use Rattle.std.specs.List.{AllByRecursion}
 use Rattle.list_lemmas.proofs.CallerLemmas.{and_parts}
 use Rattle.sysmem_proof.specs.declared.verdict.Verdict.{Verdict}
 use Rattle.sysmem_proof.specs.declared.verdict.Verdict.TheVariants as verdicts
@@ -13,7 +14,7 @@ use Rattle.sysmem_alloc.specs.Decision.{Decision, answer_of, choices_of, decisio
 use Rattle.sysmem_alloc.specs.Entry.{BookEntry, Acted, Decided, tree_entry}
 use Rattle.sysmem_alloc.specs.History.{after_answer, after_entry, replay, Allows, IsLegal}
 use Rattle.sysmem_alloc.specs.Laws.{LegalIsSound, VerdictStays}
-use Rattle.sysmem_alloc.specs.Sound.{AllOf, IsOfReady}
+use Rattle.sysmem_alloc.specs.Sound.{IsOfReady}
 use Rattle.sysmem_alloc.specs.State.{State, first_state, verdict_of}
 use Rattle.sysmem_tree.proofs.CallerLemmas.{accepted}
 use Rattle.sysmem_alloc.proofs.Entering.{replay_push}
@@ -39,7 +40,7 @@ decision_stays s (Acted i deed) r d is = by (applied s.tree i deed) where
 decision_stays s (Decided c) r d is = entered_front s.decisions (answer_of c) r d is
 
 -- what was decided is ready
-decided_ready : (t : TreeFacts) (ds : List Decision) (r : ℕ) (d : Decision) → AllOf (IsOfReady t) ds → decision_for ds r ≡ Some d → is_ready t r ≡ true
+decided_ready : (t : TreeFacts) (ds : List Decision) (r : ℕ) (d : Decision) → AllByRecursion (IsOfReady t) ds → decision_for ds r ≡ Some d → is_ready t r ≡ true
 decided_ready t [] r d all is = absurd (cc)
 decided_ready t (x ∷ ds) r d all is = by (x.domain == r) refl is (decided_ready t ds r d all.1) where
   by : (b : Bool) → (x.domain == r) ≡ b → (if b then Some x else decision_for ds r) ≡ Some d → (decision_for ds r ≡ Some d → is_ready t r ≡ true) → is_ready t r ≡ true

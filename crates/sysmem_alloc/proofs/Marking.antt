@@ -1,11 +1,11 @@
 -- Domains that are ready and weren't marked as ready are those that an event made ready.
 use Rattle.std.proofs.Common.{◌≡◌, ℕ, suc, ◌+◌, Bool, false, not, ◌&&◌, List, [], ◌∷◌, ◌++◌, Some, get_or, slice_get, refl, sym, ◌∙◌, ap, subst, arith}
 use Rattle.std.specs.Prelude.{filter, if◌then◌else◌}
+use Rattle.std.specs.List.{AllByRecursion}
 use Rattle.sysmem_tree.specs.Domain.{TreeFacts, is_ready}
 use Rattle.sysmem_alloc.specs.Marks.{ready_unmarked}
-use Rattle.sysmem_alloc.specs.Sound.{AllOf}
 
-none_added : (t : TreeFacts) (was : ℕ → Bool) (marks : List Bool) (k : ℕ) (rs : List ℕ) → AllOf (λ r. is_ready t r ≡ false) rs
+none_added : (t : TreeFacts) (was : ℕ → Bool) (marks : List Bool) (k : ℕ) (rs : List ℕ) → AllByRecursion (λ r. is_ready t r ≡ false) rs
     → filter (λ r. is_ready t r && not (was r)) rs ≡ ready_unmarked t marks k rs
 none_added t was marks k [] all = refl
 none_added t was marks k (r ∷ rs) all =
@@ -14,7 +14,7 @@ none_added t was marks k (r ∷ rs) all =
     ∙ sym (ap (λ b. if b && not (get_or marks k false) then r ∷ ready_unmarked t marks (k + 1) rs else ready_unmarked t marks (k + 1) rs) all.0))
 
 pub newly_unmarked : (t : TreeFacts) (was : ℕ → Bool) (marks : List Bool) (k : ℕ) (rs added : List ℕ) → ((j r : ℕ) → slice_get rs j ≡ Some r → get_or marks (k + j) false ≡ was r)
-    → AllOf (λ r. is_ready t r ≡ false) added → filter (λ r. is_ready t r && not (was r)) (rs ++ added) ≡ ready_unmarked t marks k (rs ++ added)
+    → AllByRecursion (λ r. is_ready t r ≡ false) added → filter (λ r. is_ready t r && not (was r)) (rs ++ added) ≡ ready_unmarked t marks k (rs ++ added)
 newly_unmarked t was marks k [] added same all = none_added t was marks k added all
 newly_unmarked t was marks k (r ∷ rs) added same all =
     let zeroed : k + 0 ≡ k = omega arith in

@@ -4,6 +4,7 @@ use Rattle.std.specs.Prelude.{IfSome, filter, option_and_then, if◌then◌else�
 use Rattle.std.proofs.lemmas.Bool.{cases_Bool, false_from_ne_true}
 use Rattle.std.proofs.lemmas.List.Elements.{filter-append}
 use Rattle.std.proofs.lemmas.Option.{same_Some}
+use Rattle.std.specs.List.{AllByRecursion}
 use Rattle.list_lemmas.proofs.CallerLemmas.{and_parts}
 use Rattle.sysmem_tree.specs.declared.action.ActionKind.{ActionKind}
 use Rattle.sysmem_tree.specs.ActionKind.{Deed, kind_of}
@@ -12,24 +13,24 @@ use Rattle.sysmem_tree.specs.Domain.{TreeFacts, HasDomain, IsSoundTree, is_ready
 use Rattle.sysmem_tree.specs.Node.{NodeFacts}
 use Rattle.sysmem_tree.specs.Tree.{Applied, applied}
 use Rattle.sysmem_alloc.specs.Marks.{if_ready}
-use Rattle.sysmem_alloc.specs.Sound.{AllOf, AreDistinct, roots_of}
+use Rattle.sysmem_alloc.specs.Sound.{AreDistinct, roots_of}
 use Rattle.sysmem_alloc.specs.State.{newly_ready}
 use Rattle.sysmem_tree.proofs.CallerLemmas.{accepted, home_root, was_ready, IsAccepted}
 use Rattle.sysmem_alloc.proofs.Lists.{all_weaken, none_pass}
 use Rattle.sysmem_alloc.proofs.Trees.{acted_there, added, acted_roots, added_unready, domains_apart, domains_there, root_among}
 
 -- where none but one passes, that is what passes
-one_passes : (p : ℕ → Bool) (xs : List ℕ) (d k : ℕ) → AreDistinct xs → slice_get xs k ≡ Some d → AllOf (λ r. d ≢ r → p r ≡ false) xs → filter p xs ≡ (if p d then d ∷ [] else [])
+one_passes : (p : ℕ → Bool) (xs : List ℕ) (d k : ℕ) → AreDistinct xs → slice_get xs k ≡ Some d → AllByRecursion (λ r. d ≢ r → p r ≡ false) xs → filter p xs ≡ (if p d then d ∷ [] else [])
 one_passes p [] d k apart at others = absurd (cc)
 one_passes p (x ∷ xs) d zero apart at others =
     let same : x ≡ d = same_Some x d at in
-    ap (λ ys. if p x then x ∷ ys else ys) (none_pass p xs (rest xs (subst (λ y. AllOf (λ r. y ≢ r) xs) same apart.0) others.1)) ∙ ap (λ y. if p y then y ∷ [] else []) same where
-      rest : (ys : List ℕ) → AllOf (λ r. d ≢ r) ys → AllOf (λ r. d ≢ r → p r ≡ false) ys → AllOf (λ r. p r ≡ false) ys
+    ap (λ ys. if p x then x ∷ ys else ys) (none_pass p xs (rest xs (subst (λ y. AllByRecursion (λ r. y ≢ r) xs) same apart.0) others.1)) ∙ ap (λ y. if p y then y ∷ [] else []) same where
+      rest : (ys : List ℕ) → AllByRecursion (λ r. d ≢ r) ys → AllByRecursion (λ r. d ≢ r → p r ≡ false) ys → AllByRecursion (λ r. p r ≡ false) ys
       rest [] a b = tt
       rest (y ∷ ys) a b = (b.0 a.0, rest ys a.1 b.1)
 one_passes p (x ∷ xs) d (suc k) apart at others =
     ap (λ b. if b then x ∷ filter p xs else filter p xs) (others.0 (λ e. there xs k at apart.0 (sym e))) ∙ one_passes p xs d k apart.1 at others.1 where
-      there : (ys : List ℕ) (k : ℕ) → slice_get ys k ≡ Some d → AllOf (λ y. x ≢ y) ys → x ≡ d → ⊥
+      there : (ys : List ℕ) (k : ℕ) → slice_get ys k ≡ Some d → AllByRecursion (λ y. x ≢ y) ys → x ≡ d → ⊥
       there [] k at a e = absurd (cc)
       there (y ∷ ys) zero at a e = a.0 (e ∙ sym (same_Some y d at))
       there (y ∷ ys) (suc k) at a e = there ys k at a.1 e
@@ -72,7 +73,7 @@ module _ (t : TreeFacts) (i : ℕ) (deed : Deed) (made : Applied) (sound : IsSou
   newly =
       let more : List ℕ = added (kind_of deed) (length t.nodes) in
       let roots : roots_of made.tree ≡ roots_of t ++ more = subst (λ (u : TreeFacts). roots_of u ≡ roots_of t ++ more) fine.tree (acted_roots t n (kind_of deed)) in
-      let unready = subst (λ (u : TreeFacts). AllOf (λ r. is_ready u r ≡ false) more) fine.tree (added_unready t i n deed) in
+      let unready = subst (λ (u : TreeFacts). AllByRecursion (λ r. is_ready u r ≡ false) more) fine.tree (added_unready t i n deed) in
       ap (filter is_new) roots
       ∙ (filter-append is_new (roots_of t) more
       ∙ (ap (λ xs. filter is_new (roots_of t) ++ xs) (none_pass is_new more (all_weaken (λ r. is_ready made.tree r ≡ false) (λ r. is_new r ≡ false) more (λ r e. ap (λ b. b && not (is_ready t r)) e) unready))

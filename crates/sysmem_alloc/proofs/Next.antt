@@ -1,7 +1,7 @@
 -- The domain that is to be decided next stays so.
 use Rattle.std.proofs.Common.{◌≡◌, ℕ, List, [], ◌∷◌, ◌++◌, ◌<◌, length, Option, Some, None, Result, Ok, Err, slice_get, refl, sym, ◌∙◌, ap, subst}
 use Rattle.std.specs.Prelude.{All, IfSome, IsOk, IsSomeAnd, is_some, option_and_then, option_map, unwrap_or}
-use Rattle.std.specs.List.{cons_option}
+use Rattle.std.specs.List.{AllByRecursion, cons_option}
 use Rattle.std.proofs.lemmas.List.Concat.{flat_map-cons}
 use Rattle.std.proofs.lemmas.List.Elements.{All-append, All-cons, All-filter, All-head, All-nil, All-tail}
 use Rattle.std.proofs.lemmas.Option.{same_Some, slice_get_within}
@@ -29,7 +29,7 @@ use Rattle.sysmem_alloc.specs.Decision.{Decision, choices_of, settings_for}
 use Rattle.sysmem_alloc.specs.Entry.{BookEntry, Acted, Decided}
 use Rattle.sysmem_alloc.specs.History.{after_answer, after_entry, replay, Allows, IsAction, IsLegal}
 use Rattle.sysmem_alloc.specs.Laws.{LegalAgrees, LegalIsSound, NextStays, StaysNext}
-use Rattle.sysmem_alloc.specs.Sound.{AllOf, IsOfReady, IsSoundState, MayWait}
+use Rattle.sysmem_alloc.specs.Sound.{IsOfReady, IsSoundState, MayWait}
 use Rattle.sysmem_alloc.specs.State.{State, first_state, next_ready, newly_ready, base_of, chosen_by, chosen_in, open_in, kept_for, after_action}
 use Rattle.sysmem_tree.proofs.CallerLemmas.{accepted}
 use Rattle.sysmem_alloc.proofs.Entering.{allowed_push, replay_push}
@@ -44,7 +44,7 @@ still_kept : (waiting old new : List ℕ) (r : ℕ) → slice_get waiting 0 ≡ 
 still_kept [] old new r is = absurd (cc)
 still_kept (x ∷ rest) old new r is = refl
 
-pub first_waits : (t : TreeFacts) (waiting : List ℕ) (r : ℕ) → AllOf (MayWait t) waiting → slice_get waiting 0 ≡ Some r → MayWait t r
+pub first_waits : (t : TreeFacts) (waiting : List ℕ) (r : ℕ) → AllByRecursion (MayWait t) waiting → slice_get waiting 0 ≡ Some r → MayWait t r
 first_waits t [] r all is = absurd (cc)
 first_waits t (x ∷ rest) r all is = subst (MayWait t) (same_Some x r is) all.0
 
@@ -62,7 +62,7 @@ all_sub P _ _ (left_out x xs ys p) all = all_sub P xs ys p (All-tail P x ys all)
 
 -- who was chosen shows what it did
 chosen_shown : MembersStay → (old new : List NodeFacts) → IsTree old → IsTree new → (ds : List Decision)
-    → AllOf (λ (d : Decision). HasDomain old d.domain × HasDomain new d.domain × IsSameDomain old new d.domain) ds → All (λ i. shown_at new i ≡ shown_at old i) (chosen_in old ds)
+    → AllByRecursion (λ (d : Decision). HasDomain old d.domain × HasDomain new d.domain × IsSameDomain old new d.domain) ds → All (λ i. shown_at new i ≡ shown_at old i) (chosen_in old ds)
 chosen_shown law old new tree tree' [] all = All-nil (λ i. shown_at new i ≡ shown_at old i)
 chosen_shown law old new tree tree' (d ∷ ds) all = subst (All (λ i. shown_at new i ≡ shown_at old i)) (sym (flat_map-cons (chosen_by old) d ds))
     (All-append (λ i. shown_at new i ≡ shown_at old i) (chosen_by old d) (chosen_in old ds) (by (choices_of d.verdict)) (chosen_shown law old new tree tree' ds all.1)) where
@@ -111,8 +111,8 @@ still_true platform s u r c base shape terms h = record {
 }
 
 -- of the decisions before an action and after it
-each_stays : (old new : TreeFacts) (ds : List Decision) → AllOf (IsOfReady old) ds → AllOf (IsOfReady new) ds → ((d : Decision) → IsOfReady old d → IsSameDomain old.nodes new.nodes d.domain)
-    → AllOf (λ (d : Decision). HasDomain old.nodes d.domain × HasDomain new.nodes d.domain × IsSameDomain old.nodes new.nodes d.domain) ds
+each_stays : (old new : TreeFacts) (ds : List Decision) → AllByRecursion (IsOfReady old) ds → AllByRecursion (IsOfReady new) ds → ((d : Decision) → IsOfReady old d → IsSameDomain old.nodes new.nodes d.domain)
+    → AllByRecursion (λ (d : Decision). HasDomain old.nodes d.domain × HasDomain new.nodes d.domain × IsSameDomain old.nodes new.nodes d.domain) ds
 each_stays old new [] a b same = tt
 each_stays old new (d ∷ ds) a b same = ((a.0.there, b.0.there, same d a.0), each_stays old new ds a.1 b.1 same)
 

@@ -1,10 +1,10 @@
 -- What each entry keeps, entries keep that follow one another.
 use Rattle.std.proofs.Common.{◌≡◌, List, [], ◌∷◌, ◌++◌, sym, subst, append-nil}
 use Rattle.std.proofs.lemmas.List.{append_assoc}
+use Rattle.std.specs.List.{AllByRecursion}
 use Rattle.sysmem_sanitise.specs.Platform.{PlatformFacts}
 use Rattle.sysmem_alloc.specs.Entry.{BookEntry}
 use Rattle.sysmem_alloc.specs.History.{after_entry, replay_from, replay, Allows, AreAllowed, IsLegal}
-use Rattle.sysmem_alloc.specs.Sound.{AllOf}
 use Rattle.sysmem_alloc.specs.State.{State, first_state}
 
 -- of entries that are allowed, those in front are, and those behind are after them
@@ -15,7 +15,7 @@ allowed_split platform s (e ∷ es) fs all = let (front, behind) = allowed_split
 -- what each allowed entry of a kind keeps, any number of them keep
 pub all_keep : (platform : PlatformFacts) (Q : BookEntry → Type 0) (P : List BookEntry → Type 0)
     → ((es : List BookEntry) (e : BookEntry) → IsLegal platform es → Allows platform (replay es) e → Q e → P es → P (es ++ e ∷ []))
-    → (es fs : List BookEntry) → IsLegal platform (es ++ fs) → AllOf Q fs → P es → P (es ++ fs)
+    → (es fs : List BookEntry) → IsLegal platform (es ++ fs) → AllByRecursion Q fs → P es → P (es ++ fs)
 all_keep platform Q P step es [] legal all now = subst P (sym (append-nil es)) now
 all_keep platform Q P step es (e ∷ fs) legal all now =
     let (front, behind) = allowed_split platform first_state es (e ∷ fs) legal in

@@ -2,6 +2,7 @@
 use Rattle.std.proofs.Common.{◌≡◌, ℕ, zero, suc, ◌+◌, Bool, true, false, not, ◌&&◌, List, [], ◌∷◌, ◌++◌, length, Option, Some, None, Result, Ok, Err, slice_get, slice_set, refl, sym, ◌∙◌, ap, subst}
 use Rattle.std.specs.Prelude.{IsOk, IsSomeAnd, map, option_and_then}
 use Rattle.std.proofs.lemmas.Option.{same_Some}
+use Rattle.std.specs.List.{AllByRecursion}
 use Rattle.list_lemmas.proofs.CallerLemmas.{and_parts}
 use Rattle.sysmem_proof.specs.Asked.{asks_at}
 use Rattle.sysmem_alloc.specs.declared.entry.Entry.{Entry}
@@ -23,7 +24,6 @@ use Rattle.sysmem_tree.specs.Tree.{Applied, applied, tree_after, node_after, nod
 use Rattle.sysmem_alloc.specs.Decision.{Decision, answer_of, choices_of}
 use Rattle.sysmem_alloc.specs.Entry.{BookEntry, Acted, Decided, entry_in, deed_with}
 use Rattle.sysmem_alloc.specs.History.{after_answer, after_entry, replay_from, Allows, AreAllowed}
-use Rattle.sysmem_alloc.specs.Sound.{AllOf}
 use Rattle.sysmem_alloc.specs.State.{State}
 use Rattle.sysmem_tree.proofs.CallerLemmas.{accepted}
 
@@ -140,7 +140,7 @@ later s [] k c h = h
 later s (e ∷ es) k c h = later (after_entry s e) es k c (entry_keeps s e k c h)
 
 -- each entry of a legal history stands in the tree that it leads to
-pub all_stand : (platform : PlatformFacts) (s : State) (es : List BookEntry) → AreAllowed platform s es → AllOf (StandsIn (replay_from s es).tree.nodes) es
+pub all_stand : (platform : PlatformFacts) (s : State) (es : List BookEntry) → AreAllowed platform s es → AllByRecursion (StandsIn (replay_from s es).tree.nodes) es
 all_stand platform s [] all = tt
 all_stand platform s (e ∷ es) all =
     (stands_on (after_entry s e).tree.nodes (replay_from (after_entry s e) es).tree.nodes (later (after_entry s e) es) e (entry_stands platform s e all.0), all_stand platform (after_entry s e) es all.1)
@@ -165,7 +165,7 @@ read_same xs ys keeps i kinds.Release h = refl
 read_same xs ys keeps i kinds.Close h = refl
 
 -- entries are read from a later tree as before
-pub read_later : (xs ys : List NodeFacts) → ((k : ℕ) (c : Option Participant) → IsSetTo xs k c → IsSetTo ys k c) → (raw : List Entry) → AllOf (StandsIn xs) (map (entry_in xs) raw)
+pub read_later : (xs ys : List NodeFacts) → ((k : ℕ) (c : Option Participant) → IsSetTo xs k c → IsSetTo ys k c) → (raw : List Entry) → AllByRecursion (StandsIn xs) (map (entry_in xs) raw)
     → map (entry_in ys) raw ≡ map (entry_in xs) raw
 read_later xs ys keeps [] all = refl
 read_later xs ys keeps (entries.Acted i kind ∷ raw) all =

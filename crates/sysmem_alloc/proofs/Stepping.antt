@@ -2,6 +2,7 @@
 use Rattle.std.proofs.Common.{◌≡◌, ◌≢◌, ℕ, Bool, true, false, List, [], ◌∷◌, ◌++◌, length, drop, Option, Some, None, Result, Ok, Err, slice_get, refl, sym, ◌∙◌, ap, subst, arith, length-append, append-nil}
 use Rattle.std.specs.Prelude.{IsOk, IfSome}
 use Rattle.std.proofs.lemmas.Option.{same_Some}
+use Rattle.std.specs.List.{AllByRecursion}
 use Rattle.sysmem_proof.specs.declared.certificate.Claim.{Claim}
 use Rattle.sysmem_proof.specs.declared.verdict.Verdict.{Verdict}
 use Rattle.sysmem_proof.specs.declared.verdict.Verdict.TheVariants as verdicts
@@ -22,7 +23,7 @@ use Rattle.sysmem_alloc.specs.Claims.{IsRightClaim}
 use Rattle.sysmem_alloc.specs.Decision.{Decision, answer_of, choices_of, verdict_in}
 use Rattle.sysmem_alloc.specs.Entry.{BookEntry, Acted, Decided, tree_entry}
 use Rattle.sysmem_alloc.specs.History.{after_answer, after_entry, replay_from, replay, Allows, AreAllowed, IsLegal}
-use Rattle.sysmem_alloc.specs.Sound.{AllOf, AreDistinct, IsOfReady, IsSoundState, MayWait, roots_of}
+use Rattle.sysmem_alloc.specs.Sound.{AreDistinct, IsOfReady, IsSoundState, MayWait, roots_of}
 use Rattle.sysmem_alloc.specs.State.{State, first_state, newly_ready, after_action, open_in, base_of}
 use Rattle.sysmem_tree.proofs.CallerLemmas.{accepted, decision_acted, decision_by, IsAccepted}
 use Rattle.sysmem_alloc.proofs.Advance.{Follows, advance}
@@ -46,7 +47,7 @@ selects one platform nodes r base (Some verdicts.TooMany) h = tt
 selects one platform nodes r base (Some verdicts.Failed) h = tt
 selects one platform nodes r base (Some verdicts.NoMemory) h = tt
 
-may_decide : (t : TreeFacts) (waiting : List ℕ) (r : ℕ) → AllOf (MayWait t) waiting → slice_get waiting 0 ≡ Some r → MayWait t r
+may_decide : (t : TreeFacts) (waiting : List ℕ) (r : ℕ) → AllByRecursion (MayWait t) waiting → slice_get waiting 0 ≡ Some r → MayWait t r
 may_decide t [] r all is = absurd (cc)
 may_decide t (x ∷ rest) r all is = subst (MayWait t) (same_Some x r is) all.0
 
@@ -75,7 +76,7 @@ module _ (sound_stays : SoundStays) (ready_stays : ReadyStays) where
         before = sound;
         after = subst (λ o. IsSoundTree (trees.after_answer t o)) is (sound_stays t (trees.Acted i deed) sound let_in);
         roots = subst (λ (x : TreeFacts). roots_of x ≡ roots_of t ++ added (kind_of deed) (length t.nodes)) ok.tree (acted_roots t n (kind_of deed));
-        unready = subst (λ (x : TreeFacts). AllOf (λ r. is_ready x r ≡ false) (added (kind_of deed) (length t.nodes))) ok.tree (added_unready t i n deed);
+        unready = subst (λ (x : TreeFacts). AllByRecursion (λ r. is_ready x r ≡ false) (added (kind_of deed) (length t.nodes))) ok.tree (added_unready t i n deed);
         there = λ r has. subst (λ (x : TreeFacts). HasDomain x.nodes r) ok.tree (acted_there t i n deed r ok.there has);
         ready = λ r has now. subst (λ o. is_ready (trees.after_answer t o) r ≡ true) is (ready_stays t (trees.Acted i deed) r sound let_in has now);
         undecided = λ r _. subst (λ (x : TreeFacts). decision_of x.domains r ≡ decision_of t.domains r) ok.tree (decision_acted t n r (kind_of deed));
@@ -123,7 +124,7 @@ module _ (sound_stays : SoundStays) (ready_stays : ReadyStays) where
       let u : TreeFacts = decided s.tree d.domain choices in
       let own : x ≡ d.domain = same_Some x d.domain first in
       let f = decided_follows t d.domain choices sound.tree ok in
-      let waits : AllOf (MayWait t) (x ∷ rest) = subst (AllOf (MayWait t)) is sound.waiting in
+      let waits : AllByRecursion (MayWait t) (x ∷ rest) = subst (AllByRecursion (MayWait t)) is sound.waiting in
       let once : AreDistinct (x ∷ rest) = subst AreDistinct is sound.once in
       let on = advance t u [] rest f (both t u x rest (λ r other. decision_by t d.domain r choices (λ same. other (own ∙ sym same))) waits.1 once.0) once.1 in
       record {
@@ -134,8 +135,8 @@ module _ (sound_stays : SoundStays) (ready_stays : ReadyStays) where
             (record { there = f.there d.domain ok.there; ready = f.ready d.domain ok.there ok.ready }, tt);
         count = omega (arith, on.count, sound.count, ap length is, length-append rest (newly_ready t u), length-append s.decisions (d ∷ []));
       } where
-        both : (t u : TreeFacts) (x : ℕ) (rest : List ℕ) → ((r : ℕ) → x ≢ r → decision_of u.domains r ≡ decision_of t.domains r) → AllOf (MayWait t) rest → AllOf (λ y. x ≢ y) rest
-            → AllOf (λ r. MayWait t r × (decision_of u.domains r ≡ decision_of t.domains r)) rest
+        both : (t u : TreeFacts) (x : ℕ) (rest : List ℕ) → ((r : ℕ) → x ≢ r → decision_of u.domains r ≡ decision_of t.domains r) → AllByRecursion (MayWait t) rest → AllByRecursion (λ y. x ≢ y) rest
+            → AllByRecursion (λ r. MayWait t r × (decision_of u.domains r ≡ decision_of t.domains r)) rest
         both t u x [] same waits apart = tt
         both t u x (r ∷ rest) same waits apart = ((waits.0, same r apart.0), both t u x rest same waits.1 apart.1)
 

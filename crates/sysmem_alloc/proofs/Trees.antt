@@ -3,6 +3,7 @@ use Rattle.std.proofs.Common.{◌≡◌, ◌≢◌, ◌≤◌, ℕ, zero, suc, �
 use Rattle.std.specs.Prelude.{IsSomeAnd, map, if◌then◌else◌}
 use Rattle.std.proofs.lemmas.List.{map-append}
 use Rattle.std.proofs.lemmas.Option.{same_Some}
+use Rattle.std.specs.List.{AllByRecursion}
 use Rattle.sysmem_tree.specs.declared.action.ActionKind.{ActionKind}
 use Rattle.sysmem_tree.specs.declared.action.ActionKind.TheVariants.{Duplicate, CreateGroup, Bind, CreateChild, AllChildrenPresent, SetConstraints, AttachToken, Release, Close}
 use Rattle.sysmem_tree.specs.declared.domain.Decision.{Decision}
@@ -15,7 +16,7 @@ use Rattle.sysmem_tree.specs.Node.{NodeFacts, fresh, is_awaited}
 use Rattle.sysmem_tree.specs.Shape.{members_of}
 use Rattle.sysmem_tree.specs.Table.{makes}
 use Rattle.sysmem_tree.specs.Tree.{new_domain, node_after, new_node, nodes_made, closed_early, domains_after, tree_after, decided_domain, left_out_but, decided}
-use Rattle.sysmem_alloc.specs.Sound.{AllOf, AreDistinct, roots_of}
+use Rattle.sysmem_alloc.specs.Sound.{AreDistinct, roots_of}
 use Rattle.sysmem_alloc.proofs.Lists.{all_weaken}
 
 -- node k is of domain d
@@ -99,7 +100,7 @@ unready : (t : TreeFacts) (r : ℕ) → is_complete t.nodes r ≡ false → is_r
 unready t r e = ap (λ b. b && (not (has_failed t r) && is_host_selected t.domains (host_node t.nodes r))) e
 
 -- the root that an action adds isn't ready
-pub added_unready : (t : TreeFacts) (i : ℕ) (n : NodeFacts) (deed : Deed) → AllOf (λ r. is_ready (tree_after t i n deed) r ≡ false) (added (kind_of deed) (length t.nodes))
+pub added_unready : (t : TreeFacts) (i : ℕ) (n : NodeFacts) (deed : Deed) → AllByRecursion (λ r. is_ready (tree_after t i n deed) r ≡ false) (added (kind_of deed) (length t.nodes))
 added_unready t i n attaches_token =
     (unready (tree_after t i n attaches_token) (length t.nodes) (awaited_last (slice_set t.nodes i (node_after attaches_token n)) (new_node (length t.nodes) i n AttachToken (fresh Token)) (length t.nodes) refl refl), tt)
 added_unready t i n duplicates = tt
@@ -112,24 +113,24 @@ added_unready t i n releases = tt
 added_unready t i n closes = tt
 
 -- the domains are roots of the tree's, each once
-roots_there : (all : List NodeFacts) (i : ℕ) (nodes : List NodeFacts) → ((m : ℕ) (n : NodeFacts) → slice_get nodes m ≡ Some n → slice_get all (i + m) ≡ Some n) → AllOf (HasDomain all) (roots_from i nodes)
+roots_there : (all : List NodeFacts) (i : ℕ) (nodes : List NodeFacts) → ((m : ℕ) (n : NodeFacts) → slice_get nodes m ≡ Some n → slice_get all (i + m) ≡ Some n) → AllByRecursion (HasDomain all) (roots_from i nodes)
 roots_there all i [] front = tt
 roots_there all i (n ∷ nodes) front =
     at (roots_there all (i + 1) nodes (λ m x here. let shift : i + suc m ≡ (i + 1) + m = omega arith in subst (λ k. slice_get all k ≡ Some x) shift (front (suc m) x here))) (n.domain == i) refl where
       zeroed : i + 0 ≡ i
       zeroed = omega arith
 
-      at : AllOf (HasDomain all) (roots_from (i + 1) nodes) → (b : Bool) → (n.domain == i) ≡ b → AllOf (HasDomain all) (if b then i ∷ roots_from (i + 1) nodes else roots_from (i + 1) nodes)
+      at : AllByRecursion (HasDomain all) (roots_from (i + 1) nodes) → (b : Bool) → (n.domain == i) ≡ b → AllByRecursion (HasDomain all) (if b then i ∷ roots_from (i + 1) nodes else roots_from (i + 1) nodes)
       at on false is = on
       at on true is =
           let own : n.domain ≡ i = search (rules, tests, is) in
           let here : slice_get all i ≡ Some n = subst (λ k. slice_get all k ≡ Some n) zeroed (front 0 n refl) in
           (subst (λ o. IsSomeAnd o (λ (x : NodeFacts). x.domain ≡ i)) (sym here) own, on)
 
-late : (i : ℕ) (nodes : List NodeFacts) → AllOf (λ r. i ≤ r) (roots_from i nodes)
+late : (i : ℕ) (nodes : List NodeFacts) → AllByRecursion (λ r. i ≤ r) (roots_from i nodes)
 late i [] = tt
 late i (n ∷ nodes) = at (n.domain == i) (all_weaken (λ r. i + 1 ≤ r) (λ r. i ≤ r) (roots_from (i + 1) nodes) (λ r less. omega (arith, less)) (late (i + 1) nodes)) where
-  at : (b : Bool) → AllOf (λ r. i ≤ r) (roots_from (i + 1) nodes) → AllOf (λ r. i ≤ r) (if b then i ∷ roots_from (i + 1) nodes else roots_from (i + 1) nodes)
+  at : (b : Bool) → AllByRecursion (λ r. i ≤ r) (roots_from (i + 1) nodes) → AllByRecursion (λ r. i ≤ r) (if b then i ∷ roots_from (i + 1) nodes else roots_from (i + 1) nodes)
   at true rest = (omega arith, rest)
   at false rest = rest
 
@@ -140,8 +141,8 @@ apart_from i (n ∷ nodes) = at (n.domain == i) (apart_from (i + 1) nodes) where
   at true rest = (all_weaken (λ r. i + 1 ≤ r) (λ r. i ≢ r) (roots_from (i + 1) nodes) (λ r less same. omega (arith, less, same)) (late (i + 1) nodes), rest)
   at false rest = rest
 
-pub domains_there : (t : TreeFacts) → IsSoundTree t → AllOf (HasDomain t.nodes) (roots_of t)
-domains_there t sound = subst (AllOf (HasDomain t.nodes)) (sym sound.domains) (roots_there t.nodes 0 t.nodes (λ m n here. let z : m ≡ 0 + m = omega arith in subst (λ k. slice_get t.nodes k ≡ Some n) z here))
+pub domains_there : (t : TreeFacts) → IsSoundTree t → AllByRecursion (HasDomain t.nodes) (roots_of t)
+domains_there t sound = subst (AllByRecursion (HasDomain t.nodes)) (sym sound.domains) (roots_there t.nodes 0 t.nodes (λ m n here. let z : m ≡ 0 + m = omega arith in subst (λ k. slice_get t.nodes k ≡ Some n) z here))
 
 pub domains_apart : (t : TreeFacts) → IsSoundTree t → AreDistinct (roots_of t)
 domains_apart t sound = subst AreDistinct (sym sound.domains) (apart_from 0 t.nodes)

@@ -1,5 +1,6 @@
 -- Histories of a book: the states that they lead to, and which are legal.
 use Rattle.std.specs.Prelude.{◌≡◌, List, [], ◌∷◌, Some, Result, Ok, Err, IsOk, IfSome, map}
+use Rattle.std.specs.List.{AllByRecursion}
 use Rattle.sysmem_sanitise.specs.Platform.{PlatformFacts}
 use Rattle.sysmem_tree.specs.declared.refusal.Refusal.{Refusal}
 use Rattle.sysmem_tree.specs.History as trees
@@ -7,7 +8,6 @@ use Rattle.sysmem_tree.specs.Tree.{Applied, applied, decided}
 use Rattle.sysmem_alloc.specs.Claims.{IsRightClaim}
 use Rattle.sysmem_alloc.specs.Decision.{answer_of, choices_of}
 use Rattle.sysmem_alloc.specs.Entry.{BookEntry, Acted, Decided, tree_entry}
-use Rattle.sysmem_alloc.specs.Sound.{AllOf}
 use Rattle.sysmem_alloc.specs.State.{State, first_state, next_ready, after_action, after_decision, base_of}
 
 -- after the tree's answer to an action; a refusal leaves the state
@@ -54,7 +54,7 @@ IsAction (Acted i deed) = Unit {0}
 IsAction (Decided c) = ⊥
 
 abbrev pub AreActions : List BookEntry → Type 0
-AreActions es = AllOf IsAction es
+AreActions es = AllByRecursion IsAction es
 
 -- histories with the same actions at each path, constraints included
 abbrev pub SameCalls : List BookEntry → List BookEntry → Type 0

@@ -1,5 +1,6 @@
 -- What is true of the state of each legal history.
 use Rattle.std.specs.Prelude.{◌≡◌, ◌≢◌, ◌+◌, ◌^◌, ◌<◌, ◌≤◌, ℕ, true, List, [], ◌∷◌, Option, Some, None, IfSome, length, map, filter, is_some, if◌then◌else◌}
+use Rattle.std.specs.List.{AllByRecursion}
 use Rattle.sysmem_image.specs.Bounds.{IsInRange}
 use Rattle.sysmem_merge.specs.declared.settings.Settings.{Settings}
 use Rattle.sysmem_sanitise.specs.Platform.{PlatformFacts}
@@ -14,15 +15,10 @@ use Rattle.sysmem_tree.specs.Sublist.{IsSublist}
 use Rattle.sysmem_alloc.specs.Decision.{Decision, choices_of, decision_for, settings_of}
 use Rattle.sysmem_alloc.specs.State.{State, chosen_in}
 
--- what all elements of a list have
-abbrev pub AllOf : {X : Type 0} → (X → Type 0) → List X → Type 0
-AllOf P [] = Unit {0}
-AllOf P (x ∷ xs) = P x × AllOf P xs
-
 -- no number is there twice
 abbrev pub AreDistinct : List ℕ → Type 0
 AreDistinct [] = Unit {0}
-AreDistinct (x ∷ xs) = AllOf (λ y. x ≢ y) xs × AreDistinct xs
+AreDistinct (x ∷ xs) = AllByRecursion (λ y. x ≢ y) xs × AreDistinct xs
 
 -- the roots of the domains
 abbrev pub roots_of : TreeFacts → List ℕ
@@ -42,9 +38,9 @@ pub record IsOfReady (t : TreeFacts) (d : Decision) : Type 0 where
 -- the tree is sound; the domains that wait are ready and undecided, each once; and as many wait or are decided as are ready
 pub record IsSoundState (s : State) : Type 0 where
   pub tree : IsSoundTree s.tree
-  pub waiting : AllOf (MayWait s.tree) s.waiting
+  pub waiting : AllByRecursion (MayWait s.tree) s.waiting
   pub once : AreDistinct s.waiting
-  pub decided : AllOf (IsOfReady s.tree) s.decisions
+  pub decided : AllByRecursion (IsOfReady s.tree) s.decisions
   pub count : length s.waiting + length s.decisions ≡ length (filter (is_ready s.tree) (roots_of s.tree))
 
 -- what the tree has of a domain by what was entered for it
@@ -70,5 +66,5 @@ pub record IsDecisionOn (platform : PlatformFacts) (nodes : List NodeFacts) (d :
 pub record AgreesWithTree (platform : PlatformFacts) (s : State) : Type 0 where
   pub standing : (r : ℕ) → decision_of s.tree.domains r ≡ standing_of (decision_for s.decisions r)
   pub once : AreDistinct (map (λ d. d.domain) s.decisions)
-  pub chosen : AllOf (IsDecisionOn platform s.tree.nodes) s.decisions
+  pub chosen : AllByRecursion (IsDecisionOn platform s.tree.nodes) s.decisions
   pub accepted : IsSublist s.accepted (chosen_in s.tree.nodes s.decisions)

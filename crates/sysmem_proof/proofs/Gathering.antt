@@ -19,23 +19,8 @@ use Rattle.sysmem_tree.specs.Nodes.{HasNode}
 use Rattle.sysmem_tree.specs.OpenGroups.{WalksTo, HasLeft, IsChildPlace, IsFirstOpen, place_after, share_of}
 use Rattle.sysmem_tree.specs.Selection.{after, IsPrefix}
 use Rattle.sysmem_tree.specs.Shape.{by_number, forest_of, members_of}
-
--- a walk gives one list of nodes
-pub gives_same : (places : List Place) (to : ℕ) (ns ms : List ℕ) (at : ℕ) → WalksTo places at to ns → WalksTo places at to ms → ns ≡ ms
-gives_same places to [] [] at g h = refl
-gives_same places to [] (m ∷ ms) at g h = absurd (omega (arith, g, h.0))
-gives_same places to (n ∷ ns) [] at g h = absurd (omega (arith, g.0, h))
-gives_same places to (n ∷ ns) (m ∷ ms) at g h =
-    let (p, here, node, up, rest) = g.1 in
-    let (q, here', node', up', rest') = h.1 in
-    let same : q ≡ p = same_Some q p (sym here' ∙ here) in
-    let tails = gives_same places to ns ms (place_after p at) rest (subst (λ (x : Place). WalksTo places (place_after x at) to ms) same rest') in
-    let heads : n ≡ m = sym node ∙ (ap (λ (x : Place). x.node) (sym same) ∙ node') in
-    ap (λ x. x ∷ ns) heads ∙ ap (λ xs. m ∷ xs) tails
-
-pub of_some : {X : Type 0} (P : X → Type 0) (o : Option X) (x : X) → o ≡ Some x → IfSome o P → P x
-of_some P None x is h = absurd (cc)
-of_some P (Some y) x is h = subst P (same_Some y x is) h
+use Rattle.sysmem_tree.proofs.CallerLemmas.{few_different, named_there}
+use Rattle.list_lemmas.proofs.CallerLemmas.{of_some}
 
 -- what is left of a walk after so many steps, beside what was taken
 pub record IsTaken (layout : Layout) (old now : List ℕ) (walk : SettledNodes) (steps : ℕ) (ns : List ℕ) : Type 0 where
@@ -68,54 +53,9 @@ room_for layout old now walk walk' o node steps ns t next one =
     let (more, is, left) = subst (λ x. MatchOption x ((t.rest ≡ []) × HasLeft layout walk' []) (λ node. (rest : List ℕ) × (t.rest ≡ node ∷ rest) × HasLeft layout walk' rest)) one (next t.rest t.left) in
     let long = ap length is in omega (arith, long, t.few)
 
--- different numbers below one are no more than it
-other_heads : (x : ℕ) (ys : List ℕ) → ((k d : ℕ) → k < length ys → x ≢ slice_index_or ys k d) → AllByRecursion (λ y. eqb x y ≡ false) ys
-other_heads x [] h = tt
-other_heads x (y ∷ ys) h = (ne_eqb x y (h 0 0 (omega arith)), other_heads x ys (λ k d less. h (suc k) d (omega (arith, less))))
-
-distinct_of : (xs : List ℕ) → AllPairs (λ i j. i ≢ j) xs → IsDistinct eqb xs
-unfolding IsDistinct
-distinct_of [] h = tt
-distinct_of (x ∷ xs) h = (
-  other_heads x xs (λ k d less. h 0 (suc k) d (omega arith) (omega (arith, less))),
-  distinct_of xs (λ i j d less within. h (suc i) (suc j) d (omega (arith, less)) (omega (arith, within))),
-)
-
-below_all : (n : ℕ) (xs : List ℕ) → All (λ x. x < n) xs → (q : ℕ) → list_any (eqb q) xs ≡ true → q < n
-below_all n [] all q h = absurd (cc)
-below_all n (x ∷ xs) all q h = elim (cases_eq q x) [
-  | inl same ↦ subst (λ y. y < n) (sym same) (all 0 0 (omega arith))
-  | inr other ↦ below_all n xs (λ k d less. all (suc k) d (omega (arith, less))) q (sym (ap (λ b. b || list_any (eqb q) xs) (ne_eqb q x other)) ∙ h)
-]
-
-pub few_different : (xs : List ℕ) (n : ℕ) → AllPairs (λ i j. i ≢ j) xs → All (λ x. x < n) xs → length xs ≤ n
-few_different xs n differ below = length-le_from_distinct_below xs n (distinct_of xs differ) (below_all n xs below)
-
--- what a domain or a base names is there
-pub named_there : (nodes : List NodeFacts) (P : NodeFacts → Type 0) (ns : List ℕ) → All (λ i. IsSomeAnd (slice_get nodes i) P) ns → All (HasNode nodes) ns
-named_there nodes P ns all k d less = by (slice_index_or ns k d) (slice_get nodes (slice_index_or ns k d)) refl (all k d less) where
-  by : (i : ℕ) (o : Option NodeFacts) → slice_get nodes i ≡ o → IsSomeAnd o P → i < length nodes
-  by i None is h = absurd h
-  by i (Some n) is h = slice_get_within nodes i n is
-
 pub few_members : (nodes : List NodeFacts) (r : ℕ) (ns : List ℕ) → length nodes ≤ 128 → AreItsNodes nodes r ns → length ns ≤ 128
 few_members nodes r ns few its =
     let less = few_different ns (length nodes) its.once (named_there nodes (λ n. n.domain ≡ r) ns its.own) in omega (arith, less, few)
-
--- where nothing is open, no choice is a prefix
-after_one : (c : ℕ) (xs : List ℕ) (f e : Forest ℕ) → after f xs ≡ Some e → after f (xs ++ c ∷ []) ≡ after e (c ∷ [])
-after_one c [] f e leads = ap (λ x. after x (c ∷ [])) (same_Some f e leads)
-after_one c (x ∷ xs) f e leads = option_and_then_some (λ y. after y xs) (option_and_then (λ es. slice_get es x) (choices f)) e leads
-    (λ y one on. ap (option_and_then (λ z. after z (xs ++ c ∷ []))) one ∙ after_one c xs y e on)
-
-pub some_open : (layout : Layout) (d : Forest ℕ) (cs : List ℕ) (c : ℕ) → NoneOpenIsSelection → IsPrefix d (cs ++ c ∷ []) → IsFirstOpen layout d cs None → ⊥
-some_open layout d cs c law prefix open' =
-    let w = law layout d cs None open' in
-    let none : after w.left (c ∷ []) ≡ None = ap (λ o. option_and_then (λ e. after e []) (option_and_then (λ es. slice_get es c) o)) (w.whole.0 refl) in
-    by (after d (cs ++ c ∷ [])) prefix (after_one c cs d w.left w.leads ∙ none) where
-      by : (o : Option (Forest ℕ)) → IsSome o → o ≡ None → ⊥
-      by None h e = absurd (cc)
-      by (Some x) h e = absurd (cc)
 
 -- the first of some choices, and one more, are a prefix where all are
 pub prefix_more : PrefixOfPrefix → (d : Forest ℕ) (cs : List ℕ) (k : ℕ) → k < length cs → IsPrefix d cs → IsPrefix d (take k cs ++ get_or cs k 0 ∷ [])

@@ -2,6 +2,7 @@
 use Rattle.std.proofs.Common.{◌≡◌, ℕ, suc, ◌+◌, Bool, true, false, List, [], ◌∷◌, ◌++◌, Option, Some, None, slice_get, refl, ap, subst, arith}
 use Rattle.std.specs.Prelude.{◌==◌, IfSome, option_map, option_and_then, unwrap_or, if◌then◌else◌}
 use Rattle.std.proofs.lemmas.Option.{same_Some, option_and_then_some}
+use Rattle.std.specs.List.{AllByRecursion}
 use Rattle.sysmem_sanitise.specs.Participant.{Participant}
 use Rattle.sysmem_tree.specs.declared.state.NodeKind.{NodeKind}
 use Rattle.sysmem_tree.specs.declared.state.NodeKind.TheVariants as kinds
@@ -13,7 +14,7 @@ use Rattle.sysmem_tree.specs.Nodes.{IsTree, ordinal_under}
 use Rattle.sysmem_tree.specs.Path.{node_at}
 use Rattle.sysmem_tree.specs.Selection.{after, settled_by}
 use Rattle.sysmem_tree.specs.Shape.{Member, by_path, kid_of, before, tree_of, kids_from, rooted, forest_of}
-use Rattle.sysmem_tree.proofs.CallerLemmas.{AllOf, all_mapped, all_at, led_kid, is_under}
+use Rattle.sysmem_tree.proofs.CallerLemmas.{all_mapped, all_at, led_kid, is_under}
 
 module _ {A : Type 0} (P : A → Type 0) where
   -- what all labels of a forest have
@@ -22,23 +23,23 @@ module _ {A : Type 0} (P : A → Type 0) where
   AllIn (Plain n kids rest) = P n × AllIn kids × AllIn rest
   AllIn (Group n kids rest) = P n × AllIn kids × AllIn rest
 
-  in_each : (d : Forest A) → AllIn d → AllOf AllIn (each d)
+  in_each : (d : Forest A) → AllIn d → AllByRecursion AllIn (each d)
   in_each Empty all = tt
   in_each (Plain n kids rest) all = ((all.0, all.1, tt), in_each rest all.2)
   in_each (Group n kids rest) all = ((all.0, all.1, tt), in_each rest all.2)
 
-  in_either : (n : A) (kids rest : Forest A) (ks rs : Option (List (Forest A))) → P n → AllIn kids → AllIn rest → IfSome ks (AllOf AllIn) → IfSome rs (AllOf AllIn)
-      → IfSome (kids_else_rest (λ k. Plain n k rest) (λ r. Plain n kids r) ks rs) (AllOf AllIn)
+  in_either : (n : A) (kids rest : Forest A) (ks rs : Option (List (Forest A))) → P n → AllIn kids → AllIn rest → IfSome ks (AllByRecursion AllIn) → IfSome rs (AllByRecursion AllIn)
+      → IfSome (kids_else_rest (λ k. Plain n k rest) (λ r. Plain n kids r) ks rs) (AllByRecursion AllIn)
   in_either n kids rest (Some ks) rs p a b hk hr = all_mapped AllIn AllIn (λ k. Plain n k rest) ks (λ k h. (p, h, b)) hk
   in_either n kids rest None (Some rs) p a b hk hr = all_mapped AllIn AllIn (λ r. Plain n kids r) rs (λ r h. (p, a, h)) hr
   in_either n kids rest None None p a b hk hr = tt
 
-  in_choices : (d : Forest A) → AllIn d → IfSome (choices d) (AllOf AllIn)
+  in_choices : (d : Forest A) → AllIn d → IfSome (choices d) (AllByRecursion AllIn)
   in_choices Empty all = tt
   in_choices (Plain n kids rest) all = in_either n kids rest (choices kids) (choices rest) all.0 all.1 all.2 (in_choices kids all.1) (in_choices rest all.2)
   in_choices (Group n kids rest) all = all_mapped AllIn AllIn (λ kid. Plain n kid rest) (each kids) (λ kid h. (all.0, h, all.2)) (in_each kids all.1)
 
-  one_choice : (c : ℕ) (o : Option (List (Forest A))) (e : Forest A) → IfSome o (AllOf AllIn) → option_and_then (λ es. slice_get es c) o ≡ Some e → AllIn e
+  one_choice : (c : ℕ) (o : Option (List (Forest A))) (e : Forest A) → IfSome o (AllByRecursion AllIn) → option_and_then (λ es. slice_get es c) o ≡ Some e → AllIn e
   one_choice c None e all is = absurd (cc)
   one_choice c (Some es) e all is = all_at AllIn es c e is all
 
@@ -47,19 +48,19 @@ module _ {A : Type 0} (P : A → Type 0) where
   in_after (c ∷ cs) d e all is = option_and_then_some (λ x. after x cs) (option_and_then (λ es. slice_get es c) (choices d)) e is
       (λ x one on. in_after cs x e (one_choice c (choices d) x (in_choices d all) one) on)
 
-  pub both_all : (xs ys : List A) → AllOf P xs → AllOf P ys → AllOf P (xs ++ ys)
+  pub both_all : (xs ys : List A) → AllByRecursion P xs → AllByRecursion P ys → AllByRecursion P (xs ++ ys)
   both_all [] ys a b = b
   both_all (x ∷ xs) ys a b = (a.0, both_all xs ys a.1 b)
 
-  pub in_settled : (d : Forest A) → AllIn d → AllOf P (settled d)
+  pub in_settled : (d : Forest A) → AllIn d → AllByRecursion P (settled d)
   in_settled Empty all = tt
   in_settled (Plain n kids rest) all = (all.0, both_all (settled kids) (settled rest) (in_settled kids all.1) (in_settled rest all.2))
   in_settled (Group n kids rest) all = (all.0, in_settled rest all.2)
 
   -- what all labels have, all that choices settle has
-  pub in_settled_by : (d : Forest A) (cs : List ℕ) → AllIn d → AllOf P (unwrap_or (settled_by d cs) [])
+  pub in_settled_by : (d : Forest A) (cs : List ℕ) → AllIn d → AllByRecursion P (unwrap_or (settled_by d cs) [])
   in_settled_by d cs all = by (after d cs) refl where
-    by : (o : Option (Forest A)) → after d cs ≡ o → AllOf P (unwrap_or (option_map settled o) [])
+    by : (o : Option (Forest A)) → after d cs ≡ o → AllByRecursion P (unwrap_or (option_map settled o) [])
     by None is = tt
     by (Some e) is = in_settled e (in_after cs d e all is)
 

@@ -35,7 +35,6 @@ pub mod SameOffer
 pub mod FoundConflicts
 pub mod PlacesFirst
 pub mod Gathering
-pub mod Orders
 pub mod Asking
 pub mod Least
 pub mod Meeting

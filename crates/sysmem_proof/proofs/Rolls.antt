@@ -18,7 +18,7 @@ use Rattle.sysmem_tree.specs.Nodes.{HasNode, IsTree}
 use Rattle.sysmem_tree.specs.Path.{node_at, path_of}
 use Rattle.sysmem_tree.specs.Selection.{after, settled_by, IsPrefix}
 use Rattle.sysmem_tree.specs.Shape.{Member, by_number, by_path, forest_of, shape_of, members_of}
-use Rattle.sysmem_tree.proofs.CallerLemmas.{AllOf, settled_relabel, after_relabel, node_within}
+use Rattle.sysmem_tree.proofs.CallerLemmas.{settled_relabel, after_relabel, node_within}
 use Rattle.sysmem_proof.specs.Base.{BaseFacts, IsGivenBase}
 use Rattle.sysmem_proof.specs.Fault.{AreNamed}
 use Rattle.sysmem_proof.specs.Asked.{asked_in, asks_at}
@@ -43,7 +43,7 @@ module _ (nodes : List NodeFacts) (tree : IsTree nodes) (law : OnePath) where
   within i path less leads = (law nodes i tree less).only path leads
 
   -- at the path of a node the members tell what it asks, where its number is among them
-  at_node : (path : List ℕ) (i : ℕ) → i < length nodes → node_at nodes path ≡ Some i → (ls : List (ℕ × Member)) → AllOf (IsLabel nodes) ls
+  at_node : (path : List ℕ) (i : ℕ) → i < length nodes → node_at nodes path ≡ Some i → (ls : List (ℕ × Member)) → AllByRecursion (IsLabel nodes) ls
       → asked_at (map member ls) path ≡ told_of nodes (map number ls) i
   at_node path i less leads [] all = refl
   at_node path i less leads (l ∷ ls) all = by (at_node path i less leads ls all.1) (same_path l.1.path path) refl where
@@ -68,7 +68,7 @@ module _ (nodes : List NodeFacts) (tree : IsTree nodes) (law : OnePath) where
       differ a b is same = let yes' : same_path a b ≡ true = subst (λ c. same_path a c ≡ true) same (path_itself a) in absurd (cc)
 
   -- where no node is, they tell nothing
-  at_nowhere : (path : List ℕ) → node_at nodes path ≡ None → (ls : List (ℕ × Member)) → AllOf (IsLabel nodes) ls → asked_at (map member ls) path ≡ None
+  at_nowhere : (path : List ℕ) → node_at nodes path ≡ None → (ls : List (ℕ × Member)) → AllByRecursion (IsLabel nodes) ls → asked_at (map member ls) path ≡ None
   at_nowhere path none [] all = refl
   at_nowhere path none (l ∷ ls) all = by (at_nowhere path none ls all.1) (same_path l.1.path path) refl where
     by : asked_at (map member ls) path ≡ None → (t : Bool) → same_path l.1.path path ≡ t → asked_at (map member (l ∷ ls)) path ≡ None
@@ -99,10 +99,10 @@ module _ (nodes : List NodeFacts) (tree : IsTree nodes) (law : OnePath) where
     by None e h = absurd (cc)
     by (Some n) e h = ap (λ js. i ∷ js) h
 
-  pub all_labelled : (is : List ℕ) → All (λ i. i < length nodes) is → AllOf (IsLabel nodes) (labels_at is)
+  pub all_labelled : (is : List ℕ) → All (λ i. i < length nodes) is → AllByRecursion (IsLabel nodes) (labels_at is)
   all_labelled [] all = tt
   all_labelled (i ∷ is) all = by (slice_get nodes i) refl (all_labelled is (λ k d less. all (suc k) d (omega (arith, less)))) where
-    by : (o : Option NodeFacts) → slice_get nodes i ≡ o → AllOf (IsLabel nodes) (labels_at is) → AllOf (IsLabel nodes) (label_at i o ++ labels_at is)
+    by : (o : Option NodeFacts) → slice_get nodes i ≡ o → AllByRecursion (IsLabel nodes) (labels_at is) → AllByRecursion (IsLabel nodes) (label_at i o ++ labels_at is)
     by None e h = h
     by (Some n) e h = (
       record {
@@ -132,10 +132,10 @@ module _ (nodes : List NodeFacts) (tree : IsTree nodes) (law : OnePath) where
     pub members_settled : unwrap_or (settled_by (shape_of nodes r) cs) [] ≡ map member settled_both
     members_settled = ap (λ d. unwrap_or (settled_by d cs) []) (sym one.members) ∙ mapped member
 
-    pub all_settled : AllOf (IsLabel nodes) settled_both
+    pub all_settled : AllByRecursion (IsLabel nodes) settled_both
     all_settled = in_settled_by (IsLabel nodes) both cs (labels_are nodes r (path_of nodes r) tree (law nodes r tree there).leads)
 
-    asked_labels : (ms : List (ℕ × Member)) → AllOf (IsLabel nodes) ms → asked_in nodes (map number ms) ≡ participants (map member ms)
+    asked_labels : (ms : List (ℕ × Member)) → AllByRecursion (IsLabel nodes) ms → asked_in nodes (map number ms) ≡ participants (map member ms)
     asked_labels [] all = refl
     asked_labels (m ∷ ms) all = ap (λ o. cons_option o (asked_in nodes (map number ms))) all.0.asks ∙ ap (cons_option m.1.constraints) (asked_labels ms all.1)
 
@@ -150,7 +150,7 @@ module _ (nodes : List NodeFacts) (tree : IsTree nodes) (law : OnePath) where
       abbrev ls : List (ℕ × Member)
       ls = labels_at accepted ++ settled_both
 
-      all_ls : AllOf (IsLabel nodes) ls
+      all_ls : AllByRecursion (IsLabel nodes) ls
       all_ls = both_all (IsLabel nodes) (labels_at accepted) settled_both (all_labelled accepted inside) all_settled
 
       listed_ls : map member ls ≡ listed roll
@@ -218,15 +218,15 @@ module _ (nodes : List NodeFacts) (tree : IsTree nodes) (law : OnePath) where
       let e : i ≡ j = sym (ap (λ o. unwrap_or o 0) at) ∙ (same ∙ ap (λ o. unwrap_or o 0) at') in
       differ ((law nodes i tree less).only a at ∙ sym ((law nodes i tree less).only b (at' ∙ ap (λ k. Some k) (sym e))))
 
-  heads_apart : (x : List ℕ) (xs : List (List ℕ)) → IsThere x → AllOf IsThere xs → AllOf (λ y. x ≢ y) xs → AllByRecursion (λ n. eqb (number_at nodes x) n ≡ false) (map (number_at nodes) xs)
+  heads_apart : (x : List ℕ) (xs : List (List ℕ)) → IsThere x → AllByRecursion IsThere xs → AllByRecursion (λ y. x ≢ y) xs → AllByRecursion (λ n. eqb (number_at nodes x) n ≡ false) (map (number_at nodes) xs)
   heads_apart x [] here all differ = tt
   heads_apart x (y ∷ xs) here all differ = (ne_eqb (number_at nodes x) (number_at nodes y) (apart x y here all.0 differ.0), heads_apart x xs here all.1 differ.1)
 
-  all_differ : (x : List ℕ) (xs : List (List ℕ)) → ((k : ℕ) (d : List ℕ) → k < length xs → x ≢ slice_index_or xs k d) → AllOf (λ y. x ≢ y) xs
+  all_differ : (x : List ℕ) (xs : List (List ℕ)) → ((k : ℕ) (d : List ℕ) → k < length xs → x ≢ slice_index_or xs k d) → AllByRecursion (λ y. x ≢ y) xs
   all_differ x [] h = tt
   all_differ x (y ∷ xs) h = (h 0 y (omega arith), all_differ x xs (λ k d less. h (suc k) d (omega (arith, less))))
 
-  distinct_numbers : (xs : List (List ℕ)) → AllOf IsThere xs → AllPairs (λ a b. a ≢ b) xs → IsDistinct eqb (map (number_at nodes) xs)
+  distinct_numbers : (xs : List (List ℕ)) → AllByRecursion IsThere xs → AllPairs (λ a b. a ≢ b) xs → IsDistinct eqb (map (number_at nodes) xs)
   unfolding IsDistinct
   distinct_numbers [] all pairs = tt
   distinct_numbers (x ∷ xs) all pairs = (
@@ -234,21 +234,21 @@ module _ (nodes : List NodeFacts) (tree : IsTree nodes) (law : OnePath) where
     distinct_numbers xs all.1 (λ i j d less inside. pairs (suc i) (suc j) d (omega (arith, less)) (omega (arith, inside))),
   )
 
-  numbers_below : (xs : List (List ℕ)) → AllOf IsThere xs → (q : ℕ) → list_any (eqb q) (map (number_at nodes) xs) ≡ true → q < length nodes
+  numbers_below : (xs : List (List ℕ)) → AllByRecursion IsThere xs → (q : ℕ) → list_any (eqb q) (map (number_at nodes) xs) ≡ true → q < length nodes
   numbers_below [] all q h = absurd (cc)
   numbers_below (x ∷ xs) all q h = elim (cases_eq q (number_at nodes x)) [
     | inl same ↦ subst (λ n. n < length nodes) (sym same) (below x all.0)
     | inr other ↦ numbers_below xs all.1 q (sym (ap (λ b. b || list_any (eqb q) (map (number_at nodes) xs)) (ne_eqb q (number_at nodes x) other)) ∙ h)
   ]
 
-  few_there : (xs : List (List ℕ)) → AllOf IsThere xs → AllPairs (λ a b. a ≢ b) xs → length xs ≤ 128
+  few_there : (xs : List (List ℕ)) → AllByRecursion IsThere xs → AllPairs (λ a b. a ≢ b) xs → length xs ≤ 128
   few_there xs all pairs =
       let few = length-le_from_distinct_below (map (number_at nodes) xs) (length nodes) (distinct_numbers xs all pairs) (numbers_below xs all) in
       let long = length-map xs (number_at nodes) in
       omega (arith, few, long, tree.few)
 
   module _ (r : ℕ) (has : HasDomain nodes r) (one : AreOneForest nodes r) (cs accepted : List ℕ) (inside : All (λ i. i < length nodes) accepted) where
-    all_there : (xs : List (List ℕ)) (ps : List Participant) → map (asked_at (listed (these nodes tree law r has one cs accepted inside []))) xs ≡ map (λ p. Some p) ps → AllOf IsThere xs
+    all_there : (xs : List (List ℕ)) (ps : List Participant) → map (asked_at (listed (these nodes tree law r has one cs accepted inside []))) xs ≡ map (λ p. Some p) ps → AllByRecursion IsThere xs
     all_there [] ps each = tt
     all_there (x ∷ xs) [] each = absurd (cc (each))
     all_there (x ∷ xs) (p ∷ ps) each = (node_named nodes tree law r has one cs accepted inside x (λ e. none-some p (sym e ∙ head each)), all_there xs ps (tail each)) where
@@ -263,7 +263,7 @@ module _ (nodes : List NodeFacts) (tree : IsTree nodes) (law : OnePath) where
     few_named xs named = few_there xs (all_there xs named.0 named.1.each) named.1.once
 
 -- what all on a roll ask, by their numbers
-all_asked : (nodes : List NodeFacts) (ls : List (ℕ × Member)) → AllOf (IsLabel nodes) ls → participants (map member ls) ≡ filter_map (asks_at nodes) (map number ls)
+all_asked : (nodes : List NodeFacts) (ls : List (ℕ × Member)) → AllByRecursion (IsLabel nodes) ls → participants (map member ls) ≡ filter_map (asks_at nodes) (map number ls)
 all_asked nodes [] all = refl
 all_asked nodes (l ∷ ls) all = ap (λ o. cons_option o (participants (map member ls))) (sym all.0.asks) ∙ ap (cons_option (asks_at nodes l.0)) (all_asked nodes ls all.1)
 

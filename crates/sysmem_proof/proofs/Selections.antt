@@ -10,9 +10,10 @@ use Rattle.sysmem_tree.specs.Node.{NodeFacts}
 use Rattle.sysmem_tree.specs.OpenGroups.{IsFirstOpen}
 use Rattle.sysmem_tree.specs.Selection.{after, IsPrefix, IsSelection}
 use Rattle.sysmem_tree.specs.Shape.{by_number, forest_of, shape_of}
-use Rattle.sysmem_tree.proofs.CallerLemmas.{choices_relabel}
+use Rattle.sysmem_tree.proofs.CallerLemmas.{choices_relabel, some_open}
 use Rattle.sysmem_proof.specs.Fault.{AreFew, IsSelected}
-use Rattle.sysmem_proof.proofs.Gathering.{of_some, prefix_more, some_open}
+use Rattle.sysmem_proof.proofs.Gathering.{prefix_more}
+use Rattle.list_lemmas.proofs.CallerLemmas.{of_some}
 
 -- other labels change no count
 count_relabel : {A B : Type 0} (f : A → B) (d : Forest A) → (count (relabel f d) ≡ count d) × (count_each (relabel f d) ≡ count_each d)

@@ -21,7 +21,7 @@ use Rattle.sysmem_tree.specs.Path.{node_at}
 use Rattle.sysmem_tree.specs.Selection.{after}
 use Rattle.sysmem_tree.specs.Shape.{Member, by_number, by_path, forest_of, shape_of, members_of, participants_of}
 use Rattle.sysmem_tree.specs.Sublist.{IsSublist, ended, taken, left_out}
-use Rattle.sysmem_tree.proofs.CallerLemmas.{AllOf, node_within, first_many}
+use Rattle.sysmem_tree.proofs.CallerLemmas.{node_within, first_many}
 use Rattle.sysmem_sanitise.specs.Platform.{PlatformFacts}
 use Rattle.sysmem_proof.specs.Base.{BaseFacts, IsBase, IsElsewhere, IsGivenBase}
 use Rattle.sysmem_proof.specs.Found.{AreSettledAt}
@@ -101,7 +101,7 @@ module _ (nodes : List NodeFacts) (tree : IsTree nodes) (law : OnePath) where
       let here = (law nodes l.0 tree (node_within nodes tree l.1.path l.0 is.leads)).only l.1.path is.leads in
       ap (λ path. option_map (by_path l.0 path) (slice_get nodes l.0)) (sym here) ∙ is.shows
 
-  members_numbered : (ls : List (ℕ × Member)) → AllOf (IsLabel nodes) ls → members_at nodes (map number ls) ≡ map member ls
+  members_numbered : (ls : List (ℕ × Member)) → AllByRecursion (IsLabel nodes) ls → members_at nodes (map number ls) ≡ map member ls
   members_numbered [] all = refl
   members_numbered (l ∷ ls) all = ap (λ o. cons_option o (members_at nodes (map number ls))) (shown l all.0) ∙ ap (λ ms. l.1 ∷ ms) (members_numbered ls all.1)
 
@@ -109,14 +109,14 @@ module _ (nodes : List NodeFacts) (tree : IsTree nodes) (law : OnePath) where
   abbrev asking : List (ℕ × Member) → List (ℕ × Member)
   asking ls = filter (λ l. asks l.1) ls
 
-  asking_labels : (ls : List (ℕ × Member)) → AllOf (IsLabel nodes) ls → AllOf (IsLabel nodes) (asking ls)
+  asking_labels : (ls : List (ℕ × Member)) → AllByRecursion (IsLabel nodes) ls → AllByRecursion (IsLabel nodes) (asking ls)
   asking_labels [] all = tt
   asking_labels (l ∷ ls) all = by (asks l.1) refl (asking_labels ls all.1) where
-    by : (t : Bool) → asks l.1 ≡ t → AllOf (IsLabel nodes) (asking ls) → AllOf (IsLabel nodes) (asking (l ∷ ls))
+    by : (t : Bool) → asks l.1 ≡ t → AllByRecursion (IsLabel nodes) (asking ls) → AllByRecursion (IsLabel nodes) (asking (l ∷ ls))
     by true is rest = rw is (all.0, rest)
     by false is rest = rw is rest
 
-  asking_numbers : (ls : List (ℕ × Member)) → AllOf (IsLabel nodes) ls → filter (λ i. is_some (asks_at nodes i)) (map number ls) ≡ map number (asking ls)
+  asking_numbers : (ls : List (ℕ × Member)) → AllByRecursion (IsLabel nodes) ls → filter (λ i. is_some (asks_at nodes i)) (map number ls) ≡ map number (asking ls)
   asking_numbers [] all = refl
   asking_numbers (l ∷ ls) all = by (asks l.1) refl (asking_numbers ls all.1) where
     by : (t : Bool) → asks l.1 ≡ t → filter (λ i. is_some (asks_at nodes i)) (map number ls) ≡ map number (asking ls)
@@ -132,12 +132,12 @@ module _ (nodes : List NodeFacts) (tree : IsTree nodes) (law : OnePath) where
     by false is rest = rw is rest
 
   -- labels of nodes that differ have paths of their own
-  paths_apart : (ls : List (ℕ × Member)) → AllOf (IsLabel nodes) ls → AllPairs (λ i j. i ≢ j) (map number ls) → PathsDiffer (map member ls)
+  paths_apart : (ls : List (ℕ × Member)) → AllByRecursion (IsLabel nodes) ls → AllPairs (λ i j. i ≢ j) (map number ls) → PathsDiffer (map member ls)
   paths_apart [] all pairs = λ i j d below within. absurd (omega (arith, within))
   paths_apart (l ∷ ls) all pairs = AllPairs-cons (λ a b. a.path ≢ b.path) l.1 (map member ls)
       (heads ls all.1 (λ k d less. pairs 0 (suc k) d (omega arith) (omega (arith, less))))
       (paths_apart ls all.1 (λ i j d below within. pairs (suc i) (suc j) d (omega (arith, below)) (omega (arith, within)))) where
-        heads : (ms : List (ℕ × Member)) → AllOf (IsLabel nodes) ms → All (λ n. l.0 ≢ n) (map number ms) → All (λ m. l.1.path ≢ m.path) (map member ms)
+        heads : (ms : List (ℕ × Member)) → AllByRecursion (IsLabel nodes) ms → All (λ n. l.0 ≢ n) (map number ms) → All (λ m. l.1.path ≢ m.path) (map member ms)
         heads [] labels differ = All-nil (λ m. l.1.path ≢ m.path)
         heads (m ∷ ms) labels differ = All-cons (λ m. l.1.path ≢ m.path) m.1 (map member ms)
             (λ same. All-head (λ n. l.0 ≢ n) m.0 (map number ms) differ (same_Some l.0 m.0 (sym all.0.leads ∙ (ap (node_at nodes) same ∙ labels.0.leads))))
@@ -154,7 +154,7 @@ module _ (nodes : List NodeFacts) (tree : IsTree nodes) (law : OnePath) where
     abbrev theirs : List (ℕ × Member)
     theirs = labels_at nodes tree law accepted
 
-    our_labels : AllOf (IsLabel nodes) ours
+    our_labels : AllByRecursion (IsLabel nodes) ours
     our_labels = all_settled nodes tree law r (root_within nodes r has) one cs
 
     our_numbers : members_of nodes r cs ≡ map number ours

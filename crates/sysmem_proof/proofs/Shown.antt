@@ -14,9 +14,9 @@ use Rattle.sysmem_tree.specs.Shape.{Member, by_path, members_of, shape_of}
 use Rattle.sysmem_proof.specs.Asked.{asks_at, asked_in}
 use Rattle.sysmem_proof.specs.Base.{BaseFacts, IsGivenBase}
 use Rattle.sysmem_proof.specs.Members.{members_at, participants}
-use Rattle.sysmem_proof.proofs.Gathering.{few_different, named_there}
-use Rattle.sysmem_proof.proofs.Orders.{taken_in_order}
+use Rattle.list_lemmas.proofs.CallerLemmas.{taken_in_order}
 use Rattle.sysmem_proof.proofs.Rolls.{asked_settled, root_within}
+use Rattle.sysmem_tree.proofs.CallerLemmas.{few_different, named_there}
 
 -- nodes that choices settle, in any order, ask what the settled members ask
 pub asked_of_settled : (nodes : List NodeFacts) (tree : IsTree nodes) (law : OnePath) (r : ℕ) → HasDomain nodes r → AreOneForest nodes r → (cs ns : List ℕ) → IsPermutation ns (members_of nodes r cs)

@@ -66,10 +66,6 @@ pub of_none : {X : Type 0} (P : Type 0) (o : Option X) → o ≡ None → IfNone
 of_none P None is h = h
 of_none P (Some x) is h = absurd (cc)
 
-pub of_some : {X : Type 0} (P : X → Type 0) (o : Option X) (x : X) → o ≡ Some x → IfSome o P → P x
-of_some P None x is h = absurd (cc)
-of_some P (Some y) x is h = subst P (same_Some y x is) h
-
 -- what is left behind the first of some elements
 pub left_at : {X : Type 0} (xs : List X) (k : ℕ) (x : X) → slice_get xs k ≡ Some x → drop k xs ≡ x ∷ drop (k + 1) xs
 left_at [] k x here = absurd (none-some x here)

@@ -11,10 +11,7 @@ use Rattle.sysmem_tree.specs.Selection.{after, IsPrefix}
 use Rattle.sysmem_tree.specs.Shape.{Member, by_number, forest_of, shape_of}
 use Rattle.sysmem_tree.proofs.CallerLemmas.{first_many}
 use Rattle.sysmem_proof.proofs.Rolls.{prefix_numbers}
-
-of_some : {X : Type 0} (P : X → Type 0) (o : Option X) (x : X) → o ≡ Some x → IfSome o P → P x
-of_some P None x is h = absurd (none-some x is)
-of_some P (Some y) x is h = subst P (same_Some y x is) h
+use Rattle.list_lemmas.proofs.CallerLemmas.{of_some}
 
 pub some_of : {X : Type 0} (o : Option X) → IsSome o → (x : X) × (o ≡ Some x)
 some_of None h = absurd (cc)

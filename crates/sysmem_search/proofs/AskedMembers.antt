@@ -13,14 +13,11 @@ use Rattle.sysmem_tree.specs.Node.{NodeFacts}
 use Rattle.sysmem_tree.specs.Nodes.{IsTree}
 use Rattle.sysmem_tree.specs.Selection.{after, IsPrefix}
 use Rattle.sysmem_tree.specs.Shape.{Member, by_number, by_path, forest_of, shape_of}
+use Rattle.list_lemmas.proofs.CallerLemmas.{of_some}
 
 pub if_some : {X : Type 0} (P : X → Type 0) (o : Option X) → ((x : X) → o ≡ Some x → P x) → IfSome o P
 if_some P None h = tt
 if_some P (Some x) h = h x refl
-
-pub of_some : {X : Type 0} (P : X → Type 0) (o : Option X) (x : X) → o ≡ Some x → IfSome o P → P x
-of_some P None x is h = absurd (cc)
-of_some P (Some y) x is h = subst P (same_Some y x is) h
 
 pub some_of : {X : Type 0} (o : Option X) → IsSome o → (x : X) × (o ≡ Some x)
 some_of None h = absurd (cc)

@@ -12,12 +12,12 @@ use Rattle.sysmem_search.specs.Live.{IsLiveUpTo}
 use Rattle.sysmem_search.specs.Question.{MeetsOf, MeetsSoFar, IsBestOf}
 use Rattle.sysmem_search.specs.Searching.{FirstFound, IsFoundOf}
 use Rattle.sysmem_search.specs.Visits.{IsRaised, AreVisitsIn}
-use Rattle.sysmem_search.proofs.Finding.{of_some}
 use Rattle.sysmem_search.proofs.Shapes.{same_count}
 use Rattle.sysmem_tree.specs.Forest.{count, settled}
 use Rattle.sysmem_tree.specs.Node.{NodeFacts}
 use Rattle.sysmem_tree.specs.Selection.{after}
 use Rattle.sysmem_tree.specs.Shape.{Member, by_number, forest_of, shape_of}
+use Rattle.list_lemmas.proofs.CallerLemmas.{of_some}
 
 -- the best settings meet
 best_is_met : (platform : PlatformFacts) (terms : Option Terms) (ms : List Member) (s : Settings) → IsBestFor platform terms ms s → MeetsFor platform terms ms s

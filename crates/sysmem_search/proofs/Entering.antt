@@ -6,7 +6,7 @@ use Rattle.std.proofs.lemmas.List.{take_all, length-set}
 use Rattle.std.proofs.lemmas.List.Elements.{filter_map-append}
 use Rattle.std.proofs.lemmas.List.Sorted.{length_permutation}
 use Rattle.std.proofs.lemmas.Option.{same_Some, slice_get_within, option_and_then_some}
-use Rattle.list_lemmas.proofs.CallerLemmas.{slice_get-set_same, slice_get-set_other}
+use Rattle.list_lemmas.proofs.CallerLemmas.{slice_get-set_same, slice_get-set_other, of_some}
 use Rattle.sysmem_merge.specs.Sum.{SumsInAnyOrder}
 use Rattle.sysmem_proof.specs.Base.{BaseFacts}
 use Rattle.sysmem_proof.specs.Members.{participants}
@@ -19,8 +19,8 @@ use Rattle.sysmem_proof.specs.Matter.{Matter, forest}
 use Rattle.sysmem_proof.specs.Asked.{asks_at, asked_in}
 use Rattle.sysmem_search.specs.Standing.{IsLevel, AreLevels, AreMade, AreParts, IsSlot, StandsAt, numbers}
 use Rattle.sysmem_search.proofs.Keeping.{kept_in_order, have_room}
-use Rattle.sysmem_search.proofs.Orders.{taken_in_order}
-use Rattle.sysmem_search.proofs.AskedMembers.{root_there, numbers_left, same_asked, of_some, some_of, if_some}
+use Rattle.list_lemmas.proofs.CallerLemmas.{taken_in_order}
+use Rattle.sysmem_search.proofs.AskedMembers.{root_there, numbers_left, same_asked, some_of, if_some}
 use Rattle.sysmem_search.proofs.Shapes.{few_settled}
 use Rattle.sysmem_search.proofs.Taking.{few_asked_of}
 use Rattle.sysmem_search.proofs.Walking.{few_accepted}
@@ -244,22 +244,7 @@ part_there [] place part less = absurd (omega (arith, less))
 part_there (x ∷ xs) zero part less = refl
 part_there (x ∷ xs) (suc k) part less = part_there xs k part (omega (arith, less))
 
--- where nothing is open, no choice is a prefix
-after_one : (c : ℕ) (xs : List ℕ) (f e : Forest ℕ) → after f xs ≡ Some e → after f (xs ++ c ∷ []) ≡ after e (c ∷ [])
-after_one c [] f e leads = ap (λ x. after x (c ∷ [])) (same_Some f e leads)
-after_one c (x ∷ xs) f e leads = option_and_then_some (λ y. after y xs) (option_and_then (λ es. slice_get es x) (choices f)) e leads
-    (λ y one on. ap (option_and_then (λ z. after z (xs ++ c ∷ []))) one ∙ after_one c xs y e on)
-
-pub some_open : (layout : Layout) (d : Forest ℕ) (cs : List ℕ) (c : ℕ) → NoneOpenIsSelection → IsPrefix d (cs ++ c ∷ []) → IsFirstOpen layout d cs None → ⊥
-some_open layout d cs c law prefix open' =
-    let w = law layout d cs None open' in
-    let none : after w.left (c ∷ []) ≡ None = ap (λ o. option_and_then (λ e. after e []) (option_and_then (λ es. slice_get es c) o)) (w.whole.0 refl) in
-    by (after d (cs ++ c ∷ [])) prefix (after_one c cs d w.left w.leads ∙ none) where
-      by : (o : Option (Forest ℕ)) → IsSome o → o ≡ None → ⊥
-      by None h e = absurd (cc)
-      by (Some x) h e = absurd (cc)
-
--- nor is there a first group
+-- where nothing is open, there is no first group
 pub none_next : (layout : Layout) (d : Forest ℕ) (cs : List ℕ) → NoneOpenIsSelection → IsFirstOpen layout d cs None → IfSome (after d cs) (λ e. None ≡ first_group e)
 none_next layout d cs law open' =
     let w = law layout d cs None open' in

@@ -16,6 +16,7 @@ use Rattle.sysmem_search.proofs.Sofar.{Sofar, none_yet, one_more, all_gone, one_
 use Rattle.sysmem_tree.specs.Forest.{Forest, choices, settled}
 use Rattle.sysmem_tree.specs.Selection.{after, IsPrefix}
 use Rattle.sysmem_tree.specs.Shape.{Member}
+use Rattle.list_lemmas.proofs.CallerLemmas.{of_some}
 
 pub none_many : {A : Type 0} (o : Option (List A)) → option_map length o ≡ None → o ≡ None
 none_many None e = refl
@@ -85,10 +86,6 @@ module _ (m : Matter) where
 if_some : {X : Type 0} (P : X → Type 0) (o : Option X) → ((x : X) → o ≡ Some x → P x) → IfSome o P
 if_some P None h = tt
 if_some P (Some x) h = h x refl
-
-pub of_some : {X : Type 0} (P : X → Type 0) (o : Option X) (x : X) → o ≡ Some x → IfSome o P → P x
-of_some P None x is h = absurd (cc)
-of_some P (Some y) x is h = subst P (same_Some y x is) h
 
 -- what was found, by whether anything was
 pub some_best : (best : Option Settings) → is_some best ≡ true → (s : Settings) × (best ≡ Some s)

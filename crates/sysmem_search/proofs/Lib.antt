@@ -1,4 +1,3 @@
-pub mod Orders
 pub mod Raising
 pub mod Shapes
 pub mod Sofar

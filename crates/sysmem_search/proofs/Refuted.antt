@@ -14,12 +14,13 @@ use Rattle.sysmem_proof.proofs.CallerLemmas.{splits_refute, earlier_grows}
 use Rattle.sysmem_search.specs.Question.{MeetsOf}
 use Rattle.sysmem_search.specs.Refuting.{AddsRefutation, RefutesFirst}
 use Rattle.sysmem_search.specs.Standing.{Standing}
-use Rattle.sysmem_search.proofs.AskedMembers.{if_some, of_some}
+use Rattle.sysmem_search.proofs.AskedMembers.{if_some}
 use Rattle.sysmem_search.proofs.Finding.{Child, after_push, child}
 use Rattle.sysmem_search.proofs.Sofar.{some_and, and_some}
 use Rattle.sysmem_tree.specs.Forest.{Forest, choices}
 use Rattle.sysmem_tree.specs.Selection.{IsEarlierSelection, IsPrefix, IsSelection, after}
 use Rattle.sysmem_tree.specs.Shape.{Member}
+use Rattle.list_lemmas.proofs.CallerLemmas.{of_some}
 
 -- what holds place by place of two lists holds with one more at the end of each
 zip_push : {A B : Type 0} (R : A → B → Type 0) (xs : List A) (ys : List B) (c : ℕ) (x : A) (y : B) → AllZip R (take c xs) ys → slice_get xs c ≡ Some x → R x y → AllZip R (take (suc c) xs) (ys ++ y ∷ [])

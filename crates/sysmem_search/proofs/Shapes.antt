@@ -3,6 +3,7 @@ use Rattle.std.proofs.Common.{◌≡◌, ◌<◌, ◌≤◌, ℕ, zero, suc, ◌
 use Rattle.std.specs.Prelude.{IsSome, option_map, option_and_then}
 use Rattle.std.proofs.lemmas.List.{length-drop, length-map}
 use Rattle.std.proofs.lemmas.Option.{same_Some, option_and_then_some}
+use Rattle.std.specs.List.{AllByRecursion}
 use Rattle.sysmem_sanitise.specs.Participant.{Participant}
 use Rattle.sysmem_proof.specs.Asked.{asks_at}
 use Rattle.sysmem_tree.specs.declared.state.NodeKind.{NodeKind}
@@ -14,7 +15,7 @@ use Rattle.sysmem_tree.specs.Nodes.{IsTree}
 use Rattle.sysmem_tree.specs.Path.{path_of}
 use Rattle.sysmem_tree.specs.Selection.{after, IsPrefix}
 use Rattle.sysmem_tree.specs.Shape.{Member, tree_of, kid_of, before, kids_from, rooted, forest_of, by_number, by_path, shape_of}
-use Rattle.sysmem_tree.proofs.CallerLemmas.{few_numbers, forest_here, size_tree, numbers, front, AllOf, IfAny, all_mapped, all_at, settled_relabel, choices_relabel, after_relabel, first_many}
+use Rattle.sysmem_tree.proofs.CallerLemmas.{few_numbers, forest_here, size_tree, numbers, front, IfAny, all_mapped, all_at, settled_relabel, choices_relabel, after_relabel, first_many}
 
 -- what a member asks
 abbrev pub member_asks : Member → Option Participant
@@ -122,12 +123,12 @@ record Within {A : Type 0} (d e : Forest A) : Type 0 where
   groups : groups e ≤ groups d
   nodes : size e ≤ size d
 
-all_weaker : {X : Type 0} (P Q : X → Type 0) (xs : List X) → ((x : X) → P x → Q x) → AllOf P xs → AllOf Q xs
+all_weaker : {X : Type 0} (P Q : X → Type 0) (xs : List X) → ((x : X) → P x → Q x) → AllByRecursion P xs → AllByRecursion Q xs
 all_weaker P Q [] h a = tt
 all_weaker P Q (x ∷ xs) h a = (h x a.0, all_weaker P Q xs h a.1)
 
 module _ {A : Type 0} where
-  each_within : (d : Forest A) → AllOf (Within d) (each d)
+  each_within : (d : Forest A) → AllByRecursion (Within d) (each d)
   each_within Empty = tt
   each_within (Plain n kids rest) = (
     record { groups = omega arith; nodes = omega arith },
@@ -138,21 +139,21 @@ module _ {A : Type 0} where
     all_weaker (Within rest) (Within (Group n kids rest)) (each rest) (λ e w. record { groups = omega (arith, w.groups); nodes = omega (arith, w.nodes) }) (each_within rest),
   )
 
-  falls_in : (n : A) (kids rest : Forest A) (ks rs : Option (List (Forest A))) → IfAny (Unit {0}) (AllOf (Falls kids)) ks → IfAny (Unit {0}) (AllOf (Falls rest)) rs
-      → IfAny (Unit {0}) (AllOf (Falls (Plain n kids rest))) (kids_else_rest (λ k. Plain n k rest) (λ r. Plain n kids r) ks rs)
+  falls_in : (n : A) (kids rest : Forest A) (ks rs : Option (List (Forest A))) → IfAny (Unit {0}) (AllByRecursion (Falls kids)) ks → IfAny (Unit {0}) (AllByRecursion (Falls rest)) rs
+      → IfAny (Unit {0}) (AllByRecursion (Falls (Plain n kids rest))) (kids_else_rest (λ k. Plain n k rest) (λ r. Plain n kids r) ks rs)
   falls_in n kids rest (Some ks) rs hk hr = all_mapped (Falls kids) (Falls (Plain n kids rest)) (λ k. Plain n k rest) ks
       (λ k f. record { fewer = omega (arith, f.fewer); no_more = omega (arith, f.no_more) }) hk
   falls_in n kids rest None (Some rs) hk hr = all_mapped (Falls rest) (Falls (Plain n kids rest)) (λ r. Plain n kids r) rs
       (λ k f. record { fewer = omega (arith, f.fewer); no_more = omega (arith, f.no_more) }) hr
   falls_in n kids rest None None hk hr = tt
 
-  falls : (d : Forest A) → IfAny (Unit {0}) (AllOf (Falls d)) (choices d)
+  falls : (d : Forest A) → IfAny (Unit {0}) (AllByRecursion (Falls d)) (choices d)
   falls Empty = tt
   falls (Plain n kids rest) = falls_in n kids rest (choices kids) (choices rest) (falls kids) (falls rest)
   falls (Group n kids rest) = all_mapped (Within kids) (Falls (Group n kids rest)) (λ kid. Plain n kid rest) (each kids)
       (λ k w. record { fewer = omega (arith, w.groups); no_more = omega (arith, w.nodes) }) (each_within kids)
 
-  one_falls : (d e : Forest A) (c : ℕ) (o : Option (List (Forest A))) → IfAny (Unit {0}) (AllOf (Falls d)) o → option_and_then (λ es. slice_get es c) o ≡ Some e → Falls d e
+  one_falls : (d e : Forest A) (c : ℕ) (o : Option (List (Forest A))) → IfAny (Unit {0}) (AllByRecursion (Falls d)) o → option_and_then (λ es. slice_get es c) o ≡ Some e → Falls d e
   one_falls d e c None all is = absurd (cc)
   one_falls d e c (Some es) all is = all_at (Falls d) es c e is all
 

@@ -10,11 +10,12 @@ use Rattle.sysmem_proof.specs.Verdict.{IsForestUnmet, MeetsFor, MeetsLooselyFor,
 use Rattle.sysmem_search.specs.Live.{SomeMeet}
 use Rattle.sysmem_search.specs.Question.{MeetsOf, MeetsHere, MeetsSoFar}
 use Rattle.sysmem_proof.specs.Matter.{Matter, forest, terms}
-use Rattle.sysmem_search.proofs.AskedMembers.{if_some, of_some, some_of}
+use Rattle.sysmem_search.proofs.AskedMembers.{if_some, some_of}
 use Rattle.sysmem_search.proofs.Finding.{none_many}
 use Rattle.sysmem_tree.specs.Forest.{Forest, choices, settled}
 use Rattle.sysmem_tree.specs.Selection.{IsPrefix, after}
 use Rattle.sysmem_tree.specs.Shape.{Member}
+use Rattle.list_lemmas.proofs.CallerLemmas.{of_some}
 
 -- settings that meet a selection are those that meet what is settled there
 none_at_selection : (m : Matter) (d : Forest Member) → choices d ≡ None → ((t : Settings) → ¬ (MeetsFor m.platform (terms m) (settled d) t)) → (t : Settings) → ¬ (MeetsSettled m.platform (terms m) d t)

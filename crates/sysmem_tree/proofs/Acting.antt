@@ -19,10 +19,6 @@ use Rattle.sysmem_tree.specs.Tree.{Applied, closed_early, domains_after, new_nod
 pub if_some : {X : Type 0} (P : X → Type 0) (o : Option X) (x : X) → o ≡ Some x → P x → IfSome o P
 if_some P o x is holds = subst (λ r. IfSome r P) (sym is) holds
 
--- and the other way round
-pub of_some : {X : Type 0} (P : X → Type 0) (o : Option X) (x : X) → o ≡ Some x → IfSome o P → P x
-of_some P o x is holds = subst (λ r. IfSome r P) is holds
-
 none_made : (number i : ℕ) (n : NodeFacts) (kind : ActionKind) (s : Option NodeState) → option_map (new_node number i n kind) s ≡ None → nodes_made number i n kind s ≡ []
 none_made number i n _ None is = refl
 none_made number i n _ (Some s) is = absurd (cc)

@@ -5,6 +5,7 @@ use Rattle.std.proofs.Math.Nat.{max-le}
 use Rattle.std.proofs.lemmas.List.{append_cancel_left}
 use Rattle.std.proofs.lemmas.List.Kept.{AllPairs-cons}
 use Rattle.std.proofs.lemmas.Option.{slice_get_within, same_Some, option_and_then_some}
+use Rattle.std.specs.List.{AllByRecursion}
 use Rattle.sysmem_tree.specs.Sublist.{IsSublist, ended, taken, left_out}
 use Rattle.sysmem_tree.specs.declared.state.NodeKind.{NodeKind}
 use Rattle.sysmem_tree.specs.declared.state.NodeKind.TheVariants as kinds
@@ -20,24 +21,24 @@ use Rattle.sysmem_tree.specs.Step.{Map}
 use Rattle.sysmem_tree.proofs.Kids.{under_nobody, root_birth}
 use Rattle.sysmem_tree.proofs.Places.{there}
 use Rattle.sysmem_tree.proofs.SameForest.{put_kid, row, grown, if_true, if_false, kid_none, forest_by_map, member}
-use Rattle.sysmem_tree.proofs.Selections.{AllOf, IfAny, all_mapped, all_at, sub_refl, sub_trans, sub_behind, sub_append}
+use Rattle.sysmem_tree.proofs.Selections.{IfAny, all_mapped, all_at, sub_refl, sub_trans, sub_behind, sub_append}
 use Rattle.sysmem_tree.proofs.Steps.{path_leads}
 
 -- what all of two lists have, all of both have
-pub all_append : {X : Type 0} (P : X → Type 0) (xs ys : List X) → AllOf P xs → AllOf P ys → AllOf P (xs ++ ys)
+pub all_append : {X : Type 0} (P : X → Type 0) (xs ys : List X) → AllByRecursion P xs → AllByRecursion P ys → AllByRecursion P (xs ++ ys)
 all_append P [] ys a b = b
 all_append P (x ∷ xs) ys a b = (a.0, all_append P xs ys a.1 b)
 
-all_weaken : {X : Type 0} (P Q : X → Type 0) (xs : List X) → ((x : X) → P x → Q x) → AllOf P xs → AllOf Q xs
+all_weaken : {X : Type 0} (P Q : X → Type 0) (xs : List X) → ((x : X) → P x → Q x) → AllByRecursion P xs → AllByRecursion Q xs
 all_weaken P Q [] h a = tt
 all_weaken P Q (x ∷ xs) h a = (h x a.0, all_weaken P Q xs h a.1)
 
-pub all_sub : {X : Type 0} (P : X → Type 0) (xs ys : List X) → IsSublist xs ys → AllOf P ys → AllOf P xs
+pub all_sub : {X : Type 0} (P : X → Type 0) (xs ys : List X) → IsSublist xs ys → AllByRecursion P ys → AllByRecursion P xs
 all_sub P _ _ ended a = tt
 all_sub P _ _ (taken x xs ys p) a = (a.0, all_sub P xs ys p a.1)
 all_sub P _ _ (left_out x xs ys p) a = all_sub P xs ys p a.1
 
-pub all_index : {X : Type 0} (P : X → Type 0) (xs : List X) → AllOf P xs → All P xs
+pub all_index : {X : Type 0} (P : X → Type 0) (xs : List X) → AllByRecursion P xs → All P xs
 all_index P [] a k d within = absurd (omega (arith, within))
 all_index P (x ∷ xs) a zero d within = a.0
 all_index P (x ∷ xs) a (suc k) d within = all_index P xs a.1 k d (omega (arith, within))
@@ -45,9 +46,9 @@ all_index P (x ∷ xs) a (suc k) d within = all_index P xs a.1 k d (omega (arith
 -- no two have one path
 abbrev pub Apart : List Member → Type 0
 Apart [] = Unit {0}
-Apart (m ∷ ms) = AllOf (λ (x : Member). m.path ≢ x.path) ms × Apart ms
+Apart (m ∷ ms) = AllByRecursion (λ (x : Member). m.path ≢ x.path) ms × Apart ms
 
-apart_append : (xs ys : List Member) → Apart xs → Apart ys → AllOf (λ (x : Member). AllOf (λ (y : Member). x.path ≢ y.path) ys) xs → Apart (xs ++ ys)
+apart_append : (xs ys : List Member) → Apart xs → Apart ys → AllByRecursion (λ (x : Member). AllByRecursion (λ (y : Member). x.path ≢ y.path) ys) xs → Apart (xs ++ ys)
 apart_append [] ys a b c = b
 apart_append (x ∷ xs) ys a b c = (all_append (λ (y : Member). x.path ≢ y.path) xs ys a.0 c.0, apart_append xs ys a.1 b c.1)
 
@@ -89,12 +90,12 @@ tree_labels kinds.Collection l kids rest = refl
 
 -- a forest below a path, from an ordinal on
 abbrev Fine : List ℕ → ℕ → Forest Member → Type 0
-Fine path o d = AllOf (Onward path o) (labels d) × Apart (labels d)
+Fine path o d = AllByRecursion (Onward path o) (labels d) × Apart (labels d)
 
 fine_tree : (kind : NodeKind) (l : Member) (kids rest : Forest Member) (path : List ℕ) (o : ℕ) → l.path ≡ path ++ o ∷ [] → Fine (path ++ o ∷ []) 0 kids → Fine path (o + 1) rest
     → Fine path o (tree_of kind l kids rest)
-fine_tree kind l kids rest path o is k r = subst (λ ls. AllOf (Onward path o) ls × Apart ls) (sym (tree_labels kind l kids rest)) (onward, apart) where
-  onward : AllOf (Onward path o) (l ∷ (labels kids ++ labels rest))
+fine_tree kind l kids rest path o is k r = subst (λ ls. AllByRecursion (Onward path o) ls × Apart ls) (sym (tree_labels kind l kids rest)) (onward, apart) where
+  onward : AllByRecursion (Onward path o) (l ∷ (labels kids ++ labels rest))
   onward = (
     record { turn = o; behind = []; late = omega arith; is = is },
     all_append (Onward path o) (labels kids) (labels rest) (all_weaken (Onward (path ++ o ∷ []) 0) (Onward path o) (labels kids) (deeper path o) k.0)
@@ -110,7 +111,7 @@ fine_tree kind l kids rest path o is k r = subst (λ ls. AllOf (Onward path o) l
         (all_weaken (Onward (path ++ o ∷ []) 0) (λ (y : Member). l.path ≢ y.path) (labels kids) (λ m w e. goes_on (path ++ o ∷ []) w.behind w.turn (sym is ∙ (e ∙ w.is))) k.0)
         (all_weaken (Onward path (o + 1)) (λ (y : Member). l.path ≢ y.path) (labels rest) (λ m w. off l m [] is w) r.0),
     apart_append (labels kids) (labels rest) k.1 r.1
-        (all_weaken (Onward (path ++ o ∷ []) 0) (λ (x : Member). AllOf (λ (y : Member). x.path ≢ y.path) (labels rest)) (labels kids)
+        (all_weaken (Onward (path ++ o ∷ []) 0) (λ (x : Member). AllByRecursion (λ (y : Member). x.path ≢ y.path) (labels rest)) (labels kids)
         (λ x u. all_weaken (Onward path (o + 1)) (λ (y : Member). x.path ≢ y.path) (labels rest) (λ y w. off x y (u.turn ∷ u.behind) (deep path o x u) w) r.0) k.0),
   )
 
@@ -143,7 +144,7 @@ shape_apart nodes r tree has =
     let is = forest_by_map member nodes tree r p n (length nodes) here home (path_leads nodes tree r (slice_get_within nodes r n here)) (omega arith) in
     subst (λ (d : Forest Member). Apart (labels d)) (sym is) (subst Apart (sym (tree_labels n.state.kind l kids Empty)) (
       all_append (λ (y : Member). l.path ≢ y.path) (labels kids) [] (all_weaken (Onward p 0) (λ (y : Member). l.path ≢ y.path) (labels kids) (λ m w e. goes_on p w.behind w.turn (e ∙ w.is)) fine.0) tt,
-      apart_append (labels kids) [] fine.1 tt (all_weaken (Onward p 0) (λ (x : Member). AllOf (λ (y : Member). x.path ≢ y.path) []) (labels kids) (λ x u. tt) fine.0),
+      apart_append (labels kids) [] fine.1 tt (all_weaken (Onward p 0) (λ (x : Member). AllByRecursion (λ (y : Member). x.path ≢ y.path) []) (labels kids) (λ x u. tt) fine.0),
     ))
 
 -- choices only take nodes away
@@ -155,8 +156,8 @@ module _ {A : Type 0} where
   abbrev Less : Forest A → Forest A → Type 0
   Less d e = IsSublist (labels e) (labels d)
 
-  less_in : (n : A) (kids rest : Forest A) (ks rs : Option (List (Forest A))) → IfAny (Unit {0}) (AllOf (Less kids)) ks → IfAny (Unit {0}) (AllOf (Less rest)) rs
-      → IfAny (Unit {0}) (AllOf (Less (Plain n kids rest))) (kids_else_rest (λ k. Plain n k rest) (λ r. Plain n kids r) ks rs)
+  less_in : (n : A) (kids rest : Forest A) (ks rs : Option (List (Forest A))) → IfAny (Unit {0}) (AllByRecursion (Less kids)) ks → IfAny (Unit {0}) (AllByRecursion (Less rest)) rs
+      → IfAny (Unit {0}) (AllByRecursion (Less (Plain n kids rest))) (kids_else_rest (λ k. Plain n k rest) (λ r. Plain n kids r) ks rs)
   less_in n kids rest (Some ks) rs hk hr = all_mapped (Less kids) (Less (Plain n kids rest)) (λ k. Plain n k rest) ks
       (λ k p. taken n (labels k ++ labels rest) (labels kids ++ labels rest) (sub_append (labels k) (labels kids) (labels rest) (labels rest) p (sub_refl (labels rest)))) hk
   less_in n kids rest None (Some rs) hk hr = all_mapped (Less rest) (Less (Plain n kids rest)) (λ r. Plain n kids r) rs
@@ -169,18 +170,18 @@ module _ {A : Type 0} where
   others : (n : A) (kids rest : Forest A) (e : Forest A) → Less rest e → IsSublist (labels e) (n ∷ (labels kids ++ labels rest))
   others n kids rest e p = left_out n (labels e) (labels kids ++ labels rest) (sub_behind (labels kids) (labels e) (labels rest) p)
 
-  each_less : (d : Forest A) → AllOf (Less d) (each d)
+  each_less : (d : Forest A) → AllByRecursion (Less d) (each d)
   each_less Empty = tt
   each_less (Plain n kids rest) = (alone n kids rest, all_weaken (Less rest) (Less (Plain n kids rest)) (each rest) (others n kids rest) (each_less rest))
   each_less (Group n kids rest) = (alone n kids rest, all_weaken (Less rest) (Less (Group n kids rest)) (each rest) (others n kids rest) (each_less rest))
 
-  less : (d : Forest A) → IfAny (Unit {0}) (AllOf (Less d)) (choices d)
+  less : (d : Forest A) → IfAny (Unit {0}) (AllByRecursion (Less d)) (choices d)
   less Empty = tt
   less (Plain n kids rest) = less_in n kids rest (choices kids) (choices rest) (less kids) (less rest)
   less (Group n kids rest) = all_mapped (Less kids) (Less (Group n kids rest)) (λ kid. Plain n kid rest) (each kids)
       (λ kid p. taken n (labels kid ++ labels rest) (labels kids ++ labels rest) (sub_append (labels kid) (labels kids) (labels rest) (labels rest) p (sub_refl (labels rest)))) (each_less kids)
 
-  one_less : (d e : Forest A) (c : ℕ) (o : Option (List (Forest A))) → IfAny (Unit {0}) (AllOf (Less d)) o → option_and_then (λ es. slice_get es c) o ≡ Some e → Less d e
+  one_less : (d e : Forest A) (c : ℕ) (o : Option (List (Forest A))) → IfAny (Unit {0}) (AllByRecursion (Less d)) o → option_and_then (λ es. slice_get es c) o ≡ Some e → Less d e
   one_less d e c None all is = absurd (cc)
   one_less d e c (Some es) all is = all_at (Less d) es c e is all
 

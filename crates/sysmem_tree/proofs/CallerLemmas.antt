@@ -8,7 +8,8 @@ pub use Rattle.sysmem_tree.proofs.Layouts.{size_tree}
 pub use Rattle.sysmem_tree.proofs.Numbers.{numbers, front}
 pub use Rattle.sysmem_tree.proofs.Steps.{led_kid, node_within}
 pub use Rattle.sysmem_tree.proofs.Readiness.{decision_acted, decision_by, home_root}
-pub use Rattle.sysmem_tree.proofs.Selections.{AllOf, IfAny, all_mapped, all_at, settled_relabel, choices_relabel, after_relabel, first_many}
+pub use Rattle.sysmem_tree.proofs.Walked.{gives_same, named_there, some_open}
+pub use Rattle.sysmem_tree.proofs.Selections.{IfAny, all_mapped, all_at, settled_relabel, choices_relabel, after_relabel, first_many}
 use Rattle.std.proofs.Common.{◌≡◌, ◌<◌, ℕ, Bool, true, false, List, [], ◌∷◌, ◌++◌, Option, Some, None, length, slice_get, refl, sym, ◌∙◌, ap, subst, arith}
 use Rattle.std.specs.Prelude.{option_map, option_and_then, IsSome, IfSome, if◌then◌else◌}
 use Rattle.std.proofs.lemmas.Option.{same_Some}

@@ -4,6 +4,7 @@ use Rattle.std.specs.Prelude.{Contains, IsSome, IfSome, map, option_map, option_
 use Rattle.std.specs.Option.{option_or}
 use Rattle.std.proofs.lemmas.List.{length-drop}
 use Rattle.std.proofs.lemmas.Option.{same_Some, none-some, slice_get_within, get_or_from_slice_get, option_and_then_some}
+use Rattle.std.specs.List.{AllByRecursion}
 use Rattle.sysmem_tree.specs.declared.layout.Layout.{Layout}
 use Rattle.sysmem_tree.specs.Forest.{Forest, Empty, Plain, Group, each, kids_else_rest, choices, settled, relabel, first_group}
 use Rattle.sysmem_tree.specs.Layout.{Spot, size, first_place}
@@ -24,7 +25,7 @@ use Rattle.sysmem_tree.proofs.Labelled.{one_forest}
 use Rattle.sysmem_tree.proofs.Layouts.{size_tree}
 use Rattle.sysmem_tree.proofs.Numbers.{numbers}
 use Rattle.sysmem_tree.proofs.Places.{in_front}
-use Rattle.sysmem_tree.proofs.Selections.{AllOf, IfAny, all_mapped, all_at, after_more, after_relabel, first_many, settled_relabel, choices_relabel}
+use Rattle.sysmem_tree.proofs.Selections.{IfAny, all_mapped, all_at, after_more, after_relabel, first_many, settled_relabel, choices_relabel}
 use Rattle.sysmem_tree.proofs.Walks.{no_first, first_is}
 
 none_of_map : {X Y : Type 0} (f : X → Y) (o : Option X) → option_map f o ≡ None → o ≡ None
@@ -115,11 +116,11 @@ module _ {A : Type 0} where
   abbrev Within : ℕ → Forest A → Type 0
   Within many e = groups e ≤ many
 
-  weaker : (a b : ℕ) (xs : List (Forest A)) → a ≤ b → AllOf (Within a) xs → AllOf (Within b) xs
+  weaker : (a b : ℕ) (xs : List (Forest A)) → a ≤ b → AllByRecursion (Within a) xs → AllByRecursion (Within b) xs
   weaker a b [] less all = tt
   weaker a b (x ∷ xs) less all = (omega (arith, all.0, less), weaker a b xs less all.1)
 
-  each_within : (d : Forest A) → AllOf (Within (groups d)) (each d)
+  each_within : (d : Forest A) → AllByRecursion (Within (groups d)) (each d)
   each_within Empty = tt
   each_within (Plain n kids rest) = (omega arith, weaker (groups rest) (groups kids + groups rest) (each rest) (omega arith) (each_within rest))
   each_within (Group n kids rest) = (omega arith, weaker (groups rest) (suc (groups kids + groups rest)) (each rest) (omega arith) (each_within rest))
@@ -127,20 +128,20 @@ module _ {A : Type 0} where
   abbrev Fewer : Forest A → Forest A → Type 0
   Fewer d e = suc (groups e) ≤ groups d
 
-  fewer_in : (n : A) (kids rest : Forest A) (ks rs : Option (List (Forest A))) → IfAny (Unit {0}) (AllOf (Fewer kids)) ks → IfAny (Unit {0}) (AllOf (Fewer rest)) rs
-      → IfAny (Unit {0}) (AllOf (Fewer (Plain n kids rest))) (kids_else_rest (λ k. Plain n k rest) (λ r. Plain n kids r) ks rs)
+  fewer_in : (n : A) (kids rest : Forest A) (ks rs : Option (List (Forest A))) → IfAny (Unit {0}) (AllByRecursion (Fewer kids)) ks → IfAny (Unit {0}) (AllByRecursion (Fewer rest)) rs
+      → IfAny (Unit {0}) (AllByRecursion (Fewer (Plain n kids rest))) (kids_else_rest (λ k. Plain n k rest) (λ r. Plain n kids r) ks rs)
   fewer_in n kids rest (Some ks) rs hk hr = all_mapped (Fewer kids) (Fewer (Plain n kids rest)) (λ k. Plain n k rest) ks (λ k p. omega (arith, p)) hk
   fewer_in n kids rest None (Some rs) hk hr = all_mapped (Fewer rest) (Fewer (Plain n kids rest)) (λ r. Plain n kids r) rs (λ r p. omega (arith, p)) hr
   fewer_in n kids rest None None hk hr = tt
 
-  fewer : (d : Forest A) → IfAny (Unit {0}) (AllOf (Fewer d)) (choices d)
+  fewer : (d : Forest A) → IfAny (Unit {0}) (AllByRecursion (Fewer d)) (choices d)
   fewer Empty = tt
   fewer (Plain n kids rest) = fewer_in n kids rest (choices kids) (choices rest) (fewer kids) (fewer rest)
   fewer (Group n kids rest) = all_mapped (Within (groups kids)) (Fewer (Group n kids rest)) (λ kid. Plain n kid rest) (each kids) (λ kid p. omega (arith, p)) (each_within kids)
 
   pub one_fewer : (d e : Forest A) (c : ℕ) → chosen d c ≡ Some e → Fewer d e
   one_fewer d e c is = by (choices d) (fewer d) is where
-    by : (o : Option (List (Forest A))) → IfAny (Unit {0}) (AllOf (Fewer d)) o → option_and_then (λ es. slice_get es c) o ≡ Some e → Fewer d e
+    by : (o : Option (List (Forest A))) → IfAny (Unit {0}) (AllByRecursion (Fewer d)) o → option_and_then (λ es. slice_get es c) o ≡ Some e → Fewer d e
     by None all is' = absurd (cc)
     by (Some es) all is' = all_at (Fewer d) es c e is' all
 

@@ -16,9 +16,10 @@ use Rattle.sysmem_tree.specs.Node.{NodeFacts}
 use Rattle.sysmem_tree.specs.Table.{makes, makes_root}
 use Rattle.sysmem_tree.specs.Tree.{Applied, applied, domains_after, has_room, is_barred, node_after, nodes_after, nodes_made, number_after}
 use Rattle.sysmem_tree.proofs.Accepted.{IsAccepted, accepted}
-use Rattle.sysmem_tree.proofs.Acting.{not_refused, of_some}
+use Rattle.sysmem_tree.proofs.Acting.{not_refused}
 use Rattle.sysmem_tree.proofs.Entries.{acted_sound}
 use Rattle.sysmem_tree.proofs.Soundness.{few_domains}
+use Rattle.list_lemmas.proofs.CallerLemmas.{of_some}
 
 -- what is said of lists and a number that were read is said of the tree and the domain
 pub seen : {A : Type 0} (f : TreeFacts → ℕ → A) (x : A) (ns ms : List NodeFacts) (ds es : List Domain) (r s : ℕ) (t : TreeFacts) → x ≡ f (record { nodes = ns; domains = ds }) r

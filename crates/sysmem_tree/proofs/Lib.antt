@@ -52,3 +52,4 @@ pub mod MadeReady
 pub mod Different
 pub mod Picking
 pub mod Failing
+pub mod Walked

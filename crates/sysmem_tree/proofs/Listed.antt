@@ -2,10 +2,11 @@
 use Rattle.std.proofs.Common.{◌≡◌, ◌⊎◌, ℕ, zero, suc, ◌+◌, ◌<◌, ◌≤◌, List, [], ◌∷◌, ◌++◌, length, Option, Some, None, slice_get, refl, sym, ◌∙◌, ap, subst, arith, inl, inr, length-append}
 use Rattle.std.specs.Prelude.{map, option_and_then}
 use Rattle.std.proofs.lemmas.Option.{slice_get_within, same_Some, none-some, option_and_then_some}
+use Rattle.std.specs.List.{AllByRecursion}
 use Rattle.sysmem_tree.specs.Forest.{Forest, Empty, Plain, Group, each, kids_else_rest, choices, count, total}
 use Rattle.sysmem_tree.specs.Laws.{ListsSelections}
 use Rattle.sysmem_tree.specs.Selection.{after, IsSelection, IsEarlierSelection}
-use Rattle.sysmem_tree.proofs.Selections.{AllOf, IfAny, all_mapped, counts}
+use Rattle.sysmem_tree.proofs.Selections.{IfAny, all_mapped, counts}
 
 get_append : {X : Type 0} (xs ys : List X) (k : ℕ) (z : X) → slice_get (xs ++ ys) k ≡ Some z → (slice_get xs k ≡ Some z) ⊎ ((j : ℕ) × (k ≡ length xs + j) × (slice_get ys j ≡ Some z))
 get_append [] ys k z e = inr (k, omega arith, e)
@@ -44,22 +45,22 @@ groups (Group n kids rest) = suc (groups kids + groups rest)
 abbrev Fewer : Forest ℕ → Forest ℕ → Type 0
 Fewer d e = suc (groups e) ≤ groups d
 
-fewer_in : (n : ℕ) (kids rest : Forest ℕ) (ks rs : Option (List (Forest ℕ))) → IfAny (Unit {0}) (AllOf (Fewer kids)) ks → IfAny (Unit {0}) (AllOf (Fewer rest)) rs
-    → IfAny (Unit {0}) (AllOf (Fewer (Plain n kids rest))) (kids_else_rest (λ k. Plain n k rest) (λ r. Plain n kids r) ks rs)
+fewer_in : (n : ℕ) (kids rest : Forest ℕ) (ks rs : Option (List (Forest ℕ))) → IfAny (Unit {0}) (AllByRecursion (Fewer kids)) ks → IfAny (Unit {0}) (AllByRecursion (Fewer rest)) rs
+    → IfAny (Unit {0}) (AllByRecursion (Fewer (Plain n kids rest))) (kids_else_rest (λ k. Plain n k rest) (λ r. Plain n kids r) ks rs)
 fewer_in n kids rest (Some ks) rs hk hr = all_mapped (Fewer kids) (Fewer (Plain n kids rest)) (λ k. Plain n k rest) ks (λ k p. omega (arith, p)) hk
 fewer_in n kids rest None (Some rs) hk hr = all_mapped (Fewer rest) (Fewer (Plain n kids rest)) (λ r. Plain n kids r) rs (λ r p. omega (arith, p)) hr
 fewer_in n kids rest None None hk hr = tt
 
-all_weaker : (P Q : Forest ℕ → Type 0) (es : List (Forest ℕ)) → ((e : Forest ℕ) → P e → Q e) → AllOf P es → AllOf Q es
+all_weaker : (P Q : Forest ℕ → Type 0) (es : List (Forest ℕ)) → ((e : Forest ℕ) → P e → Q e) → AllByRecursion P es → AllByRecursion Q es
 all_weaker P Q [] h all = tt
 all_weaker P Q (e ∷ es) h all = (h e all.0, all_weaker P Q es h all.1)
 
-each_small : (d : Forest ℕ) → AllOf (λ (e : Forest ℕ). groups e ≤ groups d) (each d)
+each_small : (d : Forest ℕ) → AllByRecursion (λ (e : Forest ℕ). groups e ≤ groups d) (each d)
 each_small Empty = tt
 each_small (Plain n kids rest) = (omega arith, all_weaker (λ (e : Forest ℕ). groups e ≤ groups rest) (λ (e : Forest ℕ). groups e ≤ groups kids + groups rest) (each rest) (λ e p. omega (arith, p)) (each_small rest))
 each_small (Group n kids rest) = (omega arith, all_weaker (λ (e : Forest ℕ). groups e ≤ groups rest) (λ (e : Forest ℕ). groups e ≤ suc (groups kids + groups rest)) (each rest) (λ e p. omega (arith, p)) (each_small rest))
 
-fewer : (d : Forest ℕ) → IfAny (Unit {0}) (AllOf (Fewer d)) (choices d)
+fewer : (d : Forest ℕ) → IfAny (Unit {0}) (AllByRecursion (Fewer d)) (choices d)
 fewer Empty = tt
 fewer (Plain n kids rest) = fewer_in n kids rest (choices kids) (choices rest) (fewer kids) (fewer rest)
 fewer (Group n kids rest) =
@@ -73,7 +74,7 @@ record AreBranches (c : ℕ) (es : List (Forest ℕ)) : Type 0 where
   found : (i : ℕ) (ds : List ℕ) (e f : Forest ℕ) → slice_get es i ≡ Some e → IsSelection e ds f → (k : ℕ) × (slice_get all k ≡ Some ((c + i) ∷ ds))
   order : (j k : ℕ) (as' bs : List ℕ) → slice_get all j ≡ Some as' → slice_get all k ≡ Some bs → j < k → IsEarlierSelection as' bs
 
-branches : (c : ℕ) (es : List (Forest ℕ)) → AllOf ListsSelections es → AreBranches c es
+branches : (c : ℕ) (es : List (Forest ℕ)) → AllByRecursion ListsSelections es → AreBranches c es
 branches c [] h = record {
   all = [];
   many = refl;
@@ -129,7 +130,7 @@ branches c (e ∷ es) h = joined h.0 (branches (c + 1) es h.1) where
       ]
     ]
 
-listed_by : (d : Forest ℕ) (o : Option (List (Forest ℕ))) → choices d ≡ o → IfAny (Unit {0}) (AllOf ListsSelections) o → ListsSelections d
+listed_by : (d : Forest ℕ) (o : Option (List (Forest ℕ))) → choices d ≡ o → IfAny (Unit {0}) (AllByRecursion ListsSelections) o → ListsSelections d
 listed_by d None e h = record {
   all = [] ∷ [];
   many = sym (subst (IfAny (count d ≡ 1) (λ es. count d ≡ total es)) e (counts d));
@@ -170,7 +171,7 @@ listed_by d (Some es) e h = by (branches 0 es h) where
         let (k, at) = b.found c cs x f there (record { leads = on; whole = s.whole }) in
         let z : 0 + c ≡ c = omega arith in (k, at ∙ ap (λ y. Some (y ∷ cs)) z))
 
-all_listed : (bound : ℕ) (d : Forest ℕ) → ((e : Forest ℕ) → groups e < bound → ListsSelections e) → groups d ≤ bound → (o : Option (List (Forest ℕ))) → IfAny (Unit {0}) (AllOf (Fewer d)) o → IfAny (Unit {0}) (AllOf ListsSelections) o
+all_listed : (bound : ℕ) (d : Forest ℕ) → ((e : Forest ℕ) → groups e < bound → ListsSelections e) → groups d ≤ bound → (o : Option (List (Forest ℕ))) → IfAny (Unit {0}) (AllByRecursion (Fewer d)) o → IfAny (Unit {0}) (AllByRecursion ListsSelections) o
 all_listed bound d ih small None h = tt
 all_listed bound d ih small (Some es) h = all_weaker (Fewer d) ListsSelections es (λ e p. ih e (omega (arith, p, small))) h
 

@@ -1,7 +1,7 @@
 -- The nodes of a domain stand in its forest once, and its members in their order.
 use Rattle.std.proofs.Common.{◌≡◌, ◌≢◌, ℕ, suc, ◌+◌, ◌++◌, ◌==◌, ◌&&◌, Bool, true, false, List, [], ◌∷◌, Option, Some, None, slice_get, refl, sym, ◌∙◌, ap, subst, arith, rules, tests, eq-eqb}
 use Rattle.std.specs.Prelude.{◌||◌, All, AllPairs, IsSomeAnd, filter, map, option_map, unwrap_or, if◌then◌else◌}
-use Rattle.std.specs.List.{list_any}
+use Rattle.std.specs.List.{AllByRecursion, list_any}
 use Rattle.std.proofs.lemmas.Bool.{ne_eqb}
 use Rattle.std.proofs.lemmas.List.{map-append}
 use Rattle.std.proofs.lemmas.List.Kept.{AllPairs-cons}
@@ -20,7 +20,7 @@ use Rattle.sysmem_tree.proofs.Apart.{Apart, all_append, all_index, all_sub, less
 use Rattle.sysmem_tree.proofs.Kids.{is_under}
 use Rattle.sysmem_tree.proofs.Labelled.{one_forest}
 use Rattle.sysmem_tree.proofs.Places.{put, there}
-use Rattle.sysmem_tree.proofs.Selections.{AllOf, all_mapped, sub_trans}
+use Rattle.sysmem_tree.proofs.Selections.{all_mapped, sub_trans}
 use Rattle.sysmem_tree.proofs.Steps.{led_kid, path_is, path_leads}
 
 -- other labels stand in the same order
@@ -47,7 +47,7 @@ kid_is r p o n e = by (n.domain == r) refl e where
 module _ (all : List NodeFacts) (tree : IsTree all) (r : ℕ) where
   -- the paths of children lead to them
   kids_lead : (i : ℕ) (nodes : List NodeFacts) → ((m : ℕ) (n : NodeFacts) → slice_get nodes m ≡ Some n → slice_get all (i + m) ≡ Some n)
-      → (p : ℕ) (path : List ℕ) → node_at all path ≡ Some p → AllOf (Leads all r) (labels (kids_from by_both r i nodes p path))
+      → (p : ℕ) (path : List ℕ) → node_at all path ≡ Some p → AllByRecursion (Leads all r) (labels (kids_from by_both r i nodes p path))
   kids_lead i [] front p path leads = tt
   kids_lead i (n ∷ nodes) front p path leads =
       at (kids_lead (i + 1) nodes (λ m x here. let shift : i + suc m ≡ (i + 1) + m = omega arith in subst (λ k. slice_get all k ≡ Some x) shift (front (suc m) x here)))
@@ -55,8 +55,8 @@ module _ (all : List NodeFacts) (tree : IsTree all) (r : ℕ) where
         zeroed : i + 0 ≡ i
         zeroed = omega arith
 
-        at : ((p : ℕ) (path : List ℕ) → node_at all path ≡ Some p → AllOf (Leads all r) (labels (kids_from by_both r (i + 1) nodes p path))) → (u : Option ℕ) → kid_of r p n ≡ u
-            → AllOf (Leads all r)
+        at : ((p : ℕ) (path : List ℕ) → node_at all path ≡ Some p → AllByRecursion (Leads all r) (labels (kids_from by_both r (i + 1) nodes p path))) → (u : Option ℕ) → kid_of r p n ≡ u
+            → AllByRecursion (Leads all r)
             (labels (before u (λ o. tree_of n.state.kind (by_both i (path ++ o ∷ []) n) (kids_from by_both r (i + 1) nodes i (path ++ o ∷ []))) (kids_from by_both r (i + 1) nodes p path)))
         at rest None is = rest p path leads
         at rest (Some o) is =
@@ -65,22 +65,22 @@ module _ (all : List NodeFacts) (tree : IsTree all) (r : ℕ) where
             let on : node_at all (path ++ o ∷ []) ≡ Some i = led_kid all tree path p i n (record { parent = p; ordinal = o }) leads here born refl in
             let kids : Forest (ℕ × Member) = kids_from by_both r (i + 1) nodes i (path ++ o ∷ []) in
             let behind : Forest (ℕ × Member) = kids_from by_both r (i + 1) nodes p path in
-            subst (AllOf (Leads all r)) (sym (tree_labels n.state.kind (by_both i (path ++ o ∷ []) n) kids behind))
+            subst (AllByRecursion (Leads all r)) (sym (tree_labels n.state.kind (by_both i (path ++ o ∷ []) n) kids behind))
             (record { leads = on; node = n; here = here; home = home; shows = refl }, all_append (Leads all r) (labels kids) (labels behind) (rest i (path ++ o ∷ []) on) (rest p path leads))
 
   -- and so do those of a whole domain
-  labels_lead : HasDomain all r → AllOf (Leads all r) (labels (forest_of by_both all r (path_of all r)))
+  labels_lead : HasDomain all r → AllByRecursion (Leads all r) (labels (forest_of by_both all r (path_of all r)))
   labels_lead has =
       let (n, here, home) = there (λ (z : NodeFacts). z.domain ≡ r) (slice_get all r) has in
       let leads = path_leads all tree r (slice_get_within all r n here) in
       let kids : Forest (ℕ × Member) = kids_from by_both r 0 all r (path_of all r) in
-      subst (λ o. AllOf (Leads all r) (labels (rooted by_both all r (path_of all r) o))) (sym here)
-      (subst (AllOf (Leads all r)) (sym (tree_labels n.state.kind (by_both r (path_of all r) n) kids Empty))
+      subst (λ o. AllByRecursion (Leads all r) (labels (rooted by_both all r (path_of all r) o))) (sym here)
+      (subst (AllByRecursion (Leads all r)) (sym (tree_labels n.state.kind (by_both r (path_of all r) n) kids Empty))
       (record { leads = leads; node = n; here = here; home = home; shows = refl }, all_append (Leads all r) (labels kids) [] (kids_lead 0 all (λ m x at. let z : m ≡ 0 + m = omega arith in subst (λ k. slice_get all k ≡ Some x) z at) r (path_of all r) leads) tt))
 
   -- where paths differ, nodes do
-  differ : (l : ℕ × Member) (ls : List (ℕ × Member)) → Leads all r l → AllOf (Leads all r) ls → AllOf (λ (x : Member). l.1.path ≢ x.path) (map (λ (m : ℕ × Member). m.1) ls)
-      → AllOf (λ y. l.0 ≢ y) (map (λ (m : ℕ × Member). m.0) ls)
+  differ : (l : ℕ × Member) (ls : List (ℕ × Member)) → Leads all r l → AllByRecursion (Leads all r) ls → AllByRecursion (λ (x : Member). l.1.path ≢ x.path) (map (λ (m : ℕ × Member). m.1) ls)
+      → AllByRecursion (λ y. l.0 ≢ y) (map (λ (m : ℕ × Member). m.0) ls)
   differ l [] own leads apart = tt
   differ l (m ∷ ls) own leads apart = (
     λ same. apart.0 (sym (path_is all tree l.1.path l.0 own.leads) ∙ (ap (path_of all) same ∙ path_is all tree m.1.path m.0 leads.0.leads)),
@@ -90,9 +90,9 @@ module _ (all : List NodeFacts) (tree : IsTree all) (r : ℕ) where
 -- no number is there twice
 abbrev pub Once : List ℕ → Type 0
 Once [] = Unit {0}
-Once (x ∷ xs) = AllOf (λ y. x ≢ y) xs × Once xs
+Once (x ∷ xs) = AllByRecursion (λ y. x ≢ y) xs × Once xs
 
-numbers_once : (all : List NodeFacts) (tree : IsTree all) (r : ℕ) (ls : List (ℕ × Member)) → AllOf (Leads all r) ls → Apart (map (λ (m : ℕ × Member). m.1) ls) → Once (map (λ (m : ℕ × Member). m.0) ls)
+numbers_once : (all : List NodeFacts) (tree : IsTree all) (r : ℕ) (ls : List (ℕ × Member)) → AllByRecursion (Leads all r) ls → Apart (map (λ (m : ℕ × Member). m.1) ls) → Once (map (λ (m : ℕ × Member). m.0) ls)
 numbers_once all tree r [] leads apart = tt
 numbers_once all tree r (l ∷ ls) leads apart = (differ all tree r l ls leads.0 leads.1 apart.0, numbers_once all tree r ls leads.1 apart.1)
 
@@ -105,10 +105,10 @@ labels_once nodes r tree has =
     (numbers_once nodes tree r (labels both) (labels_lead nodes tree r has) (subst Apart (sym (ap labels one.members) ∙ labels_relabel (λ (l : ℕ × Member). l.1) both) (shape_apart nodes r tree has)))
 
 -- and is in it
-labels_own : (nodes : List NodeFacts) (r : ℕ) → IsTree nodes → HasDomain nodes r → AllOf (λ i. IsSomeAnd (slice_get nodes i) (λ n. n.domain ≡ r)) (labels (forest_of by_number nodes r []))
+labels_own : (nodes : List NodeFacts) (r : ℕ) → IsTree nodes → HasDomain nodes r → AllByRecursion (λ i. IsSomeAnd (slice_get nodes i) (λ n. n.domain ≡ r)) (labels (forest_of by_number nodes r []))
 labels_own nodes r tree has =
     let both : Forest (ℕ × Member) = forest_of by_both nodes r (path_of nodes r) in
-    subst (AllOf (λ i. IsSomeAnd (slice_get nodes i) (λ n. n.domain ≡ r))) (sym (labels_relabel (λ (l : ℕ × Member). l.0) both) ∙ ap labels (one_forest nodes r).numbers)
+    subst (AllByRecursion (λ i. IsSomeAnd (slice_get nodes i) (λ n. n.domain ≡ r))) (sym (labels_relabel (λ (l : ℕ × Member). l.0) both) ∙ ap labels (one_forest nodes r).numbers)
     (all_mapped (Leads nodes r) (λ i. IsSomeAnd (slice_get nodes i) (λ n. n.domain ≡ r)) (λ (l : ℕ × Member). l.0) (labels both)
     (λ l h. put (λ (x : NodeFacts). x.domain ≡ r) (slice_get nodes l.0) h.node h.here h.home) (labels_lead nodes tree r has))
 
@@ -145,28 +145,28 @@ pub members_stay : (old new : List NodeFacts) (r : ℕ) (cs : List ℕ) → IsTr
     → All (λ i. shown_at new i ≡ shown_at old i) (members_of old r cs)
 members_stay old new r cs tree tree' has has' same =
     let both : Forest (ℕ × Member) = forest_of by_both old r (path_of old r) in
-    let later : AllOf (Leads new r) (labels both) = subst (λ d. AllOf (Leads new r) (labels d)) same.forest (labels_lead new tree' r has') in
+    let later : AllByRecursion (Leads new r) (labels both) = subst (λ d. AllByRecursion (Leads new r) (labels d)) same.forest (labels_lead new tree' r has') in
     let numbers : labels (forest_of by_number old r []) ≡ map (λ (l : ℕ × Member). l.0) (labels both) = sym (ap labels (one_forest old r).numbers) ∙ labels_relabel (λ (l : ℕ × Member). l.0) both in
     all_index (λ i. shown_at new i ≡ shown_at old i) (members_of old r cs)
     (all_sub (λ i. shown_at new i ≡ shown_at old i) (members_of old r cs) (labels (forest_of by_number old r [])) (settled_sub (forest_of by_number old r []) cs)
-    (subst (AllOf (λ i. shown_at new i ≡ shown_at old i)) (sym numbers)
+    (subst (AllByRecursion (λ i. shown_at new i ≡ shown_at old i)) (sym numbers)
     (all_mapped (λ (l : ℕ × Member). Leads old r l × Leads new r l) (λ i. shown_at new i ≡ shown_at old i) (λ (l : ℕ × Member). l.0) (labels both)
     (λ l h. is_shown new tree' r l h.1 ∙ sym (is_shown old tree r l h.0)) (paired (labels both) (labels_lead old tree r has) later)))) where
-      paired : (ls : List (ℕ × Member)) → AllOf (Leads old r) ls → AllOf (Leads new r) ls → AllOf (λ (l : ℕ × Member). Leads old r l × Leads new r l) ls
+      paired : (ls : List (ℕ × Member)) → AllByRecursion (Leads old r) ls → AllByRecursion (Leads new r) ls → AllByRecursion (λ (l : ℕ × Member). Leads old r l × Leads new r l) ls
       paired [] a b = tt
       paired (l ∷ ls) a b = ((a.0, b.0), paired ls a.1 b.1)
 
 -- what isn't among numbers isn't found there
-not_among : (x : ℕ) (xs : List ℕ) → AllOf (λ y. x ≢ y) xs → list_any (λ m. m == x) xs ≡ false
+not_among : (x : ℕ) (xs : List ℕ) → AllByRecursion (λ y. x ≢ y) xs → list_any (λ m. m == x) xs ≡ false
 not_among x [] apart = refl
 not_among x (y ∷ ys) apart = ap (λ b. b || list_any (λ m. m == x) ys) (ne_eqb y x (λ e. apart.0 (sym e))) ∙ not_among x ys apart.1
 
 -- filters by tests that agree
-pub same_filter : (p q : ℕ → Bool) (xs : List ℕ) → AllOf (λ x. p x ≡ q x) xs → filter p xs ≡ filter q xs
+pub same_filter : (p q : ℕ → Bool) (xs : List ℕ) → AllByRecursion (λ x. p x ≡ q x) xs → filter p xs ≡ filter q xs
 same_filter p q [] all = refl
 same_filter p q (x ∷ xs) all = ap (λ b. if b then x ∷ filter p xs else filter p xs) all.0 ∙ ap (λ ys. if q x then x ∷ ys else ys) (same_filter p q xs all.1)
 
-all_weaken : (P Q : ℕ → Type 0) (xs : List ℕ) → ((x : ℕ) → P x → Q x) → AllOf P xs → AllOf Q xs
+all_weaken : (P Q : ℕ → Type 0) (xs : List ℕ) → ((x : ℕ) → P x → Q x) → AllByRecursion P xs → AllByRecursion Q xs
 all_weaken P Q [] h a = tt
 all_weaken P Q (x ∷ xs) h a = (h x a.0, all_weaken P Q xs h a.1)
 

@@ -4,6 +4,7 @@ use Rattle.std.specs.Prelude.{IsSome, is_some, option_and_then}
 use Rattle.std.proofs.lemmas.Bool.{cases_Bool, cases_eq, cases_lt}
 use Rattle.std.proofs.lemmas.List.{length-map}
 use Rattle.std.proofs.lemmas.Option.{same_Some, slice_get_within, option_and_then_some}
+use Rattle.std.specs.List.{AllByRecursion}
 use Rattle.list_lemmas.proofs.CallerLemmas.{and_parts}
 use Rattle.sysmem_tree.specs.declared.state.NodeKind.{NodeKind}
 use Rattle.sysmem_tree.specs.declared.state.NodeKind.TheVariants as kinds
@@ -23,7 +24,7 @@ use Rattle.sysmem_tree.proofs.Numbers.{numbers, numbers_kid, numbers_other, fron
 use Rattle.sysmem_tree.proofs.Places.{there}
 use Rattle.sysmem_tree.proofs.Ready.{one_of_all}
 use Rattle.sysmem_tree.proofs.SameForest.{kid_elsewhere}
-use Rattle.sysmem_tree.proofs.Selections.{AllOf, IfAny, all_mapped, all_at, after_more}
+use Rattle.sysmem_tree.proofs.Selections.{IfAny, all_mapped, all_at, after_more}
 
 -- each group has a child
 module _ {A : Type 0} where
@@ -32,14 +33,14 @@ module _ {A : Type 0} where
   Fertile (Plain n kids rest) = Fertile kids × Fertile rest
   Fertile (Group n kids rest) = (0 < length (each kids)) × Fertile kids × Fertile rest
 
-  fertile_each : (d : Forest A) → Fertile d → AllOf Fertile (each d)
+  fertile_each : (d : Forest A) → Fertile d → AllByRecursion Fertile (each d)
   fertile_each Empty f = tt
   fertile_each (Plain n kids rest) f = ((f.0, tt), fertile_each rest f.1)
   fertile_each (Group n kids rest) f = ((f.0, f.1, tt), fertile_each rest f.2)
 
   -- there are choices, and each leaves such a forest
   abbrev Fine : List (Forest A) → Type 0
-  Fine es = (0 < length es) × AllOf Fertile es
+  Fine es = (0 < length es) × AllByRecursion Fertile es
 
   fine_in : (n : A) (kids rest : Forest A) (ks rs : Option (List (Forest A))) → Fertile kids → Fertile rest → IfAny (Unit {0}) Fine ks → IfAny (Unit {0}) Fine rs
       → IfAny (Unit {0}) Fine (kids_else_rest (λ k. Plain n k rest) (λ r. Plain n kids r) ks rs)

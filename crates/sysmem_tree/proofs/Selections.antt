@@ -6,6 +6,7 @@ use Rattle.std.proofs.lemmas.Bool.{cases_eq, cases_lt}
 use Rattle.std.proofs.lemmas.List.{length-map, map-append}
 use Rattle.std.proofs.lemmas.Option.{same_Some, none-some, option_and_then_some}
 use Rattle.std.proofs.Math.Nat.{add-mul, mul-add}
+use Rattle.std.specs.List.{AllByRecursion}
 use Rattle.sysmem_tree.specs.Sublist.{IsSublist, ended, taken, left_out}
 use Rattle.sysmem_tree.specs.Forest.{Forest, Empty, Plain, Group, each, kids_else_rest, choices, settled, relabel, count, count_each, total, first_group}
 use Rattle.sysmem_tree.specs.Laws.{CountAddsUp}
@@ -33,24 +34,19 @@ module _ {A : Type 0} where
   sub_append _ _ us vs (left_out y xs ys p) q = left_out y (xs ++ us) (ys ++ vs) (sub_append xs ys us vs p q)
   sub_append _ _ us vs (taken x xs ys p) q = taken x (xs ++ us) (ys ++ vs) (sub_append xs ys us vs p q)
 
--- what holds of all the choices, where there are any
-abbrev pub AllOf : {X : Type 0} → (X → Type 0) → List X → Type 0
-AllOf P [] = Unit {0}
-AllOf P (x ∷ xs) = P x × AllOf P xs
-
 abbrev pub IfAny : {X : Type 0} → Type 0 → (List X → Type 0) → Option (List X) → Type 0
 IfAny N P None = N
 IfAny N P (Some es) = P es
 
-pub all_mapped : {X Y : Type 0} (P : X → Type 0) (Q : Y → Type 0) (f : X → Y) (xs : List X) → ((x : X) → P x → Q (f x)) → AllOf P xs → AllOf Q (map f xs)
+pub all_mapped : {X Y : Type 0} (P : X → Type 0) (Q : Y → Type 0) (f : X → Y) (xs : List X) → ((x : X) → P x → Q (f x)) → AllByRecursion P xs → AllByRecursion Q (map f xs)
 all_mapped P Q f [] h all = tt
 all_mapped P Q f (x ∷ xs) h all = (h x all.0, all_mapped P Q f xs h all.1)
 
-all_of_map : {X Y : Type 0} (Q : Y → Type 0) (f : X → Y) (xs : List X) → ((x : X) → Q (f x)) → AllOf Q (map f xs)
+all_of_map : {X Y : Type 0} (Q : Y → Type 0) (f : X → Y) (xs : List X) → ((x : X) → Q (f x)) → AllByRecursion Q (map f xs)
 all_of_map Q f [] h = tt
 all_of_map Q f (x ∷ xs) h = (h x, all_of_map Q f xs h)
 
-pub all_at : {X : Type 0} (P : X → Type 0) (xs : List X) (i : ℕ) (x : X) → slice_get xs i ≡ Some x → AllOf P xs → P x
+pub all_at : {X : Type 0} (P : X → Type 0) (xs : List X) (i : ℕ) (x : X) → slice_get xs i ≡ Some x → AllByRecursion P xs → P x
 all_at P [] i x here all = absurd (cc)
 all_at P (y ∷ xs) zero x here all = subst P (same_Some y x here) all.0
 all_at P (y ∷ xs) (suc i) x here all = all_at P xs i x here all.1
@@ -60,18 +56,18 @@ module _ {A : Type 0} where
   abbrev Adds : Forest A → Forest A → Type 0
   Adds d e = IsSublist (settled d) (settled e)
 
-  keeps_in : (n : A) (kids rest : Forest A) (ks rs : Option (List (Forest A))) → IfAny (Unit {0}) (AllOf (Adds kids)) ks → IfAny (Unit {0}) (AllOf (Adds rest)) rs
-      → IfAny (Unit {0}) (AllOf (Adds (Plain n kids rest))) (kids_else_rest (λ k. Plain n k rest) (λ r. Plain n kids r) ks rs)
+  keeps_in : (n : A) (kids rest : Forest A) (ks rs : Option (List (Forest A))) → IfAny (Unit {0}) (AllByRecursion (Adds kids)) ks → IfAny (Unit {0}) (AllByRecursion (Adds rest)) rs
+      → IfAny (Unit {0}) (AllByRecursion (Adds (Plain n kids rest))) (kids_else_rest (λ k. Plain n k rest) (λ r. Plain n kids r) ks rs)
   keeps_in n kids rest (Some ks) rs hk hr = all_mapped (Adds kids) (Adds (Plain n kids rest)) (λ k. Plain n k rest) ks (λ k p. taken n (settled kids ++ settled rest) (settled k ++ settled rest) (sub_append (settled kids) (settled k) (settled rest) (settled rest) p (sub_refl (settled rest)))) hk
   keeps_in n kids rest None (Some rs) hk hr = all_mapped (Adds rest) (Adds (Plain n kids rest)) (λ r. Plain n kids r) rs (λ r p. taken n (settled kids ++ settled rest) (settled kids ++ settled r) (sub_append (settled kids) (settled kids) (settled rest) (settled r) (sub_refl (settled kids)) p)) hr
   keeps_in n kids rest None None hk hr = tt
 
-  keeps : (d : Forest A) → IfAny (Unit {0}) (AllOf (Adds d)) (choices d)
+  keeps : (d : Forest A) → IfAny (Unit {0}) (AllByRecursion (Adds d)) (choices d)
   keeps Empty = tt
   keeps (Plain n kids rest) = keeps_in n kids rest (choices kids) (choices rest) (keeps kids) (keeps rest)
   keeps (Group n kids rest) = all_of_map (Adds (Group n kids rest)) (λ kid. Plain n kid rest) (each kids) (λ kid. taken n (settled rest) (settled kid ++ settled rest) (sub_behind (settled kid) (settled rest) (settled rest) (sub_refl (settled rest))))
 
-  one_keeps : (d e : Forest A) (c : ℕ) (o : Option (List (Forest A))) → IfAny (Unit {0}) (AllOf (Adds d)) o → option_and_then (λ es. slice_get es c) o ≡ Some e → Adds d e
+  one_keeps : (d e : Forest A) (c : ℕ) (o : Option (List (Forest A))) → IfAny (Unit {0}) (AllByRecursion (Adds d)) o → option_and_then (λ es. slice_get es c) o ≡ Some e → Adds d e
   one_keeps d e c None all is = absurd (cc)
   one_keeps d e c (Some es) all is = all_at (Adds d) es c e is all
 

@@ -3,6 +3,7 @@ use Rattle.std.proofs.Common.{◌≡◌, ◌≤◌, ℕ, suc, ◌+◌, List, [],
 use Rattle.std.specs.Prelude.{map, option_map, option_and_then}
 use Rattle.std.proofs.lemmas.List.{length-map}
 use Rattle.std.proofs.lemmas.Option.{same_Some, option_and_then_some}
+use Rattle.std.specs.List.{AllByRecursion}
 use Rattle.sysmem_tree.specs.Forest.{Forest, Empty, Plain, Group, each, kids_else_rest, choices, first_group}
 use Rattle.sysmem_tree.specs.Layout.{size}
 use Rattle.sysmem_tree.specs.Node.{NodeFacts}
@@ -11,19 +12,19 @@ use Rattle.sysmem_tree.specs.Selection.{after}
 use Rattle.sysmem_tree.specs.Shape.{by_number, forest_of}
 use Rattle.sysmem_tree.proofs.Chosen.{chosen}
 use Rattle.sysmem_tree.proofs.ChoiceLaws.{size_by}
-use Rattle.sysmem_tree.proofs.Selections.{AllOf, IfAny, all_mapped, all_at, first_many}
+use Rattle.sysmem_tree.proofs.Selections.{IfAny, all_mapped, all_at, first_many}
 
 module _ {A : Type 0} where
   abbrev IsSmall : ℕ → Forest A → Type 0
   IsSmall many e = size e ≤ many
 
-  each_small : (many : ℕ) (d : Forest A) → size d ≤ many → AllOf (IsSmall many) (each d)
+  each_small : (many : ℕ) (d : Forest A) → size d ≤ many → AllByRecursion (IsSmall many) (each d)
   each_small many Empty less = tt
   each_small many (Plain n kids rest) less = (omega (arith, less), each_small many rest (omega (arith, less)))
   each_small many (Group n kids rest) less = (omega (arith, less), each_small many rest (omega (arith, less)))
 
-  small_in : (n : A) (kids rest : Forest A) (ks rs : Option (List (Forest A))) → IfAny (Unit {0}) (AllOf (IsSmall (size kids))) ks → IfAny (Unit {0}) (AllOf (IsSmall (size rest))) rs
-      → IfAny (Unit {0}) (AllOf (IsSmall (suc (size kids + size rest)))) (kids_else_rest (λ k. Plain n k rest) (λ r. Plain n kids r) ks rs)
+  small_in : (n : A) (kids rest : Forest A) (ks rs : Option (List (Forest A))) → IfAny (Unit {0}) (AllByRecursion (IsSmall (size kids))) ks → IfAny (Unit {0}) (AllByRecursion (IsSmall (size rest))) rs
+      → IfAny (Unit {0}) (AllByRecursion (IsSmall (suc (size kids + size rest)))) (kids_else_rest (λ k. Plain n k rest) (λ r. Plain n kids r) ks rs)
   small_in n kids rest (Some ks) rs hk hr =
       all_mapped (IsSmall (size kids)) (IsSmall (suc (size kids + size rest))) (λ k. Plain n k rest) ks (λ k p. omega (arith, p)) hk
   small_in n kids rest None (Some rs) hk hr =
@@ -31,7 +32,7 @@ module _ {A : Type 0} where
   small_in n kids rest None None hk hr = tt
 
   -- a choice adds no nodes
-  all_small : (d : Forest A) → IfAny (Unit {0}) (AllOf (IsSmall (size d))) (choices d)
+  all_small : (d : Forest A) → IfAny (Unit {0}) (AllByRecursion (IsSmall (size d))) (choices d)
   all_small Empty = tt
   all_small (Plain n kids rest) = small_in n kids rest (choices kids) (choices rest) (all_small kids) (all_small rest)
   all_small (Group n kids rest) =
@@ -39,7 +40,7 @@ module _ {A : Type 0} where
 
   one_small : (d e : Forest A) (c : ℕ) → chosen d c ≡ Some e → size e ≤ size d
   one_small d e c is = by (choices d) (all_small d) is where
-    by : (o : Option (List (Forest A))) → IfAny (Unit {0}) (AllOf (IsSmall (size d))) o → option_and_then (λ es. slice_get es c) o ≡ Some e → size e ≤ size d
+    by : (o : Option (List (Forest A))) → IfAny (Unit {0}) (AllByRecursion (IsSmall (size d))) o → option_and_then (λ es. slice_get es c) o ≡ Some e → size e ≤ size d
     by None all is' = absurd (cc)
     by (Some es) all is' = all_at (IsSmall (size d)) es c e is' all
 

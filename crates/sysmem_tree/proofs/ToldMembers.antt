@@ -13,11 +13,11 @@ use Rattle.sysmem_tree.specs.Layout.{Spot, IsLayout}
 use Rattle.sysmem_tree.specs.Node.{NodeFacts}
 use Rattle.sysmem_tree.specs.Selection.{IsPrefix, after}
 use Rattle.sysmem_tree.specs.Shape.{by_number, forest_of, members_of, participants_of}
-use Rattle.sysmem_tree.proofs.Acting.{of_some}
 use Rattle.sysmem_tree.proofs.NextGroups.{node_of, after_spots, prefix_of_places}
 use Rattle.sysmem_tree.proofs.Numbers.{front}
 use Rattle.sysmem_tree.proofs.Selections.{settled_relabel}
 use Rattle.sysmem_tree.proofs.Settling.{is_at}
+use Rattle.list_lemmas.proofs.CallerLemmas.{of_some}
 
 any_map : (node : ℕ) (ss : List Spot) → list_any (λ i. i == node) (map node_of ss) ≡ list_any (is_at node) ss
 any_map node [] = refl

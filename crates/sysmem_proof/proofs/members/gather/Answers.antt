@@ -1,7 +1,8 @@
 -- One node more of the walk.
 use Rattle.std.proofs.Common.{◌+◌, length, refl, sym, ap, subst, arith}
-use Rattle.sysmem_proof.proofs.Gathering.{IsTaken, gives_same, take_one, room_for}
+use Rattle.sysmem_proof.proofs.Gathering.{IsTaken, take_one, room_for}
 use Rattle.sysmem_proof.proofs.members.gather.Goals as goal
+use Rattle.sysmem_tree.proofs.CallerLemmas.{gives_same}
 
 pub loop-step-init : goal.loop-step-init
 loop-step-init c = λ ns has.

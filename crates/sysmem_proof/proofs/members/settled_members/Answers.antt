@@ -1,12 +1,13 @@
 -- One choice more.
 use Rattle.std.proofs.Common.{[], length, take, get_or, refl, sym, ◌∙◌, ap, subst, arith}
 use Rattle.std.proofs.lemmas.List.{take_more, take_all}
-use Rattle.sysmem_proof.proofs.Gathering.{AreGathered, first_gathered, more_gathered, more_few, few_settled, all_gathered, members_there, prefix_more, some_open}
+use Rattle.sysmem_proof.proofs.Gathering.{AreGathered, first_gathered, more_gathered, more_few, few_settled, all_gathered, members_there, prefix_more}
 use Rattle.sysmem_tree.specs.OpenGroups.{IsFirstOpen, share_of}
 use Rattle.sysmem_tree.specs.Forest.{settled}
 use Rattle.sysmem_tree.specs.Selection.{IsPrefix}
 use Rattle.sysmem_tree.specs.Shape.{by_number, forest_of}
 use Rattle.sysmem_proof.proofs.members.settled_members.Goals as goal
+use Rattle.sysmem_tree.proofs.CallerLemmas.{some_open}
 
 pub gather-requires : goal.gather-requires
 gather-requires c =

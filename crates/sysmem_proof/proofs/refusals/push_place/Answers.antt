@@ -4,8 +4,9 @@ use Rattle.sysmem_memory.specs.Domain.{has_domain}
 use Rattle.sysmem_memory.specs.Listed.{HeapPlace}
 use Rattle.sysmem_proof.specs.Conflict.{RefusesPlace}
 use Rattle.sysmem_proof.specs.Refusals.{AreSoFar, Ends, SharePlace}
-use Rattle.sysmem_proof.proofs.Sofar.{end_here, is_next, not_there, of_none, of_some, one_more}
+use Rattle.sysmem_proof.proofs.Sofar.{end_here, is_next, not_there, of_none, one_more}
 use Rattle.sysmem_proof.proofs.refusals.push_place.Goals as goal
+use Rattle.list_lemmas.proofs.CallerLemmas.{of_some}
 
 pub returns-then-not-has : goal.returns-then-not-has
 returns-then-not-has c = λ ms stand xs left so. not_there (RefusesPlace ms) _ xs left c.args.lines.now.items _ (sym (c.has.ensures ∙ ap (λ h. has_domain h.domains c.args.place.coherency) c.heap.view_is) ∙ c.if-not-has.true) so

@@ -8,8 +8,9 @@ use Rattle.sysmem_sanitise.specs.Platform.{offers_of}
 use Rattle.sysmem_proof.specs.Conflict.{RefusesOffer}
 use Rattle.sysmem_proof.specs.Refusals.{Ends, EndsAt, ShareOffer}
 use Rattle.sysmem_proof.proofs.SameOffer.{is_before, is_until}
-use Rattle.sysmem_proof.proofs.Sofar.{all_offers, ends_at_offer, of_none, of_some, offer_read, one_offer}
+use Rattle.sysmem_proof.proofs.Sofar.{all_offers, ends_at_offer, of_none, offer_read, one_offer}
 use Rattle.sysmem_proof.proofs.refusals.refused_offers.Goals as goal
+use Rattle.list_lemmas.proofs.CallerLemmas.{of_some}
 
 pub returns-then-eq : goal.returns-then-eq
 returns-then-eq c = λ ms stand.

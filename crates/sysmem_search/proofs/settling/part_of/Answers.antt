@@ -7,8 +7,9 @@ use Rattle.sysmem_search.specs.Kept.{IsPart}
 use Rattle.sysmem_proof.specs.Asked.{asks_at, asked_in}
 use Rattle.sysmem_search.proofs.Keeping.{has_room}
 use Rattle.sysmem_search.proofs.Taking.{told, few_asked_of}
-use Rattle.sysmem_search.proofs.Walking.{gives_same, take_one}
+use Rattle.sysmem_search.proofs.Walking.{take_one}
 use Rattle.sysmem_search.proofs.settling.part_of.Goals as goal
+use Rattle.sysmem_tree.proofs.CallerLemmas.{gives_same}
 
 pub loop-step-init : goal.loop-step-init
 loop-step-init c = (

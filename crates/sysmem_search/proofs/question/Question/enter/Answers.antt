@@ -5,11 +5,12 @@ use Rattle.std.proofs.lemmas.Option.{same_Some, none-some, slice_get_within}
 use Rattle.sysmem_proof.specs.Matter.{Matter, forest}
 use Rattle.sysmem_search.specs.Standing.{numbers}
 use Rattle.sysmem_search.proofs.AskedMembers.{root_there, numbers_left}
-use Rattle.sysmem_search.proofs.Entering.{at_index, level_at, level_within, more_kept, entered, some_open, share_few, room_for}
+use Rattle.sysmem_search.proofs.Entering.{at_index, level_at, level_within, more_kept, entered, share_few, room_for}
 use Rattle.sysmem_search.proofs.Shapes.{prefix_of_numbers, few_settled}
 use Rattle.sysmem_tree.specs.OpenGroups.{IsFirstOpen, share_of}
 use Rattle.sysmem_tree.specs.Selection.{IsPrefix}
 use Rattle.sysmem_search.proofs.question.Question.enter.Goals as goal
+use Rattle.sysmem_tree.proofs.CallerLemmas.{some_open}
 
 pub returns-in_default : goal.returns-in_default
 returns-in_default c =
