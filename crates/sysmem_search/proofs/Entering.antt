@@ -244,6 +244,12 @@ part_there [] place part less = absurd (omega (arith, less))
 part_there (x ∷ xs) zero part less = refl
 part_there (x ∷ xs) (suc k) part less = part_there xs k part (omega (arith, less))
 
+-- what is set again is what it was set to last
+pub set_again : {X : Type 0} (xs : List X) (k : ℕ) (a b : X) → slice_set (slice_set xs k a) k b ≡ slice_set xs k b
+set_again [] k a b = refl
+set_again (x ∷ xs) zero a b = refl
+set_again (x ∷ xs) (suc k) a b = ap (λ ys. x ∷ ys) (set_again xs k a b)
+
 -- where nothing is open, there is no first group
 pub none_next : (layout : Layout) (d : Forest ℕ) (cs : List ℕ) → NoneOpenIsSelection → IsFirstOpen layout d cs None → IfSome (after d cs) (λ e. None ≡ first_group e)
 none_next layout d cs law open' =

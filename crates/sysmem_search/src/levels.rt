@@ -14,7 +14,7 @@ ghost use Rattle.sysmem_tree.specs.OpenGroups.{HasChild, HoldsNodes, share_of};
 ghost use Rattle.sysmem_tree.specs.Shape.{by_number, forest_of};
 
 use crate::kept::{Kept, Part};
-use crate::settling::part_of;
+use crate::settling::add_settled;
 use std::alloc::{AllocError, Global};
 use sysmem_proof::Base;
 use sysmem_sanitise::Platform;
@@ -79,7 +79,9 @@ pub(crate) fn first_level(
 {
     tree.nodes();
     let none = Kept::new(alloc, platform, tree, domain, base)?;
-    let part = part_of(alloc, platform, tree, base, layout, layout.settled_first())?;
+    let mut part = Part::new(alloc, platform, base)?;
+    let walk = layout.settled_first();
+    add_settled(&mut part, platform, tree, base, layout, walk);
     let mut kept = Kept::new(alloc, platform, tree, domain, base)?;
     kept.join_of(platform, &none, &part);
     let group = layout.first_open();
@@ -189,8 +191,10 @@ fn read_part(
     ensures there { OnOk result ((own : ℕ) → IsSlot child own → (part : APart)
         × (slice_get parts.new.items own ≡ Some (Some part))) }
 {
-    let walk = layout.settled_with(child);
-    let part = part_of(alloc, platform, tree, base, layout, walk)?;
-    parts[slot] = Some(part);
+    parts[slot] = Some(Part::new(alloc, platform, base)?);
+    if let Some(part) = &mut parts[slot] {
+        let walk = layout.settled_with(child);
+        add_settled(part, platform, tree, base, layout, walk);
+    }
     Ok(())
 }

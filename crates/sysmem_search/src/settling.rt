@@ -1,6 +1,6 @@
 //! What the nodes that a choice settles ask.
 
-ghost use Rattle.std.specs.Prelude.{◌≡◌, ◌≤◌, ◌++◌, ℕ, List, [], length, IfOk, option_map};
+ghost use Rattle.std.specs.Prelude.{◌≡◌, ◌≤◌, ◌++◌, ℕ, List, [], length, option_map};
 ghost use Rattle.std.specs.List.{cons_option};
 ghost use Rattle.sysmem_sanitise.specs.Participant.{Participant};
 ghost use Rattle.sysmem_search.specs.Kept.{HasRoom, IsPart};
@@ -8,7 +8,6 @@ ghost use Rattle.sysmem_proof.specs.Asked.{asked_in};
 ghost use Rattle.sysmem_tree.specs.OpenGroups.{HasLeft, HoldsNodes};
 
 use crate::kept::Part;
-use std::alloc::{AllocError, Global};
 use sysmem_proof::Base;
 use sysmem_sanitise::{Constraints, Platform};
 use sysmem_tree::{Layout, MOST_NODES, SettledNodes, Tree};
@@ -26,28 +25,27 @@ fn add_asked(part: &mut Part, platform: &Platform, base: Option<&Base>, asked: O
     }
 }
 
-/// What is kept of the participants among the nodes that a walk over the layout gives.
-pub(crate) fn part_of(
-    alloc: Global,
+/// Adds what the nodes ask that a walk over the layout gives, to what is kept of no participant.
+pub(crate) fn add_settled(
+    part: &mut Part,
     platform: &Platform,
     tree: &Tree,
     base: Option<&Base>,
     layout: &Layout,
     walk: SettledNodes,
-) -> Result<Part, AllocError>
+)
+    requires none { IsPart platform.now (option_map (λ b. b.now) base) part.old [] }
     requires few { (ns : List ℕ) × HasLeft layout.now walk ns × (length ns ≤ 128) }
     requires there { HoldsNodes layout.now tree.now.nodes }
-    ensures { IfOk result (λ part. (ns : List ℕ) → HasLeft layout.now walk ns
-        → IsPart platform.now (option_map (λ b. b.now) base.entry) part
-        (asked_in tree.now.nodes ns)) }
+    ensures { (ns : List ℕ) → HasLeft layout.now walk ns
+        → IsPart platform.now (option_map (λ b. b.now) base.entry) part.new
+        (asked_in tree.now.nodes ns) }
 {
-    let mut part = Part::new(alloc, platform, base)?;
     let mut left = walk;
     for _step in 0..MOST_NODES {
         let Some(node) = layout.next_settled(&mut left) else {
-            return Ok(part);
+            return;
         };
-        add_asked(&mut part, platform, base, tree.constraints_of(node));
+        add_asked(part, platform, base, tree.constraints_of(node));
     }
-    Ok(part)
 }

@@ -12,11 +12,11 @@ use Rattle.sysmem_tree.specs.Forest.{settled}
 use Rattle.sysmem_tree.specs.Shape.{by_number, forest_of, shape_of}
 use Rattle.sysmem_search.proofs.levels.first_level.Goals as goal
 
-pub part_of-requires-clause-few : goal.part_of-requires-clause-few
-part_of-requires-clause-few c =
+pub add_settled-requires-clause-few : goal.add_settled-requires-clause-few
+add_settled-requires-clause-few c =
     let d = forest_of by_number c.args.tree.now.nodes c.args.domain [] in (
       settled d,
-      c.settled_first.ensures d c.requires.lays,
+      c.settled_first-walk.ensures d c.requires.lays,
       few_settled c.args.tree.now.nodes c.args.domain [] d c.nodes.ensures.sound.tree (root_there c.args.tree.now.nodes c.args.domain c.requires.domain) refl,
     )
 
@@ -24,8 +24,8 @@ pub join_of-requires : goal.join_of-requires
 join_of-requires c =
     let d = forest_of by_number c.args.tree.now.nodes c.args.domain [] in
     let few = few_settled c.args.tree.now.nodes c.args.domain [] d c.nodes.ensures.sound.tree (root_there c.args.tree.now.nodes c.args.domain c.requires.domain) refl in
-    have_room c.args.platform.now c.args.tree.now.nodes (option_map (λ b. b.now) c.args.base) c.in_ok-none.none c.in_ok-part.part [] (asked_in c.args.tree.now.nodes (settled d))
-    c.in_ok-none.ensures (c.in_ok-part.ensures (settled d) (c.settled_first.ensures d c.requires.lays))
+    have_room c.args.platform.now c.args.tree.now.nodes (option_map (λ b. b.now) c.args.base) c.in_ok-none.none c.add_settled.new.part [] (asked_in c.args.tree.now.nodes (settled d))
+    c.in_ok-none.ensures (c.add_settled.ensures (settled d) (c.settled_first-walk.ensures d c.requires.lays))
     (few_accepted c.args.platform.now c.args.tree.now.nodes c.args.domain (option_map (λ b. b.now) c.args.base) c.nodes.ensures.sound.tree.few c.requires.base)
     (omega arith) (omega (arith, few, few_asked_of c.args.tree.now.nodes (settled d)))
 
@@ -37,6 +37,6 @@ returns c =
       kept = subst (IsKeptOf c.args.platform.now c.args.tree.now.nodes (option_map (λ b. b.now) c.args.base) c.join_of.new.self)
           (same_asked c.args.tree.now.nodes c.args.domain [] d (shape_of c.args.tree.now.nodes c.args.domain) refl refl)
           (c.join_of.ensures c.args.tree.now.nodes (option_map (λ b. b.now) c.args.base) [] [] (asked_in c.args.tree.now.nodes (settled d)) c.in_ok-kept.ensures c.in_ok-none.ensures
-          (c.in_ok-part.ensures (settled d) (c.settled_first.ensures d c.requires.lays)));
+          (c.add_settled.ensures (settled d) (c.settled_first-walk.ensures d c.requires.lays)));
       group = c.first_open-group.ensures d c.requires.lays;
     }

@@ -5,7 +5,7 @@ use Rattle.sysmem_search.specs.Kept.{IsPart}
 use Rattle.sysmem_proof.specs.Asked.{asked_in}
 use Rattle.sysmem_search.proofs.Walking.{IsTaken}
 use Rattle.sysmem_tree.specs.OpenGroups.{HasLeft}
-use Rattle.sysmem_search.proofs.settling.part_of.Given as goal
+use Rattle.sysmem_search.proofs.settling.add_settled.Given as goal
 
 abbrev pub invariant-loop-step : goal.invariant-loop-step
 invariant-loop-step l = (taken : List ℕ) × (length taken ≤ l._step) × IsPart l.platform (option_map (λ b. b.now) l.base) l.part (asked_in l.tree.nodes taken)

@@ -8,14 +8,14 @@ use Rattle.sysmem_proof.specs.Asked.{asks_at, asked_in}
 use Rattle.sysmem_search.proofs.Keeping.{has_room}
 use Rattle.sysmem_search.proofs.Taking.{told, few_asked_of}
 use Rattle.sysmem_search.proofs.Walking.{take_one}
-use Rattle.sysmem_search.proofs.settling.part_of.Goals as goal
 use Rattle.sysmem_tree.proofs.CallerLemmas.{gives_same}
+use Rattle.sysmem_search.proofs.settling.add_settled.Goals as goal
 
 pub loop-step-init : goal.loop-step-init
 loop-step-init c = (
   [],
   omega arith,
-  c.in_ok-part.ensures,
+  c.requires.none,
   λ ns has.
       let (ms, has', few) = c.requires.few in
       let same = ap length (gives_same c.args.layout.now.places c.args.walk.end ms ns c.args.walk.at has' has) in
