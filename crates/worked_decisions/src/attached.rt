@@ -2,11 +2,12 @@
 
 ghost use Rattle.sysmem_tree.specs.Domain.{HasDomain};
 
+use crate::equal::is_equal;
 use crate::playing::{at, played};
 use std::alloc::Global;
 use std::process::Abort;
 use std::test::Fail;
-use sysmem_alloc::Book;
+use sysmem_alloc::{Book, Frozen};
 use sysmem_formats::Offer;
 use sysmem_memory::{CoherencyDomain, Place};
 use sysmem_proof::Base;
@@ -18,44 +19,45 @@ pub(crate) const RELEASED: &str =
     "/ duplicate duplicate release /0 bind camps_on_2_and_slack /1 bind camps_on_3 decide /0 attach_token /0/0 bind camps_on_1 decide /1 attach_token /1/0 duplicate duplicate release /1/0/1 bind cpu /1/0/0 bind camps_on_1 /0 release";
 
 // It is the base of the domain that waits: the settings of the initial domain, and a, b and x.
-fn is_base(rt: &impl Abort, alloc: Global, book: &Book, base: &Base) -> Result<(), Fail> {
+fn is_base(rt: &impl Abort, alloc: Global, book: &Book, base: Option<&Base>) -> Result<(), Fail> {
     let accepted = [
         at(alloc, book, "/0")?,
         at(alloc, book, "/1")?,
         at(alloc, book, "/0/0")?,
     ];
+    let Some(base) = base else {
+        panic!(rt; "it has a base");
+    };
     let ram = Place {
         heap: 0,
         coherency: CoherencyDomain::Cpu,
     };
     let settings = base.settings();
-    assert_eq!(rt; settings.count, 9);
-    assert_eq!(rt; settings.size_bytes, 1);
-    assert!(rt; settings.place == ram && settings.offer == Offer::NoImage);
-    assert!(rt; base.accepted() == accepted.as_slice());
+    is_equal(rt, "count", &settings.count, &9);
+    is_equal(rt, "size", &settings.size_bytes, &1);
+    is_equal(rt, "place", &settings.place, &ram);
+    is_equal(rt, "offer", &settings.offer, &Offer::NoImage);
+    is_equal(rt, "accepted", &base.accepted(), &accepted.as_slice());
     Ok(())
 }
 
-// The members of a domain that waits are these two.
-fn has_members(rt: &impl Abort, alloc: Global, book: &Book, domain: DomainId) -> Result<(), Fail>
+// Whether the members of a domain that waits are the two of b's attached token.
+fn has_members(alloc: Global, book: &Book, domain: DomainId) -> Result<bool, Fail>
     requires { HasDomain book.now.state.tree.nodes domain }
 {
     let first = at(alloc, book, "/1/0/0")?;
     let second = at(alloc, book, "/1/0/1")?;
     let members = book.tree().participants(domain, &[])?;
-    assert!(rt; members.as_slice() == [first, second].as_slice());
-    Ok(())
+    Ok(members.as_slice() == [first, second].as_slice())
 }
 
 fn has_base(rt: &impl Abort, alloc: Global, book: &Book) -> Result<(), Fail> {
     let Some(domain) = book.next_ready() else {
         panic!(rt; "the attached domain waits");
     };
-    has_members(rt, alloc, book, domain)?;
-    let Some(base) = book.base(domain)? else {
-        panic!(rt; "it has a base");
-    };
-    is_base(rt, alloc, book, &base)
+    is_equal(rt, "members", &has_members(alloc, book, domain)?, &true);
+    let base = book.base(domain)?;
+    is_base(rt, alloc, book, base.as_ref())
 }
 
 #[test]
@@ -64,17 +66,26 @@ fn what_an_attached_domain_is_decided_on(rt: HostRuntime) -> Result<(), Fail> {
     has_base(&rt, rt.alloc(), &book)
 }
 
-fn has_frozen(rt: &impl Abort, alloc: Global, book: &Book) -> Result<(), Fail> {
-    let Some(frozen) = book.frozen()? else {
+// It is frozen of the domain that waits, with its base.
+fn is_frozen(
+    rt: &impl Abort,
+    alloc: Global,
+    book: &Book,
+    frozen: Option<&Frozen>,
+) -> Result<(), Fail> {
+    let Some(frozen) = frozen else {
         panic!(rt; "the attached domain waits");
     };
-    let Some(base) = frozen.base() else {
-        panic!(rt; "it has a base");
-    };
-    assert!(rt; book.next_ready() == Some(frozen.domain()));
-    assert_eq!(rt; frozen.tree().nodes(), 7);
-    assert_eq!(rt; frozen.platform().heaps().len(), 3);
-    is_base(rt, alloc, book, base)
+    let heaps = frozen.platform().heaps().len();
+    is_equal(rt, "domain", &book.next_ready(), &Some(frozen.domain()));
+    is_equal(rt, "nodes", &frozen.tree().nodes(), &7);
+    is_equal(rt, "heaps", &heaps, &3);
+    is_base(rt, alloc, book, frozen.base())
+}
+
+fn has_frozen(rt: &impl Abort, alloc: Global, book: &Book) -> Result<(), Fail> {
+    let frozen = book.frozen()?;
+    is_frozen(rt, alloc, book, frozen.as_ref())
 }
 
 #[test]

@@ -1,6 +1,7 @@
 //! Books step by step.
 
 use crate::attached::RELEASED;
+use crate::equal::is_equal;
 use crate::playing::{play, played, refusal, standings};
 use std::alloc::Global;
 use std::process::Abort;
@@ -28,8 +29,21 @@ const TURNS: [&[(&str, &str)]; 2] = [
     ],
 ];
 
+// The book's domains stand so after this.
+fn stand(
+    rt: &impl Abort,
+    alloc: Global,
+    book: &Book,
+    after: &str,
+    wanted: &str,
+) -> Result<(), Fail> {
+    let text = standings(alloc, book)?;
+    is_equal(rt, after, &text.as_str(), &wanted);
+    Ok(())
+}
+
 // The book is lent to what may fail: a test that owned it would be proved to free it at each `?`.
-fn stands_by_turns(
+fn stand_by_turns(
     rt: &impl Abort,
     alloc: Global,
     book: &mut Book,
@@ -37,16 +51,20 @@ fn stands_by_turns(
 ) -> Result<(), Fail> {
     for (script, wanted) in turns {
         play(alloc, book, script)?;
-        assert_eq!(rt; standings(alloc, book)?.as_str(), *wanted, "{script}");
+        stand(rt, alloc, book, script, wanted)?;
     }
     Ok(())
+}
+
+fn are_played(rt: &impl Abort, alloc: Global, turns: &[(&str, &str)]) -> Result<(), Fail> {
+    let mut book = played(alloc, "/")?;
+    stand_by_turns(rt, alloc, &mut book, turns)
 }
 
 #[test]
 fn how_domains_stand_by_turns(rt: HostRuntime) -> Result<(), Fail> {
     for turns in TURNS {
-        let mut book = played(rt.alloc(), "/")?;
-        stands_by_turns(&rt, rt.alloc(), &mut book, turns)?;
+        are_played(&rt, rt.alloc(), turns)?;
     }
     Ok(())
 }
@@ -73,68 +91,105 @@ const ENTERED: [ActionKind; 4] = [
 
 fn answers(rt: &impl Abort, alloc: Global, book: &mut Book) -> Result<(), Fail> {
     for (path, word, wanted) in ANSWERS {
-        assert_eq!(rt; refusal(alloc, book, path, word)?, wanted, "{word} {path}");
+        is_equal(rt, word, &refusal(alloc, book, path, word)?, &wanted);
     }
-    assert_eq!(rt; standings(alloc, book)?.as_str(), "4: failed");
+    stand(rt, alloc, book, "all answers", "4: failed")
+}
+
+fn is_entered(rt: &impl Abort, book: &Book) {
     for (entry, wanted) in book.history().iter().zip(ENTERED.iter()) {
         assert!(rt; matches!(entry, Entry::Acted(_, kind) if kind == wanted));
     }
-    Ok(())
 }
 
 #[test]
 fn a_refused_action_is_not_entered(rt: HostRuntime) -> Result<(), Fail> {
     let mut book = played(rt.alloc(), "/")?;
-    answers(&rt, rt.alloc(), &mut book)
+    let answered = answers(&rt, rt.alloc(), &mut book);
+    is_entered(&rt, &book);
+    answered
 }
 
-// The root's release makes the initial domain ready, and it alone.
-fn releases_the_root(rt: &impl Abort, book: &mut Book) {
-    assert!(rt; book.next_ready().is_none());
+// Whether the root's release makes a domain ready, and is one of the root; `None` where it is refused.
+fn release_root(book: &mut Book) -> Option<(bool, bool)> {
     let node = book.tree().root();
     let action = Action::Release;
-    let done = book.apply(Event { node, action });
-    assert!(rt; done.is_ok_and(|done| done.ready && done.node == node));
+    let done = book.apply(Event { node, action }).ok()?;
+    Some((done.ready, done.node == node))
 }
 
+// Decides the initial domain, where it is ready.
 fn decides_without_memory(rt: &impl Abort, book: &mut Book) {
     let Some(domain) = book.next_ready() else {
         panic!(rt; "the initial domain is ready");
     };
     let tree = book.tree();
-    assert!(rt; domain == tree.domain_of(tree.root()));
+    let first = tree.domain_of(tree.root());
+    is_equal(rt, "domain", &domain, &first);
     book.decide(domain, None);
+}
+
+// The root's release makes the initial domain ready, and it alone.
+fn is_decided_once(rt: &impl Abort, alloc: Global, book: &mut Book) -> Result<(), Fail> {
+    is_equal(rt, "ready before", &book.next_ready().is_none(), &true);
+    is_equal(rt, "release", &release_root(book), &Some((true, true)));
+    decides_without_memory(rt, book);
+    stand(
+        rt,
+        alloc,
+        book,
+        "decision",
+        "10: no_memory failed failed failed",
+    )
 }
 
 #[test]
 fn a_domain_without_memory_is_decided_once(rt: HostRuntime) -> Result<(), Fail> {
     let mut book = played(rt.alloc(), ATTACHED)?;
-    releases_the_root(&rt, &mut book);
-    decides_without_memory(&rt, &mut book);
-    let text = standings(rt.alloc(), &book)?;
-    assert_eq!(&rt; text.as_str(), "10: no_memory failed failed failed");
-    Ok(())
+    is_decided_once(&rt, rt.alloc(), &mut book)
 }
 
-// What was frozen when a book had five nodes.
-fn has_five_nodes(rt: &impl Abort, frozen: &Frozen) {
+// How many nodes and heaps are frozen, whether of the initial domain, and whether with a base.
+type Seen = (u32, usize, bool, bool);
+
+fn seen(frozen: &Frozen) -> Seen {
     let tree = frozen.tree();
-    assert_eq!(rt; tree.nodes(), 5);
-    assert!(rt; frozen.domain() == tree.domain_of(tree.root()));
-    assert!(rt; frozen.base().is_none());
-    assert_eq!(rt; frozen.platform().heaps().len(), 3);
+    let first = tree.domain_of(tree.root());
+    (
+        tree.nodes(),
+        frozen.platform().heaps().len(),
+        frozen.domain() == first,
+        frozen.base().is_some(),
+    )
+}
+
+// What is seen of this when a script was played.
+fn seen_after(
+    alloc: Global,
+    book: &mut Book,
+    script: &str,
+    frozen: &Option<Frozen>,
+) -> Result<Option<Seen>, Fail> {
+    play(alloc, book, script)?;
+    match frozen {
+        Some(frozen) => Ok(Some(seen(frozen))),
+        None => Ok(None),
+    }
+}
+
+// What is seen of what was frozen before a script, when that was played.
+fn frozen_before(alloc: Global, book: &mut Book, script: &str) -> Result<Option<Seen>, Fail> {
+    let frozen = book.frozen()?;
+    seen_after(alloc, book, script, &frozen)
 }
 
 fn is_frozen_once_ready(rt: &impl Abort, alloc: Global, book: &mut Book) -> Result<(), Fail> {
-    assert!(rt; book.frozen()?.is_none());
-    play(alloc, book, "/ release /0 release")?;
-    let Some(frozen) = book.frozen()? else {
-        panic!(rt; "the initial domain is ready");
-    };
-    let attached = play(alloc, book, "/0/0 attach_token");
-    has_five_nodes(rt, &frozen);
-    assert_eq!(rt; book.tree().nodes(), 6);
-    attached
+    let nothing = frozen_before(alloc, book, "/ release /0 release")?;
+    is_equal(rt, "not ready", &nothing, &None);
+    let five = frozen_before(alloc, book, "/0/0 attach_token")?;
+    is_equal(rt, "ready", &five, &Some((5, 3, true, false)));
+    is_equal(rt, "attached since", &book.tree().nodes(), &6);
+    Ok(())
 }
 
 #[test]

@@ -1,10 +1,13 @@
 //! Decisions of small trees beside those of going through every selection: the first that any settings meet, by an aggregate of its
 //! participants alone.
 
-use crate::finding::{Searched, search_frozen};
+ghost use Rattle.std.specs.Prelude.{◌<◌, ◌≤◌, ◌+◌};
+
+use crate::equal::is_equal;
+use crate::finding::search_frozen;
 use crate::playing::frozen_after;
 use crate::steps::constraints;
-use std::alloc::Global;
+use std::alloc::{AllocError, Global};
 use std::process::Abort;
 use std::test::Fail;
 use sysmem_alloc::Frozen;
@@ -158,6 +161,16 @@ fn ways(shape: &[Group]) -> u8 {
     total
 }
 
+// Adds the participant who asks this.
+fn add_asked(alloc: Global, aggregate: &mut Aggregate<'_>, word: &str) -> Result<(), Fail>
+    requires { aggregate.old.added < 1024 }
+    ensures { aggregate.new.added ≤ aggregate.old.added + 1 }
+{
+    let asked = constraints(alloc, word)?;
+    aggregate.add(&asked)?;
+    Ok(())
+}
+
 // The best settings for up to 16 participants, where any meet them.
 fn best_for(
     alloc: Global,
@@ -167,31 +180,49 @@ fn best_for(
     let mut aggregate = Aggregate::new(alloc, platform)?;
     for number in 0..16 {
         if let Some(word) = words.get(number) {
-            aggregate.add(&constraints(alloc, word)?)?;
+            add_asked(alloc, &mut aggregate, word)?;
         }
     }
     Ok(aggregate.best_settings(true).ok())
 }
 
-// The first selection that any settings meet, with the best for it, by going through all.
+// A selection that settings meet, with the best for it.
+type Met = Option<(Selection, Settings)>;
+
+// The selection that this way makes, if any settings meet it.
+fn met(
+    alloc: Global,
+    platform: &Platform,
+    shape: &[Group],
+    tree: usize,
+    way: u8,
+) -> Result<Met, Fail> {
+    let mut selection = Selection::new(alloc, tree)?;
+    selection.choose_all(shape, tree, way)?;
+    match best_for(alloc, platform, &selection.asked)? {
+        Some(settings) => Ok(Some((selection, settings))),
+        None => Ok(None),
+    }
+}
+
+// The first selection that any settings meet, by going through all.
 fn first_met(
     alloc: Global,
     platform: &Platform,
     shape: &[Group],
     tree: usize,
-) -> Result<Option<(Selection, Settings)>, Fail> {
+) -> Result<Met, Fail> {
     for way in 0..ways(shape) {
-        let mut selection = Selection::new(alloc, tree)?;
-        selection.choose_all(shape, tree, way)?;
-        if let Some(settings) = best_for(alloc, platform, &selection.asked)? {
-            return Ok(Some((selection, settings)));
+        let met = met(alloc, platform, shape, tree, way)?;
+        if met.is_some() {
+            return Ok(met);
         }
     }
     Ok(None)
 }
 
 // Whether the search chose this selection with these settings, or none as well.
-fn is_same(verdict: &Verdict, first: &Option<(Selection, Settings)>) -> bool {
+fn is_same(verdict: &Verdict, first: &Met) -> bool {
     match (verdict, first) {
         (Verdict::Chosen(chosen), Some((selection, settings))) => {
             let choices = selection.choices.as_slice();
@@ -202,6 +233,33 @@ fn is_same(verdict: &Verdict, first: &Option<(Selection, Settings)>) -> bool {
     }
 }
 
+// Of one search: whether it chose as going through all selections does, whether it chose at all, the visits of which its gate was
+// told, and its visits.
+type Compared = (bool, bool, u64, u64);
+
+fn compare(alloc: Global, frozen: &Frozen, first: &Met) -> Result<Compared, AllocError> {
+    let found = search_frozen(alloc, frozen)?;
+    let verdict = &found.claim.verdict;
+    let is_chosen = matches!(verdict, Verdict::Chosen(_));
+    Ok((is_same(verdict, first), is_chosen, found.told, found.visits))
+}
+
+// The search of a tree beside going through all its selections.
+fn compare_frozen(
+    alloc: Global,
+    frozen: &Frozen,
+    shape: &[Group],
+    tree: usize,
+) -> Result<Compared, Fail> {
+    let first = first_met(alloc, frozen.platform(), shape, tree)?;
+    Ok(compare(alloc, frozen, &first)?)
+}
+
+fn compare_tree(alloc: Global, shape: &[Group], tree: usize) -> Result<Compared, Fail> {
+    let frozen = frozen_tree(alloc, shape, tree)?;
+    compare_frozen(alloc, &frozen, shape, tree)
+}
+
 // How many trees have a choice, and the visits of all.
 #[derive(Drop)]
 struct Tally {
@@ -209,27 +267,21 @@ struct Tally {
     visits: u64,
 }
 
-fn count(tally: &mut Tally, found: &Searched) {
-    tally.visits = tally.visits.wrapping_add(found.visits);
-    if matches!(found.claim.verdict, Verdict::Chosen(_)) {
-        tally.chosen = tally.chosen.wrapping_add(1);
+impl Tally {
+    fn count(&mut self, is_chosen: bool, visits: u64) {
+        self.visits = self.visits.wrapping_add(visits);
+        self.chosen = self.chosen.wrapping_add(is_chosen as u64);
     }
 }
 
-// The search of a tree chooses as going through all selections does.
-fn agrees(
-    rt: &impl Abort,
-    alloc: Global,
-    shape: &[Group],
-    tree: usize,
-    tally: &mut Tally,
-) -> Result<(), Fail> {
-    let frozen = frozen_tree(alloc, shape, tree)?;
-    let first = first_met(alloc, frozen.platform(), shape, tree)?;
-    let found = search_frozen(alloc, &frozen)?;
-    assert!(rt; is_same(&found.claim.verdict, &first), "tree {tree}");
-    assert_eq!(rt; found.told, found.visits, "tree {tree}");
-    count(tally, &found);
+// The searches of 49 trees of a shape choose as going through all selections does.
+fn agree(rt: &impl Abort, alloc: Global, shape: &[Group], tally: &mut Tally) -> Result<(), Fail> {
+    for tree in 0..49 {
+        let (is_same, is_chosen, told, visits) = compare_tree(alloc, shape, tree)?;
+        assert!(rt; is_same, "tree {tree}");
+        assert_eq!(rt; told, visits, "tree {tree}");
+        tally.count(is_chosen, visits);
+    }
     Ok(())
 }
 
@@ -241,11 +293,9 @@ fn as_by_every_selection(rt: HostRuntime) -> Result<(), Fail> {
         visits: 0,
     };
     for shape in SHAPES {
-        for tree in 0..49 {
-            agrees(&rt, rt.alloc(), shape, tree, &mut tally)?;
-        }
+        agree(&rt, rt.alloc(), shape, &mut tally)?;
     }
-    assert_eq!(&rt; tally.chosen, 170);
-    assert_eq!(&rt; tally.visits, 857);
+    is_equal(&rt, "chosen", &tally.chosen, &170);
+    is_equal(&rt, "visits", &tally.visits, &857);
     Ok(())
 }

@@ -124,14 +124,19 @@ fn tell_found(text: &mut String, found: &Searched) -> Result<(), Fail> {
     tell_proof(text, &found.claim.proof)
 }
 
-/// What is found of what is frozen: the verdict, the visits, those of which the gate is told with the most choices of one, what
-/// proves the verdict, and what a checker says to it, with its proof and without.
-pub(crate) fn tell_search(text: &mut String, alloc: Global, frozen: &Frozen) -> Result<(), Fail> {
-    let mut found = search_frozen(alloc, frozen)?;
-    tell_found(text, &found)?;
+// What is found, and what a checker says to it, with its proof and without.
+fn tell_checked(text: &mut String, frozen: &Frozen, found: &mut Searched) -> Result<(), Fail> {
+    tell_found(text, found)?;
     let with_proof = checked(frozen, &found.claim);
     found.claim.proof = Proof::Nothing;
     let without = checked(frozen, &found.claim);
     write!(text, "; {with_proof} {without}")?;
     Ok(())
+}
+
+/// What is found of what is frozen: the verdict, the visits, those of which the gate is told with the most choices of one, what
+/// proves the verdict, and what a checker says to it, with its proof and without.
+pub(crate) fn tell_search(text: &mut String, alloc: Global, frozen: &Frozen) -> Result<(), Fail> {
+    let mut found = search_frozen(alloc, frozen)?;
+    tell_checked(text, frozen, &mut found)
 }

@@ -7,6 +7,8 @@ mod attached;
 #[cfg(test)]
 mod books;
 #[cfg(test)]
+mod equal;
+#[cfg(test)]
 mod every_selection;
 #[cfg(test)]
 mod finding;

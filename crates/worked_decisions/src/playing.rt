@@ -34,8 +34,8 @@ pub(crate) fn refusal(
     word: &str,
 ) -> Result<Option<Refusal>, Fail> {
     let node = at(alloc, book, place)?;
-    let action = action(alloc, word)?;
     let entries = book.history().len();
+    let action = action(alloc, word)?;
     let refusal = book.apply(Event { node, action }).err();
     if refusal.is_none() != (book.history().len() > entries) {
         return Err(Fail::new("entered though refused, or not entered"));
@@ -124,18 +124,28 @@ fn tell_standing(text: &mut String, verdict: Option<&Verdict>) -> Result<(), Fai
     Ok(())
 }
 
+fn tell_domain(text: &mut String, book: &Book, index: u32) -> Result<(), Fail> {
+    let Some(domain) = book.tree().domain_at(index) else {
+        return Err(Fail::new("no domain of this index"));
+    };
+    if book.next_ready() == Some(domain) {
+        text.push_str(" >")?;
+    }
+    tell_standing(text, book.verdict_of(domain))
+}
+
+fn tell_standings(text: &mut String, book: &Book) -> Result<(), Fail> {
+    write!(text, "{}:", book.history().len())?;
+    for index in 0..book.tree().domains() {
+        tell_domain(text, book, index)?;
+    }
+    Ok(())
+}
+
 /// The number of entries, and how each domain stands, in order of creation of their roots: the number of its buffers, why it has
 /// none, or `pending`; before the one that is to be decided next stands `>`.
 pub(crate) fn standings(alloc: Global, book: &Book) -> Result<String, Fail> {
-    let mut text = format!(in alloc; "{}:", book.history().len())?;
-    for index in 0..book.tree().domains() {
-        let Some(domain) = book.tree().domain_at(index) else {
-            return Err(Fail::new("no domain of this index"));
-        };
-        if book.next_ready() == Some(domain) {
-            text.push_str(" >")?;
-        }
-        tell_standing(&mut text, book.verdict_of(domain))?;
-    }
+    let mut text = String::new(alloc);
+    tell_standings(&mut text, book)?;
     Ok(text)
 }

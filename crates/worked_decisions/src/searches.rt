@@ -1,14 +1,16 @@
 //! Searches of small trees and of attached domains: verdicts, what proves them, and how many prefixes are visited.
 
+use crate::equal::is_equal;
 use crate::finding::tell_search;
 use crate::playing::frozen_after;
 use std::alloc::Global;
+use std::process::Abort;
 use std::test::Fail;
+use sysmem_alloc::Frozen;
 
 // Groups of two children each, below the root, without the second ones, and without the first ones but that of the first group;
-// then the root's release and these steps.
-fn with_groups(alloc: Global, many: u32, then: &str) -> Result<String, Fail> {
-    let mut script = String::new(alloc);
+// then the root's release.
+fn tell_groups(script: &mut String, many: u32) -> Result<(), Fail> {
     for group in 0..many {
         let first = if group > 0 { "release" } else { "" };
         write!(
@@ -17,12 +19,22 @@ fn with_groups(alloc: Global, many: u32, then: &str) -> Result<String, Fail> {
         )?;
     }
     script.push_str(if many > 0 { "/ release " } else { "" })?;
-    script.push_str(then)?;
-    Ok(script)
+    Ok(())
 }
 
-// How many groups of two there are, the steps, and what is found, as worked by hand for each of these rows.
-const ROWS: [(&str, u32, &str, &str); 9] = [
+// What is frozen after these groups and steps.
+fn frozen(alloc: Global, many: u32, then: &str) -> Result<Frozen, Fail> {
+    let mut script = String::new(alloc);
+    tell_groups(&mut script, many)?;
+    script.push_str(then)?;
+    frozen_after(alloc, &script)
+}
+
+// A name, how many groups of two there are, the steps, and what is found.
+type Row = (&'static str, u32, &'static str, &'static str);
+
+// As worked by hand.
+const ROWS: [Row; 9] = [
     (
         "groups_share_nv12",
         0,
@@ -79,14 +91,29 @@ const ROWS: [(&str, u32, &str, &str); 9] = [
     ),
 ];
 
+fn is_found(
+    rt: &impl Abort,
+    alloc: Global,
+    frozen: &Frozen,
+    name: &str,
+    wanted: &str,
+) -> Result<(), Fail> {
+    let mut found = String::new(alloc);
+    tell_search(&mut found, alloc, frozen)?;
+    is_equal(rt, name, &found.as_str(), &wanted);
+    Ok(())
+}
+
+fn is_as_worked(rt: &impl Abort, alloc: Global, row: Row) -> Result<(), Fail> {
+    let (name, many, then, wanted) = row;
+    let frozen = frozen(alloc, many, then)?;
+    is_found(rt, alloc, &frozen, name, wanted)
+}
+
 #[test]
 fn what_is_found(rt: HostRuntime) -> Result<(), Fail> {
-    for (name, many, then, wanted) in ROWS {
-        let script = with_groups(rt.alloc(), many, then)?;
-        let frozen = frozen_after(rt.alloc(), &script)?;
-        let mut found = String::new(rt.alloc());
-        tell_search(&mut found, rt.alloc(), &frozen)?;
-        assert_eq!(&rt; found.as_str(), wanted, "{name}");
+    for row in ROWS {
+        is_as_worked(&rt, rt.alloc(), row)?;
     }
     Ok(())
 }

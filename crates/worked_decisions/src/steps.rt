@@ -74,14 +74,19 @@ pub(crate) fn platform(alloc: Global) -> Result<Platform, Fail> {
     Ok(read_platform(alloc, &record)?)
 }
 
-/// The path that is written so, as `/0/12`.
-pub(crate) fn path(alloc: Global, text: &str) -> Result<Path, Fail> {
-    let mut ordinals = Vec::new(alloc);
+fn read_ordinals(ordinals: &mut Vec<u32>, text: &str) -> Result<(), Fail> {
     for part in text.split('/') {
         if !part.is_empty() {
             ordinals.push(part.parse::<u32>()?)?;
         }
     }
+    Ok(())
+}
+
+/// The path that is written so, as `/0/12`.
+pub(crate) fn path(alloc: Global, text: &str) -> Result<Path, Fail> {
+    let mut ordinals = Vec::new(alloc);
+    read_ordinals(&mut ordinals, text)?;
     Ok(Path::new(ordinals))
 }
 
@@ -103,6 +108,12 @@ pub(crate) fn constraints(alloc: Global, word: &str) -> Result<Constraints, Fail
     Ok(read_constraints(alloc, &record)?)
 }
 
+// Sets the constraints for which the word stands.
+fn setting(alloc: Global, word: &str) -> Result<Action, Fail> {
+    let asked = Arc::new(alloc, constraints(alloc, word)?)?;
+    Ok(Action::SetConstraints(Some(asked)))
+}
+
 /// What a word does to a node; one that names no action names the constraints that are set.
 pub(crate) fn action(alloc: Global, word: &str) -> Result<Action, Fail> {
     Ok(match word {
@@ -114,6 +125,6 @@ pub(crate) fn action(alloc: Global, word: &str) -> Result<Action, Fail> {
         "attach_token" => Action::AttachToken,
         "release" => Action::Release,
         "close" => Action::Close,
-        _ => Action::SetConstraints(Some(Arc::new(alloc, constraints(alloc, word)?)?)),
+        _ => return setting(alloc, word),
     })
 }
