@@ -1,6 +1,7 @@
 //! Which calls are failures: no clause of std's readers and writers says that a call failed.
 ghost use Rattle.std.specs.Prelude.{◌≤◌, IfOk};
 
+use crate::equal::is_equal;
 use byte_transfer::{Counted, Sink, Source};
 use std::io::{self, ErrorKind, Read, Write};
 
@@ -45,47 +46,51 @@ impl Write for Scripted<'_> {
 
 const ANSWERS: &[Option<usize>] = &[Some(3), None, Some(0), None, Some(9)];
 
+// What a read of four bytes gives, the bytes then, and how many reads have failed.
+fn read(reader: &mut Counted<Scripted<'_>>) -> (Result<usize, ErrorKind>, [u8; 4], u64) {
+    let mut buf = [0; 4];
+    let given = Source::read(reader, &mut buf).map_err(|error| error.kind());
+    (given, buf, reader.failures)
+}
+
+const READS: [(Result<usize, ErrorKind>, [u8; 4], u64); 6] = [
+    (Ok(3), [7, 7, 7, 0], 0),
+    (Err(ErrorKind::Interrupted), [0; 4], 1),
+    (Ok(0), [0; 4], 1),
+    (Err(ErrorKind::Interrupted), [0; 4], 2),
+    (Ok(4), [7; 4], 2),
+    (Ok(0), [0; 4], 2),
+];
+
 #[test]
-fn counts_errors_of_a_reader(rt: HostRuntime) {
+fn counts_errors_of_a_reader_and_gives_what_it_gave(rt: HostRuntime) {
     let mut reader = Counted::new(Scripted { answers: ANSWERS });
-    assert_eq!(rt; reader.failures, 0);
-    for (given, failures) in [
-        (Ok(3), 0),
-        (Err(ErrorKind::Interrupted), 1),
-        (Ok(0), 1),
-        (Err(ErrorKind::Interrupted), 2),
-        (Ok(4), 2),
-        (Ok(0), 2),
-    ] {
-        let mut buf = [0; 4];
-        let result = Source::read(&mut reader, &mut buf);
-        assert_eq!(rt; result.map_err(|error| error.kind()), given);
-        assert_eq!(rt; reader.failures, failures);
+    is_equal(&rt, 0, &reader.failures, &0);
+    for (index, wanted) in READS.iter().enumerate() {
+        is_equal(&rt, index, &read(&mut reader), wanted);
     }
 }
 
-#[test]
-fn gives_what_the_reader_gave(rt: HostRuntime) {
-    let mut reader = Counted::new(Scripted { answers: ANSWERS });
-    let mut buf = [0; 4];
-    assert!(rt; Source::read(&mut reader, &mut buf).is_ok());
-    assert_eq!(rt; buf, [7, 7, 7, 0]);
+// What a write of these bytes gives, and how many have failed.
+fn write(writer: &mut Counted<Scripted<'_>>, bytes: &[u8]) -> (Result<usize, ErrorKind>, u64) {
+    let taken = Sink::write(writer, bytes).map_err(|error| error.kind());
+    (taken, writer.failures)
 }
+
+const WRITES: [(Result<usize, ErrorKind>, u64); 6] = [
+    (Ok(3), 0),
+    (Err(ErrorKind::Interrupted), 1),
+    (Err(ErrorKind::WriteZero), 2),
+    (Err(ErrorKind::Interrupted), 3),
+    (Ok(4), 3),
+    (Err(ErrorKind::WriteZero), 4),
+];
 
 #[test]
 fn counts_errors_and_empty_writes_of_a_writer(rt: HostRuntime) {
     let mut writer = Counted::new(Scripted { answers: ANSWERS });
-    for (taken, failures) in [
-        (Ok(3), 0),
-        (Err(ErrorKind::Interrupted), 1),
-        (Err(ErrorKind::WriteZero), 2),
-        (Err(ErrorKind::Interrupted), 3),
-        (Ok(4), 3),
-        (Err(ErrorKind::WriteZero), 4),
-    ] {
-        let result = Sink::write(&mut writer, b"four");
-        assert_eq!(rt; result.map_err(|error| error.kind()), taken);
-        assert_eq!(rt; writer.failures, failures);
+    for (index, wanted) in WRITES.iter().enumerate() {
+        is_equal(&rt, index, &write(&mut writer, b"four"), wanted);
     }
 }
 
@@ -93,9 +98,7 @@ fn counts_errors_and_empty_writes_of_a_writer(rt: HostRuntime) {
 #[test]
 fn takes_none_of_no_bytes(rt: HostRuntime) {
     let mut writer = Counted::new(Scripted { answers: &[] });
-    let result = Sink::write(&mut writer, b"");
-    assert_eq!(rt; result.map_err(|error| error.kind()), Ok(0));
-    assert_eq!(rt; writer.failures, 0);
+    is_equal(&rt, 1, &write(&mut writer, b""), &(Ok(0), 0));
 }
 
 // After the greatest count the next failure still gives another one.
@@ -105,6 +108,6 @@ fn counts_on_when_full(rt: HostRuntime) {
         inner: Scripted { answers: &[None] },
         failures: u64::MAX,
     };
-    assert!(rt; Source::read(&mut reader, &mut []).is_err());
-    assert_eq!(rt; reader.failures, 0);
+    let wanted = (Err(ErrorKind::Interrupted), [0; 4], 0);
+    is_equal(&rt, 1, &read(&mut reader), &wanted);
 }

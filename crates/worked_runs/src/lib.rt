@@ -5,6 +5,10 @@
 #[cfg(test)]
 mod counted;
 #[cfg(test)]
+mod equal;
+#[cfg(test)]
+mod failing;
+#[cfg(test)]
 mod runs;
 #[cfg(test)]
 mod transfers;

@@ -1,8 +1,9 @@
 //! How much is taken from a reader.
 
-use byte_transfer::{Counted, read_up_to_limit};
+use crate::equal::is_equal;
+use byte_transfer::{Counted, ReadFault, read_up_to_limit};
+use std::alloc::Global;
 use std::io::{self, Read};
-use std::test::Fail;
 
 // Gives so many bytes, few at a time.
 #[derive(Drop)]
@@ -19,19 +20,23 @@ impl Read for Spring {
     }
 }
 
+// How many bytes are taken of a spring under this limit, and how many it has left.
+fn taken(alloc: Global, spring: Spring, limit: usize) -> Result<(usize, usize), ReadFault> {
+    let mut reader = Counted::new(spring);
+    let bytes = read_up_to_limit(alloc, &mut reader, limit)?;
+    Ok((bytes.len(), reader.inner.left))
+}
+
 #[test]
-fn reads_to_the_end_or_one_byte_further(rt: HostRuntime) -> Result<(), Fail> {
-    for (given, step, limit, length, left) in [
-        (7, 1, 9, 7, 0),
-        (7, 1, 0, 1, 6),
-        (4_194_304, 9_000, 4_194_304, 4_194_304, 0),
-        (5_000_000, 9_000, 4_194_304, 4_194_305, 805_695),
-        (5_000, 9_000, usize::MAX, 5_000, 0),
+fn reads_to_the_end_or_one_byte_further(rt: HostRuntime) {
+    for (left, step, limit, wanted) in [
+        (7, 1, 9, (7, 0)),
+        (7, 1, 0, (1, 6)),
+        (4_194_304, 9_000, 4_194_304, (4_194_304, 0)),
+        (5_000_000, 9_000, 4_194_304, (4_194_305, 805_695)),
+        (5_000, 9_000, usize::MAX, (5_000, 0)),
     ] {
-        let mut reader = Counted::new(Spring { left: given, step });
-        let bytes = read_up_to_limit(rt.alloc(), &mut reader, limit)?;
-        assert_eq!(rt; bytes.len(), length);
-        assert_eq!(rt; reader.inner.left, left);
+        let answered = taken(rt.alloc(), Spring { left, step }, limit);
+        is_equal(&rt, limit, &answered, &Ok(wanted));
     }
-    Ok(())
 }
