@@ -167,7 +167,7 @@ impl KeptBounds {
         self.join(more);
     }
 
-    /// Becomes the bounds above, whatever it was.
+    /// Becomes the bounds above, whatever it was. Of a refusal only the field is written.
     pub(crate) fn copy_of(&mut self, above: &KeptBounds)
         ensures { self.new ≡ above.now }
     {
@@ -177,7 +177,7 @@ impl KeptBounds {
         }
     }
 
-    /// Becomes refused for a field, whatever it was.
+    /// Becomes refused for a field, whatever it was. Where it is refused already, only the field is written.
     fn become_refused(&mut self, field: Field)
         ensures { self.new ≡ Refused field }
     {

@@ -131,6 +131,10 @@ fn reserve_slot(parts: &mut Vec<Option<Part>>, slot: usize) -> Result<(), AllocE
     ensures kept { (at : ℕ) (part : APart) → slice_get parts.new.items at ≡ Some (Some part)
         → slice_get parts.old.items at ≡ Some (Some part) }
 {
+    if slot < parts.len() {
+        return Ok(());
+    }
+    parts.reserve(slot + 1 - parts.len())?;
     for _more in parts.len()..slot + 1 {
         parts.push(None)?;
     }
