@@ -1,6 +1,6 @@
 //! Which entry of a participant is the first with each pair of names.
 
-ghost use Rattle.std.specs.Prelude.{◌≡◌, ◌<◌, ◌==◌, length};
+ghost use Rattle.std.specs.Prelude.{◌≡◌, ◌<◌, ◌==◌, [], length};
 ghost use Rattle.std.specs.List.{position_or_len, slice_get};
 ghost use Rattle.std.specs.Option.{option_copied};
 ghost use Rattle.sysmem_formats.specs.declared.colour_space.ColourSpace.{ColourSpace};
@@ -38,12 +38,31 @@ impl<'a> FirstMatches<'a> {
     pub fn of(entries: &'a [Entry]) -> FirstMatches<'a>
         ensures { result ≡ entries.now }
     {
-        let mut first = [entries.len(); 64];
+        let mut matches = FirstMatches::none();
+        matches.read(entries);
+        matches
+    }
+
+    /// The table of no entries.
+    pub fn none() -> FirstMatches<'a>
+        ensures { result ≡ [] }
+    {
+        FirstMatches {
+            entries: &[],
+            first: [0; 64],
+        }
+    }
+
+    /// Becomes the table of these entries, which is so made where it stands.
+    pub fn read(&mut self, entries: &'a [Entry])
+        ensures { self.new ≡ entries.now }
+    {
+        self.entries = entries;
+        self.first = [entries.len(); 64];
         for (index, entry) in entries.iter().enumerate() {
             let slot = slot(entry.format, entry.modifier);
-            first[slot] = first[slot].min(index);
+            self.first[slot] = self.first[slot].min(index);
         }
-        FirstMatches { entries, first }
     }
 
     /// Whether the participant has no entries.

@@ -81,7 +81,8 @@ impl Sum {
         let memory = asked.memory();
         self.counts.add(asked.counts());
         self.memory.add(platform.heaps(), memory, asked.usage());
-        let matches = FirstMatches::of(asked.entries());
+        let mut matches = FirstMatches::none();
+        matches.read(asked.entries());
         self.no_image.add(&Offer::NoImage, &matches);
         add_to_pairs(&mut self.pairs, platform.pairs(), &matches);
         self.least_size = self.least_size.max(memory.min_size_bytes);

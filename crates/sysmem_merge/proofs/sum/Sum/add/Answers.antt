@@ -16,7 +16,7 @@ returns-clause-sums c ps sums =
     let wishes = c.memory.view_is ∙ c.memory-memory.ensures.memory in
     let low = ap (λ (m : MemoryWishes). m.min_size_bytes) wishes in
     let high = ap (λ (m : MemoryWishes). m.max_size_bytes) wishes in
-    let same : d.entries ≡ c.of-matches.result = sym c.entries.ensures.entries ∙ sym c.of-matches.ensures in
+    let same : d.entries ≡ c.read.new.self = sym c.entries.ensures.entries ∙ sym c.read.ensures in
     let many : c.self.inside.pairs.len ≡ length c.add_to_pairs.new.kept = omega (arith, c.add_to_pairs.auto.kept, c.deref_mut.ensures.len) in
     rw (all_written c.self.inside.pairs.len c.self.inside.pairs.items c.add_to_pairs.new.kept many)
     (sums_push _ _ platform ps c.args.asked.now kept
