@@ -13,7 +13,7 @@ use Rattle.sysmem_image.specs.Size.{most_multiple, square}
 use Rattle.sysmem_image.proofs.CallerLemmas.{max_one, sides_same}
 use Rattle.sysmem_sanitise.specs.declared.fault.Fault.{Fault}
 use Rattle.sysmem_sanitise.specs.Participant.{IsEntry}
-use Rattle.sysmem_sanitise.specs.Reading.Bounds.{any_number, some_number, is_multiple, multiple, large_number, size_to, any_size, some_size, multiple_size, stated_in, stated_each, stated_bounds, stated_by, bounds_of}
+use Rattle.sysmem_sanitise.specs.Reading.Bounds.{some_number, is_multiple, multiple, large_number, size_to, any_size, some_size, multiple_size, stated_in, stated_each, stated_bounds, stated_by, bounds_of}
 use Rattle.sysmem_sanitise.specs.Reading.Fields.{◌>>=◌, number_up_to}
 use Rattle.sysmem_sanitise.proofs.CallerLemmas.{bounds_by_numbers}
 use Rattle.record_laws.specs.Ranges.{most_large}

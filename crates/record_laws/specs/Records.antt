@@ -41,6 +41,7 @@ fields ms = object (members ms)
 abbrev pub list : {A : Type 0} → (A → Data) → List A → Data
 list state xs = array (items_of (map state xs))
 
+-- a whole number
 abbrev pub natural : ℕ → Data
 natural n = number (unsigned n)
 
@@ -59,9 +60,11 @@ abbrev pub family_items : ℕ → List (List ℕ × ℕ) → Items
 family_items bits [] = no_items
 family_items bits (family ∷ rest) = item_if (bit_and bits family.1 == family.1) (string family.0) (family_items bits rest)
 
+-- the names of a usage's families
 abbrev pub usage_record : Usage → Data
 usage_record usage = array (family_items (usage_bits usage) families)
 
+-- what names a heap
 abbrev pub name_members : HeapName → List (Field × Data)
 name_members h = (field.HeapType, string h.heap_type) ∷ (field.Id, natural h.id) ∷ []
 
@@ -69,6 +72,7 @@ name_members h = (field.HeapType, string h.heap_type) ∷ (field.Id, natural h.i
 abbrev pub heap_name_record : HeapName → Data
 heap_name_record h = fields (name_members h)
 
+-- the names of the domains that are in a set
 abbrev pub domain_items : CoherencyDomains → Items
 domain_items s = item_if s.cpu (string (domain_name Cpu)) (item_if s.ram (string (domain_name Ram)) (item_if s.inaccessible (string (domain_name Inaccessible)) no_items))
 
@@ -86,6 +90,7 @@ colour_record colour = string (colour_name colour)
 abbrev pub platform_record : PlatformFacts → Data
 platform_record p = fields ((field.Heaps, list heap_record p.heaps) ∷ (field.Pairs, list pair_record p.pairs) ∷ (field.ColorSpaces, list colour_record p.colours) ∷ [])
 
+-- the memory constraints, no field left out
 abbrev pub memory_record : MemoryWishes → Data
 memory_record w = fields (
     (field.MinSizeBytes, natural w.min_size_bytes)
@@ -119,6 +124,7 @@ size_record size = object (put (codes "width") (natural size.width) (put (codes 
 abbrev pub bound_record : ImageBounds → Bound → Data
 bound_record b f = if is_size f then size_record (record { width = value f Width b; height = value f Height b }) else natural (value f Width b)
 
+-- the fields of bounds, none of them left out
 abbrev pub bounds_fields : EntryBounds → List (Field × Data)
 bounds_fields b = map (λ f. (field_of f, bound_record b.asked f)) all_bounds ++ (field.RequireBytesPerRowAtPixelBoundary, boolean b.at_pixel_boundary) ∷ []
 
@@ -130,6 +136,7 @@ entry_record entry = fields (
     ∷ (field.ColorSpaces, array (colour_items entry.colours))
     ∷ bounds_fields entry.bounds)
 
+-- what an object of constraints says of counts
 abbrev pub count_fields : CountConstraints → List (Field × Data)
 count_fields c =
     (field.MinBufferCountForCamping, natural c.min_buffer_count_for_camping)

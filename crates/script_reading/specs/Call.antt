@@ -1,8 +1,8 @@
 -- The form of one call of a script: what its object says, apart from the other calls.
-use Rattle.std.specs.Prelude.{ℕ, ◌∷◌, [], ◌&&◌, ◌||◌, Bool, List, bytes_eq, codes, Option, Some, None, option_map, option_and_then, if◌then◌else◌}
+use Rattle.std.specs.Prelude.{ℕ, ◌&&◌, ◌||◌, Bool, List, bytes_eq, codes, Option, Some, None, option_map, option_and_then, if◌then◌else◌}
 use Rattle.std.specs.List.{list_all}
 use Rattle.std.specs.Option.{option_map_or}
-use Rattle.serde_json.specs.Data.{Data, null, Members}
+use Rattle.serde_json.specs.Data.{Data, null}
 use Rattle.serde_json.specs.Find.{get, as_str, as_object}
 use Rattle.sysmem_sanitise.specs.Reading.Fields.{keys_of}
 use Rattle.script_reading.specs.Names.{main_actor}

@@ -8,5 +8,6 @@ use Rattle.script_reading.specs.Script.{KnownFacts}
 abbrev pub texts : List (Bor (List ℕ)) → List (List ℕ)
 texts refs = map (λ r. r.now) refs
 
+-- what the program keeps as known, by its texts
 abbrev pub known_seen : Known → KnownFacts
 known_seen k = record { names = texts k.names.keys; actors = texts k.actors.keys }

@@ -17,6 +17,7 @@ pub record CallFacts : Type 0 where
   pub on : List ℕ
   pub place : ℕ
 
+-- A script: its platform, and its calls in their order.
 pub record ScriptFacts : Type 0 where
   pub platform : PlatformFacts
   pub calls : List CallFacts
@@ -76,6 +77,7 @@ abbrev pub items_len : Items → ℕ
 items_len no_items = 0
 items_len (item d ds) = items_len ds + 1
 
+-- the keys of a script
 abbrev pub is_part : List ℕ → Bool
 is_part key = bytes_eq key (codes "platform") || bytes_eq key (codes "calls")
 

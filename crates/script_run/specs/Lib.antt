@@ -3,6 +3,7 @@ pub mod Certificate
 pub mod Checked
 pub mod CheckedFile
 pub mod Deciding
+pub mod Endings
 pub mod Faults
 pub mod Laws
 pub mod Lines

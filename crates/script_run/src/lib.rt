@@ -13,6 +13,7 @@ mod checking;
 mod decider;
 mod deciding;
 mod domain_line;
+mod ending;
 mod failing;
 mod fault;
 pub mod laws;
@@ -25,5 +26,6 @@ mod searching;
 mod telling;
 
 pub use checked_file::check_file;
+pub use ending::{Ending, ending_of};
 pub use fault::RunFault;
 pub use running::{Ended, run, run_leaving, run_with_proof};

@@ -10,7 +10,7 @@ use Rattle.sysmem_formats.specs.declared.offer.Offer.{Offer}
 use Rattle.sysmem_formats.specs.Layout.{width_alignment_of, height_alignment_of, row_divisor_of}
 use Rattle.sysmem_image.specs.declared.bounds.ImageBounds.{ImageBounds}
 use Rattle.sysmem_image.specs.Fields as bound
-use Rattle.sysmem_image.specs.Fields.{Bound, Side, Width, Height, Keeps, KeepsIn, rule_of, most, value, own_value}
+use Rattle.sysmem_image.specs.Fields.{Bound, Side, Width, Height, Keeps, KeepsIn, rule_of, value, own_value}
 use Rattle.sysmem_image.specs.Bounds.{IsTighter, IsInRange, Suits}
 use Rattle.sysmem_image.specs.Images.{Image, IsSoundBounds}
 use Rattle.sysmem_image.specs.Merged.{MergedOf, NoneMerge, IsFirstAbove}

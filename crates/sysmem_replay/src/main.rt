@@ -3,13 +3,15 @@
 //! `sysmem_replay check FILE PROOF` tests such a certificate.
 #![tactic(auto)]
 
-mod ending;
+mod refusal;
 
 use byte_transfer::{Counted, Sink, Source};
 use clap::Error;
 pub use command_line::{Job, read_words};
-pub use ending::{Ending, ending_of, refusal_ending};
-pub use script_run::{Ended, RunFault, check_file, run, run_leaving, run_with_proof};
+use refusal::refusal_ending;
+pub use script_run::{
+    Ended, Ending, RunFault, check_file, ending_of, run, run_leaving, run_with_proof,
+};
 use std::alloc::Global;
 use std::fs::File;
 use std::process::ExitCode;

@@ -1,15 +1,14 @@
 -- Bounds are those of their values.
-use Rattle.std.proofs.Common.{◌≡◌, ℕ, ◌≤◌, Bool, Result, Ok, Err, refl, ap, sym, ◌∙◌, arith}
+use Rattle.std.proofs.Common.{◌≡◌, ℕ, ◌≤◌, Result, Ok, Err, ap, sym, ◌∙◌, arith}
 use Rattle.serde_json.specs.Data.{Data}
 use Rattle.sysmem_image.specs.contracts.bounds.ImageBounds.{the_type as bounds_type}
 use Rattle.sysmem_image.specs.contracts.entry.EntryBounds.{the_type as entry_bounds_type}
 use Rattle.sysmem_image.specs.declared.bounds.ImageBounds.{ImageBounds}
 use Rattle.sysmem_image.specs.declared.entry.EntryBounds.{EntryBounds}
-use Rattle.sysmem_image.specs.Fields.{bounds_with, values_of, value_among}
 use Rattle.sysmem_image.specs.Size.{most_multiple}
 use Rattle.sysmem_image.proofs.CallerLemmas.{max_one, sides_same}
 use Rattle.sysmem_sanitise.specs.declared.fault.Fault.{Fault}
-use Rattle.sysmem_sanitise.specs.Reading.Bounds.{stated_bounds, stated_by, bounds_by, bounds_of, divisor_read, some_divisor}
+use Rattle.sysmem_sanitise.specs.Reading.Bounds.{stated_bounds, stated_by, bounds_by, bounds_of, divisor_read}
 use Rattle.sysmem_sanitise.specs.Reading.Fields.{seen_by, ◌>>=◌}
 
 divisor_same : (n : ℕ) → 1 ≤ n → n ≤ most_multiple → divisor_read n ≡ n

@@ -35,6 +35,7 @@ fault_text fault = code_name fault.code ++ codes " " ++ place_name fault.at
 abbrev pub wrong : Code → Field → Fault
 wrong code field = record { code = code; at = At field }
 
+-- of the codes S13 alone says that memory was refused
 abbrev pub lack_at : Code → FaultPlace → Option Field
 lack_at WantOfMemory (At field) = Some field
 lack_at _ _ = None

@@ -35,12 +35,3 @@ pub(crate) fn copied_heaps(alloc: Global, heaps: &[HeapInfo]) -> Result<Vec<Heap
     }
     Ok(copy)
 }
-
-/// A copy of items that take no memory.
-pub(crate) fn copied<T: Copy>(alloc: Global, items: &[T]) -> Result<Vec<T>, AllocError>
-    ensures { IfOk result (λ copy. copy.items ≡ items.now) }
-{
-    let mut copy = Vec::new(alloc);
-    copy.extend_from_slice(items)?;
-    Ok(copy)
-}

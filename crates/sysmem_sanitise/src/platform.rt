@@ -7,7 +7,7 @@ ghost use Rattle.sysmem_sanitise.specs.Equal.{same_platform};
 ghost use Rattle.sysmem_sanitise.specs.EqualLaws.{platform_laws};
 ghost use Rattle.sysmem_sanitise.specs.Platform.{IsPlatform, IsHeap};
 
-use crate::copying::{copied, copied_heaps};
+use crate::copying::copied_heaps;
 use crate::equal::are_same_heaps;
 use std::alloc::AllocError;
 use std::marker::Model;
@@ -100,8 +100,8 @@ impl Platform {
     {
         let alloc = *self.heaps.allocator();
         let heaps = copied_heaps(alloc, &self.heaps)?;
-        let pairs = copied(alloc, &self.pairs)?;
-        let colours = copied(alloc, &self.colours)?;
+        let pairs = Vec::from_slice(alloc, &self.pairs)?;
+        let colours = Vec::from_slice(alloc, &self.colours)?;
         Ok(Platform::new(heaps, pairs, colours))
     }
 }

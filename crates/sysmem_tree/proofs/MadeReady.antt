@@ -1,5 +1,5 @@
 -- An action makes no domain ready but its own, and that only where it can end the waiting for its node.
-use Rattle.std.proofs.Common.{◌≡◌, ◌≢◌, ◌⊎◌, ◌<◌, ◌==◌, ◌&&◌, ◌||◌, not, ℕ, zero, suc, Bool, true, false, List, [], ◌∷◌, ◌++◌, length, Option, Some, None, slice_get, slice_set, refl, sym, ◌∙◌, ap, subst, arith, inl, inr}
+use Rattle.std.proofs.Common.{◌≡◌, ◌≢◌, ◌⊎◌, ◌==◌, ◌&&◌, ◌||◌, not, ℕ, zero, suc, Bool, true, false, List, [], ◌∷◌, ◌++◌, length, Option, Some, None, slice_get, slice_set, refl, sym, ◌∙◌, ap, subst, arith, inl, inr}
 use Rattle.std.specs.Prelude.{IsOk, Ok, option_and_then, if◌then◌else◌}
 use Rattle.std.proofs.lemmas.Bool.{cases_Bool, cases_eq, ne_eqb}
 use Rattle.std.proofs.lemmas.Option.{same_Some, slice_get_within}
@@ -15,7 +15,7 @@ use Rattle.sysmem_tree.specs.Completing.{ends_wait, unready_of}
 use Rattle.sysmem_tree.specs.Domain.{TreeFacts, HasDomain, IsSoundTree, has_failed, host_node, is_chosen, is_complete, is_host_selected, is_ready, is_selected}
 use Rattle.sysmem_tree.specs.History.{Acted, after_answer}
 use Rattle.sysmem_tree.specs.Node.{NodeFacts, awaits, is_awaited}
-use Rattle.sysmem_tree.specs.Nodes.{IsProper, IsTree}
+use Rattle.sysmem_tree.specs.Nodes.{IsTree}
 use Rattle.sysmem_tree.specs.Table.{allows, makes, state_after, suits_node}
 use Rattle.sysmem_tree.specs.Tree.{Applied, applied, domains_after, node_after, nodes_after, nodes_made, tree_after}
 use Rattle.sysmem_tree.proofs.Accepted.{IsAccepted}

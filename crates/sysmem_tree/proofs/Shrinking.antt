@@ -1,6 +1,6 @@
 -- A choice adds no nodes, and a group's children are some of those that are left.
 use Rattle.std.proofs.Common.{◌≡◌, ◌≤◌, ℕ, suc, ◌+◌, List, [], ◌∷◌, Option, Some, None, length, slice_get, refl, ◌∙◌, ap, arith}
-use Rattle.std.specs.Prelude.{map, option_map, option_and_then}
+use Rattle.std.specs.Prelude.{option_map, option_and_then}
 use Rattle.std.proofs.lemmas.List.{length-map}
 use Rattle.std.proofs.lemmas.Option.{same_Some, option_and_then_some}
 use Rattle.std.specs.List.{AllByRecursion}

@@ -4,7 +4,7 @@ use Rattle.std.specs.Prelude.{All, IsSome, IsSomeAnd, option_and_then, slice_ind
 use Rattle.std.proofs.lemmas.Option.{same_Some, slice_get_within}
 use Rattle.sysmem_tree.specs.declared.layout.Layout.{Layout}
 use Rattle.sysmem_tree.specs.declared.layout.Place.{Place}
-use Rattle.sysmem_tree.specs.Forest.{Forest, choices}
+use Rattle.sysmem_tree.specs.Forest.{Forest}
 use Rattle.sysmem_tree.specs.LayoutLaws.{NoneOpenIsSelection}
 use Rattle.sysmem_tree.specs.Node.{NodeFacts}
 use Rattle.sysmem_tree.specs.Nodes.{HasNode}

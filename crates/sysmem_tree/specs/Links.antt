@@ -36,6 +36,7 @@ abbrev pub with_siblings : List NodeFacts → ℕ → Option NodeFacts → Fores
 with_siblings nodes i None = Empty
 with_siblings nodes i (Some n) = kids_from by_number n.domain i (drop i nodes) (parent_of n.birth) []
 
+-- the same of the node that a link names, if it names one
 abbrev pub siblings_from : List NodeFacts → Option ℕ → Forest ℕ
 siblings_from nodes None = Empty
 siblings_from nodes (Some i) = with_siblings nodes i (slice_get nodes i)

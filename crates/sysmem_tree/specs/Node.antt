@@ -16,6 +16,7 @@ awaits Token s = s.is_open
 awaits Group s = not s.is_complete
 awaits Collection s = not (s.is_set || not s.is_open)
 
+-- the same of a node in this state
 abbrev pub is_awaited : NodeState → Bool
 is_awaited s = awaits s.kind s
 

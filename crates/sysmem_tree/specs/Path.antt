@@ -32,6 +32,7 @@ abbrev pub path_within : ℕ → List NodeFacts → ℕ → List ℕ
 path_within zero nodes i = []
 path_within (suc steps) nodes i = unwrap_or (option_map (λ b. path_within steps nodes b.parent ++ b.ordinal ∷ []) (birth_of nodes i)) []
 
+-- a node's path: no tree has more than 128 nodes
 abbrev pub path_of : List NodeFacts → ℕ → List ℕ
 path_of nodes i = path_within 128 nodes i
 

@@ -63,6 +63,7 @@ pub record Member : Type 0 where
   pub kind : NodeKind
   pub constraints : Option Participant
 
+-- a shape shows no numbers of nodes
 abbrev pub by_path : Labels Member
 by_path i path n = record { path = path; kind = n.state.kind; constraints = n.constraints }
 

@@ -7,6 +7,7 @@ use Rattle.sysmem_tree.specs.Node.{fresh}
 use Rattle.sysmem_tree.specs.Path.{Shown}
 use Rattle.sysmem_tree.specs.Table.{allows, wants_child, state_after, constraints_after, makes, makes_root}
 
+-- what is shown at each path, where there is a node
 abbrev pub Map : Type 0
 Map = List ℕ → Option Shown
 

@@ -16,6 +16,7 @@ use Rattle.sysmem_tree.specs.Node.{fresh, NodeFacts}
 use Rattle.sysmem_tree.specs.Shape.{members_of}
 use Rattle.sysmem_tree.specs.Table.{allows, wants_child, state_after, constraints_after, makes, makes_root}
 
+-- the domain of a node that roots it
 abbrev pub new_domain : ℕ → Domain
 new_domain root = record { root = root; is_closed_early = false; decision = Undecided }
 
@@ -60,6 +61,7 @@ domains_after t n AttachToken = t.domains ++ new_domain (length t.nodes) ∷ []
 domains_after t n Close = if is_ready t n.domain then t.domains else map (closed_early n.domain) t.domains
 domains_after t n _ = t.domains
 
+-- the tree after an action on node i, which is n
 abbrev pub tree_after : TreeFacts → ℕ → NodeFacts → Deed → TreeFacts
 tree_after t i n deed = record { nodes = nodes_after t.nodes i n deed; domains = domains_after t n (kind_of deed) }
 
@@ -76,6 +78,7 @@ pub record Applied : Type 0 where
   pub tree : TreeFacts
   pub node : ℕ
 
+-- the node that answers: the one that was made, or the one acted on
 abbrev pub number_after : List NodeFacts → ℕ → ActionKind → ℕ
 number_after nodes i kind = if is_some (makes kind) then length nodes else i
 
@@ -90,6 +93,7 @@ applied_at t i deed (Some n) =
     else if not (has_room t.nodes (kind_of deed)) then Err TooManyNodes
     else Ok (record { tree = tree_after t i n deed; node = number_after t.nodes i (kind_of deed) })
 
+-- an action on node i, by the tree as it is
 abbrev pub applied : TreeFacts → ℕ → Deed → Result Applied Refusal
 applied t i deed = applied_at t i deed (slice_get t.nodes i)
 

@@ -26,6 +26,7 @@ some_number field d = do
   n ← any_number field d
   Ok (max n 1)
 
+-- 1 to 65,536
 abbrev pub is_multiple : ℕ → Bool
 is_multiple n = nat_le 1 n && nat_le n most_multiple
 
@@ -41,6 +42,7 @@ large_number field d = do
   n ← number_up_to field (2 ^ 64 - 1) d
   passing (wrong code.WrongKind field) (λ n. nat_le 1 n) n
 
+-- the keys of a size
 abbrev pub is_side : List ℕ → Bool
 is_side key = bytes_eq key (codes "width") || bytes_eq key (codes "height")
 
@@ -148,6 +150,7 @@ bounds_by (values, at_pixel_boundary) = record {
 abbrev pub stated_by : EntryBounds → List Size × Bool
 stated_by b = (values_of b.asked, b.at_pixel_boundary)
 
+-- the bounds that an entry states
 abbrev pub bounds_of : Data → Result EntryBounds Fault
 bounds_of d = do
   stated ← stated_bounds d

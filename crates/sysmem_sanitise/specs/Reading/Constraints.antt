@@ -19,6 +19,7 @@ use Rattle.sysmem_sanitise.specs.Reading.Entries.{entries_of}
 use Rattle.sysmem_sanitise.specs.Reading.Fields.{◌>>=◌, passing, read_each, object_of, optional, stated, number_or, flag_or, list_of, named}
 use Rattle.sysmem_sanitise.specs.Reading.Heaps.{permitted_of}
 
+-- before the first item
 abbrev pub no_usage : Usage
 no_usage = record { 0 = 0 }
 
@@ -39,6 +40,7 @@ usage_of d = do
   usage ← read_each with_family no_usage items
   passing (wrong code.BadUsage field.Usage) is_usage usage
 
+-- the buffers that are asked for: what is missing asks for none, and sets no limit
 abbrev pub counts_of : Data → Result CountConstraints Fault
 counts_of d = do
   camping ← number_or field.MinBufferCountForCamping 0 most_number d
@@ -59,6 +61,7 @@ abbrev pub memory_fields : List Field
 memory_fields = field.MinSizeBytes ∷ field.MaxSizeBytes ∷ field.PhysicallyContiguousRequired ∷ field.SecureRequired
     ∷ field.CpuDomainSupported ∷ field.RamDomainSupported ∷ field.InaccessibleDomainSupported ∷ field.PermittedHeaps ∷ []
 
+-- what is asked of memory: where nothing is said, any size, the domain cpu alone, and every heap
 abbrev pub memory_of : Option Field → Data → Result MemoryWishes Fault
 memory_of lack d = do
   _ ← object_of (At field.BufferMemoryConstraints) memory_fields d

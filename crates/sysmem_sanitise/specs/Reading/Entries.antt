@@ -31,6 +31,7 @@ use Rattle.sysmem_sanitise.specs.Reading.Pairs.{pair_fields, is_tiled_misfit}
 abbrev pub same_format : Option PixelFormat → Option PixelFormat → Bool
 same_format a b = option_eq (λ x y. format_code x == format_code y) a b
 
+-- the same of modifiers
 abbrev pub same_modifier : Option Modifier → Option Modifier → Bool
 same_modifier a b = option_eq (λ x y. modifier_code x == modifier_code y) a b
 
@@ -46,12 +47,14 @@ asks_misfit _ _ = false
 abbrev pub modifier_beside : Option PixelFormat → Data → Result (Option Modifier) Fault
 modifier_beside format d = optional field.PixelFormatModifier (option_map (λ _. Linear) format) (named (choice_named modifier_named) field.PixelFormatModifier) d
 
+-- the format and the modifier that an object states
 abbrev pub asked_of : Data → Result AskedPair Fault
 asked_of d = do
   format ← required field.PixelFormat (named (choice_named format_named) field.PixelFormat) d
   modifier ← modifier_beside format d
   Ok (record { format = format; modifier = modifier })
 
+-- what an entry asks for
 abbrev pub pair_asked : Entry → AskedPair
 pair_asked entry = record { format = entry.format; modifier = entry.modifier }
 
@@ -71,6 +74,7 @@ with_asked lack field entries pairs asked = do
   new ← passing (wrong code.RepeatedPair field) (λ pair. not (is_asked_already entries pair || has_asked pairs pair)) roomy
   kept lack field (pairs ++ new ∷ [])
 
+-- there is a list, and an item in it
 abbrev pub is_filled : Option Items → Bool
 is_filled None = false
 is_filled (Some items) = has_items items
@@ -99,6 +103,7 @@ with_further lack entries pairs d = do
   asked ← asked_of d
   with_asked lack field.PixelFormatAndModifiers entries pairs asked
 
+-- the pairs of an entry, and those that its further pairs state
 abbrev pub further_of : Option Field → List Entry → List AskedPair → Data → Result (List AskedPair) Fault
 further_of lack entries own d = do
   items ← list_of field.PixelFormatAndModifiers d
@@ -115,6 +120,7 @@ abbrev pub with_colour_or_any : ColourSet → Option ColourSpace → ColourSet
 with_colour_or_any set None = with_any set
 with_colour_or_any set (Some colour) = with_colour set colour
 
+-- the same of an item as it is written
 abbrev pub with_listed : ColourSet → Data → Result ColourSet Fault
 with_listed set d = do
   colour ← named (choice_named colour_named) field.ColorSpaces d
@@ -132,9 +138,11 @@ abbrev pub entry_fields : List Field
 entry_fields = field.PixelFormat ∷ field.PixelFormatModifier ∷ field.PixelFormatAndModifiers ∷ field.ColorSpaces
     ∷ (map field_of all_bounds ++ field.RequireBytesPerRowAtPixelBoundary ∷ [])
 
+-- an object with no other fields than an entry's
 abbrev pub entry_object : Data → Result Data Fault
 entry_object d = object_of (At field.ImageFormatConstraints) entry_fields d
 
+-- the entry of one of an item's pairs
 abbrev pub entry_with : ColourSet → EntryBounds → AskedPair → Entry
 entry_with colours bounds pair = record { format = pair.format; modifier = pair.modifier; colours = colours; bounds = bounds }
 
@@ -147,6 +155,7 @@ with_entry lack entries d = do
   bounds ← bounds_of d
   kept lack field.ImageFormatConstraints (entries ++ map (entry_with colours bounds) pairs)
 
+-- a list of items that state entries
 abbrev pub entries_of : Option Field → Data → Result (List Entry) Fault
 entries_of lack d = do
   items ← list_of field.ImageFormatConstraints d

@@ -59,6 +59,7 @@ number_up_to field greatest d = do
   n ← ok_or (option_and_then as_u64 (as_number d)) (wrong WrongKind field)
   passing (wrong WrongKind field) (λ n. nat_le n greatest) n
 
+-- a number that a record may leave out
 abbrev pub number_or : Field → ℕ → ℕ → Data → Result ℕ Fault
 number_or field absent greatest d = optional field absent (number_up_to field greatest) d
 
@@ -66,6 +67,7 @@ number_or field absent greatest d = optional field absent (number_up_to field gr
 abbrev pub flag_of : Field → Data → Result Bool Fault
 flag_of field d = ok_or (as_bool d) (wrong WrongKind field)
 
+-- a flag that a record may leave out
 abbrev pub flag_or : Field → Bool → Data → Result Bool Fault
 flag_or field absent d = optional field absent (flag_of field) d
 
@@ -83,6 +85,7 @@ named find field d = do
 abbrev pub list_of : Field → Data → Result Items Fault
 list_of field d = ok_or (as_array d) (wrong WrongKind field)
 
+-- the list isn't empty
 abbrev pub has_items : Items → Bool
 has_items no_items = false
 has_items (item d ds) = true

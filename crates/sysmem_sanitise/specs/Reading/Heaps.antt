@@ -28,6 +28,7 @@ is_heap_type text = nat_le 1 (length text) && nat_le (length text) 128 && list_a
 abbrev pub IsHeapName : HeapName → Type 0
 IsHeapName heap = is_heap_type heap.heap_type ≡ true
 
+-- a heap's type, which takes memory
 abbrev pub heap_type_of : Option Field → Data → Result (List ℕ) Fault
 heap_type_of lack d = do
   text ← text_of field.HeapType d
@@ -41,6 +42,7 @@ heap_name_of lack d = do
   id ← number_or field.Id 0 (2 ^ 64 - 1) d
   Ok (record { heap_type = heap_type; id = id })
 
+-- before the first item
 abbrev pub no_domains : CoherencyDomains
 no_domains = record { cpu = false; ram = false; inaccessible = false }
 
@@ -57,6 +59,7 @@ with_named s d = do
   new ← passing (wrong code.BadPlatformList field.Domains) (λ domain. not (has_domain s domain)) domain
   Ok (with_domain s new)
 
+-- some domain is among them
 abbrev pub has_domains : CoherencyDomains → Bool
 has_domains s = s.cpu || s.ram || s.inaccessible
 
@@ -71,6 +74,7 @@ domains_of d = do
 abbrev pub heap_info_fields : List Field
 heap_info_fields = field.HeapType ∷ field.Id ∷ field.Contiguous ∷ field.Secure ∷ field.Domains ∷ []
 
+-- a platform's heap, neither contiguous nor secure where it doesn't say so
 abbrev pub heap_of : Option Field → Data → Result HeapFacts Fault
 heap_of lack d = do
   _ ← object_of (At field.Heaps) heap_info_fields d
@@ -103,6 +107,7 @@ heaps_of lack d = do
 abbrev pub name_fields : List Field
 name_fields = field.HeapType ∷ field.Id ∷ []
 
+-- a heap that a participant permits: its name alone
 abbrev pub permitted_heap : Option Field → Data → Result HeapName Fault
 permitted_heap lack d = do
   _ ← object_of (At field.PermittedHeaps) name_fields d

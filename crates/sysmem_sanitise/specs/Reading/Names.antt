@@ -15,15 +15,19 @@ use Rattle.sysmem_memory.specs.Domain.{domain_name}
 abbrev pub find_named : {X : Type 0} → (X → List ℕ) → List X → List ℕ → Option X
 find_named name_of xs name = find (λ x. bytes_eq (name_of x) name) xs
 
+-- every pixel format
 abbrev pub formats : List PixelFormat
 formats = R8G8B8A8 ∷ B8G8R8A8 ∷ R8G8B8X8 ∷ B8G8R8X8 ∷ R8G8B8 ∷ B8G8R8 ∷ R5G6B5 ∷ R8G8 ∷ YUY2 ∷ R8 ∷ L8 ∷ I420 ∷ YV12 ∷ NV12 ∷ P010 ∷ []
 
+-- every modifier
 abbrev pub modifiers : List Modifier
 modifiers = Linear ∷ IntelXTiled ∷ IntelYTiled ∷ []
 
+-- every colour space
 abbrev pub colours : List ColourSpace
 colours = Srgb ∷ Rec601Ntsc ∷ Rec601NtscFullRange ∷ Rec601Pal ∷ Rec601PalFullRange ∷ Rec709 ∷ Rec2020 ∷ Rec2100 ∷ []
 
+-- every coherency domain
 abbrev pub domains : List CoherencyDomain
 domains = Cpu ∷ Ram ∷ Inaccessible ∷ []
 

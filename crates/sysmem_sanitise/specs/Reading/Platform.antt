@@ -32,6 +32,7 @@ with_pair lack pairs d = do
   new ← passing (wrong code.BadPlatformList field.Pairs) (λ pair. not (has_pair pairs pair)) fitting
   kept lack field.Pairs (pairs ++ new ∷ [])
 
+-- a list of pairs that isn't empty, with none twice
 abbrev pub pairs_of : Option Field → Data → Result (List Pair) Fault
 pairs_of lack d = do
   items ← list_of field.Pairs d
@@ -45,6 +46,7 @@ with_new_colour lack colours d = do
   new ← passing (wrong code.BadPlatformList field.ColorSpaces) (λ colour. not (lists_colour colours colour)) colour
   kept lack field.ColorSpaces (colours ++ new ∷ [])
 
+-- a list of colour spaces that isn't empty, with none twice
 abbrev pub colours_of : Option Field → Data → Result (List ColourSpace) Fault
 colours_of lack d = do
   items ← list_of field.ColorSpaces d

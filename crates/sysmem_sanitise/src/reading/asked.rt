@@ -178,6 +178,7 @@ fn further_in(
     Ok(pairs)
 }
 
+/// The pairs of an entry, and those that its further pairs state.
 fn further_of(
     entries: &[Entry],
     own: Vec<AskedPair>,

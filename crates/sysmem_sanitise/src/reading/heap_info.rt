@@ -64,6 +64,7 @@ fn domains_of(value: &Value) -> Result<CoherencyDomains, Fault>
     }
 }
 
+/// The domains of a heap's record, which has to have them.
 fn domains_at(object: &Value) -> Result<CoherencyDomains, Fault>
     ensures { result ≡ required Domains domains_of (view object.now) }
 {

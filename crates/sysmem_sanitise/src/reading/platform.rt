@@ -20,6 +20,7 @@ use sysmem_counts::Field;
 use sysmem_formats::{ColourSpace, Pair};
 use sysmem_memory::HeapInfo;
 
+/// The heaps of a record, which has to have them; so of its pairs and its colour spaces.
 fn heaps_in(alloc: Global, object: &Value) -> Result<Vec<HeapInfo>, Fault>
     ensures { Reads (λ lack. required Heaps (heaps_of lack) (view object.now))
         (seen_by (λ heaps. heaps.items) result) }

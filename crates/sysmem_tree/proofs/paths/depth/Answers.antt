@@ -1,5 +1,5 @@
 -- One step from a node to its parent.
-use Rattle.std.proofs.Common.{length, refl, sym, ◌∙◌, ap, arith}
+use Rattle.std.proofs.Common.{length, refl, sym, ◌∙◌, arith}
 use Rattle.std.proofs.lemmas.Option.{slice_get_read}
 use Rattle.sysmem_tree.proofs.Kids.{parent_of}
 use Rattle.sysmem_tree.proofs.Steps.{no_step, one_step}

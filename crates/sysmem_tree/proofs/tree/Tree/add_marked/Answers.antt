@@ -1,7 +1,6 @@
 -- One place after the other.
-use Rattle.std.proofs.Common.{◌≡◌, ◌<◌, ◌+◌, ◌++◌, ℕ, List, refl, length, sym, ap, ◌∙◌, arith, length-append}
+use Rattle.std.proofs.Common.{◌<◌, ◌++◌, ℕ, List, refl, length, sym, ap, ◌∙◌, arith, length-append}
 use Rattle.std.specs.Prelude.{filter}
-use Rattle.sysmem_tree.specs.Laws.{labels}
 use Rattle.sysmem_tree.specs.Members.{is_marked}
 use Rattle.sysmem_tree.proofs.Marking.{nowhere}
 use Rattle.sysmem_tree.proofs.Picking.{all_kept, all_of_layout, nodes_from, room_on}

@@ -1,5 +1,5 @@
 -- See Picking.antt.
-use Rattle.std.proofs.Common.{◌++◌, [], length, refl, sym, ◌∙◌, ap, subst, arith}
+use Rattle.std.proofs.Common.{◌++◌, length, sym, ◌∙◌, ap, subst, arith}
 use Rattle.std.specs.Prelude.{All}
 use Rattle.sysmem_tree.specs.Domain.{IsSoundTree}
 use Rattle.sysmem_tree.specs.Nodes.{HasNode}

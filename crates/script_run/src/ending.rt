@@ -1,9 +1,9 @@
-//! How the program ends: its exit status, and what it says on standard error.
+//! How a run or a check ends a program: the exit status, and what is said on standard error.
 ghost use Rattle.std.specs.Prelude.{◌≡◌, Err, Some};
-ghost use Rattle.sysmem_replay.specs.Endings.{fault_said, refusal_code, refusal_said, run_code};
+ghost use Rattle.script_run.specs.Endings.{fault_said, run_code};
 
-use clap::error::ErrorKind;
-use script_run::{Ended, RunFault};
+use crate::fault::RunFault;
+use crate::running::Ended;
 
 /// An exit status, and the fault whose text goes to standard error.
 #[derive(Clone, Copy, Debug, PartialEq, Eq)]
@@ -44,24 +44,5 @@ fn fault_ending(fault: RunFault) -> Ending
     Ending {
         status,
         fault: Some(fault),
-    }
-}
-
-/// The ending of a command line that asks for no job: 0 for help, 4 for want of memory, and else 2.
-/// Where it has no fault, the parser's own text is what the user is told.
-pub fn refusal_ending(kind: ErrorKind) -> Ending
-    ensures status { result.status ≡ refusal_code kind }
-    ensures fault { result.fault ≡ refusal_said kind }
-{
-    match kind {
-        ErrorKind::DisplayHelp | ErrorKind::DisplayVersion => Ending {
-            status: 0,
-            fault: None,
-        },
-        ErrorKind::OutOfMemory => fault_ending(RunFault::NoMemory),
-        _ => Ending {
-            status: 2,
-            fault: None,
-        },
     }
 }

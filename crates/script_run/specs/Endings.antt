@@ -1,7 +1,5 @@
--- The exit statuses of the program, and the fault that it prints.
+-- The exit status of a run or a check, and the fault that is told.
 use Rattle.std.specs.Prelude.{ℕ, Option, Some, None, Result, Ok, Err}
-use Rattle.clap.specs.declared.error.kind.ErrorKind.{ErrorKind}
-use Rattle.clap.specs.declared.error.kind.ErrorKind.TheVariants.{DisplayHelp, DisplayVersion, OutOfMemory}
 use Rattle.script_run.specs.declared.fault.RunFault.{RunFault}
 use Rattle.script_run.specs.declared.fault.RunFault.TheVariants.{Read, Write, NoMemory, Script, Proof}
 use Rattle.script_run.specs.declared.running.Ended.{Ended}
@@ -24,15 +22,3 @@ fault_said (Ok Done) = None
 fault_said (Ok MemoryRefused) = Some NoMemory
 fault_said (Ok CheckedNo) = None
 fault_said (Err fault) = Some fault
-
--- the exit status of a command line that asks for no job
-abbrev pub refusal_code : ErrorKind → ℕ
-refusal_code DisplayHelp = 0
-refusal_code DisplayVersion = 0
-refusal_code OutOfMemory = 4
-refusal_code _ = 2
-
--- the fault that stands in place of the parser's text
-abbrev pub refusal_said : ErrorKind → Option RunFault
-refusal_said OutOfMemory = Some NoMemory
-refusal_said _ = None
