@@ -15,7 +15,7 @@ use serde_json::Value;
 use std::alloc::AllocError;
 use sysmem_counts::Field;
 use sysmem_formats::Offer;
-use sysmem_image::{ImageBounds, Size, bounds_table};
+use sysmem_image::{ImageBounds, Size, bounds_by_name, bounds_table};
 
 macro_rules! read_bounds {
     (($object:ident) $($name:ident: $shape:ident $rule:ident $field:ident $absent:ident $range:ident,)*) => {{
@@ -38,30 +38,24 @@ macro_rules! read_bound {
     (large $rule:ident $absent:ident $object:ident, $field:ident) => { product_of($object.get(Field::$field.name()))? };
 }
 
+macro_rules! put_fields {
+    (($out:ident, $bounds:ident) $($name:ident: $shape:ident $field:ident,)*) => {{
+        $(put_field!($shape $out, Field::$field, $bounds.$name);)*
+    }};
+}
+
+macro_rules! put_field {
+    (number $out:ident, $field:expr, $bound:expr) => { put_small($out, $field, $bound)? };
+    (size $out:ident, $field:expr, $bound:expr) => { put_sides($out, $field, $bound)? };
+    (large $out:ident, $field:expr, $bound:expr) => { put_large($out, $field, $bound)? };
+}
+
 /// Puts all fields of bounds, in the order of the bytes of their names.
 pub(crate) fn put_bounds(out: &mut Writer, bounds: ImageBounds) -> Result<(), AllocError>
     ensures { PutsData result out.old out.new (bounds_data bounds) }
 {
     out.begin_object()?;
-    put_small(out, Field::BytesPerRowDivisor, bounds.bytes_per_row_divisor)?;
-    put_sides(
-        out,
-        Field::DisplayRectAlignment,
-        bounds.display_rect_alignment,
-    )?;
-    put_small(out, Field::MaxBytesPerRow, bounds.max_bytes_per_row)?;
-    put_sides(out, Field::MaxSize, bounds.max_size)?;
-    put_large(
-        out,
-        Field::MaxWidthTimesHeight,
-        bounds.max_width_times_height,
-    )?;
-    put_small(out, Field::MinBytesPerRow, bounds.min_bytes_per_row)?;
-    put_sides(out, Field::MinSize, bounds.min_size)?;
-    put_sides(out, Field::RequiredMaxSize, bounds.required_max_size)?;
-    put_sides(out, Field::RequiredMinSize, bounds.required_min_size)?;
-    put_sides(out, Field::SizeAlignment, bounds.size_alignment)?;
-    put_small(out, Field::StartOffsetDivisor, bounds.start_offset_divisor)?;
+    bounds_by_name!(put_fields!(out, bounds));
     out.end_object()
 }
 

@@ -30,6 +30,30 @@ macro_rules! bounds_table {
     };
 }
 
+/// The fields of the table in the order of the bytes of their names, in which certificates have them; the proof
+/// of their printer refuses any other list.
+///
+/// `bounds_by_name!(callback!(arguments))` expands to `callback! { (arguments) row, row, .. }`. A row is
+/// `name: shape Field`, as in the table.
+#[macro_export]
+macro_rules! bounds_by_name {
+    ($do:ident!($($args:tt)*)) => {
+        $do! { ($($args)*)
+            bytes_per_row_divisor: number BytesPerRowDivisor,
+            display_rect_alignment: size DisplayRectAlignment,
+            max_bytes_per_row: number MaxBytesPerRow,
+            max_size: size MaxSize,
+            max_width_times_height: large MaxWidthTimesHeight,
+            min_bytes_per_row: number MinBytesPerRow,
+            min_size: size MinSize,
+            required_max_size: size RequiredMaxSize,
+            required_min_size: size RequiredMinSize,
+            size_alignment: size SizeAlignment,
+            start_offset_divisor: number StartOffsetDivisor,
+        }
+    };
+}
+
 /// What a `number` or a `large` number that isn't given is, from the column `absent` of the table.
 #[macro_export]
 macro_rules! absent_bound {
