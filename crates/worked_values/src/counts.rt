@@ -4,127 +4,71 @@ use crate::rows::are_equal;
 use bitflags::Flags;
 use sysmem_counts::{BUFFER_COUNT_LIMIT, CountBounds, CountConstraints, Field, Usage};
 
-// One participant's camping, dedicated slack, shared slack, minimum and maximum.
-fn asked(
-    camping: u32,
-    dedicated: u32,
-    shared: u32,
-    minimum: u32,
-    maximum: u32,
-) -> CountConstraints {
+// What a participant asks for: camping, dedicated slack, shared slack, a minimum and a maximum.
+type Asked = [u32; 5];
+
+const MOST: u32 = u32::MAX;
+
+const NOTHING: Asked = [0, 0, 0, 0, MOST];
+
+// What two participants ask for, and the least count for both.
+const LEAST: [(Asked, Asked, Result<u32, Field>); 11] = [
+    (NOTHING, NOTHING, Ok(1)),
+    ([2, 0, 1, 0, MOST], [3, 1, 2, 0, MOST], Ok(8)),
+    ([2, 0, 1, 0, MOST], [3, 1, 2, 0, 8], Ok(8)),
+    (
+        [2, 0, 1, 0, MOST],
+        [3, 1, 2, 0, 7],
+        Err(Field::MaxBufferCount),
+    ),
+    ([2, 0, 1, 0, MOST], [0, 0, 0, 9, 9], Ok(9)),
+    ([1, 0, 0, 5, MOST], [1, 0, 0, 4, 9], Ok(5)),
+    (
+        [1, 0, 0, 5, MOST],
+        [1, 0, 0, 4, 4],
+        Err(Field::MaxBufferCount),
+    ),
+    ([128, 0, 0, 0, MOST], NOTHING, Ok(BUFFER_COUNT_LIMIT)),
+    ([129, 0, 0, 0, MOST], NOTHING, Err(Field::BufferCountLimit)),
+    ([129, 0, 0, 0, 128], NOTHING, Err(Field::MaxBufferCount)),
+    (
+        [MOST, MOST, MOST, 0, MOST],
+        NOTHING,
+        Err(Field::MaxBufferCount),
+    ),
+];
+
+fn constraints(asked: &Asked) -> CountConstraints {
     CountConstraints {
-        min_buffer_count_for_camping: camping,
-        min_buffer_count_for_dedicated_slack: dedicated,
-        min_buffer_count_for_shared_slack: shared,
-        min_buffer_count: minimum,
-        max_buffer_count: maximum,
+        min_buffer_count_for_camping: asked[0],
+        min_buffer_count_for_dedicated_slack: asked[1],
+        min_buffer_count_for_shared_slack: asked[2],
+        min_buffer_count: asked[3],
+        max_buffer_count: asked[4],
     }
 }
 
-// The least count of two participants.
-fn least_of(first: CountConstraints, second: CountConstraints) -> Result<u32, Field> {
+// The least count of two participants, added one after the other, and of bounds that were made apart and joined.
+fn least_counts(first: &Asked, second: &Asked) -> [Result<u32, Field>; 2] {
     let mut bounds = CountBounds::new();
-    bounds.add(&first);
-    bounds.add(&second);
-    bounds.least_count()
-}
-
-// The least count of two participants whose bounds were made apart and joined.
-fn least_joined(first: CountConstraints, second: CountConstraints) -> Result<u32, Field> {
-    let mut bounds = CountBounds::new();
-    bounds.add(&first);
+    bounds.add(&constraints(first));
     let mut more = CountBounds::new();
-    more.add(&second);
-    bounds.join(&more);
-    bounds.least_count()
+    more.add(&constraints(second));
+    let mut joined = bounds;
+    joined.join(&more);
+    bounds.add(&constraints(second));
+    [bounds.least_count(), joined.least_count()]
 }
 
+// In either order.
 #[test]
-fn nothing_asked(rt: HostRuntime) {
-    let absent = CountConstraints::ABSENT;
-    are_equal(
-        &rt,
-        &[
-            (CountBounds::new().least_count(), Ok(1)),
-            (least_of(absent, absent), Ok(1)),
-        ],
-    );
-}
-
-#[test]
-fn slack(rt: HostRuntime) {
-    let first = asked(2, 0, 1, 0, u32::MAX);
-    are_equal(
-        &rt,
-        &[
-            (least_of(first, asked(3, 1, 2, 0, u32::MAX)), Ok(8)),
-            (least_of(first, asked(3, 1, 2, 0, 8)), Ok(8)),
-        ],
-    );
-}
-
-#[test]
-fn slack_too_many(rt: HostRuntime) {
-    let first = asked(2, 0, 1, 0, u32::MAX);
-    let count = least_of(first, asked(3, 1, 2, 0, 7));
-    are_equal(&rt, &[(count, Err(Field::MaxBufferCount))]);
-}
-
-#[test]
-fn joined(rt: HostRuntime) {
-    let first = asked(2, 0, 1, 0, u32::MAX);
-    are_equal(
-        &rt,
-        &[
-            (least_joined(first, asked(3, 1, 2, 0, u32::MAX)), Ok(8)),
-            (least_joined(asked(3, 1, 2, 0, 8), first), Ok(8)),
-            (
-                least_joined(asked(3, 1, 2, 0, 7), first),
-                Err(Field::MaxBufferCount),
-            ),
-            (least_joined(first, asked(0, 0, 0, 9, 9)), Ok(9)),
-        ],
-    );
-}
-
-#[test]
-fn minimums(rt: HostRuntime) {
-    let first = asked(1, 0, 0, 5, u32::MAX);
-    are_equal(
-        &rt,
-        &[
-            (least_of(first, asked(1, 0, 0, 4, 9)), Ok(5)),
-            (
-                least_of(first, asked(1, 0, 0, 4, 4)),
-                Err(Field::MaxBufferCount),
-            ),
-        ],
-    );
-}
-
-// The least count of one participant of the counts, without a minimum, beside one who asks for nothing.
-fn least_alone(camping: u32, dedicated: u32, shared: u32, maximum: u32) -> Result<u32, Field> {
-    let first = asked(camping, dedicated, shared, 0, maximum);
-    least_of(first, CountConstraints::ABSENT)
-}
-
-#[test]
-fn count_limit(rt: HostRuntime) {
-    are_equal(
-        &rt,
-        &[
-            (least_alone(128, 0, 0, u32::MAX), Ok(BUFFER_COUNT_LIMIT)),
-            (
-                least_alone(129, 0, 0, u32::MAX),
-                Err(Field::BufferCountLimit),
-            ),
-            (least_alone(129, 0, 0, 128), Err(Field::MaxBufferCount)),
-            (
-                least_alone(u32::MAX, u32::MAX, u32::MAX, u32::MAX),
-                Err(Field::MaxBufferCount),
-            ),
-        ],
-    );
+fn least_for_both(rt: HostRuntime) {
+    are_equal(&rt, &[(CountBounds::new().least_count(), Ok(1))]);
+    for (row, (first, second, wanted)) in LEAST.iter().enumerate() {
+        let answered = (least_counts(first, second), least_counts(second, first));
+        let wanted = [*wanted, *wanted];
+        are_equal(&rt, &[((row, answered), (row, (wanted, wanted)))]);
+    }
 }
 
 const NAMES: [(Field, &str); 10] = [
@@ -151,24 +95,21 @@ const NAMES: [(Field, &str); 10] = [
 
 const NO_NAMES: [&str; 5] = ["", "Usage", "usage ", "min_buffer", "colour_spaces"];
 
-// Whether the field is written so, and read from it.
-fn is_named(field: Field, text: &str) -> bool {
-    field.name() == text && Field::from_name(text) == Some(field)
-}
-
 #[test]
 fn field_names(rt: HostRuntime) {
-    for (field, text) in NAMES {
-        assert!(rt; is_named(field, text), "{text}");
+    for (field, text) in NAMES.iter() {
+        let answered = (field.name(), Field::from_name(text));
+        are_equal(&rt, &[(answered, (*text, Some(*field)))]);
     }
-    for text in NO_NAMES {
-        assert!(rt; Field::from_name(text).is_none(), "{text}");
+    for text in NO_NAMES.iter() {
+        are_equal(&rt, &[((*text, Field::from_name(text)), (*text, None))]);
     }
 }
 
-// Whether the usage is read from this, and alone uses the processor where it is that of one.
-fn is_read(name: &str, usage: Usage) -> bool {
-    Usage::from_name(name) == Some(usage) && usage.uses_cpu() == (usage == Usage::CPU)
+// The usage that is read from this, and whether it uses the processor.
+fn read(name: &str) -> Option<(Usage, bool)> {
+    let usage = Usage::from_name(name)?;
+    Some((usage, usage.uses_cpu()))
 }
 
 fn every_usage() -> Usage {
@@ -190,14 +131,14 @@ fn usages(rt: HostRuntime) {
     are_equal(
         &rt,
         &[
-            (is_read("none", Usage::NONE), true),
-            (is_read("cpu", Usage::CPU), true),
-            (is_read("vulkan", Usage::VULKAN), true),
-            (is_read("display", Usage::DISPLAY), true),
-            (is_read("video", Usage::VIDEO), true),
+            (read("none"), Some((Usage::NONE, false))),
+            (read("cpu"), Some((Usage::CPU, true))),
+            (read("vulkan"), Some((Usage::VULKAN, false))),
+            (read("display"), Some((Usage::DISPLAY, false))),
+            (read("video"), Some((Usage::VIDEO, false))),
+            (read("gpu"), None),
         ],
     );
     let all = every_usage();
     are_equal(&rt, &[((all.uses_cpu(), all.bits()), (true, 31))]);
-    are_equal(&rt, &[(Usage::from_name("gpu").is_none(), true)]);
 }

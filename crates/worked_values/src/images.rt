@@ -106,13 +106,18 @@ fn r8_rows(bytes: u32) -> Entry
     rows_of(entry(PixelFormat::R8), bytes)
 }
 
-/// The corner of merged entries, or the field that refuses it.
-fn smallest(offer: Offer, entries: &[Entry]) -> Result<Corner, Field> {
+/// The bounds of entries on an offer.
+fn bounds_of(entries: &[Entry], offer: Offer) -> Result<ImageBounds, Field> {
     let mut bounds = ImageBounds::of(&offer);
     for entry in entries {
         merge_into(&mut bounds, entry, &offer)?;
     }
-    corner(&bounds, &offer)
+    Ok(bounds)
+}
+
+/// The corner of merged entries, or the field that refuses it.
+fn smallest(offer: Offer, entries: &[Entry]) -> Result<Corner, Field> {
+    corner(&bounds_of(entries, offer)?, &offer)
 }
 
 fn image(width: u32, height: u32, bytes_per_row: u32, bytes: u128) -> Result<Corner, Field> {
@@ -320,15 +325,6 @@ fn colours(rt: HostRuntime) {
             (any.colours.accepts(ColourSpace::Srgb), true),
         ],
     );
-}
-
-/// The bounds of entries on an offer.
-fn bounds_of(entries: &[Entry], offer: Offer) -> Result<ImageBounds, Field> {
-    let mut bounds = ImageBounds::of(&offer);
-    for entry in entries {
-        merge_into(&mut bounds, entry, &offer)?;
-    }
-    Ok(bounds)
 }
 
 /// The field in which the merged bounds of entries first fail one of them.

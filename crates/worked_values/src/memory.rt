@@ -1,7 +1,5 @@
 //! The places of one platform as they were worked out by hand, and the texts of domains.
 
-ghost use Rattle.std.specs.Prelude.{◌≡◌, ◌≤◌, length};
-
 use crate::rows::are_equal;
 use std::alloc::{AllocError, Global};
 use std::test::Fail;
@@ -29,27 +27,26 @@ fn named(alloc: Global, heap_type: &str, id: u64) -> Result<Heap, AllocError> {
 }
 
 // The heaps ram, with nothing set, cma, contiguous, and vault, contiguous and secure.
-fn platform(alloc: Global) -> Result<Vec<HeapInfo>, Fail> {
-    let mut heaps = Vec::new(alloc);
-    heaps.push(HeapInfo {
+fn platform(alloc: Global) -> Result<[HeapInfo; 3], AllocError> {
+    let ram = HeapInfo {
         heap: named(alloc, "ram", 0)?,
         contiguous: false,
         secure: false,
         domains: CACHED,
-    })?;
-    heaps.push(HeapInfo {
+    };
+    let cma = HeapInfo {
         heap: named(alloc, "cma", 0)?,
         contiguous: true,
         secure: false,
         domains: CACHED,
-    })?;
-    heaps.push(HeapInfo {
+    };
+    let vault = HeapInfo {
         heap: named(alloc, "vault", 0)?,
         contiguous: true,
         secure: true,
         domains: HIDDEN,
-    })?;
-    Ok(heaps)
+    };
+    Ok([ram, cma, vault])
 }
 
 // The constraints of a participant that wants secure memory and no access by a processor.
@@ -61,50 +58,19 @@ fn secure(alloc: Global) -> MemoryConstraints {
     memory
 }
 
-// The first place that one participant leaves, and that it leaves beside a processor that names no constraints.
-fn first_places(
-    alloc: Global,
-    heaps: &[HeapInfo],
-    memory: &MemoryConstraints,
-    usage: Usage,
-) -> (Option<Place>, Option<Place>)
-    requires { length heaps.now ≤ 64 }
-{
-    let mut bounds = MemoryBounds::new(heaps);
-    bounds.add(heaps, memory, usage);
-    let alone = bounds.first_place(heaps);
-    bounds.add(
-        heaps,
-        &MemoryConstraints::permitting(Vec::new(alloc)),
-        Usage::CPU,
-    );
-    (alone, bounds.first_place(heaps))
-}
-
-// Each place in order, with the field that refuses it.
-fn refusals(heaps: &[HeapInfo], memory: &MemoryConstraints, usage: Usage) -> [Option<Field>; 5]
-    requires { length heaps.now ≡ 3 }
-{
-    [
-        refuses(memory, usage, &heaps[0], CoherencyDomain::Cpu),
-        refuses(memory, usage, &heaps[0], CoherencyDomain::Ram),
-        refuses(memory, usage, &heaps[1], CoherencyDomain::Cpu),
-        refuses(memory, usage, &heaps[1], CoherencyDomain::Ram),
-        refuses(memory, usage, &heaps[2], CoherencyDomain::Inaccessible),
-    ]
-}
-
-// The first place that one participant of the platform leaves, and that it leaves beside a processor.
+// The first place of the platform that one participant leaves, and that it leaves beside a processor that names no constraints.
 fn placed(
     alloc: Global,
     memory: &MemoryConstraints,
     usage: Usage,
-) -> Result<(Option<Place>, Option<Place>), Fail> {
+) -> Result<[Option<Place>; 2], AllocError> {
     let heaps = platform(alloc)?;
-    if heaps.len() != 3 {
-        return Err(Fail::new("not three heaps"));
-    }
-    Ok(first_places(alloc, &heaps, memory, usage))
+    let any = MemoryConstraints::permitting(Vec::new(alloc));
+    let mut bounds = MemoryBounds::new(&heaps);
+    bounds.add(&heaps, memory, usage);
+    let alone = bounds.first_place(&heaps);
+    bounds.add(&heaps, &any, Usage::CPU);
+    Ok([alone, bounds.first_place(&heaps)])
 }
 
 // Each place of the platform in order, with the field that refuses it.
@@ -112,12 +78,16 @@ fn refused(
     alloc: Global,
     memory: &MemoryConstraints,
     usage: Usage,
-) -> Result<[Option<Field>; 5], Fail> {
+) -> Result<[Option<Field>; 5], AllocError> {
     let heaps = platform(alloc)?;
-    if heaps.len() != 3 {
-        return Err(Fail::new("not three heaps"));
-    }
-    Ok(refusals(&heaps, memory, usage))
+    let [ram, cma, vault] = &heaps;
+    Ok([
+        refuses(memory, usage, ram, CoherencyDomain::Cpu),
+        refuses(memory, usage, ram, CoherencyDomain::Ram),
+        refuses(memory, usage, cma, CoherencyDomain::Cpu),
+        refuses(memory, usage, cma, CoherencyDomain::Ram),
+        refuses(memory, usage, vault, CoherencyDomain::Inaccessible),
+    ])
 }
 
 // The place of this heap.
@@ -126,11 +96,8 @@ fn place(heap: usize, coherency: CoherencyDomain) -> Option<Place> {
 }
 
 // The first place that nobody refuses.
-fn for_nobody(alloc: Global) -> Result<Option<Place>, Fail> {
+fn for_nobody(alloc: Global) -> Result<Option<Place>, AllocError> {
     let heaps = platform(alloc)?;
-    if heaps.len() != 3 {
-        return Err(Fail::new("not three heaps"));
-    }
     Ok(MemoryBounds::new(&heaps).first_place(&heaps))
 }
 
@@ -157,27 +124,8 @@ fn secure_heap(rt: HostRuntime) -> Result<(), Fail> {
         &rt,
         &[(found, [insecure, insecure, insecure, insecure, None])],
     );
-    are_equal(&rt, &[(places, (vault, None))]);
+    are_equal(&rt, &[(places, [vault, None])]);
     Ok(())
-}
-
-// What a secure participant leaves beside a processor, and beside a video device, which both take any place.
-fn joined_places(
-    heaps: &[HeapInfo],
-    secure: &MemoryConstraints,
-    any: &MemoryConstraints,
-) -> [Option<Place>; 2]
-    requires { length heaps.now ≤ 64 }
-{
-    let mut player = MemoryBounds::new(heaps);
-    player.add(heaps, secure, Usage::VIDEO);
-    let mut processor = MemoryBounds::new(heaps);
-    processor.add(heaps, any, Usage::CPU);
-    let mut video = MemoryBounds::new(heaps);
-    video.add(heaps, any, Usage::VIDEO);
-    processor.join(heaps, &player);
-    player.join(heaps, &video);
-    [processor.first_place(heaps), player.first_place(heaps)]
 }
 
 // One that takes any place.
@@ -187,19 +135,26 @@ fn anywhere(alloc: Global) -> MemoryConstraints {
     any
 }
 
-fn joined_here(alloc: Global) -> Result<[Option<Place>; 2], Fail> {
+// What a secure participant leaves beside a processor, and beside a video device, which both take any place.
+fn joined_places(alloc: Global) -> Result<[Option<Place>; 2], AllocError> {
     let heaps = platform(alloc)?;
-    if heaps.len() != 3 {
-        return Err(Fail::new("not three heaps"));
-    }
-    Ok(joined_places(&heaps, &secure(alloc), &anywhere(alloc)))
+    let (secure, any) = (secure(alloc), anywhere(alloc));
+    let mut player = MemoryBounds::new(&heaps);
+    player.add(&heaps, &secure, Usage::VIDEO);
+    let mut processor = MemoryBounds::new(&heaps);
+    processor.add(&heaps, &any, Usage::CPU);
+    let mut video = MemoryBounds::new(&heaps);
+    video.add(&heaps, &any, Usage::VIDEO);
+    processor.join(&heaps, &player);
+    player.join(&heaps, &video);
+    Ok([processor.first_place(&heaps), player.first_place(&heaps)])
 }
 
 // The same two participants, their bounds made apart and joined: secure memory, and a processor or a video device.
 #[test]
 fn joined(rt: HostRuntime) -> Result<(), Fail> {
     let vault = place(2, CoherencyDomain::Inaccessible);
-    are_equal(&rt, &[(joined_here(rt.alloc())?, [None, vault])]);
+    are_equal(&rt, &[(joined_places(rt.alloc())?, [None, vault])]);
     Ok(())
 }
 
@@ -219,7 +174,7 @@ fn contiguous_heap(rt: HostRuntime) -> Result<(), Fail> {
     memory.physically_contiguous_required = true;
     let places = placed(rt.alloc(), &memory, Usage::NONE)?;
     let cma = place(1, CoherencyDomain::Cpu);
-    are_equal(&rt, &[(places, (cma, cma))]);
+    are_equal(&rt, &[(places, [cma, cma])]);
     Ok(())
 }
 

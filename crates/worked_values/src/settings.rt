@@ -237,8 +237,8 @@ fn first_field(platform: &Platform, settings: &Settings, asked: &Constraints) ->
     }
 }
 
-// In what settings of main memory fail a camera, before their rows, then their size, then their place are mended.
-fn fail_in_turn(rt: &impl Abort, platform: &Platform, camera: &Constraints) {
+// Settings of main memory, and these as their rows, then their size, then their place are mended.
+fn mended() -> [Settings; 4] {
     let mut image = cached(1, 1);
     image.offer = linear(PixelFormat::R8);
     image.place.coherency = CoherencyDomain::Ram;
@@ -248,6 +248,12 @@ fn fail_in_turn(rt: &impl Abort, platform: &Platform, camera: &Constraints) {
     large.size_bytes = 4096;
     let mut near = large;
     near.place.coherency = CoherencyDomain::Cpu;
+    [image, rows, large, near]
+}
+
+// In what they fail a camera.
+fn fail_in_turn(rt: &impl Abort, platform: &Platform, camera: &Constraints) {
+    let [image, rows, large, near] = mended();
     are_equal(
         rt,
         &[
