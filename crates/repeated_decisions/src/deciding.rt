@@ -13,7 +13,7 @@ use sysmem_search::{Found, NoGate, prove, search};
 use sysmem_tree::{DomainId, Tree};
 
 /// The verdict of the initial domain with what proves it.
-fn claim_of(alloc: Global, platform: &Platform, tree: &Tree) -> Result<Claim> {
+pub(crate) fn claim_of(alloc: Global, platform: &Platform, tree: &Tree) -> Result<Claim> {
     let domain = tree.domain_of(tree.root());
     let found = found_in(alloc, platform, tree, domain)?;
     let proof = prove(alloc, platform, tree, domain, None, &found.verdict)?;

@@ -9,6 +9,8 @@
 //! | `settle` | asking such an aggregate for its best settings |
 //! | `prove` | making what proves the verdict |
 //! | `check` | checking the verdict with its proof |
+//! | `write` | writing the certificate of both |
+//! | `serialise` | making the text of a `serde_json::Value` of the same, which is made once |
 //!
 //! Calls that the tree refuses, checks and waits are passed over.
 #![tactic(auto)]
@@ -16,6 +18,7 @@
 mod adding;
 mod deciding;
 mod playing;
+mod writing;
 
 use adding::{add_again, settle_again};
 use anyhow::{Result, bail};
@@ -26,12 +29,15 @@ use std::alloc::Global;
 use std::{env, fs};
 use sysmem_sanitise::Platform;
 use sysmem_tree::Tree;
+use writing::{serialise_again, write_again};
 
 fn main(rt: HostRuntime) -> Result<()> {
     let mut words = env::args(&rt)?;
     let _program = words.next();
     let (Some(file), Some(jobs), Some(times)) = (words.next(), words.next(), words.next()) else {
-        bail!("usage: repeated_decisions FILE search|add|settle|prove|check[,..] TIMES");
+        bail!(
+            "usage: repeated_decisions FILE search|add|settle|prove|check|write|serialise[,..] TIMES"
+        );
     };
     let times = times.parse::<u32>()?;
     let bytes = fs::read(&rt, &file)?;
@@ -56,6 +62,8 @@ fn repeat(alloc: Global, job: &str, platform: &Platform, tree: &Tree, times: u32
         "settle" => settle_again(alloc, platform, tree, times),
         "prove" => prove_again(alloc, platform, tree, times),
         "check" => check_again(alloc, platform, tree, times),
+        "write" => write_again(alloc, platform, tree, times),
+        "serialise" => serialise_again(alloc, platform, tree, times),
         _ => bail!("{job:?} is no job"),
     }
 }
