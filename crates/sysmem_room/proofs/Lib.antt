@@ -1,0 +1,5 @@
+mod Asking
+mod Counting
+mod Logs
+mod Reading
+mod Still

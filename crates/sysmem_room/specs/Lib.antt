@@ -1,0 +1,5 @@
+pub mod Agreeing
+pub mod Counting
+pub mod Log
+pub mod Refusals
+pub mod Ruling

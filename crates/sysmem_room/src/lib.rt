@@ -1,0 +1,30 @@
+//! What lies under a collection's lock: its book, the count of its actions, and the cells in which its domains' outcomes are published.
+//!
+//! ```
+//! let opened = Room::<L>::open(alloc, blank, platform)?;
+//! let (mut room, mut share) = (opened.room, opened.share);
+//! let done = room.act(&path, &log, known, Action::Release, None, &mut share)?;
+//! if room.begin() {
+//!     while let Some(frozen) = room.frozen() {
+//!         // a search and a proof, where nothing is locked
+//!         let _entered = room.conclude(frozen, claim, copy);
+//!     }
+//! }
+//! ```
+#![tactic(auto)]
+
+mod agreeing;
+mod cell;
+mod log;
+mod outcome;
+mod refusing;
+mod room;
+mod verdicts;
+
+pub use agreeing::has_actions;
+pub use cell::FreshCell;
+pub use log::Log;
+pub use outcome::{Outcome, Ruling};
+pub use refusing::{due, is_member};
+pub use room::{Entered, Opened, Room};
+pub use verdicts::has_verdict;
