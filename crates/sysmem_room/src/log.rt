@@ -113,6 +113,13 @@ impl Log {
         actions
     }
 
+    /// All actions, the oldest first.
+    pub fn into_actions(self) -> Vec<Action>
+        ensures { map deed_of result.items ≡ self.deeds }
+    {
+        self.actions
+    }
+
     /// Whether a node has the constraints that the actions set.
     pub fn asks_as(&self, tree: &Tree, node: NodeId) -> bool
         requires { HasNode tree.now.nodes node }

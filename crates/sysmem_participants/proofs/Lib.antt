@@ -1,0 +1,3 @@
+mod Seeing
+mod Entries
+mod Ruled

@@ -1,0 +1,26 @@
+-- What is true of a ruling, and of a claim that was made from what was frozen.
+use Rattle.std.proofs.Common.{◌≡◌, ℕ, Option, subst}
+use Rattle.sysmem_proof.specs.declared.certificate.Claim.{Claim as AClaim}
+use Rattle.sysmem_proof.specs.declared.certificate.Proof.{Proof}
+use Rattle.sysmem_proof.specs.declared.verdict.Verdict.{Verdict}
+use Rattle.sysmem_proof.specs.Base.{BaseFacts}
+use Rattle.sysmem_proof.specs.Claim.{IsProofIn, IsTrueClaim}
+use Rattle.sysmem_proof.specs.Verdict.{IsOptimalIn}
+use Rattle.sysmem_room.specs.Ruling.{RulingFacts, IsRuling}
+use Rattle.sysmem_sanitise.specs.Platform.{PlatformFacts}
+use Rattle.sysmem_tree.specs.Domain.{TreeFacts}
+
+-- a ruling's claim makes it one
+pub rules : (r : RulingFacts) (claim : AClaim) → claim ≡ r.claim → IsTrueClaim r.frozen.platform r.frozen.tree.nodes r.frozen.domain r.frozen.base claim → IsRuling r
+rules r claim is right = subst (IsTrueClaim r.frozen.platform r.frozen.tree.nodes r.frozen.domain r.frozen.base) is right
+
+-- a verdict that is optimal and what proves it are a true claim
+pub put_together : (p q : PlatformFacts) (t u : TreeFacts) (d e : ℕ) (a b : Option BaseFacts) (v : Verdict) (by : Proof) → p ≡ q → t ≡ u → d ≡ e → a ≡ b
+    → IsOptimalIn p t.nodes d a v → IsProofIn p t.nodes d a v by → IsTrueClaim q u.nodes e b (record { verdict = v; proof = by })
+put_together p q t u d e a b v by pq tu de ab optimal proved =
+    let claim : AClaim = record { verdict = v; proof = by } in
+    let one : IsTrueClaim p t.nodes d a claim = record { optimal = optimal; proved = proved } in
+    let two : IsTrueClaim p t.nodes d b claim = subst (λ x. IsTrueClaim p t.nodes d x claim) ab one in
+    let three : IsTrueClaim p t.nodes e b claim = subst (λ x. IsTrueClaim p t.nodes x b claim) de two in
+    let four : IsTrueClaim p u.nodes e b claim = subst (λ (x : TreeFacts). IsTrueClaim p x.nodes e b claim) tu three in
+    subst (λ x. IsTrueClaim x u.nodes e b claim) pq four

@@ -1,0 +1,79 @@
+//! What a handle is told by what became of its domain.
+
+ghost use Rattle.std.specs.Prelude.{◌≡◌, ◌≢◌, IfErr, IfOk, IsTrue};
+ghost use Rattle.sysmem_room.specs.Log.{shown_by};
+ghost use Rattle.sysmem_participants.specs.Told.{Asks, IsShownAt, IsToldBy};
+
+use crate::view::View;
+use sysmem_alloc::Frozen;
+use sysmem_proof::Verdict;
+use sysmem_room::{Log, Outcome, Ruling, is_member};
+use sysmem_sanitise::Platform;
+use sysmem_tree::Refusal;
+
+/// Whether a ruling is for this platform.
+fn is_for(ruling: &Ruling, platform: &Platform) -> bool
+    ensures { IsTrue result → ruling.now.frozen.platform ≡ platform.now }
+{
+    ruling.frozen().platform().is_same(platform)
+}
+
+/// Whether the tree that was decided on has the log's constraints at the path.
+fn has_own(frozen: &Frozen, path: &[u32], log: &Log) -> bool
+    ensures { IsTrue result → Asks frozen.now path.now (shown_by log.now).constraints }
+{
+    let tree = frozen.tree();
+    match tree.node_at(path) {
+        Some(node) => log.asks_as(tree, node),
+        None => false,
+    }
+}
+
+/// What the handle of a path and a log is told by a ruling.
+fn shown<'a>(
+    ruling: &'a Ruling,
+    platform: &Platform,
+    path: &[u32],
+    log: &Log,
+) -> Result<View<'a>, Refusal>
+    ensures same { IfOk result (λ view. view ≡ ruling.now) }
+    ensures shown { IfOk result (IsShownAt platform.now path.now (shown_by log.now).constraints) }
+    ensures known { IfErr result (λ refusal. refusal ≢ Refusal.Pending) }
+    ensures told { IfErr result (IsToldBy ruling.now platform.now) }
+{
+    if !is_for(ruling, platform) {
+        return Err(Refusal::Strange);
+    }
+    match &ruling.claim().verdict {
+        Verdict::Chosen(chosen) => {
+            if !is_member(ruling.frozen(), chosen.selection(), path) {
+                return Err(Refusal::NotSelected);
+            }
+            if !has_own(ruling.frozen(), path, log) {
+                return Err(Refusal::Strange);
+            }
+            Ok(View::new(ruling, chosen))
+        }
+        Verdict::IntersectionEmpty => Err(Refusal::ConstraintsIntersectionEmpty),
+        Verdict::TooMany => Err(Refusal::TooManyGroupChildCombinations),
+        Verdict::Failed | Verdict::NoMemory => Err(Refusal::Strange),
+    }
+}
+
+/// What the handle of a path and a log is told by what became of its domain.
+pub(crate) fn told<'a>(
+    outcome: &'a Outcome,
+    platform: &Platform,
+    path: &[u32],
+    log: &Log,
+) -> Result<View<'a>, Refusal>
+    ensures decided { IfOk result (λ view. outcome.now ≡ Outcome.Decided view) }
+    ensures shown { IfOk result (IsShownAt platform.now path.now (shown_by log.now).constraints) }
+    ensures known { IfErr result (λ refusal. refusal ≢ Refusal.Pending) }
+{
+    match outcome {
+        Outcome::Decided(ruling) => shown(ruling, platform, path, log),
+        Outcome::Failed => Err(Refusal::DomainFailed),
+        Outcome::NoMemory => Err(Refusal::NoMemory),
+    }
+}
