@@ -31,8 +31,8 @@ outcome_refusal _ path = Some DomainFailed
 
 -- by the verdict that is known, if one is; none refuses what ends a node
 abbrev pub known_refusal : Option Outcome → List ℕ → ActionKind → Option Refusal
-known_refusal None path kind = None
-known_refusal (Some o) path kind = if ends_node kind then None else outcome_refusal o path
+known_refusal None path a = None
+known_refusal (Some o) path a = if ends_node a then None else outcome_refusal o path
 
 abbrev pub first_of : Option Refusal → Option Refusal → Option Refusal
 first_of None b = b

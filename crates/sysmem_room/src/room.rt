@@ -17,7 +17,7 @@ ghost use Rattle.sysmem_tree.specs.Table.{makes_root};
 ghost use Rattle.sysmem_tree.specs.Tree.{applied};
 
 use crate::agreeing::has_actions;
-use crate::cell::{DomainCell, FreshCell, publish, publish_failed};
+use crate::cell::{DomainCell, FreshCell, keep, publish_action, publish_decision};
 use crate::log::Log;
 use crate::outcome::{Outcome, Ruling};
 use crate::refusing::{due, unforeseen};
@@ -27,10 +27,11 @@ use std::alloc::{AllocError, Global};
 use std::marker::Model;
 use std::sync::Arc;
 use std::sync::ledger::{Blank, Book as Counted, Ledger, Share};
+use sysmem_alloc::laws::few_entries;
 use sysmem_alloc::{Book, Frozen};
 use sysmem_proof::Claim;
 use sysmem_sanitise::Platform;
-use sysmem_tree::{Action, ActionKind, Event, MOST_NODES, NodeId, Refusal};
+use sysmem_tree::{Action, ActionKind, DomainId, Event, MOST_NODES, NodeId, Refusal};
 
 /// A collection's book, its count of actions, and the cells of its domains. Whoever has the lock finds a legal book, and as many actions
 /// counted as its history has.
@@ -162,15 +163,13 @@ impl<L: Ledger> Room<L> {
         let kind = event.action.kind();
         let parts = parts_of(kind);
         let done = self.book.apply(event)?;
-        self.book.tree().nodes();
+        let tree = self.book.tree();
+        tree.nodes();
+        tree.domains();
         self.counted.add(mine, 1);
         let share = self.spare.split_off(parts, 0);
-        if let Some(fresh) = fresh {
-            self.cells.push_reserved(fresh.kept());
-        }
-        if kind == ActionKind::Close {
-            publish_failed(&mut self.cells, self.book.tree());
-        }
+        keep(&mut self.cells, fresh);
+        publish_action(&mut self.cells, tree, kind);
         Ok(Entered {
             node: done.node,
             share,
@@ -248,50 +247,75 @@ impl<L: Ledger> Room<L> {
         true
     }
 
-    /// What the domain that is next is decided on; `None` where no domain waits, and then nobody takes the decisions any more. A domain
-    /// for which memory is refused is entered and published as decided without memory, and the next one is taken.
+    /// What the domain that is next is decided on; `None` where no domain waits, and then nobody takes
+    /// the decisions any more. A domain for which memory is refused is entered and published as
+    /// decided without memory, and the next one is taken.
     pub fn frozen(&mut self) -> Option<Frozen>
-        ensures frozen { IfSome result (λ frozen. frozen_of self.new ≡ Some frozen) }
-        ensures none { result ≡ None → next_ready self.new.state ≡ None }
+        ensures { result ≡ frozen_of self.new }
     {
-        for _ in 0..640 {
+        let found = self.next_frozen();
+        if found.is_none() {
+            self.is_deciding = false;
+        }
+        found
+    }
+
+    /// What the domain that is next is decided on, where there is memory for it.
+    fn next_frozen(&mut self) -> Option<Frozen>
+        ensures { result ≡ frozen_of self.new }
+    {
+        for _ in 0..640_u32 {
+            let domain = self.book.next_ready()?;
             match self.book.frozen() {
-                Ok(Some(frozen)) => return Some(frozen),
-                Ok(None) => break,
-                Err(_) => self.want(),
+                Ok(found) => return found,
+                Err(_) => self.give_up(domain),
             }
         }
-        self.is_deciding = false;
+        few_entries();
+        self.book.platform();
         None
     }
 
-    /// Enters and publishes a decision that was made from what was frozen, if the book still has that for the domain that is next; `false`
-    /// where it hasn't, and then nothing has changed. `copy` is the same claim with an owner of its own, for the book. It takes no memory.
+    /// Enters and publishes a decision that was made from what was frozen, if the book still has that
+    /// for the domain that is next; `false` where it hasn't, and then nothing has changed. `copy` is
+    /// the same claim with an owner of its own, for the book. It takes no memory.
     pub fn conclude(&mut self, frozen: Frozen, claim: Arc<Claim>, copy: Arc<Claim>) -> bool
         requires right { IsTrueClaim frozen.platform frozen.tree.nodes frozen.domain frozen.base
             (arc_value claim) }
         requires same { arc_value copy ≡ arc_value claim }
         ensures fits { IsTrue result ↔ IsStill self.old frozen }
-        ensures entered { result ≡ true → self.new ≡ entered self.old (Decided (record {
+        ensures entered { IsTrue result → self.new ≡ entered self.old (Decided (record {
           domain = frozen.domain;
           claim = Some (arc_value claim);
         })) }
         ensures unchanged { result ≡ false → self.new ≡ self.old }
     {
-        if !self.book.fits(&frozen) {
-            return false;
+        let fits = self.book.fits(&frozen);
+        if fits {
+            self.decide(frozen, claim, copy);
         }
-        let domain = frozen.domain();
-        self.book.decide(domain, Some(copy));
-        let tree = self.book.tree();
-        let outcome = Outcome::Decided(Ruling::new(frozen, claim));
-        publish(&mut self.cells, tree, domain, outcome);
-        publish_failed(&mut self.cells, tree);
-        true
+        fits
     }
 
-    /// Enters and publishes that memory was refused to the decision of what was frozen, if its domain still is the next one; else it
-    /// changes nothing.
+    /// Enters and publishes a decision that was made from what the book still has.
+    fn decide(&mut self, frozen: Frozen, claim: Arc<Claim>, copy: Arc<Claim>)
+        requires still { IsStill self.old frozen }
+        requires right { IsTrueClaim frozen.platform frozen.tree.nodes frozen.domain frozen.base
+            (arc_value claim) }
+        requires same { arc_value copy ≡ arc_value claim }
+        ensures { self.new ≡ entered self.old (Decided (record {
+          domain = frozen.domain;
+          claim = Some (arc_value claim);
+        })) }
+    {
+        let domain = frozen.domain();
+        self.book.decide(domain, Some(copy));
+        let outcome = Outcome::Decided(Ruling::new(frozen, claim));
+        publish_decision(&mut self.cells, self.book.tree(), domain, outcome);
+    }
+
+    /// Enters and publishes that memory was refused to the decision of what was frozen, if its domain
+    /// still is the next one; else it changes nothing.
     pub fn lack(&mut self, frozen: &Frozen)
         ensures entered { next_ready self.old.state ≡ Some frozen.now.domain
             → self.new ≡ entered self.old (Decided (record {
@@ -301,23 +325,19 @@ impl<L: Ledger> Room<L> {
         ensures unchanged { next_ready self.old.state ≢ Some frozen.now.domain
             → self.new ≡ self.old }
     {
-        if self.book.next_ready() == Some(frozen.domain()) {
-            self.want();
+        let domain = frozen.domain();
+        if self.book.next_ready() == Some(domain) {
+            self.give_up(domain);
         }
     }
 
-    /// Enters and publishes that memory was refused to the decision of the domain that is next, if one waits.
-    fn want(&mut self)
-        ensures none { next_ready self.old.state ≡ None → self.new ≡ self.old }
-        ensures entered { IfSome (next_ready self.old.state) (λ domain. self.new
-            ≡ entered self.old (Decided (record { domain = domain; claim = None }))) }
+    /// Enters and publishes that memory was refused to the decision of the domain that is next.
+    fn give_up(&mut self, domain: DomainId)
+        requires { next_ready self.old.state ≡ Some domain }
+        ensures { self.new ≡ entered self.old (Decided (record { domain = domain; claim = None })) }
     {
-        if let Some(domain) = self.book.next_ready() {
-            self.book.decide(domain, None);
-            let tree = self.book.tree();
-            publish(&mut self.cells, tree, domain, Outcome::NoMemory);
-            publish_failed(&mut self.cells, tree);
-        }
+        self.book.decide(domain, None);
+        publish_decision(&mut self.cells, self.book.tree(), domain, Outcome::NoMemory);
     }
 
     /// Counts the actions by the shares of all nodes, joined: they have one for each action of the history.
