@@ -66,7 +66,7 @@ roots_grow t i deed after is =
     let (n, a) = accepted t i deed after is in
     let both : length (roots_of t ++ added (kind_of deed) (length t.nodes)) ≡ length (roots_of t) + length (added (kind_of deed) (length t.nodes)) = length-append (roots_of t) (added (kind_of deed) (length t.nodes)) in
     let new : length (domains_after t n (kind_of deed)) ≡ length (roots_of t ++ added (kind_of deed) (length t.nodes)) =
-        sym (length-map (domains_after t n (kind_of deed)) (λ (d : Domain). d.root)) ∙ ap length (acted_roots t n (kind_of deed)) in
+    sym (length-map (domains_after t n (kind_of deed)) (λ (d : Domain). d.root)) ∙ ap length (acted_roots t n (kind_of deed)) in
     let old : length (roots_of t) ≡ length t.domains = length-map t.domains (λ (d : Domain). d.root) in
     let many = added_many (kind_of deed) (length t.nodes) in
     sym (ap (λ (u : TreeFacts). length u.domains) a.tree) ∙ omega (arith, new, both, old, many)
@@ -75,8 +75,7 @@ roots_grow t i deed after is =
 pub decides : (b new : BookFacts) (c : Claimed) → new ≡ entered b (Decided c)
     → (actions_in new.history ≡ actions_in b.history) × (length new.state.tree.nodes ≡ length b.state.tree.nodes) × (length new.state.tree.domains ≡ length b.state.tree.domains)
 decides b new c is =
-    let push = actions_push b.history (Decided c) in
-    (
+    let push = actions_push b.history (Decided c) in (
       ap (λ (x : BookFacts). actions_in x.history) is ∙ omega (arith, push),
       ap (λ (x : BookFacts). length x.state.tree.nodes) is ∙ decided_many b.state.tree c.domain (choices_of (answer_of c).verdict),
       ap (λ (x : BookFacts). length x.state.tree.domains) is ∙ decided_domains b.state.tree c.domain (choices_of (answer_of c).verdict),

@@ -25,8 +25,7 @@ impl FreshCell {
     }
 
     /// The cell, with one more owner; `AllocError` where the count of its owners has no room.
-    pub fn shared(&self) -> Result<Arc<OnceBox<Outcome>>, AllocError>
-    {
+    pub fn shared(&self) -> Result<Arc<OnceBox<Outcome>>, AllocError> {
         Arc::try_clone(&self.cell)
     }
 

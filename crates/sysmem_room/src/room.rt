@@ -1,6 +1,6 @@
 //! What lies under a collection's lock.
 
-ghost use Rattle.std.specs.Prelude.{◌≡◌, ◌≢◌, ◌<◌, ◌≤◌, ◌+◌, ◌++◌, ◌↔◌, ℕ, Ok, Err, Some, None, true, false, length, option_map, is_some, IfErr, IfOk, IfSome, IsTrue, OnErr, OnOk};
+ghost use Rattle.std.specs.Prelude.{◌≡◌, ◌≢◌, ◌<◌, ◌≤◌, ◌+◌, ◌++◌, ◌↔◌, ℕ, List, Ok, Err, Some, None, true, false, length, option_map, is_some, IfErr, IfOk, IfSome, IsTrue, OnErr, OnOk};
 ghost use Rattle.std.specs.Arc.{arc_value};
 ghost use Rattle.sysmem_alloc.specs.Book.{entered, new_book};
 ghost use Rattle.sysmem_alloc.specs.Entry.{Acted, Decided};
@@ -9,6 +9,7 @@ ghost use Rattle.sysmem_alloc.specs.State.{next_ready};
 ghost use Rattle.sysmem_proof.specs.Claim.{IsTrueClaim};
 ghost use Rattle.sysmem_room.specs.Agreeing.{AgreesAt};
 ghost use Rattle.sysmem_room.specs.Counting.{actions_in, all_parts, nodes_by};
+ghost use Rattle.sysmem_room.specs.Lacking.{without_memory};
 ghost use Rattle.sysmem_room.specs.Log.{shown_by};
 ghost use Rattle.sysmem_room.specs.Refusals.{IsAnswer, due};
 ghost use Rattle.sysmem_tree.specs.ActionKind.{deed_of, kind_of};
@@ -33,8 +34,8 @@ use sysmem_proof::Claim;
 use sysmem_sanitise::Platform;
 use sysmem_tree::{Action, ActionKind, DomainId, Event, MOST_NODES, NodeId, Refusal};
 
-/// A collection's book, its count of actions, and the cells of its domains. Whoever has the lock finds a legal book, and as many actions
-/// counted as its history has.
+/// A collection's book, the count of its actions, and the cells of its domains. Whoever has the lock
+/// finds a legal book, and as many actions counted as its history has.
 #[derive(Drop)]
 pub struct Room<L: Ledger> {
     book: Book,
@@ -96,13 +97,9 @@ fn parts_of(kind: ActionKind) -> u64
 }
 
 impl<L: Ledger> Room<L> {
-    /// A new collection that is decided for this platform: a root token and nothing else. `AllocError` where memory is refused, and then
-    /// nothing is left of it.
-    pub fn open(
-        alloc: Global,
-        blank: Blank,
-        platform: Platform,
-    ) -> Result<Opened<L>, AllocError>
+    /// A new collection that is decided for this platform: a root token and nothing else.
+    /// `AllocError` where memory is refused, and then nothing is left of it.
+    pub fn open(alloc: Global, blank: Blank, platform: Platform) -> Result<Opened<L>, AllocError>
         requires name { blank.name ≡ L.name }
         requires ledger { blank.parts ≡ L.parts }
         requires parts { blank.parts ≡ all_parts }
@@ -134,9 +131,10 @@ impl<L: Ledger> Room<L> {
         &self.book
     }
 
-    /// Enters an action, counts it in the share of who acts, and publishes the failures that it brings; or answers the tree's first refusal,
-    /// and then nothing has changed. Where a node is made it gets a part of the count, and where that is the root of a domain, the domain
-    /// gets the fresh cell. It takes no memory.
+    /// Enters an action, counts it in the share of who acts, and publishes the failures that it
+    /// brings; or answers the tree's first refusal, and then nothing has changed. A node that is made
+    /// gets a part of the count, and where it is the root of a domain, the domain gets the fresh
+    /// cell. It takes no memory.
     pub fn enter(
         &mut self,
         event: Event,
@@ -176,7 +174,8 @@ impl<L: Ledger> Room<L> {
         })
     }
 
-    /// The node at the path of a log, if the book has the log's actions on it and the verdict that is known of its domain.
+    /// The node at the path of a log, if it was made as the log says, and the book has the log's
+    /// actions on it and the verdict that is known of its domain.
     fn node_of(&self, path: &[u32], log: &Log, known: Option<&Outcome>) -> Option<NodeId>
         ensures agrees { IfSome result (AgreesAt self.now path.now log.now.deeds
             (option_map (λ o. o.now) known.entry)) }
@@ -191,9 +190,10 @@ impl<L: Ledger> Room<L> {
         if is_own { Some(node) } else { None }
     }
 
-    /// Enters the action of a handle, by its path, its log and what it knows of its domain's verdict, as `enter` does. It is refused with
-    /// `Strange` where the book has no node at the path that was made as the log says, other actions there than the log, or another
-    /// verdict than the one that is known; then with what is due by what the handle knows; then with what it can't foresee.
+    /// Enters the action of a handle, by its path, its log and what it knows of its domain's verdict,
+    /// as `enter` does. It is refused with `Strange` where the book has no node at the path that was
+    /// made as the log says, other actions there than the log, or another verdict than the one that
+    /// is known; else with what is due by what the handle knows; else with what it can't foresee.
     pub fn act(
         &mut self,
         path: &[u32],
@@ -234,8 +234,9 @@ impl<L: Ledger> Room<L> {
         }
     }
 
-    /// Whether the caller is to take the decisions: a domain waits for one, and nobody takes them. From then on somebody does, until `frozen`
-    /// finds no domain that waits.
+    /// Whether the caller is to take the decisions: a domain waits for one, and nobody takes them.
+    /// From then on somebody does, until `frozen` finds no domain that waits. To be asked in the hold
+    /// of an action that was entered.
     pub fn begin(&mut self) -> bool
         ensures same { self.new ≡ self.old }
         ensures waits { IsTrue result → is_some (next_ready self.old.state) ≡ true }
@@ -251,7 +252,8 @@ impl<L: Ledger> Room<L> {
     /// the decisions any more. A domain for which memory is refused is entered and published as
     /// decided without memory, and the next one is taken.
     pub fn frozen(&mut self) -> Option<Frozen>
-        ensures { result ≡ frozen_of self.new }
+        ensures frozen { result ≡ frozen_of self.new }
+        ensures lacking { (domains : List ℕ) × (self.new ≡ without_memory self.old domains) }
     {
         let found = self.next_frozen();
         if found.is_none() {
@@ -262,7 +264,8 @@ impl<L: Ledger> Room<L> {
 
     /// What the domain that is next is decided on, where there is memory for it.
     fn next_frozen(&mut self) -> Option<Frozen>
-        ensures { result ≡ frozen_of self.new }
+        ensures frozen { result ≡ frozen_of self.new }
+        ensures lacking { (domains : List ℕ) × (self.new ≡ without_memory self.old domains) }
     {
         for _ in 0..640_u32 {
             let domain = self.book.next_ready()?;

@@ -39,8 +39,7 @@ publish_action-requires g c =
 pub invariant_of-self : goal.invariant_of-self
 invariant_of-self g c =
     let (actions, amount, parts, all, cells, room) = c.self.invariant in
-    let same = c.in_err-done.ensures.unchanged in
-    (
+    let same = c.in_err-done.ensures.unchanged in (
       ap (λ (b : BookFacts). actions_in b.history) same ∙ actions,
       amount,
       omega (arith, parts, ap (λ (b : BookFacts). length b.state.tree.nodes) same),
@@ -55,8 +54,7 @@ invariant_of-self-2 g c =
     let more = grows c.self.inside.book.state.tree c.args.event.node (deed_of c.args.event.action) _ c.in_ok-done.ensures.accepted in
     let domains = roots_grow c.self.inside.book.state.tree c.args.event.node (deed_of c.args.event.action) _ c.in_ok-done.ensures.accepted in
     let push = actions_push c.self.inside.book.history (Acted c.args.event.node (deed_of c.args.event.action)) in
-    let history = ap (λ (b : BookFacts). actions_in b.history) c.in_ok-done.ensures.entered in
-    (
+    let history = ap (λ (b : BookFacts). actions_in b.history) c.in_ok-done.ensures.entered in (
       history ∙ omega (arith, push, actions, c.add.ensures.total),
       omega (arith, amount, c.split_off-share.ensures.amount_left),
       omega (arith, parts, more, c.split_off-share.ensures.parts_left, c.parts_of-parts.ensures, ap nodes_by c.kind-kind.ensures),
