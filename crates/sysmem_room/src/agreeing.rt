@@ -50,7 +50,8 @@ fn is_same_action(tree: &Tree, node: NodeId, kind: ActionKind, action: &Action) 
     }
 }
 
-/// Reads an entry: where the next action on the node is found among the actions, if this one agrees.
+/// Reads an entry: where the next action on the node is found among the actions, if this one
+/// agrees.
 fn read_on(tree: &Tree, node: NodeId, entry: &Entry, actions: &[Action], at: usize) -> Option<usize>
     requires node { HasNode tree.now.nodes node }
     requires within { at ≤ length actions.now }

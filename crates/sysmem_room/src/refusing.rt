@@ -64,8 +64,8 @@ fn log_refusal(state: NodeState, kind: ActionKind) -> Option<Refusal>
     None
 }
 
-/// The refusal that is due by what a handle knows: by the verdict, if it knows one, and then by what
-/// its log makes of its node.
+/// The refusal that is due by what a handle knows: by the verdict, if it knows one, and then by
+/// what its log makes of its node.
 pub fn due(
     known: Option<&Outcome>,
     path: &[u32],
@@ -80,8 +80,8 @@ pub fn due(
     }
 }
 
-/// The book's refusal as a handle answers it that foresaw none: what it can't foresee, or `Strange`,
-/// since the two disagree.
+/// The book's refusal as a handle answers it that foresaw none: what it can't foresee, or
+/// `Strange`, since the two disagree.
 pub(crate) fn unforeseen(known: Option<&Outcome>, refusal: Refusal) -> Refusal
     ensures { result ≢ Refusal.Strange
         → IsAnswer None (option_map (λ o. o.now) known.entry) result }

@@ -34,8 +34,8 @@ use sysmem_proof::Claim;
 use sysmem_sanitise::Platform;
 use sysmem_tree::{Action, ActionKind, DomainId, Event, MOST_NODES, NodeId, Refusal};
 
-/// A collection's book, the count of its actions, and the cells of its domains. Whoever has the lock
-/// finds a legal book, and as many actions counted as its history has.
+/// A collection's book, the count of its actions, and the cells of its domains. Whoever has the
+/// lock finds a legal book, and as many actions counted as its history has.
 #[derive(Drop)]
 pub struct Room<L: Ledger> {
     book: Book,
@@ -86,7 +86,8 @@ pub struct Entered<L: Ledger> {
     pub share: Share<L>,
 }
 
-/// How many parts of the count a node gets that the action makes: one, or none where it makes no node.
+/// How many parts of the count a node gets that the action makes: one, or none where it makes no
+/// node.
 fn parts_of(kind: ActionKind) -> u64
     ensures { result ≡ nodes_by kind }
 {
@@ -132,9 +133,9 @@ impl<L: Ledger> Room<L> {
     }
 
     /// Enters an action, counts it in the share of who acts, and publishes the failures that it
-    /// brings; or answers the tree's first refusal, and then nothing has changed. A node that is made
-    /// gets a part of the count, and where it is the root of a domain, the domain gets the fresh
-    /// cell. It takes no memory.
+    /// brings; or answers the tree's first refusal, and then nothing has changed. A node that is
+    /// made gets a part of the count, and where it is the root of a domain, the domain gets the
+    /// fresh cell. It takes no memory.
     pub fn enter(
         &mut self,
         event: Event,
@@ -190,10 +191,11 @@ impl<L: Ledger> Room<L> {
         if is_own { Some(node) } else { None }
     }
 
-    /// Enters the action of a handle, by its path, its log and what it knows of its domain's verdict,
-    /// as `enter` does. It is refused with `Strange` where the book has no node at the path that was
-    /// made as the log says, other actions there than the log, or another verdict than the one that
-    /// is known; else with what is due by what the handle knows; else with what it can't foresee.
+    /// Enters the action of a handle, by its path, its log and what it knows of its domain's
+    /// verdict, as `enter` does. It is refused with `Strange` where the book has no node at the
+    /// path that was made as the log says, other actions there than the log, or another verdict
+    /// than the one that is known; else with what is due by what the handle knows; else with what
+    /// it can't foresee.
     pub fn act(
         &mut self,
         path: &[u32],
@@ -235,8 +237,8 @@ impl<L: Ledger> Room<L> {
     }
 
     /// Whether the caller is to take the decisions: a domain waits for one, and nobody takes them.
-    /// From then on somebody does, until `frozen` finds no domain that waits. To be asked in the hold
-    /// of an action that was entered.
+    /// From then on somebody does, until `frozen` finds no domain that waits. To be asked in the
+    /// hold of an action that was entered.
     pub fn begin(&mut self) -> bool
         ensures same { self.new ≡ self.old }
         ensures waits { IsTrue result → is_some (next_ready self.old.state) ≡ true }
@@ -248,9 +250,9 @@ impl<L: Ledger> Room<L> {
         true
     }
 
-    /// What the domain that is next is decided on; `None` where no domain waits, and then nobody takes
-    /// the decisions any more. A domain for which memory is refused is entered and published as
-    /// decided without memory, and the next one is taken.
+    /// What the domain that is next is decided on; `None` where no domain waits, and then nobody
+    /// takes the decisions any more. A domain for which memory is refused is entered and published
+    /// as decided without memory, and the next one is taken.
     pub fn frozen(&mut self) -> Option<Frozen>
         ensures frozen { result ≡ frozen_of self.new }
         ensures lacking { (domains : List ℕ) × (self.new ≡ without_memory self.old domains) }
@@ -279,9 +281,9 @@ impl<L: Ledger> Room<L> {
         None
     }
 
-    /// Enters and publishes a decision that was made from what was frozen, if the book still has that
-    /// for the domain that is next; `false` where it hasn't, and then nothing has changed. `copy` is
-    /// the same claim with an owner of its own, for the book. It takes no memory.
+    /// Enters and publishes a decision that was made from what was frozen, if the book still has
+    /// that for the domain that is next; `false` where it hasn't, and then nothing has changed.
+    /// `copy` is the same claim with an owner of its own, for the book. It takes no memory.
     pub fn conclude(&mut self, frozen: Frozen, claim: Arc<Claim>, copy: Arc<Claim>) -> bool
         requires right { IsTrueClaim frozen.platform frozen.tree.nodes frozen.domain frozen.base
             (arc_value claim) }
@@ -317,8 +319,8 @@ impl<L: Ledger> Room<L> {
         publish_decision(&mut self.cells, self.book.tree(), domain, outcome);
     }
 
-    /// Enters and publishes that memory was refused to the decision of what was frozen, if its domain
-    /// still is the next one; else it changes nothing.
+    /// Enters and publishes that memory was refused to the decision of what was frozen, if its
+    /// domain still is the next one; else it changes nothing.
     pub fn lack(&mut self, frozen: &Frozen)
         ensures entered { next_ready self.old.state ≡ Some frozen.now.domain
             → self.new ≡ entered self.old (Decided (record {
@@ -343,7 +345,8 @@ impl<L: Ledger> Room<L> {
         publish_decision(&mut self.cells, self.book.tree(), domain, Outcome::NoMemory);
     }
 
-    /// Counts the actions by the shares of all nodes, joined: they have one for each action of the history.
+    /// Counts the actions by the shares of all nodes, joined: they have one for each action of the
+    /// history.
     pub fn count(&mut self, all: &mut Share<L>)
         requires { all.old.parts ≡ length self.old.state.tree.nodes }
         ensures same { self.new ≡ self.old }
