@@ -19,7 +19,7 @@ proved:
 test:
 	RT_JOBS=$(JOBS) rt ci
 
-# Tests of the proved program as a whole (they need a C compiler and Python): reports, refusals, records, certificates and their checks, and each allocation refused in turn.
+# Tests of the proved program as a whole (they need a C compiler and Python): reports, refusals, records, certificates and their checks, files that fail, and each allocation refused in turn.
 program-test: proved
 	@$(MAKE) --no-print-directory built-test
 
@@ -31,6 +31,7 @@ built-test:
 	tests/run_command
 	tests/certificates
 	tests/checks
+	tests/failing_files
 	tests/want_of_memory
 
 # Wrong bodies beyond those of the gate, each of which the prover must refuse, over what is kept of each crate's proof (which is made first where there is none).
