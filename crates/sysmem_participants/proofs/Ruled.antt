@@ -1,5 +1,6 @@
 -- What is true of a ruling, and of a claim that was made from what was frozen.
-use Rattle.std.proofs.Common.{◌≡◌, ℕ, Option, subst}
+use Rattle.std.proofs.Common.{◌≡◌, ◌∙◌, ℕ, List, Option, Result, Ok, Err, ap, sym, subst}
+use Rattle.std.specs.Prelude.{IfOk}
 use Rattle.sysmem_proof.specs.declared.certificate.Claim.{Claim as AClaim}
 use Rattle.sysmem_proof.specs.declared.certificate.Proof.{Proof}
 use Rattle.sysmem_proof.specs.declared.verdict.Verdict.{Verdict}
@@ -8,11 +9,26 @@ use Rattle.sysmem_proof.specs.Claim.{IsProofIn, IsTrueClaim}
 use Rattle.sysmem_proof.specs.Verdict.{IsOptimalIn}
 use Rattle.sysmem_room.specs.Ruling.{RulingFacts, IsRuling}
 use Rattle.sysmem_sanitise.specs.Platform.{PlatformFacts}
+use Rattle.sysmem_sanitise.specs.Participant.{Participant}
+use Rattle.sysmem_tree.specs.declared.refusal.Refusal.{Refusal}
 use Rattle.sysmem_tree.specs.Domain.{TreeFacts}
+use Rattle.sysmem_participants.specs.Told.{Asks, IsChosenFor, IsShownAt}
 
 -- a ruling's claim makes it one
-pub rules : (r : RulingFacts) (claim : AClaim) → claim ≡ r.claim → IsTrueClaim r.frozen.platform r.frozen.tree.nodes r.frozen.domain r.frozen.base claim → IsRuling r
-rules r claim is right = subst (IsTrueClaim r.frozen.platform r.frozen.tree.nodes r.frozen.domain r.frozen.base) is right
+pub ruled : (r : RulingFacts) (claim : AClaim) → claim ≡ r.claim → IsTrueClaim r.frozen.platform r.frozen.tree.nodes r.frozen.domain r.frozen.base claim → IsRuling r
+ruled r claim is right = subst (IsTrueClaim r.frozen.platform r.frozen.tree.nodes r.frozen.domain r.frozen.base) is right
+
+-- what is shown of a ruling may be shown
+pub shown_at : (shown : Result RulingFacts Refusal) (r : RulingFacts) (platform : PlatformFacts) (path : List ℕ) (asked : Option Participant) → IsRuling r
+    → r.frozen.platform ≡ platform → IfOk shown (λ v. v ≡ r) → IfOk shown (λ v. IsChosenFor path v.frozen v.claim.verdict) → IfOk shown (λ v. Asks v.frozen path asked)
+    → IfOk shown (IsShownAt platform path asked)
+shown_at (Ok v) r platform path asked right is_for same chosen own = record {
+  right = subst IsRuling (sym same) right;
+  is_for = ap (λ (x : RulingFacts). x.frozen.platform) same ∙ is_for;
+  chosen = chosen;
+  own = own;
+}
+shown_at (Err e) r platform path asked right is_for same chosen own = tt
 
 -- a verdict that is optimal and what proves it are a true claim
 pub put_together : (p q : PlatformFacts) (t u : TreeFacts) (d e : ℕ) (a b : Option BaseFacts) (v : Verdict) (by : Proof) → p ≡ q → t ≡ u → d ≡ e → a ≡ b

@@ -46,8 +46,8 @@ abbrev pub IsSet : Verdict → Settings → Type 0
 IsSet (verdicts.Chosen chosen) settings = settings ≡ chosen.settings
 IsSet _ settings = ⊥
 
--- what a refusal says of a ruling: of one for the handle's platform, that its verdict is empty or too many selections
-abbrev pub IsToldBy : RulingFacts → PlatformFacts → Refusal → Type 0
-IsToldBy r platform refusals.ConstraintsIntersectionEmpty = (r.claim.verdict ≡ verdicts.IntersectionEmpty) × (r.frozen.platform ≡ platform)
-IsToldBy r platform refusals.TooManyGroupChildCombinations = (r.claim.verdict ≡ verdicts.TooMany) × (r.frozen.platform ≡ platform)
-IsToldBy r platform q = Unit {0}
+-- what a refusal says of a decision's verdict: that it is empty, or too many selections
+abbrev pub IsToldBy : Verdict → Refusal → Type 0
+IsToldBy v refusals.ConstraintsIntersectionEmpty = v ≡ verdicts.IntersectionEmpty
+IsToldBy v refusals.TooManyGroupChildCombinations = v ≡ verdicts.TooMany
+IsToldBy v q = Unit {0}

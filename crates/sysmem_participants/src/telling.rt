@@ -2,7 +2,7 @@
 
 ghost use Rattle.std.specs.Prelude.{◌≡◌, ◌≢◌, IfErr, IfOk, IsTrue};
 ghost use Rattle.sysmem_room.specs.Log.{shown_by};
-ghost use Rattle.sysmem_participants.specs.Told.{Asks, IsShownAt, IsToldBy};
+ghost use Rattle.sysmem_participants.specs.Told.{Asks, IsChosenFor, IsShownAt, IsToldBy};
 
 use crate::view::View;
 use sysmem_alloc::Frozen;
@@ -29,21 +29,14 @@ fn has_own(frozen: &Frozen, path: &[u32], log: &Log) -> bool
     }
 }
 
-/// What the handle of a path and a log is told by a ruling.
-fn shown<'a>(
-    ruling: &'a Ruling,
-    platform: &Platform,
-    path: &[u32],
-    log: &Log,
-) -> Result<View<'a>, Refusal>
+/// What the handle of a path and a log is told by a ruling for its platform.
+fn shown<'a>(ruling: &'a Ruling, path: &[u32], log: &Log) -> Result<View<'a>, Refusal>
     ensures same { IfOk result (λ view. view ≡ ruling.now) }
-    ensures shown { IfOk result (IsShownAt platform.now path.now (shown_by log.now).constraints) }
+    ensures chosen { IfOk result (λ view. IsChosenFor path.now view.frozen view.claim.verdict) }
+    ensures own { IfOk result (λ view. Asks view.frozen path.now (shown_by log.now).constraints) }
     ensures known { IfErr result (λ refusal. refusal ≢ Refusal.Pending) }
-    ensures told { IfErr result (IsToldBy ruling.now platform.now) }
+    ensures told { IfErr result (IsToldBy ruling.now.claim.verdict) }
 {
-    if !is_for(ruling, platform) {
-        return Err(Refusal::Strange);
-    }
     match &ruling.claim().verdict {
         Verdict::Chosen(chosen) => {
             if !is_member(ruling.frozen(), chosen.selection(), path) {
@@ -71,9 +64,14 @@ pub(crate) fn told<'a>(
     ensures shown { IfOk result (IsShownAt platform.now path.now (shown_by log.now).constraints) }
     ensures known { IfErr result (λ refusal. refusal ≢ Refusal.Pending) }
 {
-    match outcome {
-        Outcome::Decided(ruling) => shown(ruling, platform, path, log),
-        Outcome::Failed => Err(Refusal::DomainFailed),
-        Outcome::NoMemory => Err(Refusal::NoMemory),
+    let ruling = match outcome {
+        Outcome::Decided(ruling) => ruling,
+        Outcome::Failed => return Err(Refusal::DomainFailed),
+        Outcome::NoMemory => return Err(Refusal::NoMemory),
+    };
+    if !is_for(ruling, platform) {
+        return Err(Refusal::Strange);
     }
+    ruling.claim();
+    shown(ruling, path, log)
 }

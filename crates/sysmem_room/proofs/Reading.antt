@@ -39,14 +39,14 @@ pub left_on : (nodes : List NodeFacts) (i : ℕ) (es : List Entry) (as' : List A
     → drop at (map deed_of as') ≡ own_deeds i (entry_in nodes e) ++ drop next (map deed_of as') → Left nodes i es as' k at → Left nodes i es as' (k + 1) next
 left_on nodes i es as' k at next e here read left rest =
     left (ap (λ xs. book_log xs i) (drop_map es k e here) ∙ (log_cons i (entry_in nodes e) (map (entry_in nodes) (drop (k + 1) es)) ∙ (ap (λ ds. own_deeds i (entry_in nodes e) ++ ds) rest ∙ sym read))) where
-  drop_map : (xs : List Entry) (j : ℕ) (x : Entry) → slice_get xs j ≡ Some x → map (entry_in nodes) (drop j xs) ≡ entry_in nodes x ∷ map (entry_in nodes) (drop (j + 1) xs)
-  drop_map [] j x at = absurd (cc)
-  drop_map (y ∷ ys) zero x at = ap (λ z. entry_in nodes z ∷ map (entry_in nodes) ys) (same_Some y x at)
-  drop_map (y ∷ ys) (suc j) x at = let more : suc (j + 1) ≡ suc j + 1 = omega arith in drop_map ys j x at ∙ ap (λ n. entry_in nodes x ∷ map (entry_in nodes) (drop n (y ∷ ys))) more
+      drop_map : (xs : List Entry) (j : ℕ) (x : Entry) → slice_get xs j ≡ Some x → map (entry_in nodes) (drop j xs) ≡ entry_in nodes x ∷ map (entry_in nodes) (drop (j + 1) xs)
+      drop_map [] j x at = absurd (cc)
+      drop_map (y ∷ ys) zero x at = ap (λ z. entry_in nodes z ∷ map (entry_in nodes) ys) (same_Some y x at)
+      drop_map (y ∷ ys) (suc j) x at = let more : suc (j + 1) ≡ suc j + 1 = omega arith in drop_map ys j x at ∙ ap (λ n. entry_in nodes x ∷ map (entry_in nodes) (drop n (y ∷ ys))) more
 
 pub own_acted : (nodes : List NodeFacts) (i k : ℕ) (kind : ActionKind) (e : Entry) (d : Deed) → e ≡ entries.Acted k kind → k ≡ i → deed_with (asks_at nodes i) kind ≡ d
     → own_deeds i (entry_in nodes e) ≡ d ∷ []
 own_acted nodes i k kind e d is same own =
     ap (λ x. own_deeds i (entry_in nodes x)) is ∙ (subst (λ j. own_deeds i (Acted j (deed_with (asks_at nodes j) kind)) ≡ deed_with (asks_at nodes j) kind ∷ []) (sym same) here ∙ ap (λ x. x ∷ []) (ap (λ j. deed_with (asks_at nodes j) kind) same ∙ own)) where
-  here : own_deeds i (Acted i (deed_with (asks_at nodes i) kind)) ≡ deed_with (asks_at nodes i) kind ∷ []
-  here = let t : (i == i) ≡ true = search (rules, tests) in ap (λ b. if b then deed_with (asks_at nodes i) kind ∷ [] else []) t
+      here : own_deeds i (Acted i (deed_with (asks_at nodes i) kind)) ≡ deed_with (asks_at nodes i) kind ∷ []
+      here = let t : (i == i) ≡ true = search (rules, tests) in ap (λ b. if b then deed_with (asks_at nodes i) kind ∷ [] else []) t

@@ -15,9 +15,13 @@ use Rattle.sysmem_room.specs.declared.outcome.Outcome.{Outcome}
 use Rattle.sysmem_room.specs.declared.outcome.Outcome.TheVariants as outcomes
 use Rattle.sysmem_room.specs.Log.{log_refusal}
 
+-- node i is a member of the selection
+abbrev pub is_among : FrozenFacts → List ℕ → ℕ → Bool
+is_among f selection i = list_any (λ k. k == i) (members_of f.tree.nodes f.domain selection)
+
 -- the node at the path is a member of the selection
 abbrev pub is_member : FrozenFacts → List ℕ → List ℕ → Bool
-is_member f selection path = unwrap_or (option_map (λ i. list_any (λ k. k == i) (members_of f.tree.nodes f.domain selection)) (node_at f.tree.nodes path)) false
+is_member f selection path = unwrap_or (option_map (is_among f selection) (node_at f.tree.nodes path)) false
 
 -- what a verdict refuses the actions on a node for
 abbrev pub refusal_by : FrozenFacts → List ℕ → Verdict → Option Refusal
@@ -31,8 +35,8 @@ outcome_refusal _ path = Some DomainFailed
 
 -- by the verdict that is known, if one is; none refuses what ends a node
 abbrev pub known_refusal : Option Outcome → List ℕ → ActionKind → Option Refusal
-known_refusal None path kind = None
-known_refusal (Some o) path kind = if ends_node kind then None else outcome_refusal o path
+known_refusal None path a = None
+known_refusal (Some o) path a = if ends_node a then None else outcome_refusal o path
 
 abbrev pub first_of : Option Refusal → Option Refusal → Option Refusal
 first_of None b = b

@@ -50,14 +50,9 @@ fn is_same_action(tree: &Tree, node: NodeId, kind: ActionKind, action: &Action) 
     }
 }
 
-/// Reads an entry: where in the actions the next one on the node is found, if this one agrees.
-fn read_on(
-    tree: &Tree,
-    node: NodeId,
-    entry: &Entry,
-    actions: &[Action],
-    at: usize,
-) -> Option<usize>
+/// Reads an entry: where the next action on the node is found among the actions, if this one
+/// agrees.
+fn read_on(tree: &Tree, node: NodeId, entry: &Entry, actions: &[Action], at: usize) -> Option<usize>
     requires node { HasNode tree.now.nodes node }
     requires within { at ≤ length actions.now }
     ensures within { IfSome result (λ next. next ≤ length actions.now) }
@@ -72,7 +67,11 @@ fn read_on(
         return Some(at);
     }
     let action = actions.get(at)?;
-    if is_same_action(tree, node, *kind, action) { Some(at + 1) } else { None }
+    if is_same_action(tree, node, *kind, action) {
+        Some(at + 1)
+    } else {
+        None
+    }
 }
 
 /// Whether a book's history has just these actions on a node.

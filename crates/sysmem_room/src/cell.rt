@@ -1,14 +1,13 @@
 //! The cells in which the outcomes of domains are published.
 
-ghost use Rattle.std.specs.Prelude.{◌≡◌, ◌<◌, ◌≤◌, IfOk, IfSome, length};
-ghost use Rattle.std.specs.Arc.{arc_value};
-ghost use Rattle.once_cell.specs.Once.{cell_name};
+ghost use Rattle.std.specs.Prelude.{◌≡◌, ◌<◌, ◌+◌, true, is_some, if◌then◌else◌, IfSome, length};
+ghost use Rattle.std.specs.Vec.{vec_capacity, vec_len};
 
 use crate::outcome::Outcome;
 use once_cell::race::OnceBox;
 use std::alloc::{AllocError, Global};
 use std::sync::Arc;
-use sysmem_tree::{DomainId, Tree};
+use sysmem_tree::{ActionKind, DomainId, Tree};
 
 /// An empty cell with the memory in which the outcome will lie, so that to set it takes none.
 #[derive(Drop)]
@@ -26,8 +25,7 @@ impl FreshCell {
     }
 
     /// The cell, with one more owner; `AllocError` where the count of its owners has no room.
-    pub fn shared(&self) -> Result<Arc<OnceBox<Outcome>>, AllocError>
-    {
+    pub fn shared(&self) -> Result<Arc<OnceBox<Outcome>>, AllocError> {
         Arc::try_clone(&self.cell)
     }
 
@@ -70,18 +68,21 @@ fn index_of(tree: &Tree, domain: DomainId) -> Option<usize>
     None
 }
 
-/// Sets the cell of a domain, where the cells are those of the tree's domains in the order in which their roots were made.
-pub(crate) fn publish(cells: &mut [DomainCell], tree: &Tree, domain: DomainId, outcome: Outcome)
-    requires { length cells.old ≡ length tree.now.domains }
-    ensures { length cells.new ≡ length cells.old }
+/// Adds the cell of a domain that was made, if one was.
+pub(crate) fn keep(cells: &mut Vec<DomainCell>, fresh: Option<FreshCell>)
+    requires { is_some fresh ≡ true → vec_len cells.old < vec_capacity cells.old }
+    ensures number { vec_len cells.new
+        ≡ vec_len cells.old + (if is_some fresh then 1 else 0) }
+    ensures room { vec_capacity cells.new ≡ vec_capacity cells.old }
 {
-    if let Some(index) = index_of(tree, domain) {
-        cells[index].set(outcome);
+    if let Some(one) = fresh {
+        cells.push_reserved(one.kept());
     }
 }
 
-/// Sets the cells of the domains that have failed, in the order in which their roots were made; a cell that is set stays as it is.
-pub(crate) fn publish_failed(cells: &mut [DomainCell], tree: &Tree)
+/// Sets the cells of the domains that have failed, in the order in which their roots were made; a
+/// cell that is set stays as it is. The cells are those of the tree's domains, in that order.
+fn publish_failed(cells: &mut [DomainCell], tree: &Tree)
     requires { length cells.old ≡ length tree.now.domains }
     ensures { length cells.new ≡ length cells.old }
 {
@@ -91,4 +92,30 @@ pub(crate) fn publish_failed(cells: &mut [DomainCell], tree: &Tree)
             cells[index as usize].set(Outcome::Failed);
         }
     }
+}
+
+/// Publishes what an action of this kind has made fail; only a close does.
+pub(crate) fn publish_action(cells: &mut [DomainCell], tree: &Tree, kind: ActionKind)
+    requires { length cells.old ≡ length tree.now.domains }
+    ensures { length cells.new ≡ length cells.old }
+{
+    if kind == ActionKind::Close {
+        publish_failed(cells, tree);
+    }
+}
+
+/// Publishes what became of a domain by its decision, and of those that failed by it.
+pub(crate) fn publish_decision(
+    cells: &mut [DomainCell],
+    tree: &Tree,
+    domain: DomainId,
+    outcome: Outcome,
+)
+    requires { length cells.old ≡ length tree.now.domains }
+    ensures { length cells.new ≡ length cells.old }
+{
+    if let Some(index) = index_of(tree, domain) {
+        cells[index].set(outcome);
+    }
+    publish_failed(cells, tree);
 }

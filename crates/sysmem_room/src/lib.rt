@@ -1,4 +1,5 @@
-//! What lies under a collection's lock: its book, the count of its actions, and the cells in which its domains' outcomes are published.
+//! What lies under the lock of a collection that threads share: its book, the count of its actions,
+//! and the cells in which the outcomes of its domains are published. No call waits.
 //!
 //! ```
 //! let opened = Room::<L>::open(alloc, blank, platform)?;
@@ -7,7 +8,7 @@
 //! if room.begin() {
 //!     while let Some(frozen) = room.frozen() {
 //!         // a search and a proof, where nothing is locked
-//!         let _entered = room.conclude(frozen, claim, copy);
+//!         room.conclude(frozen, claim, copy);
 //!     }
 //! }
 //! ```

@@ -1,4 +1,4 @@
-//! What a handle knows of its node.
+//! What a handle knows of its node: how it was made, and the actions on it that were accepted.
 
 ghost use Rattle.std.specs.Prelude.{◌≡◌, ◌<◌, ◌≤◌, ◌+◌, ◌++◌, [], ◌∷◌, length, map, option_map, IfOk, IsTrue, OnErr, OnOk};
 ghost use Rattle.sysmem_proof.specs.Asked.{asks_at};
@@ -12,7 +12,7 @@ use std::marker::Model;
 use sysmem_sanitise::Constraints;
 use sysmem_tree::{Action, NodeId, NodeKind, NodeState, Tree};
 
-/// The accepted actions on a node, with room for one more.
+/// How a node was made, and the accepted actions on it, with room for one more.
 #[derive(Drop)]
 pub struct Log {
     begun: NodeKind,
@@ -45,12 +45,8 @@ impl Model for Log {
 }
 
 impl Log {
-    /// Of a node that was just made.
-    pub fn new(
-        alloc: Global,
-        begun: NodeKind,
-        is_domain_root: bool,
-    ) -> Result<Log, AllocError>
+    /// Of a node of this kind that was just made; `AllocError` where memory is refused.
+    pub fn new(alloc: Global, begun: NodeKind, is_domain_root: bool) -> Result<Log, AllocError>
         ensures begun { IfOk result (λ log. log.begun ≡ begun_as begun is_domain_root) }
         ensures empty { IfOk result (λ log. log.deeds ≡ []) }
     {
@@ -84,7 +80,7 @@ impl Log {
         &self.actions
     }
 
-    /// Makes room for one action beside the last.
+    /// Makes room for one action beside the last; `AllocError` where memory is refused.
     pub fn reserve(&mut self) -> Result<(), AllocError>
         ensures begun { self.new.begun ≡ self.old.begun }
         ensures same { self.new.deeds ≡ self.old.deeds }
@@ -104,7 +100,7 @@ impl Log {
         self.actions.push_reserved(action);
     }
 
-    /// All actions, with the last one.
+    /// All actions, the last one included. It takes no memory.
     pub fn ended(self, action: Action) -> Vec<Action>
         ensures { map deed_of result.items ≡ self.deeds ++ deed_of action ∷ [] }
     {

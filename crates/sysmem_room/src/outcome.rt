@@ -1,4 +1,4 @@
-//! What a domain's verdict cell holds.
+//! What is published of a domain.
 
 ghost use Rattle.std.specs.Prelude.{◌≡◌, true};
 ghost use Rattle.std.specs.Arc.{arc_value};
@@ -9,7 +9,7 @@ use std::sync::Arc;
 use sysmem_alloc::Frozen;
 use sysmem_proof::{Claim, check};
 
-/// A claim that is true, with what it was decided on.
+/// A claim with what was frozen for it, of which it is true.
 #[derive(Drop)]
 pub struct Ruling {
     frozen: Frozen,
@@ -32,7 +32,7 @@ impl Model for Ruling {
 pub enum Outcome {
     /// It was decided.
     Decided(Ruling),
-    /// It failed.
+    /// It failed, and no decision was taken.
     Failed,
     /// Memory was refused to its decision.
     NoMemory,
@@ -64,7 +64,7 @@ impl Ruling {
         &self.claim
     }
 
-    /// Whether the checker says yes.
+    /// Whether `check` of `sysmem_proof` says yes: it does.
     pub fn is_checked(&self) -> bool
         ensures { result ≡ true }
     {

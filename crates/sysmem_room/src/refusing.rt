@@ -9,7 +9,7 @@ use sysmem_alloc::Frozen;
 use sysmem_proof::Verdict;
 use sysmem_tree::{ActionKind, NodeState, Prefix, Refusal};
 
-/// Whether the node at the path is a member of the selection.
+/// Whether the tree that was frozen has a node at the path, and it is a member of the selection.
 pub fn is_member(frozen: &Frozen, selection: &Prefix, path: &[u32]) -> bool
     ensures { result ≡ is_member frozen.now selection.now path.now }
 {
@@ -64,7 +64,8 @@ fn log_refusal(state: NodeState, kind: ActionKind) -> Option<Refusal>
     None
 }
 
-/// The refusal that is due by what a handle knows.
+/// The refusal that is due by what a handle knows: by the verdict, if it knows one, and then by
+/// what its log makes of its node.
 pub fn due(
     known: Option<&Outcome>,
     path: &[u32],
@@ -79,7 +80,8 @@ pub fn due(
     }
 }
 
-/// The book's refusal as a handle answers it that foresaw none: what it can't foresee, or that the two disagree.
+/// The book's refusal as a handle answers it that foresaw none: what it can't foresee, or
+/// `Strange`, since the two disagree.
 pub(crate) fn unforeseen(known: Option<&Outcome>, refusal: Refusal) -> Refusal
     ensures { result ≢ Refusal.Strange
         → IsAnswer None (option_map (λ o. o.now) known.entry) result }

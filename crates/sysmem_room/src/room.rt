@@ -1,6 +1,6 @@
 //! What lies under a collection's lock.
 
-ghost use Rattle.std.specs.Prelude.{◌≡◌, ◌≢◌, ◌<◌, ◌≤◌, ◌+◌, ◌++◌, ◌↔◌, ℕ, Ok, Err, Some, None, true, false, length, option_map, is_some, IfErr, IfOk, IfSome, IsTrue, OnErr, OnOk};
+ghost use Rattle.std.specs.Prelude.{◌≡◌, ◌≢◌, ◌<◌, ◌≤◌, ◌+◌, ◌++◌, ◌↔◌, ℕ, List, Ok, Err, Some, None, true, false, length, option_map, is_some, IfErr, IfOk, IfSome, IsTrue, OnErr, OnOk};
 ghost use Rattle.std.specs.Arc.{arc_value};
 ghost use Rattle.sysmem_alloc.specs.Book.{entered, new_book};
 ghost use Rattle.sysmem_alloc.specs.Entry.{Acted, Decided};
@@ -9,6 +9,7 @@ ghost use Rattle.sysmem_alloc.specs.State.{next_ready};
 ghost use Rattle.sysmem_proof.specs.Claim.{IsTrueClaim};
 ghost use Rattle.sysmem_room.specs.Agreeing.{AgreesAt};
 ghost use Rattle.sysmem_room.specs.Counting.{actions_in, all_parts, nodes_by};
+ghost use Rattle.sysmem_room.specs.Lacking.{without_memory};
 ghost use Rattle.sysmem_room.specs.Log.{shown_by};
 ghost use Rattle.sysmem_room.specs.Refusals.{IsAnswer, due};
 ghost use Rattle.sysmem_tree.specs.ActionKind.{deed_of, kind_of};
@@ -17,7 +18,7 @@ ghost use Rattle.sysmem_tree.specs.Table.{makes_root};
 ghost use Rattle.sysmem_tree.specs.Tree.{applied};
 
 use crate::agreeing::has_actions;
-use crate::cell::{DomainCell, FreshCell, publish, publish_failed};
+use crate::cell::{DomainCell, FreshCell, keep, publish_action, publish_decision};
 use crate::log::Log;
 use crate::outcome::{Outcome, Ruling};
 use crate::refusing::{due, unforeseen};
@@ -27,13 +28,14 @@ use std::alloc::{AllocError, Global};
 use std::marker::Model;
 use std::sync::Arc;
 use std::sync::ledger::{Blank, Book as Counted, Ledger, Share};
+use sysmem_alloc::laws::few_entries;
 use sysmem_alloc::{Book, Frozen};
 use sysmem_proof::Claim;
 use sysmem_sanitise::Platform;
-use sysmem_tree::{Action, ActionKind, Event, MOST_NODES, NodeId, Refusal};
+use sysmem_tree::{Action, ActionKind, DomainId, Event, MOST_NODES, NodeId, Refusal};
 
-/// A collection's book, its count of actions, and the cells of its domains. Whoever has the lock finds a legal book, and as many actions
-/// counted as its history has.
+/// A collection's book, the count of its actions, and the cells of its domains. Whoever has the
+/// lock finds a legal book, and as many actions counted as its history has.
 #[derive(Drop)]
 pub struct Room<L: Ledger> {
     book: Book,
@@ -84,7 +86,8 @@ pub struct Entered<L: Ledger> {
     pub share: Share<L>,
 }
 
-/// How many parts of the count a node gets that the action makes: one, or none where it makes no node.
+/// How many parts of the count a node gets that the action makes: one, or none where it makes no
+/// node.
 fn parts_of(kind: ActionKind) -> u64
     ensures { result ≡ nodes_by kind }
 {
@@ -95,13 +98,9 @@ fn parts_of(kind: ActionKind) -> u64
 }
 
 impl<L: Ledger> Room<L> {
-    /// A new collection that is decided for this platform: a root token and nothing else. `AllocError` where memory is refused, and then
-    /// nothing is left of it.
-    pub fn open(
-        alloc: Global,
-        blank: Blank,
-        platform: Platform,
-    ) -> Result<Opened<L>, AllocError>
+    /// A new collection that is decided for this platform: a root token and nothing else.
+    /// `AllocError` where memory is refused, and then nothing is left of it.
+    pub fn open(alloc: Global, blank: Blank, platform: Platform) -> Result<Opened<L>, AllocError>
         requires name { blank.name ≡ L.name }
         requires ledger { blank.parts ≡ L.parts }
         requires parts { blank.parts ≡ all_parts }
@@ -133,9 +132,10 @@ impl<L: Ledger> Room<L> {
         &self.book
     }
 
-    /// Enters an action, counts it in the share of who acts, and publishes the failures that it brings; or answers the tree's first refusal,
-    /// and then nothing has changed. Where a node is made it gets a part of the count, and where that is the root of a domain, the domain
-    /// gets the fresh cell. It takes no memory.
+    /// Enters an action, counts it in the share of who acts, and publishes the failures that it
+    /// brings; or answers the tree's first refusal, and then nothing has changed. A node that is
+    /// made gets a part of the count, and where it is the root of a domain, the domain gets the
+    /// fresh cell. It takes no memory.
     pub fn enter(
         &mut self,
         event: Event,
@@ -162,22 +162,21 @@ impl<L: Ledger> Room<L> {
         let kind = event.action.kind();
         let parts = parts_of(kind);
         let done = self.book.apply(event)?;
-        self.book.tree().nodes();
+        let tree = self.book.tree();
+        tree.nodes();
+        tree.domains();
         self.counted.add(mine, 1);
         let share = self.spare.split_off(parts, 0);
-        if let Some(fresh) = fresh {
-            self.cells.push_reserved(fresh.kept());
-        }
-        if kind == ActionKind::Close {
-            publish_failed(&mut self.cells, self.book.tree());
-        }
+        keep(&mut self.cells, fresh);
+        publish_action(&mut self.cells, tree, kind);
         Ok(Entered {
             node: done.node,
             share,
         })
     }
 
-    /// The node at the path of a log, if the book has the log's actions on it and the verdict that is known of its domain.
+    /// The node at the path of a log, if it was made as the log says, and the book has the log's
+    /// actions on it and the verdict that is known of its domain.
     fn node_of(&self, path: &[u32], log: &Log, known: Option<&Outcome>) -> Option<NodeId>
         ensures agrees { IfSome result (AgreesAt self.now path.now log.now.deeds
             (option_map (λ o. o.now) known.entry)) }
@@ -192,9 +191,11 @@ impl<L: Ledger> Room<L> {
         if is_own { Some(node) } else { None }
     }
 
-    /// Enters the action of a handle, by its path, its log and what it knows of its domain's verdict, as `enter` does. It is refused with
-    /// `Strange` where the book has no node at the path that was made as the log says, other actions there than the log, or another
-    /// verdict than the one that is known; then with what is due by what the handle knows; then with what it can't foresee.
+    /// Enters the action of a handle, by its path, its log and what it knows of its domain's
+    /// verdict, as `enter` does. It is refused with `Strange` where the book has no node at the
+    /// path that was made as the log says, other actions there than the log, or another verdict
+    /// than the one that is known; else with what is due by what the handle knows; else with what
+    /// it can't foresee.
     pub fn act(
         &mut self,
         path: &[u32],
@@ -235,8 +236,9 @@ impl<L: Ledger> Room<L> {
         }
     }
 
-    /// Whether the caller is to take the decisions: a domain waits for one, and nobody takes them. From then on somebody does, until `frozen`
-    /// finds no domain that waits.
+    /// Whether the caller is to take the decisions: a domain waits for one, and nobody takes them.
+    /// From then on somebody does, until `frozen` finds no domain that waits. To be asked in the
+    /// hold of an action that was entered.
     pub fn begin(&mut self) -> bool
         ensures same { self.new ≡ self.old }
         ensures waits { IsTrue result → is_some (next_ready self.old.state) ≡ true }
@@ -248,50 +250,77 @@ impl<L: Ledger> Room<L> {
         true
     }
 
-    /// What the domain that is next is decided on; `None` where no domain waits, and then nobody takes the decisions any more. A domain
-    /// for which memory is refused is entered and published as decided without memory, and the next one is taken.
+    /// What the domain that is next is decided on; `None` where no domain waits, and then nobody
+    /// takes the decisions any more. A domain for which memory is refused is entered and published
+    /// as decided without memory, and the next one is taken.
     pub fn frozen(&mut self) -> Option<Frozen>
-        ensures frozen { IfSome result (λ frozen. frozen_of self.new ≡ Some frozen) }
-        ensures none { result ≡ None → next_ready self.new.state ≡ None }
+        ensures frozen { result ≡ frozen_of self.new }
+        ensures lacking { (domains : List ℕ) × (self.new ≡ without_memory self.old domains) }
     {
-        for _ in 0..640 {
+        let found = self.next_frozen();
+        if found.is_none() {
+            self.is_deciding = false;
+        }
+        found
+    }
+
+    /// What the domain that is next is decided on, where there is memory for it.
+    fn next_frozen(&mut self) -> Option<Frozen>
+        ensures frozen { result ≡ frozen_of self.new }
+        ensures lacking { (domains : List ℕ) × (self.new ≡ without_memory self.old domains) }
+    {
+        for _ in 0..640_u32 {
+            let domain = self.book.next_ready()?;
             match self.book.frozen() {
-                Ok(Some(frozen)) => return Some(frozen),
-                Ok(None) => break,
-                Err(_) => self.want(),
+                Ok(found) => return found,
+                Err(_) => self.give_up(domain),
             }
         }
-        self.is_deciding = false;
+        few_entries();
+        self.book.platform();
         None
     }
 
-    /// Enters and publishes a decision that was made from what was frozen, if the book still has that for the domain that is next; `false`
-    /// where it hasn't, and then nothing has changed. `copy` is the same claim with an owner of its own, for the book. It takes no memory.
+    /// Enters and publishes a decision that was made from what was frozen, if the book still has
+    /// that for the domain that is next; `false` where it hasn't, and then nothing has changed.
+    /// `copy` is the same claim with an owner of its own, for the book. It takes no memory.
     pub fn conclude(&mut self, frozen: Frozen, claim: Arc<Claim>, copy: Arc<Claim>) -> bool
         requires right { IsTrueClaim frozen.platform frozen.tree.nodes frozen.domain frozen.base
             (arc_value claim) }
         requires same { arc_value copy ≡ arc_value claim }
         ensures fits { IsTrue result ↔ IsStill self.old frozen }
-        ensures entered { result ≡ true → self.new ≡ entered self.old (Decided (record {
+        ensures entered { IsTrue result → self.new ≡ entered self.old (Decided (record {
           domain = frozen.domain;
           claim = Some (arc_value claim);
         })) }
         ensures unchanged { result ≡ false → self.new ≡ self.old }
     {
-        if !self.book.fits(&frozen) {
-            return false;
+        let fits = self.book.fits(&frozen);
+        if fits {
+            self.decide(frozen, claim, copy);
         }
-        let domain = frozen.domain();
-        self.book.decide(domain, Some(copy));
-        let tree = self.book.tree();
-        let outcome = Outcome::Decided(Ruling::new(frozen, claim));
-        publish(&mut self.cells, tree, domain, outcome);
-        publish_failed(&mut self.cells, tree);
-        true
+        fits
     }
 
-    /// Enters and publishes that memory was refused to the decision of what was frozen, if its domain still is the next one; else it
-    /// changes nothing.
+    /// Enters and publishes a decision that was made from what the book still has.
+    fn decide(&mut self, frozen: Frozen, claim: Arc<Claim>, copy: Arc<Claim>)
+        requires still { IsStill self.old frozen }
+        requires right { IsTrueClaim frozen.platform frozen.tree.nodes frozen.domain frozen.base
+            (arc_value claim) }
+        requires same { arc_value copy ≡ arc_value claim }
+        ensures { self.new ≡ entered self.old (Decided (record {
+          domain = frozen.domain;
+          claim = Some (arc_value claim);
+        })) }
+    {
+        let domain = frozen.domain();
+        self.book.decide(domain, Some(copy));
+        let outcome = Outcome::Decided(Ruling::new(frozen, claim));
+        publish_decision(&mut self.cells, self.book.tree(), domain, outcome);
+    }
+
+    /// Enters and publishes that memory was refused to the decision of what was frozen, if its
+    /// domain still is the next one; else it changes nothing.
     pub fn lack(&mut self, frozen: &Frozen)
         ensures entered { next_ready self.old.state ≡ Some frozen.now.domain
             → self.new ≡ entered self.old (Decided (record {
@@ -301,26 +330,23 @@ impl<L: Ledger> Room<L> {
         ensures unchanged { next_ready self.old.state ≢ Some frozen.now.domain
             → self.new ≡ self.old }
     {
-        if self.book.next_ready() == Some(frozen.domain()) {
-            self.want();
+        let domain = frozen.domain();
+        if self.book.next_ready() == Some(domain) {
+            self.give_up(domain);
         }
     }
 
-    /// Enters and publishes that memory was refused to the decision of the domain that is next, if one waits.
-    fn want(&mut self)
-        ensures none { next_ready self.old.state ≡ None → self.new ≡ self.old }
-        ensures entered { IfSome (next_ready self.old.state) (λ domain. self.new
-            ≡ entered self.old (Decided (record { domain = domain; claim = None }))) }
+    /// Enters and publishes that memory was refused to the decision of the domain that is next.
+    fn give_up(&mut self, domain: DomainId)
+        requires { next_ready self.old.state ≡ Some domain }
+        ensures { self.new ≡ entered self.old (Decided (record { domain = domain; claim = None })) }
     {
-        if let Some(domain) = self.book.next_ready() {
-            self.book.decide(domain, None);
-            let tree = self.book.tree();
-            publish(&mut self.cells, tree, domain, Outcome::NoMemory);
-            publish_failed(&mut self.cells, tree);
-        }
+        self.book.decide(domain, None);
+        publish_decision(&mut self.cells, self.book.tree(), domain, Outcome::NoMemory);
     }
 
-    /// Counts the actions by the shares of all nodes, joined: they have one for each action of the history.
+    /// Counts the actions by the shares of all nodes, joined: they have one for each action of the
+    /// history.
     pub fn count(&mut self, all: &mut Share<L>)
         requires { all.old.parts ≡ length self.old.state.tree.nodes }
         ensures same { self.new ≡ self.old }

@@ -53,3 +53,5 @@ pub mod Different
 pub mod Picking
 pub mod Failing
 pub mod Walked
+pub mod Staying
+pub mod Prefixes

@@ -24,11 +24,11 @@ fn had(alloc: Global, id: u32, colours: &str) -> Result<Platform, Fail> {
     Ok(read_platform(alloc, &value)?)
 }
 
-/// Whether the participant of heap 1 and width 3 is equal to another, and whether it isn't.
-fn same_asked(alloc: Global, id: u32, width: u32) -> Result<[bool; 2], Fail> {
+/// Whether the participant of heap 1 and width 3 is equal to another, by each way to ask it.
+fn same_asked(alloc: Global, id: u32, width: u32) -> Result<[bool; 3], Fail> {
     let first = asked(alloc, 1, 3)?;
     let other = asked(alloc, id, width)?;
-    Ok([first == other, first != other])
+    Ok([first == other, first.is_same(&other), first != other])
 }
 
 #[test]
@@ -36,26 +36,26 @@ fn participants(rt: HostRuntime) -> Result<(), Fail> {
     are_equal(
         &rt,
         &[
-            (same_asked(rt.alloc(), 1, 3)?, [true, false]),
-            (same_asked(rt.alloc(), 2, 3)?, [false, true]),
-            (same_asked(rt.alloc(), 1, 4)?, [false, true]),
+            (same_asked(rt.alloc(), 1, 3)?, [true, true, false]),
+            (same_asked(rt.alloc(), 2, 3)?, [false, false, true]),
+            (same_asked(rt.alloc(), 1, 4)?, [false, false, true]),
         ],
     );
     Ok(())
 }
 
-/// Whether the platform of heap 1 in sRGB is equal to another, and whether it isn't.
-fn same_had(alloc: Global, id: u32, colours: &str) -> Result<[bool; 2], Fail> {
+/// Whether the platform of heap 1 in sRGB is equal to another, by each way to ask it.
+fn same_had(alloc: Global, id: u32, colours: &str) -> Result<[bool; 3], Fail> {
     let first = had(alloc, 1, "\"SRGB\"")?;
     let other = had(alloc, id, colours)?;
-    Ok([first == other, first != other])
+    Ok([first == other, first.is_same(&other), first != other])
 }
 
 /// The same of its copy.
-fn same_copy(alloc: Global) -> Result<[bool; 2], Fail> {
+fn same_copy(alloc: Global) -> Result<[bool; 3], Fail> {
     let first = had(alloc, 1, "\"SRGB\"")?;
     let other = first.copy()?;
-    Ok([first == other, first != other])
+    Ok([first == other, first.is_same(&other), first != other])
 }
 
 #[test]
@@ -63,12 +63,12 @@ fn platforms(rt: HostRuntime) -> Result<(), Fail> {
     are_equal(
         &rt,
         &[
-            (same_had(rt.alloc(), 1, "\"SRGB\"")?, [true, false]),
-            (same_copy(rt.alloc())?, [true, false]),
-            (same_had(rt.alloc(), 2, "\"SRGB\"")?, [false, true]),
+            (same_had(rt.alloc(), 1, "\"SRGB\"")?, [true, true, false]),
+            (same_copy(rt.alloc())?, [true, true, false]),
+            (same_had(rt.alloc(), 2, "\"SRGB\"")?, [false, false, true]),
             (
                 same_had(rt.alloc(), 1, "\"SRGB\",\"REC709\"")?,
-                [false, true],
+                [false, false, true],
             ),
         ],
     );

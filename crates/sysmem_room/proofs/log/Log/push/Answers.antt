@@ -9,9 +9,8 @@ use Rattle.sysmem_room.proofs.log.Log.push.Goals as goal
 pub invariant_of-self : goal.invariant_of-self
 invariant_of-self c =
     let room = subst (λ (l : LogFacts). length l.deeds + 2 ≤ l.places) (sym c.self.view_is) c.requires.room in
-    let many = length-map c.self.inside.actions.items deed_of in
-    (
+    let many = length-map c.self.inside.actions.items deed_of in (
       omega (arith, room, many, c.push_reserved.ensures.len, c.push_reserved.ensures.capacity),
       state_push (begun_as c.self.inside.begun c.self.inside.is_domain_root) c.self.inside.actions.items c.push_reserved.new.self.items c.args.action c.self.inside.state c.act.new.self
-        c.push_reserved.ensures.items c.self.invariant.1 (c.act.ensures ∙ ap (λ k. state_after k c.self.inside.state) c.kind.ensures),
+          c.push_reserved.ensures.items c.self.invariant.1 (c.act.ensures ∙ ap (λ k. state_after k c.self.inside.state) c.kind.ensures),
     )

@@ -2,7 +2,7 @@ use Rattle.std.proofs.Common.{◌∙◌, ap, sym, subst, None, IsSomeAnd}
 use Rattle.clap.specs.Words.{fault_of, subcommand_of}
 use Rattle.command_line.specs.CommandLine.{IsRunOf, replay_app}
 use Rattle.command_line.proofs.Plain.{plain_asked, plain_fault}
-use Rattle.command_line.proofs.words.read_words.Goals as goal
+use Rattle.command_line.proofs.words.job_asked.Goals as goal
 
 pub returns-in-Some-clause-entries : goal.returns-in-Some-clause-entries
 returns-in-Some-clause-entries c =
