@@ -108,9 +108,7 @@ fn enter<L: Ledger, G: Gate + Drop, R: Wait>(
 }
 
 /// A cell for a domain that is to be made, and one more owner of it for the handle of its root.
-pub(crate) fn fresh_cell(
-    alloc: Global,
-) -> Result<(FreshCell, Arc<OnceBox<Outcome>>), AllocError> {
+pub(crate) fn fresh_cell(alloc: Global) -> Result<(FreshCell, Arc<OnceBox<Outcome>>), AllocError> {
     let fresh = FreshCell::new(alloc)?;
     let cell = fresh.shared()?;
     Ok((fresh, cell))

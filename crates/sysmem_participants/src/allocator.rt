@@ -64,11 +64,7 @@ fn opened<L: Ledger, G: Gate + Drop>(
 
 impl<G: Gate + Drop> Allocator<G> {
     /// For this platform; each decision of its collections tells this gate of its search. `AllocError` where memory is refused.
-    pub fn new(
-        alloc: Global,
-        platform: Platform,
-        gate: G,
-    ) -> Result<Allocator<G>, AllocError>
+    pub fn new(alloc: Global, platform: Platform, gate: G) -> Result<Allocator<G>, AllocError>
         ensures { IfOk result (λ allocator. allocator ≡ platform) }
     {
         let rules = Rules {

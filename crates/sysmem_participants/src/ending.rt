@@ -107,7 +107,16 @@ impl<L: Ledger, G: Gate + Drop> Seat<L, G> {
         } = self;
         let mut seen = note.again();
         let known = cell.get_as(&mut seen);
-        match end(rt, &shared, &rules, &path, &log, known, Action::Release, &mut share) {
+        match end(
+            rt,
+            &shared,
+            &rules,
+            &path,
+            &log,
+            known,
+            Action::Release,
+            &mut share,
+        ) {
             Ok(()) => {
                 let actions = log.ended(Action::Release);
                 Ok(Stub {
@@ -152,7 +161,16 @@ impl<L: Ledger, G: Gate + Drop> Seat<L, G> {
         } = self;
         let mut seen = note.again();
         let known = cell.get_as(&mut seen);
-        let ended = end(rt, &shared, &rules, &path, &log, known, Action::Close, &mut share);
+        let ended = end(
+            rt,
+            &shared,
+            &rules,
+            &path,
+            &log,
+            known,
+            Action::Close,
+            &mut share,
+        );
         let (actions, refused) = match ended {
             Ok(()) => (log.ended(Action::Close), None),
             Err(refusal) => (log.into_actions(), Some(refusal)),

@@ -1,6 +1,7 @@
 //! Calls on handles that have to be accepted.
 
 ghost use Rattle.std.specs.Prelude.{◌≡◌};
+ghost use Rattle.sysmem_room.specs.Counting.{all_parts};
 
 use crate::equal::is_equal;
 use std::process::Abort;
@@ -10,8 +11,6 @@ use sysmem_participants::{Allocator, Collection, Stub, Token, View};
 use sysmem_proof::check;
 use sysmem_sanitise::Constraints;
 use sysmem_search::NoGate;
-
-ghost use Rattle.sysmem_room.specs.Counting.{all_parts};
 
 /// The root of a new collection.
 pub(crate) fn root<L: Ledger>(

@@ -17,7 +17,7 @@ loop-index-preserved g c =
           (seen_on c.args.book.now c.loop-index.stubs c.loop-index.marks c.loop-index.index c.in-Some.node c.fault_of.new.stub c.loop-index.fault c.fault_of.result c.first_of-fault.result
           (omega (arith, c.loop-index-test.true, c.loop-index.auto.index-end, c.loop-index.invariant.many)) c.first_of-fault.ensures c.fault_of.ensures.agrees c.loop-index.invariant.seen none);
       many = length-set c.loop-index.stubs c.loop-index.index c.fault_of.new.stub ∙ c.loop-index.invariant.many;
-      same = map-set_same unread c.loop-index.stubs c.loop-index.index c.fault_of.new.stub c.index-stubs-index.result (c.fault_of.ensures.same ∙ ap unread c.index-stubs-index.is) ∙ c.loop-index.invariant.same;
+      same = map-set_same unread c.loop-index.stubs c.loop-index.index c.fault_of.new.stub c.index-stubs-index.result c.fault_of.ensures.same ∙ c.loop-index.invariant.same;
     }
 
 pub returns-in-None-clause-agree : goal.returns-in-None-clause-agree
