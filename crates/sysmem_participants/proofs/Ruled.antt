@@ -1,6 +1,6 @@
 -- What is true of a ruling, and of a claim that was made from what was frozen.
 use Rattle.std.proofs.Common.{◌≡◌, ◌∙◌, ℕ, List, Option, Result, Ok, Err, ap, sym, subst}
-use Rattle.std.specs.Prelude.{IfOk}
+use Rattle.std.specs.Prelude.{IfErr, IfOk}
 use Rattle.sysmem_proof.specs.declared.certificate.Claim.{Claim as AClaim}
 use Rattle.sysmem_proof.specs.declared.certificate.Proof.{Proof}
 use Rattle.sysmem_proof.specs.declared.verdict.Verdict.{Verdict}
@@ -11,8 +11,9 @@ use Rattle.sysmem_room.specs.Ruling.{RulingFacts, IsRuling}
 use Rattle.sysmem_sanitise.specs.Platform.{PlatformFacts}
 use Rattle.sysmem_sanitise.specs.Participant.{Participant}
 use Rattle.sysmem_tree.specs.declared.refusal.Refusal.{Refusal}
+use Rattle.sysmem_tree.specs.declared.refusal.Refusal.TheVariants as refusals
 use Rattle.sysmem_tree.specs.Domain.{TreeFacts}
-use Rattle.sysmem_participants.specs.Told.{Asks, IsChosenFor, IsShownAt}
+use Rattle.sysmem_participants.specs.Told.{Asks, IsChosenFor, IsShownAt, IsToldBy, Tells}
 
 -- a ruling's claim makes it one
 pub ruled : (r : RulingFacts) (claim : AClaim) → claim ≡ r.claim → IsTrueClaim r.frozen.platform r.frozen.tree.nodes r.frozen.domain r.frozen.base claim → IsRuling r
@@ -29,6 +30,21 @@ shown_at (Ok v) r platform path asked right is_for same chosen own = record {
   own = own;
 }
 shown_at (Err e) r platform path asked right is_for same chosen own = tt
+
+-- what is told of a ruling for the platform tells a verdict for it
+pub telling : (shown : Result RulingFacts Refusal) (r : RulingFacts) (platform : PlatformFacts) → IsRuling r → r.frozen.platform ≡ platform
+    → IfErr shown (IsToldBy r.claim.verdict) → IfErr shown (Tells platform)
+telling (Ok v) r platform right is_for told = tt
+telling (Err refusals.ConstraintsIntersectionEmpty) r platform right is_for told = (r, right, is_for, told)
+telling (Err refusals.TooManyGroupChildCombinations) r platform right is_for told = (r, right, is_for, told)
+telling (Err refusals.NoMemory) r platform right is_for told = tt
+telling (Err refusals.WrongState) r platform right is_for told = tt
+telling (Err refusals.TooManyNodes) r platform right is_for told = tt
+telling (Err refusals.NoChildren) r platform right is_for told = tt
+telling (Err refusals.NotSelected) r platform right is_for told = tt
+telling (Err refusals.DomainFailed) r platform right is_for told = tt
+telling (Err refusals.Pending) r platform right is_for told = tt
+telling (Err refusals.Strange) r platform right is_for told = tt
 
 -- a verdict that is optimal and what proves it are a true claim
 pub put_together : (p q : PlatformFacts) (t u : TreeFacts) (d e : ℕ) (a b : Option BaseFacts) (v : Verdict) (by : Proof) → p ≡ q → t ≡ u → d ≡ e → a ≡ b

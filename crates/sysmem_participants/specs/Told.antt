@@ -51,3 +51,9 @@ abbrev pub IsToldBy : Verdict → Refusal → Type 0
 IsToldBy v refusals.ConstraintsIntersectionEmpty = v ≡ verdicts.IntersectionEmpty
 IsToldBy v refusals.TooManyGroupChildCombinations = v ≡ verdicts.TooMany
 IsToldBy v q = Unit {0}
+
+-- a refusal that tells a verdict tells that of a true claim for the platform
+abbrev pub Tells : PlatformFacts → Refusal → Type 0
+Tells platform refusals.ConstraintsIntersectionEmpty = (r : RulingFacts) × IsRuling r × (r.frozen.platform ≡ platform) × (r.claim.verdict ≡ verdicts.IntersectionEmpty)
+Tells platform refusals.TooManyGroupChildCombinations = (r : RulingFacts) × IsRuling r × (r.frozen.platform ≡ platform) × (r.claim.verdict ≡ verdicts.TooMany)
+Tells platform q = Unit {0}

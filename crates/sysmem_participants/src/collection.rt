@@ -3,7 +3,7 @@
 ghost use Rattle.std.specs.Prelude.{◌≡◌, ◌≢◌, None, Some, true, option_map, IfErr, IfOk, IfSome, MatchOption, MatchResult, OnErr, OnOk, ⊤};
 ghost use Rattle.std.specs.Arc.{arc_value};
 ghost use Rattle.sysmem_participants.specs.Held.{Answers, AnswersAtEnd, IsSameBut, MayEnter, acted, child_of, left_of};
-ghost use Rattle.sysmem_participants.specs.Told.{IsShownTo};
+ghost use Rattle.sysmem_participants.specs.Told.{IsShownTo, Tells};
 ghost use Rattle.sysmem_tree.specs.ActionKind.{attaches_token, closes, releases, sets};
 
 use crate::seat::Seat;
@@ -87,6 +87,7 @@ impl<L: Ledger, G: Gate + Drop> Collection<L, G> {
         ensures known { IfOk result (λ view.
             IfSome self.old.known (λ known. known ≡ Outcome.Decided view)) }
         ensures shown { IfOk result (IsShownTo self.old) }
+        ensures tells { IfErr result (Tells self.old.platform) }
     {
         self.seat.check()
     }
@@ -101,6 +102,7 @@ impl<L: Ledger, G: Gate + Drop> Collection<L, G> {
         ensures known { IfOk result (λ view.
             IfSome self.old.known (λ known. known ≡ Outcome.Decided view)) }
         ensures shown { IfOk result (IsShownTo self.old) }
+        ensures tells { IfErr result (Tells self.old.platform) }
     {
         self.seat.wait_for_all(rt)
     }

@@ -4,7 +4,7 @@ ghost use Rattle.std.specs.Prelude.{◌≡◌, ◌≢◌, ◌<◌, ◌≤◌, �
 ghost use Rattle.std.specs.Arc.{arc_value};
 ghost use Rattle.once_cell.specs.Once.{cell_name};
 ghost use Rattle.sysmem_participants.specs.Held.{IsSameBut, state_of};
-ghost use Rattle.sysmem_participants.specs.Told.{IsShownTo};
+ghost use Rattle.sysmem_participants.specs.Told.{IsShownTo, Tells};
 ghost use Rattle.sysmem_room.specs.Log.{begun_as};
 
 use crate::shared::{Rules, Shared};
@@ -110,6 +110,7 @@ impl<L: Ledger, G: Gate + Drop> Seat<L, G> {
         ensures known { IfOk result (λ view.
             IfSome self.old.known (λ known. known ≡ Outcome.Decided view)) }
         ensures shown { IfOk result (IsShownTo self.old) }
+        ensures tells { IfErr result (Tells self.old.platform) }
     {
         let Some(outcome) = self.cell.get_as(&mut self.note) else {
             return Err(Refusal::Pending);
@@ -127,6 +128,7 @@ impl<L: Ledger, G: Gate + Drop> Seat<L, G> {
         ensures known { IfOk result (λ view.
             IfSome self.old.known (λ known. known ≡ Outcome.Decided view)) }
         ensures shown { IfOk result (IsShownTo self.old) }
+        ensures tells { IfErr result (Tells self.old.platform) }
     {
         wait_until_set(rt, &self.shared, &self.cell, &mut self.note);
         self.check()

@@ -2,7 +2,7 @@
 
 ghost use Rattle.std.specs.Prelude.{◌≡◌, ◌≢◌, IfErr, IfOk, IsTrue};
 ghost use Rattle.sysmem_room.specs.Log.{shown_by};
-ghost use Rattle.sysmem_participants.specs.Told.{Asks, IsChosenFor, IsShownAt, IsToldBy};
+ghost use Rattle.sysmem_participants.specs.Told.{Asks, IsChosenFor, IsShownAt, IsToldBy, Tells};
 
 use crate::view::View;
 use sysmem_alloc::Frozen;
@@ -63,6 +63,7 @@ pub(crate) fn told<'a>(
     ensures decided { IfOk result (λ view. outcome.now ≡ Outcome.Decided view) }
     ensures shown { IfOk result (IsShownAt platform.now path.now (shown_by log.now).constraints) }
     ensures known { IfErr result (λ refusal. refusal ≢ Refusal.Pending) }
+    ensures tells { IfErr result (Tells platform.now) }
 {
     let ruling = match outcome {
         Outcome::Decided(ruling) => ruling,
