@@ -19,7 +19,7 @@ proved:
 test:
 	RT_JOBS=$(JOBS) rt ci
 
-# Tests of the proved program as a whole (they need a C compiler and Python): reports, refusals, records, certificates and their checks, files that fail, and each allocation refused in turn.
+# Tests of the proved program as a whole (they need a C compiler and Python): reports, refusals, records, worked values, small trees beside each of their selections, certificates and their checks, files that fail, and each allocation refused in turn.
 program-test: proved
 	@$(MAKE) --no-print-directory built-test
 
@@ -28,6 +28,8 @@ built-test:
 	tests/reports
 	tests/refusals
 	tests/records
+	tests/values
+	tests/every_selection
 	tests/run_command
 	tests/certificates
 	tests/checks

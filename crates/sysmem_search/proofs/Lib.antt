@@ -10,5 +10,6 @@ pub mod Accepting
 pub mod Keeping
 pub mod Entering
 pub mod Unmet
+pub mod Cut
 pub mod Refuted
 pub mod Proved

@@ -4,4 +4,5 @@ pub mod Question
 pub mod Kept
 pub mod Standing
 pub mod Searching
+pub mod Cut
 pub mod Refuting

@@ -99,8 +99,8 @@ fn record_for(word: &str) -> Option<&'static str> {
     None
 }
 
-/// The constraints for which the word stands.
-pub(crate) fn constraints(alloc: Global, word: &str) -> Result<Constraints, Fail> {
+// The constraints for which the word stands.
+fn constraints(alloc: Global, word: &str) -> Result<Constraints, Fail> {
     let Some(text) = record_for(word) else {
         return Err(Fail::new("no such word"));
     };

@@ -33,14 +33,10 @@ fn same_asked(alloc: Global, id: u32, width: u32) -> Result<[bool; 3], Fail> {
 
 #[test]
 fn participants(rt: HostRuntime) -> Result<(), Fail> {
-    are_equal(
-        &rt,
-        &[
-            (same_asked(rt.alloc(), 1, 3)?, [true, true, false]),
-            (same_asked(rt.alloc(), 2, 3)?, [false, false, true]),
-            (same_asked(rt.alloc(), 1, 4)?, [false, false, true]),
-        ],
-    );
+    for (id, width, wanted) in [(1, 3, true), (2, 3, false), (1, 4, false)] {
+        let found = same_asked(rt.alloc(), id, width)?;
+        are_equal(&rt, &[(found, [wanted, wanted, !wanted])]);
+    }
     Ok(())
 }
 
@@ -58,19 +54,19 @@ fn same_copy(alloc: Global) -> Result<[bool; 3], Fail> {
     Ok([first == other, first.is_same(&other), first != other])
 }
 
+// The heap's id and the colour spaces of another platform, and whether it is equal to that of heap 1 in sRGB.
+const OTHERS: [(u32, &str, bool); 3] = [
+    (1, "\"SRGB\"", true),
+    (2, "\"SRGB\"", false),
+    (1, "\"SRGB\",\"REC709\"", false),
+];
+
 #[test]
 fn platforms(rt: HostRuntime) -> Result<(), Fail> {
-    are_equal(
-        &rt,
-        &[
-            (same_had(rt.alloc(), 1, "\"SRGB\"")?, [true, true, false]),
-            (same_copy(rt.alloc())?, [true, true, false]),
-            (same_had(rt.alloc(), 2, "\"SRGB\"")?, [false, false, true]),
-            (
-                same_had(rt.alloc(), 1, "\"SRGB\",\"REC709\"")?,
-                [false, false, true],
-            ),
-        ],
-    );
+    for (id, colours, wanted) in OTHERS {
+        let found = same_had(rt.alloc(), id, colours)?;
+        are_equal(&rt, &[(found, [wanted, wanted, !wanted])]);
+    }
+    are_equal(&rt, &[(same_copy(rt.alloc())?, [true, true, false])]);
     Ok(())
 }
