@@ -19,6 +19,7 @@ mod entry;
 mod frozen;
 pub mod laws;
 mod ready;
+mod terms;
 mod verdicts;
 
 pub use book::{Book, Done};

@@ -55,3 +55,6 @@ pub mod Failing
 pub mod Walked
 pub mod Staying
 pub mod Prefixes
+pub mod PathsUp
+pub mod Levels
+pub mod LaidSame
