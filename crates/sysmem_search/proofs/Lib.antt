@@ -12,3 +12,4 @@ pub mod Entering
 pub mod Unmet
 pub mod Refuted
 pub mod Proved
+pub mod Sharing

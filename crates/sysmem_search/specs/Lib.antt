@@ -5,3 +5,4 @@ pub mod Kept
 pub mod Standing
 pub mod Searching
 pub mod Refuting
+pub mod Wide
