@@ -13,6 +13,10 @@ mod every_selection;
 #[cfg(test)]
 mod finding;
 #[cfg(test)]
+mod fitting;
+#[cfg(test)]
+mod orders;
+#[cfg(test)]
 mod playing;
 #[cfg(test)]
 mod searches;
