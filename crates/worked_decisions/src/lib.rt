@@ -11,6 +11,10 @@ mod equal;
 #[cfg(test)]
 mod finding;
 #[cfg(test)]
+mod fitting;
+#[cfg(test)]
+mod orders;
+#[cfg(test)]
 mod playing;
 #[cfg(test)]
 mod searches;
