@@ -22,3 +22,5 @@ mod searches;
 mod small_trees;
 #[cfg(test)]
 mod steps;
+#[cfg(test)]
+mod workers;
