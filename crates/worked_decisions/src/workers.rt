@@ -1,5 +1,7 @@
 //! Searches by several workers beside those of one, and that workers search at the same time.
 
+ghost use Rattle.std.specs.Prelude.{◌≤◌};
+
 use crate::equal::is_equal;
 use crate::finding::tell_verdict;
 use crate::searches::{ROWS, Row, frozen};
