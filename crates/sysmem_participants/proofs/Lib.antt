@@ -1,0 +1,4 @@
+mod Answering
+mod Seeing
+mod Entries
+mod Ruled

@@ -1,0 +1,58 @@
+-- What is true of a ruling, and of a claim that was made from what was frozen.
+use Rattle.std.proofs.Common.{◌≡◌, ◌∙◌, ℕ, List, Option, Result, Ok, Err, ap, sym, subst}
+use Rattle.std.specs.Prelude.{IfErr, IfOk}
+use Rattle.sysmem_proof.specs.declared.certificate.Claim.{Claim as AClaim}
+use Rattle.sysmem_proof.specs.declared.certificate.Proof.{Proof}
+use Rattle.sysmem_proof.specs.declared.verdict.Verdict.{Verdict}
+use Rattle.sysmem_proof.specs.Base.{BaseFacts}
+use Rattle.sysmem_proof.specs.Claim.{IsProofIn, IsTrueClaim}
+use Rattle.sysmem_proof.specs.Verdict.{IsOptimalIn}
+use Rattle.sysmem_room.specs.Ruling.{RulingFacts, IsRuling}
+use Rattle.sysmem_sanitise.specs.Platform.{PlatformFacts}
+use Rattle.sysmem_sanitise.specs.Participant.{Participant}
+use Rattle.sysmem_tree.specs.declared.refusal.Refusal.{Refusal}
+use Rattle.sysmem_tree.specs.declared.refusal.Refusal.TheVariants as refusals
+use Rattle.sysmem_tree.specs.Domain.{TreeFacts}
+use Rattle.sysmem_participants.specs.Told.{Asks, IsChosenFor, IsShownAt, IsToldBy, Tells}
+
+-- a ruling's claim makes it one
+pub ruled : (r : RulingFacts) (claim : AClaim) → claim ≡ r.claim → IsTrueClaim r.frozen.platform r.frozen.tree.nodes r.frozen.domain r.frozen.base claim → IsRuling r
+ruled r claim is right = subst (IsTrueClaim r.frozen.platform r.frozen.tree.nodes r.frozen.domain r.frozen.base) is right
+
+-- what is shown of a ruling may be shown
+pub shown_at : (shown : Result RulingFacts Refusal) (r : RulingFacts) (platform : PlatformFacts) (path : List ℕ) (asked : Option Participant) → IsRuling r
+    → r.frozen.platform ≡ platform → IfOk shown (λ v. v ≡ r) → IfOk shown (λ v. IsChosenFor path v.frozen v.claim.verdict) → IfOk shown (λ v. Asks v.frozen path asked)
+    → IfOk shown (IsShownAt platform path asked)
+shown_at (Ok v) r platform path asked right is_for same chosen own = record {
+  right = subst IsRuling (sym same) right;
+  is_for = ap (λ (x : RulingFacts). x.frozen.platform) same ∙ is_for;
+  chosen = chosen;
+  own = own;
+}
+shown_at (Err e) r platform path asked right is_for same chosen own = tt
+
+-- what is told of a ruling for the platform tells a verdict for it
+pub telling : (shown : Result RulingFacts Refusal) (r : RulingFacts) (platform : PlatformFacts) → IsRuling r → r.frozen.platform ≡ platform
+    → IfErr shown (IsToldBy r.claim.verdict) → IfErr shown (Tells platform)
+telling (Ok v) r platform right is_for told = tt
+telling (Err refusals.ConstraintsIntersectionEmpty) r platform right is_for told = (r, right, is_for, told)
+telling (Err refusals.TooManyGroupChildCombinations) r platform right is_for told = (r, right, is_for, told)
+telling (Err refusals.NoMemory) r platform right is_for told = tt
+telling (Err refusals.WrongState) r platform right is_for told = tt
+telling (Err refusals.TooManyNodes) r platform right is_for told = tt
+telling (Err refusals.NoChildren) r platform right is_for told = tt
+telling (Err refusals.NotSelected) r platform right is_for told = tt
+telling (Err refusals.DomainFailed) r platform right is_for told = tt
+telling (Err refusals.Pending) r platform right is_for told = tt
+telling (Err refusals.Strange) r platform right is_for told = tt
+
+-- a verdict that is optimal and what proves it are a true claim
+pub put_together : (p q : PlatformFacts) (t u : TreeFacts) (d e : ℕ) (a b : Option BaseFacts) (v : Verdict) (by : Proof) → p ≡ q → t ≡ u → d ≡ e → a ≡ b
+    → IsOptimalIn p t.nodes d a v → IsProofIn p t.nodes d a v by → IsTrueClaim q u.nodes e b (record { verdict = v; proof = by })
+put_together p q t u d e a b v by pq tu de ab optimal proved =
+    let claim : AClaim = record { verdict = v; proof = by } in
+    let one : IsTrueClaim p t.nodes d a claim = record { optimal = optimal; proved = proved } in
+    let two : IsTrueClaim p t.nodes d b claim = subst (λ x. IsTrueClaim p t.nodes d x claim) ab one in
+    let three : IsTrueClaim p t.nodes e b claim = subst (λ x. IsTrueClaim p t.nodes x b claim) de two in
+    let four : IsTrueClaim p u.nodes e b claim = subst (λ (x : TreeFacts). IsTrueClaim p x.nodes e b claim) tu three in
+    subst (λ x. IsTrueClaim x u.nodes e b claim) pq four

@@ -1,0 +1,66 @@
+-- What a handle holds, and what a call makes of it.
+use Rattle.std.specs.Prelude.{◌≡◌, ◌≢◌, ◌+◌, ◌++◌, ℕ, Bool, true, List, [], ◌∷◌, Option, None, Some}
+use Rattle.sysmem_sanitise.specs.Platform.{PlatformFacts}
+use Rattle.sysmem_tree.specs.declared.refusal.Refusal.{Refusal}
+use Rattle.sysmem_tree.specs.declared.refusal.Refusal.TheVariants.{NoMemory, Strange, WrongState}
+use Rattle.sysmem_tree.specs.declared.state.NodeKind.{NodeKind}
+use Rattle.sysmem_tree.specs.declared.state.NodeKind.TheVariants.{Token}
+use Rattle.sysmem_tree.specs.declared.state.NodeState.{NodeState}
+use Rattle.sysmem_tree.specs.ActionKind.{Deed, kind_of}
+use Rattle.sysmem_tree.specs.Path.{Shown}
+use Rattle.sysmem_tree.specs.Step.{shown_after_all}
+use Rattle.sysmem_room.specs.Log.{begun_as}
+use Rattle.sysmem_room.specs.Refusals.{MayAnswer, due}
+use Rattle.sysmem_room.specs.declared.outcome.Outcome.{Outcome}
+
+-- its node's path, how the node began, the accepted actions on it, its domain's cell and what it knows of that, and the platform
+pub record Held : Type 0 where
+  pub path : List ℕ
+  pub begun : Shown
+  pub deeds : List Deed
+  pub cell : ℕ
+  pub known : Option Outcome
+  pub platform : PlatformFacts
+
+-- what is left of a handle that was spent
+pub record Left : Type 0 where
+  pub path : List ℕ
+  pub deeds : List Deed
+  pub cell : ℕ
+  pub known : Option Outcome
+
+-- what the actions make of the node
+abbrev pub state_of : Held → NodeState
+state_of h = (shown_after_all h.begun h.deeds).state
+
+-- with one more action
+abbrev pub acted : Held → Deed → Held
+acted h deed = record h { deeds = h.deeds ++ deed ∷ [] }
+
+-- what the handle of a child holds that was just made, in a domain with this cell
+abbrev pub child_of : Held → NodeKind → Bool → ℕ → Held
+child_of h kind is_root cell = record h { path = h.path ++ (state_of h).children ∷ []; begun = begun_as kind is_root; deeds = []; cell = cell; known = None }
+
+-- what the handle of a root holds at first, with this cell
+abbrev pub root_of : PlatformFacts → ℕ → Held
+root_of platform cell = record { path = []; begun = begun_as Token true; deeds = []; cell = cell; known = None; platform = platform }
+
+-- what is left of it
+abbrev pub left_of : Held → Left
+left_of h = record { path = h.path; deeds = h.deeds; cell = h.cell; known = h.known }
+
+-- nothing that the handle knows refuses the action
+abbrev pub MayEnter : Held → Deed → Type 0
+MayEnter h deed = due h.known h.path (state_of h) (kind_of deed) ≡ None
+
+-- how a handle refuses an action: for want of memory, because it and the collection disagree, or for what is due
+abbrev pub Answers : Held → Deed → Refusal → Type 0
+Answers h deed r = r ≢ Strange → r ≢ NoMemory → MayAnswer (due h.known h.path (state_of h) (kind_of deed)) h.known r
+
+-- how it refuses one that ends its node: because the two disagree, or for the node's state
+abbrev pub AnswersAtEnd : Held → Deed → Refusal → Type 0
+AnswersAtEnd h deed r = r ≢ Strange → (r ≡ WrongState) × (due h.known h.path (state_of h) (kind_of deed) ≡ Some WrongState)
+
+-- the same but for what it knows of the cell
+abbrev pub IsSameBut : Held → Held → Type 0
+IsSameBut h g = record g { known = None } ≡ record h { known = None }

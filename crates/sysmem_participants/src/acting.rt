@@ -1,0 +1,419 @@
+//! The actions after which a handle is still there.
+
+ghost use Rattle.std.specs.Prelude.{◌≡◌, ◌≢◌, ◌<◌, ◌≤◌, ◌+◌, ◌++◌, [], ◌∷◌, None, false, true, is_some, length, option_map, IfErr, IfOk, OnErr, OnOk};
+ghost use Rattle.std.specs.Arc.{arc_value};
+ghost use Rattle.sysmem_participants.specs.Held.{Answers, MayEnter, acted, child_of};
+ghost use Rattle.sysmem_room.specs.Counting.{nodes_by};
+ghost use Rattle.sysmem_room.specs.Log.{shown_by};
+ghost use Rattle.sysmem_room.specs.Refusals.{IsAnswer, due};
+ghost use Rattle.sysmem_tree.specs.ActionKind.{attaches_token, binds, creates_child, creates_group, deed_of, duplicates, has_all_children, kind_of, sets};
+ghost use Rattle.sysmem_tree.specs.Table.{makes_root};
+
+use crate::deciding::decide;
+use crate::seat::{Prepared, Seat};
+use crate::shared::{Rules, Shared};
+use once_cell::race::OnceBox;
+use std::alloc::{AllocError, Global};
+use std::sync::ledger::{Ledger, Share};
+use std::sync::{Arc, Wait};
+use sysmem_room::{Entered, FreshCell, Log, Outcome};
+use sysmem_sanitise::Constraints;
+use sysmem_search::Gate;
+use sysmem_tree::{Action, NodeKind, Refusal};
+
+/// One more owner of constraints, if there are any.
+fn shared_again(asked: &Option<Arc<Constraints>>) -> Result<Option<Arc<Constraints>>, AllocError>
+    ensures { IfOk result (λ copy. option_map (λ one. arc_value one) copy
+        ≡ option_map (λ one. arc_value one) asked.now) }
+{
+    match asked {
+        Some(one) => Ok(Some(Arc::try_clone(one)?)),
+        None => Ok(None),
+    }
+}
+
+/// Enters an action in one hold, and says whether it is this thread's turn to decide.
+fn hold<L: Ledger, R: Wait>(
+    rt: &R,
+    shared: &Shared<L>,
+    path: &[u32],
+    log: &Log,
+    known: Option<&Outcome>,
+    action: Action,
+    fresh: Option<FreshCell>,
+    mine: &mut Share<L>,
+) -> Result<(Entered<L>, bool), Refusal>
+    requires mine { 0 < mine.old.parts }
+    requires fresh { is_some fresh ≡ makes_root (kind_of (deed_of action)) }
+    ensures foreseen { OnOk result (due (option_map (λ o. o.now) known.entry) path.now
+        (shown_by log.now).state (kind_of (deed_of action)) ≡ None) }
+    ensures answers { IfErr result (λ refusal. refusal ≢ Refusal.Strange
+        → IsAnswer (due (option_map (λ o. o.now) known.entry) path.now
+        (shown_by log.now).state (kind_of (deed_of action)))
+        (option_map (λ o. o.now) known.entry) refusal) }
+    ensures parts { mine.new.parts ≡ mine.old.parts }
+    ensures counted { OnOk result (mine.new.amount ≡ mine.old.amount + 1) }
+    ensures uncounted { OnErr result (mine.new.amount ≡ mine.old.amount) }
+    ensures given { IfOk result (λ done.
+        done.0.share.parts ≡ nodes_by (kind_of (deed_of action))) }
+    ensures empty { IfOk result (λ done. done.0.share.amount ≡ 0) }
+{
+    let mut room = shared.room.lock(rt);
+    let done = room.act(path, log, known, action, fresh, mine)?;
+    let decides = room.begin();
+    Ok((done, decides))
+}
+
+/// Enters an action and logs it, and decides where that is this thread's turn.
+fn enter<L: Ledger, G: Gate + Drop, R: Wait>(
+    rt: &R,
+    shared: &Shared<L>,
+    rules: &Rules<G>,
+    path: &[u32],
+    log: &mut Log,
+    known: Option<&Outcome>,
+    action: Action,
+    copy: Action,
+    fresh: Option<FreshCell>,
+    mine: &mut Share<L>,
+) -> Result<Share<L>, Refusal>
+    requires mine { 0 < mine.old.parts }
+    requires room { length log.old.deeds + 2 ≤ log.old.places }
+    requires same { deed_of copy ≡ deed_of action }
+    requires fresh { is_some fresh ≡ makes_root (kind_of (deed_of action)) }
+    ensures foreseen { OnOk result (due (option_map (λ o. o.now) known.entry) path.now
+        (shown_by log.old).state (kind_of (deed_of action)) ≡ None) }
+    ensures answers { IfErr result (λ refusal. refusal ≢ Refusal.Strange
+        → IsAnswer (due (option_map (λ o. o.now) known.entry) path.now
+        (shown_by log.old).state (kind_of (deed_of action)))
+        (option_map (λ o. o.now) known.entry) refusal) }
+    ensures parts { mine.new.parts ≡ mine.old.parts }
+    ensures counted { OnOk result (mine.new.amount ≡ mine.old.amount + 1) }
+    ensures uncounted { OnErr result (mine.new.amount ≡ mine.old.amount) }
+    ensures begun { log.new.begun ≡ log.old.begun }
+    ensures logged { OnOk result (log.new.deeds ≡ log.old.deeds ++ deed_of action ∷ []) }
+    ensures unlogged { OnErr result (log.new.deeds ≡ log.old.deeds) }
+    ensures given { IfOk result (λ share. share.parts ≡ nodes_by (kind_of (deed_of action))) }
+    ensures empty { IfOk result (λ share. share.amount ≡ 0) }
+{
+    if log.state().children >= 128 {
+        return Err(Refusal::Strange);
+    }
+    let (done, decides) = hold(rt, shared, path, log, known, action, fresh, mine)?;
+    log.push(copy);
+    if decides {
+        decide(rt, shared, rules);
+    }
+    Ok(done.share)
+}
+
+/// A cell for a domain that is to be made, and one more owner of it for the handle of its root.
+pub(crate) fn fresh_cell(alloc: Global) -> Result<(FreshCell, Arc<OnceBox<Outcome>>), AllocError> {
+    let fresh = FreshCell::new(alloc)?;
+    let cell = fresh.shared()?;
+    Ok((fresh, cell))
+}
+
+impl<L: Ledger, G: Gate + Drop> Seat<L, G> {
+    /// A further token, the last child of a token.
+    pub(crate) fn duplicate<R: Wait>(&mut self, rt: &R) -> Result<Seat<L, G>, Refusal>
+        ensures entered { OnOk result (self.new ≡ acted self.old duplicates) }
+        ensures unchanged { OnErr result (self.new ≡ self.old) }
+        ensures made { IfOk result (λ child.
+            child ≡ child_of self.old NodeKind.Token false self.old.cell) }
+        ensures foreseen { OnOk result (MayEnter self.old duplicates) }
+        ensures answers { IfErr result (Answers self.old duplicates) }
+    {
+        let Ok(child) = self.prepared(NodeKind::Token, false) else {
+            return Err(Refusal::NoMemory);
+        };
+        let Prepared {
+            shared,
+            rules,
+            path,
+            log,
+            cell,
+        } = child;
+        if self.log.reserve().is_err() {
+            return Err(Refusal::NoMemory);
+        }
+        let mut seen = self.note.again();
+        let known = self.cell.get_as(&mut seen);
+        let share = match enter(
+            rt,
+            &self.shared,
+            &self.rules,
+            &self.path,
+            &mut self.log,
+            known,
+            Action::Duplicate,
+            Action::Duplicate,
+            None,
+            &mut self.share,
+        ) {
+            Ok(share) => share,
+            Err(refusal) => return Err(refusal),
+        };
+        let note = cell.note();
+        Ok(Seat {
+            shared,
+            rules,
+            path,
+            log,
+            share,
+            cell,
+            note,
+        })
+    }
+
+    /// A group, the last child of a token.
+    pub(crate) fn create_group<R: Wait>(&mut self, rt: &R) -> Result<Seat<L, G>, Refusal>
+        ensures entered { OnOk result (self.new ≡ acted self.old creates_group) }
+        ensures unchanged { OnErr result (self.new ≡ self.old) }
+        ensures made { IfOk result (λ child.
+            child ≡ child_of self.old NodeKind.Group false self.old.cell) }
+        ensures foreseen { OnOk result (MayEnter self.old creates_group) }
+        ensures answers { IfErr result (Answers self.old creates_group) }
+    {
+        let Ok(child) = self.prepared(NodeKind::Group, false) else {
+            return Err(Refusal::NoMemory);
+        };
+        let Prepared {
+            shared,
+            rules,
+            path,
+            log,
+            cell,
+        } = child;
+        if self.log.reserve().is_err() {
+            return Err(Refusal::NoMemory);
+        }
+        let mut seen = self.note.again();
+        let known = self.cell.get_as(&mut seen);
+        let share = match enter(
+            rt,
+            &self.shared,
+            &self.rules,
+            &self.path,
+            &mut self.log,
+            known,
+            Action::CreateGroup,
+            Action::CreateGroup,
+            None,
+            &mut self.share,
+        ) {
+            Ok(share) => share,
+            Err(refusal) => return Err(refusal),
+        };
+        let note = cell.note();
+        Ok(Seat {
+            shared,
+            rules,
+            path,
+            log,
+            share,
+            cell,
+            note,
+        })
+    }
+
+    /// A token, the last child of a group.
+    pub(crate) fn create_child<R: Wait>(&mut self, rt: &R) -> Result<Seat<L, G>, Refusal>
+        ensures entered { OnOk result (self.new ≡ acted self.old creates_child) }
+        ensures unchanged { OnErr result (self.new ≡ self.old) }
+        ensures made { IfOk result (λ child.
+            child ≡ child_of self.old NodeKind.Token false self.old.cell) }
+        ensures foreseen { OnOk result (MayEnter self.old creates_child) }
+        ensures answers { IfErr result (Answers self.old creates_child) }
+    {
+        let Ok(child) = self.prepared(NodeKind::Token, false) else {
+            return Err(Refusal::NoMemory);
+        };
+        let Prepared {
+            shared,
+            rules,
+            path,
+            log,
+            cell,
+        } = child;
+        if self.log.reserve().is_err() {
+            return Err(Refusal::NoMemory);
+        }
+        let mut seen = self.note.again();
+        let known = self.cell.get_as(&mut seen);
+        let share = match enter(
+            rt,
+            &self.shared,
+            &self.rules,
+            &self.path,
+            &mut self.log,
+            known,
+            Action::CreateChild,
+            Action::CreateChild,
+            None,
+            &mut self.share,
+        ) {
+            Ok(share) => share,
+            Err(refusal) => return Err(refusal),
+        };
+        let note = cell.note();
+        Ok(Seat {
+            shared,
+            rules,
+            path,
+            log,
+            share,
+            cell,
+            note,
+        })
+    }
+
+    /// A token, the last child of a collection, that is the root of a domain of its own.
+    pub(crate) fn attach_token<R: Wait>(&mut self, rt: &R) -> Result<Seat<L, G>, Refusal>
+        ensures entered { OnOk result (self.new ≡ acted self.old attaches_token) }
+        ensures unchanged { OnErr result (self.new ≡ self.old) }
+        ensures made { IfOk result (λ child.
+            child ≡ child_of self.old NodeKind.Token true child.cell) }
+        ensures foreseen { OnOk result (MayEnter self.old attaches_token) }
+        ensures answers { IfErr result (Answers self.old attaches_token) }
+    {
+        let Ok(child) = self.prepared(NodeKind::Token, true) else {
+            return Err(Refusal::NoMemory);
+        };
+        let Prepared {
+            shared,
+            rules,
+            path,
+            log,
+            cell: _host,
+        } = child;
+        let Ok((fresh, cell)) = fresh_cell(self.rules.alloc) else {
+            return Err(Refusal::NoMemory);
+        };
+        if self.log.reserve().is_err() {
+            return Err(Refusal::NoMemory);
+        }
+        let mut seen = self.note.again();
+        let known = self.cell.get_as(&mut seen);
+        let share = match enter(
+            rt,
+            &self.shared,
+            &self.rules,
+            &self.path,
+            &mut self.log,
+            known,
+            Action::AttachToken,
+            Action::AttachToken,
+            Some(fresh),
+            &mut self.share,
+        ) {
+            Ok(share) => share,
+            Err(refusal) => return Err(refusal),
+        };
+        let note = cell.note();
+        Ok(Seat {
+            shared,
+            rules,
+            path,
+            log,
+            share,
+            cell,
+            note,
+        })
+    }
+
+    /// The token becomes a collection.
+    pub(crate) fn bind<R: Wait>(&mut self, rt: &R) -> Result<(), Refusal>
+        ensures entered { OnOk result (self.new ≡ acted self.old binds) }
+        ensures unchanged { OnErr result (self.new ≡ self.old) }
+        ensures foreseen { OnOk result (MayEnter self.old binds) }
+        ensures answers { IfErr result (Answers self.old binds) }
+    {
+        if self.log.reserve().is_err() {
+            return Err(Refusal::NoMemory);
+        }
+        let mut seen = self.note.again();
+        let known = self.cell.get_as(&mut seen);
+        match enter(
+            rt,
+            &self.shared,
+            &self.rules,
+            &self.path,
+            &mut self.log,
+            known,
+            Action::Bind,
+            Action::Bind,
+            None,
+            &mut self.share,
+        ) {
+            Ok(_share) => Ok(()),
+            Err(refusal) => Err(refusal),
+        }
+    }
+
+    /// The group is complete.
+    pub(crate) fn all_children_present<R: Wait>(&mut self, rt: &R) -> Result<(), Refusal>
+        ensures entered { OnOk result (self.new ≡ acted self.old has_all_children) }
+        ensures unchanged { OnErr result (self.new ≡ self.old) }
+        ensures foreseen { OnOk result (MayEnter self.old has_all_children) }
+        ensures answers { IfErr result (Answers self.old has_all_children) }
+    {
+        if self.log.reserve().is_err() {
+            return Err(Refusal::NoMemory);
+        }
+        let mut seen = self.note.again();
+        let known = self.cell.get_as(&mut seen);
+        match enter(
+            rt,
+            &self.shared,
+            &self.rules,
+            &self.path,
+            &mut self.log,
+            known,
+            Action::AllChildrenPresent,
+            Action::AllChildrenPresent,
+            None,
+            &mut self.share,
+        ) {
+            Ok(_share) => Ok(()),
+            Err(refusal) => Err(refusal),
+        }
+    }
+
+    /// Sets these constraints on a collection, or that it has none.
+    pub(crate) fn set_constraints<R: Wait>(
+        &mut self,
+        rt: &R,
+        asked: Option<Arc<Constraints>>,
+    ) -> Result<(), Refusal>
+        ensures entered { OnOk result (self.new
+            ≡ acted self.old (sets (option_map (λ one. arc_value one) asked))) }
+        ensures unchanged { OnErr result (self.new ≡ self.old) }
+        ensures foreseen { OnOk result (MayEnter self.old (sets None)) }
+        ensures answers { IfErr result (Answers self.old (sets None)) }
+    {
+        if self.log.reserve().is_err() {
+            return Err(Refusal::NoMemory);
+        }
+        let Ok(own) = shared_again(&asked) else {
+            return Err(Refusal::NoMemory);
+        };
+        let mut seen = self.note.again();
+        let known = self.cell.get_as(&mut seen);
+        match enter(
+            rt,
+            &self.shared,
+            &self.rules,
+            &self.path,
+            &mut self.log,
+            known,
+            Action::SetConstraints(asked),
+            Action::SetConstraints(own),
+            None,
+            &mut self.share,
+        ) {
+            Ok(_share) => Ok(()),
+            Err(refusal) => Err(refusal),
+        }
+    }
+}

@@ -1,0 +1,93 @@
+//! Where collections come from.
+
+ghost use Rattle.std.specs.Prelude.{◌≡◌, IfErr, IfOk};
+ghost use Rattle.std.specs.Arc.{arc_value};
+ghost use Rattle.sysmem_participants.specs.Held.{root_of};
+ghost use Rattle.sysmem_room.specs.Counting.{all_parts};
+
+use crate::seat::Seat;
+use crate::shared::{Rules, Shared};
+use crate::token::Token;
+use std::alloc::{AllocError, Global};
+use std::marker::Model;
+use std::sync::ledger::{Blank, Ledger};
+use std::sync::{Arc, Condvar, Mutex};
+use sysmem_room::{Log, Room};
+use sysmem_sanitise::Platform;
+use sysmem_search::Gate;
+use sysmem_tree::{NodeKind, Refusal};
+
+/// Makes collections that are decided for one platform; its gate is told of the searches.
+#[derive(Drop)]
+pub struct Allocator<G: Gate + Drop> {
+    rules: Arc<Rules<G>>,
+}
+
+impl<G: Gate + Drop> Model for Allocator<G> {
+    ghost use Rattle.std.specs.Arc.{arc_value};
+    ghost use Rattle.sysmem_sanitise.specs.Platform.{PlatformFacts};
+
+    ghost Value = { PlatformFacts };
+
+    ghost view = { λ a. (arc_value a.rules).platform };
+}
+
+/// What the handle of a new collection's root holds.
+fn opened<L: Ledger, G: Gate + Drop>(
+    rules: &Arc<Rules<G>>,
+    blank: Blank,
+) -> Result<Seat<L, G>, AllocError>
+    requires name { blank.name ≡ L.name }
+    requires ledger { blank.parts ≡ L.parts }
+    requires parts { blank.parts ≡ all_parts }
+    ensures { IfOk result (λ seat. seat ≡ root_of (arc_value rules.now).platform seat.cell) }
+{
+    let alloc = rules.alloc;
+    let platform = rules.platform.copy()?;
+    let log = Log::new(alloc, NodeKind::Token, true)?;
+    let rules = Arc::try_clone(rules)?;
+    let opened = Room::open(alloc, blank, platform)?;
+    let room = Mutex::new(opened.room);
+    let changed = Condvar::new();
+    let shared = Arc::new(alloc, Shared { room, changed })?;
+    let note = opened.cell.note();
+    Ok(Seat {
+        shared,
+        rules,
+        path: Vec::new(alloc),
+        log,
+        share: opened.share,
+        cell: opened.cell,
+        note,
+    })
+}
+
+impl<G: Gate + Drop> Allocator<G> {
+    /// For this platform; each decision of its collections tells this gate of its search. `AllocError` where memory is refused.
+    pub fn new(alloc: Global, platform: Platform, gate: G) -> Result<Allocator<G>, AllocError>
+        ensures { IfOk result (λ allocator. allocator ≡ platform) }
+    {
+        let rules = Rules {
+            alloc,
+            platform,
+            gate,
+        };
+        let rules = Arc::new(alloc, rules)?;
+        Ok(Allocator { rules })
+    }
+
+    /// The root token of a new collection, whose handles are counted by a ledger of its own, of 129 parts. `NoMemory` where memory is
+    /// refused; the blank ledger is gone then.
+    pub fn allocate_shared<L: Ledger>(&self, blank: Blank) -> Result<Token<L, G>, Refusal>
+        requires name { blank.name ≡ L.name }
+        requires ledger { blank.parts ≡ L.parts }
+        requires parts { blank.parts ≡ all_parts }
+        ensures root { IfOk result (λ token. token ≡ root_of self.now token.cell) }
+        ensures refused { IfErr result (λ refusal. refusal ≡ Refusal.NoMemory) }
+    {
+        match opened(&self.rules, blank) {
+            Ok(seat) => Ok(Token::new(seat)),
+            Err(_) => Err(Refusal::NoMemory),
+        }
+    }
+}

@@ -1,0 +1,72 @@
+//! The audit of a collection whose handles are all spent.
+
+ghost use Rattle.std.specs.Prelude.{◌≡◌, ◌+◌, length, map, sum_by, vec_len, IfOk};
+ghost use Rattle.sysmem_participants.specs.Audit.{IsAudited, SomeBookAgrees, unread};
+ghost use Rattle.sysmem_room.specs.Counting.{actions_in};
+
+use crate::agreeing::stubs_agree;
+use crate::faults::{Audit, AuditFault};
+use crate::shared::Shared;
+use crate::stub::Stub;
+use std::sync::ledger::{Ledger, Share};
+use std::sync::{Arc, Wait};
+use sysmem_room::Room;
+
+/// A share with all parts and amounts of the stubs'.
+fn joined<L: Ledger>(start: Share<L>, stubs: Vec<Stub<L>>) -> Share<L>
+    ensures parts { result.parts ≡ start.parts + vec_len stubs }
+    ensures amount { result.amount ≡ start.amount + sum_by (λ s. length s.deeds) stubs.items }
+{
+    let mut all = start;
+    for stub in stubs {
+        all.merge(stub.into_share());
+    }
+    all
+}
+
+/// Counts the stubs' actions, of which there are as many as in the history where there is a stub for each node.
+fn count<L: Ledger>(room: &mut Room<L>, stubs: Vec<Stub<L>>)
+    requires { vec_len stubs ≡ length room.old.state.tree.nodes }
+    ensures same { room.new ≡ room.old }
+    ensures actions { sum_by (λ s. length s.deeds) stubs.items ≡ actions_in room.old.history }
+{
+    let start = room.no_share();
+    let mut all = joined(start, stubs);
+    room.count(&mut all);
+}
+
+/// What is found of a collection by the stubs of all its handles, once these are spent.
+fn audited<L: Ledger>(room: &mut Room<L>, stubs: Vec<Stub<L>>) -> Result<Audit, AuditFault>
+    ensures agree { IfOk result (SomeBookAgrees stubs.items) }
+    ensures sum { IfOk result (λ audit.
+        audit.actions ≡ sum_by (λ s. length s.deeds) stubs.items) }
+{
+    let mut stubs = stubs;
+    room.book().platform();
+    let audit = stubs_agree(room.book(), &mut stubs)?;
+    count(room, stubs);
+    Ok(audit)
+}
+
+/// One more owner of the collection of the first stub.
+fn shared_of<L: Ledger>(stubs: &[Stub<L>]) -> Result<Arc<Shared<L>>, AuditFault> {
+    let Some(stub) = stubs.first() else {
+        return Err(AuditFault::Stubs);
+    };
+    match Arc::try_clone(&stub.shared) {
+        Ok(shared) => Ok(shared),
+        Err(_) => Err(AuditFault::NoMemory),
+    }
+}
+
+/// Joins the stubs of a collection, once all its handles are spent: whether they and its book say the same, and what there is to count. As
+/// many actions as the handles made stand in the book. Of no stubs it answers `Stubs`.
+pub fn audit<L: Ledger, R: Wait>(rt: &R, stubs: Vec<Stub<L>>) -> Result<Audit, AuditFault>
+    ensures agree { IfOk result (SomeBookAgrees stubs.items) }
+    ensures sum { IfOk result (λ audit.
+        audit.actions ≡ sum_by (λ s. length s.deeds) stubs.items) }
+{
+    let shared = shared_of(&stubs)?;
+    let mut room = shared.room.lock(rt);
+    audited(&mut room, stubs)
+}

@@ -1,0 +1,147 @@
+//! What each kind of handle holds.
+
+ghost use Rattle.std.specs.Prelude.{◌≡◌, ◌≢◌, ◌<◌, ◌≤◌, ◌+◌, ◌++◌, [], ◌∷◌, None, Some, length, option_map, IfErr, IfOk, IfSome, MatchResult, OnErr, OnOk, ⊤};
+ghost use Rattle.std.specs.Arc.{arc_value};
+ghost use Rattle.once_cell.specs.Once.{cell_name};
+ghost use Rattle.sysmem_participants.specs.Held.{IsSameBut, state_of};
+ghost use Rattle.sysmem_participants.specs.Told.{IsShownTo, Tells};
+ghost use Rattle.sysmem_room.specs.Log.{begun_as};
+
+use crate::shared::{Rules, Shared};
+use crate::telling::told;
+use crate::view::View;
+use crate::waiting::wait_until_set;
+use once_cell::race::{Note, OnceBox};
+use std::alloc::AllocError;
+use std::marker::Model;
+use std::sync::ledger::{Ledger, Share};
+use std::sync::{Arc, Wait};
+use sysmem_room::{Log, Outcome};
+use sysmem_search::Gate;
+use sysmem_tree::{NodeKind, Refusal};
+
+/// What each kind of handle holds.
+pub(crate) struct Seat<L: Ledger, G: Gate + Drop> {
+    pub(crate) shared: Arc<Shared<L>>,
+    pub(crate) rules: Arc<Rules<G>>,
+    pub(crate) path: Vec<u32>,
+    pub(crate) log: Log,
+    /// One part of the ledger, for the number of actions in the log.
+    pub(crate) share: Share<L>,
+    /// Where the verdict of its domain is read.
+    pub(crate) cell: Arc<OnceBox<Outcome>>,
+    /// What it read there.
+    pub(crate) note: Note<Outcome>,
+}
+
+impl<L: Ledger, G: Gate + Drop> Model for Seat<L, G> {
+    ghost use Rattle.std.specs.Prelude.{◌≡◌, length};
+    ghost use Rattle.std.specs.Arc.{arc_value};
+    ghost use Rattle.once_cell.specs.Once.{cell_name};
+    ghost use Rattle.sysmem_participants.specs.Held.{Held};
+
+    ghost Value = { Held };
+
+    ghost view = { λ s. record {
+      path = s.path.items;
+      begun = s.log.begun;
+      deeds = s.log.deeds;
+      cell = cell_name (arc_value s.cell);
+      known = s.note.known;
+      platform = (arc_value s.rules).platform;
+    } };
+
+    ghost invariant = { λ s. (s.share.parts ≡ 1)
+        × (s.share.amount ≡ length s.log.deeds)
+        × (s.note.cell ≡ cell_name (arc_value s.cell)) };
+}
+
+/// What the handle of a further node will hold, taken before the lock.
+#[derive(Drop)]
+pub(crate) struct Prepared<L: Ledger, G: Gate + Drop> {
+    pub(crate) shared: Arc<Shared<L>>,
+    pub(crate) rules: Arc<Rules<G>>,
+    pub(crate) path: Vec<u32>,
+    pub(crate) log: Log,
+    pub(crate) cell: Arc<OnceBox<Outcome>>,
+}
+
+impl<L: Ledger, G: Gate + Drop> Seat<L, G> {
+    ghost use Rattle.std.specs.Borrow.{sem};
+    ghost use mathlib.Core.Option.{none};
+    ghost use denote.Follow.{follows_so};
+    ghost use Rattle.sysmem_participants.specs.contracts.seat.Seat.{the_row};
+
+    /// What the handle of the next child will hold.
+    pub(crate) fn prepared(
+        &self,
+        begun: NodeKind,
+        is_domain_root: bool,
+    ) -> Result<Prepared<L, G>, AllocError>
+        ensures path { IfOk result (λ child.
+            child.path.items ≡ self.now.path ++ (state_of self.now).children ∷ []) }
+        ensures begun { IfOk result (λ child. child.log.begun ≡ begun_as begun is_domain_root) }
+        ensures empty { IfOk result (λ child. child.log.deeds ≡ []) }
+        ensures cell { IfOk result (λ child. cell_name (arc_value child.cell) ≡ self.now.cell) }
+        ensures platform { IfOk result (λ child.
+            (arc_value child.rules).platform ≡ self.now.platform) }
+    {
+        let alloc = self.rules.alloc;
+        let mut path = Vec::with_capacity(alloc, self.path.len().saturating_add(1))?;
+        path.extend_from_slice(&self.path)?;
+        path.push(self.log.state().children)?;
+        Ok(Prepared {
+            shared: Arc::try_clone(&self.shared)?,
+            rules: Arc::try_clone(&self.rules)?,
+            path,
+            log: Log::new(alloc, begun, is_domain_root)?,
+            cell: Arc::try_clone(&self.cell)?,
+        })
+    }
+
+    /// What became of the domain.
+    pub(crate) fn check(&mut self) -> Result<View<'_>, Refusal>
+        ensures* after { sem 𝓛 (follows_so (the_row L.row G.row L.Ledger)
+            (the_row L.row G.row L.Ledger) self.entry.ghost_name none (λ _ _. ⊤)
+            (λ n. IsSameBut self.old n × MatchResult result
+            (λ view. n.known ≡ Some (Outcome.Decided view)) (λ _. Unit {0}))) }
+        ensures pending { IfErr result (λ refusal.
+            refusal ≡ Refusal.Pending → self.old.known ≡ None) }
+        ensures known { IfOk result (λ view.
+            IfSome self.old.known (λ known. known ≡ Outcome.Decided view)) }
+        ensures shown { IfOk result (IsShownTo self.old) }
+        ensures tells { IfErr result (Tells self.old.platform) }
+    {
+        let Some(outcome) = self.cell.get_as(&mut self.note) else {
+            return Err(Refusal::Pending);
+        };
+        told(outcome, &self.rules.platform, &self.path, &self.log)
+    }
+
+    /// What became of the domain, once something did.
+    pub(crate) fn wait_for_all<R: Wait>(&mut self, rt: &R) -> Result<View<'_>, Refusal>
+        ensures* after { sem 𝓛 (follows_so (the_row L.row G.row L.Ledger)
+            (the_row L.row G.row L.Ledger) self.entry.ghost_name none (λ _ _. ⊤)
+            (λ n. IsSameBut self.old n × MatchResult result
+            (λ view. n.known ≡ Some (Outcome.Decided view)) (λ _. Unit {0}))) }
+        ensures decided { IfErr result (λ refusal. refusal ≢ Refusal.Pending) }
+        ensures known { IfOk result (λ view.
+            IfSome self.old.known (λ known. known ≡ Outcome.Decided view)) }
+        ensures shown { IfOk result (IsShownTo self.old) }
+        ensures tells { IfErr result (Tells self.old.platform) }
+    {
+        wait_until_set(rt, &self.shared, &self.cell, &mut self.note);
+        self.check()
+    }
+
+    /// Compares what two handles with one cell know of it.
+    pub(crate) fn compare(&mut self, other: &mut Seat<L, G>)
+        requires { other.old.cell ≡ self.old.cell }
+        ensures same { (self.new ≡ self.old) × (other.new ≡ other.old) }
+        ensures agree { IfSome other.old.known (λ one.
+            IfSome self.old.known (λ own. own ≡ one)) }
+    {
+        let also = other.note.again();
+        self.note.compare(also);
+    }
+}

@@ -1,0 +1,23 @@
+//! What the handles of a collection share.
+
+use std::alloc::Global;
+use std::sync::ledger::Ledger;
+use std::sync::{Condvar, Mutex};
+use sysmem_room::Room;
+use sysmem_sanitise::Platform;
+use sysmem_search::Gate;
+
+/// A collection's book under its lock, and where one waits for a verdict.
+#[derive(Drop)]
+pub(crate) struct Shared<L: Ledger> {
+    pub(crate) room: Mutex<Room<L>>,
+    pub(crate) changed: Condvar,
+}
+
+/// What an allocator decides for, and who is told of its searches.
+#[derive(Drop)]
+pub(crate) struct Rules<G: Gate + Drop> {
+    pub(crate) alloc: Global,
+    pub(crate) platform: Platform,
+    pub(crate) gate: G,
+}

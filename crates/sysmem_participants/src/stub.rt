@@ -1,0 +1,54 @@
+//! What is left of handles that were spent.
+
+ghost use Rattle.std.specs.Prelude.{◌≡◌, length};
+
+use crate::shared::Shared;
+use once_cell::race::{Note, OnceBox};
+use std::marker::Model;
+use std::sync::Arc;
+use std::sync::ledger::{Ledger, Share};
+use sysmem_room::Outcome;
+use sysmem_tree::Action;
+
+/// What is left of a handle that was spent: its node's path, its accepted actions, its share of the ledger, and what it knows of its domain's
+/// cell. An audit wants one for each node.
+#[derive(Drop)]
+pub struct Stub<L: Ledger> {
+    pub(crate) shared: Arc<Shared<L>>,
+    pub(crate) path: Vec<u32>,
+    pub(crate) actions: Vec<Action>,
+    pub(crate) share: Share<L>,
+    pub(crate) cell: Arc<OnceBox<Outcome>>,
+    pub(crate) note: Note<Outcome>,
+}
+
+impl<L: Ledger> Model for Stub<L> {
+    ghost use Rattle.std.specs.Prelude.{◌≡◌, length, map};
+    ghost use Rattle.std.specs.Arc.{arc_value};
+    ghost use Rattle.once_cell.specs.Once.{cell_name};
+    ghost use Rattle.sysmem_participants.specs.Held.{Left};
+    ghost use Rattle.sysmem_tree.specs.ActionKind.{deed_of};
+
+    ghost Value = { Left };
+
+    ghost view = { λ s. record {
+      path = s.path.items;
+      deeds = map deed_of s.actions.items;
+      cell = cell_name (arc_value s.cell);
+      known = s.note.known;
+    } };
+
+    ghost invariant = { λ s. (s.share.parts ≡ 1)
+        × (s.share.amount ≡ length (map deed_of s.actions.items))
+        × (s.note.cell ≡ cell_name (arc_value s.cell)) };
+}
+
+impl<L: Ledger> Stub<L> {
+    /// Its share alone.
+    pub(crate) fn into_share(self) -> Share<L>
+        ensures parts { result.parts ≡ 1 }
+        ensures amount { result.amount ≡ length self.deeds }
+    {
+        self.share
+    }
+}

@@ -1,0 +1,78 @@
+//! What a handle is told by what became of its domain.
+
+ghost use Rattle.std.specs.Prelude.{◌≡◌, ◌≢◌, IfErr, IfOk, IsTrue};
+ghost use Rattle.sysmem_room.specs.Log.{shown_by};
+ghost use Rattle.sysmem_participants.specs.Told.{Asks, IsChosenFor, IsShownAt, IsToldBy, Tells};
+
+use crate::view::View;
+use sysmem_alloc::Frozen;
+use sysmem_proof::Verdict;
+use sysmem_room::{Log, Outcome, Ruling, is_member};
+use sysmem_sanitise::Platform;
+use sysmem_tree::Refusal;
+
+/// Whether a ruling is for this platform.
+fn is_for(ruling: &Ruling, platform: &Platform) -> bool
+    ensures { IsTrue result → ruling.now.frozen.platform ≡ platform.now }
+{
+    ruling.frozen().platform().is_same(platform)
+}
+
+/// Whether the tree that was decided on has the log's constraints at the path.
+fn has_own(frozen: &Frozen, path: &[u32], log: &Log) -> bool
+    ensures { IsTrue result → Asks frozen.now path.now (shown_by log.now).constraints }
+{
+    let tree = frozen.tree();
+    match tree.node_at(path) {
+        Some(node) => log.asks_as(tree, node),
+        None => false,
+    }
+}
+
+/// What the handle of a path and a log is told by a ruling for its platform.
+fn shown<'a>(ruling: &'a Ruling, path: &[u32], log: &Log) -> Result<View<'a>, Refusal>
+    ensures same { IfOk result (λ view. view ≡ ruling.now) }
+    ensures chosen { IfOk result (λ view. IsChosenFor path.now view.frozen view.claim.verdict) }
+    ensures own { IfOk result (λ view. Asks view.frozen path.now (shown_by log.now).constraints) }
+    ensures known { IfErr result (λ refusal. refusal ≢ Refusal.Pending) }
+    ensures told { IfErr result (IsToldBy ruling.now.claim.verdict) }
+{
+    match &ruling.claim().verdict {
+        Verdict::Chosen(chosen) => {
+            if !is_member(ruling.frozen(), chosen.selection(), path) {
+                return Err(Refusal::NotSelected);
+            }
+            if !has_own(ruling.frozen(), path, log) {
+                return Err(Refusal::Strange);
+            }
+            Ok(View::new(ruling, chosen))
+        }
+        Verdict::IntersectionEmpty => Err(Refusal::ConstraintsIntersectionEmpty),
+        Verdict::TooMany => Err(Refusal::TooManyGroupChildCombinations),
+        Verdict::Failed | Verdict::NoMemory => Err(Refusal::Strange),
+    }
+}
+
+/// What the handle of a path and a log is told by what became of its domain.
+pub(crate) fn told<'a>(
+    outcome: &'a Outcome,
+    platform: &Platform,
+    path: &[u32],
+    log: &Log,
+) -> Result<View<'a>, Refusal>
+    ensures decided { IfOk result (λ view. outcome.now ≡ Outcome.Decided view) }
+    ensures shown { IfOk result (IsShownAt platform.now path.now (shown_by log.now).constraints) }
+    ensures known { IfErr result (λ refusal. refusal ≢ Refusal.Pending) }
+    ensures tells { IfErr result (Tells platform.now) }
+{
+    let ruling = match outcome {
+        Outcome::Decided(ruling) => ruling,
+        Outcome::Failed => return Err(Refusal::DomainFailed),
+        Outcome::NoMemory => return Err(Refusal::NoMemory),
+    };
+    if !is_for(ruling, platform) {
+        return Err(Refusal::Strange);
+    }
+    ruling.claim();
+    shown(ruling, path, log)
+}

@@ -1,0 +1,82 @@
+-- What an action adds to the history and to the nodes.
+use Rattle.std.proofs.Common.{◌≡◌, ◌≤◌, ℕ, suc, ◌+◌, Bool, true, false, List, [], ◌∷◌, ◌++◌, length, Option, Some, None, Result, Ok, Err, slice_set, refl, sym, ◌∙◌, ap, arith, length-append}
+use Rattle.std.specs.Prelude.{is_some, if◌then◌else◌}
+use Rattle.std.proofs.lemmas.List.{length-set, length-map}
+use Rattle.sysmem_tree.specs.declared.action.ActionKind.{ActionKind}
+use Rattle.sysmem_tree.specs.declared.action.ActionKind.TheVariants as kinds
+use Rattle.sysmem_tree.specs.declared.domain.Domain.{Domain}
+use Rattle.sysmem_tree.specs.declared.state.NodeState.{NodeState}
+use Rattle.sysmem_tree.specs.ActionKind.{Deed, kind_of}
+use Rattle.sysmem_tree.specs.Domain.{TreeFacts}
+use Rattle.sysmem_tree.specs.Node.{NodeFacts}
+use Rattle.sysmem_tree.specs.Table.{makes, makes_root}
+use Rattle.sysmem_tree.specs.Tree.{Applied, applied, tree_after, node_after, nodes_made, nodes_after, domains_after, left_out_but, decided}
+use Rattle.sysmem_tree.proofs.CallerLemmas.{accepted}
+use Rattle.sysmem_alloc.specs.Book.{BookFacts, entered}
+use Rattle.sysmem_alloc.specs.Decision.{Claimed, answer_of, choices_of}
+use Rattle.sysmem_alloc.specs.Entry.{BookEntry, Acted, Decided}
+use Rattle.sysmem_alloc.specs.Sound.{roots_of}
+use Rattle.sysmem_alloc.proofs.CallerLemmas.{acted_roots, added, decided_roots}
+use Rattle.sysmem_tree.specs.Shape.{members_of}
+use Rattle.sysmem_room.specs.Counting.{actions_in, weight, nodes_by}
+
+-- one more entry
+pub actions_push : (es : List BookEntry) (e : BookEntry) → actions_in (es ++ e ∷ []) ≡ actions_in es + weight e
+actions_push [] e = omega arith
+actions_push (x ∷ es) e = let h : actions_in (es ++ e ∷ []) ≡ actions_in es + weight e = actions_push es e in omega (arith, h)
+
+made_many : (number i : ℕ) (n : NodeFacts) (k : ActionKind) (s : Option NodeState) → length (nodes_made number i n k s) ≡ (if is_some s then 1 else 0)
+made_many number i n k None = refl
+made_many number i n k (Some s) = refl
+
+-- an accepted action makes as many nodes as its kind says
+pub grows : (t : TreeFacts) (i : ℕ) (deed : Deed) (after : Applied) → applied t i deed ≡ Ok after → length after.tree.nodes ≡ length t.nodes + nodes_by (kind_of deed)
+grows t i deed after is =
+    let (n, a) = accepted t i deed after is in
+    let made = made_many (length t.nodes) i n (kind_of deed) (makes (kind_of deed)) in
+    let set : length (slice_set t.nodes i (node_after deed n)) ≡ length t.nodes = length-set t.nodes i (node_after deed n) in
+    let both : length (nodes_after t.nodes i n deed) ≡ length (slice_set t.nodes i (node_after deed n)) + length (nodes_made (length t.nodes) i n (kind_of deed) (makes (kind_of deed))) = length-append (slice_set t.nodes i (node_after deed n)) (nodes_made (length t.nodes) i n (kind_of deed) (makes (kind_of deed))) in
+    sym (ap (λ (u : TreeFacts). length u.nodes) a.tree) ∙ omega (arith, both, set, made)
+
+left_many : (ms : List ℕ) (r i : ℕ) (ns : List NodeFacts) → length (left_out_but ms r i ns) ≡ length ns
+left_many ms r i [] = refl
+left_many ms r i (n ∷ ns) = ap suc (left_many ms r (i + 1) ns)
+
+decided_many : (t : TreeFacts) (r : ℕ) (choices : Option (List ℕ)) → length (decided t r choices).nodes ≡ length t.nodes
+decided_many t r None = refl
+decided_many t r (Some cs) = left_many (members_of t.nodes r cs) r 0 t.nodes
+
+decided_domains : (t : TreeFacts) (r : ℕ) (choices : Option (List ℕ)) → length (decided t r choices).domains ≡ length t.domains
+decided_domains t r choices = sym (length-map (decided t r choices).domains (λ (d : Domain). d.root)) ∙ (ap length (decided_roots t r choices) ∙ length-map t.domains (λ (d : Domain). d.root))
+
+added_many : (k : ActionKind) (n : ℕ) → length (added k n) ≡ (if makes_root k then 1 else 0)
+added_many kinds.Duplicate n = refl
+added_many kinds.CreateGroup n = refl
+added_many kinds.Bind n = refl
+added_many kinds.CreateChild n = refl
+added_many kinds.AllChildrenPresent n = refl
+added_many kinds.SetConstraints n = refl
+added_many kinds.AttachToken n = refl
+added_many kinds.Release n = refl
+added_many kinds.Close n = refl
+
+-- an accepted action makes a domain exactly where it makes the root of one
+pub roots_grow : (t : TreeFacts) (i : ℕ) (deed : Deed) (after : Applied) → applied t i deed ≡ Ok after → length after.tree.domains ≡ length t.domains + (if makes_root (kind_of deed) then 1 else 0)
+roots_grow t i deed after is =
+    let (n, a) = accepted t i deed after is in
+    let both : length (roots_of t ++ added (kind_of deed) (length t.nodes)) ≡ length (roots_of t) + length (added (kind_of deed) (length t.nodes)) = length-append (roots_of t) (added (kind_of deed) (length t.nodes)) in
+    let new : length (domains_after t n (kind_of deed)) ≡ length (roots_of t ++ added (kind_of deed) (length t.nodes)) =
+    sym (length-map (domains_after t n (kind_of deed)) (λ (d : Domain). d.root)) ∙ ap length (acted_roots t n (kind_of deed)) in
+    let old : length (roots_of t) ≡ length t.domains = length-map t.domains (λ (d : Domain). d.root) in
+    let many = added_many (kind_of deed) (length t.nodes) in
+    sym (ap (λ (u : TreeFacts). length u.domains) a.tree) ∙ omega (arith, new, both, old, many)
+
+-- a decision is no action, and makes neither a node nor a domain
+pub decides : (b new : BookFacts) (c : Claimed) → new ≡ entered b (Decided c)
+    → (actions_in new.history ≡ actions_in b.history) × (length new.state.tree.nodes ≡ length b.state.tree.nodes) × (length new.state.tree.domains ≡ length b.state.tree.domains)
+decides b new c is =
+    let push = actions_push b.history (Decided c) in (
+      ap (λ (x : BookFacts). actions_in x.history) is ∙ omega (arith, push),
+      ap (λ (x : BookFacts). length x.state.tree.nodes) is ∙ decided_many b.state.tree c.domain (choices_of (answer_of c).verdict),
+      ap (λ (x : BookFacts). length x.state.tree.domains) is ∙ decided_domains b.state.tree c.domain (choices_of (answer_of c).verdict),
+    )

@@ -1,0 +1,6 @@
+mod Asking
+mod Counting
+mod Lacking
+mod Logs
+mod Reading
+mod Still

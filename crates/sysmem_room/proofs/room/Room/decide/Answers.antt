@@ -1,0 +1,29 @@
+-- What is true of what was frozen is right for a book that still has that.
+use Rattle.std.proofs.Common.{◌∙◌, arith, ap, subst, sym, ◌≡◌, ◌+◌, length}
+use Rattle.std.specs.Arc.{arc_value}
+use Rattle.sysmem_alloc.specs.Claims.{IsRightClaim}
+use Rattle.sysmem_alloc.specs.Frozen.{IsStill}
+use Rattle.sysmem_alloc.specs.State.{base_of}
+use Rattle.sysmem_tree.specs.Domain.{TreeFacts}
+use Rattle.sysmem_room.proofs.Counting.{decides}
+use Rattle.sysmem_room.proofs.Still.{still_right}
+use Rattle.sysmem_room.proofs.room.Room.decide.Goals as goal
+
+pub decide-requires-clause-right : goal.decide-requires-clause-right
+decide-requires-clause-right g c =
+    let still = subst (λ b. IsStill b c.args.frozen) (sym c.self.view_is) c.requires.still in
+    let right = still_right c.self.inside.book c.args.frozen (arc_value c.args.claim) still c.requires.right in
+    subst (λ r. IsRightClaim c.self.inside.book.platform c.self.inside.book.state.tree.nodes r (base_of c.self.inside.book.state r) (arc_value c.args.copy)) (sym c.domain-domain.ensures.domain)
+    (subst (λ claim. IsRightClaim c.self.inside.book.platform c.self.inside.book.state.tree.nodes c.args.frozen.domain (base_of c.self.inside.book.state c.args.frozen.domain) claim) (sym c.requires.same) right)
+
+pub publish_decision-requires : goal.publish_decision-requires
+publish_decision-requires g c =
+    let (_, _, _, _, cells, _) = c.self.invariant in
+    let (_, _, domains) = decides c.self.inside.book _ _ c.decide.ensures.entered in
+    omega (arith, c.deref_mut.ensures.len, cells, domains, ap (λ (t : TreeFacts). length t.domains) c.tree.ensures)
+
+pub invariant_of-self : goal.invariant_of-self
+invariant_of-self g c =
+    let (actions, amount, parts, all, cells, room) = c.self.invariant in
+    let (same, many, domains) = decides c.self.inside.book _ _ c.decide.ensures.entered in
+    (same ∙ actions, amount, omega (arith, parts, many), all, cells ∙ sym domains, room)

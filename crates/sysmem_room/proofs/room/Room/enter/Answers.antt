@@ -1,0 +1,64 @@
+-- What an action adds is counted, and a domain that it makes has a cell.
+use Rattle.std.proofs.Common.{◌∙◌, ap, sym, arith, Bool, true, ℕ, ◌≡◌, ◌≤◌, ◌+◌, length}
+use Rattle.std.specs.Prelude.{if◌then◌else◌, is_some}
+use Rattle.sysmem_tree.specs.ActionKind.{deed_of, kind_of}
+use Rattle.sysmem_tree.specs.Domain.{TreeFacts}
+use Rattle.sysmem_tree.specs.Table.{makes_root}
+use Rattle.sysmem_alloc.specs.Book.{BookFacts}
+use Rattle.sysmem_alloc.specs.Entry.{Acted}
+use Rattle.sysmem_room.specs.Counting.{actions_in, nodes_by}
+use Rattle.sysmem_room.proofs.Counting.{actions_push, grows, roots_grow}
+use Rattle.sysmem_room.proofs.room.Room.enter.Goals as goal
+
+abbrev one_if : Bool → ℕ
+one_if b = if b then 1 else 0
+
+pub split_off-share-requires-clause-has_parts : goal.split_off-share-requires-clause-has_parts
+split_off-share-requires-clause-has_parts g c =
+    let (_, _, parts, _, _, _) = c.self.invariant in
+    let more = grows c.self.inside.book.state.tree c.args.event.node (deed_of c.args.event.action) _ c.in_ok-done.ensures.accepted in
+    let few = c.nodes.ensures.few in
+    let many = c.nodes.ensures.number ∙ ap (λ (t : TreeFacts). length t.nodes) c.tree-tree.ensures in
+    omega (arith, parts, more, few, many, c.parts_of-parts.ensures, ap nodes_by c.kind-kind.ensures)
+
+pub keep-requires : goal.keep-requires
+keep-requires g c = λ is_given.
+    let (_, _, _, _, cells, room) = c.self.invariant in
+    let more = roots_grow c.self.inside.book.state.tree c.args.event.node (deed_of c.args.event.action) _ c.in_ok-done.ensures.accepted in
+    let one = ap one_if (sym c.requires.fresh ∙ is_given) in
+    let many = c.domains.ensures.number ∙ ap (λ (t : TreeFacts). length t.domains) c.tree-tree.ensures in
+    omega (arith, cells, room, more, one, many, c.domains.ensures.few)
+
+pub publish_action-requires : goal.publish_action-requires
+publish_action-requires g c =
+    let (_, _, _, _, cells, _) = c.self.invariant in
+    let more = roots_grow c.self.inside.book.state.tree c.args.event.node (deed_of c.args.event.action) _ c.in_ok-done.ensures.accepted in
+    let one = ap one_if c.requires.fresh in
+    omega (arith, cells, more, one, c.keep.ensures.number, c.deref_mut.ensures.len, ap (λ (t : TreeFacts). length t.domains) c.tree-tree.ensures)
+
+pub invariant_of-self : goal.invariant_of-self
+invariant_of-self g c =
+    let (actions, amount, parts, all, cells, room) = c.self.invariant in
+    let same = c.in_err-done.ensures.unchanged in (
+      ap (λ (b : BookFacts). actions_in b.history) same ∙ actions,
+      amount,
+      omega (arith, parts, ap (λ (b : BookFacts). length b.state.tree.nodes) same),
+      all,
+      cells ∙ sym (ap (λ (b : BookFacts). length b.state.tree.domains) same),
+      room,
+    )
+
+pub invariant_of-self-2 : goal.invariant_of-self-2
+invariant_of-self-2 g c =
+    let (actions, amount, parts, all, cells, room) = c.self.invariant in
+    let more = grows c.self.inside.book.state.tree c.args.event.node (deed_of c.args.event.action) _ c.in_ok-done.ensures.accepted in
+    let domains = roots_grow c.self.inside.book.state.tree c.args.event.node (deed_of c.args.event.action) _ c.in_ok-done.ensures.accepted in
+    let push = actions_push c.self.inside.book.history (Acted c.args.event.node (deed_of c.args.event.action)) in
+    let history = ap (λ (b : BookFacts). actions_in b.history) c.in_ok-done.ensures.entered in (
+      history ∙ omega (arith, push, actions, c.add.ensures.total),
+      omega (arith, amount, c.split_off-share.ensures.amount_left),
+      omega (arith, parts, more, c.split_off-share.ensures.parts_left, c.parts_of-parts.ensures, ap nodes_by c.kind-kind.ensures),
+      all,
+      omega (arith, cells, domains, ap one_if c.requires.fresh, c.keep.ensures.number),
+      omega (arith, room, c.keep.ensures.room),
+    )

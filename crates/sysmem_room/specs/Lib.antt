@@ -1,0 +1,6 @@
+pub mod Agreeing
+pub mod Counting
+pub mod Lacking
+pub mod Log
+pub mod Refusals
+pub mod Ruling

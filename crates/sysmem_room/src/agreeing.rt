@@ -1,0 +1,92 @@
+//! Whether a history has the actions of a log.
+
+ghost use Rattle.std.specs.Prelude.{◌≡◌, ◌≤◌, ◌++◌, IfSome, IsTrue, drop, length, map, option_map};
+ghost use Rattle.std.specs.Arc.{arc_value};
+ghost use Rattle.sysmem_alloc.specs.Entry.{entry_in};
+ghost use Rattle.sysmem_room.specs.Agreeing.{book_log, own_deeds};
+ghost use Rattle.sysmem_proof.specs.Asked.{asks_at};
+ghost use Rattle.sysmem_tree.specs.ActionKind.{deed_of};
+ghost use Rattle.sysmem_tree.specs.Nodes.{HasNode};
+ghost use Rattle.sysmem_alloc.specs.Entry.{deed_with};
+
+use std::sync::Arc;
+use sysmem_alloc::{Book, Entry};
+use sysmem_sanitise::Constraints;
+use sysmem_tree::{Action, ActionKind, NodeId, Tree};
+
+/// What an action sets.
+pub(crate) fn lent(asked: &Option<Arc<Constraints>>) -> Option<&Constraints>
+    ensures { option_map (λ one. one.now) result ≡ option_map (λ one. arc_value one) asked.now }
+{
+    match asked {
+        Some(shared) => Some(shared),
+        None => None,
+    }
+}
+
+/// Whether a node set just these constraints, or none.
+pub(crate) fn has_set(tree: &Tree, node: NodeId, asked: Option<&Constraints>) -> bool
+    requires { HasNode tree.now.nodes node }
+    ensures { IsTrue result → asks_at tree.now.nodes node ≡ option_map (λ one. one.now) asked.entry }
+{
+    match (tree.constraints_of(node), asked) {
+        (None, None) => true,
+        (Some(had), Some(own)) => had.is_same(own),
+        _ => false,
+    }
+}
+
+/// Whether an action that was entered is this one.
+fn is_same_action(tree: &Tree, node: NodeId, kind: ActionKind, action: &Action) -> bool
+    requires { HasNode tree.now.nodes node }
+    ensures { IsTrue result → deed_with (asks_at tree.now.nodes node) kind ≡ deed_of action.now }
+{
+    if kind != action.kind() {
+        return false;
+    }
+    match action {
+        Action::SetConstraints(asked) => has_set(tree, node, lent(asked)),
+        _ => true,
+    }
+}
+
+/// Reads an entry: where the next action on the node is found among the actions, if this one
+/// agrees.
+fn read_on(tree: &Tree, node: NodeId, entry: &Entry, actions: &[Action], at: usize) -> Option<usize>
+    requires node { HasNode tree.now.nodes node }
+    requires within { at ≤ length actions.now }
+    ensures within { IfSome result (λ next. next ≤ length actions.now) }
+    ensures read { IfSome result (λ next. drop at (map deed_of actions.now)
+        ≡ own_deeds node (entry_in tree.now.nodes entry.now)
+        ++ drop next (map deed_of actions.now)) }
+{
+    let Entry::Acted(acted, kind) = entry else {
+        return Some(at);
+    };
+    if *acted != node {
+        return Some(at);
+    }
+    let action = actions.get(at)?;
+    if is_same_action(tree, node, *kind, action) {
+        Some(at + 1)
+    } else {
+        None
+    }
+}
+
+/// Whether a book's history has just these actions on a node.
+pub fn has_actions(book: &Book, node: NodeId, actions: &[Action]) -> bool
+    requires { HasNode book.now.state.tree.nodes node }
+    ensures { IsTrue result → book_log book.now.history node ≡ map deed_of actions.now }
+{
+    let tree = book.tree();
+    let entries = book.history();
+    let mut at = 0;
+    for entry in entries {
+        let Some(next) = read_on(tree, node, entry, actions, at) else {
+            return false;
+        };
+        at = next;
+    }
+    at == actions.len()
+}

@@ -1,0 +1,139 @@
+//! What a handle knows of its node: how it was made, and the actions on it that were accepted.
+
+ghost use Rattle.std.specs.Prelude.{◌≡◌, ◌<◌, ◌≤◌, ◌+◌, ◌++◌, [], ◌∷◌, length, map, option_map, IfOk, IsTrue, OnErr, OnOk};
+ghost use Rattle.sysmem_proof.specs.Asked.{asks_at};
+ghost use Rattle.sysmem_tree.specs.Nodes.{HasNode};
+ghost use Rattle.sysmem_room.specs.Log.{begun_as, shown_by};
+ghost use Rattle.sysmem_tree.specs.ActionKind.{deed_of};
+
+use crate::agreeing::{has_set, lent};
+use std::alloc::{AllocError, Global};
+use std::marker::Model;
+use sysmem_sanitise::Constraints;
+use sysmem_tree::{Action, NodeId, NodeKind, NodeState, Tree};
+
+/// How a node was made, and the accepted actions on it, with room for one more.
+#[derive(Drop)]
+pub struct Log {
+    begun: NodeKind,
+    is_domain_root: bool,
+    /// What the actions make of the node.
+    state: NodeState,
+    actions: Vec<Action>,
+}
+
+impl Model for Log {
+    ghost use Rattle.std.specs.Prelude.{◌≡◌, ◌<◌, map};
+    ghost use Rattle.std.specs.Vec.{vec_capacity, vec_len};
+    ghost use Rattle.sysmem_room.specs.Log.{LogFacts, begun_as, shown_by};
+    ghost use Rattle.sysmem_tree.specs.ActionKind.{deed_of};
+
+    ghost Value = { LogFacts };
+
+    ghost view = { λ l. record {
+      begun = begun_as l.begun l.is_domain_root;
+      deeds = map deed_of l.actions.items;
+      places = vec_capacity l.actions;
+    } };
+
+    ghost invariant = { λ l. (vec_len l.actions < vec_capacity l.actions)
+        × (l.state ≡ (shown_by (record {
+          begun = begun_as l.begun l.is_domain_root;
+          deeds = map deed_of l.actions.items;
+          places = vec_capacity l.actions;
+        })).state) };
+}
+
+impl Log {
+    /// Of a node of this kind that was just made; `AllocError` where memory is refused.
+    pub fn new(alloc: Global, begun: NodeKind, is_domain_root: bool) -> Result<Log, AllocError>
+        ensures begun { IfOk result (λ log. log.begun ≡ begun_as begun is_domain_root) }
+        ensures empty { IfOk result (λ log. log.deeds ≡ []) }
+    {
+        let actions = Vec::with_capacity(alloc, 4)?;
+        Ok(Log {
+            begun,
+            is_domain_root,
+            state: NodeState::fresh(begun),
+            actions,
+        })
+    }
+
+    /// What the actions make of the node.
+    pub fn state(&self) -> NodeState
+        ensures { result ≡ (shown_by self.now).state }
+    {
+        self.state
+    }
+
+    /// Whether the node was made as the root of a domain.
+    pub fn is_domain_root(&self) -> bool
+        ensures { result ≡ self.now.begun.is_domain_root }
+    {
+        self.is_domain_root
+    }
+
+    /// The actions, the oldest first.
+    pub fn actions(&self) -> &[Action]
+        ensures { map deed_of result.now ≡ self.now.deeds }
+    {
+        &self.actions
+    }
+
+    /// Makes room for one action beside the last; `AllocError` where memory is refused.
+    pub fn reserve(&mut self) -> Result<(), AllocError>
+        ensures begun { self.new.begun ≡ self.old.begun }
+        ensures same { self.new.deeds ≡ self.old.deeds }
+        ensures room { OnOk result (length self.new.deeds + 2 ≤ self.new.places) }
+    {
+        self.actions.reserve(2)
+    }
+
+    /// Enters an action, where there is room for one beside the last.
+    pub fn push(&mut self, action: Action)
+        requires room { length self.old.deeds + 2 ≤ self.old.places }
+        requires few { (shown_by self.old).state.children < 128 }
+        ensures begun { self.new.begun ≡ self.old.begun }
+        ensures entered { self.new.deeds ≡ self.old.deeds ++ deed_of action ∷ [] }
+    {
+        self.state.act(action.kind());
+        self.actions.push_reserved(action);
+    }
+
+    /// All actions, the last one included. It takes no memory.
+    pub fn ended(self, action: Action) -> Vec<Action>
+        ensures { map deed_of result.items ≡ self.deeds ++ deed_of action ∷ [] }
+    {
+        let mut actions = self.actions;
+        actions.push_reserved(action);
+        actions
+    }
+
+    /// All actions, the oldest first.
+    pub fn into_actions(self) -> Vec<Action>
+        ensures { map deed_of result.items ≡ self.deeds }
+    {
+        self.actions
+    }
+
+    /// Whether a node has the constraints that the actions set.
+    pub fn asks_as(&self, tree: &Tree, node: NodeId) -> bool
+        requires { HasNode tree.now.nodes node }
+        ensures { IsTrue result → asks_at tree.now.nodes node ≡ (shown_by self.now).constraints }
+    {
+        has_set(tree, node, self.asked())
+    }
+
+    /// The constraints that the actions set, if they set any.
+    fn asked(&self) -> Option<&Constraints>
+        ensures { option_map (λ one. one.now) result ≡ (shown_by self.now).constraints }
+    {
+        let mut asked = None;
+        for action in &self.actions {
+            if let Action::SetConstraints(own) = action {
+                asked = lent(own);
+            }
+        }
+        asked
+    }
+}

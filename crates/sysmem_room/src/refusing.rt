@@ -1,0 +1,95 @@
+//! What a handle's action is refused for, by what the handle knows.
+
+ghost use Rattle.std.specs.Prelude.{◌≡◌, ◌≢◌, None, option_map};
+ghost use Rattle.sysmem_room.specs.Log.{log_refusal};
+ghost use Rattle.sysmem_room.specs.Refusals.{IsAnswer, due, is_member, known_refusal, outcome_refusal};
+
+use crate::outcome::Outcome;
+use sysmem_alloc::Frozen;
+use sysmem_proof::Verdict;
+use sysmem_tree::{ActionKind, NodeState, Prefix, Refusal};
+
+/// Whether the tree that was frozen has a node at the path, and it is a member of the selection.
+pub fn is_member(frozen: &Frozen, selection: &Prefix, path: &[u32]) -> bool
+    ensures { result ≡ is_member frozen.now selection.now path.now }
+{
+    let tree = frozen.tree();
+    let domain = frozen.domain();
+    match tree.node_at(path) {
+        Some(node) => tree.is_member(domain, selection, node),
+        None => false,
+    }
+}
+
+/// What became of a domain refuses the actions on its nodes for.
+fn outcome_refusal(outcome: &Outcome, path: &[u32]) -> Option<Refusal>
+    ensures { result ≡ outcome_refusal outcome.now path.now }
+{
+    let Outcome::Decided(ruling) = outcome else {
+        return Some(Refusal::DomainFailed);
+    };
+    match &ruling.claim().verdict {
+        Verdict::Chosen(chosen) => {
+            if is_member(ruling.frozen(), chosen.selection(), path) {
+                None
+            } else {
+                Some(Refusal::NotSelected)
+            }
+        }
+        _ => Some(Refusal::DomainFailed),
+    }
+}
+
+/// By the verdict that is known, if one is.
+fn known_refusal(known: Option<&Outcome>, path: &[u32], kind: ActionKind) -> Option<Refusal>
+    ensures { result ≡ known_refusal (option_map (λ o. o.now) known.entry) path.now kind }
+{
+    let outcome = known?;
+    if kind.ends_node() {
+        return None;
+    }
+    outcome_refusal(outcome, path)
+}
+
+/// By what the log makes of its node.
+fn log_refusal(state: NodeState, kind: ActionKind) -> Option<Refusal>
+    ensures { result ≡ log_refusal state kind }
+{
+    if !state.allows(kind) {
+        return Some(Refusal::WrongState);
+    }
+    if state.wants_child(kind) {
+        return Some(Refusal::NoChildren);
+    }
+    None
+}
+
+/// The refusal that is due by what a handle knows: by the verdict, if it knows one, and then by
+/// what its log makes of its node.
+pub fn due(
+    known: Option<&Outcome>,
+    path: &[u32],
+    state: NodeState,
+    kind: ActionKind,
+) -> Option<Refusal>
+    ensures { result ≡ due (option_map (λ o. o.now) known.entry) path.now state kind }
+{
+    match known_refusal(known, path, kind) {
+        Some(refusal) => Some(refusal),
+        None => log_refusal(state, kind),
+    }
+}
+
+/// The book's refusal as a handle answers it that foresaw none: what it can't foresee, or
+/// `Strange`, since the two disagree.
+pub(crate) fn unforeseen(known: Option<&Outcome>, refusal: Refusal) -> Refusal
+    ensures { result ≢ Refusal.Strange
+        → IsAnswer None (option_map (λ o. o.now) known.entry) result }
+{
+    match (refusal, known) {
+        (Refusal::TooManyNodes, _) => Refusal::TooManyNodes,
+        (Refusal::DomainFailed, None) => Refusal::DomainFailed,
+        (Refusal::NotSelected, None) => Refusal::NotSelected,
+        _ => Refusal::Strange,
+    }
+}

@@ -1,0 +1,372 @@
+//! What lies under a collection's lock.
+
+ghost use Rattle.std.specs.Prelude.{◌≡◌, ◌≢◌, ◌<◌, ◌≤◌, ◌+◌, ◌++◌, ◌↔◌, ℕ, List, Ok, Err, Some, None, true, false, length, option_map, is_some, IfErr, IfOk, IfSome, IsTrue, OnErr, OnOk};
+ghost use Rattle.std.specs.Arc.{arc_value};
+ghost use Rattle.sysmem_alloc.specs.Book.{entered, new_book};
+ghost use Rattle.sysmem_alloc.specs.Entry.{Acted, Decided};
+ghost use Rattle.sysmem_alloc.specs.Frozen.{IsStill, frozen_of};
+ghost use Rattle.sysmem_alloc.specs.State.{next_ready};
+ghost use Rattle.sysmem_proof.specs.Claim.{IsTrueClaim};
+ghost use Rattle.sysmem_room.specs.Agreeing.{AgreesAt};
+ghost use Rattle.sysmem_room.specs.Counting.{actions_in, all_parts, nodes_by};
+ghost use Rattle.sysmem_room.specs.Lacking.{without_memory};
+ghost use Rattle.sysmem_room.specs.Log.{shown_by};
+ghost use Rattle.sysmem_room.specs.Refusals.{IsAnswer, due};
+ghost use Rattle.sysmem_tree.specs.ActionKind.{deed_of, kind_of};
+ghost use Rattle.sysmem_tree.specs.Nodes.{HasNode};
+ghost use Rattle.sysmem_tree.specs.Table.{makes_root};
+ghost use Rattle.sysmem_tree.specs.Tree.{applied};
+
+use crate::agreeing::has_actions;
+use crate::cell::{DomainCell, FreshCell, keep, publish_action, publish_decision};
+use crate::log::Log;
+use crate::outcome::{Outcome, Ruling};
+use crate::refusing::{due, unforeseen};
+use crate::verdicts::has_verdict;
+use once_cell::race::OnceBox;
+use std::alloc::{AllocError, Global};
+use std::marker::Model;
+use std::sync::Arc;
+use std::sync::ledger::{Blank, Book as Counted, Ledger, Share};
+use sysmem_alloc::laws::few_entries;
+use sysmem_alloc::{Book, Frozen};
+use sysmem_proof::Claim;
+use sysmem_sanitise::Platform;
+use sysmem_tree::{Action, ActionKind, DomainId, Event, MOST_NODES, NodeId, Refusal};
+
+/// A collection's book, the count of its actions, and the cells of its domains. Whoever has the
+/// lock finds a legal book, and as many actions counted as its history has.
+#[derive(Drop)]
+pub struct Room<L: Ledger> {
+    book: Book,
+    counted: Counted<L>,
+    /// One part that stays here, and one for each node that can still be made.
+    spare: Share<L>,
+    /// One for each domain, in the order in which their roots were made.
+    cells: Vec<DomainCell>,
+    /// Whether somebody takes the decisions.
+    is_deciding: bool,
+}
+
+impl<L: Ledger> Model for Room<L> {
+    ghost use Rattle.std.specs.Prelude.{◌≡◌, ◌+◌, ◌≤◌, length};
+    ghost use Rattle.std.specs.Vec.{vec_capacity, vec_len};
+    ghost use Rattle.sysmem_alloc.specs.Book.{BookFacts};
+    ghost use Rattle.sysmem_room.specs.Counting.{actions_in, all_parts};
+
+    ghost Value = { BookFacts };
+
+    ghost view = { λ r. r.book };
+
+    ghost invariant = { λ r. (actions_in r.book.history ≡ r.counted.total)
+        × (r.spare.amount ≡ 0)
+        × (r.spare.parts + length r.book.state.tree.nodes ≡ all_parts)
+        × (L.parts ≡ all_parts)
+        × (vec_len r.cells ≡ length r.book.state.tree.domains)
+        × (128 ≤ vec_capacity r.cells) };
+}
+
+/// A new collection.
+#[derive(Drop)]
+pub struct Opened<L: Ledger> {
+    /// What lies under its lock.
+    pub room: Room<L>,
+    /// The root's share of the count.
+    pub share: Share<L>,
+    /// The cell of the initial domain.
+    pub cell: Arc<OnceBox<Outcome>>,
+}
+
+/// An action that was entered.
+#[derive(Drop)]
+pub struct Entered<L: Ledger> {
+    /// The node that was made, or else the node acted on.
+    pub node: NodeId,
+    /// The share of the node that was made; without parts, where none was.
+    pub share: Share<L>,
+}
+
+/// How many parts of the count a node gets that the action makes: one, or none where it makes no
+/// node.
+fn parts_of(kind: ActionKind) -> u64
+    ensures { result ≡ nodes_by kind }
+{
+    match kind.makes() {
+        Some(_) => 1,
+        None => 0,
+    }
+}
+
+impl<L: Ledger> Room<L> {
+    /// A new collection that is decided for this platform: a root token and nothing else.
+    /// `AllocError` where memory is refused, and then nothing is left of it.
+    pub fn open(alloc: Global, blank: Blank, platform: Platform) -> Result<Opened<L>, AllocError>
+        requires name { blank.name ≡ L.name }
+        requires ledger { blank.parts ≡ L.parts }
+        requires parts { blank.parts ≡ all_parts }
+        ensures book { IfOk result (λ opened. opened.room ≡ new_book platform) }
+        ensures share { IfOk result (λ opened. opened.share.parts ≡ 1) }
+        ensures uncounted { IfOk result (λ opened. opened.share.amount ≡ 0) }
+    {
+        let fresh = FreshCell::new(alloc)?;
+        let cell = fresh.shared()?;
+        let mut cells = Vec::with_capacity(alloc, MOST_NODES)?;
+        let book = Book::new(alloc, platform)?;
+        cells.push_reserved(fresh.kept());
+        let (counted, mut spare) = blank.open();
+        let share = spare.split_off(1, 0);
+        let room = Room {
+            book,
+            counted,
+            spare,
+            cells,
+            is_deciding: false,
+        };
+        Ok(Opened { room, share, cell })
+    }
+
+    /// The book.
+    pub fn book(&self) -> &Book
+        ensures { result.now ≡ self.now }
+    {
+        &self.book
+    }
+
+    /// Enters an action, counts it in the share of who acts, and publishes the failures that it
+    /// brings; or answers the tree's first refusal, and then nothing has changed. A node that is
+    /// made gets a part of the count, and where it is the root of a domain, the domain gets the
+    /// fresh cell. It takes no memory.
+    pub fn enter(
+        &mut self,
+        event: Event,
+        fresh: Option<FreshCell>,
+        mine: &mut Share<L>,
+    ) -> Result<Entered<L>, Refusal>
+        requires mine { 0 < mine.old.parts }
+        requires fresh { is_some fresh ≡ makes_root (kind_of (deed_of event.action)) }
+        ensures entered { OnOk result (self.new
+            ≡ entered self.old (Acted event.node (deed_of event.action))) }
+        ensures accepted { IfOk result (λ done.
+            applied self.old.state.tree event.node (deed_of event.action)
+            ≡ Ok (record { tree = self.new.state.tree; node = done.node })) }
+        ensures refused { IfErr result (λ refusal.
+            applied self.old.state.tree event.node (deed_of event.action) ≡ Err refusal) }
+        ensures unchanged { OnErr result (self.new ≡ self.old) }
+        ensures parts { mine.new.parts ≡ mine.old.parts }
+        ensures counted { OnOk result (mine.new.amount ≡ mine.old.amount + 1) }
+        ensures uncounted { OnErr result (mine.new.amount ≡ mine.old.amount) }
+        ensures given { IfOk result (λ done. done.share.parts
+            ≡ nodes_by (kind_of (deed_of event.action))) }
+        ensures empty { IfOk result (λ done. done.share.amount ≡ 0) }
+    {
+        let kind = event.action.kind();
+        let parts = parts_of(kind);
+        let done = self.book.apply(event)?;
+        let tree = self.book.tree();
+        tree.nodes();
+        tree.domains();
+        self.counted.add(mine, 1);
+        let share = self.spare.split_off(parts, 0);
+        keep(&mut self.cells, fresh);
+        publish_action(&mut self.cells, tree, kind);
+        Ok(Entered {
+            node: done.node,
+            share,
+        })
+    }
+
+    /// The node at the path of a log, if it was made as the log says, and the book has the log's
+    /// actions on it and the verdict that is known of its domain.
+    fn node_of(&self, path: &[u32], log: &Log, known: Option<&Outcome>) -> Option<NodeId>
+        ensures agrees { IfSome result (AgreesAt self.now path.now log.now.deeds
+            (option_map (λ o. o.now) known.entry)) }
+        ensures there { IfSome result (HasNode self.now.state.tree.nodes) }
+    {
+        let tree = self.book.tree();
+        let node = tree.node_at(path)?;
+        let is_own = has_actions(&self.book, node, log.actions())
+            && tree.state(node) == log.state()
+            && (tree.root_of(tree.domain_of(node)) == node) == log.is_domain_root()
+            && has_verdict(&self.book, node, known);
+        if is_own { Some(node) } else { None }
+    }
+
+    /// Enters the action of a handle, by its path, its log and what it knows of its domain's
+    /// verdict, as `enter` does. It is refused with `Strange` where the book has no node at the
+    /// path that was made as the log says, other actions there than the log, or another verdict
+    /// than the one that is known; else with what is due by what the handle knows; else with what
+    /// it can't foresee.
+    pub fn act(
+        &mut self,
+        path: &[u32],
+        log: &Log,
+        known: Option<&Outcome>,
+        action: Action,
+        fresh: Option<FreshCell>,
+        mine: &mut Share<L>,
+    ) -> Result<Entered<L>, Refusal>
+        requires mine { 0 < mine.old.parts }
+        requires fresh { is_some fresh ≡ makes_root (kind_of (deed_of action)) }
+        ensures entered { OnOk result ((node : ℕ)
+            × AgreesAt self.old path.now log.now.deeds (option_map (λ o. o.now) known.entry) node
+            × (self.new ≡ entered self.old (Acted node (deed_of action)))) }
+        ensures unchanged { OnErr result (self.new ≡ self.old) }
+        ensures foreseen { OnOk result (due (option_map (λ o. o.now) known.entry) path.now
+            (shown_by log.now).state (kind_of (deed_of action)) ≡ None) }
+        ensures answers { IfErr result (λ refusal. refusal ≢ Refusal.Strange
+            → IsAnswer (due (option_map (λ o. o.now) known.entry) path.now
+            (shown_by log.now).state (kind_of (deed_of action)))
+            (option_map (λ o. o.now) known.entry) refusal) }
+        ensures parts { mine.new.parts ≡ mine.old.parts }
+        ensures counted { OnOk result (mine.new.amount ≡ mine.old.amount + 1) }
+        ensures uncounted { OnErr result (mine.new.amount ≡ mine.old.amount) }
+        ensures given { IfOk result (λ done. done.share.parts
+            ≡ nodes_by (kind_of (deed_of action))) }
+        ensures empty { IfOk result (λ done. done.share.amount ≡ 0) }
+    {
+        let Some(node) = self.node_of(path, log, known) else {
+            return Err(Refusal::Strange);
+        };
+        if let Some(refusal) = due(known, path, log.state(), action.kind()) {
+            return Err(refusal);
+        }
+        match self.enter(Event { node, action }, fresh, mine) {
+            Ok(done) => Ok(done),
+            Err(refusal) => Err(unforeseen(known, refusal)),
+        }
+    }
+
+    /// Whether the caller is to take the decisions: a domain waits for one, and nobody takes them.
+    /// From then on somebody does, until `frozen` finds no domain that waits. To be asked in the
+    /// hold of an action that was entered.
+    pub fn begin(&mut self) -> bool
+        ensures same { self.new ≡ self.old }
+        ensures waits { IsTrue result → is_some (next_ready self.old.state) ≡ true }
+    {
+        if self.is_deciding || self.book.next_ready().is_none() {
+            return false;
+        }
+        self.is_deciding = true;
+        true
+    }
+
+    /// What the domain that is next is decided on; `None` where no domain waits, and then nobody
+    /// takes the decisions any more. A domain for which memory is refused is entered and published
+    /// as decided without memory, and the next one is taken.
+    pub fn frozen(&mut self) -> Option<Frozen>
+        ensures frozen { result ≡ frozen_of self.new }
+        ensures lacking { (domains : List ℕ) × (self.new ≡ without_memory self.old domains) }
+    {
+        let found = self.next_frozen();
+        if found.is_none() {
+            self.is_deciding = false;
+        }
+        found
+    }
+
+    /// What the domain that is next is decided on, where there is memory for it.
+    fn next_frozen(&mut self) -> Option<Frozen>
+        ensures frozen { result ≡ frozen_of self.new }
+        ensures lacking { (domains : List ℕ) × (self.new ≡ without_memory self.old domains) }
+    {
+        for _ in 0..640_u32 {
+            let domain = self.book.next_ready()?;
+            match self.book.frozen() {
+                Ok(found) => return found,
+                Err(_) => self.give_up(domain),
+            }
+        }
+        few_entries();
+        self.book.platform();
+        None
+    }
+
+    /// Enters and publishes a decision that was made from what was frozen, if the book still has
+    /// that for the domain that is next; `false` where it hasn't, and then nothing has changed.
+    /// `copy` is the same claim with an owner of its own, for the book. It takes no memory.
+    pub fn conclude(&mut self, frozen: Frozen, claim: Arc<Claim>, copy: Arc<Claim>) -> bool
+        requires right { IsTrueClaim frozen.platform frozen.tree.nodes frozen.domain frozen.base
+            (arc_value claim) }
+        requires same { arc_value copy ≡ arc_value claim }
+        ensures fits { IsTrue result ↔ IsStill self.old frozen }
+        ensures entered { IsTrue result → self.new ≡ entered self.old (Decided (record {
+          domain = frozen.domain;
+          claim = Some (arc_value claim);
+        })) }
+        ensures unchanged { result ≡ false → self.new ≡ self.old }
+    {
+        let fits = self.book.fits(&frozen);
+        if fits {
+            self.decide(frozen, claim, copy);
+        }
+        fits
+    }
+
+    /// Enters and publishes a decision that was made from what the book still has.
+    fn decide(&mut self, frozen: Frozen, claim: Arc<Claim>, copy: Arc<Claim>)
+        requires still { IsStill self.old frozen }
+        requires right { IsTrueClaim frozen.platform frozen.tree.nodes frozen.domain frozen.base
+            (arc_value claim) }
+        requires same { arc_value copy ≡ arc_value claim }
+        ensures { self.new ≡ entered self.old (Decided (record {
+          domain = frozen.domain;
+          claim = Some (arc_value claim);
+        })) }
+    {
+        let domain = frozen.domain();
+        self.book.decide(domain, Some(copy));
+        let outcome = Outcome::Decided(Ruling::new(frozen, claim));
+        publish_decision(&mut self.cells, self.book.tree(), domain, outcome);
+    }
+
+    /// Enters and publishes that memory was refused to the decision of what was frozen, if its
+    /// domain still is the next one; else it changes nothing.
+    pub fn lack(&mut self, frozen: &Frozen)
+        ensures entered { next_ready self.old.state ≡ Some frozen.now.domain
+            → self.new ≡ entered self.old (Decided (record {
+              domain = frozen.now.domain;
+              claim = None;
+            })) }
+        ensures unchanged { next_ready self.old.state ≢ Some frozen.now.domain
+            → self.new ≡ self.old }
+    {
+        let domain = frozen.domain();
+        if self.book.next_ready() == Some(domain) {
+            self.give_up(domain);
+        }
+    }
+
+    /// Enters and publishes that memory was refused to the decision of the domain that is next.
+    fn give_up(&mut self, domain: DomainId)
+        requires { next_ready self.old.state ≡ Some domain }
+        ensures { self.new ≡ entered self.old (Decided (record { domain = domain; claim = None })) }
+    {
+        self.book.decide(domain, None);
+        publish_decision(&mut self.cells, self.book.tree(), domain, Outcome::NoMemory);
+    }
+
+    /// Counts the actions by the shares of all nodes, joined: they have one for each action of the
+    /// history.
+    pub fn count(&mut self, all: &mut Share<L>)
+        requires { all.old.parts ≡ length self.old.state.tree.nodes }
+        ensures same { self.new ≡ self.old }
+        ensures parts { all.new.parts ≡ all.old.parts }
+        ensures amount { all.new.amount ≡ all.old.amount }
+        ensures actions { all.new.amount ≡ actions_in self.old.history }
+    {
+        let rest = 129 - u64::from(self.book.tree().nodes());
+        self.counted.audit(all);
+        self.spare.give(all, rest, 0);
+        self.counted.audit(all);
+        all.give(&mut self.spare, rest, 0);
+    }
+
+    /// A share without parts.
+    pub fn no_share(&mut self) -> Share<L>
+        ensures parts { result.parts ≡ 0 }
+        ensures amount { result.amount ≡ 0 }
+        ensures same { self.new ≡ self.old }
+    {
+        self.spare.empty()
+    }
+}

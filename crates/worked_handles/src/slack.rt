@@ -1,0 +1,70 @@
+//! Two participants with slack, on one thread.
+
+ghost use Rattle.std.specs.Prelude.{◌≡◌};
+ghost use Rattle.sysmem_room.specs.Counting.{all_parts};
+
+use crate::asking::{CAMPS_ON_2, CAMPS_ON_3, allocator, asked};
+use crate::equal::is_equal;
+use crate::handling::{bound, child, closed, released, root, waits_for};
+use std::alloc::Global;
+use std::marker::Brand;
+use std::process::Abort;
+use std::sync::ledger::{Blank, Ledger};
+use std::sync::{Arc, Wait};
+use std::test::Fail;
+use sysmem_participants::{Audit, Stub, Token, audit};
+use sysmem_sanitise::Constraints;
+use sysmem_search::NoGate;
+use sysmem_tree::Refusal;
+
+// Both take part, wait, and know the same verdict; what is left of all three handles.
+fn take_part<L: Ledger, R: Wait + Abort>(
+    rt: &R,
+    root: Token<L, NoGate>,
+    first: Option<Arc<Constraints>>,
+    second: Option<Arc<Constraints>>,
+) -> [Stub<L>; 3] {
+    let mut root = root;
+    let a = child(rt, &mut root);
+    let b = child(rt, &mut root);
+    let root = released(rt, root);
+    let mut a = bound(rt, a, first);
+    is_equal(rt, "check a", &a.check().err(), &Some(Refusal::Pending));
+    let mut b = bound(rt, b, second);
+    waits_for(rt, &mut a, 8);
+    waits_for(rt, &mut b, 8);
+    a.compare(&mut b);
+    [root, closed(rt, a), closed(rt, b)]
+}
+
+fn play<L: Ledger, R: Wait + Abort>(rt: &R, alloc: Global, blank: Blank) -> Result<Audit, Fail>
+    requires name { blank.name ≡ L.name }
+    requires ledger { blank.parts ≡ L.parts }
+    requires parts { blank.parts ≡ all_parts }
+{
+    let allocator = allocator(alloc)?;
+    let first = asked(alloc, CAMPS_ON_2)?;
+    let second = asked(alloc, CAMPS_ON_3)?;
+    let root = root::<L>(rt, &allocator, blank);
+    let stubs = take_part(rt, root, first, second);
+    let mut all = Vec::new(alloc);
+    for stub in stubs {
+        all.push(stub)?;
+    }
+    match audit(rt, all) {
+        Ok(audit) => Ok(audit),
+        Err(fault) => Err(Fail::new(fault.name())),
+    }
+}
+
+#[test]
+fn two_with_slack(rt: HostRuntime) -> Result<(), Fail> {
+    let audit = play::<Brand, HostRuntime>(&rt, rt.alloc(), Blank::new(129))?;
+    let wanted = Audit {
+        nodes: 3,
+        actions: 9,
+        decisions: 1,
+    };
+    is_equal(&rt, "audit", &audit, &wanted);
+    Ok(())
+}
