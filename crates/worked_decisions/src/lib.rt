@@ -18,3 +18,5 @@ mod playing;
 mod searches;
 #[cfg(test)]
 mod steps;
+#[cfg(test)]
+mod workers;
