@@ -5,7 +5,7 @@ FILE ?= examples/one_participant.json
 # third less processor time than several.
 JOBS ?= $(shell awk -v n=$$(nproc) '/^MemAvailable/ { m = int($$2 / 4000000); print m < 1 ? 1 : m < n ? m : n }' /proc/meminfo)
 
-.PHONY: run proved test program-test built-test bench
+.PHONY: run proved test program-test built-test wrong-bodies bench
 
 # Runs a script: with the proved program where `make proved` has built it, else without proving.
 run:
@@ -19,7 +19,7 @@ proved:
 test:
 	RT_JOBS=$(JOBS) rt ci
 
-# Tests of the proved program as a whole (they need a C compiler and Python): reports, refusals, records, certificates and their checks, and each allocation refused in turn.
+# Tests of the proved program as a whole (they need a C compiler and Python): reports, refusals, records, worked values, small trees beside each of their selections, certificates and their checks, files that fail, and each allocation refused in turn.
 program-test: proved
 	@$(MAKE) --no-print-directory built-test
 
@@ -28,10 +28,17 @@ built-test:
 	tests/reports
 	tests/refusals
 	tests/records
+	tests/values
+	tests/every_selection
 	tests/run_command
 	tests/certificates
 	tests/checks
+	tests/failing_files
 	tests/want_of_memory
+
+# Wrong bodies beyond those of the gate, each of which the prover must refuse, over what is kept of each crate's proof (which is made first where there is none).
+wrong-bodies:
+	tests/wrong_bodies
 
 # Times the proved program beside the reading of the same bytes as a JSON value, and calls on small and large trees.
 bench: proved

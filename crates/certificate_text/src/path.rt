@@ -60,7 +60,7 @@ pub(crate) fn path_value(alloc: Global, ordinals: &[u32]) -> Result<Value, Alloc
     Ok(Value::String(text))
 }
 
-/// Puts the text of a path behind the text so far: `/` or `/0/1`.
+/// Puts the text of a path behind the text so far: `/` or `/0/1`. Where memory is refused, a part of it may stand there.
 pub fn push_path(text: &mut String, ordinals: &[u32]) -> Result<(), AllocError>
     ensures { OnOk result (string_bytes text.new
         ≡ string_bytes text.old ++ path_text ordinals.now) }

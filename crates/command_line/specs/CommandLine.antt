@@ -1,11 +1,13 @@
 -- The command line: what clap is given of it, and which job its entries ask for.
-use Rattle.std.specs.Prelude.{◌≡◌, List, [], ◌∷◌, true, Option, Some, None, codes, option_map}
-use Rattle.clap.specs.Words.{App, Row, Rule, Shape, Text, first_of, new_app, new_rule, with_rule}
+use Rattle.std.specs.Prelude.{◌≡◌, List, [], ◌∷◌, true, Option, Some, None, Result, Ok, Err, codes, option_map}
+use Rattle.clap.specs.Words.{App, HasKind, Kinds, Row, Rule, Shape, Text, first_of, new_app, new_rule, with_rule}
 use Rattle.clap.specs.Words.{with_subcommand}
 use Rattle.clap.specs.Lexer.{strip_byte}
 use Rattle.clap.specs.Simple.{on_top}
 use Rattle.command_line.specs.declared.words.Job.{Job}
 use Rattle.command_line.specs.declared.words.Job.TheVariants.{Run, Check}
+use Rattle.command_line.specs.declared.words.Refusal.{Refusal}
+use Rattle.command_line.specs.declared.words.Refusal.TheVariants.{Parser, OneFile}
 
 -- FILE, which has to be there
 abbrev pub file_rule : Rule
@@ -71,6 +73,22 @@ AsksForJob entries (Check file proof) = IsCheckOf entries file.now proof.now
 pub record AsksForNone (entries : Text × List Row) : Type 0 where
   pub run : (file : Text) (proof : Option Text) → ¬ IsRunOf entries file proof
   pub check : (file proof : Text) → ¬ IsCheckOf entries file proof
+
+-- they are `run`, and name one file as FILE and OUT
+pub record EmptiesScript (entries : Text × List Row) : Type 0 where
+  pub file : Text
+  pub run : IsRunOf entries file (Some file)
+
+-- a job's certificate is to be written where its script stands
+abbrev pub IsOneFile : Job → Type 0
+IsOneFile (Run file proof) = option_map (λ s. s.now) proof ≡ Some file.now
+IsOneFile (Check file proof) = ⊥
+
+-- the parser's error has one of these kinds, or is want of memory, and else there are none
+abbrev pub IsRefusedBy : Kinds → Result Job Refusal → Type 0
+IsRefusedBy kinds (Err (Parser error)) = HasKind kinds error
+IsRefusedBy kinds (Err OneFile) = kinds ≡ []
+IsRefusedBy kinds (Ok job) = kinds ≡ []
 
 -- the words are `run` and this file, which doesn't begin with a hyphen
 pub record IsPlainRun (words : List Text) (file : Text) : Type 0 where

@@ -4,11 +4,12 @@
 //! match read_words(rt.alloc(), &words) {
 //!     Ok(Job::Run { file, proof }) => println!(&rt; "run {file}, {proof:?}"),
 //!     Ok(Job::Check { file, proof }) => println!(&rt; "check {file}, {proof}"),
-//!     Err(refusal) => refusal.print(&rt),
+//!     Err(Refusal::OneFile) => eprintln!(&rt; "FILE and OUT are the same file"),
+//!     Err(Refusal::Parser(error)) => error.print(&rt),
 //! }
 //! ```
 #![tactic(auto)]
 
 mod words;
 
-pub use words::{Job, read_words};
+pub use words::{Job, Refusal, read_words};

@@ -1,8 +1,9 @@
 //! The command line: the job that the words behind the program's name ask for.
-ghost use Rattle.std.specs.Prelude.{◌≡◌, IfNone, IfOk, IfSome, IsSomeAnd, false, map, string_bytes};
+ghost use Rattle.std.specs.Prelude.{◌≡◌, Err, IfNone, IfOk, IfSome, IsSomeAnd, false, map, string_bytes};
+ghost use Rattle.std.specs.Bool.{Decides};
 ghost use Rattle.clap.specs.Words.{FailsBy, app_of, fault_of, rule_of, subcommand_of, subcommand_rows_of};
 ghost use Rattle.clap.specs.declared.builder.command.Command.TheViews.{out-Command as fields_of};
-ghost use Rattle.command_line.specs.CommandLine.{AsksForJob, AsksForNone, IsPlainRun, certificate_rule, check_app, file_rule, jobless_app, proof_rule, replay_app, run_app, runs_app};
+ghost use Rattle.command_line.specs.CommandLine.{AsksForJob, AsksForNone, EmptiesScript, IsOneFile, IsPlainRun, IsRefusedBy, certificate_rule, check_app, file_rule, jobless_app, proof_rule, replay_app, run_app, runs_app};
 
 use clap::{Arg, ArgMatches, Command, Error};
 use std::alloc::{AllocError, Global};
@@ -22,9 +23,48 @@ pub enum Job<'a> {
     },
 }
 
-/// Reads the words behind the program's name. It answers a request for help by an `Err` of the kind
-/// `DisplayHelp`, and want of memory by one of the kind `OutOfMemory`.
-pub fn read_words<'a>(alloc: Global, words: &'a [String]) -> Result<Job<'a>, Error>
+/// Why words ask for no job.
+#[derive(Debug, Drop)]
+pub enum Refusal {
+    /// The parser refuses them, by an error that has its text for the user, or they ask for help.
+    Parser(Error),
+    /// FILE and OUT of a run are one word: the script would be emptied before it is read.
+    OneFile,
+}
+
+/// Reads the words behind the program's name. It answers a request for help by an error of the kind
+/// `DisplayHelp`, and want of memory by one of the kind `OutOfMemory`. A run whose FILE and OUT are
+/// one word is refused; whether two words name one file isn't looked at.
+pub fn read_words<'a>(alloc: Global, words: &'a [String]) -> Result<Job<'a>, Refusal>
+    ensures entries { IfOk result (λ job. IsSomeAnd (subcommand_of replay_app
+        (map string_bytes words.entry.now))
+        (λ entries. AsksForJob entries job × ¬ EmptiesScript entries)) }
+    ensures kinds { IsRefusedBy (fault_of replay_app (map string_bytes words.entry.now)) result }
+    ensures one_file { result ≡ Err Refusal.OneFile → IsSomeAnd (subcommand_of replay_app
+        (map string_bytes words.entry.now)) EmptiesScript }
+{
+    match job_asked(alloc, words) {
+        Ok(job) if is_one_file(&job) => Err(Refusal::OneFile),
+        Ok(job) => Ok(job),
+        Err(error) => Err(Refusal::Parser(error)),
+    }
+}
+
+/// Whether a job would empty the script that it is to read.
+fn is_one_file(job: &Job<'_>) -> bool
+    ensures { Decides result (IsOneFile job.now) }
+{
+    match job {
+        Job::Run {
+            file,
+            proof: Some(out),
+        } => file == out,
+        _ => false,
+    }
+}
+
+/// The job that the words ask for, whichever files they name.
+fn job_asked<'a>(alloc: Global, words: &'a [String]) -> Result<Job<'a>, Error>
     ensures entries { IfOk result (λ job. IsSomeAnd (subcommand_of replay_app
         (map string_bytes words.entry.now)) (λ entries. AsksForJob entries job)) }
     ensures kinds { FailsBy (fault_of replay_app (map string_bytes words.entry.now)) result }

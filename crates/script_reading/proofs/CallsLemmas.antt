@@ -13,7 +13,7 @@ use Rattle.script_reading.specs.declared.call.Call.{Call}
 use Rattle.script_reading.specs.Faults.{Gives}
 use Rattle.script_reading.specs.Platform.{platform_said}
 use Rattle.sysmem_sanitise.specs.Platform.{PlatformFacts}
-use Rattle.script_reading.specs.Script.{CallFacts, KnownFacts, ◌>>=◌, few_calls, items_len, parts_of, call_of, calls_from, calls_of, script_of}
+use Rattle.script_reading.specs.Script.{CallFacts, KnownFacts, ◌>>=◌, few_calls, items_len, parts_of, call_of, calls_from, script_by}
 use Rattle.script_reading.specs.Seen.{call_seen}
 
 -- some calls, and then those that were read
@@ -82,29 +82,29 @@ pub items_len-items_view : (vs : List Value) → items_len (items_view vs) ≡ l
 items_len-items_view [] = refl
 items_len-items_view (v ∷ vs) = ap (λ n. n + 1) (items_len-items_view vs) ∙ add-one (length vs)
 
-module _ (script platform : Data) (calls : List Value) (held : PlatformFacts)
+module _ (calls_said : Items → Result (List CallFacts) ScriptFault) (script platform : Data) (calls : List Value) (held : PlatformFacts)
     (parts : parts_of script ≡ Some (platform, items_view calls)) (reads : platform_said platform ≡ Ok held) where
   -- the script of these parts
-  script-parts : script_of script ≡ (ok_or (few_calls (items_view calls)) TooManyCalls >>= λ few. calls_of few >>= λ facts. Ok (record { platform = held; calls = facts }))
+  script-parts : script_by calls_said script ≡ (ok_or (few_calls (items_view calls)) TooManyCalls >>= λ few. calls_said few >>= λ facts. Ok (record { platform = held; calls = facts }))
   script-parts = rw (parts, reads) refl
 
-  pub script-crowded : 4096 < length calls → script_of script ≡ Err TooManyCalls
+  pub script-crowded : 4096 < length calls → script_by calls_said script ≡ Err TooManyCalls
   script-crowded many =
       script-parts
-      ∙ ap (λ b. ok_or (if b then Some (items_view calls) else None) TooManyCalls >>= λ few. calls_of few >>= λ facts. Ok (record { platform = held; calls = facts }))
+      ∙ ap (λ b. ok_or (if b then Some (items_view calls) else None) TooManyCalls >>= λ few. calls_said few >>= λ facts. Ok (record { platform = held; calls = facts }))
       (let more : nat_le (items_len (items_view calls)) 4096 ≡ false = grind (arith, nat_tests, items_len-items_view calls) in more)
 
-  script-calls : length calls ≤ 4096 → script_of script ≡ (calls_of (items_view calls) >>= λ facts. Ok (record { platform = held; calls = facts }))
+  script-calls : length calls ≤ 4096 → script_by calls_said script ≡ (calls_said (items_view calls) >>= λ facts. Ok (record { platform = held; calls = facts }))
   script-calls few =
       script-parts
-      ∙ ap (λ b. ok_or (if b then Some (items_view calls) else None) TooManyCalls >>= λ few. calls_of few >>= λ facts. Ok (record { platform = held; calls = facts }))
+      ∙ ap (λ b. ok_or (if b then Some (items_view calls) else None) TooManyCalls >>= λ few. calls_said few >>= λ facts. Ok (record { platform = held; calls = facts }))
       (let more : nat_le (items_len (items_view calls)) 4096 ≡ true = grind (arith, nat_tests, items_len-items_view calls) in more)
 
-  pub script-fault : length calls ≤ 4096 → (fault : ScriptFault) → calls_of (items_view calls) ≡ Err fault → script_of script ≡ Err fault
+  pub script-fault : length calls ≤ 4096 → (fault : ScriptFault) → calls_said (items_view calls) ≡ Err fault → script_by calls_said script ≡ Err fault
   script-fault few fault read =
       script-calls few ∙ ap (λ (r : Result (List CallFacts) ScriptFault). r >>= λ facts. Ok (record { platform = held; calls = facts })) read
 
-  pub script-held : length calls ≤ 4096 → (facts : List CallFacts) → calls_of (items_view calls) ≡ Ok facts
-      → script_of script ≡ Ok (record { platform = held; calls = facts })
+  pub script-held : length calls ≤ 4096 → (facts : List CallFacts) → calls_said (items_view calls) ≡ Ok facts
+      → script_by calls_said script ≡ Ok (record { platform = held; calls = facts })
   script-held few facts read =
       script-calls few ∙ ap (λ (r : Result (List CallFacts) ScriptFault). r >>= λ facts. Ok (record { platform = held; calls = facts })) read

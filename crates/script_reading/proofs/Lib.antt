@@ -1,3 +1,4 @@
+pub mod ApartLemmas
 pub mod CallerLemmas
 pub mod CallsLemmas
 pub mod Members

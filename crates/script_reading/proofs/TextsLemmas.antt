@@ -1,12 +1,13 @@
 -- A search among references to texts is a search among the texts.
 use Rattle.std.proofs.Common.{◌≡◌, ℕ, ◌+◌, ◌∷◌, ◌++◌, [], List, Bool, true, false, ◌||◌, not, cond, length, position, Some, None, ap, refl, ◌∙◌, sym, nat_le, nat_lt, bytes_eq, if◌then◌else◌}
 use Rattle.std.proofs.lemmas.List.{length-map}
+use Rattle.std.specs.Prelude.{Option, unwrap_or}
 use Rattle.std.specs.List.{list_any, position_or_len}
 use Rattle.std.specs.Borrow.{Bor}
 use Rattle.indexmap.specs.IndexSet.{insert_key}
 use Rattle.script_reading.specs.Known.{texts}
 use Rattle.script_reading.specs.Names.{with_actor}
-use Rattle.script_reading.specs.Script.{actors_after}
+use Rattle.script_reading.specs.Script.{actor_number, actors_after}
 
 pub list_any-texts : (t : List ℕ → Bool) (ks : List (Bor (List ℕ))) → list_any t (texts ks) ≡ list_any (λ k. t k.now) ks
 list_any-texts t [] = refl
@@ -47,3 +48,10 @@ actors_joined ks after k n made counted =
     let len : length (texts after) ≡ length after = length-map after (λ (r : Bor (List ℕ)). r.now) in
     ap (λ m. if nat_le m 16 then Some (texts after) else None) (counted ∙ sym len)
     ∙ ap (λ names. if nat_le (length names) 16 then Some names else None) (ap texts made ∙ texts-insert_key ks k)
+
+-- an actor's number, where that was looked up and there are n
+pub number_told : (ks : List (Bor (List ℕ))) (actor : List ℕ) (place : Option ℕ) (n number : ℕ) → place ≡ position (bytes_eq actor) (texts ks) → n ≡ length ks → number ≡ unwrap_or place n
+    → number ≡ actor_number actor (texts ks)
+number_told ks actor place n number found counted is =
+    let len : length (texts ks) ≡ length ks = length-map ks (λ (r : Bor (List ℕ)). r.now) in
+    is ∙ (ap (λ o. unwrap_or o n) found ∙ ap (unwrap_or (position (bytes_eq actor) (texts ks))) (counted ∙ sym len))

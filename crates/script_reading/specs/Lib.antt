@@ -1,3 +1,4 @@
+pub mod Apart
 pub mod Call
 pub mod Faults
 pub mod Known

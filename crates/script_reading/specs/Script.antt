@@ -1,5 +1,5 @@
 -- The script that a value stands for, or its first fault.
-use Rattle.std.specs.Prelude.{ℕ, ◌+◌, ◌∷◌, ◌++◌, [], ◌&&◌, ◌||◌, not, Bool, List, length, nat_le, position, bytes_eq, codes, Option, Some, None, option_and_then, option_map, ok_or, Result, Ok, Err, if◌then◌else◌}
+use Rattle.std.specs.Prelude.{ℕ, ◌+◌, ◌∷◌, ◌++◌, [], ◌&&◌, ◌||◌, not, Bool, List, length, nat_le, position, bytes_eq, codes, Option, Some, None, option_and_then, option_map, ok_or, unwrap_or, Result, Ok, Err, if◌then◌else◌}
 use Rattle.std.specs.List.{list_all}
 use Rattle.serde_json.specs.Data.{Data, Items, no_items, item}
 use Rattle.serde_json.specs.Find.{get, as_array, as_object}
@@ -11,11 +11,12 @@ use Rattle.script_reading.specs.Names.{is_name, is_among, with_actor, root}
 use Rattle.script_reading.specs.Platform.{platform_said}
 use Rattle.sysmem_sanitise.specs.Platform.{PlatformFacts}
 
--- A call: what it does, on which name, and the place of that name among the names that were made before.
+-- A call: what it does, on which name, the place of that name among the names that were made before, and by which actor, in order of their first calls.
 pub record CallFacts : Type 0 where
   pub act : ActFacts
   pub on : List ℕ
   pub place : ℕ
+  pub actor : ℕ
 
 -- A script: its platform, and its calls in their order.
 pub record ScriptFacts : Type 0 where
@@ -45,6 +46,10 @@ names_found names form =
     then option_and_then (λ place. option_map (λ after. (place, after)) (names_after (name_made form.act) names)) (position (bytes_eq form.on) names)
     else None
 
+-- an actor's number: the place among those so far, or the next one
+abbrev pub actor_number : List ℕ → List (List ℕ) → ℕ
+actor_number actor actors = unwrap_or (position (bytes_eq actor) actors) (length actors)
+
 -- the actors after a call, who are 16 at most
 abbrev pub actors_after : List ℕ → List (List ℕ) → Option (List (List ℕ))
 actors_after actor actors = if nat_le (length (with_actor actors actor)) 16 then Some (with_actor actors actor) else None
@@ -55,7 +60,7 @@ call_of n known call = do
   form ← ok_or (form_of call) (CallMisshapen n)
   found ← ok_or (names_found known.names form) (BadName n)
   actors ← ok_or (actors_after form.actor known.actors) (TooManyActors n)
-  Ok (record { act = form.act; on = form.on; place = found.0 }, record { names = found.1; actors = actors })
+  Ok (record { act = form.act; on = form.on; place = found.0; actor = actor_number form.actor known.actors }, record { names = found.1; actors = actors })
 
 -- the calls from this number on
 unfoldable pub calls_from : ℕ → KnownFacts → Items → Result (List CallFacts) ScriptFault
@@ -92,11 +97,15 @@ parts_of script =
 abbrev pub few_calls : Items → Option Items
 few_calls calls = if nat_le (items_len calls) 4096 then Some calls else None
 
--- the script that a value stands for
-abbrev pub script_of : Data → Result ScriptFacts ScriptFault
-script_of value = do
+-- the script that a value stands for, where its calls are read so
+abbrev pub script_by : (Items → Result (List CallFacts) ScriptFault) → Data → Result ScriptFacts ScriptFault
+script_by calls_said value = do
   parts ← ok_or (parts_of value) Misshapen
   platform ← platform_said parts.0
   few ← ok_or (few_calls parts.1) TooManyCalls
-  facts ← calls_of few
+  facts ← calls_said few
   Ok (record { platform = platform; calls = facts })
+
+-- the script that a value stands for
+abbrev pub script_of : Data → Result ScriptFacts ScriptFault
+script_of value = script_by calls_of value

@@ -26,7 +26,7 @@ abbrev pub form_seen : Form → FormFacts
 form_seen s = record { act = act_seen s.act; on = s.on.now; actor = s.actor.now }
 
 abbrev pub call_seen : Call → CallFacts
-call_seen c = record { act = act_seen c.act; on = c.on.now; place = c.place }
+call_seen c = record { act = act_seen c.act; on = c.on.now; place = c.place; actor = c.actor }
 
 abbrev pub script_seen : Script → ScriptFacts
 script_seen s = record { platform = s.platform; calls = map call_seen s.calls.items }

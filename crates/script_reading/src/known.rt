@@ -4,7 +4,7 @@ ghost use Rattle.serde_json.specs.View.{view};
 ghost use Rattle.script_reading.specs.Faults.{Gives};
 ghost use Rattle.script_reading.specs.Known.{known_seen, texts};
 ghost use Rattle.script_reading.specs.Names.{root};
-ghost use Rattle.script_reading.specs.Script.{actors_after, names_after, names_found, call_of, nothing_known};
+ghost use Rattle.script_reading.specs.Script.{actor_number, actors_after, names_after, names_found, call_of, nothing_known};
 ghost use Rattle.script_reading.specs.Seen.{call_seen, form_seen};
 
 use crate::call::Call;
@@ -74,6 +74,13 @@ fn find<'a>(
     Ok(Some(place))
 }
 
+/// The number of an actor among those who made calls, or of the next one.
+fn number_of(actors: &IndexSet<&str>, actor: &str) -> usize
+    ensures { result ≡ actor_number actor.now (texts actors.now.keys) }
+{
+    place_of(actors, actor).unwrap_or(actors.len())
+}
+
 /// Adds the actor of a call, and says whether there are few enough.
 fn join<'a>(actors: &mut IndexSet<&'a str>, actor: &'a str) -> Result<bool, AllocFailed<&'a str>>
     ensures { IfOk result (λ few. (if few then Some (texts actors.new.keys) else None)
@@ -110,6 +117,7 @@ impl<'a> Known<'a> {
         let Some(place) = find(&mut self.names, &form)? else {
             return Err(ParseFault::Refused(ScriptFault::BadName(number)));
         };
+        let actor = number_of(&self.actors, form.actor);
         if !join(&mut self.actors, form.actor)? {
             return Err(ParseFault::Refused(ScriptFault::TooManyActors(number)));
         }
@@ -117,6 +125,7 @@ impl<'a> Known<'a> {
             act: form.act,
             on: form.on,
             place,
+            actor,
         })
     }
 }

@@ -9,6 +9,7 @@
 //! ```
 #![tactic(auto)]
 
+mod apart;
 mod call;
 mod calls;
 mod fault;
@@ -19,8 +20,9 @@ mod platform;
 mod script;
 mod text;
 
+pub use apart::read_calls_apart;
 pub use call::{Act, Call};
 pub use calls::read_calls;
 pub use fault::{ParseFault, ScriptFault};
-pub use script::{Script, read_script};
+pub use script::{Script, read_script, read_script_apart};
 pub use text::{LONGEST, parse_script};

@@ -4,10 +4,12 @@ ghost use Rattle.std.specs.List.{list_all};
 ghost use Rattle.serde_json.specs.Find.{as_array, get};
 ghost use Rattle.serde_json.specs.View.{items_view, members_view, view};
 ghost use Rattle.sysmem_sanitise.specs.Reading.Fields.{keys_of};
+ghost use Rattle.script_reading.specs.Apart.{script_apart};
 ghost use Rattle.script_reading.specs.Faults.{Gives};
 ghost use Rattle.script_reading.specs.Script.{is_part, parts_of, script_of};
 ghost use Rattle.script_reading.specs.Seen.{script_seen};
 
+use crate::apart::read_calls_apart;
 use crate::call::Call;
 use crate::calls::read_calls;
 use crate::fault::{ParseFault, ScriptFault};
@@ -70,5 +72,21 @@ pub fn read_script(alloc: Global, script: &Value) -> Result<Script<'_>, ParseFau
         return Err(ParseFault::Refused(ScriptFault::TooManyCalls));
     }
     let calls = read_calls(alloc, calls)?;
+    Ok(Script { platform, calls })
+}
+
+/// Reads the script that a value stands for, where its actors are threads: as `read_script` does, but for the calls, of which it refuses
+/// the first, too, on a name on which another actor made one.
+pub fn read_script_apart(alloc: Global, script: &Value) -> Result<Script<'_>, ParseFault>
+    ensures { Gives script_seen result (script_apart (view script.now)) }
+{
+    let Some((platform, calls)) = parts_of(script) else {
+        return Err(ParseFault::Refused(ScriptFault::Misshapen));
+    };
+    let platform = read_platform(alloc, platform)?;
+    if calls.len() > MOST_CALLS {
+        return Err(ParseFault::Refused(ScriptFault::TooManyCalls));
+    }
+    let calls = read_calls_apart(alloc, calls)?;
     Ok(Script { platform, calls })
 }

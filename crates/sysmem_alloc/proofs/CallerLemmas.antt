@@ -4,3 +4,4 @@ pub use Rattle.sysmem_alloc.proofs.Marked.{many_roots}
 pub use Rattle.sysmem_alloc.proofs.Trees.{added, acted_roots, decided_roots, domains_there}
 pub use Rattle.sysmem_alloc.proofs.Stepping.{claims_optimal}
 pub use Rattle.sysmem_alloc.proofs.TrueClaims.{proved_is_true, true_has_proof, true_is_right}
+pub use Rattle.sysmem_alloc.proofs.Still.{still_right}

@@ -23,3 +23,6 @@ pub mod Keeping
 pub mod Lasting
 pub mod TrueClaims
 pub mod CallerLemmas
+pub mod Fitting
+pub mod Still
+pub mod StillThere

@@ -40,7 +40,7 @@ still_first : (waiting more : List ℕ) (r : ℕ) → slice_get waiting 0 ≡ So
 still_first [] more r is = absurd (cc)
 still_first (x ∷ rest) more r is = is
 
-still_kept : (waiting old new : List ℕ) (r : ℕ) → slice_get waiting 0 ≡ Some r → kept_for waiting old new ≡ old
+pub still_kept : (waiting old new : List ℕ) (r : ℕ) → slice_get waiting 0 ≡ Some r → kept_for waiting old new ≡ old
 still_kept [] old new r is = absurd (cc)
 still_kept (x ∷ rest) old new r is = refl
 
@@ -137,6 +137,7 @@ stays_at law stays s i deed r sound some waits ok first same (Ok made) is later 
       next = still_first s.waiting (newly_ready s.tree made.tree) r first;
       domain = own;
       base = base;
+      terms = ap (option_map (terms_of made.tree.nodes)) base ∙ terms;
       optimal = λ platform v. still_optimal platform s (after_action s made.tree) r v base own.shape terms;
       claims = λ platform c. still_true platform s (after_action s made.tree) r c base own.shape terms;
     }
@@ -156,6 +157,7 @@ stays_now s r first = record {
   next = first;
   domain = record { forest = refl; shape = refl; members = λ cs. refl };
   base = refl;
+  terms = refl;
   optimal = λ platform v h. h;
   claims = λ platform c h. h;
 }
@@ -165,6 +167,7 @@ stays_on old mid new r a b = record {
   next = b.next;
   domain = record { forest = b.domain.forest ∙ a.domain.forest; shape = b.domain.shape ∙ a.domain.shape; members = λ cs. b.domain.members cs ∙ a.domain.members cs };
   base = b.base ∙ a.base;
+  terms = b.terms ∙ a.terms;
   optimal = λ platform v h. b.optimal platform v (a.optimal platform v h);
   claims = λ platform c h. b.claims platform c (a.claims platform c h);
 }

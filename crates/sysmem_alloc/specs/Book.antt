@@ -23,6 +23,10 @@ pub record IsBook (b : BookFacts) : Type 0 where
 abbrev pub new_book : PlatformFacts → BookFacts
 new_book platform = record { platform = platform; history = []; state = first_state }
 
+-- the book of a history
+abbrev pub book_of : PlatformFacts → List BookEntry → BookFacts
+book_of platform es = record { platform = platform; history = es; state = replay es }
+
 -- a book with one more entry
 abbrev pub entered : BookFacts → BookEntry → BookFacts
 entered b e = record { platform = b.platform; history = b.history ++ e ∷ []; state = after_entry b.state e }

@@ -1,21 +1,23 @@
 -- What is true of legal histories.
-use Rattle.std.specs.Prelude.{◌≡◌, ◌↔◌, ◌≤◌, ◌++◌, ℕ, true, List, length, Option, Some, map}
+use Rattle.std.specs.Prelude.{◌≡◌, ◌↔◌, ◌≤◌, ◌++◌, ℕ, true, List, length, Option, Some, map, option_map}
 use Rattle.std.specs.List.{Contains}
 use Rattle.sysmem_proof.specs.declared.certificate.Claim.{Claim}
 use Rattle.sysmem_proof.specs.declared.verdict.Verdict.{Verdict}
-use Rattle.sysmem_proof.specs.Base.{BaseFacts, IsGivenBase}
+use Rattle.sysmem_proof.specs.Base.{BaseFacts, IsGivenBase, terms_of}
 use Rattle.sysmem_proof.specs.Claim.{IsTrueClaim}
 use Rattle.sysmem_proof.specs.Verdict.{IsOptimalIn, IsSameAnswer}
 use Rattle.sysmem_sanitise.specs.Platform.{PlatformFacts}
 use Rattle.sysmem_tree.specs.Domain.{HasDomain, decision_of, is_ready, is_undecided}
-use Rattle.sysmem_tree.specs.Laws.{SameInitial, SameReady, IsSameDomain}
+use Rattle.sysmem_tree.specs.Laws.{AreStill, SameInitial, SameReady, IsSameDomain}
 use Rattle.sysmem_tree.specs.Node.{NodeFacts}
 use Rattle.sysmem_tree.specs.Path.{at_path}
 use Rattle.sysmem_tree.specs.Step.{IsInitial}
 use Rattle.sysmem_tree.specs.History.{log_at}
+use Rattle.sysmem_alloc.specs.Book.{BookFacts, book_of}
 use Rattle.sysmem_alloc.specs.Claims.{HasProof, IsRightClaim}
 use Rattle.sysmem_alloc.specs.Decision.{Decision, decision_for}
 use Rattle.sysmem_alloc.specs.Entry.{BookEntry, tree_entry}
+use Rattle.sysmem_alloc.specs.Frozen.{FrozenFacts, IsStill}
 use Rattle.sysmem_alloc.specs.History.{AreActions, IsLegal, NoEarlyClose, SameCalls, replay}
 use Rattle.sysmem_alloc.specs.Sound.{AgreesWithTree, IsSoundState}
 use Rattle.sysmem_alloc.specs.State.{State, next_ready, base_of, verdict_of}
@@ -60,17 +62,22 @@ abbrev pub Confluence : Type 0
 Confluence = (platform : PlatformFacts) (es fs : List BookEntry) → IsLegal platform es → IsLegal platform fs → SameCalls es fs → NoEarlyClose es → NoEarlyClose fs
     → AreConfluent es fs
 
+-- each node keeps its number, and with it its path, its parent and its domain, and each domain its root, whatever is entered
+abbrev pub NumbersStay : Type 0
+NumbersStay = (platform : PlatformFacts) (es fs : List BookEntry) → IsLegal platform (es ++ fs) → AreStill (replay es).tree.nodes (replay (es ++ fs)).tree.nodes
+
 -- a domain that has a verdict keeps it, whatever is entered after it
 abbrev pub VerdictStays : Type 0
 VerdictStays = (platform : PlatformFacts) (es fs : List BookEntry) (r : ℕ) (v : Verdict) → IsLegal platform (es ++ fs)
     → HasDomain (replay es).tree.nodes r → verdict_of (replay es) r ≡ Some v → verdict_of (replay (es ++ fs)) r ≡ Some v
 
--- the domain that is to be decided next stays so, with its forest and what it is decided on; and each verdict that is optimal for it stays so,
+-- the domain that is to be decided next stays so, with its forest, what it is decided on and its terms; and each verdict that is optimal for it stays so,
 -- and each claim that is true of it
 pub record StaysNext (old new : State) (r : ℕ) : Type 0 where
   pub next : next_ready new ≡ Some r
   pub domain : IsSameDomain old.tree.nodes new.tree.nodes r
   pub base : base_of new r ≡ base_of old r
+  pub terms : option_map (terms_of new.tree.nodes) (base_of new r) ≡ option_map (terms_of old.tree.nodes) (base_of old r)
   pub optimal : (platform : PlatformFacts) (v : Verdict) → IsOptimalIn platform old.tree.nodes r (base_of old r) v → IsOptimalIn platform new.tree.nodes r (base_of new r) v
   pub claims : (platform : PlatformFacts) (c : Claim) → IsTrueClaim platform old.tree.nodes r (base_of old r) c → IsTrueClaim platform new.tree.nodes r (base_of new r) c
 
@@ -79,6 +86,19 @@ pub record StaysNext (old new : State) (r : ℕ) : Type 0 where
 abbrev pub NextStays : Type 0
 NextStays = (platform : PlatformFacts) (es fs : List BookEntry) (r : ℕ) → IsLegal platform (es ++ fs) → AreActions fs → next_ready (replay es) ≡ Some r
     → StaysNext (replay es) (replay (es ++ fs)) r
+
+-- what was frozen and still is what a book has stays so through actions, however many
+abbrev pub FitStays : Type 0
+FitStays = (platform : PlatformFacts) (es fs : List BookEntry) (f : FrozenFacts) → IsLegal platform (es ++ fs) → AreActions fs → IsStill (book_of platform es) f
+    → IsStill (book_of platform (es ++ fs)) f
+
+-- a claim that is true of what was frozen, or right for it, is so for each book that still has it
+pub record FitsClaim (b : BookFacts) (f : FrozenFacts) (c : Claim) : Type 0 where
+  pub proved : IsTrueClaim f.platform f.tree.nodes f.domain f.base c → IsTrueClaim b.platform b.state.tree.nodes f.domain (base_of b.state f.domain) c
+  pub right : IsRightClaim f.platform f.tree.nodes f.domain f.base c → IsRightClaim b.platform b.state.tree.nodes f.domain (base_of b.state f.domain) c
+
+abbrev pub FitIsRight : Type 0
+FitIsRight = (b : BookFacts) (f : FrozenFacts) (c : Claim) → IsStill b f → FitsClaim b f c
 
 -- a claim is true exactly where it is right and has its proof
 abbrev pub ProvedClaimsAreTrue : Type 0

@@ -1,17 +1,20 @@
 //! The book of a collection.
 
-ghost use Rattle.std.specs.Prelude.{◌≡◌, Some, Ok, Err, map, option_map, is_some, IfOk, IfErr, IfSome, OnErr, OnOk};
+ghost use Rattle.std.specs.Prelude.{◌≡◌, ◌↔◌, All, IsTrue, Some, Ok, Err, map, option_map, is_some, IfOk, IfErr, IfSome, OnErr, OnOk};
 ghost use Rattle.std.specs.Arc.{arc_value};
 ghost use Rattle.sysmem_alloc.specs.Book.{IsBook, entered, new_book};
 ghost use Rattle.sysmem_alloc.specs.Claims.{IsRightClaim};
 ghost use Rattle.sysmem_alloc.specs.Entry.{Acted, Decided, entry_in};
-ghost use Rattle.sysmem_alloc.specs.Frozen.{frozen_of};
+ghost use Rattle.sysmem_alloc.specs.Frozen.{IsStill, frozen_of};
 ghost use Rattle.sysmem_alloc.specs.History.{IsStep};
 ghost use Rattle.sysmem_alloc.specs.Sound.{MayWait};
 ghost use Rattle.sysmem_alloc.specs.State.{base_of, next_ready, verdict_of};
-ghost use Rattle.sysmem_proof.specs.Base.{IsGivenBase};
+ghost use Rattle.sysmem_proof.specs.Base.{IsGivenBase, terms_of};
+ghost use Rattle.sysmem_proof.specs.Members.{members_at};
 ghost use Rattle.sysmem_tree.specs.ActionKind.{deed_of};
 ghost use Rattle.sysmem_tree.specs.Domain.{HasDomain};
+ghost use Rattle.sysmem_tree.specs.Laws.{AreStill};
+ghost use Rattle.sysmem_tree.specs.Nodes.{HasNode};
 ghost use Rattle.sysmem_tree.specs.Tree.{applied};
 
 use crate::bases::{accepted_in, add_chosen, settings_for};
@@ -19,13 +22,15 @@ use crate::entry::{Entry, enter_action};
 use crate::frozen::Frozen;
 use crate::laws::{base_is_given, few_entries, legal_agrees, legal_is_sound};
 use crate::ready::{add_if_ready, add_ready, mark_for_first, open_nodes, ready_domains};
+use crate::terms::{accept_same, are_same_settings};
 use crate::verdicts::{choices_of, entered_for, has_failed, is_undecided};
 use std::alloc::{AllocError, Global};
 use std::marker::Model;
 use std::sync::Arc;
+use sysmem_merge::Settings;
 use sysmem_proof::{Base, Claim, Verdict};
 use sysmem_sanitise::Platform;
-use sysmem_tree::laws::{forest_stays, members_stand_once, one_forest};
+use sysmem_tree::laws::{forest_stays, members_stand_once, numbers_stay, one_forest};
 use sysmem_tree::{DomainId, Event, MOST_NODES, NodeId, Refusal, Tree};
 
 /// The number of entries for which a book has room; no history has more than 639.
@@ -102,6 +107,13 @@ impl Book {
         })
     }
 
+    /// Recalls, for a proof, that the history is legal and the state its replay. It does nothing.
+    pub fn recall_legal(&self)
+        ensures { IsBook self.now }
+    {
+        let _ = &self.history;
+    }
+
     /// The platform for which it decides.
     pub fn platform(&self) -> &Platform
         ensures platform { result.now ≡ self.now.platform }
@@ -117,9 +129,10 @@ impl Book {
         &self.tree
     }
 
-    /// All that was entered, the oldest first.
+    /// All that was entered, the oldest first: a legal history, of which the book's state is the replay.
     pub fn history(&self) -> &[Entry]
-        ensures { map (entry_in self.now.state.tree.nodes) result.now ≡ self.now.history }
+        ensures entries { map (entry_in self.now.state.tree.nodes) result.now ≡ self.now.history }
+        ensures book { IsBook self.now }
     {
         &self.history
     }
@@ -143,7 +156,7 @@ impl Book {
         ensures given { IfOk result (λ base.
             IsGivenBase self.now.platform self.now.state.tree.nodes domain base) }
     {
-        self.platform();
+        self.recall_legal();
         legal_is_sound();
         base_is_given();
         self.entered_base(domain)
@@ -161,6 +174,75 @@ impl Book {
         let platform = self.platform.copy()?;
         let tree = self.tree.copy()?;
         Ok(Some(Frozen::new(platform, tree, domain, base)))
+    }
+
+    /// Whether what was frozen still is what this book has for the decision of the domain that is
+    /// to be decided next: the platform, that domain with its shape, and its terms, which are the
+    /// settings that it is given and what the accepted participants show. So a verdict that is
+    /// optimal for what was frozen is optimal for the book. What was frozen may be of any book, and
+    /// nodes are compared by their paths. It takes no memory.
+    pub fn fits(&self, frozen: &Frozen) -> bool
+        ensures { IsTrue result ↔ IsStill self.now frozen.now }
+    {
+        let Some(next) = self.next_ready() else {
+            return false;
+        };
+        if next != frozen.domain() {
+            return false;
+        }
+        if !self.platform().is_same(frozen.platform()) {
+            return false;
+        }
+        if !self.tree().has_same_shape(next, frozen.tree()) {
+            return false;
+        }
+        self.has_terms_of(next, frozen)
+    }
+
+    /// Whether the domain that is to be decided next has the terms of what was frozen.
+    fn has_terms_of(&self, domain: DomainId, frozen: &Frozen) -> bool
+        requires there { HasDomain self.now.state.tree.nodes domain }
+        requires next { next_ready self.now.state ≡ Some domain }
+        ensures { IsTrue result ↔ (option_map (terms_of self.now.state.tree.nodes)
+            (base_of self.now.state domain)
+            ≡ option_map (terms_of frozen.now.tree.nodes) frozen.now.base) }
+    {
+        match (self.next_settings(domain), frozen.base()) {
+            (Some(settings), Some(base)) => {
+                are_same_settings(&settings, &base.settings())
+                    && self.accepts_same(domain, frozen.tree(), base.accepted())
+            }
+            (None, None) => true,
+            _ => false,
+        }
+    }
+
+    /// The settings that a domain is given if it is chosen: those of its host's domain; `None` for
+    /// the initial one.
+    fn next_settings(&self, domain: DomainId) -> Option<Settings>
+        requires { HasDomain self.now.state.tree.nodes domain }
+        ensures { option_map
+            (λ settings. record { settings = settings; accepted = self.now.state.accepted }) result
+            ≡ base_of self.now.state domain }
+    {
+        legal_agrees();
+        let host = self.tree.host_of(domain)?;
+        settings_for(&self.history, self.tree.domain_of(host))
+    }
+
+    /// Whether the participants that are accepted for the domain that is to be decided next and the
+    /// nodes of another tree that were accepted show the same.
+    fn accepts_same(&self, domain: DomainId, others: &Tree, accepted: &[NodeId]) -> bool
+        requires next { next_ready self.now.state ≡ Some domain }
+        requires there { All (HasNode others.now.nodes) accepted.now }
+        ensures { IsTrue result
+            ↔ (members_at self.now.state.tree.nodes self.now.state.accepted
+            ≡ members_at others.now.nodes accepted.now) }
+    {
+        legal_is_sound();
+        members_stand_once();
+        let _ = domain;
+        accept_same(&self.tree, &self.chosen, &self.were_open, others, accepted)
     }
 
     /// What the domain that is to be decided next is decided on, by what was entered.
@@ -203,7 +285,8 @@ impl Book {
     }
 
     /// Makes an action on a node, enters it, and answers the node that was made, or else the node itself, and whether a domain waits
-    /// for a decision now; or the tree's first refusal, and then nothing has changed. It takes no memory.
+    /// for a decision now; or the tree's first refusal, and then nothing has changed. Each node and each domain that was there stays
+    /// there, by its number. It takes no memory.
     pub fn apply(&mut self, event: Event) -> Result<Done, Refusal>
         ensures accepted { IfOk result (λ done.
             applied self.old.state.tree event.node (deed_of event.action)
@@ -216,10 +299,13 @@ impl Book {
         ensures refused { IfErr result (λ refusal.
             applied self.old.state.tree event.node (deed_of event.action) ≡ Err refusal) }
         ensures unchanged { OnErr result (self.new ≡ self.old) }
+        ensures there { IfOk result (λ done. HasNode self.new.state.tree.nodes done.node) }
+        ensures still { AreStill self.old.state.tree.nodes self.new.state.tree.nodes }
     {
         legal_is_sound();
         few_entries();
         forest_stays();
+        numbers_stay();
         one_forest();
         let acted = event.node;
         let kind = event.action.kind();
@@ -234,7 +320,8 @@ impl Book {
     }
 
     /// Enters the decision of the domain that is to be decided next: a verdict that is optimal for it, with what proves it or with
-    /// `Proof::Nothing`, or `None` where memory was refused to it. It takes no memory.
+    /// `Proof::Nothing`, or `None` where memory was refused to it. Each node and each domain stays there, by its number. It takes no
+    /// memory.
     pub fn decide(&mut self, domain: DomainId, claim: Option<Arc<Claim>>)
         requires next { next_ready self.old.state ≡ Some domain }
         requires right { IfSome claim (λ shared.
@@ -248,11 +335,13 @@ impl Book {
           domain = domain;
           claim = option_map (λ shared. arc_value shared) claim;
         })) self.new.state }
+        ensures still { AreStill self.old.state.tree.nodes self.new.state.tree.nodes }
     {
         legal_is_sound();
         legal_agrees();
         few_entries();
         forest_stays();
+        numbers_stay();
         one_forest();
         members_stand_once();
         let were_ready = ready_domains(&self.tree);

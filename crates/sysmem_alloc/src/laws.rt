@@ -1,6 +1,6 @@
 //! What is true of the histories of books, whoever keeps them.
 
-ghost use Rattle.sysmem_alloc.specs.Laws.{LegalIsSound, LegalAgrees, BaseIsGiven, FewEntries, ReadyWaits, VerdictStays, NextStays, InitialShape, Confluence, ProvedClaimsAreTrue};
+ghost use Rattle.sysmem_alloc.specs.Laws.{LegalIsSound, LegalAgrees, BaseIsGiven, FewEntries, ReadyWaits, NumbersStay, VerdictStays, NextStays, FitStays, FitIsRight, InitialShape, Confluence, ProvedClaimsAreTrue};
 
 use sysmem_proof::laws::one_answer;
 use sysmem_tree::laws;
@@ -80,6 +80,15 @@ pub fn confluence()
     one_answer();
 }
 
+/// Each node keeps its number, its path, its parent and its domain, and each domain its root, whatever is entered.
+pub fn numbers_stay()
+    ensures { NumbersStay }
+{
+    legal_is_sound();
+    laws::numbers_stay();
+    one_forest();
+}
+
 /// A domain that has a verdict keeps it, whatever is entered after it.
 pub fn verdict_stays()
     ensures { VerdictStays }
@@ -100,6 +109,19 @@ pub fn next_stays()
     forest_stays();
     members_stay();
 }
+
+/// What was frozen and still is what a book has for the decision of the domain that is next stays so until that decision, however many
+/// actions come.
+pub fn fit_stays()
+    ensures { FitStays }
+{
+    next_stays();
+}
+
+/// A claim that is true of what was frozen is true for each book that `fits` tells to have it still, and one that is right is right.
+pub fn fit_is_right()
+    ensures { FitIsRight }
+{}
 
 /// A claim is true exactly where it is right, as a book takes it, and has its proof. So what was entered with its proof is a claim to which
 /// `check` of `sysmem_proof` says yes.

@@ -2,9 +2,13 @@
 //!
 //! ```
 //! let mut book = Book::new(alloc, platform)?;
-//! let done = book.apply(Event { node: book.tree().root(), action: Action::Release })?;
+//! let node = book.tree().root();
+//! let done = book.apply(Event { node, action: Action::Release })?;
 //! if let Some(domain) = book.next_ready() {
-//!     book.decide(domain, Some(verdict));
+//!     let base = book.base(domain)?;
+//!     let found = search(alloc, book.platform(), book.tree(), domain, base.as_ref(), &NoGate)?;
+//!     let claim = Claim { verdict: found.verdict, proof: Proof::Nothing };
+//!     book.decide(domain, Some(Arc::new(alloc, claim)?));
 //! }
 //! ```
 #![tactic(auto)]
@@ -15,6 +19,7 @@ mod entry;
 mod frozen;
 pub mod laws;
 mod ready;
+mod terms;
 mod verdicts;
 
 pub use book::{Book, Done};

@@ -9,6 +9,7 @@ use Rattle.sysmem_merge.specs.declared.settings.Settings.{Settings}
 use Rattle.sysmem_tree.specs.Shape.{Member}
 use Rattle.sysmem_proof.specs.Verdict.{Meeting, IsForestUnmet, IsUnmetBefore, IsChosen}
 use Rattle.sysmem_proof.proofs.Walks.{after_choice, whole_alone, begins, joins, goes_on}
+pub use Rattle.sysmem_proof.proofs.Equal.{same_settings}
 pub use Rattle.sysmem_proof.proofs.Finding.{splits_refute, earlier_grows}
 pub use Rattle.sysmem_proof.proofs.Labels.{AllIn, both_all, in_after, in_settled, in_tree}
 

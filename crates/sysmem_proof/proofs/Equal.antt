@@ -1,6 +1,6 @@
 -- What `==` calls equal is equal.
-use Rattle.std.proofs.Common.{rules, ◌≡◌, ◌≢◌, ◌⊎◌, inl, inr, Bool, true, false, not, refl, ap, Decides}
-use Rattle.std.proofs.lemmas.Bool.Decides.{Decides-and, Decides-like, Decides-eqb}
+use Rattle.std.proofs.Common.{rules, ◌≡◌, ◌≢◌, ◌⊎◌, inl, inr, Bool, true, false, not, refl, sym, ◌∙◌, ap, Decides}
+use Rattle.std.proofs.lemmas.Bool.Decides.{Decides-and, Decides-at, Decides-like, Decides-eqb}
 use Rattle.sysmem_formats.specs.contracts.offer.OfferPartialEq.TheImpl as offer
 use Rattle.sysmem_formats.specs.declared.offer.Offer.{Offer}
 use Rattle.sysmem_formats.specs.declared.offer.Offer.TheVariants.{NoImage, Image}
@@ -9,6 +9,7 @@ use Rattle.sysmem_memory.specs.declared.place.Place.{Place}
 use Rattle.sysmem_merge.specs.contracts.settings.Settings.{the_type as settings_type}
 use Rattle.sysmem_merge.specs.contracts.settings.SettingsPartialEq.TheImpl as settings
 use Rattle.sysmem_merge.specs.declared.settings.Settings.{Settings}
+use Rattle.sysmem_proof.specs.Chosen.{ChosenFacts}
 use Rattle.sysmem_sanitise.proofs.CallerLemmas.{same_bounds, same_colour, same_pair}
 
 -- a test that tells one fact tells each that is true with it
@@ -58,3 +59,9 @@ equal_where a b t is no' = (same_settings a b).0 (not_no t (settings.ghosts.eq a
 
 pub differ_where : (a b : Settings) (t : Bool) → t ≡ not (settings.ghosts.eq a b) → t ≡ true → a ≢ b
 differ_where a b t is yes' same = true_false (settings.ghosts.eq a b) ((same_settings a b).1 same) (not_yes t (settings.ghosts.eq a b) is yes')
+
+-- what chose is equal where its selections are and its settings are told to be
+pub same_chosen : (a b : ChosenFacts) (x y : Settings) (t : Bool) → a.selection ≡ b.selection → t ≡ settings.ghosts.eq x y → x ≡ a.settings → y ≡ b.settings → Decides t (a ≡ b)
+same_chosen a b x y t selection is one two =
+    Decides-like t (λ e i. record { selection = selection i; settings = (sym one ∙ (e ∙ two)) i }) (λ e. one ∙ (ap (λ (c : ChosenFacts). c.settings) e ∙ sym two))
+    (Decides-at t (settings.ghosts.eq x y) is (same_settings x y))

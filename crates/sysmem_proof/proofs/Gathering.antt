@@ -1,22 +1,17 @@
 -- Which nodes a walk over a layout gives, and those that choices settle, one choice after the other.
-use Rattle.std.proofs.Common.{◌≡◌, ◌≢◌, ◌<◌, ◌≤◌, ◌||◌, true, false, eqb, inl, inr, ℕ, suc, ◌+◌, List, [], ◌∷◌, ◌++◌, Option, Some, None, length, take, drop, get_or, slice_get, refl, sym, ◌∙◌, ap, subst, arith, append_assoc, length-append}
-use Rattle.std.specs.Prelude.{All, AllPairs, IfSome, IsSome, IsSomeAnd, IsPermutation, MatchOption, option_map, option_and_then, slice_index_or, unwrap_or}
-use Rattle.std.specs.List.{AllByRecursion, IsDistinct, list_any}
-use Rattle.std.proofs.lemmas.Bool.{cases_eq, ne_eqb}
+use Rattle.std.proofs.Common.{◌≡◌, ◌<◌, ◌≤◌, ℕ, ◌+◌, List, [], ◌∷◌, ◌++◌, Option, Some, length, take, drop, get_or, refl, sym, ◌∙◌, ap, subst, arith, append_assoc, length-append}
+use Rattle.std.specs.Prelude.{All, IsPermutation, MatchOption, option_map, unwrap_or}
 use Rattle.std.proofs.lemmas.List.{take_more, take-append-drop}
 use Rattle.std.proofs.lemmas.List.Sorted.{All-permutation, IsPermutation-refl, IsPermutation-sym, IsPermutation-trans, IsPermutation-append, length_permutation}
-use Rattle.std.proofs.lemmas.Map.Steps.{length-le_from_distinct_below}
-use Rattle.std.proofs.lemmas.Option.{same_Some, slice_get_within, option_and_then_some}
 use Rattle.sysmem_tree.specs.declared.layout.Layout.{Layout}
-use Rattle.sysmem_tree.specs.declared.layout.Place.{Place}
 use Rattle.sysmem_tree.specs.declared.open_groups.SettledNodes.{SettledNodes}
-use Rattle.sysmem_tree.specs.Forest.{Forest, choices, settled}
+use Rattle.sysmem_tree.specs.Forest.{Forest, settled}
 use Rattle.sysmem_tree.specs.Laws.{PrefixOfPrefix}
-use Rattle.sysmem_tree.specs.LayoutLaws.{ChoiceSettlesShare, NoneOpenIsSelection}
+use Rattle.sysmem_tree.specs.LayoutLaws.{ChoiceSettlesShare}
 use Rattle.sysmem_tree.specs.Members.{AreItsNodes}
 use Rattle.sysmem_tree.specs.Node.{NodeFacts}
 use Rattle.sysmem_tree.specs.Nodes.{HasNode}
-use Rattle.sysmem_tree.specs.OpenGroups.{WalksTo, HasLeft, IsChildPlace, IsFirstOpen, place_after, share_of}
+use Rattle.sysmem_tree.specs.OpenGroups.{HasLeft, IsChildPlace, IsFirstOpen, share_of}
 use Rattle.sysmem_tree.specs.Selection.{after, IsPrefix}
 use Rattle.sysmem_tree.specs.Shape.{by_number, forest_of, members_of}
 use Rattle.sysmem_tree.proofs.CallerLemmas.{few_different, named_there}

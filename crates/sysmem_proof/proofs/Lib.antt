@@ -4,6 +4,7 @@ pub mod Walks
 pub mod Ways
 pub mod Left
 pub mod Marked
+pub mod SameColours
 pub mod Past
 pub mod Seen
 pub mod Telling

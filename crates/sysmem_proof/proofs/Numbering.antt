@@ -100,3 +100,9 @@ offers_told platform ms given lines why same long told terms d is =
 -- what all lines have, one of them has
 pub at_line : {X : Type 0} (P : X → Type 0) (xs : List X) (k : ℕ) (x : X) → k < length xs → x ≡ get_or xs k x → All P xs → P x
 at_line P xs k x less is all = subst P (sym is) (all k x less)
+
+-- what stands at a place is one
+pub same_there : {X : Type 0} (xs : List X) (k : ℕ) (x y : X) → k < length xs → x ≡ get_or xs k x → y ≡ get_or xs k y → x ≡ y
+same_there [] k x y less one two = absurd (omega (arith, less))
+same_there (z ∷ xs) zero x y less one two = one ∙ sym two
+same_there (z ∷ xs) (suc k) x y less one two = same_there xs k x y (omega (arith, less)) one two

@@ -5,14 +5,11 @@ ghost use Rattle.std.specs.List.{cons_option};
 ghost use Rattle.sysmem_counts.specs.Bounds.{IsTallyOf};
 ghost use Rattle.sysmem_counts.specs.Tally.{sum_of};
 ghost use Rattle.sysmem_counts.specs.declared.constraints.CountConstraints.{CountConstraints as Counted};
-ghost use Rattle.sysmem_counts.specs.declared.field.Field.{Field as Asked};
 ghost use Rattle.sysmem_formats.specs.declared.offer.Offer.{Offer as Offered};
 ghost use Rattle.sysmem_memory.specs.PlaceTable.{refuses_by};
 ghost use Rattle.sysmem_merge.specs.Demands.{OfferDemand, counts_asked, offer_demands};
 ghost use Rattle.sysmem_merge.specs.Failing.{FailsOn};
 ghost use Rattle.sysmem_merge.specs.OfferRead.{IsOfferRead};
-ghost use Rattle.sysmem_merge.specs.Reasons.{IsUnnamedLine};
-ghost use Rattle.sysmem_proof.specs.Members.{participants};
 ghost use Rattle.sysmem_proof.specs.Roll.{asked_by, listed};
 
 use crate::path_list::PathList;
@@ -64,20 +61,6 @@ pub(crate) fn read_of(roll: &Roll<'_>, offer: &Offer, paths: &PathList) -> Offer
     let mut read = OfferRead::new(offer);
     for path in paths.iter() {
         add_read(&mut read, roll.at(path));
-    }
-    read
-}
-
-/// What all on the roll ask of an offer, in some order: what nobody of them names is told by it.
-pub(crate) fn read_all(roll: &Roll<'_>, offer: &Offer) -> OfferRead
-    ensures { (ds : List OfferDemand) × IsOfferRead offer.now ds result
-        × ((field : Asked) → IsUnnamedLine field offer.now ds
-        ↔ IsUnnamedLine field offer.now (offer_demands (participants (listed roll.now)))) }
-{
-    roll.by_numbers();
-    let mut read = OfferRead::new(offer);
-    for number in 0..roll.nodes() {
-        add_read(&mut read, roll.at_number(number));
     }
     read
 }

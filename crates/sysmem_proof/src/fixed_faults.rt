@@ -63,12 +63,25 @@ pub(crate) fn count_places(heaps: &[HeapInfo]) -> usize
 pub(crate) fn all_named(roll: &Roll<'_>, lines: &[Line]) -> bool
     ensures { IsTrue result ↔ All (λ line. AreNamed (listed roll.now) line.nodes) lines.now }
 {
-    for line in lines {
-        if !are_named(roll, line.nodes()) {
+    for index in 0..lines.len() {
+        if !names_behind(roll, &lines[..index], &lines[index]) {
             return false;
         }
     }
     true
+}
+
+/// Whether the line names participants, each once, where each line before it does. The paths of the one before aren't looked up again.
+fn names_behind(roll: &Roll<'_>, before: &[Line], line: &Line) -> bool
+    requires { All (λ line. AreNamed (listed roll.now) line.nodes) before.now }
+    ensures { IsTrue result ↔ AreNamed (listed roll.now) line.now.nodes }
+{
+    if let Some(last) = before.last() {
+        if last.nodes().is_same(line.nodes()) {
+            return true;
+        }
+    }
+    are_named(roll, line.nodes())
 }
 
 /// Of lines that can't be a conflict: whom they name comes first.

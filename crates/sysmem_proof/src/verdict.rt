@@ -1,6 +1,6 @@
 //! What a decision gives.
 
-ghost use Rattle.std.specs.Prelude.{◌≡◌};
+ghost use Rattle.std.specs.Prelude.{◌≡◌, ◌↔◌, IsTrue};
 
 use std::marker::Model;
 use sysmem_merge::Settings;
@@ -20,6 +20,24 @@ pub enum Verdict {
     Failed,
     /// Memory was refused to the decision.
     NoMemory,
+}
+
+impl Verdict {
+    /// Whether the other is the same: equal in kind, and where it chose in its selection and its settings.
+    pub fn is_same(&self, other: &Verdict) -> bool
+        ensures { IsTrue result ↔ (self.now ≡ other.now) }
+    {
+        match self {
+            Verdict::Chosen(chosen) => match other {
+                Verdict::Chosen(other) => chosen.is_same(other),
+                _ => false,
+            },
+            Verdict::IntersectionEmpty => matches!(other, Verdict::IntersectionEmpty),
+            Verdict::TooMany => matches!(other, Verdict::TooMany),
+            Verdict::Failed => matches!(other, Verdict::Failed),
+            Verdict::NoMemory => matches!(other, Verdict::NoMemory),
+        }
+    }
 }
 
 /// A selection, and settings for its members.
@@ -64,4 +82,18 @@ impl Chosen {
     {
         self.settings
     }
+    /// Whether the other has the same selection, with the same settings.
+    pub fn is_same(&self, other: &Chosen) -> bool
+        ensures { IsTrue result ↔ (self.now ≡ other.now) }
+    {
+        is_same_choices(self.selection().choices(), other.selection().choices())
+            && self.settings() == other.settings()
+    }
+}
+
+/// Whether the choices are the same, one by one.
+fn is_same_choices(a: &[u8], b: &[u8]) -> bool
+    ensures { IsTrue result ↔ (a.now ≡ b.now) }
+{
+    a == b
 }

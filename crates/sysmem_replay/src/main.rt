@@ -7,7 +7,7 @@ mod refusal;
 
 use byte_transfer::{Counted, Sink, Source};
 use clap::Error;
-pub use command_line::{Job, read_words};
+pub use command_line::{Job, Refusal, read_words};
 use refusal::refusal_ending;
 pub use script_run::{
     Ended, Ending, RunFault, check_file, ending_of, run, run_leaving, run_with_proof,
@@ -49,18 +49,22 @@ fn obey(rt: &HostRuntime, words: &[String]) -> Ending {
     match read_words(rt.alloc(), words) {
         Ok(Job::Run { file, proof }) => ending_of(run_file(rt, file, proof)),
         Ok(Job::Check { file, proof }) => ending_of(check_files(rt, file, proof)),
-        Err(refusal) => tell(rt, &refusal),
+        Err(Refusal::Parser(error)) => tell(rt, &error),
+        Err(Refusal::OneFile) => refuse(
+            rt,
+            "FILE and OUT are the same file, which would be emptied",
+        ),
     }
 }
 
-/// Tells why the words ask for no job.
-fn tell(rt: &HostRuntime, refusal: &Error) -> Ending {
-    let ending = refusal_ending(refusal.kind());
+/// Tells why the words ask for no job, as the parser has it.
+fn tell(rt: &HostRuntime, error: &Error) -> Ending {
+    let ending = refusal_ending(error.kind());
     if ending.fault.is_some() {
         return ending;
     }
-    match refusal.print(rt) {
-        Err(_) if !refusal.use_stderr() => ending_of(Err(RunFault::Write)),
+    match error.print(rt) {
+        Err(_) if !error.use_stderr() => ending_of(Err(RunFault::Write)),
         _ => ending,
     }
 }
@@ -112,7 +116,12 @@ fn unread_words(rt: &HostRuntime, kind: io::ErrorKind) -> Ending {
     if kind == io::ErrorKind::OutOfMemory {
         return ending_of(Err(RunFault::NoMemory));
     }
-    let _unsaid = eprintln!(rt; "error: the command line is not UTF-8");
+    refuse(rt, "the command line is not UTF-8")
+}
+
+/// Tells why words are refused of which the parser says nothing.
+fn refuse(rt: &HostRuntime, why: &str) -> Ending {
+    let _unsaid = eprintln!(rt; "error: {why}");
     Ending {
         status: 2,
         fault: None,

@@ -1,6 +1,6 @@
 //! What a participant asks of the buffers, as its record says it.
 
-ghost use Rattle.std.specs.Prelude.{◌≡◌, ◌≤◌, length, false, All, AllPairs};
+ghost use Rattle.std.specs.Prelude.{◌≡◌, ◌≤◌, ◌↔◌, length, false, All, AllPairs, IsTrue};
 ghost use Rattle.sysmem_memory.specs.Heap.{same_heap};
 ghost use Rattle.sysmem_sanitise.specs.Equal.{same_participant};
 ghost use Rattle.sysmem_sanitise.specs.EqualLaws.{participant_laws};
@@ -105,5 +105,11 @@ impl Constraints {
         ensures each { All IsEntry result.now }
     {
         &self.entries
+    }
+    /// Whether the other asks the same in all that it states.
+    pub fn is_same(&self, other: &Constraints) -> bool
+        ensures { IsTrue result ↔ (self.now ≡ other.now) }
+    {
+        self == other
     }
 }

@@ -1,6 +1,6 @@
 //! What a platform has, as its record says it.
 
-ghost use Rattle.std.specs.Prelude.{◌≡◌, ◌≢◌, ◌≤◌, length, false, All, AllPairs, IfOk};
+ghost use Rattle.std.specs.Prelude.{◌≡◌, ◌≢◌, ◌≤◌, ◌↔◌, length, false, All, AllPairs, IfOk, IsTrue};
 ghost use Rattle.sysmem_formats.specs.Layout.{IsTiledMisfit};
 ghost use Rattle.sysmem_memory.specs.Heap.{same_heap};
 ghost use Rattle.sysmem_sanitise.specs.Equal.{same_platform};
@@ -103,5 +103,11 @@ impl Platform {
         let pairs = Vec::from_slice(alloc, &self.pairs)?;
         let colours = Vec::from_slice(alloc, &self.colours)?;
         Ok(Platform::new(heaps, pairs, colours))
+    }
+    /// Whether the other has the same in all that it states.
+    pub fn is_same(&self, other: &Platform) -> bool
+        ensures { IsTrue result ↔ (self.now ≡ other.now) }
+    {
+        self == other
     }
 }

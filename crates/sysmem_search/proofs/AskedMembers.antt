@@ -1,8 +1,8 @@
 -- What is asked of nodes by their numbers is asked of the shape's members.
-use Rattle.std.proofs.Common.{◌≡◌, ◌<◌, ◌≤◌, ℕ, List, [], ◌∷◌, Option, Some, None, length, map, slice_get, refl, sym, ◌∙◌, ap, subst}
+use Rattle.std.proofs.Common.{◌≡◌, ◌<◌, ◌≤◌, ℕ, List, [], ◌∷◌, Option, Some, None, length, map, slice_get, refl, sym, ◌∙◌, ap}
 use Rattle.std.specs.Prelude.{IfSome, IsSome, option_map, option_and_then, IsSomeAnd}
 use Rattle.std.specs.List.{filter_map, cons_option}
-use Rattle.std.proofs.lemmas.Option.{same_Some, slice_get_within}
+use Rattle.std.proofs.lemmas.Option.{slice_get_within}
 use Rattle.sysmem_proof.specs.Members.{participants, members_at}
 use Rattle.sysmem_proof.specs.Asked.{asks_at, asked_in}
 use Rattle.sysmem_search.proofs.Shapes.{member_asks, prefix_of_numbers, same_settled, same_choices, few_choices}

@@ -1,11 +1,11 @@
 -- What a search keeps where it stands, from one choice to the next.
 use Rattle.std.proofs.Common.{◌≡◌, ◌≢◌, ◌<◌, ◌≤◌, ◌+◌, ℕ, zero, suc, List, [], ◌∷◌, ◌++◌, Option, Some, None, length, take, slice_get, slice_set, get_or, is_some, Bool, true, refl, sym, ◌∙◌, ap, subst, arith, inl, inr, length-append}
-use Rattle.std.specs.Prelude.{IfSome, IsSome, IsSomeAnd, IsPermutation, option_map, option_and_then}
+use Rattle.std.specs.Prelude.{IfSome, IsSomeAnd, IsPermutation, option_map}
 use Rattle.std.proofs.lemmas.Bool.{cases_eq}
 use Rattle.std.proofs.lemmas.List.{take_all, length-set}
 use Rattle.std.proofs.lemmas.List.Elements.{filter_map-append}
 use Rattle.std.proofs.lemmas.List.Sorted.{length_permutation}
-use Rattle.std.proofs.lemmas.Option.{same_Some, slice_get_within, option_and_then_some}
+use Rattle.std.proofs.lemmas.Option.{same_Some, slice_get_within}
 use Rattle.list_lemmas.proofs.CallerLemmas.{slice_get-set_same, slice_get-set_other, of_some}
 use Rattle.sysmem_merge.specs.Sum.{SumsInAnyOrder}
 use Rattle.sysmem_proof.specs.Base.{BaseFacts}

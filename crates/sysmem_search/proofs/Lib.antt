@@ -10,6 +10,7 @@ pub mod Accepting
 pub mod Keeping
 pub mod Entering
 pub mod Unmet
+pub mod Cut
 pub mod Refuted
 pub mod Proved
 pub mod Sharing

@@ -11,6 +11,7 @@ use Rattle.sysmem_proof.specs.Matter.{Matter, forest, terms}
 use Rattle.sysmem_proof.specs.Verdict.{IsChosen, IsForestUnmet, IsUnmetBefore}
 use Rattle.sysmem_proof.specs.declared.refutation.Item.{Item}
 use Rattle.sysmem_sanitise.specs.Platform.{PlatformFacts}
+use Rattle.sysmem_search.specs.Cut.{AreCut, IsCut}
 use Rattle.sysmem_search.specs.Question.{MeetsOf, IsBestOf}
 use Rattle.sysmem_search.specs.Refuting.{AddsRefutation}
 use Rattle.sysmem_search.specs.Standing.{Standing}
@@ -39,6 +40,13 @@ module _ (platform : PlatformFacts) (nodes : List NodeFacts) (domain : ℕ) (bas
   refuted_all q old new items is empty same h =
       let adds = subst (λ (s : Standing). IfSome (after (forest s.matter) s.choices) (λ d. AddsRefutation s.matter d old new)) is h in
       subst (IsRefutation platform (terms matter) (shape_of nodes domain)) (sym (same ∙ (adds.items ∙ ap (λ xs. xs ++ adds.refutation) empty))) adds.refutes
+
+  -- and that ends where it can
+  pub refuted_cut : (q : Standing) (old new items : List Item) → q ≡ start → old ≡ [] → items ≡ new → IfSome (after (forest q.matter) q.choices) (λ d. AddsRefutation q.matter d old new)
+      → IsCut matter (shape_of nodes domain) items
+  refuted_cut q old new items is empty same h =
+      let adds = subst (λ (s : Standing). IfSome (after (forest s.matter) s.choices) (λ d. AddsRefutation s.matter d old new)) is h in
+      subst (IsCut matter (shape_of nodes domain)) (sym (same ∙ (adds.items ∙ ap (λ xs. xs ++ adds.refutation) empty))) adds.cut
 
   module _ (selection selected : List ℕ) (s : Settings) (same : selection ≡ selected) (chosen : IsChosen (MeetsOf matter) (IsBestOf matter) (shape_of nodes domain) selected s) where
     prefix : IsPrefix (shape_of nodes domain) selection
@@ -75,3 +83,9 @@ module _ (platform : PlatformFacts) (nodes : List NodeFacts) (domain : ℕ) (bas
       before = subst (λ x. RefuseBeforeFor platform (terms matter) (settled chosen.members) x certificate) settings_same
           (before chosen.members (subst (λ xs. IsSelection (shape_of nodes domain) xs chosen.members) (sym same) chosen.selects));
     }
+
+    -- of which each refutation ends where it can
+    pub certified_cut : (q : Standing) → q ≡ start → (certificate : CertificateFacts) → AreCut q.matter (forest q.matter) selection certificate.earlier
+        → AreCut matter (shape_of nodes domain) selected certificate.earlier
+    certified_cut q is certificate cut = subst (λ xs. AreCut matter (shape_of nodes domain) xs certificate.earlier) same
+        (subst (λ (x : Standing). AreCut x.matter (forest x.matter) selection certificate.earlier) is cut)

@@ -11,10 +11,13 @@ use Rattle.sysmem_proof.specs.declared.refutation.Item.TheVariants.{Split}
 use Rattle.sysmem_proof.specs.Matter.{Matter, forest, terms}
 use Rattle.sysmem_proof.specs.Verdict.{Meeting, IsForestUnmet, IsUnmetBefore}
 use Rattle.sysmem_proof.proofs.CallerLemmas.{splits_refute, earlier_grows}
-use Rattle.sysmem_search.specs.Question.{MeetsOf}
-use Rattle.sysmem_search.specs.Refuting.{AddsRefutation, RefutesFirst}
+use Rattle.sysmem_search.specs.Question.{MeetsOf, MeetsSoFar}
+use Rattle.sysmem_search.specs.Cut.{AreCut, IsCut}
+use Rattle.sysmem_search.specs.Live.{SomeMeet}
+use Rattle.sysmem_search.specs.Refuting.{AddsRefutation, IsCutRefutation, RefutesFirst}
 use Rattle.sysmem_search.specs.Standing.{Standing}
 use Rattle.sysmem_search.proofs.AskedMembers.{if_some}
+use Rattle.sysmem_search.proofs.Cut.{earlier_cut, splits_cut, zip_to}
 use Rattle.sysmem_search.proofs.Finding.{Child, after_push, child}
 use Rattle.sysmem_search.proofs.Sofar.{some_and, and_some}
 use Rattle.sysmem_tree.specs.Forest.{Forest, choices}
@@ -113,15 +116,15 @@ module _ (m : Matter) where
   pub none_refuted : (o : Option (Forest Member)) (n : ℕ) → IfSome o (λ d. option_map length (choices d) ≡ Some n) → IfSome o (λ d. RefutesFirst m d 0 [])
   none_refuted None n many = tt
   none_refuted (Some d) n many = by (choices d) many where
-    by : (o : Option (List (Forest Member))) → option_map length o ≡ Some n → IsSomeAnd o (λ es. AllZip (IsRefutation m.platform (terms m)) (take 0 es) [])
+    by : (o : Option (List (Forest Member))) → option_map length o ≡ Some n → IsSomeAnd o (λ es. AllZip (IsCutRefutation m) (take 0 es) [])
     by None e = absurd (cc)
     by (Some es) e = tt
 
   -- one more is
   one_refuted : (d e : Forest Member) (es : List (Forest Member)) (c : ℕ) (rs : List (List Item)) (r : List Item) → choices d ≡ Some es → slice_get es c ≡ Some e → RefutesFirst m d c rs
-      → IsRefutation m.platform (terms m) e r → RefutesFirst m d (c + 1) (rs ++ r ∷ [])
-  one_refuted d e es c rs r open' here so refutes = and_some (λ xs. AllZip (IsRefutation m.platform (terms m)) (take (c + 1) xs) (rs ++ r ∷ [])) (choices d) es open'
-      (rw add-one (zip_push (IsRefutation m.platform (terms m)) es rs c e r (some_and (λ xs. AllZip (IsRefutation m.platform (terms m)) (take c xs) rs) (choices d) es open' so) here refutes))
+      → IsCutRefutation m e r → RefutesFirst m d (c + 1) (rs ++ r ∷ [])
+  one_refuted d e es c rs r open' here so refutes = and_some (λ xs. AllZip (IsCutRefutation m) (take (c + 1) xs) (rs ++ r ∷ [])) (choices d) es open'
+      (rw add-one (zip_push (IsCutRefutation m) es rs c e r (some_and (λ xs. AllZip (IsCutRefutation m) (take c xs) rs) (choices d) es open' so) here refutes))
 
   -- the split of the first group joined the items, and refutations of its first choices
   pub record AddsChoices (d : Forest Member) (c : ℕ) (old new : List Item) : Type 0 where
@@ -153,23 +156,26 @@ module _ (m : Matter) where
     items = adds.items ∙ (ap (λ xs. xs ++ adds.refutation) so.items
         ∙ (append_assoc old (Split (length so.alternatives) ∷ flat_map (λ xs. xs) so.refutations) adds.refutation
         ∙ ap (λ xs. old ++ Split (length so.alternatives) ∷ xs) (flat_map_more (λ xs. xs) [] so.refutations adds.refutation)));
-    refuted = one_refuted d e so.alternatives c so.refutations adds.refutation so.open' here so.refuted adds.refutes;
+    refuted = one_refuted d e so.alternatives c so.refutations adds.refutation so.open' here so.refuted (adds.refutes, adds.cut);
   }
 
   -- behind the last choice
   pub all_choices_added : (o : Option (Forest Member)) (c n : ℕ) (old new : List Item) → n ≤ c → c ≤ n → IfSome o (λ d. option_map length (choices d) ≡ Some n)
-      → IfSome o (λ d. AddsChoices d c old new) → IfSome o (λ d. AddsRefutation m d old new)
-  all_choices_added None c n old new over up many so = tt
-  all_choices_added (Some d) c n old new over up many so =
+      → IfSome o (SomeMeet (MeetsSoFar m)) → IfSome o (λ d. AddsChoices d c old new) → IfSome o (λ d. AddsRefutation m d old new)
+  all_choices_added None c n old new over up many met so = tt
+  all_choices_added (Some d) c n old new over up many met so =
       let long : Some (length so.alternatives) ≡ Some n = ap (option_map length) (sym so.open') ∙ many in
       let l : length so.alternatives ≡ n = same_Some (length so.alternatives) n long in
       let all : c ≡ length so.alternatives = omega (arith, l, over, up) in
-      let zip = some_and (λ xs. AllZip (IsRefutation m.platform (terms m)) (take c xs) so.refutations) (choices d) so.alternatives so.open' so.refuted in
+      let zip = some_and (λ xs. AllZip (IsCutRefutation m) (take c xs) so.refutations) (choices d) so.alternatives so.open' so.refuted in
+      let each = subst (λ xs. AllZip (IsCutRefutation m) xs so.refutations) (ap (λ k. take k so.alternatives) all ∙ take_all so.alternatives) zip in
+      let refuted = zip_to (IsCutRefutation m) (IsRefutation m.platform (terms m)) (λ e items h. h.0) so.alternatives so.refutations each in
       record {
         refutation = Split (length so.alternatives) ∷ flat_map (λ xs. xs) so.refutations;
         items = so.items;
-        refutes = splits_refute (IsConflictFor m.platform (terms m)) d so.alternatives so.refutations so.open'
-            (subst (λ xs. AllZip (IsRefutation m.platform (terms m)) xs so.refutations) (ap (λ k. take k so.alternatives) all ∙ take_all so.alternatives) zip);
+        refutes = splits_refute (IsConflictFor m.platform (terms m)) d so.alternatives so.refutations so.open' refuted;
+        cut = splits_cut (MeetsSoFar m) (IsConflictFor m.platform (terms m)) d so.alternatives so.refutations so.open' met refuted
+            (zip_to (IsCutRefutation m) (IsCut m) (λ e items h. h.1) so.alternatives so.refutations each);
       } where
         take_all : {A : Type 0} (xs : List A) → take (length xs) xs ≡ xs
         take_all [] = refl
@@ -209,7 +215,7 @@ module _ (m : Matter) (cs pushed : List ℕ) (c n : ℕ) (prefix : IsPrefix (for
       → IfSome (after (forest m) pushed) (λ e. AddsRefutation m e none items) → IfSome (after (forest m) cs) (λ d. RefutesFirst m d (c + 1) (rs ++ r ∷ []))
   choice_refuted rs none items r empty same = of_both (λ d. RefutesFirst m d c rs) (λ e. AddsRefutation m e none items) (λ d. RefutesFirst m d (c + 1) (rs ++ r ∷ []))
       (λ so adds. one_refuted m next.forest_here next.child next.alternatives c rs r next.open' next.here so
-      (subst (IsRefutation m.platform (terms m) next.child) (sym (same ∙ (adds.items ∙ ap (λ xs. xs ++ adds.refutation) empty))) adds.refutes))
+      (subst (IsCutRefutation m next.child) (sym (same ∙ (adds.items ∙ ap (λ xs. xs ++ adds.refutation) empty))) (adds.refutes, adds.cut)))
 
 -- a search that has made no choice
 pub at_start : (q : Standing) → q.choices ≡ [] → q ≡ record { matter = q.matter; choices = [] }
@@ -244,6 +250,7 @@ pub record OnWay (m : Matter) (selection : List ℕ) (k : ℕ) (earlier : List (
   pub unmet : IsUnmetBefore (MeetsOf m) here (drop k selection)
   pub refuted : (rss : List (List (List Item))) → RefutesEarlier (IsConflictFor m.platform (terms m)) here (drop k selection) rss
       → RefutesEarlier (IsConflictFor m.platform (terms m)) (forest m) selection (earlier ++ rss)
+  pub cut : (rss : List (List (List Item))) → AreCut m here (drop k selection) rss → AreCut m (forest m) selection (earlier ++ rss)
 
 pub way_begun : (m : Matter) (selection : List ℕ) (earlier : List (List (List Item))) → earlier ≡ [] → IsPrefix (forest m) selection → IsUnmetBefore (MeetsOf m) (forest m) selection → OnWay m selection 0 earlier
 way_begun m selection earlier none prefix unmet = record {
@@ -252,12 +259,16 @@ way_begun m selection earlier none prefix unmet = record {
   goes_on = prefix;
   unmet = unmet;
   refuted = λ rss r. subst (λ xs. RefutesEarlier (IsConflictFor m.platform (terms m)) (forest m) selection (xs ++ rss)) (sym none) r;
+  cut = λ rss r. subst (λ xs. AreCut m (forest m) selection (xs ++ rss)) (sym none) r;
 }
 
 pub way_ended : (m : Matter) (selection : List ℕ) (k : ℕ) (earlier : List (List (List Item))) → OnWay m selection k earlier → drop k selection ≡ []
     → RefutesEarlier (IsConflictFor m.platform (terms m)) (forest m) selection earlier
 way_ended m selection k earlier way none = subst (RefutesEarlier (IsConflictFor m.platform (terms m)) (forest m) selection) (append-nil earlier)
     (way.refuted [] (subst (λ xs. RefutesEarlier (IsConflictFor m.platform (terms m)) way.here xs []) (sym none) tt))
+
+pub way_cut : (m : Matter) (selection : List ℕ) (k : ℕ) (earlier : List (List (List Item))) → OnWay m selection k earlier → drop k selection ≡ [] → AreCut m (forest m) selection earlier
+way_cut m selection k earlier way none = subst (AreCut m (forest m) selection) (append-nil earlier) (way.cut [] (subst (λ xs. AreCut m way.here xs []) (sym none) tt))
 
 module _ (m : Matter) (selection : List ℕ) (k c : ℕ) (earlier : List (List (List Item))) (way : OnWay m selection k earlier) (begins : drop k selection ≡ c ∷ drop (k + 1) selection)
     (ends : take (k + 1) selection ≡ take k selection ++ c ∷ []) where
@@ -286,8 +297,13 @@ module _ (m : Matter) (selection : List ℕ) (k c : ℕ) (earlier : List (List (
     unmet = rest_unmet (MeetsOf m) way.here first.child first.alternatives c first.open' first.here (drop (k + 1) selection) (subst (IsUnmetBefore (MeetsOf m) way.here) begins way.unmet);
     refuted = λ rss r. subst (RefutesEarlier (IsConflictFor m.platform (terms m)) (forest m) selection) (sym (ap (λ xs. xs ++ rss) is ∙ append_assoc earlier (rs ∷ []) rss))
         (way.refuted (rs ∷ rss) (subst (λ xs. RefutesEarlier (IsConflictFor m.platform (terms m)) way.here xs (rs ∷ rss)) (sym begins)
-        (earlier_grows (IsConflictFor m.platform (terms m)) way.here first.child first.alternatives c (drop (k + 1) selection) rs rss first.open' first.here zip r)));
+        (earlier_grows (IsConflictFor m.platform (terms m)) way.here first.child first.alternatives c (drop (k + 1) selection) rs rss first.open' first.here
+        (zip_to (IsCutRefutation m) (IsRefutation m.platform (terms m)) (λ e items h. h.0) (take c first.alternatives) rs zip) r)));
+    cut = λ rss r. subst (AreCut m (forest m) selection) (sym (ap (λ xs. xs ++ rss) is ∙ append_assoc earlier (rs ∷ []) rss))
+        (way.cut (rs ∷ rss) (subst (λ xs. AreCut m way.here xs (rs ∷ rss)) (sym begins)
+        (earlier_cut m way.here first.child first.alternatives c (drop (k + 1) selection) rs rss first.open' first.here
+        (zip_to (IsCutRefutation m) (IsCut m) (λ e items h. h.1) (take c first.alternatives) rs zip) r)));
   } where
-    zip : AllZip (IsRefutation m.platform (terms m)) (take c first.alternatives) rs
-    zip = some_and (λ xs. AllZip (IsRefutation m.platform (terms m)) (take c xs) rs) (choices way.here) first.alternatives first.open'
+    zip : AllZip (IsCutRefutation m) (take c first.alternatives) rs
+    zip = some_and (λ xs. AllZip (IsCutRefutation m) (take c xs) rs) (choices way.here) first.alternatives first.open'
         (of_some (λ d. RefutesFirst m d c rs) (after (forest m) (take k selection)) way.here way.leads refuted)

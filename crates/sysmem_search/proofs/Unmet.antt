@@ -52,6 +52,10 @@ unmet_prefix m o n met no' many asked = if_some _ o (λ d here. by d (choices d)
       by d None open' e asked = absurd (cc)
       by d (Some es) open' e asked = none_before m d es open' (λ t meets. not_true met no' (asked.1 (t, meets)))
 
+-- what is told to be met is
+pub met_prefix : (m : Matter) (o : Option (Forest Member)) (met : Bool) → met ≡ true → IfSome o (λ d. IsTrue met ↔ SomeMeet (MeetsSoFar m) d) → IfSome o (SomeMeet (MeetsSoFar m))
+met_prefix m o met is asked = if_some (SomeMeet (MeetsSoFar m)) o (λ d here. (of_some (λ x. IsTrue met ↔ SomeMeet (MeetsSoFar m) x) o d here asked).0 is)
+
 -- no group is left exactly where no children of one are told
 pub none_are_left : (m : Matter) (cs : List ℕ) (told : Option ℕ) (t : Bool) (d : Forest Member) → after (forest m) cs ≡ Some d → is_some told ≡ not t
     → IfSome (after (forest m) cs) (λ e. option_map length (choices e) ≡ told) → t ≡ is_none (choices d)

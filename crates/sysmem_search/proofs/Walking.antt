@@ -1,19 +1,13 @@
 -- What a walk over a layout has yet to give, and what one choice more settles.
-use Rattle.std.proofs.Common.{◌≡◌, ◌≢◌, ◌<◌, ◌≤◌, true, false, eqb, inl, inr, ℕ, suc, ◌+◌, List, [], ◌∷◌, ◌++◌, Option, Some, None, length, slice_get, refl, sym, ◌∙◌, ap, subst, arith, append_assoc}
-use Rattle.std.specs.Prelude.{◌||◌, All, AllPairs, IfSome, IsSomeAnd, MatchOption, slice_index_or}
+use Rattle.std.proofs.Common.{◌≡◌, ◌≢◌, ◌≤◌, ℕ, ◌+◌, List, [], ◌∷◌, ◌++◌, Option, Some, length, sym, ◌∙◌, ap, subst, arith, append_assoc}
+use Rattle.std.specs.Prelude.{MatchOption}
 use Rattle.std.proofs.lemmas.List.{append-nil}
-use Rattle.std.proofs.lemmas.Option.{same_Some, slice_get_within}
-use Rattle.std.specs.List.{AllByRecursion, IsDistinct, list_any}
-use Rattle.std.proofs.lemmas.Bool.{cases_eq, ne_eqb}
-use Rattle.std.proofs.lemmas.Map.Steps.{length-le_from_distinct_below}
-use Rattle.sysmem_proof.specs.Base.{BaseFacts, IsElsewhere, IsGivenBase}
+use Rattle.sysmem_proof.specs.Base.{BaseFacts, IsGivenBase}
 use Rattle.sysmem_sanitise.specs.Platform.{PlatformFacts}
 use Rattle.sysmem_tree.specs.Node.{NodeFacts}
-use Rattle.sysmem_tree.specs.Nodes.{HasNode}
 use Rattle.sysmem_tree.specs.declared.layout.Layout.{Layout}
-use Rattle.sysmem_tree.specs.declared.layout.Place.{Place}
 use Rattle.sysmem_tree.specs.declared.open_groups.SettledNodes.{SettledNodes}
-use Rattle.sysmem_tree.specs.OpenGroups.{WalksTo, HasLeft, place_after}
+use Rattle.sysmem_tree.specs.OpenGroups.{HasLeft}
 use Rattle.sysmem_tree.proofs.CallerLemmas.{few_different, named_there}
 
 -- what is left of a walk after so many steps, beside what was taken

@@ -4,5 +4,6 @@ pub mod Question
 pub mod Kept
 pub mod Standing
 pub mod Searching
+pub mod Cut
 pub mod Refuting
 pub mod Wide

@@ -6,6 +6,7 @@ ghost use Rattle.sysmem_proof.specs.Claim.{IsProofIn};
 ghost use Rattle.sysmem_proof.specs.Verdict.{IsOptimalIn};
 ghost use Rattle.sysmem_proof.specs.declared.certificate.Proof.TheVariants as proves;
 ghost use Rattle.sysmem_proof.specs.declared.verdict.Verdict.TheVariants as verdicts;
+ghost use Rattle.sysmem_search.specs.Cut.{IsCutProof};
 ghost use Rattle.sysmem_tree.specs.Domain.{HasDomain};
 
 use crate::question::Question;
@@ -18,7 +19,8 @@ use sysmem_tree::{DomainId, Tree};
 
 /// What proves a verdict that is optimal for a domain, for an attached one on the base that is given: of a choice refutations of each choice
 /// before those of its selection, and lines that refuse each offer and each place before those of its settings; where no settings meet any
-/// selection a refutation of the whole domain; of more than 4,096 selections nothing. `AllocError` where memory is refused.
+/// selection a refutation of the whole domain; of more than 4,096 selections nothing. A refutation is no longer than it needs to be: it
+/// splits a group only where settings meet what was chosen before. `AllocError` where memory is refused.
 pub fn prove(
     alloc: Global,
     platform: &Platform,
@@ -35,6 +37,12 @@ pub fn prove(
     ensures proved { IfOk result (λ proof.
         IsProofIn platform.now tree.now.nodes domain (option_map (λ b. b.now) base.entry)
         verdict.now proof) }
+    ensures cut { IfOk result (λ proof. IsCutProof (record {
+      platform = platform.now;
+      nodes = tree.now.nodes;
+      domain = domain;
+      base = option_map (λ b. b.now) base.entry;
+    }) verdict.now proof) }
 {
     match verdict {
         Verdict::Chosen(chosen) => {
@@ -66,6 +74,12 @@ fn certify(
     ensures proved { IfOk result (λ certificate.
         IsProofIn platform.now tree.now.nodes domain (option_map (λ b. b.now) base.entry)
         (verdicts.Chosen chosen.now) (proves.Choice certificate)) }
+    ensures cut { IfOk result (λ certificate. IsCutProof (record {
+      platform = platform.now;
+      nodes = tree.now.nodes;
+      domain = domain;
+      base = option_map (λ b. b.now) base.entry;
+    }) (verdicts.Chosen chosen.now) (proves.Choice certificate)) }
 {
     few_choices();
     tree.nodes();
@@ -93,6 +107,12 @@ fn refute(
     ensures proved { IfOk result (λ refutation.
         IsProofIn platform.now tree.now.nodes domain (option_map (λ b. b.now) base.entry)
         verdicts.IntersectionEmpty (proves.Empty refutation)) }
+    ensures cut { IfOk result (λ refutation. IsCutProof (record {
+      platform = platform.now;
+      nodes = tree.now.nodes;
+      domain = domain;
+      base = option_map (λ b. b.now) base.entry;
+    }) verdicts.IntersectionEmpty (proves.Empty refutation)) }
 {
     let mut question = Question::new(alloc, platform, tree, domain, base)?;
     let mut items = Vec::new(alloc);

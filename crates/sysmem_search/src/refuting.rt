@@ -6,6 +6,7 @@ ghost use Rattle.sysmem_proof.specs.Certificate.{RefutesEarlier};
 ghost use Rattle.sysmem_proof.specs.Conflict.{IsConflictFor};
 ghost use Rattle.sysmem_proof.specs.Matter.{forest, terms};
 ghost use Rattle.sysmem_proof.specs.Verdict.{IsForestUnmet, IsUnmetBefore};
+ghost use Rattle.sysmem_search.specs.Cut.{AreCut};
 ghost use Rattle.sysmem_search.specs.Question.{MeetsOf, MeetsHere};
 ghost use Rattle.sysmem_search.specs.Refuting.{AddsRefutation, RefutesFirst};
 ghost use Rattle.sysmem_tree.specs.Selection.{IsPrefix, after};
@@ -29,6 +30,7 @@ fn refute_here(question: &Question<'_>, items: &mut Vec<Item>) -> Result<(), All
 
 /// Adds a refutation of all that goes on from the question's choices, where no settings meet any selection there: a conflict where they are
 /// a selection or what they settle can't be met, else a split and a refutation of each choice for the next group. The choices are as before.
+/// So each split stands where what is settled can be met.
 pub(crate) fn refute_from(
     question: &mut Question<'_>,
     items: &mut Vec<Item>,
@@ -96,9 +98,11 @@ pub(crate) fn refute_earlier(
     requires prefix { IsPrefix (forest question.old.matter) selection.now }
     requires unmet { IsUnmetBefore (MeetsOf question.old.matter) (forest question.old.matter)
         selection.now }
-    ensures { IfOk result (λ earlier.
+    ensures refuted { IfOk result (λ earlier.
         RefutesEarlier (IsConflictFor question.old.matter.platform (terms question.old.matter))
         (forest question.old.matter) selection.now earlier.items) }
+    ensures cut { IfOk result (λ earlier.
+        AreCut question.old.matter (forest question.old.matter) selection.now earlier.items) }
 {
     let mut earlier = Vec::new(alloc);
     for choice in selection.choices() {

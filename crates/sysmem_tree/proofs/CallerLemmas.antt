@@ -6,6 +6,7 @@ pub use Rattle.sysmem_tree.proofs.Few.{few_numbers, forest_here}
 pub use Rattle.sysmem_tree.proofs.Kids.{is_under}
 pub use Rattle.sysmem_tree.proofs.Layouts.{size_tree}
 pub use Rattle.sysmem_tree.proofs.Numbers.{numbers, front}
+pub use Rattle.sysmem_tree.proofs.Staying.{numbers_stay}
 pub use Rattle.sysmem_tree.proofs.Steps.{led_kid, node_within}
 pub use Rattle.sysmem_tree.proofs.Readiness.{decision_acted, decision_by, home_root}
 pub use Rattle.sysmem_tree.proofs.Walked.{gives_same, named_there, some_open}

@@ -53,3 +53,8 @@ pub mod Different
 pub mod Picking
 pub mod Failing
 pub mod Walked
+pub mod Staying
+pub mod Prefixes
+pub mod PathsUp
+pub mod Levels
+pub mod LaidSame

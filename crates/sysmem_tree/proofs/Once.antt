@@ -30,7 +30,7 @@ labels_relabel f (Plain n kids rest) = rw (labels_relabel f kids, labels_relabel
 labels_relabel f (Group n kids rest) = rw (labels_relabel f kids, labels_relabel f rest) (ap (λ xs. f n ∷ xs) (sym (map-append f (labels kids) (labels rest))))
 
 -- a label's path leads to its node, which is in the domain and is what it shows
-record Leads (nodes : List NodeFacts) (r : ℕ) (l : ℕ × Member) : Type 0 where
+pub record Leads (nodes : List NodeFacts) (r : ℕ) (l : ℕ × Member) : Type 0 where
   leads : node_at nodes l.1.path ≡ Some l.0
   node : NodeFacts
   here : slice_get nodes l.0 ≡ Some node
@@ -69,7 +69,7 @@ module _ (all : List NodeFacts) (tree : IsTree all) (r : ℕ) where
             (record { leads = on; node = n; here = here; home = home; shows = refl }, all_append (Leads all r) (labels kids) (labels behind) (rest i (path ++ o ∷ []) on) (rest p path leads))
 
   -- and so do those of a whole domain
-  labels_lead : HasDomain all r → AllByRecursion (Leads all r) (labels (forest_of by_both all r (path_of all r)))
+  pub labels_lead : HasDomain all r → AllByRecursion (Leads all r) (labels (forest_of by_both all r (path_of all r)))
   labels_lead has =
       let (n, here, home) = there (λ (z : NodeFacts). z.domain ≡ r) (slice_get all r) has in
       let leads = path_leads all tree r (slice_get_within all r n here) in
@@ -138,7 +138,7 @@ members_stand_once nodes r cs tree has =
     }
 
 -- a label is what is shown of its node
-is_shown : (nodes : List NodeFacts) → IsTree nodes → (r : ℕ) (l : ℕ × Member) → Leads nodes r l → shown_at nodes l.0 ≡ Some l.1
+pub is_shown : (nodes : List NodeFacts) → IsTree nodes → (r : ℕ) (l : ℕ × Member) → Leads nodes r l → shown_at nodes l.0 ≡ Some l.1
 is_shown nodes tree r l h = ap (option_map (by_path l.0 (path_of nodes l.0))) h.here ∙ ap (λ m. Some m) (ap (λ path. by_path l.0 path h.node) (path_is nodes tree l.1.path l.0 h.leads) ∙ h.shows)
 
 pub members_stay : (old new : List NodeFacts) (r : ℕ) (cs : List ℕ) → IsTree old → IsTree new → HasDomain old r → HasDomain new r → IsSameDomain old new r

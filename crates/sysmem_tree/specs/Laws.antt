@@ -1,13 +1,13 @@
 -- What is true of trees, whoever makes them.
-use Rattle.std.specs.Prelude.{◌≡◌, ◌≢◌, ◌<◌, ◌≤◌, ◌⊎◌, ◌++◌, ℕ, suc, max, true, List, [], ◌∷◌, length, AllPairs, Some, None, Ok, map, option_map, slice_get}
+use Rattle.std.specs.Prelude.{◌≡◌, ◌≢◌, ◌<◌, ◌≤◌, ◌⊎◌, ◌++◌, ℕ, suc, max, true, List, [], ◌∷◌, length, AllPairs, Option, Some, None, Ok, map, option_map, slice_get}
 use Rattle.sysmem_tree.specs.Sublist.{IsSublist}
 use Rattle.sysmem_tree.specs.ActionKind.{Deed}
 use Rattle.sysmem_tree.specs.Domain.{TreeFacts, HasDomain, has_failed, is_complete, is_ready, IsSoundTree}
 use Rattle.sysmem_tree.specs.Forest.{Forest, Empty, Plain, Group, choices, settled, relabel, count, total, first_group}
 use Rattle.sysmem_tree.specs.History.{HistoryEntry, Accepts, after_entry, AreAccepted, replay, log_at, SameCalls, NoEarlyClose}
 use Rattle.sysmem_tree.specs.Node.{NodeFacts}
-use Rattle.sysmem_tree.specs.Nodes.{IsTree}
-use Rattle.sysmem_tree.specs.Path.{node_at, path_of, at_path}
+use Rattle.sysmem_tree.specs.Nodes.{HasNode, IsTree}
+use Rattle.sysmem_tree.specs.Path.{birth_of, node_at, path_of, at_path}
 use Rattle.sysmem_tree.specs.Selection.{after, IsPrefix, IsSelection, IsEarlierSelection}
 use Rattle.sysmem_tree.specs.Shape.{Member, Labels, by_number, by_path, forest_of, shape_of, members_of}
 use Rattle.sysmem_tree.specs.Step.{IsStep, IsMapOf, IsInitial}
@@ -47,6 +47,22 @@ OneForest = (nodes : List NodeFacts) (r : ℕ) → AreOneForest nodes r
 -- what is true of each tree stays true, by accepted actions and by decisions
 abbrev pub SoundStays : Type 0
 SoundStays = (t : TreeFacts) (e : HistoryEntry) → IsSoundTree t → Accepts t e → IsSoundTree (after_entry t e)
+
+-- the domain of node i, by its root; none where there is no such node
+abbrev pub domain_of : List NodeFacts → ℕ → Option ℕ
+domain_of nodes i = option_map (λ n. n.domain) (slice_get nodes i)
+
+-- there are no fewer nodes: each that was there keeps its number, and with it its path, its parent, which child it is, and its domain
+pub record AreStill (old new : List NodeFacts) : Type 0 where
+  pub grows : length old ≤ length new
+  pub path : (i : ℕ) → HasNode old i → path_of new i ≡ path_of old i
+  pub birth : (i : ℕ) → HasNode old i → birth_of new i ≡ birth_of old i
+  pub domain : (i : ℕ) → HasNode old i → domain_of new i ≡ domain_of old i
+  pub root : (r : ℕ) → HasDomain old r → HasDomain new r
+
+-- numbers stay, by actions and by decisions
+abbrev pub NumbersStay : Type 0
+NumbersStay = (t : TreeFacts) (e : HistoryEntry) → IsTree t.nodes → Accepts t e → AreStill t.nodes (after_entry t e).nodes
 
 -- once ready a domain stays so, by actions and by decisions
 abbrev pub ReadyStays : Type 0

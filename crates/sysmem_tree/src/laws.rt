@@ -1,6 +1,6 @@
 //! What is true of trees, whoever makes them.
 
-ghost use Rattle.sysmem_tree.specs.Laws.{OnePath, ActionIsStep, SameMapSameShape, OneForest, SoundStays, ReadyStays, FailedStays, ForestStays, PathsInShapesDiffer, FewGroupsNest, SettledGrows, Counts, FirstGroup, SelectionsAreListed, OneIsEarlier, EarlierIsAnOrder, PrefixOfPrefix, Relabels, MapsOfLogs, InitialShape, Confluence};
+ghost use Rattle.sysmem_tree.specs.Laws.{OnePath, ActionIsStep, SameMapSameShape, OneForest, SoundStays, NumbersStay, ReadyStays, FailedStays, ForestStays, PathsInShapesDiffer, FewGroupsNest, SettledGrows, Counts, FirstGroup, SelectionsAreListed, OneIsEarlier, EarlierIsAnOrder, PrefixOfPrefix, Relabels, MapsOfLogs, InitialShape, Confluence};
 ghost use Rattle.sysmem_tree.specs.Members.{MembersStandOnce, MembersStay};
 
 /// Each node has one path.
@@ -27,6 +27,12 @@ pub fn one_forest()
 /// What is true of each tree stays true, by accepted actions and by decisions.
 pub fn sound_stays()
     ensures { SoundStays }
+{}
+
+/// A node keeps its number, its path, its parent and its domain, and a domain its root, by accepted
+/// actions and by decisions.
+pub fn numbers_stay()
+    ensures { NumbersStay }
 {}
 
 /// Once ready a domain stays so, by actions and by decisions.

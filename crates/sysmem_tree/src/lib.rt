@@ -33,6 +33,7 @@ mod prefix;
 mod refusal;
 mod selecting;
 mod settled;
+mod shapes;
 mod standing;
 mod state;
 mod sweep;

@@ -8,13 +8,13 @@ ghost use Rattle.sysmem_tree.specs.Layout.{IsLayout};
 ghost use Rattle.sysmem_tree.specs.Nodes.{HasNode};
 ghost use Rattle.sysmem_tree.specs.OpenGroups.{HoldsNodes};
 ghost use Rattle.sysmem_tree.specs.Selection.{IsPrefix, after};
-ghost use Rattle.sysmem_tree.specs.Shape.{by_number, forest_of, participants_of};
+ghost use Rattle.sysmem_tree.specs.Shape.{by_number, forest_of, members_of, participants_of};
 
 use crate::count::count_selections;
 use crate::id::{DomainId, NodeId};
 use crate::layout::Layout;
 use crate::prefix::Prefix;
-use crate::settled::is_settled;
+use crate::settled::{is_member, is_settled};
 use crate::tree::Tree;
 
 impl Tree {
@@ -59,5 +59,14 @@ impl Tree {
             ≡ list_any (λ i. i == node) (participants_of self.now.nodes domain prefix.now) }
     {
         self.constraints_of(node).is_some() && is_settled(&self.nodes, domain.0, prefix, node.0)
+    }
+    /// Whether a node is a member of the selection that these choices make in a domain of the tree.
+    /// Where they are no choices for its first groups, none is.
+    pub fn is_member(&self, domain: DomainId, choices: &Prefix, node: NodeId) -> bool
+        requires { HasDomain self.now.nodes domain }
+        ensures { result
+            ≡ list_any (λ k. k == node) (members_of self.now.nodes domain choices.now) }
+    {
+        is_member(&self.nodes, domain.0, choices, node.0)
     }
 }

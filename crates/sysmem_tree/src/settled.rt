@@ -1,6 +1,6 @@
 //! Which nodes of a domain are settled by choices for its first groups.
 
-ghost use Rattle.std.specs.Prelude.{◌≡◌, ◌≤◌, ◌<◌, ◌+◌, ◌==◌, ℕ, Bool, Option, [], length, IfSome, if◌then◌else◌};
+ghost use Rattle.std.specs.Prelude.{◌≡◌, ◌≤◌, ◌<◌, ◌+◌, ◌==◌, ℕ, Bool, Option, [], length, is_some, IfSome, if◌then◌else◌};
 ghost use Rattle.std.specs.List.{list_any};
 ghost use Rattle.sysmem_tree.specs.Forest.{Forest, settled as settled_of};
 ghost use Rattle.sysmem_tree.specs.Layout.{Spot, AreLaid, IsLayout, start};
@@ -75,4 +75,33 @@ pub(crate) fn is_settled(nodes: &[Node], root: usize, prefix: &Prefix, node: usi
 {
     let layout = Layout::new(nodes, root);
     settles_after(&layout, prefix.choices(), node)
+}
+
+/// Whether the choices are choices for the first groups in effect.
+fn is_prefix(layout: &Layout, choices: &[u8]) -> bool
+    requires { (d : Forest ℕ) × IsLayout layout.now d }
+    ensures { (d : Forest ℕ) → IsLayout layout.now d → result ≡ is_some (after d choices.now) }
+{
+    let mut group = layout.first_open();
+    for choice in choices {
+        let Some(at) = group else {
+            return false;
+        };
+        let (_, children) = layout.group_at(at);
+        if u32::from(*choice) >= children {
+            return false;
+        }
+        group = layout.open_after(layout.child_at(at, *choice));
+    }
+    true
+}
+
+/// Whether the node is a member of the selection that the choices make in the domain of this root.
+pub(crate) fn is_member(nodes: &[Node], root: usize, choices: &Prefix, node: usize) -> bool
+    requires tree { IsTree nodes.now }
+    requires there { root < length nodes.now }
+    ensures { result ≡ list_any (λ i. i == node) (members_of nodes.now root choices.now) }
+{
+    let layout = Layout::new(nodes, root);
+    is_prefix(&layout, choices.choices()) && settles_after(&layout, choices.choices(), node)
 }

@@ -10,7 +10,7 @@ use crate::state::{NodeKind, NodeState};
 
 impl NodeState {
     /// An open node of this kind without children.
-    pub(crate) fn fresh(kind: NodeKind) -> NodeState
+    pub fn fresh(kind: NodeKind) -> NodeState
         ensures { result ≡ node.fresh kind }
     {
         NodeState {
@@ -22,8 +22,9 @@ impl NodeState {
         }
     }
 
-    /// Whether the state allows the action.
-    pub(crate) fn allows(&self, action: ActionKind) -> bool
+    /// Whether the state allows the action. A domain that has failed, or a decision that left the
+    /// node out, refuses actions beyond that.
+    pub fn allows(&self, action: ActionKind) -> bool
         ensures { result ≡ table.allows action self.now }
     {
         self.is_open
@@ -43,14 +44,15 @@ impl NodeState {
     }
 
     /// Whether the action wants a child, and there is none.
-    pub(crate) fn wants_child(&self, action: ActionKind) -> bool
+    pub fn wants_child(&self, action: ActionKind) -> bool
         ensures { result ≡ table.wants_child action self.now }
     {
         action == ActionKind::AllChildrenPresent && self.children == 0
     }
 
-    /// What the action makes of it.
-    pub(crate) fn act(&mut self, action: ActionKind)
+    /// Makes of it what the action does, whether it is allowed or not. The constraints that an
+    /// action sets are no part of it.
+    pub fn act(&mut self, action: ActionKind)
         requires room { self.old.children < 128 }
         ensures { self.new ≡ table.state_after action self.old }
     {
@@ -80,7 +82,7 @@ impl NodeState {
 
 impl ActionKind {
     /// The node that the action makes, if any, as it is then.
-    pub(crate) fn makes(self) -> Option<NodeState>
+    pub fn makes(self) -> Option<NodeState>
         ensures { result ≡ table.makes self }
     {
         match self {

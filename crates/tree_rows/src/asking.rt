@@ -59,6 +59,29 @@ pub(crate) fn settled(
     Ok(text)
 }
 
+/// The nodes that choices settle.
+pub(crate) fn members(
+    alloc: Global,
+    tree: &Tree,
+    domain: DomainId,
+    choices: &Prefix,
+) -> Result<String>
+    requires { HasDomain tree.now.nodes domain }
+{
+    let mut text = String::new(alloc);
+    text.push_str("members")?;
+    for path in &all_paths(alloc, tree)? {
+        let Some(node) = tree.node_at(path.ordinals()) else {
+            continue;
+        };
+        if tree.is_member(domain, choices, node) {
+            text.push(' ')?;
+            push_path(&mut text, path)?;
+        }
+    }
+    Ok(text)
+}
+
 /// The nodes of a domain, with their kinds and whether they set constraints, as a copy of the tree has them.
 pub(crate) fn shape(alloc: Global, tree: &Tree, domain: DomainId) -> Result<String> {
     let tree = tree.copy()?;

@@ -5,7 +5,7 @@ ghost use Rattle.sysmem_tree.specs.Domain.{HasDomain};
 ghost use Rattle.sysmem_tree.specs.Selection.{IsPrefix};
 ghost use Rattle.sysmem_tree.specs.Shape.{by_number, forest_of};
 
-use anyhow::Result;
+use anyhow::{Result, bail};
 use sysmem_tree::{DomainId, Fate, Prefix, Tree};
 
 /// One choice more, of a child of the group that is next; `None` where no group is left or it has no such child.
@@ -43,6 +43,21 @@ pub(crate) fn prefix_of(tree: &Tree, domain: DomainId, text: &str) -> Result<Opt
         prefix = longer;
     }
     Ok(Some(prefix))
+}
+
+/// The choices of a text such as `-` or `0.2`, whether some domain has such a prefix or not.
+pub(crate) fn choices_of(text: &str) -> Result<Prefix> {
+    let mut choices = Prefix::new();
+    if text == "-" {
+        return Ok(choices);
+    }
+    for choice in text.split('.') {
+        if choices.is_full() {
+            bail!("{text:?} has too many choices");
+        }
+        choices.push(choice.parse::<u8>()?);
+    }
+    Ok(choices)
 }
 
 /// Decides a domain for a selection, or for none; says why not where it can't be decided so.

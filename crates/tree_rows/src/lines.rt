@@ -3,8 +3,8 @@
 ghost use Rattle.sysmem_tree.specs.Nodes.{HasNode};
 
 use crate::actions::{action_of, push_domains};
-use crate::asking::{next_group, settled, shape};
-use crate::choosing::{decide, prefix_of};
+use crate::asking::{members, next_group, settled, shape};
+use crate::choosing::{choices_of, decide, prefix_of};
 use crate::paths::node_at;
 use crate::walking::walk;
 use anyhow::{Result, bail};
@@ -30,6 +30,9 @@ fn chosen(alloc: Global, tree: &mut Tree, node: NodeId, word: &str, choices: &st
     requires { HasNode tree.old.nodes node }
 {
     let domain = tree.domain_of(node);
+    if word == "members" {
+        return members(alloc, tree, domain, &choices_of(choices)?);
+    }
     let Some(prefix) = prefix_of(tree, domain, choices)? else {
         return Ok(format!(in alloc; "no prefix")?);
     };

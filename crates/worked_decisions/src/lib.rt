@@ -1,4 +1,4 @@
-//! Decisions of small trees, and books step by step, beside what was worked out by hand. It is a crate of tests alone, so that
+//! Searches of small trees, and books step by step, beside what was worked out by hand. It is a crate of tests alone, so that
 //! neither the search nor the book is proved again with its tests, and searches and books meet in it.
 #![tactic(auto)]
 
@@ -9,13 +9,17 @@ mod books;
 #[cfg(test)]
 mod equal;
 #[cfg(test)]
-mod every_selection;
-#[cfg(test)]
 mod finding;
+#[cfg(test)]
+mod fitting;
+#[cfg(test)]
+mod orders;
 #[cfg(test)]
 mod playing;
 #[cfg(test)]
 mod searches;
+#[cfg(test)]
+mod small_trees;
 #[cfg(test)]
 mod steps;
 #[cfg(test)]

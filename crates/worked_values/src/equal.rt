@@ -24,53 +24,49 @@ fn had(alloc: Global, id: u32, colours: &str) -> Result<Platform, Fail> {
     Ok(read_platform(alloc, &value)?)
 }
 
-/// Whether the participant of heap 1 and width 3 is equal to another, and whether it isn't.
-fn same_asked(alloc: Global, id: u32, width: u32) -> Result<[bool; 2], Fail> {
+/// Whether the participant of heap 1 and width 3 is equal to another, by each way to ask it.
+fn same_asked(alloc: Global, id: u32, width: u32) -> Result<[bool; 3], Fail> {
     let first = asked(alloc, 1, 3)?;
     let other = asked(alloc, id, width)?;
-    Ok([first == other, first != other])
+    Ok([first == other, first.is_same(&other), first != other])
 }
 
 #[test]
 fn participants(rt: HostRuntime) -> Result<(), Fail> {
-    are_equal(
-        &rt,
-        &[
-            (same_asked(rt.alloc(), 1, 3)?, [true, false]),
-            (same_asked(rt.alloc(), 2, 3)?, [false, true]),
-            (same_asked(rt.alloc(), 1, 4)?, [false, true]),
-        ],
-    );
+    for (id, width, wanted) in [(1, 3, true), (2, 3, false), (1, 4, false)] {
+        let found = same_asked(rt.alloc(), id, width)?;
+        are_equal(&rt, &[(found, [wanted, wanted, !wanted])]);
+    }
     Ok(())
 }
 
-/// Whether the platform of heap 1 in sRGB is equal to another, and whether it isn't.
-fn same_had(alloc: Global, id: u32, colours: &str) -> Result<[bool; 2], Fail> {
+/// Whether the platform of heap 1 in sRGB is equal to another, by each way to ask it.
+fn same_had(alloc: Global, id: u32, colours: &str) -> Result<[bool; 3], Fail> {
     let first = had(alloc, 1, "\"SRGB\"")?;
     let other = had(alloc, id, colours)?;
-    Ok([first == other, first != other])
+    Ok([first == other, first.is_same(&other), first != other])
 }
 
 /// The same of its copy.
-fn same_copy(alloc: Global) -> Result<[bool; 2], Fail> {
+fn same_copy(alloc: Global) -> Result<[bool; 3], Fail> {
     let first = had(alloc, 1, "\"SRGB\"")?;
     let other = first.copy()?;
-    Ok([first == other, first != other])
+    Ok([first == other, first.is_same(&other), first != other])
 }
+
+// The heap's id and the colour spaces of another platform, and whether it is equal to that of heap 1 in sRGB.
+const OTHERS: [(u32, &str, bool); 3] = [
+    (1, "\"SRGB\"", true),
+    (2, "\"SRGB\"", false),
+    (1, "\"SRGB\",\"REC709\"", false),
+];
 
 #[test]
 fn platforms(rt: HostRuntime) -> Result<(), Fail> {
-    are_equal(
-        &rt,
-        &[
-            (same_had(rt.alloc(), 1, "\"SRGB\"")?, [true, false]),
-            (same_copy(rt.alloc())?, [true, false]),
-            (same_had(rt.alloc(), 2, "\"SRGB\"")?, [false, true]),
-            (
-                same_had(rt.alloc(), 1, "\"SRGB\",\"REC709\"")?,
-                [false, true],
-            ),
-        ],
-    );
+    for (id, colours, wanted) in OTHERS {
+        let found = same_had(rt.alloc(), id, colours)?;
+        are_equal(&rt, &[(found, [wanted, wanted, !wanted])]);
+    }
+    are_equal(&rt, &[(same_copy(rt.alloc())?, [true, true, false])]);
     Ok(())
 }

@@ -3,6 +3,8 @@
 #![tactic(auto)]
 
 #[cfg(test)]
+mod copies;
+#[cfg(test)]
 mod counts;
 #[cfg(test)]
 mod equal;
@@ -13,12 +15,8 @@ mod formats;
 #[cfg(test)]
 mod images;
 #[cfg(test)]
-mod lines;
-#[cfg(test)]
 mod memory;
 #[cfg(test)]
 mod rows;
 #[cfg(test)]
 mod settings;
-#[cfg(test)]
-mod sums;

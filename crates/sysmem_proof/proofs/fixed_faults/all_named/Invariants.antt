@@ -5,5 +5,5 @@ use Rattle.sysmem_proof.specs.Fault.{AreNamed}
 use Rattle.sysmem_proof.specs.Roll.{listed}
 use Rattle.sysmem_proof.proofs.fixed_faults.all_named.Given as goal
 
-abbrev pub invariant-loop-line : goal.invariant-loop-line
-invariant-loop-line l = All (λ line. AreNamed (listed l.roll) line.nodes) (take l.line-index l.lines)
+abbrev pub invariant-loop-index : goal.invariant-loop-index
+invariant-loop-index l = All (λ line. AreNamed (listed l.roll) line.nodes) (take l.index l.lines)

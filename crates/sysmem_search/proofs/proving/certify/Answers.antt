@@ -6,7 +6,8 @@ use Rattle.sysmem_proof.specs.Certificate.{RefutesEarlier, RefuseBeforeFor}
 use Rattle.sysmem_proof.specs.CertificateFacts.{CertificateFacts}
 use Rattle.sysmem_proof.specs.Conflict.{IsConflictFor}
 use Rattle.sysmem_proof.specs.Matter.{forest, terms}
-use Rattle.sysmem_search.proofs.Proved.{few_selected, selected_prefix, selected_unmet, selected_best, certified}
+use Rattle.sysmem_search.proofs.Proved.{few_selected, selected_prefix, selected_unmet, selected_best, certified, certified_cut}
+use Rattle.sysmem_search.specs.Cut.{AreCut}
 use Rattle.sysmem_tree.specs.Forest.{settled}
 use Rattle.sysmem_search.proofs.proving.certify.Goals as goal
 
@@ -32,8 +33,17 @@ lines_before-requires-clause-best c =
     selected_best c.args.platform.now c.args.tree.now.nodes c.args.domain base c.selection-selection.result.now c.args.chosen.now.selection c.args.chosen.now.settings c.selection-selection.ensures
     c.requires.optimal.1 c.settings-settings.result c.settings-settings.ensures
 
-pub returns : goal.returns
-returns c =
+pub returns-clause-cut : goal.returns-clause-cut
+returns-clause-cut c =
+    let base = option_map (λ b. b.now) c.args.base in
+    let q = c.in_ok-question.question in
+    let selection = c.selection-selection.result.now in
+    let chosen = c.args.chosen.now in
+    certified_cut c.args.platform.now c.args.tree.now.nodes c.args.domain base selection chosen.selection chosen.settings c.selection-selection.ensures c.requires.optimal.1 q c.in_ok-question.ensures
+    c.new-2.result (subst (λ (f : CertificateFacts). AreCut q.matter (forest q.matter) selection f.earlier) (sym c.new-2.ensures) c.in_ok-earlier.ensures.cut)
+
+pub returns-clause-proved : goal.returns-clause-proved
+returns-clause-proved c =
     let base = option_map (λ b. b.now) c.args.base in
     let platform = c.args.platform.now in
     let nodes = c.args.tree.now.nodes in
@@ -41,10 +51,8 @@ returns c =
     let selection = c.selection-selection.result.now in
     let settings = c.settings-settings.result in
     let chosen = c.args.chosen.now in
-    record {
-      proved = certified platform nodes c.args.domain base selection chosen.selection chosen.settings c.selection-selection.ensures c.requires.optimal.1 q settings c.new-2.result c.in_ok-question.ensures
-          c.settings-settings.ensures
-          (subst (λ (f : CertificateFacts). RefutesEarlier (IsConflictFor q.matter.platform (terms q.matter)) (forest q.matter) selection f.earlier) (sym c.new-2.ensures) c.in_ok-earlier.ensures)
-          (λ members selects. subst (RefuseBeforeFor platform (option_map (terms_of nodes) base) (settled members) settings) (sym c.new-2.ensures)
-          (c.in_ok-lines.ensures members selects c.in_ok-earlier.earlier.items));
-    }
+    certified platform nodes c.args.domain base selection chosen.selection chosen.settings c.selection-selection.ensures c.requires.optimal.1 q settings c.new-2.result c.in_ok-question.ensures
+    c.settings-settings.ensures
+    (subst (λ (f : CertificateFacts). RefutesEarlier (IsConflictFor q.matter.platform (terms q.matter)) (forest q.matter) selection f.earlier) (sym c.new-2.ensures) c.in_ok-earlier.ensures.refuted)
+    (λ members selects. subst (RefuseBeforeFor platform (option_map (terms_of nodes) base) (settled members) settings) (sym c.new-2.ensures)
+    (c.in_ok-lines.ensures members selects c.in_ok-earlier.earlier.items))

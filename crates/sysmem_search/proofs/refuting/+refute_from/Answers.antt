@@ -8,7 +8,7 @@ use Rattle.sysmem_search.specs.Refuting.{AddsRefutation}
 use Rattle.sysmem_search.specs.Standing.{Standing}
 use Rattle.sysmem_search.proofs.Finding.{entered_at, long_push, pushed_prefix}
 use Rattle.sysmem_search.proofs.Refuted.{no_choice_added, choice_unmet, choice_added, all_choices_added}
-use Rattle.sysmem_search.proofs.Unmet.{unmet_prefix, unmet_selection}
+use Rattle.sysmem_search.proofs.Unmet.{met_prefix, unmet_prefix, unmet_selection}
 use Rattle.sysmem_tree.specs.Selection.{IsPrefix, after}
 use Rattle.sysmem_search.proofs.refuting.+refute_from.Goals as goal
 
@@ -69,4 +69,5 @@ pub returns-clause-refuted : goal.returns-clause-refuted
 returns-clause-refuted t c =
     let q = c.args.question.now in
     all_choices_added q.matter (after (forest q.matter) q.choices) c.loop-choice.choice c.in-Some.children c.args.items.now.items c.loop-choice.items.items
-    (omega (arith, c.loop-choice-test.false)) c.loop-choice.auto.choice-end c.in-Some.ensures.number c.loop-choice.invariant.added
+    (omega (arith, c.loop-choice-test.false)) c.loop-choice.auto.choice-end c.in-Some.ensures.number
+    (met_prefix q.matter (after (forest q.matter) q.choices) c.is_met.result c.if-not-is_met.false c.is_met.ensures) c.loop-choice.invariant.added

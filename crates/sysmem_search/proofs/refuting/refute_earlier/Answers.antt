@@ -7,7 +7,7 @@ use Rattle.sysmem_proof.specs.Verdict.{IsUnmetBefore}
 use Rattle.sysmem_search.specs.Question.{MeetsOf}
 use Rattle.sysmem_search.specs.Refuting.{RefutesFirst}
 use Rattle.sysmem_search.specs.Standing.{Standing}
-use Rattle.sysmem_search.proofs.Refuted.{at_start, next_choice, room_on_way, went_on, way_begun, way_ended, next_prefix, next_unmet, way_further}
+use Rattle.sysmem_search.proofs.Refuted.{at_start, next_choice, room_on_way, went_on, way_begun, way_cut, way_ended, next_prefix, next_unmet, way_further}
 use Rattle.sysmem_tree.specs.Selection.{IsPrefix, after}
 use Rattle.sysmem_search.proofs.refuting.refute_earlier.Goals as goal
 
@@ -58,8 +58,14 @@ loop-choice-preserved c =
           (subst (λ (s : Standing). IfSome (after (forest s.matter) s.choices) (λ d. RefutesFirst s.matter d choice c.in_ok-refute_before.field-0)) same c.in_ok-refute_before.ensures.refuted);
     }
 
-pub returns : goal.returns
-returns c =
+pub returns-clause-cut : goal.returns-clause-cut
+returns-clause-cut c =
+    let long = ap length c.choices-choice-items.ensures in
+    way_cut c.args.question.now.matter c.args.selection.now c.loop-choice.choice-index c.loop-choice.earlier.items c.loop-choice.invariant.way
+    (drop_of_length-le c.args.selection.now (omega (arith, c.loop-choice-test.false, long)))
+
+pub returns-clause-refuted : goal.returns-clause-refuted
+returns-clause-refuted c =
     let long = ap length c.choices-choice-items.ensures in
     way_ended c.args.question.now.matter c.args.selection.now c.loop-choice.choice-index c.loop-choice.earlier.items c.loop-choice.invariant.way
     (drop_of_length-le c.args.selection.now (omega (arith, c.loop-choice-test.false, long)))

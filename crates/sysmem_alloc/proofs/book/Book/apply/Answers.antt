@@ -9,10 +9,12 @@ use Rattle.sysmem_alloc.specs.Entry.{Acted, decision_in}
 use Rattle.sysmem_alloc.specs.State.{chosen_in}
 use Rattle.sysmem_tree.specs.ActionKind.{deed_of}
 use Rattle.sysmem_tree.specs.Domain.{TreeFacts}
+use Rattle.sysmem_tree.specs.Laws.{AreStill}
 use Rattle.sysmem_tree.specs.Tree.{applied}
 use Rattle.sysmem_alloc.proofs.Entering.{acted_room, acted_shows}
 use Rattle.sysmem_alloc.proofs.Keeping.{kept_acted}
 use Rattle.sysmem_alloc.proofs.Newly.{still_domain}
+use Rattle.sysmem_alloc.proofs.StillThere.{still_by_step, still_now}
 use Rattle.sysmem_alloc.proofs.book.Book.apply.Goals as goal
 
 on_err : {A E P : Type 0} (r : Result A E) → P → OnErr r P
@@ -74,3 +76,11 @@ returns-clause-step c = record {
   allowed = subst (λ (b : BookFacts). IsOk (applied b.state.tree c.args.event.node (deed_of c.args.event.action))) c.self.view_is (subst IsOk (sym c.in_ok-node.ensures.accepted) refl);
   leads = ap (λ (b : BookFacts). b.state) (returns-clause-entered c);
 }
+
+pub returns-clause-still : goal.returns-clause-still
+returns-clause-still c = still_by_step c.legal_is_sound.ensures c.one_forest.ensures c.numbers_stay.ensures c.args.self.now (Acted c.args.event.node (deed_of c.args.event.action)) _ (subst IsBook c.self.view_is c.self.invariant.0) (returns-clause-step c)
+
+pub returns-in_err-node-clause-still : goal.returns-in_err-node-clause-still
+returns-in_err-node-clause-still c =
+    subst (λ (b : BookFacts). AreStill c.args.self.now.state.tree.nodes b.state.tree.nodes)
+    (sym (ap (λ t. kept_book c.self.inside.platform t c.self.inside.history.items c.self.inside.waiting.items c.self.inside.were_open) c.in_err-node.ensures.unchanged ∙ c.self.view_is)) (still_now c.args.self.now.state.tree.nodes)

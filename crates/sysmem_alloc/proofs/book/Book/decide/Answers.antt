@@ -6,7 +6,7 @@ use Rattle.std.specs.Prelude.{IfSome, option_map}
 use Rattle.sysmem_alloc.specs.declared.entry.Entry.TheVariants as entries
 use Rattle.sysmem_tree.specs.History.{IsDecidable}
 use Rattle.sysmem_tree.specs.Tree.{decided}
-use Rattle.sysmem_alloc.specs.Book.{BookFacts, entered}
+use Rattle.sysmem_alloc.specs.Book.{BookFacts, IsBook, entered}
 use Rattle.sysmem_alloc.specs.Decision.{Claimed}
 use Rattle.sysmem_alloc.specs.Entry.{Decided}
 use Rattle.sysmem_alloc.specs.History.{Allows}
@@ -14,6 +14,7 @@ use Rattle.sysmem_alloc.specs.Marks.{ready_unmarked}
 use Rattle.sysmem_alloc.specs.Sound.{roots_of}
 use Rattle.sysmem_alloc.proofs.Entering.{decided_room, decided_shows, may_enter}
 use Rattle.sysmem_alloc.proofs.Keeping.{chosen_leads, chosen_room, kept_decided}
+use Rattle.sysmem_alloc.proofs.StillThere.{still_by_step}
 use Rattle.sysmem_alloc.proofs.book.Book.decide.Goals as goal
 
 if_map : {X Y : Type 0} (f : X → Y) (P : Y → Type 0) (o : Option X) → IfSome o (λ x. P (f x)) → IfSome (option_map f o) P
@@ -94,3 +95,6 @@ returns-clause-step c = record {
   allowed = (c.requires.next, if_map (λ shared. arc_value shared) _ c.args.claim c.requires.right);
   leads = ap (λ (b : BookFacts). b.state) (returns-clause-entered c);
 }
+
+pub returns-clause-still : goal.returns-clause-still
+returns-clause-still c = still_by_step c.legal_is_sound.ensures c.one_forest.ensures c.numbers_stay.ensures c.args.self.now (Decided (record { domain = c.args.domain; claim = option_map (λ shared. arc_value shared) c.args.claim })) _ (subst IsBook c.self.view_is c.self.invariant.0) (returns-clause-step c)

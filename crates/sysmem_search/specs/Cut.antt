@@ -1,0 +1,44 @@
+-- Refutations that end where they can: no choice is gone on with after which nothing meets what is settled.
+use Rattle.std.specs.Prelude.{ℕ, List, [], ◌∷◌, ◌++◌, IfSome, slice_get, take}
+use Rattle.std.specs.List.{AllZip}
+use Rattle.sysmem_proof.specs.CertificateFacts.{CertificateFacts}
+use Rattle.sysmem_proof.specs.Matter.{Matter, forest}
+use Rattle.sysmem_proof.specs.Verdict.{Meeting}
+use Rattle.sysmem_proof.specs.declared.certificate.Proof.{Proof}
+use Rattle.sysmem_proof.specs.declared.certificate.Proof.TheVariants as proves
+use Rattle.sysmem_proof.specs.declared.refutation.Item.{Item}
+use Rattle.sysmem_proof.specs.declared.refutation.Item.TheVariants.{Split, Leaf}
+use Rattle.sysmem_proof.specs.declared.verdict.Verdict.{Verdict}
+use Rattle.sysmem_proof.specs.declared.verdict.Verdict.TheVariants as verdicts
+use Rattle.sysmem_search.specs.Live.{SomeMeet}
+use Rattle.sysmem_search.specs.Question.{MeetsSoFar}
+use Rattle.sysmem_tree.specs.Forest.{Forest, choices}
+use Rattle.sysmem_tree.specs.Shape.{Member}
+
+-- of items that refute forests in turn: each split stands where some settings meet what is settled
+abbrev pub SplitsAreMet : Meeting → List Item → List (Forest Member) → Type 0
+SplitsAreMet Met [] ds = Unit {0}
+SplitsAreMet Met (item ∷ items) [] = Unit {0}
+SplitsAreMet Met (Leaf conflict ∷ items) (d ∷ ds) = SplitsAreMet Met items ds
+SplitsAreMet Met (Split n ∷ items) (d ∷ ds) = SomeMeet Met d × IfSome (choices d) (λ es. SplitsAreMet Met items (es ++ ds))
+
+-- of items that refute a forest
+abbrev pub IsCut : Matter → Forest Member → List Item → Type 0
+IsCut m d items = SplitsAreMet (MeetsSoFar m) items (d ∷ [])
+
+-- of items that refute, for each of the choices in turn, the choices before it
+abbrev pub AreCut : Matter → Forest Member → List ℕ → List (List (List Item)) → Type 0
+AreCut m d [] rss = Unit {0}
+AreCut m d (c ∷ cs) [] = Unit {0}
+AreCut m d (c ∷ cs) (rs ∷ rss) = IfSome (choices d) (λ es. AllZip (IsCut m) (take c es) rs × IfSome (slice_get es c) (λ e. AreCut m e cs rss))
+
+-- of a certificate of a verdict that chose
+abbrev pub IsCutFor : Matter → Verdict → CertificateFacts → Type 0
+IsCutFor m (verdicts.Chosen chosen) certificate = AreCut m (forest m) chosen.selection certificate.earlier
+IsCutFor m verdict certificate = Unit {0}
+
+-- of what proves a verdict
+abbrev pub IsCutProof : Matter → Verdict → Proof → Type 0
+IsCutProof m verdict (proves.Choice certificate) = IsCutFor m verdict certificate
+IsCutProof m verdict (proves.Empty items) = IsCut m (forest m) items
+IsCutProof m verdict proves.Nothing = Unit {0}

@@ -1,0 +1,153 @@
+//! How many prefixes of small trees are visited. What is chosen of them is compared with going through every selection by
+//! `tests/every_selection`.
+
+use crate::equal::is_equal;
+use crate::finding::search_frozen;
+use crate::playing::frozen_after;
+use std::alloc::Global;
+use std::process::Abort;
+use std::test::Fail;
+use sysmem_alloc::Frozen;
+use sysmem_proof::Verdict;
+
+// A group: the path of the node below which it stands, its own path, and how many children it has.
+type Group = (&'static str, &'static str, u8);
+
+// Groups in the order of their choices: those of a child before the next one of the node above it.
+const SHAPES: [&[Group]; 4] = [
+    &[("/", "/0", 2), ("/", "/1", 3)],
+    &[("/", "/0", 2), ("/0/0", "/0/0/0", 2), ("/", "/1", 2)],
+    &[
+        ("/", "/0", 3),
+        ("/0/1", "/0/1/0", 2),
+        ("/0/1/0/1", "/0/1/0/1/0", 2),
+    ],
+    &[
+        ("/", "/0", 1),
+        ("/0/0", "/0/0/0", 2),
+        ("/0/0", "/0/0/1", 2),
+        ("/", "/1", 2),
+    ],
+];
+
+// What participants ask: images, with and without names, and counts that can't all be shared.
+const WORDS: [&str; 7] = [
+    "any",
+    "nv12",
+    "camps_on_40",
+    "r8_or_nv12",
+    "three_r8",
+    "at_most_90",
+    "short_rows",
+];
+
+// What the participant of this number asks in the tree of this number: for 49 trees no two are alike.
+fn asked(tree: usize, participant: usize) -> &'static str {
+    let square = participant.wrapping_mul(participant).wrapping_add(3);
+    let first = (tree % 7).wrapping_mul(square);
+    let second = (tree / 7).wrapping_mul(participant.wrapping_add(1));
+    WORDS[first.wrapping_add(second).wrapping_add(participant) % 7]
+}
+
+// The number of a group's child among all participants; the root has 0.
+fn number_of(index: usize, child: u8) -> usize {
+    index
+        .wrapping_mul(4)
+        .wrapping_add(child as usize)
+        .wrapping_add(1)
+}
+
+fn tell_group(script: &mut String, (below, at, children): Group) -> Result<(), Fail> {
+    write!(script, "{below} create_group {at}")?;
+    for _child in 0..children {
+        script.push_str(" create_child")?;
+    }
+    script.push_str(" all_children_present ")?;
+    Ok(())
+}
+
+// Each child of the group of this index asks something.
+fn tell_asked(script: &mut String, index: usize, group: Group, tree: usize) -> Result<(), Fail> {
+    let (_, at, children) = group;
+    for child in 0..children {
+        let word = asked(tree, number_of(index, child));
+        write!(script, "{at}/{child} bind {word} ")?;
+    }
+    Ok(())
+}
+
+// The script of the tree of this number with these groups, ready for its decision.
+fn tell_tree(script: &mut String, shape: &[Group], tree: usize) -> Result<(), Fail> {
+    for group in shape {
+        tell_group(script, *group)?;
+    }
+    for (index, group) in shape.iter().enumerate() {
+        tell_asked(script, index, *group, tree)?;
+    }
+    write!(script, "/ bind {}", asked(tree, 0))?;
+    Ok(())
+}
+
+fn frozen_tree(alloc: Global, shape: &[Group], tree: usize) -> Result<Frozen, Fail> {
+    let mut script = String::new(alloc);
+    tell_tree(&mut script, shape, tree)?;
+    frozen_after(alloc, &script)
+}
+
+// What of one search was visited: the visits of which its gate was told, its visits, and whether it chose.
+type Visited = (u64, u64, bool);
+
+fn visited(alloc: Global, shape: &[Group], tree: usize) -> Result<Visited, Fail> {
+    let frozen = frozen_tree(alloc, shape, tree)?;
+    visited_of(alloc, &frozen)
+}
+
+fn visited_of(alloc: Global, frozen: &Frozen) -> Result<Visited, Fail> {
+    let found = search_frozen(alloc, frozen)?;
+    let is_chosen = matches!(found.claim.verdict, Verdict::Chosen(_));
+    Ok((found.told, found.visits, is_chosen))
+}
+
+// How many trees have a choice, and the visits of all.
+#[derive(Drop)]
+struct Tally {
+    chosen: u64,
+    visits: u64,
+}
+
+impl Tally {
+    fn count(&mut self, is_chosen: bool, visits: u64) {
+        self.visits = self.visits.wrapping_add(visits);
+        self.chosen = self.chosen.wrapping_add(is_chosen as u64);
+    }
+}
+
+// The gate of each search of 49 trees of a shape is told of each visit.
+fn tally_shape(
+    rt: &impl Abort,
+    alloc: Global,
+    shape: &[Group],
+    tally: &mut Tally,
+) -> Result<(), Fail> {
+    for tree in 0..49 {
+        let (told, visits, is_chosen) = visited(alloc, shape, tree)?;
+        is_equal(rt, "told of", &told, &visits);
+        tally.count(is_chosen, visits);
+    }
+    Ok(())
+}
+
+// Each shape with 49 trees; how many are chosen and visited was counted by a program of other hands.
+#[test]
+fn visits_of_small_trees(rt: HostRuntime) -> Result<(), Fail> {
+    let mut tally = Tally {
+        chosen: 0,
+        visits: 0,
+    };
+    for shape in SHAPES {
+        tally_shape(&rt, rt.alloc(), shape, &mut tally)?;
+    }
+    is_equal(&rt, "chosen", &tally.chosen, &170);
+    is_equal(&rt, "visits", &tally.visits, &857);
+    Ok(())
+}
