@@ -3,7 +3,7 @@
 ghost use Rattle.std.specs.Prelude.{◌≤◌};
 
 use crate::equal::is_equal;
-use crate::finding::tell_verdict;
+use crate::finding::{search_frozen, tell_verdict};
 use crate::searches::{ROWS, Row, frozen};
 use std::alloc::Global;
 use std::process::Abort;
@@ -15,7 +15,7 @@ use std::time::{Clock, Duration};
 use sysmem_alloc::Frozen;
 use sysmem_merge::Settings;
 use sysmem_proof::Verdict;
-use sysmem_search::{Found, Gate, NoGate, search, search_wide};
+use sysmem_search::{Found, Gate, NoGate, search_wide};
 
 fn settings_of(verdict: &Verdict) -> Option<Settings> {
     match verdict {
@@ -35,9 +35,12 @@ fn found_by<R: Threads + Sync, G: Gate + Sync>(
     requires some { 1 ≤ workers }
     requires few { workers ≤ 64 }
 {
-    let (platform, tree) = (frozen.platform(), frozen.tree());
-    let (domain, base) = (frozen.domain(), frozen.base());
-    Ok(search_wide(rt, alloc, platform, tree, domain, base, gate, workers)?)
+    let platform = frozen.platform();
+    let tree = frozen.tree();
+    let domain = frozen.domain();
+    let base = frozen.base();
+    let found = search_wide(rt, alloc, platform, tree, domain, base, gate, workers)?;
+    Ok(found)
 }
 
 // They find what was worked out by hand, and settle it as one search does.
@@ -57,20 +60,12 @@ fn find_as_worked<R: Threads + Abort + Sync>(
     tell_verdict(&mut told, &found.verdict)?;
     told.push_str(" visits")?;
     is_equal(rt, name, &wanted.starts_with(told.as_str()), &true);
-    let (platform, tree) = (frozen.platform(), frozen.tree());
-    let alone = search(
-        alloc,
-        platform,
-        tree,
-        frozen.domain(),
-        frozen.base(),
-        &NoGate,
-    )?;
+    let alone = search_frozen(alloc, &frozen)?;
     is_equal(
         rt,
         name,
         &settings_of(&found.verdict),
-        &settings_of(&alone.verdict),
+        &settings_of(&alone.claim.verdict),
     );
     Ok(())
 }
