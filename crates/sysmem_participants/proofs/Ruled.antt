@@ -20,19 +20,19 @@ pub ruled : (r : RulingFacts) (claim : AClaim) → claim ≡ r.claim → IsTrueC
 ruled r claim is right = subst (IsTrueClaim r.frozen.platform r.frozen.tree.nodes r.frozen.domain r.frozen.base) is right
 
 -- what is shown of a ruling may be shown
-pub shown_at : (shown : Result RulingFacts Refusal) (r : RulingFacts) (platform : PlatformFacts) (path : List ℕ) (asked : Option Participant) → IsRuling r
-    → r.frozen.platform ≡ platform → IfOk shown (λ v. v ≡ r) → IfOk shown (λ v. IsChosenFor path v.frozen v.claim.verdict) → IfOk shown (λ v. Asks v.frozen path asked)
-    → IfOk shown (IsShownAt platform path asked)
-shown_at (Ok v) r platform path asked right is_for same chosen own = record {
+pub shown_at : {V : Type 0} (shown : Result V Refusal) (at : V → RulingFacts) (r : RulingFacts) (platform : PlatformFacts) (path : List ℕ) (asked : Option Participant) → IsRuling r
+    → r.frozen.platform ≡ platform → IfOk shown (λ v. at v ≡ r) → IfOk shown (λ v. IsChosenFor path (at v).frozen (at v).claim.verdict) → IfOk shown (λ v. Asks (at v).frozen path asked)
+    → IfOk shown (λ v. IsShownAt platform path asked (at v))
+shown_at (Ok v) at r platform path asked right is_for same chosen own = record {
   right = subst IsRuling (sym same) right;
   is_for = ap (λ (x : RulingFacts). x.frozen.platform) same ∙ is_for;
   chosen = chosen;
   own = own;
 }
-shown_at (Err e) r platform path asked right is_for same chosen own = tt
+shown_at (Err e) at r platform path asked right is_for same chosen own = tt
 
 -- what is told of a ruling for the platform tells a verdict for it
-pub telling : (shown : Result RulingFacts Refusal) (r : RulingFacts) (platform : PlatformFacts) → IsRuling r → r.frozen.platform ≡ platform
+pub telling : {V : Type 0} (shown : Result V Refusal) (r : RulingFacts) (platform : PlatformFacts) → IsRuling r → r.frozen.platform ≡ platform
     → IfErr shown (IsToldBy r.claim.verdict) → IfErr shown (Tells platform)
 telling (Ok v) r platform right is_for told = tt
 telling (Err refusals.ConstraintsIntersectionEmpty) r platform right is_for told = (r, right, is_for, told)

@@ -76,8 +76,9 @@ fn counted(book: &Book) -> Audit
     }
 }
 
-/// Whether there is one stub for each node of a book, with the node's actions and, where a verdict is in the stub's cell, the verdict of the
-/// node's domain; then what there is to count in the book. Else the first fault.
+/// Whether there is one stub for each node of a book, with the node's actions and, where a verdict
+/// is in the stub's cell, the verdict of the node's domain; then what there is to count in the
+/// book. Else the first fault.
 pub fn stubs_agree<L: Ledger>(book: &Book, stubs: &mut [Stub<L>]) -> Result<Audit, AuditFault>
     ensures agree { IfOk result (IsAudited book.now stubs.new) }
     ensures same { map unread stubs.new ≡ map unread stubs.old }

@@ -63,7 +63,8 @@ fn opened<L: Ledger, G: Gate + Drop>(
 }
 
 impl<G: Gate + Drop> Allocator<G> {
-    /// For this platform; each decision of its collections tells this gate of its search. `AllocError` where memory is refused.
+    /// For this platform; each decision of its collections tells this gate of its search.
+    /// `AllocError` where memory is refused.
     pub fn new(alloc: Global, platform: Platform, gate: G) -> Result<Allocator<G>, AllocError>
         ensures { IfOk result (λ allocator. allocator ≡ platform) }
     {
@@ -76,8 +77,8 @@ impl<G: Gate + Drop> Allocator<G> {
         Ok(Allocator { rules })
     }
 
-    /// The root token of a new collection, whose handles are counted by a ledger of its own, of 129 parts. `NoMemory` where memory is
-    /// refused; the blank ledger is gone then.
+    /// The root token of a new collection, whose handles are counted by a ledger of its own, of 129
+    /// parts. `NoMemory` where memory is refused; the blank ledger is gone then.
     pub fn allocate_shared<L: Ledger>(&self, blank: Blank) -> Result<Token<L, G>, Refusal>
         requires name { blank.name ≡ L.name }
         requires ledger { blank.parts ≡ L.parts }

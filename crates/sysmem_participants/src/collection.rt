@@ -59,7 +59,8 @@ impl<L: Ledger, G: Gate + Drop> Collection<L, G> {
         self.seat.set_constraints(rt, asked)
     }
 
-    /// A token, the last child of this node, whose domain is decided once this one is, with the same settings.
+    /// A token, the last child of this node, whose domain is decided once this one is, with the
+    /// same settings.
     pub fn attach_token<R: Wait>(&mut self, rt: &R) -> Result<Token<L, G>, Refusal>
         ensures entered { OnOk result (self.new ≡ acted self.old attaches_token) }
         ensures unchanged { OnErr result (self.new ≡ self.old) }
@@ -74,19 +75,20 @@ impl<L: Ledger, G: Gate + Drop> Collection<L, G> {
         }
     }
 
-    /// What was decided of the domain, or why nothing can be shown: `Pending` as long as it isn't decided, `DomainFailed` where it failed,
-    /// `NoMemory` where memory was refused to its decision, `ConstraintsIntersectionEmpty` and `TooManyGroupChildCombinations` where nothing
+    /// What was decided of the domain, or why nothing can be shown: `Pending` as long as it isn't
+    /// decided, `DomainFailed` where it failed, `NoMemory` where memory was refused to its
+    /// decision, `ConstraintsIntersectionEmpty` and `TooManyGroupChildCombinations` where nothing
     /// was chosen, `NotSelected` where the node isn't a member. It neither waits nor takes memory.
     pub fn check(&mut self) -> Result<View<'_>, Refusal>
         ensures* after { sem 𝓛 (follows_so (the_row L.row G.row L.Ledger)
             (the_row L.row G.row L.Ledger) self.entry.ghost_name none (λ _ _. ⊤)
             (λ n. IsSameBut self.old n × MatchResult result
-            (λ view. n.known ≡ Some (Outcome.Decided view)) (λ _. Unit {0}))) }
+            (λ view. n.known ≡ Some (Outcome.Decided view.ruling.now)) (λ _. Unit {0}))) }
         ensures pending { IfErr result (λ refusal.
             refusal ≡ Refusal.Pending → self.old.known ≡ None) }
         ensures known { IfOk result (λ view.
-            IfSome self.old.known (λ known. known ≡ Outcome.Decided view)) }
-        ensures shown { IfOk result (IsShownTo self.old) }
+            IfSome self.old.known (λ known. known ≡ Outcome.Decided view.ruling.now)) }
+        ensures shown { IfOk result (λ view. IsShownTo self.old view.ruling.now) }
         ensures tells { IfErr result (Tells self.old.platform) }
     {
         self.seat.check()
@@ -97,17 +99,18 @@ impl<L: Ledger, G: Gate + Drop> Collection<L, G> {
         ensures* after { sem 𝓛 (follows_so (the_row L.row G.row L.Ledger)
             (the_row L.row G.row L.Ledger) self.entry.ghost_name none (λ _ _. ⊤)
             (λ n. IsSameBut self.old n × MatchResult result
-            (λ view. n.known ≡ Some (Outcome.Decided view)) (λ _. Unit {0}))) }
+            (λ view. n.known ≡ Some (Outcome.Decided view.ruling.now)) (λ _. Unit {0}))) }
         ensures decided { IfErr result (λ refusal. refusal ≢ Refusal.Pending) }
         ensures known { IfOk result (λ view.
-            IfSome self.old.known (λ known. known ≡ Outcome.Decided view)) }
-        ensures shown { IfOk result (IsShownTo self.old) }
+            IfSome self.old.known (λ known. known ≡ Outcome.Decided view.ruling.now)) }
+        ensures shown { IfOk result (λ view. IsShownTo self.old view.ruling.now) }
         ensures tells { IfErr result (Tells self.old.platform) }
     {
         self.seat.wait_for_all(rt)
     }
 
-    /// Two collections of one domain that know its verdict know the same one. It does nothing when it runs.
+    /// Two collections of one domain that know its verdict know the same one. It does nothing when
+    /// it runs.
     pub fn compare(&mut self, other: &mut Collection<L, G>)
         requires { other.old.cell ≡ self.old.cell }
         ensures same { (self.new ≡ self.old) × (other.new ≡ other.old) }
@@ -117,7 +120,8 @@ impl<L: Ledger, G: Gate + Drop> Collection<L, G> {
         self.seat.compare(&mut other.seat)
     }
 
-    /// Releases the node: what is left of the handle, or the handle as it was, and why. It takes no memory.
+    /// Releases the node: what is left of the handle, or the handle as it was, and why. It takes no
+    /// memory.
     pub fn release<R: Wait>(self, rt: &R) -> Result<Stub<L>, (Collection<L, G>, Refusal)>
         ensures left { IfOk result (λ stub. stub ≡ left_of (acted self releases)) }
         ensures back { IfErr result (λ refused. refused.0 ≡ self) }
@@ -131,8 +135,8 @@ impl<L: Ledger, G: Gate + Drop> Collection<L, G> {
         }
     }
 
-    /// Closes the node, as a channel that ends does: what is left of the handle, with the action where it was accepted, or beside it the
-    /// refusal. It takes no memory.
+    /// Closes the node, as a channel that ends does: what is left of the handle, with the action
+    /// where it was accepted, or beside it the refusal. It takes no memory.
     pub fn close<R: Wait>(self, rt: &R) -> (Stub<L>, Option<Refusal>)
         ensures left { MatchOption result.1 (result.0 ≡ left_of (acted self closes))
             (λ _. result.0 ≡ left_of self) }

@@ -40,8 +40,8 @@ fn claim_of<G: Gate>(alloc: Global, frozen: &Frozen, gate: &G) -> Result<Claim, 
     Ok(Claim { verdict, proof })
 }
 
-/// Decides the domains that wait, one after the other, until none waits: what it decides on is frozen in one hold, searched and proved in
-/// none, and entered in another.
+/// Decides the domains that wait, one after the other, until none waits: what it decides on is
+/// frozen in one hold, searched and proved in none, and entered in another.
 pub(crate) fn decide<L: Ledger, G: Gate + Drop, R: Wait>(
     rt: &R,
     shared: &Shared<L>,

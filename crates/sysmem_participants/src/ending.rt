@@ -17,9 +17,11 @@ use sysmem_room::{Log, Outcome};
 use sysmem_search::Gate;
 use sysmem_tree::{Action, Refusal};
 
-/// The book's refusal as an action that ends its node answers it: a domain's verdict refuses none of these.
+/// The book's refusal as an action that ends its node answers it: a domain's verdict refuses none
+/// of these.
 fn at_end(refusal: Refusal) -> Refusal
-    ensures { result ≢ Refusal.Strange → (result ≡ Refusal.WrongState) × (refusal ≡ Refusal.WrongState) }
+    ensures { result ≢ Refusal.Strange
+        → (result ≡ Refusal.WrongState) × (refusal ≡ Refusal.WrongState) }
 {
     match refusal {
         Refusal::WrongState => Refusal::WrongState,
@@ -61,7 +63,8 @@ fn end<L: Ledger, G: Gate + Drop, R: Wait>(
     Ok(())
 }
 
-/// Enters the last action on a node in one hold, and says whether it is this thread's turn to decide.
+/// Enters the last action on a node in one hold, and says whether it is this thread's turn to
+/// decide.
 fn end_in_hold<L: Ledger, R: Wait>(
     rt: &R,
     shared: &Shared<L>,
@@ -143,7 +146,8 @@ impl<L: Ledger, G: Gate + Drop> Seat<L, G> {
         }
     }
 
-    /// Closes the node, as a channel that ends: what is left of the handle, and why the close was refused, if it was.
+    /// Closes the node, as a channel that ends: what is left of the handle, and why the close was
+    /// refused, if it was.
     pub(crate) fn close<R: Wait>(self, rt: &R) -> (Stub<L>, Option<Refusal>)
         ensures left { MatchOption result.1 (result.0 ≡ left_of (acted self closes))
             (λ _. result.0 ≡ left_of self) }

@@ -24,7 +24,8 @@ fn joined<L: Ledger>(start: Share<L>, stubs: Vec<Stub<L>>) -> Share<L>
     all
 }
 
-/// Counts the stubs' actions, of which there are as many as in the history where there is a stub for each node.
+/// Counts the stubs' actions, of which there are as many as in the history where there is a stub
+/// for each node.
 fn count<L: Ledger>(room: &mut Room<L>, stubs: Vec<Stub<L>>)
     requires { vec_len stubs ≡ length room.old.state.tree.nodes }
     ensures same { room.new ≡ room.old }
@@ -59,8 +60,9 @@ fn shared_of<L: Ledger>(stubs: &[Stub<L>]) -> Result<Arc<Shared<L>>, AuditFault>
     }
 }
 
-/// Joins the stubs of a collection, once all its handles are spent: whether they and its book say the same, and what there is to count. As
-/// many actions as the handles made stand in the book. Of no stubs it answers `Stubs`.
+/// Joins the stubs of a collection, once all its handles are spent: whether they and its book say
+/// the same, and what there is to count. As many actions as the handles made stand in the book. Of
+/// no stubs it answers `Stubs`.
 pub fn audit<L: Ledger, R: Wait>(rt: &R, stubs: Vec<Stub<L>>) -> Result<Audit, AuditFault>
     ensures agree { IfOk result (SomeBookAgrees stubs.items) }
     ensures sum { IfOk result (λ audit.

@@ -13,7 +13,8 @@ use std::sync::ledger::Ledger;
 use sysmem_search::Gate;
 use sysmem_tree::{NodeKind, Refusal};
 
-/// Alternatives: of the children one will be chosen. It has to be spent, by `release` once it is complete, or by `close`.
+/// Alternatives: of the children one will be chosen. It has to be spent, by `release` once it is
+/// complete, or by `close`.
 pub struct Group<L: Ledger, G: Gate + Drop> {
     seat: Seat<L, G>,
 }
@@ -59,7 +60,8 @@ impl<L: Ledger, G: Gate + Drop> Group<L, G> {
         self.seat.all_children_present(rt)
     }
 
-    /// Releases the node: what is left of the handle, or the handle as it was, and why. It takes no memory.
+    /// Releases the node: what is left of the handle, or the handle as it was, and why. It takes no
+    /// memory.
     pub fn release<R: Wait>(self, rt: &R) -> Result<Stub<L>, (Group<L, G>, Refusal)>
         ensures left { IfOk result (λ stub. stub ≡ left_of (acted self releases)) }
         ensures back { IfErr result (λ refused. refused.0 ≡ self) }
@@ -73,8 +75,8 @@ impl<L: Ledger, G: Gate + Drop> Group<L, G> {
         }
     }
 
-    /// Closes the node, as a channel that ends does: what is left of the handle, with the action where it was accepted, or beside it the
-    /// refusal. It takes no memory.
+    /// Closes the node, as a channel that ends does: what is left of the handle, with the action
+    /// where it was accepted, or beside it the refusal. It takes no memory.
     pub fn close<R: Wait>(self, rt: &R) -> (Stub<L>, Option<Refusal>)
         ensures left { MatchOption result.1 (result.0 ≡ left_of (acted self closes))
             (λ _. result.0 ≡ left_of self) }

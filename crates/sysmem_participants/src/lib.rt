@@ -1,4 +1,5 @@
-//! Collections that threads share: handles, each of which acts, waits, and learns what was decided; and an audit of them all at the end.
+//! Collections that threads share: handles, each of which acts, waits, and learns what was decided;
+//! and an audit of them all at the end.
 //!
 //! ```
 //! let allocator = Allocator::new(alloc, platform, NoGate)?;

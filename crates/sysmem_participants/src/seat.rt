@@ -104,12 +104,12 @@ impl<L: Ledger, G: Gate + Drop> Seat<L, G> {
         ensures* after { sem 𝓛 (follows_so (the_row L.row G.row L.Ledger)
             (the_row L.row G.row L.Ledger) self.entry.ghost_name none (λ _ _. ⊤)
             (λ n. IsSameBut self.old n × MatchResult result
-            (λ view. n.known ≡ Some (Outcome.Decided view)) (λ _. Unit {0}))) }
+            (λ view. n.known ≡ Some (Outcome.Decided view.ruling.now)) (λ _. Unit {0}))) }
         ensures pending { IfErr result (λ refusal.
             refusal ≡ Refusal.Pending → self.old.known ≡ None) }
         ensures known { IfOk result (λ view.
-            IfSome self.old.known (λ known. known ≡ Outcome.Decided view)) }
-        ensures shown { IfOk result (IsShownTo self.old) }
+            IfSome self.old.known (λ known. known ≡ Outcome.Decided view.ruling.now)) }
+        ensures shown { IfOk result (λ view. IsShownTo self.old view.ruling.now) }
         ensures tells { IfErr result (Tells self.old.platform) }
     {
         let Some(outcome) = self.cell.get_as(&mut self.note) else {
@@ -123,11 +123,11 @@ impl<L: Ledger, G: Gate + Drop> Seat<L, G> {
         ensures* after { sem 𝓛 (follows_so (the_row L.row G.row L.Ledger)
             (the_row L.row G.row L.Ledger) self.entry.ghost_name none (λ _ _. ⊤)
             (λ n. IsSameBut self.old n × MatchResult result
-            (λ view. n.known ≡ Some (Outcome.Decided view)) (λ _. Unit {0}))) }
+            (λ view. n.known ≡ Some (Outcome.Decided view.ruling.now)) (λ _. Unit {0}))) }
         ensures decided { IfErr result (λ refusal. refusal ≢ Refusal.Pending) }
         ensures known { IfOk result (λ view.
-            IfSome self.old.known (λ known. known ≡ Outcome.Decided view)) }
-        ensures shown { IfOk result (IsShownTo self.old) }
+            IfSome self.old.known (λ known. known ≡ Outcome.Decided view.ruling.now)) }
+        ensures shown { IfOk result (λ view. IsShownTo self.old view.ruling.now) }
         ensures tells { IfErr result (Tells self.old.platform) }
     {
         wait_until_set(rt, &self.shared, &self.cell, &mut self.note);

@@ -10,8 +10,8 @@ use std::sync::ledger::{Ledger, Share};
 use sysmem_room::Outcome;
 use sysmem_tree::Action;
 
-/// What is left of a handle that was spent: its node's path, its accepted actions, its share of the ledger, and what it knows of its domain's
-/// cell. An audit wants one for each node.
+/// What is left of a handle that was spent: its node's path, its accepted actions, its share of the
+/// ledger, and what it knows of its domain's cell. An audit wants one for each node.
 #[derive(Drop)]
 pub struct Stub<L: Ledger> {
     pub(crate) shared: Arc<Shared<L>>,

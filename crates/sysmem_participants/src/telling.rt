@@ -31,9 +31,11 @@ fn has_own(frozen: &Frozen, path: &[u32], log: &Log) -> bool
 
 /// What the handle of a path and a log is told by a ruling for its platform.
 fn shown<'a>(ruling: &'a Ruling, path: &[u32], log: &Log) -> Result<View<'a>, Refusal>
-    ensures same { IfOk result (λ view. view ≡ ruling.now) }
-    ensures chosen { IfOk result (λ view. IsChosenFor path.now view.frozen view.claim.verdict) }
-    ensures own { IfOk result (λ view. Asks view.frozen path.now (shown_by log.now).constraints) }
+    ensures same { IfOk result (λ view. view.ruling.now ≡ ruling.now) }
+    ensures chosen { IfOk result (λ view.
+        IsChosenFor path.now view.ruling.now.frozen view.ruling.now.claim.verdict) }
+    ensures own { IfOk result (λ view.
+        Asks view.ruling.now.frozen path.now (shown_by log.now).constraints) }
     ensures known { IfErr result (λ refusal. refusal ≢ Refusal.Pending) }
     ensures told { IfErr result (IsToldBy ruling.now.claim.verdict) }
 {
@@ -60,8 +62,9 @@ pub(crate) fn told<'a>(
     path: &[u32],
     log: &Log,
 ) -> Result<View<'a>, Refusal>
-    ensures decided { IfOk result (λ view. outcome.now ≡ Outcome.Decided view) }
-    ensures shown { IfOk result (IsShownAt platform.now path.now (shown_by log.now).constraints) }
+    ensures decided { IfOk result (λ view. outcome.now ≡ Outcome.Decided view.ruling.now) }
+    ensures shown { IfOk result (λ view. IsShownAt platform.now path.now
+        (shown_by log.now).constraints view.ruling.now) }
     ensures known { IfErr result (λ refusal. refusal ≢ Refusal.Pending) }
     ensures tells { IfErr result (Tells platform.now) }
 {

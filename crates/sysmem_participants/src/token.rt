@@ -14,7 +14,8 @@ use std::sync::ledger::Ledger;
 use sysmem_search::Gate;
 use sysmem_tree::{NodeKind, Refusal};
 
-/// The right to take part in a collection, and to let others take part. It has to be spent, by `bind`, `release` or `close`.
+/// The right to take part in a collection, and to let others take part. It has to be spent, by
+/// `bind`, `release` or `close`.
 pub struct Token<L: Ledger, G: Gate + Drop> {
     seat: Seat<L, G>,
 }
@@ -79,7 +80,8 @@ impl<L: Ledger, G: Gate + Drop> Token<L, G> {
         }
     }
 
-    /// Releases the node: what is left of the handle, or the handle as it was, and why. It takes no memory.
+    /// Releases the node: what is left of the handle, or the handle as it was, and why. It takes no
+    /// memory.
     pub fn release<R: Wait>(self, rt: &R) -> Result<Stub<L>, (Token<L, G>, Refusal)>
         ensures left { IfOk result (λ stub. stub ≡ left_of (acted self releases)) }
         ensures back { IfErr result (λ refused. refused.0 ≡ self) }
@@ -93,8 +95,8 @@ impl<L: Ledger, G: Gate + Drop> Token<L, G> {
         }
     }
 
-    /// Closes the node, as a channel that ends does: what is left of the handle, with the action where it was accepted, or beside it the
-    /// refusal. It takes no memory.
+    /// Closes the node, as a channel that ends does: what is left of the handle, with the action
+    /// where it was accepted, or beside it the refusal. It takes no memory.
     pub fn close<R: Wait>(self, rt: &R) -> (Stub<L>, Option<Refusal>)
         ensures left { MatchOption result.1 (result.0 ≡ left_of (acted self closes))
             (λ _. result.0 ≡ left_of self) }

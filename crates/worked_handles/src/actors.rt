@@ -49,7 +49,8 @@ fn emptied<L: Ledger>(rt: &impl Abort, slot: Slot<L>) {
     }
 }
 
-// Three tokens of a released root: two take part, the third is released, each on a thread of its own.
+// Three tokens of a released root: two take part, the third is released, each on a thread of its
+// own.
 fn act<L: Ledger + Send + Sync, R: Threads + Wait + Abort + Sync>(
     rt: &R,
     root: Token<L, NoGate>,

@@ -15,7 +15,8 @@ const PLATFORM: &str =
 pub(crate) const CAMPS_ON_2: &str =
     r#"{"usage":["cpu"],"min_buffer_count_for_camping":2,"min_buffer_count_for_shared_slack":1}"#;
 
-/// Three buffers while it camps on them, one of its own for slack, and two shared. Together with the other: 2 + 3 + 1 + 2.
+/// Three buffers while it camps on them, one of its own for slack, and two shared. Together with
+/// the other: 2 + 3 + 1 + 2.
 pub(crate) const CAMPS_ON_3: &str =
     r#"{"usage":["cpu"],"min_buffer_count_for_camping":3,"min_buffer_count_for_dedicated_slack":1,"min_buffer_count_for_shared_slack":2}"#;
 

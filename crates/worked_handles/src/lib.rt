@@ -1,5 +1,5 @@
-//! Collections through their handles, beside what was worked out by hand. It is a crate of tests alone, so that the handles aren't proved
-//! again with them; they start threads and wait.
+//! Collections through their handles, beside what was worked out by hand. It is a crate of tests
+//! alone, so that the handles aren't proved again with them; they start threads and wait.
 #![tactic(auto)]
 
 #[cfg(test)]
