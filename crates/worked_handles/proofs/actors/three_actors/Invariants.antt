@@ -1,4 +1,4 @@
 use Rattle.worked_handles.proofs.actors.three_actors.Given as goal
 
-abbrev pub ghosts-play-L-Ledger : goal.ghosts-play-L-Ledger
-ghosts-play-L-Ledger g a = record { name = a.blank.name; parts = a.blank.parts }
+abbrev pub ghosts-play : goal.ghosts-play
+ghosts-play g a = record { name = a.blank.name; parts = a.blank.parts }
