@@ -4,7 +4,7 @@ use Rattle.std.specs.Io.KnownBytes.{Appends}
 use Rattle.byte_transfer.specs.Transfer.{WritesFront}
 use Rattle.script_reading.specs.declared.fault.ScriptFault.{ScriptFault}
 use Rattle.script_run.specs.declared.fault.RunFault.{RunFault}
-use Rattle.script_run.specs.declared.fault.RunFault.TheVariants.{Write, Script}
+use Rattle.script_run.specs.declared.fault.RunFault.TheVariants.{Write, Script, Proof}
 use Rattle.script_run.specs.declared.running.Ended.{Ended}
 use Rattle.script_run.specs.declared.running.Ended.TheVariants.{Done, MemoryRefused, CheckedNo}
 use Rattle.script_run.specs.Certificate.{CertifiedFacts, CertifiesTo}
@@ -27,6 +27,7 @@ pub record Ran (result : Result Ended RunFault) (had before after : Option (List
   pub done : result ≡ Ok Done → IfSome had (λ input. Writes input false before after)
   pub starved : result ≡ Ok MemoryRefused → IfSome had (λ input. Writes input true before after)
   pub unchecked : result ≢ Ok CheckedNo
+  pub no_proof : result ≢ Err Proof
   pub refused : (fault : ScriptFault) → result ≡ Err (Script fault)
       → IfSome had (λ input. RunsTo input (Err fault))
   pub front : result ≡ Err Write → IfSome had (λ input. WritesPart input before after)
@@ -56,6 +57,7 @@ pub record RanWithProof (result : Result Ended RunFault) (had before after proof
   pub done : result ≡ Ok Done → IfSome had (λ input. WritesBoth input false before after proof_before proof_after)
   pub starved : result ≡ Ok MemoryRefused → IfSome had (λ input. WritesBoth input true before after proof_before proof_after)
   pub unchecked : result ≢ Ok CheckedNo
+  pub no_proof : result ≢ Err Proof
   pub refused : (fault : ScriptFault) → result ≡ Err (Script fault)
       → IfSome had (λ input. RunsTo input (Err fault))
   pub front : result ≡ Err Write → IfSome had (λ input. WritesPartOfBoth input before after proof_before proof_after)

@@ -1,5 +1,5 @@
 -- Lines for one after another of a list.
-use Rattle.std.proofs.Common.{◌≡◌, ◌<◌, ◌≤◌, ℕ, zero, suc, ◌+◌, length, get_or, length-append, Bool, true, false, List, [], ◌∷◌, ◌++◌, Option, Some, None, drop, slice_get, refl, sym, ◌∙◌, ap, subst, append-nil, arith}
+use Rattle.std.proofs.Common.{◌≡◌, ◌<◌, ◌≤◌, ℕ, zero, suc, ◌+◌, ◌-◌, length, get_or, length-append, Bool, true, false, List, [], ◌∷◌, ◌++◌, Option, Some, None, drop, slice_get, refl, sym, ◌∙◌, ap, subst, append-nil, arith}
 use Rattle.std.specs.Prelude.{IfNone}
 use Rattle.std.specs.List.{AllZip}
 use Rattle.std.proofs.lemmas.List.{append_assoc}
@@ -71,6 +71,17 @@ pub left_at : {X : Type 0} (xs : List X) (k : ℕ) (x : X) → slice_get xs k �
 left_at [] k x here = absurd (none-some x here)
 left_at (y ∷ xs) zero x here = ap (λ z. z ∷ xs) (same_Some y x here)
 left_at (y ∷ xs) (suc k) x here = let next : suc k + 1 ≡ suc (k + 1) = omega arith in left_at xs k x here ∙ ap (λ zs. x ∷ zs) (ap (λ i. drop i (y ∷ xs)) (sym next))
+
+-- what was pushed is the last
+last_push : {X : Type 0} (xs : List X) (x : X) → slice_get (xs ++ x ∷ []) (length xs) ≡ Some x
+last_push [] x = refl
+last_push (y ∷ xs) x = last_push xs x
+
+pub last_pushed : {X : Type 0} (xs new : List X) (x y : X) → new ≡ xs ++ x ∷ [] → slice_get new (length new - 1) ≡ Some y → x ≡ y
+last_pushed xs new x y is at =
+    let long : length (xs ++ x ∷ []) - 1 ≡ length xs = omega (arith, length-append xs (x ∷ [])) in
+    let there : slice_get (xs ++ x ∷ []) (length (xs ++ x ∷ []) - 1) ≡ Some y = subst (λ zs. slice_get zs (length zs - 1) ≡ Some y) is at in
+    same_Some x y (sym (last_push xs x) ∙ subst (λ n. slice_get (xs ++ x ∷ []) n ≡ Some y) long there)
 
 -- past the last none are
 pub none_left : {X : Type 0} (xs : List X) (k : ℕ) → slice_get xs k ≡ None → drop k xs ≡ []

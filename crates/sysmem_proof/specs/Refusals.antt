@@ -1,7 +1,8 @@
 -- Lines for one after another of a platform's offers, or of its places.
-use Rattle.std.specs.Prelude.{◌≡◌, ◌≢◌, ◌⊎◌, Bool, true, false, List, ◌∷◌, ◌++◌, Option, Some, All}
+use Rattle.std.specs.Prelude.{◌≡◌, ◌≢◌, ◌⊎◌, ◌-◌, length, slice_get, Bool, true, false, List, ◌∷◌, ◌++◌, Option, Some, All}
 use Rattle.std.specs.List.{AllZip}
 use Rattle.sysmem_formats.specs.declared.offer.Offer.{Offer}
+use Rattle.sysmem_formats.specs.declared.offer.Offer.TheVariants.{NoImage}
 use Rattle.sysmem_memory.specs.Listed.{HeapPlace}
 use Rattle.sysmem_memory.specs.PlaceTable.{AllowsPlace}
 use Rattle.sysmem_merge.specs.declared.fit.Fit.{Fit}
@@ -60,3 +61,7 @@ pub record AreSoFar {X : Type 0} (R : X → LineFacts → Type 0) (xs : List X) 
 abbrev pub GoOn : {X : Type 0} → (X → LineFacts → Type 0) → (X → Type 0) → List X → List LineFacts → List X → Bool → Type 0
 GoOn R End xs lines left true = AreSoFar R xs lines left
 GoOn R End xs lines left false = EndsAt R End xs lines
+
+-- the last of some lines refuses an offer of an image
+abbrev pub RefusesLast : (Offer → LineFacts → Type 0) → Offer → List LineFacts → Type 0
+RefusesLast R o lines = o ≢ NoImage → (last : LineFacts) → slice_get lines (length lines - 1) ≡ Some last → R o last

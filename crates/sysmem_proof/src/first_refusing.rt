@@ -1,8 +1,7 @@
 //! The first of some participants who refuses an offer, a place, or settings that are given.
 
-ghost use Rattle.std.specs.Prelude.{◌≡◌, ◌<◌, true, List, [], ◌∷◌, All, Any, Contains, IfSome, IfNone, IsSomeAnd, IsTrue, length, option_map};
+ghost use Rattle.std.specs.Prelude.{◌≡◌, ◌<◌, true, List, [], ◌∷◌, All, Any, Contains, IfSome, IfNone, IsTrue, length, option_map};
 ghost use Rattle.std.specs.List.{cons_option};
-ghost use Rattle.sysmem_counts.specs.declared.field.Field.TheVariants.{PixelFormat};
 ghost use Rattle.sysmem_memory.specs.PlaceTable.{AllowsPlace, refuses_by};
 ghost use Rattle.sysmem_merge.specs.Demands.{OfferDemand, offer_demands};
 ghost use Rattle.sysmem_merge.specs.Failing.{FailsOn};
@@ -16,7 +15,7 @@ ghost use Rattle.sysmem_tree.specs.Nodes.{HasNode};
 
 use crate::asked::add_read;
 use sysmem_counts::Field;
-use sysmem_formats::{Offer, Pair};
+use sysmem_formats::Offer;
 use sysmem_image::{Entry, entry_for, takes_colour};
 use sysmem_memory::{CoherencyDomain, HeapInfo, refuses};
 use sysmem_merge::{OfferRead, Settings, first_uncovered};
@@ -37,13 +36,6 @@ pub(crate) enum Reading {
     Refused(Field, NodeId),
     /// Each takes its format and its colour space; this is what all of them ask.
     Read(OfferRead),
-}
-
-/// The first participant who doesn't take the format of an offer, and so of none of the same pair.
-#[derive(Clone, Copy, Debug)]
-pub(crate) struct Lacking {
-    pair: Pair,
-    node: NodeId,
 }
 
 /// Whether a participant with these entries takes the offer's format.
@@ -80,7 +72,12 @@ fn lacks_offer(field: Field, asked: Option<&Constraints>, offer: &Offer) -> bool
 }
 
 /// The first of the participants at these nodes who doesn't take the offer, by this field.
-fn first_lacking(tree: &Tree, nodes: &[NodeId], field: Field, offer: &Offer) -> Option<NodeId>
+pub(crate) fn first_lacking(
+    tree: &Tree,
+    nodes: &[NodeId],
+    field: Field,
+    offer: &Offer,
+) -> Option<NodeId>
     requires { All (HasNode tree.now.nodes) nodes.now }
     ensures there { IfSome result (Contains nodes.now) }
     ensures line { IfSome result (λ node. IsOfferLine field offer.now
@@ -92,52 +89,6 @@ fn first_lacking(tree: &Tree, nodes: &[NodeId], field: Field, offer: &Offer) -> 
         }
     }
     None
-}
-
-/// The first of the participants at these nodes who doesn't take the offer's format: the one who is kept for an offer of the same pair, who
-/// is asked alone, or else the first of all.
-fn first_without_format(
-    tree: &Tree,
-    nodes: &[NodeId],
-    offer: &Offer,
-    lacking: Option<Lacking>,
-) -> Option<NodeId>
-    requires { All (HasNode tree.now.nodes) nodes.now }
-    ensures there { IfSome result (Contains nodes.now) }
-    ensures line { IfSome result (λ node. IsOfferLine PixelFormat offer.now
-        (offer_demands (participants (members_at tree.now.nodes (node ∷ []))))) }
-{
-    if let Some(known) = known_for(lacking, offer) {
-        for node in nodes {
-            if *node == known
-                && lacks_offer(Field::PixelFormat, tree.constraints_of(*node), offer)
-            {
-                return Some(*node);
-            }
-        }
-    }
-    first_lacking(tree, nodes, Field::PixelFormat, offer)
-}
-
-/// The participant who lacks the format of this offer too, if it is of that pair.
-fn known_for(lacking: Option<Lacking>, offer: &Offer) -> Option<NodeId>
-    ensures { IfSome result (λ node. IsSomeAnd lacking (λ one. one.node ≡ node)) }
-{
-    let one = lacking?;
-    match offer {
-        Offer::Image(pair, _) if *pair == one.pair => Some(one.node),
-        _ => None,
-    }
-}
-
-/// That this participant lacks the format of the offer.
-fn lacking_format(offer: &Offer, node: NodeId) -> Option<Lacking>
-    ensures { IfSome result (λ one. one.node ≡ node) }
-{
-    match offer {
-        Offer::NoImage => None,
-        Offer::Image(pair, _) => Some(Lacking { pair: *pair, node }),
-    }
 }
 
 /// What the participants at these nodes ask of an offer together.
@@ -154,19 +105,12 @@ fn read_all(tree: &Tree, nodes: &[NodeId], offer: &Offer) -> OfferRead
 }
 
 /// Reads what the participants at these nodes ask of an offer. The first who doesn't take its format ends it; where nobody is that, the first
-/// who doesn't take its colour space; neither's bounds are read. Who lacks the format is kept for the next offer: of the same pair, nobody
-/// before lacks it either.
-pub(crate) fn read_offer(
-    tree: &Tree,
-    nodes: &[NodeId],
-    offer: &Offer,
-    lacking: &mut Option<Lacking>,
-) -> Reading
+/// who doesn't take its colour space; neither's bounds are read.
+pub(crate) fn read_offer(tree: &Tree, nodes: &[NodeId], offer: &Offer) -> Reading
     requires { All (HasNode tree.now.nodes) nodes.now }
     ensures { IsReading tree.now.nodes nodes.now offer.now result }
 {
-    if let Some(node) = first_without_format(tree, nodes, offer, *lacking) {
-        *lacking = lacking_format(offer, node);
+    if let Some(node) = first_lacking(tree, nodes, Field::PixelFormat, offer) {
         return Reading::Refused(Field::PixelFormat, node);
     }
     if let Some(node) = first_lacking(tree, nodes, Field::ColorSpaces, offer) {

@@ -59,6 +59,17 @@ impl Line {
         Line::new(alloc, field, nodes.fitted()?)
     }
 
+    /// The same line again. The paths are kept once for both.
+    pub(crate) fn again(&self) -> Result<Line, AllocError>
+        ensures { IfOk result (λ line. line ≡ self.now) }
+    {
+        let nodes = Arc::try_clone(&self.nodes)?;
+        Ok(Line {
+            field: self.field,
+            nodes,
+        })
+    }
+
     /// The field that heads the line.
     pub fn field(&self) -> Field
         ensures { result ≡ self.now.field }

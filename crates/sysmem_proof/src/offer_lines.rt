@@ -2,7 +2,6 @@
 
 ghost use Rattle.std.specs.Prelude.{◌≡◌, ◌≢◌, ◌↔◌, Bool, List, [], All, IsTrue, option_copied, option_map};
 ghost use Rattle.std.specs.List.{AllZip, cons_option};
-ghost use Rattle.sysmem_counts.specs.declared.field.Field.TheVariants.{ColorSpaces, UnnamedColorSpace};
 ghost use Rattle.sysmem_formats.specs.declared.offer.Offer.TheVariants.{NoImage, Image};
 ghost use Rattle.sysmem_merge.specs.Demands.{offer_demands};
 ghost use Rattle.sysmem_merge.specs.Offers.{names_format, names_modifier, names_colour};
@@ -16,9 +15,10 @@ ghost use Rattle.sysmem_tree.specs.Shape.{Member};
 
 use crate::line::Line;
 use crate::line_tests::is_offer_line;
+use crate::pair_lines::is_shared;
 use crate::roll::Roll;
 use sysmem_counts::Field;
-use sysmem_formats::{ColourSpace, Offer, Pair, offer_at};
+use sysmem_formats::{Offer, offer_at};
 use sysmem_image::{Entry, entry_for};
 use sysmem_sanitise::{Constraints, Platform};
 
@@ -93,12 +93,9 @@ fn is_as_before(earlier: &Offer, before: &Line, offer: &Offer, line: &Line) -> b
         → (earlier.now ≢ NoImage → RefusesOffer whole ms earlier.now before.now)
         → RefusesOffer whole ms offer.now line.now }
 {
-    let (Offer::Image(pair, _), Offer::Image(own, _)) = (earlier, offer) else {
-        return false;
-    };
     let field = line.field();
     let last = before.field();
-    if !ignores_colour(field) || !is_same_field(last, field) || !is_same_pair(pair, own) {
+    if !is_shared(field, earlier, offer) || !is_same_field(last, field) {
         return false;
     }
     before.nodes().is_same(line.nodes())
@@ -108,19 +105,6 @@ fn is_same_field(one: Field, other: Field) -> bool
     ensures { IsTrue result → one ≡ other }
 {
     one == other
-}
-
-fn is_same_pair(one: &Pair, other: &Pair) -> bool
-    ensures { IsTrue result → one.now ≡ other.now }
-{
-    one == other
-}
-
-/// Whether no line with this field speaks of an offer's colour space.
-fn ignores_colour(field: Field) -> bool
-    ensures { IsTrue result → (field ≢ ColorSpaces) × (field ≢ UnnamedColorSpace) }
-{
-    !matches!(field, Field::ColorSpaces | Field::UnnamedColorSpace)
 }
 
 /// Whether the line refuses the offer. Where those on the roll are all that a decision has, it may do so for want of a name, too.

@@ -1,6 +1,7 @@
 //! Lines that refuse the offers of a platform, or its places, one after another.
 
-ghost use Rattle.std.specs.Prelude.{◌≡◌, ◌⊎◌, ◌+◌, true, List, ◌∷◌, All, Some, IfOk, IfSome, IfNone, filter, option_map, slice_get};
+ghost use Rattle.std.specs.Prelude.{◌≡◌, ◌⊎◌, ◌+◌, true, List, ◌∷◌, All, Some, IfOk, IfSome, IfNone, IsTrue, filter, option_map, slice_get};
+ghost use Rattle.sysmem_counts.specs.declared.field.Field.TheVariants.{PixelFormat};
 ghost use Rattle.sysmem_formats.specs.declared.offer.Offer.{Offer as Offered};
 ghost use Rattle.sysmem_memory.specs.Domain.{has_domain};
 ghost use Rattle.sysmem_memory.specs.Heap.{HeapFacts};
@@ -10,15 +11,16 @@ ghost use Rattle.sysmem_merge.specs.OfferRead.{IsRefusingLine};
 ghost use Rattle.sysmem_merge.specs.Reasons.{IsOfferLine, IsUnnamedLine};
 ghost use Rattle.sysmem_proof.specs.Conflict.{RefusesOffer, RefusesPlace};
 ghost use Rattle.sysmem_proof.specs.Members.{members_at};
-ghost use Rattle.sysmem_proof.specs.Refusals.{AreRefusals, AreSoFar, Ends, GoOn, ShareOffer, SharePlace, StandFor};
+ghost use Rattle.sysmem_proof.specs.Refusals.{AreRefusals, AreSoFar, Ends, GoOn, RefusesLast, ShareOffer, SharePlace, StandFor};
 ghost use Rattle.sysmem_proof.specs.Whom.{names};
 ghost use Rattle.sysmem_sanitise.specs.Participant.{Participant};
 ghost use Rattle.sysmem_sanitise.specs.Platform.{offers_of};
 ghost use Rattle.sysmem_tree.specs.Nodes.{HasNode};
 ghost use Rattle.sysmem_tree.specs.Shape.{Member};
 
-use crate::first_refusing::{Lacking, Reading, first_refused, read_offer};
+use crate::first_refusing::{Reading, first_lacking, first_refused, read_offer};
 use crate::line::{Line, Lines};
+use crate::pair_lines::is_shared;
 use crate::whom::{Whom, line_of};
 use std::alloc::{AllocError, Global};
 use sysmem_counts::Field;
@@ -62,15 +64,48 @@ fn whom_for(field: Field, offer: &Offer) -> Whom
     }
 }
 
-/// The first line of the table that is true for the offer of the participants at these nodes, `None` where they share it. Who lacks its format
-/// is kept for the next offer.
+/// The line before, if it refuses this offer too and is the first that does: they are of one pair, and nobody refuses the colour space
+/// for which it would come first.
+fn line_again(
+    tree: &Tree,
+    nodes: &[NodeId],
+    earlier: &Offer,
+    offer: &Offer,
+    before: &[Line],
+) -> Result<Option<Line>, AllocError>
+    requires { All (HasNode tree.now.nodes) nodes.now }
+    ensures { (whole : _) (ms : List Member)
+        → RefusesLast (RefusesOffer whole ms) earlier.now before.now
+        → IfOk result (λ line. IfSome line (RefusesOffer whole ms offer.now)) }
+{
+    let Some(last) = before.last() else {
+        return Ok(None);
+    };
+    let field = last.field();
+    if !is_shared(field, earlier, offer) {
+        return Ok(None);
+    }
+    if !comes_first(field) && first_lacking(tree, nodes, Field::ColorSpaces, offer).is_some() {
+        return Ok(None);
+    }
+    let line = last.again()?;
+    Ok(Some(line))
+}
+
+/// Whether no line of a colour space comes before one with this field.
+fn comes_first(field: Field) -> bool
+    ensures { IsTrue result → field ≡ PixelFormat }
+{
+    matches!(field, Field::PixelFormat)
+}
+
+/// The first line of the table that is true for the offer of the participants at these nodes, `None` where they share it.
 fn offer_line(
     alloc: Global,
     tree: &Tree,
     nodes: &[NodeId],
     offer: &Offer,
     whole: bool,
-    lacking: &mut Option<Lacking>,
     before: &[Line],
 ) -> Result<Option<Line>, AllocError>
     requires { All (HasNode tree.now.nodes) nodes.now }
@@ -79,7 +114,7 @@ fn offer_line(
     ensures share { (ms : List Member) → StandFor (members_at tree.now.nodes nodes.now) ms
         → IfOk result (λ line. IfNone line (ShareOffer whole ms offer.now)) }
 {
-    match read_offer(tree, nodes, offer, lacking) {
+    match read_offer(tree, nodes, offer) {
         Reading::Refused(field, node) => {
             let line = line_of(alloc, tree, &[node], field, Whom::All, before)?;
             Ok(Some(line))
@@ -92,6 +127,31 @@ fn offer_line(
             Ok(Some(line))
         }
     }
+}
+
+/// The same, where the last of the lines so far is that of an earlier offer: it is taken again where it is the offer's own.
+fn next_line(
+    alloc: Global,
+    tree: &Tree,
+    nodes: &[NodeId],
+    earlier: &Offer,
+    offer: &Offer,
+    whole: bool,
+    before: &[Line],
+) -> Result<Option<Line>, AllocError>
+    requires there { All (HasNode tree.now.nodes) nodes.now }
+    requires last { (ms : List Member) → StandFor (members_at tree.now.nodes nodes.now) ms
+        → RefusesLast (RefusesOffer whole ms) earlier.now before.now }
+    ensures line { (ms : List Member) → StandFor (members_at tree.now.nodes nodes.now) ms
+        → IfOk result (λ line. IfSome line (RefusesOffer whole ms offer.now)) }
+    ensures share { (ms : List Member) → StandFor (members_at tree.now.nodes nodes.now) ms
+        → IfOk result (λ line. IfNone line (ShareOffer whole ms offer.now)) }
+{
+    let again = line_again(tree, nodes, earlier, offer, before)?;
+    if again.is_some() {
+        return Ok(again);
+    }
+    offer_line(alloc, tree, nodes, offer, whole, before)
 }
 
 /// Lines that refuse each offer of the platform to the participants at these nodes, or each before the first that they share; where it
@@ -110,15 +170,16 @@ pub(crate) fn refused_offers(
         (Ends until (λ (o : Offered). o) (ShareOffer whole ms)) (offers_of platform.now)) }
 {
     let mut lines = Vec::new(alloc);
-    let mut lacking = None;
+    let mut earlier = Offer::NoImage;
     while let Some(offer) = offer_at(platform.pairs(), platform.colours(), lines.len()) {
         if until == Some(offer) {
             return Ok(Refusals::UpTo(Lines::new(lines)));
         }
-        let Some(line) = offer_line(alloc, tree, nodes, &offer, whole, &mut lacking, &lines)? else {
+        let Some(line) = next_line(alloc, tree, nodes, &earlier, &offer, whole, &lines)? else {
             return Ok(Refusals::UpTo(Lines::new(lines)));
         };
         lines.push(line)?;
+        earlier = offer;
     }
     Ok(Refusals::Whole(Lines::fitted(lines)?))
 }

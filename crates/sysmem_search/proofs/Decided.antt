@@ -20,7 +20,7 @@ use Rattle.sysmem_tree.specs.Shape.{Member, by_number, forest_of, shape_of}
 use Rattle.list_lemmas.proofs.CallerLemmas.{of_some}
 
 -- the best settings meet
-best_is_met : (platform : PlatformFacts) (terms : Option Terms) (ms : List Member) (s : Settings) → IsBestFor platform terms ms s → MeetsFor platform terms ms s
+pub best_is_met : (platform : PlatformFacts) (terms : Option Terms) (ms : List Member) (s : Settings) → IsBestFor platform terms ms s → MeetsFor platform terms ms s
 best_is_met platform None ms s best = best.meets
 best_is_met platform (Some terms) ms s best = best
 

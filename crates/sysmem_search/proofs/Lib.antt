@@ -13,3 +13,4 @@ pub mod Unmet
 pub mod Cut
 pub mod Refuted
 pub mod Proved
+pub mod Sharing

@@ -6,3 +6,4 @@ pub mod Standing
 pub mod Searching
 pub mod Cut
 pub mod Refuting
+pub mod Wide

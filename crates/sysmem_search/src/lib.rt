@@ -16,7 +16,9 @@ mod question;
 mod refuting;
 mod searching;
 mod settling;
+mod wide;
 
 pub use deciding::{Found, search};
 pub use gate::{Gate, NoGate};
 pub use proving::prove;
+pub use wide::search_wide;

@@ -53,7 +53,8 @@ pub(crate) fn search_frozen(alloc: Global, frozen: &Frozen) -> Result<Searched, 
     })
 }
 
-fn tell_verdict(text: &mut String, verdict: &Verdict) -> Result<(), Fail> {
+/// What was decided, with the choices and the number of buffers.
+pub(crate) fn tell_verdict(text: &mut String, verdict: &Verdict) -> Result<(), Fail> {
     match verdict {
         Verdict::Chosen(chosen) => {
             let choices = chosen.selection().choices();

@@ -11,6 +11,10 @@ mod equal;
 #[cfg(test)]
 mod finding;
 #[cfg(test)]
+mod fitting;
+#[cfg(test)]
+mod orders;
+#[cfg(test)]
 mod playing;
 #[cfg(test)]
 mod searches;
@@ -18,3 +22,5 @@ mod searches;
 mod small_trees;
 #[cfg(test)]
 mod steps;
+#[cfg(test)]
+mod workers;

@@ -22,19 +22,25 @@ fn tell_groups(script: &mut String, many: u32) -> Result<(), Fail> {
     Ok(())
 }
 
-// What is frozen after these groups and steps.
-fn frozen(alloc: Global, many: u32, then: &str) -> Result<Frozen, Fail> {
+/// What is frozen after these groups and steps.
+pub(crate) fn frozen(alloc: Global, many: u32, then: &str) -> Result<Frozen, Fail> {
     let mut script = String::new(alloc);
     tell_groups(&mut script, many)?;
     script.push_str(then)?;
     frozen_after(alloc, &script)
 }
 
-// A name, how many groups of two there are, the steps, and what is found.
-type Row = (&'static str, u32, &'static str, &'static str);
+/// A name, how many groups of two there are, the steps, and what is found.
+pub(crate) type Row = (&'static str, u32, &'static str, &'static str);
 
-// As worked by hand.
-const ROWS: [Row; 9] = [
+/// As worked by hand.
+pub(crate) const ROWS: [Row; 10] = [
+    (
+        "slack",
+        0,
+        "/ duplicate duplicate release /0 bind camps_on_2_and_slack /1 bind camps_on_3",
+        "chosen [] count 9 visits 1 told 1 most 0:; accepted wrong_shape",
+    ),
     (
         "groups_share_nv12",
         0,

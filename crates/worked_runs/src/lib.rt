@@ -1,7 +1,10 @@
-//! Readers and writers that fail, and what runs over them write. It is a crate of tests alone, so that neither the transfer of
-//! bytes nor the run of a script is proved again with its tests.
+//! Readers and writers that fail, what runs over them write, and who makes a script's calls. It is a
+//! crate of tests alone, so that neither the transfer of bytes nor the run of a script is proved
+//! again with its tests.
 #![tactic(auto)]
 
+#[cfg(test)]
+mod actors;
 #[cfg(test)]
 mod counted;
 #[cfg(test)]

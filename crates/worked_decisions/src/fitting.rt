@@ -1,0 +1,78 @@
+//! What was frozen of a book, and which books it fits.
+
+use crate::attached::RELEASED;
+use crate::equal::is_equal;
+use crate::playing::{frozen_after, played};
+use std::alloc::Global;
+use std::process::Abort;
+use std::test::Fail;
+use sysmem_alloc::Frozen;
+
+// Of a, whose token c was duplicated, and b, all of whom are set: c is made last here.
+const FROZEN: &str =
+    "/ duplicate duplicate /0 duplicate bind cpu /1 bind camps_on_2 /0/0 bind cpu / release";
+
+// Books that have what was frozen of that one still: itself, with a token attached since, and with c made before b.
+const FITTING: [&str; 3] = [
+    FROZEN,
+    "/ duplicate duplicate /0 duplicate bind cpu /1 bind camps_on_2 /0/0 bind cpu / release /1 attach_token",
+    "/ duplicate /0 duplicate / duplicate /0 bind cpu /0/0 bind cpu /1 bind camps_on_2 / release",
+];
+
+// Books that haven't: decided, not ready, with other constraints, with one more token, with c made by b.
+const OTHER: [&str; 5] = [
+    "/ duplicate duplicate /0 duplicate bind cpu /1 bind camps_on_2 /0/0 bind cpu / release decide",
+    "/ duplicate duplicate /0 duplicate bind cpu /1 bind camps_on_2 /0/0 bind cpu",
+    "/ duplicate duplicate /0 duplicate bind cpu /1 bind camps_on_1 /0/0 bind cpu / release",
+    "/ duplicate duplicate duplicate /0 duplicate bind cpu /1 bind camps_on_2 /0/0 bind cpu /2 release / release",
+    "/ duplicate duplicate /1 duplicate bind camps_on_2 /0 bind cpu /1/0 bind cpu / release",
+];
+
+// As the books of an attached domain, but a participant who was accepted asks less, though all have the same settings.
+const ACCEPTED_ASKS_LESS: &str =
+    "/ duplicate duplicate release /0 bind camps_on_2 /1 bind camps_on_3 decide /0 attach_token /0/0 bind camps_on_1 decide /1 attach_token /1/0 duplicate duplicate release /1/0/1 bind cpu /1/0/0 bind camps_on_1 /0 release";
+
+fn is_fitting(
+    rt: &impl Abort,
+    alloc: Global,
+    frozen: &Frozen,
+    script: &str,
+    wanted: bool,
+) -> Result<(), Fail> {
+    let book = played(alloc, script)?;
+    is_equal(rt, script, &book.fits(frozen), &wanted);
+    Ok(())
+}
+
+fn fits_all(
+    rt: &impl Abort,
+    alloc: Global,
+    frozen: &Frozen,
+    scripts: &[&str],
+    wanted: bool,
+) -> Result<(), Fail> {
+    for script in scripts {
+        is_fitting(rt, alloc, frozen, script, wanted)?;
+    }
+    Ok(())
+}
+
+#[test]
+fn which_books_fit(rt: HostRuntime) -> Result<(), Fail> {
+    let frozen = frozen_after(rt.alloc(), FROZEN)?;
+    fits_all(&rt, rt.alloc(), &frozen, &FITTING, true)?;
+    fits_all(&rt, rt.alloc(), &frozen, &OTHER, false)
+}
+
+#[test]
+fn which_books_of_an_attached_domain_fit(rt: HostRuntime) -> Result<(), Fail> {
+    let frozen = frozen_after(rt.alloc(), RELEASED)?;
+    fits_all(&rt, rt.alloc(), &frozen, &[RELEASED], true)?;
+    fits_all(
+        &rt,
+        rt.alloc(),
+        &frozen,
+        &[ACCEPTED_ASKS_LESS, FROZEN],
+        false,
+    )
+}

@@ -1,0 +1,158 @@
+//! Searches by several workers beside those of one, and that workers search at the same time.
+
+ghost use Rattle.std.specs.Prelude.{◌≤◌};
+
+use crate::equal::is_equal;
+use crate::finding::{search_frozen, tell_verdict};
+use crate::searches::{ROWS, Row, frozen};
+use std::alloc::Global;
+use std::process::Abort;
+use std::sync::atomic::{AtomicU64, Ordering};
+use std::test::Fail;
+use std::thread;
+use std::thread::Threads;
+use std::time::{Clock, Duration};
+use sysmem_alloc::Frozen;
+use sysmem_merge::Settings;
+use sysmem_proof::Verdict;
+use sysmem_search::{Found, Gate, NoGate, search_wide};
+
+fn settings_of(verdict: &Verdict) -> Option<Settings> {
+    match verdict {
+        Verdict::Chosen(chosen) => Some(chosen.settings()),
+        _ => None,
+    }
+}
+
+// What so many workers find of what is frozen.
+fn found_by<R: Threads + Sync, G: Gate + Sync>(
+    rt: &R,
+    alloc: Global,
+    frozen: &Frozen,
+    gate: &G,
+    workers: u32,
+) -> Result<Found, Fail>
+    requires some { 1 ≤ workers }
+    requires few { workers ≤ 64 }
+{
+    let platform = frozen.platform();
+    let tree = frozen.tree();
+    let domain = frozen.domain();
+    let base = frozen.base();
+    let found = search_wide(rt, alloc, platform, tree, domain, base, gate, workers)?;
+    Ok(found)
+}
+
+// They find what was worked out by hand, and settle it as one search does.
+fn find_as_worked<R: Threads + Abort + Sync>(
+    rt: &R,
+    alloc: Global,
+    row: Row,
+    workers: u32,
+) -> Result<(), Fail>
+    requires some { 1 ≤ workers }
+    requires few { workers ≤ 64 }
+{
+    let (name, many, then, wanted) = row;
+    let frozen = frozen(alloc, many, then)?;
+    let found = found_by(rt, alloc, &frozen, &NoGate, workers)?;
+    let mut told = String::new(alloc);
+    tell_verdict(&mut told, &found.verdict)?;
+    told.push_str(" visits")?;
+    is_equal(rt, name, &wanted.starts_with(told.as_str()), &true);
+    let alone = search_frozen(alloc, &frozen)?;
+    is_equal(
+        rt,
+        name,
+        &settings_of(&found.verdict),
+        &settings_of(&alone.claim.verdict),
+    );
+    Ok(())
+}
+
+#[test]
+fn workers_find_what_one_finds(rt: HostRuntime) -> Result<(), Fail> {
+    for row in ROWS {
+        find_as_worked(&rt, rt.alloc(), row, 1)?;
+        find_as_worked(&rt, rt.alloc(), row, 2)?;
+        find_as_worked(&rt, rt.alloc(), row, 64)?;
+    }
+    Ok(())
+}
+
+// How often a visit is held for a millisecond at most.
+const TURNS: u64 = 1_000;
+
+// Holds each visit of a choice or more until so many are entered, and counts those that it held in
+// vain.
+#[derive(Drop)]
+struct Meeting<'a, C> {
+    clock: &'a C,
+    wanted: u64,
+    entered: AtomicU64,
+    held_in_vain: AtomicU64,
+}
+
+impl<'a, C: Clock> Gate for Meeting<'a, C> {
+    fn at_prefix(&self, length: u32) {
+        if length == 0 {
+            return;
+        }
+        self.entered.fetch_add(1, Ordering::SeqCst);
+        for _turn in 0..TURNS {
+            if self.entered.load(Ordering::SeqCst) >= self.wanted {
+                return;
+            }
+            let _slept = thread::sleep(self.clock, Duration::from_millis(1));
+        }
+        self.held_in_vain.fetch_add(1, Ordering::SeqCst);
+    }
+}
+
+// As many workers as a group has children, each of which settings meet, are in their visits of one
+// choice at the same time.
+fn is_met_by_all<R: Threads + Abort + Clock + Sync>(
+    rt: &R,
+    alloc: Global,
+    name: &str,
+    then: &str,
+    workers: u32,
+) -> Result<(), Fail>
+    requires some { 1 ≤ workers }
+    requires few { workers ≤ 64 }
+{
+    let gate = Meeting {
+        clock: rt,
+        wanted: u64::from(workers),
+        entered: AtomicU64::new(0),
+        held_in_vain: AtomicU64::new(0),
+    };
+    let frozen = frozen(alloc, 0, then)?;
+    found_by(rt, alloc, &frozen, &gate, workers)?;
+    is_equal(rt, name, &gate.held_in_vain.load(Ordering::SeqCst), &0);
+    is_equal(
+        rt,
+        name,
+        &gate.entered.load(Ordering::SeqCst),
+        &u64::from(workers),
+    );
+    Ok(())
+}
+
+#[test]
+fn workers_search_at_the_same_time(rt: HostRuntime) -> Result<(), Fail> {
+    is_met_by_all(
+        &rt,
+        rt.alloc(),
+        "two workers",
+        "/ create_group release /0 create_child create_child all_children_present /0/0 bind cpu /0/1 bind cpu",
+        2,
+    )?;
+    is_met_by_all(
+        &rt,
+        rt.alloc(),
+        "four workers",
+        "/ create_group release /0 create_child create_child create_child create_child all_children_present /0/0 bind cpu /0/1 bind cpu /0/2 bind cpu /0/3 bind cpu",
+        4,
+    )
+}
