@@ -116,18 +116,18 @@ lines_from R (x ∷ xs) each =
     let rest = lines_from R xs (λ y has. each y (Contains-append_right (x ∷ []) xs y has)) in
     (first.0 ∷ rest.0, (first.1, rest.1))
 
--- a reason that is true of all that is settled is a conflict, by lines that name all
+-- a reason that is true of all that is settled is a conflict of its kind, by lines that name all
 pub reasons_are_conflicts : ReasonsAreConflicts
-reasons_are_conflicts platform d paths names (CountReason field) reason = (Count (record { field = field; nodes = paths }), (participants (settled d), names, reason))
+reasons_are_conflicts platform d paths names (CountReason field) reason = (Count (record { field = field; nodes = paths }), (participants (settled d), names, reason), refl)
 reasons_are_conflicts platform d paths names NoPlace reason =
     let lines = lines_from (RefusesPlace (settled d)) (places_of platform.heaps) (λ p has.
     let refused = reason p.place p.heap ((listed_is_place platform.heaps p.place p.heap).1 has) in
     (record { field = refused.0; nodes = paths }, (participants (settled d), names, refused.1))) in
-    (Places lines.0, lines.1)
+    (Places lines.0, lines.1, tt)
 reasons_are_conflicts platform d paths names NoOffer reason =
     let lines = lines_from (RefusesOffer (is_none (choices d)) (settled d)) (offers_of platform) (λ o has.
     elim (reason o has) as (λ _. (line : LineFacts) × RefusesOffer (is_none (choices d)) (settled d) o line) [
       | inl line ↦ (record { field = line.0; nodes = paths }, (participants (settled d), names, inl line.1))
       | inr unnamed ↦ (record { field = unnamed.1.0; nodes = paths }, (participants (settled d), names, inr (unnamed.0, unnamed.1.1)))
     ]) in
-    (Offers lines.0, lines.1)
+    (Offers lines.0, lines.1, tt)

@@ -47,3 +47,11 @@ pub mod LineByLine
 pub mod Shown
 pub mod Claiming
 pub mod BeforeBest
+pub mod Deciding
+pub mod SmallestImages
+pub mod OfferCases
+pub mod ReasonOrMet
+pub mod FailsOrCovers
+pub mod Refutable
+pub mod Certifying
+pub mod Provable

@@ -18,7 +18,7 @@ abbrev colour_of : Offer → ColourSpace → ColourSpace
 colour_of NoImage c = c
 colour_of (Image q d) c = d
 
-same_offer : (a b : Offer) → Decides (offer.ghosts.eq a b) (a ≡ b)
+pub same_offer : (a b : Offer) → Decides (offer.ghosts.eq a b) (a ≡ b)
 same_offer NoImage NoImage = (λ e. refl, λ e. refl)
 same_offer NoImage (Image q d) = (λ e. absurd (cc), λ e. absurd (cc))
 same_offer (Image p c) NoImage = (λ e. absurd (cc), λ e. absurd (cc))

@@ -33,7 +33,7 @@ use Rattle.sysmem_proof.specs.Asked.{asks_at}
 use Rattle.sysmem_proof.proofs.Rolls.{number, member, labels_at, members_labelled, numbers_labelled, all_labelled, settled_both, numbers_settled, members_settled, all_settled, root_within}
 
 -- a member has constraints
-abbrev asks : Member → Bool
+abbrev pub asks : Member → Bool
 asks m = is_some m.constraints
 
 -- a list without what fails a test
@@ -45,7 +45,7 @@ filter_sub p (x ∷ xs) = by (p x) refl (filter_sub p xs) where
   by false is rest = rw is (left_out x (filter p xs) xs rest)
 
 -- the members without constraints ask nothing
-asked_alike : (ms : List Member) → participants (filter asks ms) ≡ participants ms
+pub asked_alike : (ms : List Member) → participants (filter asks ms) ≡ participants ms
 asked_alike [] = refl
 asked_alike (m ∷ ms) = by m.constraints refl (asked_alike ms) where
   by : (c : Option Participant) → m.constraints ≡ c → participants (filter asks ms) ≡ participants ms → participants (filter asks (m ∷ ms)) ≡ participants (m ∷ ms)

@@ -8,6 +8,7 @@ use Rattle.sysmem_counts.specs.declared.field.Field.{Field}
 use Rattle.sysmem_formats.specs.declared.offer.Offer.{Offer}
 use Rattle.sysmem_image.specs.Entries.{first_match}
 use Rattle.sysmem_merge.specs.declared.reason.Reason.{Reason}
+use Rattle.sysmem_merge.specs.declared.reason.Reason.TheVariants as reasons
 use Rattle.sysmem_merge.specs.Demands.{OfferDemand}
 use Rattle.sysmem_merge.specs.Offers.{bounds_asked}
 use Rattle.sysmem_merge.specs.Reasons.{IsReason}
@@ -20,6 +21,7 @@ use Rattle.sysmem_proof.specs.declared.refutation.Item.{Item}
 use Rattle.sysmem_proof.specs.declared.refutation.Item.TheVariants.{Split}
 use Rattle.sysmem_proof.specs.Certificate.{Conflicts, Refutes, RefutesEarlier}
 use Rattle.sysmem_proof.specs.declared.conflict.Conflict.{Conflict}
+use Rattle.sysmem_proof.specs.declared.conflict.Conflict.TheVariants.{Count, Places, Offers}
 use Rattle.sysmem_proof.specs.Conflict.{IsConflict}
 use Rattle.sysmem_proof.specs.Members.{participants}
 use Rattle.sysmem_proof.specs.Naming.{Names}
@@ -50,10 +52,18 @@ has_entry o d = is_some (first_match o d.entries)
 abbrev pub BoundsAreOfSome : Type 0
 BoundsAreOfSome = (o : Offer) (ds : List OfferDemand) → bounds_asked o (filter (has_entry o) ds) ≡ bounds_asked o ds
 
--- a reason that is true of all that is settled, whom these paths name, is a conflict of an initial domain
+-- a conflict is of the reason's kind: a line of the same count field, a line for each place, or a line for each offer
+abbrev pub IsOfReason : Reason → Conflict → Type 0
+IsOfReason (reasons.Count field) (Count line) = line.field ≡ field
+IsOfReason reasons.NoPlace (Places lines) = Unit {0}
+IsOfReason reasons.NoOffer (Offers lines) = Unit {0}
+IsOfReason reason conflict = ⊥
+
+-- a reason that is true of all that is settled, whom these paths name, is a conflict of its kind of an initial domain
 abbrev pub ReasonsAreConflicts : Type 0
 ReasonsAreConflicts = (platform : PlatformFacts) (d : Forest Member) (paths : List (List ℕ)) → Names (settled d) paths (participants (settled d))
-    → (reason : Reason) → IsReason (is_none (choices d)) platform (participants (settled d)) reason → (c : Conflict) × IsConflict platform d c
+    → (reason : Reason) → IsReason (is_none (choices d)) platform (participants (settled d)) reason
+    → (c : Conflict) × IsConflict platform d c × IsOfReason reason c
 
 -- a split and behind it refutations of each choice refute a forest
 abbrev pub SplitsRefute : Type 1

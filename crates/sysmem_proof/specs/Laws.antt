@@ -8,12 +8,15 @@ use Rattle.sysmem_merge.specs.Fit.{fit_of, IsBestFit}
 use Rattle.sysmem_merge.specs.Settings.{Meets}
 use Rattle.sysmem_sanitise.specs.Participant.{Participant}
 use Rattle.sysmem_sanitise.specs.Platform.{PlatformFacts}
+use Rattle.sysmem_tree.specs.Domain.{HasDomain}
 use Rattle.sysmem_tree.specs.Forest.{Forest, choices, settled}
+use Rattle.sysmem_tree.specs.Node.{NodeFacts}
+use Rattle.sysmem_tree.specs.Nodes.{IsTree}
 use Rattle.sysmem_tree.specs.Selection.{after, IsSelection, IsEarlierSelection}
 use Rattle.sysmem_tree.specs.Shape.{Member}
 use Rattle.sysmem_proof.specs.declared.verdict.Verdict.{Verdict}
 use Rattle.sysmem_proof.specs.declared.verdict.Verdict.TheVariants as verdicts
-use Rattle.sysmem_proof.specs.Base.{Terms}
+use Rattle.sysmem_proof.specs.Base.{BaseFacts, Terms, IsGivenBase}
 use Rattle.sysmem_proof.specs.declared.refutation.Item.{Item}
 use Rattle.sysmem_proof.specs.CertificateFacts.{CertificateFacts}
 use Rattle.sysmem_proof.specs.Certificate.{IsCertificate, IsRefutation, RefutesEarlier}
@@ -21,11 +24,12 @@ use Rattle.sysmem_proof.specs.declared.certificate.Proof.{Proof}
 use Rattle.sysmem_proof.specs.declared.refutation.Item.TheVariants.{Split}
 use Rattle.sysmem_proof.specs.Check.{ChoicePasses, RefutationPasses, VerdictPasses, IsLeastAt, IsProof}
 use Rattle.sysmem_proof.specs.Chosen.{ChosenFacts}
+use Rattle.sysmem_proof.specs.Claim.{IsProofIn}
 use Rattle.sysmem_proof.specs.declared.conflict.Conflict.{Conflict}
 use Rattle.sysmem_proof.specs.Conflict.{IsConflictFor}
 use Rattle.sysmem_proof.specs.declared.no.No.{No}
 use Rattle.sysmem_proof.specs.Fault.{ChoiceFaults, EmptyFaults, VerdictFaults}
-use Rattle.sysmem_proof.specs.Verdict.{IsForestUnmet, MeetsFor, MeetsLooselyFor, MeetsSettled, IsOptimalFor, IsSameAnswer}
+use Rattle.sysmem_proof.specs.Verdict.{IsForestUnmet, MeetsFor, MeetsLooselyFor, MeetsSettled, IsOptimalFor, IsOptimalIn, IsSameAnswer}
 
 -- two optimal verdicts of one domain on the same terms are equal in kind, selection and settings
 abbrev pub OneAnswer : Type 0
@@ -122,3 +126,9 @@ AllRefutationsGrow = (platform : PlatformFacts) (terms : Option Terms) (d : Fore
 abbrev pub LeastIsComputed : Type 0
 LeastIsComputed = (platform : PlatformFacts) (ps : List Participant) (s r : Settings) → r.place ≡ s.place → Meets platform ps s
     → IsBestFit s.offer (offer_demands ps) (fit_of r) → IsLeastCount (counts_asked ps) r.count → (s ≡ r) ↔ IsLeastAt platform ps s
+
+-- for each optimal verdict on a domain of a tree, initial or attached on its base, there is a proof that proves it
+abbrev pub OptimalHasProof : Type 0
+OptimalHasProof = (platform : PlatformFacts) (nodes : List NodeFacts) (domain : ℕ) (base : Option BaseFacts) (v : Verdict)
+    → IsTree nodes → HasDomain nodes domain → IsGivenBase platform nodes domain base → IsOptimalIn platform nodes domain base v
+    → (proof : Proof) × IsProofIn platform nodes domain base v proof

@@ -2,12 +2,13 @@
 
 ghost use Rattle.sysmem_proof.specs.Cannot.{LinesSay};
 ghost use Rattle.sysmem_proof.specs.Finder.{SomeAreNamed, CountsAreOfSome, FixedCountsAreOfSome, BoundsAreOfSome, ReasonsAreConflicts};
-ghost use Rattle.sysmem_proof.specs.Laws.{OneAnswer, CutsLoseNothing, SelectionsSplit, EarlierGoesBy, ConflictsAreTrue, TestsAreExact, FaultsAreFirst, AllRefutationsGrow, LeastIsComputed};
+ghost use Rattle.sysmem_proof.specs.Laws.{OneAnswer, CutsLoseNothing, SelectionsSplit, EarlierGoesBy, ConflictsAreTrue, TestsAreExact, FaultsAreFirst, AllRefutationsGrow, LeastIsComputed, OptimalHasProof};
 
 use sysmem_merge::laws::{
     count_line_leaves_none, offer_line_leaves_none, one_best, one_fit, place_line_leaves_none,
     some_are_met, unnamed_line_leaves_none,
 };
+use sysmem_tree::laws::{members_stand_once, one_forest, one_path};
 
 /// Two optimal verdicts of one domain, initial or attached on the same base, are equal in kind, selection and settings.
 pub fn one_answer()
@@ -68,7 +69,9 @@ pub fn some_are_named()
     ensures named { SomeAreNamed }
 {}
 
-/// Where there is a reason why no settings meet the settled participants of an initial domain, some conflict is true of them.
+/// Where there is a reason why no settings meet the settled participants of an initial domain, a
+/// conflict of its kind is true of them: of a count line the same field, else a line for each place,
+/// or one for each offer.
 pub fn reasons_are_conflicts()
     ensures { ReasonsAreConflicts }
 {}
@@ -90,4 +93,14 @@ pub fn least_is_computed()
     ensures { LeastIsComputed }
 {
     one_fit();
+}
+
+/// For each optimal verdict on a domain of a tree, initial or attached on its base, there is a proof
+/// that proves it.
+pub fn optimal_has_proof()
+    ensures { OptimalHasProof }
+{
+    one_path();
+    one_forest();
+    members_stand_once();
 }
