@@ -26,3 +26,4 @@ pub mod CallerLemmas
 pub mod Fitting
 pub mod Still
 pub mod StillThere
+pub mod Certified

@@ -8,7 +8,7 @@ use Rattle.sysmem_alloc.specs.History.{after_entry, replay_from, replay, Allows,
 use Rattle.sysmem_alloc.specs.State.{State, first_state}
 
 -- of entries that are allowed, those in front are, and those behind are after them
-allowed_split : (platform : PlatformFacts) (s : State) (es fs : List BookEntry) → AreAllowed platform s (es ++ fs) → AreAllowed platform s es × AreAllowed platform (replay_from s es) fs
+pub allowed_split : (platform : PlatformFacts) (s : State) (es fs : List BookEntry) → AreAllowed platform s (es ++ fs) → AreAllowed platform s es × AreAllowed platform (replay_from s es) fs
 allowed_split platform s [] fs all = (tt, all)
 allowed_split platform s (e ∷ es) fs all = let (front, behind) = allowed_split platform (after_entry s e) es fs all.1 in ((all.0, front), behind)
 

@@ -1,7 +1,8 @@
 -- What is true of legal histories.
-use Rattle.std.specs.Prelude.{◌≡◌, ◌↔◌, ◌≤◌, ◌++◌, ℕ, true, List, length, Option, Some, map, option_map}
+use Rattle.std.specs.Prelude.{◌≡◌, ◌↔◌, ◌≤◌, ◌++◌, ℕ, true, List, ◌∷◌, length, Option, Some, map, option_map}
 use Rattle.std.specs.List.{Contains}
 use Rattle.sysmem_proof.specs.declared.certificate.Claim.{Claim}
+use Rattle.sysmem_proof.specs.declared.certificate.Proof.{Proof}
 use Rattle.sysmem_proof.specs.declared.verdict.Verdict.{Verdict}
 use Rattle.sysmem_proof.specs.Base.{BaseFacts, IsGivenBase, terms_of}
 use Rattle.sysmem_proof.specs.Claim.{IsTrueClaim}
@@ -16,7 +17,7 @@ use Rattle.sysmem_tree.specs.History.{log_at}
 use Rattle.sysmem_alloc.specs.Book.{BookFacts, book_of}
 use Rattle.sysmem_alloc.specs.Claims.{HasProof, IsRightClaim}
 use Rattle.sysmem_alloc.specs.Decision.{Decision, decision_for}
-use Rattle.sysmem_alloc.specs.Entry.{BookEntry, tree_entry}
+use Rattle.sysmem_alloc.specs.Entry.{BookEntry, Decided, tree_entry}
 use Rattle.sysmem_alloc.specs.Frozen.{FrozenFacts, IsStill}
 use Rattle.sysmem_alloc.specs.History.{AreActions, IsLegal, NoEarlyClose, SameCalls, replay}
 use Rattle.sysmem_alloc.specs.Sound.{AgreesWithTree, IsSoundState}
@@ -104,3 +105,11 @@ FitIsRight = (b : BookFacts) (f : FrozenFacts) (c : Claim) → IsStill b f → F
 abbrev pub ProvedClaimsAreTrue : Type 0
 ProvedClaimsAreTrue = (platform : PlatformFacts) (nodes : List NodeFacts) (domain : ℕ) (base : Option BaseFacts) (claim : Claim)
     → IsTrueClaim platform nodes domain base claim ↔ (IsRightClaim platform nodes domain base claim × HasProof claim)
+
+-- each verdict that a legal history decided has a certificate: with some proof it is a true claim of its domain as it
+-- stood then, on what it was decided on, whether or not it was entered with one
+abbrev pub DecisionsHaveProofs : Type 0
+DecisionsHaveProofs = (platform : PlatformFacts) (es fs : List BookEntry) (r : ℕ) (c : Claim)
+    → IsLegal platform (es ++ Decided (record { domain = r; claim = Some c }) ∷ fs)
+    → (proof : Proof)
+    × IsTrueClaim platform (replay es).tree.nodes r (base_of (replay es) r) (record { verdict = c.verdict; proof = proof })

@@ -1,8 +1,8 @@
 //! What is true of the histories of books, whoever keeps them.
 
-ghost use Rattle.sysmem_alloc.specs.Laws.{LegalIsSound, LegalAgrees, BaseIsGiven, FewEntries, ReadyWaits, NumbersStay, VerdictStays, NextStays, FitStays, FitIsRight, InitialShape, Confluence, ProvedClaimsAreTrue};
+ghost use Rattle.sysmem_alloc.specs.Laws.{LegalIsSound, LegalAgrees, BaseIsGiven, FewEntries, ReadyWaits, NumbersStay, VerdictStays, NextStays, FitStays, FitIsRight, InitialShape, Confluence, ProvedClaimsAreTrue, DecisionsHaveProofs};
 
-use sysmem_proof::laws::one_answer;
+use sysmem_proof::laws::{one_answer, optimal_has_proof};
 use sysmem_tree::laws;
 use sysmem_tree::laws::{
     failed_stays, forest_stays, maps_of_logs, members_stand_once, members_stay, one_forest,
@@ -128,3 +128,14 @@ pub fn fit_is_right()
 pub fn proved_claims_are_true()
     ensures { ProvedClaimsAreTrue }
 {}
+
+/// Each verdict that a legal history decided has a certificate: with some proof it is a true claim of
+/// its domain as it stood then, one to which `check` of `sysmem_proof` says yes, whether or not it was
+/// entered with a proof.
+pub fn decisions_have_proofs()
+    ensures { DecisionsHaveProofs }
+{
+    legal_is_sound();
+    base_is_given();
+    optimal_has_proof();
+}
