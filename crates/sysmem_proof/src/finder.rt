@@ -1,6 +1,6 @@
 //! Why no settings meet what is settled, and what is refused before what was chosen.
 
-ghost use Rattle.std.specs.Prelude.{◌≡◌, ◌≢◌, ◌≤◌, ◌<◌, ◌++◌, ℕ, List, All, AllPairs, Some, None, is_none, length, option_map, IfOk, IfSome, IfNone};
+ghost use Rattle.std.specs.Prelude.{◌≡◌, ◌≢◌, ◌≤◌, ◌<◌, ◌++◌, ℕ, List, [], All, AllPairs, Some, None, is_none, length, option_map, IfOk, IfSome, IfNone};
 ghost use Rattle.sysmem_merge.specs.declared.settings.Settings.{Settings as Settled};
 ghost use Rattle.sysmem_proof.specs.Base.{IsElsewhere, IsGivenBase, terms_of};
 ghost use Rattle.sysmem_proof.specs.Certificate.{RefuseBeforeFor};
@@ -12,9 +12,11 @@ ghost use Rattle.sysmem_proof.specs.Verdict.{MeetsFixed, MeetsSettled};
 ghost use Rattle.sysmem_proof.specs.declared.refutation.Item.{Item};
 ghost use Rattle.sysmem_tree.specs.Domain.{HasDomain};
 ghost use Rattle.sysmem_tree.specs.Forest.{Forest, choices, settled};
+ghost use Rattle.sysmem_tree.specs.Layout.{IsLayout};
 ghost use Rattle.sysmem_tree.specs.Nodes.{HasNode};
+ghost use Rattle.sysmem_tree.specs.OpenGroups.{HoldsNodes};
 ghost use Rattle.sysmem_tree.specs.Selection.{IsPrefix, IsSelection, after};
-ghost use Rattle.sysmem_tree.specs.Shape.{Member, shape_of};
+ghost use Rattle.sysmem_tree.specs.Shape.{Member, by_number, forest_of, shape_of};
 
 use crate::base::Base;
 use crate::conflict::Conflict;
@@ -32,7 +34,7 @@ use sysmem_merge::laws::{
 use sysmem_sanitise::Platform;
 use sysmem_tree::laws::{members_stand_once, one_forest, one_path};
 use sysmem_tree::layout_laws::choices_leave_one_forest;
-use sysmem_tree::{DomainId, NodeId, Prefix, Tree};
+use sysmem_tree::{DomainId, Layout, NodeId, Prefix, Tree};
 
 /// Lines for what stands before settings in a platform's order: these refuse it.
 #[derive(Debug, Drop)]
@@ -43,9 +45,16 @@ pub struct LinesBefore {
     pub places: Lines,
 }
 
-/// The participants that these choices settle in a domain of the tree, in pre-order.
-fn settled_at(tree: &Tree, domain: DomainId, prefix: &Prefix) -> Result<Vec<NodeId>, AllocError>
+/// The participants that these choices settle in a domain of the tree, by its layout, in pre-order.
+fn settled_at(
+    tree: &Tree,
+    domain: DomainId,
+    layout: &Layout,
+    prefix: &Prefix,
+) -> Result<Vec<NodeId>, AllocError>
     requires domain { HasDomain tree.now.nodes domain }
+    requires lays { IsLayout layout.now (forest_of by_number tree.now.nodes domain []) }
+    requires nodes { HoldsNodes layout.now tree.now.nodes }
     requires prefix { IsPrefix (shape_of tree.now.nodes domain) prefix.now }
     ensures { (d : Forest Member) (accepted : List ℕ)
         → after (shape_of tree.now.nodes domain) prefix.now ≡ Some d
@@ -58,7 +67,8 @@ fn settled_at(tree: &Tree, domain: DomainId, prefix: &Prefix) -> Result<Vec<Node
     members_stand_once();
     choices_leave_one_forest();
     tree.nodes();
-    tree.participants(domain, prefix.choices())
+    let _ = domain;
+    tree.participants_in(layout, prefix.choices())
 }
 
 /// These nodes, then those.
@@ -171,20 +181,25 @@ pub fn find_conflict(
 {
     choices_leave_one_forest();
     let whole = tree.next_group(domain, prefix).is_none();
-    find_conflict_as(alloc, platform, tree, domain, base, prefix, whole)
+    let layout = tree.layout(domain);
+    find_conflict_as(alloc, platform, tree, domain, &layout, base, prefix, whole)
 }
 
-/// As `find_conflict`, for a caller who knows whether the choices are a selection, so that no group is left: `whole`.
+/// As `find_conflict`, for a caller who has the domain's layout and knows whether the choices are a selection, so that no group is left:
+/// `whole`.
 pub fn find_conflict_as(
     alloc: Global,
     platform: &Platform,
     tree: &Tree,
     domain: DomainId,
+    layout: &Layout,
     base: Option<&Base>,
     prefix: &Prefix,
     whole: bool,
 ) -> Result<Option<Conflict>, AllocError>
     requires domain { HasDomain tree.now.nodes domain }
+    requires lays { IsLayout layout.now (forest_of by_number tree.now.nodes domain []) }
+    requires nodes { HoldsNodes layout.now tree.now.nodes }
     requires base { IsGivenBase platform.now tree.now.nodes domain
         (option_map (λ b. b.now) base) }
     requires prefix { IsPrefix (shape_of tree.now.nodes domain) prefix.now }
@@ -200,7 +215,7 @@ pub fn find_conflict_as(
         → IfOk result (λ found. IfNone found ((t : Settled) × MeetsSettled platform.now
         (option_map (terms_of tree.now.nodes) (option_map (λ b. b.now) base.entry)) d t)) }
 {
-    let nodes = settled_at(tree, domain, prefix)?;
+    let nodes = settled_at(tree, domain, layout, prefix)?;
     match base {
         Some(base) => find_on_base(alloc, platform, tree, base, &nodes),
         None => find_initial(alloc, platform, tree, &nodes, whole),
@@ -239,7 +254,8 @@ pub fn lines_before(
             places: Lines::new(Vec::new(alloc)),
         });
     }
-    let nodes = settled_at(tree, domain, selection)?;
+    let layout = tree.layout(domain);
+    let nodes = settled_at(tree, domain, &layout, selection)?;
     let (offer, place) = (settings.offer, settings.place);
     let offers = refused_offers(alloc, platform, tree, &nodes, true, Some(offer))?;
     let places = refused_places(alloc, platform, tree, &nodes, Some(place))?;

@@ -23,14 +23,14 @@ use sysmem_sanitise::{Constraints, Platform};
 use sysmem_tree::{NodeId, Tree};
 
 /// A participant who refuses something, and the first field by which it does.
-#[derive(Clone, Copy, Debug)]
+#[derive(Clone, Copy)]
 pub(crate) struct Refuser {
     pub(crate) field: Field,
     pub(crate) node: NodeId,
 }
 
 /// What participants ask of an offer, read one after the other.
-#[derive(Clone, Copy, Debug)]
+#[derive(Clone, Copy)]
 pub(crate) enum Reading {
     /// This participant doesn't take it, by this field: its format, or else its colour space.
     Refused(Field, NodeId),

@@ -13,7 +13,7 @@ use sysmem_tree::layout_laws::{choice_settles_share, none_open_is_selection};
 use sysmem_tree::{DomainId, Layout, MOST_NODES, NodeId, Prefix, SettledNodes, Tree};
 
 /// Some nodes of a tree, at most 128.
-#[derive(Debug, Drop)]
+#[derive(Drop)]
 pub(crate) struct Members {
     nodes: [NodeId; 128],
     many: usize,

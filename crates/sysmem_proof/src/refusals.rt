@@ -30,7 +30,7 @@ use sysmem_sanitise::Platform;
 use sysmem_tree::{NodeId, Tree};
 
 /// Lines for the first of a platform's offers, or of its places, which refuse them.
-#[derive(Debug, Drop)]
+#[derive(Drop)]
 pub(crate) enum Refusals {
     /// A line for each.
     Whole(Lines),

@@ -18,7 +18,7 @@ use sysmem_sanitise::Constraints;
 use sysmem_tree::{NodeId, Tree};
 
 /// Whom of some participants a line names.
-#[derive(Clone, Copy, Debug)]
+#[derive(Clone, Copy)]
 pub(crate) enum Whom {
     /// Each.
     All,

@@ -20,7 +20,7 @@ use sysmem_sanitise::{Constraints, Platform};
 use sysmem_tree::{DomainId, Tree};
 
 /// What is kept of the participants that one choice settles, made once for a search.
-#[derive(Debug, Drop)]
+#[derive(Drop)]
 pub(crate) enum Part {
     /// Of an initial domain: what they ask for together.
     Share(Share),
@@ -29,7 +29,7 @@ pub(crate) enum Part {
 }
 
 /// What is kept of the participants that a prefix settles.
-#[derive(Debug, Drop)]
+#[derive(Drop)]
 pub(crate) enum Kept {
     /// Of an initial domain: what they ask for together.
     Sum(Sum),

@@ -21,7 +21,7 @@ use sysmem_sanitise::Platform;
 use sysmem_tree::{ChildPlace, DomainId, GroupPlace, Layout, MOST_NODES, Tree};
 
 /// What is kept at a prefix. Those of longer prefixes are written over, so that a visit takes no memory.
-#[derive(Debug, Drop)]
+#[derive(Drop)]
 pub(crate) struct Level {
     /// The first group that is open after the choices.
     pub(crate) group: Option<GroupPlace>,

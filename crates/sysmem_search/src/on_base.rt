@@ -22,7 +22,7 @@ use sysmem_tree::{NodeId, Tree};
 
 /// What participants ask of the number of buffers together with those accepted before them, and whether each of them accepts the
 /// base's settings.
-#[derive(Clone, Copy, Debug)]
+#[derive(Clone, Copy)]
 pub(crate) struct OnBase {
     counts: CountBounds,
     all_accept: bool,

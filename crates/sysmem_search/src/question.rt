@@ -179,6 +179,7 @@ impl<'a> Question<'a> {
             self.platform,
             self.tree,
             self.domain,
+            &self.layout,
             self.base,
             &self.prefix,
             whole,

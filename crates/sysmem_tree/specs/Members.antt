@@ -1,11 +1,14 @@
 -- The members of a selection as nodes of the tree, and those that are marked.
-use Rattle.std.specs.Prelude.{◌≡◌, ◌≢◌, ◌&&◌, ℕ, Bool, false, List, All, AllPairs, IsSomeAnd, get_or, is_some, option_and_then, option_map, slice_get, Option}
+use Rattle.std.specs.Prelude.{◌≡◌, ◌≢◌, ◌&&◌, ℕ, Bool, false, List, [], All, AllPairs, IsSomeAnd, get_or, is_some, option_and_then, option_map, slice_get, Option}
 use Rattle.sysmem_tree.specs.Domain.{HasDomain}
 use Rattle.sysmem_tree.specs.Laws.{IsSameDomain}
 use Rattle.sysmem_tree.specs.Node.{NodeFacts}
 use Rattle.sysmem_tree.specs.Nodes.{IsTree}
 use Rattle.sysmem_tree.specs.Path.{path_of}
-use Rattle.sysmem_tree.specs.Shape.{Member, by_path, members_of}
+use Rattle.sysmem_tree.specs.declared.layout.Layout.{Layout}
+use Rattle.sysmem_tree.specs.Layout.{IsLayout}
+use Rattle.sysmem_tree.specs.Selection.{IsPrefix}
+use Rattle.sysmem_tree.specs.Shape.{Member, by_number, by_path, forest_of, members_of}
 
 -- nodes of the domain that r roots, each once
 pub record AreItsNodes (nodes : List NodeFacts) (r : ℕ) (members : List ℕ) : Type 0 where
@@ -28,3 +31,9 @@ MembersStay = (old new : List NodeFacts) (r : ℕ) (cs : List ℕ) → IsTree ol
 -- whether a node is marked and has constraints
 abbrev pub is_marked : List NodeFacts → List Bool → ℕ → Bool
 is_marked nodes marks i = get_or marks i false && is_some (option_and_then (λ n. n.constraints) (slice_get nodes i))
+
+-- the layout is that of the domain that r roots, and the choices are for its first groups
+pub record IsChosenIn (nodes : List NodeFacts) (layout : Layout) (cs : List ℕ) (r : ℕ) : Type 0 where
+  pub there : HasDomain nodes r
+  pub lays : IsLayout layout (forest_of by_number nodes r [])
+  pub prefix : IsPrefix (forest_of by_number nodes r []) cs

@@ -6,8 +6,9 @@ ghost use Rattle.sysmem_tree.specs.Domain.{HasDomain};
 ghost use Rattle.sysmem_tree.specs.Forest.{Forest};
 ghost use Rattle.sysmem_tree.specs.Laws.{labels};
 ghost use Rattle.sysmem_tree.specs.Layout.{HoldNumbers, IsLayout};
-ghost use Rattle.sysmem_tree.specs.Members.{is_marked};
+ghost use Rattle.sysmem_tree.specs.Members.{IsChosenIn, is_marked};
 ghost use Rattle.sysmem_tree.specs.Nodes.{HasNode};
+ghost use Rattle.sysmem_tree.specs.OpenGroups.{HoldsNodes};
 ghost use Rattle.sysmem_tree.specs.Selection.{IsPrefix};
 ghost use Rattle.sysmem_tree.specs.Shape.{by_number, forest_of, participants_of};
 
@@ -33,6 +34,23 @@ impl Tree {
         Ok(nodes)
     }
 
+    /// The same, of the domain that a layout of the tree lays out, without laying it out again.
+    pub fn participants_in(
+        &self,
+        layout: &Layout,
+        choices: &[u8],
+    ) -> Result<Vec<NodeId>, AllocError>
+        requires nodes { HoldsNodes layout.now self.now.nodes }
+        requires domain { (r : ℕ) × IsChosenIn self.now.nodes layout.now choices.now r }
+        ensures nodes { (r : ℕ) → IsChosenIn self.now.nodes layout.now choices.now r
+            → IfOk result (λ nodes. nodes.items ≡ participants_of self.now.nodes r choices.now) }
+        ensures there { IfOk result (λ nodes. All (HasNode self.now.nodes) nodes.items) }
+    {
+        let mut nodes = Vec::with_capacity(*self.nodes.allocator(), MOST_NODES)?;
+        self.add_settled(layout, choices, &mut nodes);
+        Ok(nodes)
+    }
+
     /// Adds the participants of the selection that these choices make in a domain of the tree, in
     /// pre-order, to nodes that have room for them. It takes no memory, and one pass over the nodes.
     pub fn add_participants(&self, domain: DomainId, choices: &[u8], nodes: &mut Vec<NodeId>)
@@ -46,8 +64,22 @@ impl Tree {
     {
         let _ = &self.nodes;
         let layout = self.layout(domain);
-        let marks = marks_after(&layout, choices);
-        self.add_marked(&layout, &marks, nodes);
+        self.add_settled(&layout, choices, nodes);
+    }
+
+    /// Adds the participants of the selection that these choices make in the domain of a layout.
+    fn add_settled(&self, layout: &Layout, choices: &[u8], nodes: &mut Vec<NodeId>)
+        requires nodes { HoldsNodes layout.now self.now.nodes }
+        requires room { (r : ℕ) × IsChosenIn self.now.nodes layout.now choices.now r
+            × (length nodes.old.items + length (participants_of self.now.nodes r choices.now)
+            ≤ vec_capacity nodes.old) }
+        ensures nodes { (r : ℕ) → IsChosenIn self.now.nodes layout.now choices.now r
+            → nodes.new.items ≡ nodes.old.items ++ participants_of self.now.nodes r choices.now }
+        ensures reserved { vec_capacity nodes.new ≡ vec_capacity nodes.old }
+    {
+        let _ = &self.nodes;
+        let marks = marks_after(layout, choices);
+        self.add_marked(layout, &marks, nodes);
     }
 
     /// Adds the nodes of a layout that are marked and set constraints, in its order.

@@ -11,6 +11,12 @@ use Rattle.sysmem_tree.specs.Forest.{choices}
 use Rattle.sysmem_tree.specs.Selection.{IsPrefix, after}
 use Rattle.sysmem_search.proofs.question.Question.conflict.Goals as goal
 
+pub find_conflict_as-requires-clause-lays : goal.find_conflict_as-requires-clause-lays
+find_conflict_as-requires-clause-lays c = c.self.invariant.2.laid.lays
+
+pub find_conflict_as-requires-clause-nodes : goal.find_conflict_as-requires-clause-nodes
+find_conflict_as-requires-clause-nodes c = c.self.invariant.2.laid.nodes
+
 pub find_conflict_as-requires-clause-prefix : goal.find_conflict_as-requires-clause-prefix
 find_conflict_as-requires-clause-prefix c = subst (λ s. IsPrefix (forest s.matter) s.choices) (sym c.self.view_is) c.requires.prefix
 
