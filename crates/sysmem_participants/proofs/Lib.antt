@@ -2,3 +2,5 @@ mod Answering
 mod Seeing
 mod Entries
 mod Ruled
+mod Audited
+mod Closing

@@ -2,5 +2,6 @@ mod Asking
 mod Counting
 mod Lacking
 mod Logs
-mod Reading
+pub mod Reading
 mod Still
+pub mod CallerLemmas
