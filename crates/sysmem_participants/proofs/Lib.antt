@@ -1,4 +1,5 @@
 mod Answering
+mod Noted
 mod Seeing
 mod Entries
 mod Ruled

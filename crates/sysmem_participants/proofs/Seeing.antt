@@ -10,6 +10,7 @@ use Rattle.sysmem_room.specs.Agreeing.{IsKnown, book_log}
 use Rattle.sysmem_tree.specs.Path.{node_at}
 use Rattle.sysmem_participants.specs.Audit.{AreMatched, AreRead, HasAt, HaveCalls, IsAmong, IsAmongPaths, IsOf, IsRead}
 use Rattle.sysmem_participants.specs.Held.{Left}
+use Rattle.sysmem_participants.proofs.Noted.{known_on}
 
 abbrev HasCalls : BookFacts → Left → Type 0
 HasCalls b s = HasAt b s (λ i. book_log b.history i ≡ s.deeds)
@@ -141,12 +142,8 @@ read_nothing s = record { path = refl; deeds = refl; cell = refl; known = known_
 pub none_read : (stubs : List Left) → AreRead stubs stubs
 none_read stubs = record { many = refl; each = λ k d less. read_nothing (get_or stubs k d) }
 
-knows_on : (a b c : Option Outcome) → IfSome a (λ o. b ≡ Some o) → IfSome b (λ o. c ≡ Some o) → IfSome a (λ o. c ≡ Some o)
-knows_on None b c one two = tt
-knows_on (Some o) b c one two = subst (λ x. IfSome x (λ o. c ≡ Some o)) one two
-
 read_on : (a b c : Left) → IsRead a b → IsRead b c → IsRead a c
-read_on a b c one two = record { path = two.path ∙ one.path; deeds = two.deeds ∙ one.deeds; cell = two.cell ∙ one.cell; known = knows_on a.known b.known c.known one.known two.known }
+read_on a b c one two = record { path = two.path ∙ one.path; deeds = two.deeds ∙ one.deeds; cell = two.cell ∙ one.cell; known = known_on a.known b.known c.known one.known two.known }
 
 same_default : (xs : List Left) (k : ℕ) (d e : Left) → k < length xs → get_or xs k d ≡ get_or xs k e
 same_default [] k d e less = absurd (omega (arith, less))

@@ -184,10 +184,8 @@ impl<L: Ledger> Room<L> {
     {
         let tree = self.book.tree();
         let node = tree.node_at(path)?;
-        let is_root = tree.root_of(tree.domain_of(node)) == node;
         let is_own = has_actions(&self.book, node, log.actions())
-            && tree.state(node) == log.state()
-            && is_root == log.is_domain_root()
+            && log.stands_as(tree, node)
             && has_verdict(&self.book, node, known);
         if is_own { Some(node) } else { None }
     }

@@ -1,11 +1,12 @@
-use Rattle.std.proofs.Common.{◌+◌, ◌≡◌, ◌∙◌, ◌<◌, ap, subst, sym, arith, refl, rules, tests, true, slice_set, length}
-use Rattle.std.proofs.lemmas.List.{length-set, length-replicate}
+use Rattle.std.proofs.Common.{◌+◌, ◌≡◌, ◌∙◌, ◌<◌, ap, subst, sym, arith, refl, rules, tests, true, false, slice_set, length}
+use Rattle.std.proofs.lemmas.List.{length-set, length-replicate, set-get_or}
 use Rattle.sysmem_tree.specs.Domain.{TreeFacts}
+use Rattle.sysmem_participants.specs.Audit.{AreMatched}
 use Rattle.sysmem_participants.proofs.Seeing.{SeenTo, seen_none, seen_more, none_read, read_more, all_matched, marked_all, have_calls, each_of, all_of, none_there}
 use Rattle.sysmem_participants.proofs.agreeing.stubs_agree.Goals as goal
 
 pub loop-index-init : goal.loop-index-init
-loop-index-init g c = record { seen = seen_none c.args.book.now c.args.stubs.now _ _; read = none_read c.args.stubs.now; long = length-replicate 128 _ }
+loop-index-init g c = record { seen = seen_none c.args.book.now c.args.stubs.now _ _; read = none_read c.args.stubs.now; long = length-replicate 128 false }
 
 pub loop-index-preserved : goal.loop-index-preserved
 loop-index-preserved g c =
@@ -65,3 +66,9 @@ returns-clause-agree g c =
       actions = c.counted.ensures.actions;
       decisions = c.counted.ensures.decisions;
     }
+
+pub returns-in_default-clause-fault : goal.returns-in_default-clause-fault
+returns-in_default-clause-fault g c = λ matched.
+    let less : c.loop-index.index < length c.loop-index.stubs = omega (arith, c.loop-index-test.true, c.loop-index.auto.index-end, c.loop-index.invariant.read.many) in
+    let same = set-get_or c.loop-index.stubs c.loop-index.index c.index-stubs-index.result in
+    none_there c.args.book.now c.loop-index.stubs c.loop-index.index c.index-stubs-index.result less (search (rules, tests)) (subst (AreMatched c.args.book.now) same matched)
