@@ -8,8 +8,9 @@ use Rattle.sysmem_alloc.specs.declared.entry.Entry.{Entry}
 use Rattle.sysmem_alloc.specs.Entry.{BookEntry, Acted, Decided, entry_in}
 use Rattle.sysmem_tree.specs.Node.{NodeFacts}
 use Rattle.sysmem_room.specs.Counting.{actions_in, weight}
-use Rattle.sysmem_participants.specs.Audit.{decisions_in, unread}
+use Rattle.sysmem_participants.specs.Audit.{AreRead, decisions_in}
 use Rattle.sysmem_participants.specs.Held.{Left}
+use Rattle.sysmem_participants.proofs.Seeing.{same_deeds}
 
 -- the actions from an entry on are its own and those after it
 pub actions_from : (nodes : List NodeFacts) (es : List Entry) (k : ℕ) (e : Entry) → slice_get es k ≡ Some e
@@ -29,21 +30,22 @@ all_counted (Decided c ∷ es) = omega (arith, all_counted es)
 many_deeds : Left → ℕ
 many_deeds s = length s.deeds
 
-sum_of_unread : (stubs : List Left) → sum_by many_deeds (map unread stubs) ≡ sum_by many_deeds stubs
+sum_of_deeds : (stubs : List Left) → sum_by many_deeds stubs ≡ sum_by length (map (λ (s : Left). s.deeds) stubs)
 unfolding many_deeds
-sum_of_unread [] = refl
-sum_of_unread (s ∷ stubs) = sum_by-cons many_deeds (unread s) (map unread stubs) ∙ ap (λ n. many_deeds s + n) (sum_of_unread stubs) ∙ sym (sum_by-cons many_deeds s stubs)
+sum_of_deeds [] = refl
+sum_of_deeds (s ∷ stubs) =
+    sum_by-cons many_deeds s stubs ∙ ap (λ n. many_deeds s + n) (sum_of_deeds stubs) ∙ sym (sum_by-cons length s.deeds (map (λ (x : Left). x.deeds) stubs))
 
--- what stubs know of their cells doesn't change the number of their actions
-sum_unread : (read stubs : List Left) → map unread read ≡ map unread stubs → sum_by (λ (s : Left). length s.deeds) read ≡ sum_by (λ (s : Left). length s.deeds) stubs
+-- what stubs learn from their cells doesn't change the number of their actions
+sum_read : (read stubs : List Left) → AreRead stubs read → sum_by (λ (s : Left). length s.deeds) read ≡ sum_by (λ (s : Left). length s.deeds) stubs
 unfolding many_deeds
-sum_unread read stubs same = sym (sum_of_unread read) ∙ ap (sum_by many_deeds) same ∙ sum_of_unread stubs
+sum_read read stubs is = sum_of_deeds read ∙ ap (sum_by length) (same_deeds stubs read is) ∙ sym (sum_of_deeds stubs)
 
 -- a vector whose items were all written has what was written
 all_written : {X : Type 0} (many : ℕ) (xs new : List X) → many ≡ length new → take many (new ++ drop (length new) xs) ≡ new
 all_written many xs new same = rw same (take-append_seam new (drop (length new) xs))
 
 -- as many actions are found in stubs that were written back as in those that were given
-pub sum_written : (many : ℕ) (stubs read : List Left) → many ≡ length read → map unread read ≡ map unread stubs
+pub sum_written : (many : ℕ) (stubs read : List Left) → many ≡ length read → AreRead stubs read
     → sum_by (λ (s : Left). length s.deeds) (take many (read ++ drop (length read) stubs)) ≡ sum_by (λ (s : Left). length s.deeds) stubs
-sum_written many stubs read same is = ap (λ xs. sum_by (λ (s : Left). length s.deeds) xs) (all_written many stubs read same) ∙ sum_unread read stubs is
+sum_written many stubs read same is = ap (λ xs. sum_by (λ (s : Left). length s.deeds) xs) (all_written many stubs read same) ∙ sum_read read stubs is

@@ -1,4 +1,7 @@
 mod Answering
+mod Noted
 mod Seeing
 mod Entries
 mod Ruled
+mod Audited
+mod Closing

@@ -7,13 +7,13 @@ use Rattle.sysmem_proof.specs.declared.verdict.Verdict.{Verdict}
 use Rattle.sysmem_proof.specs.Base.{BaseFacts}
 use Rattle.sysmem_proof.specs.Claim.{IsProofIn, IsTrueClaim}
 use Rattle.sysmem_proof.specs.Verdict.{IsOptimalIn}
+use Rattle.sysmem_room.specs.declared.outcome.Outcome.TheVariants as outcomes
 use Rattle.sysmem_room.specs.Ruling.{RulingFacts, IsRuling}
 use Rattle.sysmem_sanitise.specs.Platform.{PlatformFacts}
 use Rattle.sysmem_sanitise.specs.Participant.{Participant}
 use Rattle.sysmem_tree.specs.declared.refusal.Refusal.{Refusal}
-use Rattle.sysmem_tree.specs.declared.refusal.Refusal.TheVariants as refusals
 use Rattle.sysmem_tree.specs.Domain.{TreeFacts}
-use Rattle.sysmem_participants.specs.Told.{Asks, IsChosenFor, IsShownAt, IsToldBy, Tells}
+use Rattle.sysmem_participants.specs.Told.{Asks, IsChosenFor, IsRefusedBy, IsShownAt, IsTold}
 
 -- a ruling's claim makes it one
 pub ruled : (r : RulingFacts) (claim : AClaim) → claim ≡ r.claim → IsTrueClaim r.frozen.platform r.frozen.tree.nodes r.frozen.domain r.frozen.base claim → IsRuling r
@@ -31,20 +31,11 @@ shown_at (Ok v) at r platform path asked right is_for same chosen own = record {
 }
 shown_at (Err e) at r platform path asked right is_for same chosen own = tt
 
--- what is told of a ruling for the platform tells a verdict for it
-pub telling : {V : Type 0} (shown : Result V Refusal) (r : RulingFacts) (platform : PlatformFacts) → IsRuling r → r.frozen.platform ≡ platform
-    → IfErr shown (IsToldBy r.claim.verdict) → IfErr shown (Tells platform)
-telling (Ok v) r platform right is_for told = tt
-telling (Err refusals.ConstraintsIntersectionEmpty) r platform right is_for told = (r, right, is_for, told)
-telling (Err refusals.TooManyGroupChildCombinations) r platform right is_for told = (r, right, is_for, told)
-telling (Err refusals.NoMemory) r platform right is_for told = tt
-telling (Err refusals.WrongState) r platform right is_for told = tt
-telling (Err refusals.TooManyNodes) r platform right is_for told = tt
-telling (Err refusals.NoChildren) r platform right is_for told = tt
-telling (Err refusals.NotSelected) r platform right is_for told = tt
-telling (Err refusals.DomainFailed) r platform right is_for told = tt
-telling (Err refusals.Pending) r platform right is_for told = tt
-telling (Err refusals.Strange) r platform right is_for told = tt
+-- how a ruling refuses a view, where it is for this platform
+pub refused_for : {V : Type 0} (shown : Result V Refusal) (r : RulingFacts) (platform : PlatformFacts) (path : List ℕ) → r.frozen.platform ≡ platform
+    → IfErr shown (IsRefusedBy r.frozen.platform path r) → IfErr shown (IsTold platform path (outcomes.Decided r))
+refused_for (Ok v) r platform path is_for told = tt
+refused_for (Err e) r platform path is_for told = subst (λ p. IsRefusedBy p path r e) is_for told
 
 -- a verdict that is optimal and what proves it are a true claim
 pub put_together : (p q : PlatformFacts) (t u : TreeFacts) (d e : ℕ) (a b : Option BaseFacts) (v : Verdict) (by : Proof) → p ≡ q → t ≡ u → d ≡ e → a ≡ b

@@ -1,15 +1,17 @@
 -- What stubs and a book say of one another.
-use Rattle.std.specs.Prelude.{◌≡◌, ◌<◌, ◌+◌, ℕ, List, [], ◌∷◌, Option, None, codes, length, map, slice_index_or}
+use Rattle.std.specs.Prelude.{◌≡◌, ◌<◌, ◌+◌, ℕ, List, [], ◌∷◌, Option, None, Some, IfSome, codes, length, slice_index_or}
 use Rattle.sysmem_alloc.specs.Book.{BookFacts, IsBook}
 use Rattle.sysmem_alloc.specs.Entry.{BookEntry, Acted, Decided}
-use Rattle.sysmem_room.specs.Agreeing.{AgreesAt}
+use Rattle.sysmem_room.specs.Agreeing.{AgreesAt, book_log}
 use Rattle.sysmem_room.specs.Counting.{actions_in}
+use Rattle.sysmem_tree.specs.Path.{node_at}
 use Rattle.sysmem_participants.specs.declared.faults.Audit.{Audit}
 use Rattle.sysmem_participants.specs.declared.faults.AuditFault.{AuditFault}
 use Rattle.sysmem_participants.specs.declared.faults.AuditFault.TheVariants as faults
 use Rattle.sysmem_participants.specs.Held.{Left}
 
--- a stub is of node i: it has the path, the actions in their order, and, if its cell has a verdict, that of the node's domain
+-- a stub is of node i: it has the path, the actions in their order, and, if its cell has a
+-- verdict, that of the node's domain
 abbrev pub IsOf : BookFacts → Left → ℕ → Type 0
 IsOf b s i = AgreesAt b s.path s.deeds s.known i
 
@@ -32,13 +34,48 @@ pub record IsAudited (b : BookFacts) (stubs : List Left) (a : Audit) : Type 0 wh
   pub actions : a.actions ≡ actions_in b.history
   pub decisions : a.decisions ≡ decisions_in b.history
 
--- stubs but for what they know of their cells
-abbrev pub unread : Left → Left
-unread s = record s { known = None }
+-- the node at the stub's path, of which this is true
+abbrev pub HasAt : BookFacts → Left → (ℕ → Type 0) → Type 0
+HasAt b s P = (i : ℕ) × (node_at b.state.tree.nodes s.path ≡ Some i) × P i
+
+-- one of the first stubs is at node i
+abbrev pub IsAmongPaths : BookFacts → List Left → ℕ → ℕ → Type 0
+IsAmongPaths b stubs many i = (k : ℕ) × (k < many)
+    × ((d : Left) → node_at b.state.tree.nodes (slice_index_or stubs k d).path ≡ Some i)
+
+-- there is one stub for each node: each is at a node, each node has one, and there are as many of one as of the other
+pub record AreMatched (b : BookFacts) (stubs : List Left) : Type 0 where
+  pub each : (k : ℕ) (d : Left) → k < length stubs → HasAt b (slice_index_or stubs k d) (λ _. Unit {0})
+  pub all : (i : ℕ) → i < length b.state.tree.nodes → IsAmongPaths b stubs (length stubs) i
+  pub many : length stubs ≡ length b.state.tree.nodes
+
+-- each stub has the calls of its node
+abbrev pub HaveCalls : BookFacts → List Left → Type 0
+HaveCalls b stubs = (k : ℕ) (d : Left) → k < length stubs
+    → HasAt b (slice_index_or stubs k d) (λ i. book_log b.history i ≡ (slice_index_or stubs k d).deeds)
+
+-- a fault is told only where none that comes before it is there; the first, only where it is there itself
+abbrev pub IsFirstFault : BookFacts → List Left → AuditFault → Type 0
+IsFirstFault b stubs faults.Stubs = AreMatched b stubs → ⊥
+IsFirstFault b stubs faults.Calls = AreMatched b stubs
+IsFirstFault b stubs faults.Verdicts = AreMatched b stubs × HaveCalls b stubs
+IsFirstFault b stubs faults.NoMemory = ⊥
+
+-- a stub once its cell was read: what it knew it still knows
+pub record IsRead (old new : Left) : Type 0 where
+  pub path : new.path ≡ old.path
+  pub deeds : new.deeds ≡ old.deeds
+  pub cell : new.cell ≡ old.cell
+  pub known : IfSome old.known (λ o. new.known ≡ Some o)
+
+-- stubs once their cells were read
+pub record AreRead (old new : List Left) : Type 0 where
+  pub many : length new ≡ length old
+  pub each : (k : ℕ) (d : Left) → k < length old → IsRead (slice_index_or old k d) (slice_index_or new k d)
 
 -- a legal book and the stubs agree, once the stubs' cells were read
 abbrev pub SomeBookAgrees : List Left → Audit → Type 0
-SomeBookAgrees stubs a = (b : BookFacts) × (read : List Left) × IsBook b × IsAudited b read a × (map unread read ≡ map unread stubs)
+SomeBookAgrees stubs a = (b : BookFacts) × (read : List Left) × IsBook b × IsAudited b read a × AreRead stubs read
 
 -- faults as the program prints them; a want of memory is told as that refusal
 abbrev pub fault_text : AuditFault → List ℕ

@@ -1,5 +1,5 @@
 -- What a handle holds, and what a call makes of it.
-use Rattle.std.specs.Prelude.{◌≡◌, ◌≢◌, ◌+◌, ◌++◌, ℕ, Bool, true, List, [], ◌∷◌, Option, None, Some}
+use Rattle.std.specs.Prelude.{◌≡◌, ◌≢◌, ◌+◌, ◌++◌, ℕ, Bool, true, List, [], ◌∷◌, Option, None, Some, IfSome}
 use Rattle.sysmem_sanitise.specs.Platform.{PlatformFacts}
 use Rattle.sysmem_tree.specs.declared.refusal.Refusal.{Refusal}
 use Rattle.sysmem_tree.specs.declared.refusal.Refusal.TheVariants.{NoMemory, Strange, WrongState}
@@ -13,7 +13,8 @@ use Rattle.sysmem_room.specs.Log.{begun_as}
 use Rattle.sysmem_room.specs.Refusals.{MayAnswer, due}
 use Rattle.sysmem_room.specs.declared.outcome.Outcome.{Outcome}
 
--- its node's path, how the node began, the accepted actions on it, its domain's cell and what it knows of that, and the platform
+-- its node's path, how the node began, the accepted actions on it, its domain's cell and what it
+-- knows of that, and the platform
 pub record Held : Type 0 where
   pub path : List ℕ
   pub begun : Shown
@@ -39,11 +40,24 @@ acted h deed = record h { deeds = h.deeds ++ deed ∷ [] }
 
 -- what the handle of a child holds that was just made, in a domain with this cell
 abbrev pub child_of : Held → NodeKind → Bool → ℕ → Held
-child_of h kind is_root cell = record h { path = h.path ++ (state_of h).children ∷ []; begun = begun_as kind is_root; deeds = []; cell = cell; known = None }
+child_of h kind is_root cell = record h {
+  path = h.path ++ (state_of h).children ∷ [];
+  begun = begun_as kind is_root;
+  deeds = [];
+  cell = cell;
+  known = None;
+}
 
 -- what the handle of a root holds at first, with this cell
 abbrev pub root_of : PlatformFacts → ℕ → Held
-root_of platform cell = record { path = []; begun = begun_as Token true; deeds = []; cell = cell; known = None; platform = platform }
+root_of platform cell = record {
+  path = [];
+  begun = begun_as Token true;
+  deeds = [];
+  cell = cell;
+  known = None;
+  platform = platform;
+}
 
 -- what is left of it
 abbrev pub left_of : Held → Left
@@ -59,8 +73,13 @@ Answers h deed r = r ≢ Strange → r ≢ NoMemory → MayAnswer (due h.known h
 
 -- how it refuses one that ends its node: because the two disagree, or for the node's state
 abbrev pub AnswersAtEnd : Held → Deed → Refusal → Type 0
-AnswersAtEnd h deed r = r ≢ Strange → (r ≡ WrongState) × (due h.known h.path (state_of h) (kind_of deed) ≡ Some WrongState)
+AnswersAtEnd h deed r = r ≢ Strange
+    → (r ≡ WrongState) × (due h.known h.path (state_of h) (kind_of deed) ≡ Some WrongState)
 
 -- the same but for what it knows of the cell
 abbrev pub IsSameBut : Held → Held → Type 0
 IsSameBut h g = record g { known = None } ≡ record h { known = None }
+
+-- and what was known of that is known still
+abbrev pub IsStillKnown : Held → Held → Type 0
+IsStillKnown h g = IfSome h.known (λ o. g.known ≡ Some o)

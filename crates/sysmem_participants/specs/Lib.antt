@@ -1,3 +1,4 @@
 pub mod Held
 pub mod Told
 pub mod Audit
+pub mod Laws

@@ -1,5 +1,5 @@
 -- What a handle is told of its domain's verdict.
-use Rattle.std.specs.Prelude.{◌≡◌, ℕ, true, List, Option, Some}
+use Rattle.std.specs.Prelude.{◌≡◌, ◌≢◌, ℕ, false, true, List, Option, Some}
 use Rattle.sysmem_alloc.specs.Frozen.{FrozenFacts}
 use Rattle.sysmem_proof.specs.declared.verdict.Verdict.{Verdict}
 use Rattle.sysmem_proof.specs.declared.verdict.Verdict.TheVariants as verdicts
@@ -11,6 +11,8 @@ use Rattle.sysmem_tree.specs.declared.refusal.Refusal.{Refusal}
 use Rattle.sysmem_tree.specs.declared.refusal.Refusal.TheVariants as refusals
 use Rattle.sysmem_tree.specs.Path.{node_at}
 use Rattle.sysmem_tree.specs.Step.{shown_after_all}
+use Rattle.sysmem_room.specs.declared.outcome.Outcome.{Outcome}
+use Rattle.sysmem_room.specs.declared.outcome.Outcome.TheVariants as outcomes
 use Rattle.sysmem_room.specs.Refusals.{is_member}
 use Rattle.sysmem_room.specs.Ruling.{RulingFacts, IsRuling}
 use Rattle.sysmem_participants.specs.Held.{Held}
@@ -24,9 +26,10 @@ IsChosenFor path f _ = ⊥
 abbrev pub Asks : FrozenFacts → List ℕ → Option Participant → Type 0
 Asks f path asked = (i : ℕ) × (node_at f.tree.nodes path ≡ Some i) × (asks_at f.tree.nodes i ≡ asked)
 
--- the handle of a path that asks for this may be shown a ruling: a true claim for its platform, by which its node is a member, over a tree
--- with the constraints that it set
-pub record IsShownAt (platform : PlatformFacts) (path : List ℕ) (asked : Option Participant) (r : RulingFacts) : Type 0 where
+-- the handle of a path that asks for this may be shown a ruling: a true claim for its platform, by
+-- which its node is a member, over a tree with the constraints that it set
+pub record IsShownAt (platform : PlatformFacts) (path : List ℕ) (asked : Option Participant)
+    (r : RulingFacts) : Type 0 where
   pub right : IsRuling r
   pub is_for : r.frozen.platform ≡ platform
   pub chosen : IsChosenFor path r.frozen r.claim.verdict
@@ -46,14 +49,38 @@ abbrev pub IsSet : Verdict → Settings → Type 0
 IsSet (verdicts.Chosen chosen) settings = settings ≡ chosen.settings
 IsSet _ settings = ⊥
 
--- what a refusal says of a decision's verdict: that it is empty, or too many selections
-abbrev pub IsToldBy : Verdict → Refusal → Type 0
-IsToldBy v refusals.ConstraintsIntersectionEmpty = v ≡ verdicts.IntersectionEmpty
-IsToldBy v refusals.TooManyGroupChildCombinations = v ≡ verdicts.TooMany
-IsToldBy v q = Unit {0}
+-- a verdict chose a selection of which the node at the path is no member
+abbrev pub IsLeftOut : List ℕ → FrozenFacts → Verdict → Type 0
+IsLeftOut path f (verdicts.Chosen chosen) = is_member f chosen.selection path ≡ false
+IsLeftOut path f _ = ⊥
 
--- a refusal that tells a verdict tells that of a true claim for the platform
-abbrev pub Tells : PlatformFacts → Refusal → Type 0
-Tells platform refusals.ConstraintsIntersectionEmpty = (r : RulingFacts) × IsRuling r × (r.frozen.platform ≡ platform) × (r.claim.verdict ≡ verdicts.IntersectionEmpty)
-Tells platform refusals.TooManyGroupChildCombinations = (r : RulingFacts) × IsRuling r × (r.frozen.platform ≡ platform) × (r.claim.verdict ≡ verdicts.TooMany)
-Tells platform q = Unit {0}
+-- a true claim for the platform
+pub record IsRulingFor (platform : PlatformFacts) (r : RulingFacts) : Type 0 where
+  pub right : IsRuling r
+  pub is_for : r.frozen.platform ≡ platform
+
+-- how the handle of a path is refused a view of a ruling: by a true claim for its platform, or because the two disagree
+abbrev pub IsRefusedBy : PlatformFacts → List ℕ → RulingFacts → Refusal → Type 0
+IsRefusedBy platform path r refusals.ConstraintsIntersectionEmpty =
+    IsRulingFor platform r × (r.claim.verdict ≡ verdicts.IntersectionEmpty)
+IsRefusedBy platform path r refusals.TooManyGroupChildCombinations =
+    IsRulingFor platform r × (r.claim.verdict ≡ verdicts.TooMany)
+IsRefusedBy platform path r refusals.NotSelected =
+    IsRulingFor platform r × IsLeftOut path r.frozen r.claim.verdict
+IsRefusedBy platform path r refusals.Strange = Unit {0}
+IsRefusedBy platform path r _ = ⊥
+
+-- what the handle of a path is told by what became of its domain, where it is shown nothing
+abbrev pub IsTold : PlatformFacts → List ℕ → Outcome → Refusal → Type 0
+IsTold platform path (outcomes.Decided r) refusal = IsRefusedBy platform path r refusal
+IsTold platform path outcomes.Failed refusal = refusal ≡ refusals.DomainFailed
+IsTold platform path outcomes.NoMemory refusal = refusal ≡ refusals.NoMemory
+
+-- a handle is told what it then knows became of its domain, or `Pending`
+abbrev pub IsToldBy : Held → Option Outcome → Refusal → Type 0
+IsToldBy h known refusal = refusal ≢ refusals.Pending
+    → (o : Outcome) × (known ≡ Some o) × IsTold h.platform h.path o refusal
+
+-- what a handle is told tells what became of its domain
+abbrev pub Tells : Held → Refusal → Type 0
+Tells h refusal = refusal ≢ refusals.Pending → (o : Outcome) × IsTold h.platform h.path o refusal

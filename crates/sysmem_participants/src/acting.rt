@@ -16,6 +16,7 @@ use once_cell::race::OnceBox;
 use std::alloc::{AllocError, Global};
 use std::sync::ledger::{Ledger, Share};
 use std::sync::{Arc, Wait};
+use std::thread::Threads;
 use sysmem_room::{Entered, FreshCell, Log, Outcome};
 use sysmem_sanitise::Constraints;
 use sysmem_search::Gate;
@@ -65,7 +66,7 @@ fn hold<L: Ledger, R: Wait>(
 }
 
 /// Enters an action and logs it, and decides where that is this thread's turn.
-fn enter<L: Ledger, G: Gate + Drop, R: Wait>(
+fn enter<L: Ledger, G: Gate + Drop + Sync, R: Threads + Wait + Sync>(
     rt: &R,
     shared: &Shared<L>,
     rules: &Rules<G>,
@@ -114,9 +115,12 @@ pub(crate) fn fresh_cell(alloc: Global) -> Result<(FreshCell, Arc<OnceBox<Outcom
     Ok((fresh, cell))
 }
 
-impl<L: Ledger, G: Gate + Drop> Seat<L, G> {
+impl<L: Ledger, G: Gate + Drop + Sync> Seat<L, G> {
     /// A further token, the last child of a token.
-    pub(crate) fn duplicate<R: Wait>(&mut self, rt: &R) -> Result<Seat<L, G>, Refusal>
+    pub(crate) fn duplicate<R: Threads + Wait + Sync>(
+        &mut self,
+        rt: &R,
+    ) -> Result<Seat<L, G>, Refusal>
         ensures entered { OnOk result (self.new ≡ acted self.old duplicates) }
         ensures unchanged { OnErr result (self.new ≡ self.old) }
         ensures made { IfOk result (λ child.
@@ -167,7 +171,10 @@ impl<L: Ledger, G: Gate + Drop> Seat<L, G> {
     }
 
     /// A group, the last child of a token.
-    pub(crate) fn create_group<R: Wait>(&mut self, rt: &R) -> Result<Seat<L, G>, Refusal>
+    pub(crate) fn create_group<R: Threads + Wait + Sync>(
+        &mut self,
+        rt: &R,
+    ) -> Result<Seat<L, G>, Refusal>
         ensures entered { OnOk result (self.new ≡ acted self.old creates_group) }
         ensures unchanged { OnErr result (self.new ≡ self.old) }
         ensures made { IfOk result (λ child.
@@ -218,7 +225,10 @@ impl<L: Ledger, G: Gate + Drop> Seat<L, G> {
     }
 
     /// A token, the last child of a group.
-    pub(crate) fn create_child<R: Wait>(&mut self, rt: &R) -> Result<Seat<L, G>, Refusal>
+    pub(crate) fn create_child<R: Threads + Wait + Sync>(
+        &mut self,
+        rt: &R,
+    ) -> Result<Seat<L, G>, Refusal>
         ensures entered { OnOk result (self.new ≡ acted self.old creates_child) }
         ensures unchanged { OnErr result (self.new ≡ self.old) }
         ensures made { IfOk result (λ child.
@@ -269,7 +279,10 @@ impl<L: Ledger, G: Gate + Drop> Seat<L, G> {
     }
 
     /// A token, the last child of a collection, that is the root of a domain of its own.
-    pub(crate) fn attach_token<R: Wait>(&mut self, rt: &R) -> Result<Seat<L, G>, Refusal>
+    pub(crate) fn attach_token<R: Threads + Wait + Sync>(
+        &mut self,
+        rt: &R,
+    ) -> Result<Seat<L, G>, Refusal>
         ensures entered { OnOk result (self.new ≡ acted self.old attaches_token) }
         ensures unchanged { OnErr result (self.new ≡ self.old) }
         ensures made { IfOk result (λ child.
@@ -323,7 +336,7 @@ impl<L: Ledger, G: Gate + Drop> Seat<L, G> {
     }
 
     /// The token becomes a collection.
-    pub(crate) fn bind<R: Wait>(&mut self, rt: &R) -> Result<(), Refusal>
+    pub(crate) fn bind<R: Threads + Wait + Sync>(&mut self, rt: &R) -> Result<(), Refusal>
         ensures entered { OnOk result (self.new ≡ acted self.old binds) }
         ensures unchanged { OnErr result (self.new ≡ self.old) }
         ensures foreseen { OnOk result (MayEnter self.old binds) }
@@ -352,7 +365,10 @@ impl<L: Ledger, G: Gate + Drop> Seat<L, G> {
     }
 
     /// The group is complete.
-    pub(crate) fn all_children_present<R: Wait>(&mut self, rt: &R) -> Result<(), Refusal>
+    pub(crate) fn all_children_present<R: Threads + Wait + Sync>(
+        &mut self,
+        rt: &R,
+    ) -> Result<(), Refusal>
         ensures entered { OnOk result (self.new ≡ acted self.old has_all_children) }
         ensures unchanged { OnErr result (self.new ≡ self.old) }
         ensures foreseen { OnOk result (MayEnter self.old has_all_children) }
@@ -381,7 +397,7 @@ impl<L: Ledger, G: Gate + Drop> Seat<L, G> {
     }
 
     /// Sets these constraints on a collection, or that it has none.
-    pub(crate) fn set_constraints<R: Wait>(
+    pub(crate) fn set_constraints<R: Threads + Wait + Sync>(
         &mut self,
         rt: &R,
         asked: Option<Arc<Constraints>>,

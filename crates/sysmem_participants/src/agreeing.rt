@@ -1,8 +1,8 @@
 //! Whether stubs and a book say the same.
 
-ghost use Rattle.std.specs.Prelude.{◌≡◌, ◌<◌, ◌≤◌, ℕ, None, Some, length, map, slice_index_or, IfOk, IfSome, OnOk};
-ghost use Rattle.sysmem_participants.specs.Audit.{IsAudited, IsOf, decisions_in, unread};
-ghost use Rattle.sysmem_participants.specs.Held.{Left};
+ghost use Rattle.std.specs.Prelude.{◌≡◌, ◌<◌, ◌≤◌, ℕ, Some, false, true, get_or, length, IfErr, IfOk};
+ghost use Rattle.sysmem_participants.specs.Audit.{AreRead, IsAudited, IsFirstFault, IsRead, decisions_in};
+ghost use Rattle.sysmem_room.specs.Agreeing.{IsKnown, book_log};
 ghost use Rattle.sysmem_room.specs.Counting.{actions_in};
 ghost use Rattle.sysmem_tree.specs.Nodes.{HasNode};
 ghost use Rattle.sysmem_tree.specs.Path.{node_at};
@@ -15,33 +15,42 @@ use sysmem_alloc::{Book, Entry};
 use sysmem_room::{has_actions, has_verdict};
 use sysmem_tree::NodeId;
 
-/// How a stub differs from the node at its path.
-fn fault_of<L: Ledger>(book: &Book, node: NodeId, stub: &mut Stub<L>) -> Option<AuditFault>
-    requires there { HasNode book.now.state.tree.nodes node }
-    requires at { node_at book.now.state.tree.nodes stub.old.path ≡ Some node }
-    ensures agrees { result ≡ None → IsOf book.now stub.new node }
-    ensures same { unread stub.new ≡ unread stub.old }
-{
-    if !has_actions(book, node, &stub.actions) {
-        return Some(AuditFault::Calls);
-    }
-    let known = stub.cell.get_as(&mut stub.note);
-    if has_verdict(book, node, known) {
-        None
-    } else {
-        Some(AuditFault::Verdicts)
+/// What a stub and its node have in common.
+#[derive(Clone, Copy)]
+struct Agreement {
+    /// The calls, in their order.
+    calls: bool,
+    /// The verdict, where one is in the stub's cell.
+    verdict: bool,
+}
+
+impl Agreement {
+    /// What both have in common.
+    fn and(self, other: Agreement) -> Agreement
+        ensures calls { result.calls ≡ true → (self.calls ≡ true) × (other.calls ≡ true) }
+        ensures verdict { result.verdict ≡ true
+            → (self.verdict ≡ true) × (other.verdict ≡ true) }
+    {
+        Agreement {
+            calls: self.calls && other.calls,
+            verdict: self.verdict && other.verdict,
+        }
     }
 }
 
-/// Of two faults that which comes first.
-fn first_of(kept: Option<AuditFault>, found: Option<AuditFault>) -> Option<AuditFault>
-    ensures { result ≡ None → (kept ≡ None) × (found ≡ None) }
+/// Reads a stub's cell, and compares the stub with the node at its path.
+fn agreement_of<L: Ledger>(book: &Book, node: NodeId, stub: &mut Stub<L>) -> Agreement
+    requires there { HasNode book.now.state.tree.nodes node }
+    requires at { node_at book.now.state.tree.nodes stub.old.path ≡ Some node }
+    ensures at { node_at book.now.state.tree.nodes stub.new.path ≡ Some node }
+    ensures calls { result.calls ≡ true → book_log book.now.history node ≡ stub.new.deeds }
+    ensures verdict { result.verdict ≡ true → IsKnown book.now node stub.new.known }
+    ensures read { IsRead stub.old stub.new }
 {
-    match (kept, found) {
-        (Some(AuditFault::Verdicts), Some(AuditFault::Calls)) => found,
-        (Some(_), _) => kept,
-        (None, _) => found,
-    }
+    let calls = has_actions(book, node, &stub.actions);
+    let known = stub.cell.get_as(&mut stub.note);
+    let verdict = has_verdict(book, node, known);
+    Agreement { calls, verdict }
 }
 
 /// How many of the entries are actions.
@@ -76,34 +85,55 @@ fn counted(book: &Book) -> Audit
     }
 }
 
+/// Whether the node with each of these numbers is marked.
+fn are_marked(marks: &[bool; 128], nodes: u32) -> bool
+    requires { nodes ≤ 128 }
+    ensures all { result ≡ true → (i : ℕ) → i < nodes → get_or marks.now i false ≡ true }
+    ensures one { result ≡ false → (i : ℕ) × (i < nodes) × (get_or marks.now i false ≡ false) }
+{
+    for number in 0..nodes {
+        if !marks[number as usize] {
+            return false;
+        }
+    }
+    true
+}
+
 /// Whether there is one stub for each node of a book, with the node's actions and, where a verdict
 /// is in the stub's cell, the verdict of the node's domain; then what there is to count in the
-/// book. Else the first fault.
+/// book. Else the first fault, of all stubs, in the order `Stubs`, `Calls`, `Verdicts`.
 pub fn stubs_agree<L: Ledger>(book: &Book, stubs: &mut [Stub<L>]) -> Result<Audit, AuditFault>
     ensures agree { IfOk result (IsAudited book.now stubs.new) }
-    ensures same { map unread stubs.new ≡ map unread stubs.old }
+    ensures fault { IfErr result (IsFirstFault book.now stubs.new) }
+    ensures read { AreRead stubs.old stubs.new }
 {
     let nodes = book.tree().nodes();
     if stubs.len() != nodes as usize {
         return Err(AuditFault::Stubs);
     }
     let mut marks = [false; 128];
-    let mut fault = None;
+    let mut all = Agreement {
+        calls: true,
+        verdict: true,
+    };
     for index in 0..stubs.len() {
         let stub = &mut stubs[index];
         let Some(node) = book.tree().node_at(&stub.path) else {
             return Err(AuditFault::Stubs);
         };
         marks[book.tree().number_of(node) as usize] = true;
-        fault = first_of(fault, fault_of(book, node, stub));
+        all = all.and(agreement_of(book, node, stub));
     }
-    for number in 0..nodes {
-        if !marks[number as usize] {
-            return Err(AuditFault::Stubs);
-        }
+    let have_stubs = are_marked(&marks, nodes);
+    if !have_stubs {
+        return Err(AuditFault::Stubs);
     }
-    match fault {
-        Some(fault) => Err(fault),
-        None => Ok(counted(book)),
+    let Agreement { calls, verdict } = all;
+    if !calls {
+        return Err(AuditFault::Calls);
     }
+    if !verdict {
+        return Err(AuditFault::Verdicts);
+    }
+    Ok(counted(book))
 }

@@ -1,6 +1,6 @@
 //! Where collections come from.
 
-ghost use Rattle.std.specs.Prelude.{◌≡◌, IfErr, IfOk};
+ghost use Rattle.std.specs.Prelude.{◌≡◌, ◌≤◌, IfErr, IfOk};
 ghost use Rattle.std.specs.Arc.{arc_value};
 ghost use Rattle.sysmem_participants.specs.Held.{root_of};
 ghost use Rattle.sysmem_room.specs.Counting.{all_parts};
@@ -33,7 +33,7 @@ impl<G: Gate + Drop> Model for Allocator<G> {
 }
 
 /// What the handle of a new collection's root holds.
-fn opened<L: Ledger, G: Gate + Drop>(
+fn opened<L: Ledger, G: Gate + Drop + Sync>(
     rules: &Arc<Rules<G>>,
     blank: Blank,
 ) -> Result<Seat<L, G>, AllocError>
@@ -62,9 +62,10 @@ fn opened<L: Ledger, G: Gate + Drop>(
     })
 }
 
-impl<G: Gate + Drop> Allocator<G> {
-    /// For this platform; each decision of its collections tells this gate of its search.
-    /// `AllocError` where memory is refused.
+impl<G: Gate + Drop + Sync> Allocator<G> {
+    /// For this platform; each decision of its collections tells this gate of its search. Two
+    /// workers share a search of 1,024 selections or more, which can take longer than a thread
+    /// costs; a shorter one is done by one. `AllocError` where memory is refused.
     pub fn new(alloc: Global, platform: Platform, gate: G) -> Result<Allocator<G>, AllocError>
         ensures { IfOk result (λ allocator. allocator ≡ platform) }
     {
@@ -72,6 +73,28 @@ impl<G: Gate + Drop> Allocator<G> {
             alloc,
             platform,
             gate,
+            workers: None,
+        };
+        let rules = Arc::new(alloc, rules)?;
+        Ok(Allocator { rules })
+    }
+
+    /// The same, but so many workers, 1 to 64, share each search.
+    pub fn with_workers(
+        alloc: Global,
+        platform: Platform,
+        gate: G,
+        workers: u32,
+    ) -> Result<Allocator<G>, AllocError>
+        requires some { 1 ≤ workers }
+        requires few { workers ≤ 64 }
+        ensures { IfOk result (λ allocator. allocator ≡ platform) }
+    {
+        let rules = Rules {
+            alloc,
+            platform,
+            gate,
+            workers: Some(workers),
         };
         let rules = Arc::new(alloc, rules)?;
         Ok(Allocator { rules })

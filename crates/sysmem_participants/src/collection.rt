@@ -2,8 +2,8 @@
 
 ghost use Rattle.std.specs.Prelude.{◌≡◌, ◌≢◌, None, Some, true, option_map, IfErr, IfOk, IfSome, MatchOption, MatchResult, OnErr, OnOk, ⊤};
 ghost use Rattle.std.specs.Arc.{arc_value};
-ghost use Rattle.sysmem_participants.specs.Held.{Answers, AnswersAtEnd, IsSameBut, MayEnter, acted, child_of, left_of};
-ghost use Rattle.sysmem_participants.specs.Told.{IsShownTo, Tells};
+ghost use Rattle.sysmem_participants.specs.Held.{Answers, AnswersAtEnd, IsSameBut, IsStillKnown, MayEnter, acted, child_of, left_of};
+ghost use Rattle.sysmem_participants.specs.Told.{IsShownTo, IsToldBy, Tells};
 ghost use Rattle.sysmem_tree.specs.ActionKind.{attaches_token, closes, releases, sets};
 
 use crate::seat::Seat;
@@ -13,6 +13,7 @@ use crate::view::View;
 use std::marker::Model;
 use std::sync::ledger::Ledger;
 use std::sync::{Arc, Wait};
+use std::thread::Threads;
 use sysmem_room::Outcome;
 use sysmem_sanitise::Constraints;
 use sysmem_search::Gate;
@@ -31,7 +32,7 @@ impl<L: Ledger, G: Gate + Drop> Model for Collection<L, G> {
     ghost view = { λ h. h.seat };
 }
 
-impl<L: Ledger, G: Gate + Drop> Collection<L, G> {
+impl<L: Ledger, G: Gate + Drop + Sync> Collection<L, G> {
     ghost use Rattle.std.specs.Borrow.{sem};
     ghost use mathlib.Core.Option.{none};
     ghost use denote.Follow.{follows_so};
@@ -45,7 +46,7 @@ impl<L: Ledger, G: Gate + Drop> Collection<L, G> {
     }
 
     /// Sets these constraints, or that the participant has none.
-    pub fn set_constraints<R: Wait>(
+    pub fn set_constraints<R: Threads + Wait + Sync>(
         &mut self,
         rt: &R,
         asked: Option<Arc<Constraints>>,
@@ -61,7 +62,7 @@ impl<L: Ledger, G: Gate + Drop> Collection<L, G> {
 
     /// A token, the last child of this node, whose domain is decided once this one is, with the
     /// same settings.
-    pub fn attach_token<R: Wait>(&mut self, rt: &R) -> Result<Token<L, G>, Refusal>
+    pub fn attach_token<R: Threads + Wait + Sync>(&mut self, rt: &R) -> Result<Token<L, G>, Refusal>
         ensures entered { OnOk result (self.new ≡ acted self.old attaches_token) }
         ensures unchanged { OnErr result (self.new ≡ self.old) }
         ensures made { IfOk result (λ child.
@@ -82,14 +83,15 @@ impl<L: Ledger, G: Gate + Drop> Collection<L, G> {
     pub fn check(&mut self) -> Result<View<'_>, Refusal>
         ensures* after { sem 𝓛 (follows_so (the_row L.row G.row L.Ledger)
             (the_row L.row G.row L.Ledger) self.entry.ghost_name none (λ _ _. ⊤)
-            (λ n. IsSameBut self.old n × MatchResult result
-            (λ view. n.known ≡ Some (Outcome.Decided view.ruling.now)) (λ _. Unit {0}))) }
+            (λ n. IsSameBut self.old n × IsStillKnown self.old n × MatchResult result
+            (λ view. n.known ≡ Some (Outcome.Decided view.ruling.now))
+            (IsToldBy self.old n.known))) }
         ensures pending { IfErr result (λ refusal.
             refusal ≡ Refusal.Pending → self.old.known ≡ None) }
         ensures known { IfOk result (λ view.
             IfSome self.old.known (λ known. known ≡ Outcome.Decided view.ruling.now)) }
         ensures shown { IfOk result (λ view. IsShownTo self.old view.ruling.now) }
-        ensures tells { IfErr result (Tells self.old.platform) }
+        ensures tells { IfErr result (Tells self.old) }
     {
         self.seat.check()
     }
@@ -98,13 +100,14 @@ impl<L: Ledger, G: Gate + Drop> Collection<L, G> {
     pub fn wait_for_all<R: Wait>(&mut self, rt: &R) -> Result<View<'_>, Refusal>
         ensures* after { sem 𝓛 (follows_so (the_row L.row G.row L.Ledger)
             (the_row L.row G.row L.Ledger) self.entry.ghost_name none (λ _ _. ⊤)
-            (λ n. IsSameBut self.old n × MatchResult result
-            (λ view. n.known ≡ Some (Outcome.Decided view.ruling.now)) (λ _. Unit {0}))) }
+            (λ n. IsSameBut self.old n × IsStillKnown self.old n × MatchResult result
+            (λ view. n.known ≡ Some (Outcome.Decided view.ruling.now))
+            (IsToldBy self.old n.known))) }
         ensures decided { IfErr result (λ refusal. refusal ≢ Refusal.Pending) }
         ensures known { IfOk result (λ view.
             IfSome self.old.known (λ known. known ≡ Outcome.Decided view.ruling.now)) }
         ensures shown { IfOk result (λ view. IsShownTo self.old view.ruling.now) }
-        ensures tells { IfErr result (Tells self.old.platform) }
+        ensures tells { IfErr result (Tells self.old) }
     {
         self.seat.wait_for_all(rt)
     }
@@ -122,7 +125,10 @@ impl<L: Ledger, G: Gate + Drop> Collection<L, G> {
 
     /// Releases the node: what is left of the handle, or the handle as it was, and why. It takes no
     /// memory.
-    pub fn release<R: Wait>(self, rt: &R) -> Result<Stub<L>, (Collection<L, G>, Refusal)>
+    pub fn release<R: Threads + Wait + Sync>(
+        self,
+        rt: &R,
+    ) -> Result<Stub<L>, (Collection<L, G>, Refusal)>
         ensures left { IfOk result (λ stub. stub ≡ left_of (acted self releases)) }
         ensures back { IfErr result (λ refused. refused.0 ≡ self) }
         ensures foreseen { OnOk result (MayEnter self releases) }
@@ -137,7 +143,7 @@ impl<L: Ledger, G: Gate + Drop> Collection<L, G> {
 
     /// Closes the node, as a channel that ends does: what is left of the handle, with the action
     /// where it was accepted, or beside it the refusal. It takes no memory.
-    pub fn close<R: Wait>(self, rt: &R) -> (Stub<L>, Option<Refusal>)
+    pub fn close<R: Threads + Wait + Sync>(self, rt: &R) -> (Stub<L>, Option<Refusal>)
         ensures left { MatchOption result.1 (result.0 ≡ left_of (acted self closes))
             (λ _. result.0 ≡ left_of self) }
         ensures foreseen { MatchOption result.1 (MayEnter self closes) (λ _. Unit {0}) }

@@ -1,6 +1,6 @@
 //! Decisions, taken while no one holds the lock.
 
-ghost use Rattle.std.specs.Prelude.{◌≡◌, IfOk};
+ghost use Rattle.std.specs.Prelude.{◌≡◌, ◌≤◌, IfOk};
 ghost use Rattle.std.specs.Arc.{arc_value};
 ghost use Rattle.sysmem_proof.specs.Claim.{IsTrueClaim};
 
@@ -8,41 +8,66 @@ use crate::shared::{Rules, Shared};
 use std::alloc::{AllocError, Global};
 use std::sync::ledger::Ledger;
 use std::sync::{Arc, Wait};
+use std::thread::Threads;
 use sysmem_alloc::Frozen;
 use sysmem_proof::Claim;
-use sysmem_search::{Gate, prove, search};
+use sysmem_search::{Gate, prove, search_wide};
+
+/// From so many selections on, a search can take so long that a second worker is worth its thread.
+const MANY_SELECTIONS: u64 = 1024;
+
+/// How many workers search what was frozen.
+fn workers_for<G: Gate + Drop>(rules: &Rules<G>, frozen: &Frozen) -> u32
+    ensures some { 1 ≤ result }
+    ensures few { result ≤ 64 }
+{
+    if let Some(workers) = rules.workers {
+        return workers;
+    }
+    let selections = frozen.tree().count_selections(frozen.domain());
+    if selections >= MANY_SELECTIONS { 2 } else { 1 }
+}
 
 /// A true claim of what was frozen, for the book and for the cell.
-fn claimed<G: Gate>(
-    alloc: Global,
+fn claimed<G: Gate + Drop + Sync, R: Threads + Sync>(
+    rt: &R,
+    rules: &Rules<G>,
     frozen: &Frozen,
-    gate: &G,
 ) -> Result<(Arc<Claim>, Arc<Claim>), AllocError>
     ensures right { IfOk result (λ both. IsTrueClaim frozen.now.platform frozen.now.tree.nodes
         frozen.now.domain frozen.now.base (arc_value both.0)) }
     ensures same { IfOk result (λ both. arc_value both.1 ≡ arc_value both.0) }
 {
-    let claim = claim_of(alloc, frozen, gate)?;
-    let shared = Arc::new(alloc, claim)?;
+    let workers = workers_for(rules, frozen);
+    let claim = claim_of(rt, rules.alloc, frozen, &rules.gate, workers)?;
+    let shared = Arc::new(rules.alloc, claim)?;
     let copy = Arc::try_clone(&shared)?;
     Ok((shared, copy))
 }
 
-/// A true claim of what was frozen.
-fn claim_of<G: Gate>(alloc: Global, frozen: &Frozen, gate: &G) -> Result<Claim, AllocError>
+/// A true claim of what was frozen, which so many workers search together.
+fn claim_of<G: Gate + Sync, R: Threads + Sync>(
+    rt: &R,
+    alloc: Global,
+    frozen: &Frozen,
+    gate: &G,
+    workers: u32,
+) -> Result<Claim, AllocError>
+    requires some { 1 ≤ workers }
+    requires few { workers ≤ 64 }
     ensures { IfOk result (λ claim. IsTrueClaim frozen.now.platform frozen.now.tree.nodes
         frozen.now.domain frozen.now.base claim) }
 {
     let (platform, tree, domain) = (frozen.platform(), frozen.tree(), frozen.domain());
     let base = frozen.base();
-    let verdict = search(alloc, platform, tree, domain, base, gate)?.verdict;
+    let verdict = search_wide(rt, alloc, platform, tree, domain, base, gate, workers)?.verdict;
     let proof = prove(alloc, platform, tree, domain, base, &verdict)?;
     Ok(Claim { verdict, proof })
 }
 
 /// Decides the domains that wait, one after the other, until none waits: what it decides on is
 /// frozen in one hold, searched and proved in none, and entered in another.
-pub(crate) fn decide<L: Ledger, G: Gate + Drop, R: Wait>(
+pub(crate) fn decide<L: Ledger, G: Gate + Drop + Sync, R: Threads + Wait + Sync>(
     rt: &R,
     shared: &Shared<L>,
     rules: &Rules<G>,
@@ -53,7 +78,7 @@ pub(crate) fn decide<L: Ledger, G: Gate + Drop, R: Wait>(
         let Some(frozen) = next else {
             break;
         };
-        match claimed(rules.alloc, &frozen, &rules.gate) {
+        match claimed(rt, rules, &frozen) {
             Ok((claim, copy)) => {
                 let _entered = shared.room.lock(rt).conclude(frozen, claim, copy);
             }

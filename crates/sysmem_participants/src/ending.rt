@@ -13,6 +13,7 @@ use crate::shared::{Rules, Shared};
 use crate::stub::Stub;
 use std::sync::Wait;
 use std::sync::ledger::{Ledger, Share};
+use std::thread::Threads;
 use sysmem_room::{Log, Outcome};
 use sysmem_search::Gate;
 use sysmem_tree::{Action, Refusal};
@@ -30,7 +31,7 @@ fn at_end(refusal: Refusal) -> Refusal
 }
 
 /// Enters the last action on a node in one hold, and decides where that is this thread's turn.
-fn end<L: Ledger, G: Gate + Drop, R: Wait>(
+fn end<L: Ledger, G: Gate + Drop + Sync, R: Threads + Wait + Sync>(
     rt: &R,
     shared: &Shared<L>,
     rules: &Rules<G>,
@@ -91,9 +92,12 @@ fn end_in_hold<L: Ledger, R: Wait>(
     Ok(room.begin())
 }
 
-impl<L: Ledger, G: Gate + Drop> Seat<L, G> {
+impl<L: Ledger, G: Gate + Drop + Sync> Seat<L, G> {
     /// Releases the node.
-    pub(crate) fn release<R: Wait>(self, rt: &R) -> Result<Stub<L>, (Seat<L, G>, Refusal)>
+    pub(crate) fn release<R: Threads + Wait + Sync>(
+        self,
+        rt: &R,
+    ) -> Result<Stub<L>, (Seat<L, G>, Refusal)>
         ensures left { IfOk result (λ stub. stub ≡ left_of (acted self releases)) }
         ensures back { IfErr result (λ refused. refused.0 ≡ self) }
         ensures foreseen { OnOk result (MayEnter self releases) }
@@ -148,7 +152,7 @@ impl<L: Ledger, G: Gate + Drop> Seat<L, G> {
 
     /// Closes the node, as a channel that ends: what is left of the handle, and why the close was
     /// refused, if it was.
-    pub(crate) fn close<R: Wait>(self, rt: &R) -> (Stub<L>, Option<Refusal>)
+    pub(crate) fn close<R: Threads + Wait + Sync>(self, rt: &R) -> (Stub<L>, Option<Refusal>)
         ensures left { MatchOption result.1 (result.0 ≡ left_of (acted self closes))
             (λ _. result.0 ≡ left_of self) }
         ensures foreseen { MatchOption result.1 (MayEnter self closes) (λ _. Unit {0}) }

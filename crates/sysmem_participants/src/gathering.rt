@@ -1,7 +1,7 @@
 //! The audit of a collection whose handles are all spent.
 
-ghost use Rattle.std.specs.Prelude.{◌≡◌, ◌+◌, length, map, sum_by, vec_len, IfOk};
-ghost use Rattle.sysmem_participants.specs.Audit.{IsAudited, SomeBookAgrees, unread};
+ghost use Rattle.std.specs.Prelude.{◌≡◌, ◌+◌, length, sum_by, vec_len, IfOk};
+ghost use Rattle.sysmem_participants.specs.Audit.{SomeBookAgrees};
 ghost use Rattle.sysmem_room.specs.Counting.{actions_in};
 
 use crate::agreeing::stubs_agree;

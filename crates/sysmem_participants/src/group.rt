@@ -10,6 +10,7 @@ use crate::token::Token;
 use std::marker::Model;
 use std::sync::Wait;
 use std::sync::ledger::Ledger;
+use std::thread::Threads;
 use sysmem_search::Gate;
 use sysmem_tree::{NodeKind, Refusal};
 
@@ -27,7 +28,7 @@ impl<L: Ledger, G: Gate + Drop> Model for Group<L, G> {
     ghost view = { λ h. h.seat };
 }
 
-impl<L: Ledger, G: Gate + Drop> Group<L, G> {
+impl<L: Ledger, G: Gate + Drop + Sync> Group<L, G> {
     /// Of what it holds.
     pub(crate) fn new(seat: Seat<L, G>) -> Group<L, G>
         ensures { result ≡ seat }
@@ -36,7 +37,7 @@ impl<L: Ledger, G: Gate + Drop> Group<L, G> {
     }
 
     /// A token, the last child of the group.
-    pub fn create_child<R: Wait>(&mut self, rt: &R) -> Result<Token<L, G>, Refusal>
+    pub fn create_child<R: Threads + Wait + Sync>(&mut self, rt: &R) -> Result<Token<L, G>, Refusal>
         ensures entered { OnOk result (self.new ≡ acted self.old creates_child) }
         ensures unchanged { OnErr result (self.new ≡ self.old) }
         ensures made { IfOk result (λ child.
@@ -51,7 +52,7 @@ impl<L: Ledger, G: Gate + Drop> Group<L, G> {
     }
 
     /// The group is complete: it gets no further children.
-    pub fn all_children_present<R: Wait>(&mut self, rt: &R) -> Result<(), Refusal>
+    pub fn all_children_present<R: Threads + Wait + Sync>(&mut self, rt: &R) -> Result<(), Refusal>
         ensures entered { OnOk result (self.new ≡ acted self.old has_all_children) }
         ensures unchanged { OnErr result (self.new ≡ self.old) }
         ensures foreseen { OnOk result (MayEnter self.old has_all_children) }
@@ -62,7 +63,10 @@ impl<L: Ledger, G: Gate + Drop> Group<L, G> {
 
     /// Releases the node: what is left of the handle, or the handle as it was, and why. It takes no
     /// memory.
-    pub fn release<R: Wait>(self, rt: &R) -> Result<Stub<L>, (Group<L, G>, Refusal)>
+    pub fn release<R: Threads + Wait + Sync>(
+        self,
+        rt: &R,
+    ) -> Result<Stub<L>, (Group<L, G>, Refusal)>
         ensures left { IfOk result (λ stub. stub ≡ left_of (acted self releases)) }
         ensures back { IfErr result (λ refused. refused.0 ≡ self) }
         ensures foreseen { OnOk result (MayEnter self releases) }
@@ -77,7 +81,7 @@ impl<L: Ledger, G: Gate + Drop> Group<L, G> {
 
     /// Closes the node, as a channel that ends does: what is left of the handle, with the action
     /// where it was accepted, or beside it the refusal. It takes no memory.
-    pub fn close<R: Wait>(self, rt: &R) -> (Stub<L>, Option<Refusal>)
+    pub fn close<R: Threads + Wait + Sync>(self, rt: &R) -> (Stub<L>, Option<Refusal>)
         ensures left { MatchOption result.1 (result.0 ≡ left_of (acted self closes))
             (λ _. result.0 ≡ left_of self) }
         ensures foreseen { MatchOption result.1 (MayEnter self closes) (λ _. Unit {0}) }

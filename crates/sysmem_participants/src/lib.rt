@@ -23,6 +23,7 @@ mod ending;
 mod faults;
 mod gathering;
 mod group;
+pub mod laws;
 mod seat;
 mod shared;
 mod stub;

@@ -3,8 +3,8 @@
 ghost use Rattle.std.specs.Prelude.{◌≡◌, ◌≢◌, ◌<◌, ◌≤◌, ◌+◌, ◌++◌, [], ◌∷◌, None, Some, length, option_map, IfErr, IfOk, IfSome, MatchResult, OnErr, OnOk, ⊤};
 ghost use Rattle.std.specs.Arc.{arc_value};
 ghost use Rattle.once_cell.specs.Once.{cell_name};
-ghost use Rattle.sysmem_participants.specs.Held.{IsSameBut, state_of};
-ghost use Rattle.sysmem_participants.specs.Told.{IsShownTo, Tells};
+ghost use Rattle.sysmem_participants.specs.Held.{IsSameBut, IsStillKnown, state_of};
+ghost use Rattle.sysmem_participants.specs.Told.{IsShownTo, IsToldBy, Tells};
 ghost use Rattle.sysmem_room.specs.Log.{begun_as};
 
 use crate::shared::{Rules, Shared};
@@ -103,14 +103,15 @@ impl<L: Ledger, G: Gate + Drop> Seat<L, G> {
     pub(crate) fn check(&mut self) -> Result<View<'_>, Refusal>
         ensures* after { sem 𝓛 (follows_so (the_row L.row G.row L.Ledger)
             (the_row L.row G.row L.Ledger) self.entry.ghost_name none (λ _ _. ⊤)
-            (λ n. IsSameBut self.old n × MatchResult result
-            (λ view. n.known ≡ Some (Outcome.Decided view.ruling.now)) (λ _. Unit {0}))) }
+            (λ n. IsSameBut self.old n × IsStillKnown self.old n × MatchResult result
+            (λ view. n.known ≡ Some (Outcome.Decided view.ruling.now))
+            (IsToldBy self.old n.known))) }
         ensures pending { IfErr result (λ refusal.
             refusal ≡ Refusal.Pending → self.old.known ≡ None) }
         ensures known { IfOk result (λ view.
             IfSome self.old.known (λ known. known ≡ Outcome.Decided view.ruling.now)) }
         ensures shown { IfOk result (λ view. IsShownTo self.old view.ruling.now) }
-        ensures tells { IfErr result (Tells self.old.platform) }
+        ensures tells { IfErr result (Tells self.old) }
     {
         let Some(outcome) = self.cell.get_as(&mut self.note) else {
             return Err(Refusal::Pending);
@@ -122,13 +123,14 @@ impl<L: Ledger, G: Gate + Drop> Seat<L, G> {
     pub(crate) fn wait_for_all<R: Wait>(&mut self, rt: &R) -> Result<View<'_>, Refusal>
         ensures* after { sem 𝓛 (follows_so (the_row L.row G.row L.Ledger)
             (the_row L.row G.row L.Ledger) self.entry.ghost_name none (λ _ _. ⊤)
-            (λ n. IsSameBut self.old n × MatchResult result
-            (λ view. n.known ≡ Some (Outcome.Decided view.ruling.now)) (λ _. Unit {0}))) }
+            (λ n. IsSameBut self.old n × IsStillKnown self.old n × MatchResult result
+            (λ view. n.known ≡ Some (Outcome.Decided view.ruling.now))
+            (IsToldBy self.old n.known))) }
         ensures decided { IfErr result (λ refusal. refusal ≢ Refusal.Pending) }
         ensures known { IfOk result (λ view.
             IfSome self.old.known (λ known. known ≡ Outcome.Decided view.ruling.now)) }
         ensures shown { IfOk result (λ view. IsShownTo self.old view.ruling.now) }
-        ensures tells { IfErr result (Tells self.old.platform) }
+        ensures tells { IfErr result (Tells self.old) }
     {
         wait_until_set(rt, &self.shared, &self.cell, &mut self.note);
         self.check()

@@ -1,5 +1,8 @@
 //! What the handles of a collection share.
 
+ghost use Rattle.std.specs.Prelude.{◌≤◌};
+ghost use Rattle.std.specs.Option.{ForSome};
+
 use std::alloc::Global;
 use std::sync::ledger::Ledger;
 use std::sync::{Condvar, Mutex};
@@ -20,4 +23,7 @@ pub(crate) struct Rules<G: Gate + Drop> {
     pub(crate) alloc: Global,
     pub(crate) platform: Platform,
     pub(crate) gate: G,
+    /// How many workers a search gets; `None` where that goes by how long it may take.
+    pub(crate) workers: Option<u32>,
+    ghost few: { ForSome workers (λ many. (1 ≤ many) × (many ≤ 64)) },
 }

@@ -2,7 +2,7 @@
 
 ghost use Rattle.std.specs.Prelude.{◌≡◌, ◌≢◌, IfErr, IfOk, IsTrue};
 ghost use Rattle.sysmem_room.specs.Log.{shown_by};
-ghost use Rattle.sysmem_participants.specs.Told.{Asks, IsChosenFor, IsShownAt, IsToldBy, Tells};
+ghost use Rattle.sysmem_participants.specs.Told.{Asks, IsChosenFor, IsRefusedBy, IsShownAt, IsTold};
 
 use crate::view::View;
 use sysmem_alloc::Frozen;
@@ -37,7 +37,8 @@ fn shown<'a>(ruling: &'a Ruling, path: &[u32], log: &Log) -> Result<View<'a>, Re
     ensures own { IfOk result (λ view.
         Asks view.ruling.now.frozen path.now (shown_by log.now).constraints) }
     ensures known { IfErr result (λ refusal. refusal ≢ Refusal.Pending) }
-    ensures told { IfErr result (IsToldBy ruling.now.claim.verdict) }
+    ensures told { IfErr result
+        (IsRefusedBy ruling.now.frozen.platform path.now ruling.now) }
 {
     match &ruling.claim().verdict {
         Verdict::Chosen(chosen) => {
@@ -66,7 +67,7 @@ pub(crate) fn told<'a>(
     ensures shown { IfOk result (λ view. IsShownAt platform.now path.now
         (shown_by log.now).constraints view.ruling.now) }
     ensures known { IfErr result (λ refusal. refusal ≢ Refusal.Pending) }
-    ensures tells { IfErr result (Tells platform.now) }
+    ensures told { IfErr result (IsTold platform.now path.now outcome.now) }
 {
     let ruling = match outcome {
         Outcome::Decided(ruling) => ruling,

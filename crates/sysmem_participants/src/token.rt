@@ -11,6 +11,7 @@ use crate::stub::Stub;
 use std::marker::Model;
 use std::sync::Wait;
 use std::sync::ledger::Ledger;
+use std::thread::Threads;
 use sysmem_search::Gate;
 use sysmem_tree::{NodeKind, Refusal};
 
@@ -28,7 +29,7 @@ impl<L: Ledger, G: Gate + Drop> Model for Token<L, G> {
     ghost view = { λ h. h.seat };
 }
 
-impl<L: Ledger, G: Gate + Drop> Token<L, G> {
+impl<L: Ledger, G: Gate + Drop + Sync> Token<L, G> {
     /// Of what it holds.
     pub(crate) fn new(seat: Seat<L, G>) -> Token<L, G>
         ensures { result ≡ seat }
@@ -37,7 +38,7 @@ impl<L: Ledger, G: Gate + Drop> Token<L, G> {
     }
 
     /// A further token, the last child of this one.
-    pub fn duplicate<R: Wait>(&mut self, rt: &R) -> Result<Token<L, G>, Refusal>
+    pub fn duplicate<R: Threads + Wait + Sync>(&mut self, rt: &R) -> Result<Token<L, G>, Refusal>
         ensures entered { OnOk result (self.new ≡ acted self.old duplicates) }
         ensures unchanged { OnErr result (self.new ≡ self.old) }
         ensures made { IfOk result (λ child.
@@ -52,7 +53,7 @@ impl<L: Ledger, G: Gate + Drop> Token<L, G> {
     }
 
     /// A group, the last child of this token: of its children one will be chosen.
-    pub fn create_group<R: Wait>(&mut self, rt: &R) -> Result<Group<L, G>, Refusal>
+    pub fn create_group<R: Threads + Wait + Sync>(&mut self, rt: &R) -> Result<Group<L, G>, Refusal>
         ensures entered { OnOk result (self.new ≡ acted self.old creates_group) }
         ensures unchanged { OnErr result (self.new ≡ self.old) }
         ensures made { IfOk result (λ child.
@@ -67,7 +68,10 @@ impl<L: Ledger, G: Gate + Drop> Token<L, G> {
     }
 
     /// The token becomes a collection; or the token as it was, and why not.
-    pub fn bind<R: Wait>(self, rt: &R) -> Result<Collection<L, G>, (Token<L, G>, Refusal)>
+    pub fn bind<R: Threads + Wait + Sync>(
+        self,
+        rt: &R,
+    ) -> Result<Collection<L, G>, (Token<L, G>, Refusal)>
         ensures bound { IfOk result (λ collection. collection ≡ acted self binds) }
         ensures back { IfErr result (λ refused. refused.0 ≡ self) }
         ensures foreseen { OnOk result (MayEnter self binds) }
@@ -82,7 +86,10 @@ impl<L: Ledger, G: Gate + Drop> Token<L, G> {
 
     /// Releases the node: what is left of the handle, or the handle as it was, and why. It takes no
     /// memory.
-    pub fn release<R: Wait>(self, rt: &R) -> Result<Stub<L>, (Token<L, G>, Refusal)>
+    pub fn release<R: Threads + Wait + Sync>(
+        self,
+        rt: &R,
+    ) -> Result<Stub<L>, (Token<L, G>, Refusal)>
         ensures left { IfOk result (λ stub. stub ≡ left_of (acted self releases)) }
         ensures back { IfErr result (λ refused. refused.0 ≡ self) }
         ensures foreseen { OnOk result (MayEnter self releases) }
@@ -97,7 +104,7 @@ impl<L: Ledger, G: Gate + Drop> Token<L, G> {
 
     /// Closes the node, as a channel that ends does: what is left of the handle, with the action
     /// where it was accepted, or beside it the refusal. It takes no memory.
-    pub fn close<R: Wait>(self, rt: &R) -> (Stub<L>, Option<Refusal>)
+    pub fn close<R: Threads + Wait + Sync>(self, rt: &R) -> (Stub<L>, Option<Refusal>)
         ensures left { MatchOption result.1 (result.0 ≡ left_of (acted self closes))
             (λ _. result.0 ≡ left_of self) }
         ensures foreseen { MatchOption result.1 (MayEnter self closes) (λ _. Unit {0}) }

@@ -2,5 +2,7 @@ mod Asking
 mod Counting
 mod Lacking
 mod Logs
-mod Reading
+mod Owning
+pub mod Reading
 mod Still
+pub mod CallerLemmas

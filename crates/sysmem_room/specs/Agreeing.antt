@@ -10,6 +10,7 @@ use Rattle.sysmem_tree.specs.History.{log}
 use Rattle.sysmem_tree.specs.Path.{node_at}
 use Rattle.sysmem_room.specs.declared.outcome.Outcome.{Outcome}
 use Rattle.sysmem_room.specs.declared.outcome.Outcome.TheVariants as outcomes
+use Rattle.sysmem_room.specs.Log.{LogFacts, shown_by}
 
 -- what an entry asks of node i
 abbrev pub own_deeds : ℕ → BookEntry → List Deed
@@ -34,9 +35,15 @@ verdict_at b i = option_and_then (λ n. verdict_of b.state n.domain) (slice_get 
 abbrev pub IsKnown : BookFacts → ℕ → Option Outcome → Type 0
 IsKnown b i known = IfSome known (λ o. verdict_at b i ≡ Some (verdict_by o))
 
--- node i is what a handle is of: it is at the handle's path, the history has the handle's actions on it, and its domain has the verdict that
--- the handle knows, if it knows one
+-- node i is what a handle is of: it is at the handle's path, the history has the handle's actions
+-- on it, and its domain has the verdict that the handle knows, if it knows one
 pub record AgreesAt (b : BookFacts) (path : List ℕ) (deeds : List Deed) (known : Option Outcome) (i : ℕ) : Type 0 where
   pub at : node_at b.state.tree.nodes path ≡ Some i
   pub log : book_log b.history i ≡ deeds
   pub verdict : IsKnown b i known
+
+-- node i is a handle's own: it agrees with what the handle knows, and it was made, and stands, as the handle's log says
+pub record IsOwn (b : BookFacts) (path : List ℕ) (log : LogFacts) (known : Option Outcome) (i : ℕ) : Type 0 where
+  pub agrees : AgreesAt b path log.deeds known i
+  pub state : IfSome (slice_get b.state.tree.nodes i) (λ n. n.state ≡ (shown_by log).state)
+  pub root : IfSome (slice_get b.state.tree.nodes i) (λ n. (n.domain == i) ≡ log.begun.is_domain_root)

@@ -27,7 +27,8 @@ pub(crate) fn lent(asked: &Option<Arc<Constraints>>) -> Option<&Constraints>
 /// Whether a node set just these constraints, or none.
 pub(crate) fn has_set(tree: &Tree, node: NodeId, asked: Option<&Constraints>) -> bool
     requires { HasNode tree.now.nodes node }
-    ensures { IsTrue result → asks_at tree.now.nodes node ≡ option_map (λ one. one.now) asked.entry }
+    ensures { IsTrue result → asks_at tree.now.nodes node
+        ≡ option_map (λ one. one.now) asked.entry }
 {
     match (tree.constraints_of(node), asked) {
         (None, None) => true,

@@ -1,6 +1,6 @@
 //! What a handle knows of its node: how it was made, and the actions on it that were accepted.
 
-ghost use Rattle.std.specs.Prelude.{◌≡◌, ◌<◌, ◌≤◌, ◌+◌, ◌++◌, [], ◌∷◌, length, map, option_map, IfOk, IsTrue, OnErr, OnOk};
+ghost use Rattle.std.specs.Prelude.{◌≡◌, ◌<◌, ◌≤◌, ◌+◌, ◌==◌, ◌++◌, [], ◌∷◌, true, length, map, option_map, slice_get, IfOk, IfSome, IsTrue, OnErr, OnOk};
 ghost use Rattle.sysmem_proof.specs.Asked.{asks_at};
 ghost use Rattle.sysmem_tree.specs.Nodes.{HasNode};
 ghost use Rattle.sysmem_room.specs.Log.{begun_as, shown_by};
@@ -66,13 +66,6 @@ impl Log {
         self.state
     }
 
-    /// Whether the node was made as the root of a domain.
-    pub fn is_domain_root(&self) -> bool
-        ensures { result ≡ self.now.begun.is_domain_root }
-    {
-        self.is_domain_root
-    }
-
     /// The actions, the oldest first.
     pub fn actions(&self) -> &[Action]
         ensures { map deed_of result.now ≡ self.now.deeds }
@@ -114,6 +107,21 @@ impl Log {
         ensures { map deed_of result.items ≡ self.deeds }
     {
         self.actions
+    }
+
+    /// Whether a node was made as this log's, and stands as the actions make it.
+    pub(crate) fn stands_as(&self, tree: &Tree, node: NodeId) -> bool
+        requires { HasNode tree.now.nodes node }
+        ensures state { result ≡ true → IfSome (slice_get tree.now.nodes node)
+            (λ n. n.state ≡ (shown_by self.now).state) }
+        ensures root { result ≡ true → IfSome (slice_get tree.now.nodes node)
+            (λ n. (n.domain == node) ≡ self.now.begun.is_domain_root) }
+    {
+        if tree.state(node) != self.state {
+            return false;
+        }
+        let is_root = tree.root_of(tree.domain_of(node)) == node;
+        is_root == self.is_domain_root
     }
 
     /// Whether a node has the constraints that the actions set.

@@ -7,7 +7,7 @@ ghost use Rattle.sysmem_alloc.specs.Entry.{Acted, Decided};
 ghost use Rattle.sysmem_alloc.specs.Frozen.{IsStill, frozen_of};
 ghost use Rattle.sysmem_alloc.specs.State.{next_ready};
 ghost use Rattle.sysmem_proof.specs.Claim.{IsTrueClaim};
-ghost use Rattle.sysmem_room.specs.Agreeing.{AgreesAt};
+ghost use Rattle.sysmem_room.specs.Agreeing.{IsOwn};
 ghost use Rattle.sysmem_room.specs.Counting.{actions_in, all_parts, nodes_by};
 ghost use Rattle.sysmem_room.specs.Lacking.{without_memory};
 ghost use Rattle.sysmem_room.specs.Log.{shown_by};
@@ -178,15 +178,14 @@ impl<L: Ledger> Room<L> {
     /// The node at the path of a log, if it was made as the log says, and the book has the log's
     /// actions on it and the verdict that is known of its domain.
     fn node_of(&self, path: &[u32], log: &Log, known: Option<&Outcome>) -> Option<NodeId>
-        ensures agrees { IfSome result (AgreesAt self.now path.now log.now.deeds
+        ensures own { IfSome result (IsOwn self.now path.now log.now
             (option_map (λ o. o.now) known.entry)) }
         ensures there { IfSome result (HasNode self.now.state.tree.nodes) }
     {
         let tree = self.book.tree();
         let node = tree.node_at(path)?;
         let is_own = has_actions(&self.book, node, log.actions())
-            && tree.state(node) == log.state()
-            && (tree.root_of(tree.domain_of(node)) == node) == log.is_domain_root()
+            && log.stands_as(tree, node)
             && has_verdict(&self.book, node, known);
         if is_own { Some(node) } else { None }
     }
@@ -208,8 +207,10 @@ impl<L: Ledger> Room<L> {
         requires mine { 0 < mine.old.parts }
         requires fresh { is_some fresh ≡ makes_root (kind_of (deed_of action)) }
         ensures entered { OnOk result ((node : ℕ)
-            × AgreesAt self.old path.now log.now.deeds (option_map (λ o. o.now) known.entry) node
+            × IsOwn self.old path.now log.now (option_map (λ o. o.now) known.entry) node
             × (self.new ≡ entered self.old (Acted node (deed_of action)))) }
+        ensures own { IfErr result (λ refusal. refusal ≢ Refusal.Strange → (node : ℕ)
+            × IsOwn self.old path.now log.now (option_map (λ o. o.now) known.entry) node) }
         ensures unchanged { OnErr result (self.new ≡ self.old) }
         ensures foreseen { OnOk result (due (option_map (λ o. o.now) known.entry) path.now
             (shown_by log.now).state (kind_of (deed_of action)) ≡ None) }

@@ -1,37 +1,74 @@
-use Rattle.std.proofs.Common.{◌+◌, ◌≡◌, ◌∙◌, None, ap, subst, sym, arith, refl, rules, true, slice_set, length}
-use Rattle.std.proofs.lemmas.List.{length-set}
-use Rattle.std.proofs.Math.Seq.{map-set_same}
+use Rattle.std.proofs.Common.{◌+◌, ◌≡◌, ◌∙◌, ◌<◌, ap, subst, sym, arith, refl, rules, tests, true, false, slice_set, length}
+use Rattle.std.proofs.lemmas.List.{length-set, length-replicate, set-get_or}
 use Rattle.sysmem_tree.specs.Domain.{TreeFacts}
-use Rattle.sysmem_participants.specs.Audit.{unread}
-use Rattle.sysmem_participants.proofs.Seeing.{SeenTo, seen_none, seen_on, all_seen}
+use Rattle.sysmem_participants.specs.Audit.{AreMatched}
+use Rattle.sysmem_participants.proofs.Seeing.{SeenTo, seen_none, seen_more, none_read, read_more, all_matched, marked_all, have_calls, each_of, all_of, none_there}
 use Rattle.sysmem_participants.proofs.agreeing.stubs_agree.Goals as goal
 
 pub loop-index-init : goal.loop-index-init
-loop-index-init g c = record { seen = λ none. seen_none c.args.book.now c.args.stubs.now; many = refl; same = refl }
+loop-index-init g c = record { seen = seen_none c.args.book.now c.args.stubs.now _ _; read = none_read c.args.stubs.now; long = length-replicate 128 false }
 
 pub loop-index-preserved : goal.loop-index-preserved
 loop-index-preserved g c =
+    let less : c.loop-index.index < length c.loop-index.stubs = omega (arith, c.loop-index-test.true, c.loop-index.auto.index-end, c.loop-index.invariant.read.many) in
+    let there : c.in-Some.node < length c.loop-index.marks = omega (arith, c.number_of.ensures.number, c.number_of.ensures.few, c.loop-index.invariant.long) in
     record {
-      seen = λ none.
-          subst (λ n. SeenTo c.args.book.now (slice_set c.loop-index.stubs c.loop-index.index c.fault_of.new.stub) (slice_set c.loop-index.marks n true) (c.loop-index.index + 1)) (sym c.number_of.ensures.number)
-          (seen_on c.args.book.now c.loop-index.stubs c.loop-index.marks c.loop-index.index c.in-Some.node c.fault_of.new.stub c.loop-index.fault c.fault_of.result c.first_of-fault.result
-          (omega (arith, c.loop-index-test.true, c.loop-index.auto.index-end, c.loop-index.invariant.many)) c.first_of-fault.ensures c.fault_of.ensures.agrees c.loop-index.invariant.seen none);
-      many = length-set c.loop-index.stubs c.loop-index.index c.fault_of.new.stub ∙ c.loop-index.invariant.many;
-      same = map-set_same unread c.loop-index.stubs c.loop-index.index c.fault_of.new.stub c.index-stubs-index.result c.fault_of.ensures.same ∙ c.loop-index.invariant.same;
+      seen =
+          subst (λ n. SeenTo c.args.book.now (slice_set c.loop-index.stubs c.loop-index.index c.agreement_of.new.stub) (slice_set c.loop-index.marks n true) c.and-all.result.calls c.and-all.result.verdict (c.loop-index.index + 1)) (sym c.number_of.ensures.number)
+          (seen_more c.args.book.now c.loop-index.stubs c.loop-index.marks c.loop-index.all.calls c.loop-index.all.verdict c.and-all.result.calls c.and-all.result.verdict c.loop-index.index c.in-Some.node c.agreement_of.new.stub
+          less there c.agreement_of.ensures.at
+          (λ is. let (was, own) = c.and-all.ensures.calls is in (was, c.agreement_of.ensures.calls own))
+          (λ is. let (was, own) = c.and-all.ensures.verdict is in (was, c.agreement_of.ensures.verdict own))
+          c.loop-index.invariant.seen);
+      read = read_more _ c.loop-index.stubs c.loop-index.index c.agreement_of.new.stub c.index-stubs-index.result less c.agreement_of.ensures.read c.loop-index.invariant.read;
+      long = length-set c.loop-index.marks _ true ∙ c.loop-index.invariant.long;
     }
 
-pub returns-in-None-clause-agree : goal.returns-in-None-clause-agree
-returns-in-None-clause-agree g c =
-    let none : c.loop-index.fault ≡ None = search rules in
-    let end : c.loop-index.index ≡ length c.loop-index.stubs = omega (arith, c.loop-index-test.false, c.loop-index.invariant.many, c.loop-index.auto.index-end) in
+pub returns-then-not-have_stubs-clause-fault : goal.returns-then-not-have_stubs-clause-fault
+returns-then-not-have_stubs-clause-fault g c = λ matched.
+    let end : c.loop-index.index ≡ length c.loop-index.stubs = omega (arith, c.loop-index-test.false, c.loop-index.invariant.read.many, c.loop-index.auto.index-end) in
+    let (i, less, unmarked) = c.are_marked-have_stubs.ensures.one (search (rules, tests)) in
     let number = c.nodes-nodes.ensures.number ∙ ap (λ (t : TreeFacts). length t.nodes) c.tree.ensures in
-    let many : length c.loop-index.stubs ≡ length c.args.book.now.state.tree.nodes = omega (arith, c.loop-index.invariant.many, c.if-stubs-nodes.false, number) in
-    let seen = c.loop-index.invariant.seen none in
+    absurd (cc (sym (marked_all c.args.book.now c.loop-index.stubs c.loop-index.marks c.loop-index.all.calls c.loop-index.all.verdict c.loop-index.index end c.loop-index.invariant.seen matched i (omega (arith, less, number))) ∙ unmarked))
+
+pub returns-then-not-calls-clause-fault : goal.returns-then-not-calls-clause-fault
+returns-then-not-calls-clause-fault g c =
+    let end : c.loop-index.index ≡ length c.loop-index.stubs = omega (arith, c.loop-index-test.false, c.loop-index.invariant.read.many, c.loop-index.auto.index-end) in
+    let number = c.nodes-nodes.ensures.number ∙ ap (λ (t : TreeFacts). length t.nodes) c.tree.ensures in
+    let many : length c.loop-index.stubs ≡ length c.args.book.now.state.tree.nodes = omega (arith, c.loop-index.invariant.read.many, c.if-stubs-nodes.false, number) in
+    let marked = c.are_marked-have_stubs.ensures.all (search (rules, tests)) in
+    all_matched c.args.book.now c.loop-index.stubs c.loop-index.marks c.loop-index.all.calls c.loop-index.all.verdict c.loop-index.index end many (λ i less. marked i (omega (arith, less, number))) c.loop-index.invariant.seen
+
+pub returns-then-not-verdict-clause-fault : goal.returns-then-not-verdict-clause-fault
+returns-then-not-verdict-clause-fault g c =
+    let end : c.loop-index.index ≡ length c.loop-index.stubs = omega (arith, c.loop-index-test.false, c.loop-index.invariant.read.many, c.loop-index.auto.index-end) in
+    let number = c.nodes-nodes.ensures.number ∙ ap (λ (t : TreeFacts). length t.nodes) c.tree.ensures in
+    let many : length c.loop-index.stubs ≡ length c.args.book.now.state.tree.nodes = omega (arith, c.loop-index.invariant.read.many, c.if-stubs-nodes.false, number) in
+    let marked = c.are_marked-have_stubs.ensures.all (search (rules, tests)) in
+    let calls : c.loop-index.all.calls ≡ true = search (rules, tests) in (
+      all_matched c.args.book.now c.loop-index.stubs c.loop-index.marks c.loop-index.all.calls c.loop-index.all.verdict c.loop-index.index end many (λ i less. marked i (omega (arith, less, number))) c.loop-index.invariant.seen,
+      have_calls c.args.book.now c.loop-index.stubs c.loop-index.marks c.loop-index.all.calls c.loop-index.all.verdict c.loop-index.index end calls c.loop-index.invariant.seen,
+    )
+
+pub returns-clause-agree : goal.returns-clause-agree
+returns-clause-agree g c =
+    let end : c.loop-index.index ≡ length c.loop-index.stubs = omega (arith, c.loop-index-test.false, c.loop-index.invariant.read.many, c.loop-index.auto.index-end) in
+    let number = c.nodes-nodes.ensures.number ∙ ap (λ (t : TreeFacts). length t.nodes) c.tree.ensures in
+    let many : length c.loop-index.stubs ≡ length c.args.book.now.state.tree.nodes = omega (arith, c.loop-index.invariant.read.many, c.if-stubs-nodes.false, number) in
+    let marked = c.are_marked-have_stubs.ensures.all (search (rules, tests)) in
+    let calls : c.loop-index.all.calls ≡ true = search (rules, tests) in
+    let verdict : c.loop-index.all.verdict ≡ true = search (rules, tests) in
     record {
-      each = λ k d below. seen.each k d (omega (arith, below, end));
-      all = λ i less. all_seen c.args.book.now c.loop-index.stubs c.loop-index.marks c.loop-index.index i end seen (c.loop-number.invariant i (omega (arith, less, c.loop-number-test.false, number)));
+      each = each_of c.args.book.now c.loop-index.stubs c.loop-index.marks c.loop-index.all.calls c.loop-index.all.verdict c.loop-index.index end calls verdict c.loop-index.invariant.seen;
+      all = λ i less. all_of c.args.book.now c.loop-index.stubs c.loop-index.marks c.loop-index.all.calls c.loop-index.all.verdict c.loop-index.index end calls verdict c.loop-index.invariant.seen i (marked i (omega (arith, less, number)));
       many = many;
       nodes = c.counted.ensures.nodes ∙ sym many;
       actions = c.counted.ensures.actions;
       decisions = c.counted.ensures.decisions;
     }
+
+pub returns-in_default-clause-fault : goal.returns-in_default-clause-fault
+returns-in_default-clause-fault g c = λ matched.
+    let less : c.loop-index.index < length c.loop-index.stubs = omega (arith, c.loop-index-test.true, c.loop-index.auto.index-end, c.loop-index.invariant.read.many) in
+    let same = set-get_or c.loop-index.stubs c.loop-index.index c.index-stubs-index.result in
+    none_there c.args.book.now c.loop-index.stubs c.loop-index.index c.index-stubs-index.result less (search (rules, tests)) (subst (AreMatched c.args.book.now) same matched)

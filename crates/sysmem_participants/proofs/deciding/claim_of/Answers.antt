@@ -3,8 +3,8 @@ use Rattle.sysmem_tree.specs.Domain.{is_ready}
 use Rattle.sysmem_participants.proofs.Ruled.{put_together}
 use Rattle.sysmem_participants.proofs.deciding.claim_of.Goals as goal
 
-pub search-requires-clause-ready : goal.search-requires-clause-ready
-search-requires-clause-ready g c = ap (λ t. is_ready t c.domain-domain.result) c.tree-tree.ensures ∙ c.domain-domain.ensures.waits.ready
+pub search_wide-requires-clause-ready : goal.search_wide-requires-clause-ready
+search_wide-requires-clause-ready g c κs within = ap (λ t. is_ready t c.domain-domain.result) c.tree-tree.ensures ∙ c.domain-domain.ensures.waits.ready
 
 pub returns : goal.returns
 returns g c =

@@ -1,6 +1,9 @@
-use Rattle.std.proofs.Common.{◌≡◌, rules, tests}
+use Rattle.std.proofs.Common.{◌≡◌, rules, tests, subst, sym}
+use Rattle.std.specs.Prelude.{IfErr}
+use Rattle.sysmem_room.specs.declared.outcome.Outcome.TheVariants as outcomes
 use Rattle.sysmem_room.specs.Log.{shown_by}
-use Rattle.sysmem_participants.proofs.Ruled.{ruled, shown_at, telling}
+use Rattle.sysmem_participants.specs.Told.{IsTold}
+use Rattle.sysmem_participants.proofs.Ruled.{ruled, shown_at, refused_for}
 use Rattle.sysmem_participants.proofs.telling.told.Goals as goal
 
 pub returns-clause-shown : goal.returns-clause-shown
@@ -9,7 +12,9 @@ returns-clause-shown c =
     shown_at c.shown.result (λ v. v.ruling.now) c.in-Decided.ruling c.args.platform.now c.args.path.now (shown_by c.args.log.now).constraints
     (ruled c.in-Decided.ruling c.claim.result.now c.claim.ensures.claim c.claim.ensures.right) same c.shown.ensures.same c.shown.ensures.chosen c.shown.ensures.own
 
-pub returns-clause-tells : goal.returns-clause-tells
-returns-clause-tells c =
+pub returns-clause-told : goal.returns-clause-told
+returns-clause-told c =
     let same : c.in-Decided.ruling.frozen.platform ≡ c.args.platform.now = search (rules, tests) in
-    telling c.shown.result c.in-Decided.ruling c.args.platform.now (ruled c.in-Decided.ruling c.claim.result.now c.claim.ensures.claim c.claim.ensures.right) same c.shown.ensures.told
+    let is : c.args.outcome.now ≡ outcomes.Decided c.in-Decided.ruling = search (rules, tests) in
+    subst (λ o. IfErr c.shown.result (IsTold c.args.platform.now c.args.path.now o)) (sym is)
+    (refused_for c.shown.result c.in-Decided.ruling c.args.platform.now c.args.path.now same c.shown.ensures.told)

@@ -1,0 +1,51 @@
+-- What a handle has noted once it was told.
+use Rattle.std.proofs.Common.{◌≡◌, ◌∙◌, ℕ, List, Option, Some, None, Result, Ok, Err, ap, sym, subst}
+use Rattle.std.specs.Prelude.{IfErr, IfOk, IfSome, MatchResult}
+use Rattle.once_cell.specs.Once.{Agrees}
+use Rattle.sysmem_room.specs.declared.outcome.Outcome.{Outcome}
+use Rattle.sysmem_room.specs.declared.outcome.Outcome.TheVariants as outcomes
+use Rattle.sysmem_room.specs.Ruling.{RulingFacts}
+use Rattle.sysmem_sanitise.specs.Platform.{PlatformFacts}
+use Rattle.sysmem_tree.specs.declared.refusal.Refusal.{Refusal}
+use Rattle.sysmem_participants.specs.Held.{Held, IsSameBut, IsStillKnown}
+use Rattle.sysmem_participants.specs.Told.{IsTold, IsToldBy, Tells}
+
+-- what was known is known still
+pub still_known : (was known noted : Option Outcome) (o : Outcome) → known ≡ was → noted ≡ Some o → Agrees known o → IfSome was (λ x. noted ≡ Some x)
+still_known None known noted o is set agrees = tt
+still_known (Some x) known noted o is set agrees = set ∙ ap Some (sym (subst (λ k. Agrees k o) is agrees))
+
+-- a refusal that tells what became of a domain, by what the handle holds
+told_to : (h : Held) (platform : PlatformFacts) (path : List ℕ) (o : Outcome) (refusal : Refusal) → platform ≡ h.platform → path ≡ h.path → IsTold platform path o refusal
+    → IsTold h.platform h.path o refusal
+told_to h platform path o refusal p q told = subst (λ x. IsTold h.platform x o refusal) q (subst (λ x. IsTold x path o refusal) p told)
+
+-- what is noted goes with what is shown or told
+pub noted_by : {V : Type 0} (told : Result V Refusal) (at : V → RulingFacts) (h : Held) (platform : PlatformFacts) (path : List ℕ) (o : Outcome) (noted : Option Outcome) → noted ≡ Some o
+    → platform ≡ h.platform → path ≡ h.path → IfOk told (λ v. o ≡ outcomes.Decided (at v)) → IfErr told (IsTold platform path o)
+    → MatchResult told (λ v. noted ≡ Some (outcomes.Decided (at v))) (IsToldBy h noted)
+noted_by (Ok v) at h platform path o noted set p q decided told = set ∙ ap Some decided
+noted_by (Err refusal) at h platform path o noted set p q decided told = λ _. (o, set, told_to h platform path o refusal p q told)
+
+pub tells_of : {V : Type 0} (told : Result V Refusal) (h : Held) (platform : PlatformFacts) (path : List ℕ) (o : Outcome) → platform ≡ h.platform → path ≡ h.path
+    → IfErr told (IsTold platform path o) → IfErr told (Tells h)
+tells_of (Ok v) h platform path o p q told = tt
+tells_of (Err refusal) h platform path o p q told = λ _. (o, told_to h platform path o refusal p q told)
+
+-- what is known still after a while and then a while more
+pub known_on : (a b c : Option Outcome) → IfSome a (λ o. b ≡ Some o) → IfSome b (λ o. c ≡ Some o) → IfSome a (λ o. c ≡ Some o)
+known_on None b c one two = tt
+known_on (Some o) b c one two = subst (λ x. IfSome x (λ o. c ≡ Some o)) one two
+
+-- what is noted by a handle that waited and was told then
+pub waited : {V : Type 0} (told : Result V Refusal) (at : V → RulingFacts) (h k n : Held) → IsSameBut h k → IsStillKnown h k
+    → IsSameBut k n × IsStillKnown k n × MatchResult told (λ v. n.known ≡ Some (outcomes.Decided (at v))) (IsToldBy k n.known)
+    → IsSameBut h n × IsStillKnown h n × MatchResult told (λ v. n.known ≡ Some (outcomes.Decided (at v))) (IsToldBy h n.known)
+waited {V} told at h k n same kept after = (after.0 ∙ same, known_on h.known k.known n.known kept after.1, by told after.2) where
+  by : (t : Result V Refusal) → MatchResult t (λ v. n.known ≡ Some (outcomes.Decided (at v))) (IsToldBy k n.known) → MatchResult t (λ v. n.known ≡ Some (outcomes.Decided (at v))) (IsToldBy h n.known)
+  by (Ok v) noted = noted
+  by (Err refusal) noted = λ decided. let (o, set, was_told) = noted decided in (o, set, told_to h k.platform k.path o refusal (ap (λ (x : Held). x.platform) same) (ap (λ (x : Held). x.path) same) was_told)
+
+pub tells_as : {V : Type 0} (told : Result V Refusal) (h k : Held) → IsSameBut h k → IfErr told (Tells k) → IfErr told (Tells h)
+tells_as (Ok v) h k same tells = tt
+tells_as (Err refusal) h k same tells = λ decided. let (o, was_told) = tells decided in (o, told_to h k.platform k.path o refusal (ap (λ (x : Held). x.platform) same) (ap (λ (x : Held). x.path) same) was_told)

@@ -1,0 +1,24 @@
+//! What follows from audits that said yes.
+
+ghost use Rattle.sysmem_participants.specs.Laws.{AuditsAgree, NoneClosed};
+
+use sysmem_alloc::laws::{confluence, legal_is_sound, numbers_stay};
+use sysmem_tree::laws::one_path;
+
+/// Two collections with the same calls at each path, by audits that said yes, got one verdict for
+/// the initial domain, where no node was closed before its decision and memory was not refused to
+/// it.
+pub fn audits_agree()
+    ensures { AuditsAgree }
+{
+    confluence();
+    legal_is_sound();
+    one_path();
+}
+
+/// Where none of the stubs of an audit that said yes was closed, no node of the collection was.
+pub fn none_closed()
+    ensures { NoneClosed }
+{
+    numbers_stay();
+}
