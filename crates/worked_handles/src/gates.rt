@@ -171,3 +171,80 @@ fn is_decided_outside<R: Threads + Wait + Abort + Clock + Sync>(
 fn others_act_while_a_decision_is_taken(rt: HostRuntime) -> Result<(), Fail> {
     is_decided_outside(&rt, rt.alloc())
 }
+
+// Holds each visit of a choice or more until a second one is entered.
+#[derive(Drop)]
+struct Second<'a, C> {
+    clock: &'a C,
+    held: &'a Held,
+}
+
+impl<'a, C: Clock> Gate for Second<'a, C> {
+    fn at_prefix(&self, length: u32) {
+        if length == 0 {
+            return;
+        }
+        self.held.entered.fetch_add(1, Ordering::SeqCst);
+        if !comes(self.clock, &self.held.entered, 2) {
+            self.held.in_vain.fetch_add(1, Ordering::SeqCst);
+        }
+    }
+}
+
+// A group of two, of whom either would do: the first is chosen. What an audit finds of the four
+// nodes.
+fn choose<L: Ledger, G: Gate + Drop + Sync, R: Threads + Wait + Abort + Sync>(
+    rt: &R,
+    allocator: &Allocator<G>,
+    blank: Blank,
+    alloc: Global,
+) -> Result<Result<Audit, AuditFault>, Fail>
+    requires name { blank.name ≡ L.name }
+    requires ledger { blank.parts ≡ L.parts }
+    requires parts { blank.parts ≡ all_parts }
+{
+    let first = asked(alloc, CAMPS_ON_2)?;
+    let second = asked(alloc, CAMPS_ON_3)?;
+    let mut root = root::<L, G>(rt, allocator, blank);
+    let mut group = accepted(rt, "create_group", root.create_group(rt));
+    let a = accepted(rt, "create_child", group.create_child(rt));
+    let b = accepted(rt, "create_child", group.create_child(rt));
+    is_equal(rt, "complete", &group.all_children_present(rt), &Ok(()));
+    let root = released(rt, root);
+    let group = match group.release(rt) {
+        Ok(stub) => stub,
+        Err(_refused) => panic!(rt; "release is refused"),
+    };
+    let mut a = bound(rt, a, first);
+    let mut b = bound(rt, b, second);
+    waits_for(rt, &mut a, 3);
+    is_equal(rt, "check", &b.check().err(), &Some(Refusal::NotSelected));
+    let stubs = [root, group, closed(rt, a), closed(rt, b)];
+    Ok(audit(rt, Vec::from_array(alloc, stubs)?))
+}
+
+fn is_decided_by_two<R: Threads + Wait + Abort + Clock + Sync>(
+    rt: &R,
+    alloc: Global,
+) -> Result<(), Fail> {
+    let held = fresh();
+    let gate = Second {
+        clock: rt,
+        held: &held,
+    };
+    let allocator = Allocator::with_workers(alloc, platform(alloc)?, gate, 2)?;
+    let found = choose::<Brand, Second<'_, R>, R>(rt, &allocator, Blank::new(129), alloc)?;
+    let wanted = Audit {
+        nodes: 4,
+        actions: 12,
+        decisions: 1,
+    };
+    is_equal(rt, "audit", &found, &Ok(wanted));
+    none_in_vain(rt, &held);
+    Ok(())
+}
+
+#[test]
+fn two_workers_take_a_decision(rt: HostRuntime) -> Result<(), Fail> {
+    is_decided_by_two(&rt, rt.alloc())
+}
