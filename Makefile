@@ -14,12 +14,13 @@ run:
 # Proves the program and all that it stands on, and builds it.
 proved:
 	cd $(PROGRAM) && rt run -- run $(abspath examples/one_participant.json)
+	cd crates/played_handles && rt run -- data/attached.json
 
 # The whole gate: every proof from nothing, the must-fail edits, the tests, the program.
 test:
 	RT_JOBS=$(JOBS) rt ci
 
-# Tests of the proved program as a whole (they need a C compiler and Python): reports, refusals, records, worked values, small trees beside each of their selections, certificates and their checks, files that fail, and each allocation refused in turn.
+# Tests of the proved program as a whole (they need a C compiler and Python): reports, refusals, records, worked values, small trees beside each of their selections, certificates and their checks, files that fail, each allocation refused in turn, and scripts played through handles.
 program-test: proved
 	@$(MAKE) --no-print-directory built-test
 
@@ -35,6 +36,7 @@ built-test:
 	tests/checks
 	tests/failing_files
 	tests/want_of_memory
+	tests/handles
 
 # Wrong bodies beyond those of the gate, each of which the prover must refuse, over what is kept of each crate's proof (which is made first where there is none).
 wrong-bodies:
@@ -43,7 +45,7 @@ wrong-bodies:
 # Times the proved program beside the reading of the same bytes as a JSON value, and calls on small and large trees.
 bench: proved
 	cd crates/value_reader && rt run -- data/one_participant.json
-	cd crates/repeated_decisions && rt run -- data/groups_share_nv12.json search,add,settle,prove,check,write,serialise 3
+	cd crates/repeated_decisions && rt run -- data/groups_share_nv12.json search,together,add,settle,prove,check,write,serialise 3
 	bench/run
 	cd crates/tree_rows && rt run < /dev/null
 	bench/trees

@@ -7,9 +7,10 @@ ghost use Rattle.sysmem_tree.specs.Domain.{HasDomain};
 
 use anyhow::{Result, bail};
 use std::alloc::Global;
+use std::thread::Threads;
 use sysmem_proof::{Claim, check};
 use sysmem_sanitise::Platform;
-use sysmem_search::{Found, NoGate, prove, search};
+use sysmem_search::{Found, NoGate, prove, search, search_wide};
 use sysmem_tree::{DomainId, Tree};
 
 /// The verdict of the initial domain with what proves it.
@@ -33,6 +34,24 @@ pub(crate) fn search_again(
     let domain = tree.domain_of(tree.root());
     for _ in 0..times {
         found_in(alloc, platform, tree, domain)?;
+    }
+    Ok(())
+}
+
+/// Has two workers search for the initial domain's verdict so many times.
+pub(crate) fn search_together_again<R: Threads + Sync>(
+    rt: &R,
+    alloc: Global,
+    platform: &Platform,
+    tree: &Tree,
+    times: u32,
+) -> Result<()> {
+    let domain = tree.domain_of(tree.root());
+    if !tree.ready(domain) || tree.host_of(domain).is_some() {
+        bail!("the initial domain isn't ready");
+    }
+    for _ in 0..times {
+        search_wide(rt, alloc, platform, tree, domain, None, &NoGate, 2)?;
     }
     Ok(())
 }

@@ -5,6 +5,7 @@
 //! | Job | What is repeated |
 //! |---|---|
 //! | `search` | the search for the verdict |
+//! | `together` | the same search by two workers |
 //! | `add` | adding the participants of the selection that is found to a fresh aggregate; where none is, those of the first selection |
 //! | `settle` | asking such an aggregate for its best settings |
 //! | `prove` | making what proves the verdict |
@@ -22,10 +23,11 @@ mod writing;
 
 use adding::{add_again, settle_again};
 use anyhow::{Result, bail};
-use deciding::{check_again, prove_again, search_again};
+use deciding::{check_again, prove_again, search_again, search_together_again};
 use playing::play;
 use script_reading::{parse_script, read_script};
 use std::alloc::Global;
+use std::thread::Threads;
 use std::{env, fs};
 use sysmem_sanitise::Platform;
 use sysmem_tree::Tree;
@@ -36,7 +38,7 @@ fn main(rt: HostRuntime) -> Result<()> {
     let _program = words.next();
     let (Some(file), Some(jobs), Some(times)) = (words.next(), words.next(), words.next()) else {
         bail!(
-            "usage: repeated_decisions FILE search|add|settle|prove|check|write|serialise[,..] TIMES"
+            "usage: repeated_decisions FILE search|together|add|settle|prove|check|write|serialise[,..] TIMES"
         );
     };
     let times = times.parse::<u32>()?;
@@ -49,15 +51,23 @@ fn main(rt: HostRuntime) -> Result<()> {
     };
     let tree = play(rt.alloc(), &script.calls)?;
     for job in jobs.split(',') {
-        repeat(rt.alloc(), job, &script.platform, &tree, times)?;
+        repeat(&rt, rt.alloc(), job, &script.platform, &tree, times)?;
     }
     Ok(())
 }
 
 /// Does the job of this name so many times.
-fn repeat(alloc: Global, job: &str, platform: &Platform, tree: &Tree, times: u32) -> Result<()> {
+fn repeat<R: Threads + Sync>(
+    rt: &R,
+    alloc: Global,
+    job: &str,
+    platform: &Platform,
+    tree: &Tree,
+    times: u32,
+) -> Result<()> {
     match job {
         "search" => search_again(alloc, platform, tree, times),
+        "together" => search_together_again(rt, alloc, platform, tree, times),
         "add" => add_again(alloc, platform, tree, times),
         "settle" => settle_again(alloc, platform, tree, times),
         "prove" => prove_again(alloc, platform, tree, times),

@@ -14,25 +14,28 @@ use std::sync::{Arc, Mutex, Wait};
 use std::test::Fail;
 use std::thread;
 use std::thread::Threads;
-use sysmem_participants::{Audit, Stub, Token, audit};
+use sysmem_participants::{Audit, AuditFault, Stub, Token, audit};
 use sysmem_sanitise::Constraints;
-use sysmem_search::NoGate;
+use sysmem_search::{Gate, NoGate};
 
-// A token that crosses to the thread that takes it.
-type Slot<L> = Mutex<Option<Token<L, NoGate>>>;
+/// A token that crosses to the thread that takes it.
+pub(crate) type Slot<L, G> = Mutex<Option<Token<L, G>>>;
 
 // The token of a slot.
-fn taken<L: Ledger, R: Wait + Abort>(rt: &R, slot: &Slot<L>) -> Token<L, NoGate> {
+fn taken<L: Ledger, G: Gate + Drop + Sync, R: Wait + Abort>(
+    rt: &R,
+    slot: &Slot<L, G>,
+) -> Token<L, G> {
     match slot.lock(rt).take() {
         Some(token) => token,
         None => panic!(rt; "the slot is empty"),
     }
 }
 
-// One takes part, and waits for the decision.
-fn take_part<L: Ledger, R: Wait + Abort>(
+/// One takes part, and waits for the decision.
+pub(crate) fn take_part<L: Ledger, G: Gate + Drop + Sync, R: Threads + Wait + Abort + Sync>(
     rt: &R,
-    slot: &Slot<L>,
+    slot: &Slot<L, G>,
     asked: &Mutex<Option<Arc<Constraints>>>,
 ) -> Stub<L> {
     let asked = asked.lock(rt).take();
@@ -41,8 +44,8 @@ fn take_part<L: Ledger, R: Wait + Abort>(
     closed(rt, collection)
 }
 
-// The slot is empty.
-fn emptied<L: Ledger>(rt: &impl Abort, slot: Slot<L>) {
+/// The slot is empty.
+pub(crate) fn emptied<L: Ledger, G: Gate + Drop + Sync>(rt: &impl Abort, slot: Slot<L, G>) {
     match slot.into_inner() {
         None => {}
         Some(_left) => panic!(rt; "a token is left"),
@@ -83,7 +86,7 @@ fn play<L: Ledger + Send + Sync, R: Threads + Wait + Abort + Sync>(
     rt: &R,
     alloc: Global,
     blank: Blank,
-) -> Result<Audit, Fail>
+) -> Result<Result<Audit, AuditFault>, Fail>
     requires name { blank.name ≡ L.name }
     requires ledger { blank.parts ≡ L.parts }
     requires parts { blank.parts ≡ all_parts }
@@ -91,26 +94,19 @@ fn play<L: Ledger + Send + Sync, R: Threads + Wait + Abort + Sync>(
     let allocator = allocator(alloc)?;
     let first = Mutex::new(asked(alloc, CAMPS_ON_2)?);
     let second = Mutex::new(asked(alloc, CAMPS_ON_3)?);
-    let root = root::<L>(rt, &allocator, blank);
-    let stubs = act(rt, root, &first, &second);
-    let mut all = Vec::new(alloc);
-    for stub in stubs {
-        all.push(stub)?;
-    }
-    match audit(rt, all) {
-        Ok(audit) => Ok(audit),
-        Err(fault) => Err(Fail::new(fault.name())),
-    }
+    let root = root::<L, NoGate>(rt, &allocator, blank);
+    let stubs = Vec::from_array(alloc, act(rt, root, &first, &second))?;
+    Ok(audit(rt, stubs))
 }
 
 #[test]
 fn three_actors(rt: HostRuntime) -> Result<(), Fail> {
-    let audit = play::<Brand, HostRuntime>(&rt, rt.alloc(), Blank::new(129))?;
+    let found = play::<Brand, HostRuntime>(&rt, rt.alloc(), Blank::new(129))?;
     let wanted = Audit {
         nodes: 4,
         actions: 11,
         decisions: 1,
     };
-    is_equal(&rt, "audit", &audit, &wanted);
+    is_equal(&rt, "audit", &found, &Ok(wanted));
     Ok(())
 }

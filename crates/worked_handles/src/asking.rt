@@ -5,7 +5,7 @@ use std::alloc::Global;
 use std::sync::Arc;
 use std::test::Fail;
 use sysmem_participants::Allocator;
-use sysmem_sanitise::{Constraints, read_constraints, read_platform};
+use sysmem_sanitise::{Constraints, Platform, read_constraints, read_platform};
 use sysmem_search::NoGate;
 
 const PLATFORM: &str =
@@ -20,11 +20,15 @@ pub(crate) const CAMPS_ON_2: &str =
 pub(crate) const CAMPS_ON_3: &str =
     r#"{"usage":["cpu"],"min_buffer_count_for_camping":3,"min_buffer_count_for_dedicated_slack":1,"min_buffer_count_for_shared_slack":2}"#;
 
-/// An allocator for three heaps, five pairs and two colour spaces.
-pub(crate) fn allocator(alloc: Global) -> Result<Allocator<NoGate>, Fail> {
+/// A platform of three heaps, five pairs and two colour spaces.
+pub(crate) fn platform(alloc: Global) -> Result<Platform, Fail> {
     let record: Value = serde_json::from_str(alloc, PLATFORM)?;
-    let platform = read_platform(alloc, &record)?;
-    Ok(Allocator::new(alloc, platform, NoGate)?)
+    Ok(read_platform(alloc, &record)?)
+}
+
+/// An allocator for that platform, whose searches nobody is told of.
+pub(crate) fn allocator(alloc: Global) -> Result<Allocator<NoGate>, Fail> {
+    Ok(Allocator::new(alloc, platform(alloc)?, NoGate)?)
 }
 
 /// The constraints of a record.

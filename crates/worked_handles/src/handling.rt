@@ -7,17 +7,27 @@ use crate::equal::is_equal;
 use std::process::Abort;
 use std::sync::ledger::{Blank, Ledger};
 use std::sync::{Arc, Wait};
+use std::thread::Threads;
 use sysmem_participants::{Allocator, Collection, Stub, Token, View};
 use sysmem_proof::check;
 use sysmem_sanitise::Constraints;
-use sysmem_search::NoGate;
+use sysmem_search::Gate;
+use sysmem_tree::Refusal;
+
+/// What a call gives that has to be accepted.
+pub(crate) fn accepted<T>(rt: &impl Abort, name: &str, answer: Result<T, Refusal>) -> T {
+    match answer {
+        Ok(given) => given,
+        Err(refusal) => panic!(rt; "{name} answers {}", refusal.name()),
+    }
+}
 
 /// The root of a new collection.
-pub(crate) fn root<L: Ledger>(
+pub(crate) fn root<L: Ledger, G: Gate + Drop + Sync>(
     rt: &impl Abort,
-    allocator: &Allocator<NoGate>,
+    allocator: &Allocator<G>,
     blank: Blank,
-) -> Token<L, NoGate>
+) -> Token<L, G>
     requires name { blank.name ≡ L.name }
     requires ledger { blank.parts ≡ L.parts }
     requires parts { blank.parts ≡ all_parts }
@@ -29,10 +39,10 @@ pub(crate) fn root<L: Ledger>(
 }
 
 /// A child of a token.
-pub(crate) fn child<L: Ledger, R: Wait + Abort>(
+pub(crate) fn child<L: Ledger, G: Gate + Drop + Sync, R: Threads + Wait + Abort + Sync>(
     rt: &R,
-    token: &mut Token<L, NoGate>,
-) -> Token<L, NoGate>
+    token: &mut Token<L, G>,
+) -> Token<L, G>
     ensures cell { result.cell ≡ token.old.cell }
     ensures same { token.new.cell ≡ token.old.cell }
 {
@@ -43,11 +53,11 @@ pub(crate) fn child<L: Ledger, R: Wait + Abort>(
 }
 
 /// The collection that a token becomes, with these constraints.
-pub(crate) fn bound<L: Ledger, R: Wait + Abort>(
+pub(crate) fn bound<L: Ledger, G: Gate + Drop + Sync, R: Threads + Wait + Abort + Sync>(
     rt: &R,
-    token: Token<L, NoGate>,
+    token: Token<L, G>,
     asked: Option<Arc<Constraints>>,
-) -> Collection<L, NoGate>
+) -> Collection<L, G>
     ensures { result.cell ≡ token.cell }
 {
     let mut collection = match token.bind(rt) {
@@ -61,7 +71,10 @@ pub(crate) fn bound<L: Ledger, R: Wait + Abort>(
 }
 
 /// What is left of a token that is released.
-pub(crate) fn released<L: Ledger, R: Wait + Abort>(rt: &R, token: Token<L, NoGate>) -> Stub<L> {
+pub(crate) fn released<L: Ledger, G: Gate + Drop + Sync, R: Threads + Wait + Abort + Sync>(
+    rt: &R,
+    token: Token<L, G>,
+) -> Stub<L> {
     match token.release(rt) {
         Ok(stub) => stub,
         Err(_refused) => panic!(rt; "release is refused"),
@@ -69,9 +82,9 @@ pub(crate) fn released<L: Ledger, R: Wait + Abort>(rt: &R, token: Token<L, NoGat
 }
 
 /// What is left of a collection that is closed.
-pub(crate) fn closed<L: Ledger, R: Wait + Abort>(
+pub(crate) fn closed<L: Ledger, G: Gate + Drop + Sync, R: Threads + Wait + Abort + Sync>(
     rt: &R,
-    collection: Collection<L, NoGate>,
+    collection: Collection<L, G>,
 ) -> Stub<L> {
     let (stub, refused) = collection.close(rt);
     is_equal(rt, "close", &refused, &None);
@@ -92,9 +105,9 @@ pub(crate) fn shows(rt: &impl Abort, view: &View<'_>, count: u32) {
 }
 
 /// The collection waits, and is shown this count.
-pub(crate) fn waits_for<L: Ledger, R: Wait + Abort>(
+pub(crate) fn waits_for<L: Ledger, G: Gate + Drop + Sync, R: Threads + Wait + Abort + Sync>(
     rt: &R,
-    collection: &mut Collection<L, NoGate>,
+    collection: &mut Collection<L, G>,
     count: u32,
 )
     ensures { collection.new.cell ≡ collection.old.cell }

@@ -9,6 +9,8 @@ mod asking;
 #[cfg(test)]
 mod equal;
 #[cfg(test)]
+mod gates;
+#[cfg(test)]
 mod handling;
 #[cfg(test)]
 mod slack;

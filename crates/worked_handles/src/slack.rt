@@ -12,13 +12,14 @@ use std::process::Abort;
 use std::sync::ledger::{Blank, Ledger};
 use std::sync::{Arc, Wait};
 use std::test::Fail;
-use sysmem_participants::{Audit, Stub, Token, audit};
+use std::thread::Threads;
+use sysmem_participants::{Audit, AuditFault, Stub, Token, audit};
 use sysmem_sanitise::Constraints;
 use sysmem_search::NoGate;
 use sysmem_tree::Refusal;
 
 // Both take part, wait, and know the same verdict; what is left of all three handles.
-fn take_part<L: Ledger, R: Wait + Abort>(
+fn take_part<L: Ledger, R: Threads + Wait + Abort + Sync>(
     rt: &R,
     root: Token<L, NoGate>,
     first: Option<Arc<Constraints>>,
@@ -37,7 +38,13 @@ fn take_part<L: Ledger, R: Wait + Abort>(
     [root, closed(rt, a), closed(rt, b)]
 }
 
-fn play<L: Ledger, R: Wait + Abort>(rt: &R, alloc: Global, blank: Blank) -> Result<Audit, Fail>
+// What an audit finds of so many of the stubs.
+fn play<L: Ledger, R: Threads + Wait + Abort + Sync>(
+    rt: &R,
+    alloc: Global,
+    blank: Blank,
+    kept: usize,
+) -> Result<Result<Audit, AuditFault>, Fail>
     requires name { blank.name ≡ L.name }
     requires ledger { blank.parts ≡ L.parts }
     requires parts { blank.parts ≡ all_parts }
@@ -45,26 +52,31 @@ fn play<L: Ledger, R: Wait + Abort>(rt: &R, alloc: Global, blank: Blank) -> Resu
     let allocator = allocator(alloc)?;
     let first = asked(alloc, CAMPS_ON_2)?;
     let second = asked(alloc, CAMPS_ON_3)?;
-    let root = root::<L>(rt, &allocator, blank);
-    let stubs = take_part(rt, root, first, second);
-    let mut all = Vec::new(alloc);
-    for stub in stubs {
-        all.push(stub)?;
-    }
-    match audit(rt, all) {
-        Ok(audit) => Ok(audit),
-        Err(fault) => Err(Fail::new(fault.name())),
-    }
+    let root = root::<L, NoGate>(rt, &allocator, blank);
+    let mut stubs = Vec::from_array(alloc, take_part(rt, root, first, second))?;
+    stubs.truncate(kept);
+    Ok(audit(rt, stubs))
+}
+
+fn is_audited<R: Threads + Wait + Abort + Sync>(
+    rt: &R,
+    alloc: Global,
+    kept: usize,
+    wanted: Result<Audit, AuditFault>,
+) -> Result<(), Fail> {
+    let found = play::<Brand, R>(rt, alloc, Blank::new(129), kept)?;
+    is_equal(rt, "audit", &found, &wanted);
+    Ok(())
 }
 
 #[test]
 fn two_with_slack(rt: HostRuntime) -> Result<(), Fail> {
-    let audit = play::<Brand, HostRuntime>(&rt, rt.alloc(), Blank::new(129))?;
-    let wanted = Audit {
+    let all = Audit {
         nodes: 3,
         actions: 9,
         decisions: 1,
     };
-    is_equal(&rt, "audit", &audit, &wanted);
-    Ok(())
+    is_audited(&rt, rt.alloc(), 3, Ok(all))?;
+    is_audited(&rt, rt.alloc(), 2, Err(AuditFault::Stubs))?;
+    is_audited(&rt, rt.alloc(), 0, Err(AuditFault::Stubs))
 }

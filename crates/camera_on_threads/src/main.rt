@@ -1,0 +1,55 @@
+//! A camera and an encoder share buffers, each on a thread of its own; later a recorder is let in, on a third.
+#![tactic(auto)]
+
+mod asking;
+mod sharing;
+mod slot;
+
+use anyhow::Result;
+use asking::{CAMERA, ENCODER, PLATFORM, RECORDER, asked, platform};
+use sharing::{Asks, Told, share};
+use std::marker::Brand;
+use std::sync::ledger::Blank;
+use sysmem_merge::Settings;
+use sysmem_participants::Allocator;
+use sysmem_search::NoGate;
+use sysmem_tree::Refusal;
+
+fn main(rt: HostRuntime) -> Result<()> {
+    let alloc = rt.alloc();
+    let allocator = Allocator::new(alloc, platform(alloc, PLATFORM)?, NoGate)?;
+    let asks = Asks {
+        camera: asked(alloc, CAMERA)?,
+        encoder: asked(alloc, ENCODER)?,
+        recorder: asked(alloc, RECORDER)?,
+    };
+    // 129 parts: one for each node that a collection may have, and one that stays with its book
+    let told = share::<Brand, HostRuntime>(&rt, alloc, &allocator, Blank::new(129), asks)?;
+    let Told {
+        camera,
+        encoder,
+        recorder,
+        audit,
+    } = told;
+    tell(&rt, "camera", camera)?;
+    tell(&rt, "encoder", encoder)?;
+    tell(&rt, "recorder", recorder)?;
+    let (nodes, actions, decisions) = (audit.nodes, audit.actions, audit.decisions);
+    println!(rt; "audit: {nodes} nodes, {actions} actions, {decisions} decisions")?;
+    Ok(())
+}
+
+/// Prints what a participant was told.
+fn tell(rt: &impl Print, name: &str, told: Result<Settings, Refusal>) -> Result<()> {
+    match told {
+        Ok(settings) => {
+            let (count, size) = (settings.count, settings.size_bytes);
+            println!(rt; "{name}: {count} buffers of {size} bytes")?;
+        }
+        Err(refusal) => {
+            let refusal = refusal.name();
+            println!(rt; "{name}: {refusal}")?;
+        }
+    }
+    Ok(())
+}
