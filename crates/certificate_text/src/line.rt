@@ -11,11 +11,11 @@ ghost use Rattle.certificate_text.specs.Said.{line_said, named_said};
 ghost use Rattle.certificate_text.specs.Told.{line_data, named_data};
 ghost use Rattle.serde_json.specs.View.{view};
 
+use crate::out::Writer;
 use crate::part::Part;
 use crate::path_list::paths_at;
 use crate::reading::{expect_object, text_at};
 use crate::unread::Unread;
-use json::Writer;
 use serde_json::{Map, Value, put};
 use std::alloc::{AllocError, Global};
 use sysmem_counts::Field;

@@ -7,8 +7,8 @@ ghost use Rattle.serde_json.specs.Data.{Data};
 ghost use Rattle.serde_json.specs.View.{view, items_view, items_of};
 ghost use Rattle.std.specs.Prelude.{◌≡◌, map, IfOk, Option};
 
+use crate::out::Writer;
 use crate::unread::Unread;
-use json::Writer;
 use serde_json::Value;
 use std::alloc::{AllocError, Global};
 

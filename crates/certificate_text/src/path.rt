@@ -10,9 +10,9 @@ ghost use Rattle.certificate_text.specs.Said.{node_said};
 ghost use Rattle.certificate_text.specs.Told.{path_data};
 ghost use Rattle.serde_json.specs.View.{view};
 
+use crate::out::Writer;
 use crate::part::Part;
 use crate::unread::Unread;
-use json::Writer;
 use serde_json::Value;
 use std::alloc::{AllocError, Global};
 use sysmem_tree::Path;
@@ -39,11 +39,7 @@ impl Part for Path {
 }
 
 /// Puts the path of these ordinals behind what is written, and writes it in the text on the way.
-pub(crate) fn put_path(
-    out: &mut Writer,
-    text: &mut String,
-    ordinals: &[u32],
-) -> Result<(), AllocError>
+fn put_path(out: &mut Writer, text: &mut String, ordinals: &[u32]) -> Result<(), AllocError>
     ensures { PutsData result out.old out.new (path_data ordinals.now) }
 {
     text.clear();

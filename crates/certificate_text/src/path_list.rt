@@ -6,10 +6,10 @@ ghost use Rattle.certificate_text.specs.Told.{path_data, paths_data};
 ghost use Rattle.serde_json.specs.View.{items_of, items_view, view};
 ghost use Rattle.std.specs.Prelude.{◌≡◌, map, IfOk};
 
+use crate::out::Writer;
 use crate::part::Part;
-use crate::path::{path_value, put_path};
+use crate::path::path_value;
 use crate::unread::Unread;
-use json::Writer;
 use serde_json::Value;
 use std::alloc::{AllocError, Global};
 use sysmem_proof::PathList;
@@ -20,12 +20,8 @@ impl Part for PathList {
 
     ghost said = { list_said node_said };
 
-    fn put(&self, out: &mut Writer, text: &mut String) -> Result<(), AllocError> {
-        out.begin_array()?;
-        for path in self.iter() {
-            put_path(out, text, path)?;
-        }
-        out.end_array()
+    fn put(&self, out: &mut Writer, _text: &mut String) -> Result<(), AllocError> {
+        out.paths(self)
     }
 
     fn value(&self, alloc: Global) -> Result<Value, AllocError> {

@@ -61,7 +61,7 @@ impl PathList {
     }
 
     /// Whether these are the paths of the other list, in its order.
-    pub(crate) fn is_same(&self, other: &PathList) -> bool
+    pub fn is_same(&self, other: &PathList) -> bool
         ensures { IsTrue result → self.now ≡ other.now }
     {
         self.numbers.as_slice() == other.numbers.as_slice()
