@@ -29,6 +29,13 @@ pub(crate) trait Part: Sized + Drop {
     /// Reads it from a value.
     fn read(alloc: Global, value: &Value) -> Result<Self, Unread>
         ensures { Says result (said (view value.now)) };
+
+    /// The same where it stands in a list behind these. What it has in common with one of them may be kept once for both.
+    fn read_behind(alloc: Global, _parts: &[Self], value: &Value) -> Result<Self, Unread>
+        ensures { Says result (said (view value.now)) }
+    {
+        Self::read(alloc, value)
+    }
 }
 
 /// Puts a list of parts behind what is written.

@@ -8,12 +8,11 @@ ghost use Rattle.std.specs.Prelude.{◌≡◌, map, IfOk};
 
 use crate::out::Writer;
 use crate::part::Part;
-use crate::path::path_value;
+use crate::path::{path_value, read_path};
 use crate::unread::Unread;
 use serde_json::Value;
 use std::alloc::{AllocError, Global};
 use sysmem_proof::PathList;
-use sysmem_tree::Path;
 
 impl Part for PathList {
     ghost told = { paths_data };
@@ -53,9 +52,10 @@ fn each_path(alloc: Global, values: &[Value]) -> Result<PathList, Unread>
     ensures { Says result (each_said node_said (items_view values.now)) }
 {
     let mut paths = PathList::new(alloc);
+    let mut ordinals = Vec::new(alloc);
     for value in values {
-        let path = Path::read(alloc, value)?;
-        paths = paths.with(path.ordinals())?;
+        read_path(&mut ordinals, value)?;
+        paths = paths.with(ordinals.as_slice())?;
     }
     Ok(paths)
 }

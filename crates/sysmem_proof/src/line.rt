@@ -42,7 +42,7 @@ impl Line {
     }
 
     /// The same, behind these lines: where one of the last of them has the paths, it keeps them for both.
-    pub(crate) fn behind(
+    pub fn behind(
         alloc: Global,
         lines: &[Line],
         field: Field,
