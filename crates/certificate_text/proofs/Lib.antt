@@ -14,3 +14,6 @@ pub mod NewLine
 pub mod Readable
 pub mod NamesRead
 pub mod TextsBack
+pub mod PutAsText
+pub mod Plain
+pub mod LineText

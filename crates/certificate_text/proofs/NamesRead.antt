@@ -1,10 +1,13 @@
 -- Names, paths and types of heaps are text.
-use Rattle.std.proofs.Common.{◌≡◌, ℕ, ◌^◌, ◌<◌, ◌≤◌, ◌&&◌, ◌||◌, ◌++◌, Bool, true, false, cond, List, [], ◌∷◌, Some, IsUtf8, nat_eq, nat_le, codes, decimal, refl, subst, arith, lt-ltb, eqb-true, leb-true}
+use Rattle.std.proofs.Common.{◌≡◌, ℕ, ◌^◌, ◌<◌, ◌≤◌, ◌&&◌, ◌||◌, ◌++◌, Bool, true, false, cond, List, [], ◌∷◌, Some, IsUtf8, nat_eq, nat_le, ◌==◌, codes, decimal, refl, ap₂, subst, arith, lt-ltb, eqb-true, leb-true}
 use Rattle.std.specs.List.{list_all}
-use Rattle.std.proofs.lemmas.Bool.{and_from, and_parts}
+use Rattle.std.proofs.lemmas.Bool.{and_from, and_parts, or_parts, not-true, eqb-false, ltb-false}
 use Rattle.std.proofs.lemmas.Fmt.{IsAscii-decimal}
 use Rattle.std.proofs.lemmas.Option.{same_Some, none-some}
 use Rattle.std.proofs.lemmas.Str.{IsUtf8-append, IsUtf8-from_ascii}
+use Rattle.json.specs.Print.{escape, escape_byte}
+use Rattle.json.specs.Run.{is_plain, is_stop}
+use Rattle.json.proofs.Printed.Strings.{escape_byte_plain}
 use Rattle.json.proofs.Printed.Utf8.{are_ascii, IsUtf8-are_ascii}
 use Rattle.sysmem_counts.specs.declared.field.Field.{Field}
 use Rattle.sysmem_counts.specs.Field.{field_name}
@@ -35,6 +38,21 @@ found_has {X} p name_of (y ∷ xs) name x is all = by _ is (found_has p name_of 
 pub field_utf8 : (f : Field) → IsUtf8 (field_name f)
 unfolding field_named
 field_utf8 f = IsUtf8-are_ascii (field_name f) (found_has (λ x. are_ascii (field_name x)) field_name all_fields (field_name f) f (own_name f) refl)
+
+byte_plain : (c : ℕ) → is_plain c ≡ true → escape_byte c ≡ c ∷ []
+byte_plain c h =
+    let none = or_parts _ _ (not-true (is_stop c) h) in
+    let tests = or_parts (c == 34) _ none.0 in
+    escape_byte_plain c (eqb-false c 34 tests.0) (eqb-false c 92 tests.1) (ltb-false c 32 none.1)
+
+bytes_plain : (text : List ℕ) → list_all is_plain text ≡ true → escape text ≡ text
+bytes_plain [] h = refl
+bytes_plain (c ∷ text) h = let parts = and_parts (is_plain c) (list_all is_plain text) h in ap₂ (λ s t. s ++ t) (byte_plain c parts.0) (bytes_plain text parts.1)
+
+-- and need no escape
+pub field_plain : (f : Field) → escape (field_name f) ≡ field_name f
+unfolding field_named
+field_plain f = bytes_plain (field_name f) (found_has (λ x. list_all is_plain (field_name x)) field_name all_fields (field_name f) f (own_name f) refl)
 
 pub format_utf8 : (x : PixelFormat) → IsUtf8 (format_name x)
 unfolding format_named

@@ -33,7 +33,7 @@ use Rattle.sysmem_sanitise.specs.Reading.Pairs.{same_pair, has_pair, same_colour
 use Rattle.certificate_text.specs.Bounds.{count_data, size_data, bounds_data}
 use Rattle.certificate_text.specs.CanBeRead.{AreReadableSettings}
 use Rattle.certificate_text.specs.Reading.{◌>>=◌, number_to, at_key, named_at}
-use Rattle.certificate_text.specs.SettingsSaid.{any_number, unless_zero, some_number, size_said, any_size, unless_flat, some_size, product_said, said_in, said_each, values_said, bounds_by, bounds_beside, offered, image_said, offer_said, is_heap, heap_said, place_at, place_said, settings_said}
+use Rattle.certificate_text.specs.SettingsSaid.{any_number, unless_zero, some_number, size_said, any_size, unless_flat, some_size, said_in, said_each, values_said, bounds_by, bounds_beside, offered, image_said, offer_said, is_heap, heap_said, place_at, place_said, settings_said}
 use Rattle.certificate_text.specs.Told.{heap_data, image_data, image_bounds_data, settings_data}
 use Rattle.certificate_text.proofs.BoundsLemmas.{bounds_by-values_of, own_is_no_bounds}
 use Rattle.sysmem_sanitise.proofs.CallerLemmas.{own_format_name, own_modifier_name, own_colour_name, own_domain_name}

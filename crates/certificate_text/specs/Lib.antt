@@ -9,3 +9,4 @@ pub mod Said
 pub mod Put
 pub mod CanBeRead
 pub mod Laws
+pub mod Out

@@ -1,5 +1,5 @@
 -- The settings that an object of a certificate says.
-use Rattle.std.specs.Prelude.{ℕ, ◌≤◌, ◌-◌, ◌^◌, ◌&&◌, ◌==◌, Bool, List, [], ◌∷◌, length, Option, Some, None, codes, bytes_eq, is_some, option_map, position, slice_get, nat_le, if◌then◌else◌}
+use Rattle.std.specs.Prelude.{ℕ, ◌-◌, ◌^◌, ◌&&◌, ◌==◌, Bool, List, [], ◌∷◌, length, Option, Some, None, codes, bytes_eq, is_some, option_map, position, slice_get, nat_le, if◌then◌else◌}
 use Rattle.serde_json.specs.Data.{Data}
 use Rattle.serde_json.specs.Find.{get, as_null, as_str}
 use Rattle.sysmem_counts.specs.declared.field.Field.{Field}

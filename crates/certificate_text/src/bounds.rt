@@ -9,8 +9,8 @@ ghost use Rattle.certificate_text.specs.Bounds.{bounds_data, count_data, size_da
 ghost use Rattle.certificate_text.specs.Certificate.{PutsData, PutsMember};
 
 use crate::member::put_number;
+use crate::out::Writer;
 use crate::reading::{expect_object, number_at, number_to};
-use json::Writer;
 use serde_json::Value;
 use std::alloc::AllocError;
 use sysmem_counts::Field;

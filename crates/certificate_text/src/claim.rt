@@ -7,14 +7,14 @@ ghost use Rattle.certificate_text.specs.Reading.{at_key, number_to, Says};
 ghost use Rattle.certificate_text.specs.Said.{bare_said, certificate_said, chosen_said, claim_by, claim_said, empty_said, selection_said, unless_many};
 ghost use Rattle.certificate_text.specs.SettingsSaid.{settings_said};
 ghost use Rattle.serde_json.specs.View.{view};
-ghost use Rattle.certificate_text.specs.Told.{claim_data, decision_data, proof_members, settings_data, verdict_members, verdict_name};
+ghost use Rattle.certificate_text.specs.Told.{claim_data, decision_data, lines_data, proof_members, settings_data, verdict_members, verdict_name};
 
 use crate::member::put_text;
+use crate::out::Writer;
 use crate::part::{Part, put_list_at};
 use crate::reading::{expect_object, list_at, list_of, number_to, text_at};
 use crate::settings::{put_settings, settings_of};
 use crate::unread::Unread;
-use json::Writer;
 use serde_json::Value;
 use std::alloc::{AllocError, Global};
 use sysmem_merge::Settings;
@@ -117,8 +117,15 @@ fn put_certificate(
     ensures { PutsMembers result out.old out.new (proof_members (Proof.Choice certificate.now)) }
 {
     put_list_at(out, text, "earlier", certificate.earlier())?;
-    put_list_at(out, text, "offers", certificate.offers().as_slice())?;
-    put_list_at(out, text, "places", certificate.places().as_slice())
+    put_lines_at(out, "offers", certificate.offers())?;
+    put_lines_at(out, "places", certificate.places())
+}
+
+fn put_lines_at(out: &mut Writer, key: &str, lines: &Lines) -> Result<(), AllocError>
+    ensures { PutsMember result out.old out.new key.now (lines_data lines.now) }
+{
+    out.key(key)?;
+    out.lines(lines.as_slice())
 }
 
 fn put_refutation(

@@ -9,10 +9,10 @@ ghost use Rattle.certificate_text.specs.Told.{conflict_data, earlier_data, item_
 ghost use Rattle.serde_json.specs.Data.{object, member, no_members};
 
 use crate::line::{named_value, put_named, read_named};
+use crate::out::Writer;
 use crate::part::{Part, list_value, put_list};
 use crate::reading::{expect_object, has_key, list_at, list_of, number_at};
 use crate::unread::Unread;
-use json::Writer;
 use serde_json::{Map, Value, put};
 use std::alloc::{AllocError, Global};
 use sysmem_counts::Field;
@@ -100,24 +100,19 @@ fn put_conflict(out: &mut Writer, text: &mut String, conflict: &Conflict) -> Res
             let nodes = PathList::new(*text.allocator()).with(node.ordinals())?;
             put_named(out, text, "fixed", *field, &nodes)
         }
-        Conflict::Places(lines) => put_lines(out, text, "places", lines),
-        Conflict::Offers(lines) => put_lines(out, text, "offers", lines),
+        Conflict::Places(lines) => put_lines(out, "places", lines),
+        Conflict::Offers(lines) => put_lines(out, "offers", lines),
     }
 }
 
 /// Puts lines under a kind: `{"places":[..]}`.
-fn put_lines(
-    out: &mut Writer,
-    text: &mut String,
-    kind: &str,
-    lines: &Lines,
-) -> Result<(), AllocError>
+fn put_lines(out: &mut Writer, kind: &str, lines: &Lines) -> Result<(), AllocError>
     ensures { PutsData result out.old out.new
         (object (member kind.now (lines_data lines.now) no_members)) }
 {
     out.begin_object()?;
     out.key(kind)?;
-    put_list(out, text, lines.as_slice())?;
+    out.lines(lines.as_slice())?;
     out.end_object()
 }
 

@@ -11,11 +11,11 @@ ghost use Rattle.certificate_text.specs.Said.{line_said, named_said};
 ghost use Rattle.certificate_text.specs.Told.{line_data, named_data};
 ghost use Rattle.serde_json.specs.View.{view};
 
+use crate::out::Writer;
 use crate::part::Part;
 use crate::path_list::paths_at;
 use crate::reading::{expect_object, text_at};
 use crate::unread::Unread;
-use json::Writer;
 use serde_json::{Map, Value, put};
 use std::alloc::{AllocError, Global};
 use sysmem_counts::Field;
@@ -35,8 +35,14 @@ impl Part for Line {
     }
 
     fn read(alloc: Global, value: &Value) -> Result<Line, Unread> {
-        let (field, nodes) = read_named(alloc, value, "field")?;
-        Ok(Line::new(alloc, field, nodes)?)
+        Line::read_behind(alloc, &[], value)
+    }
+
+    fn read_behind(alloc: Global, lines: &[Line], value: &Value) -> Result<Line, Unread> {
+        expect_object(value, 2).ok_or(Unread::WrongForm)?;
+        let field = field_behind(lines, value).ok_or(Unread::WrongForm)?;
+        let nodes = paths_at(alloc, value, "nodes")?;
+        Ok(Line::behind(alloc, lines, field, nodes)?)
     }
 }
 
@@ -77,6 +83,17 @@ pub(crate) fn named_value(
     )?;
     put(&mut map, alloc, "nodes", nodes.value(alloc)?)?;
     Ok(Value::Object(map))
+}
+
+/// The field of a line that stands behind others. Most often it is that of the last of them, whose name is compared first.
+fn field_behind(lines: &[Line], value: &Value) -> Option<Field>
+    ensures { result ≡ named_at (codes "field") field_named (view value.now) }
+{
+    let name = text_at(value, "field")?;
+    match lines.last() {
+        Some(last) if last.field().name() == name => Some(last.field()),
+        _ => field_of(name),
+    }
 }
 
 /// The field of a name.

@@ -7,8 +7,8 @@ ghost use Rattle.serde_json.specs.Data.{Data};
 ghost use Rattle.serde_json.specs.View.{view, items_view, items_of};
 ghost use Rattle.std.specs.Prelude.{◌≡◌, map, IfOk, Option};
 
+use crate::out::Writer;
 use crate::unread::Unread;
-use json::Writer;
 use serde_json::Value;
 use std::alloc::{AllocError, Global};
 
@@ -29,6 +29,13 @@ pub(crate) trait Part: Sized + Drop {
     /// Reads it from a value.
     fn read(alloc: Global, value: &Value) -> Result<Self, Unread>
         ensures { Says result (said (view value.now)) };
+
+    /// The same where it stands in a list behind these. What it has in common with one of them may be kept once for both.
+    fn read_behind(alloc: Global, _parts: &[Self], value: &Value) -> Result<Self, Unread>
+        ensures { Says result (said (view value.now)) }
+    {
+        Self::read(alloc, value)
+    }
 }
 
 /// Puts a list of parts behind what is written.

@@ -1,18 +1,18 @@
 //! Paths.
 
-ghost use Rattle.std.specs.Prelude.{◌≡◌, ◌++◌, ◌≤◌, None, codes, IfOk, OnOk};
+ghost use Rattle.std.specs.Prelude.{◌≡◌, ◌++◌, ◌≤◌, [], None, codes, IfOk, OnOk};
 ghost use Rattle.std.specs.Fmt.{decimal};
 ghost use Rattle.std.specs.String.{string_bytes};
 ghost use Rattle.certificate_text.specs.Certificate.{PutsData};
 ghost use Rattle.certificate_text.specs.Paths.{path_said, path_text, path_behind, steps_said, steps_text, with_byte, with_digit};
-ghost use Rattle.certificate_text.specs.Reading.{SaysAs, Says};
+ghost use Rattle.certificate_text.specs.Reading.{SaysAs};
 ghost use Rattle.certificate_text.specs.Said.{node_said};
 ghost use Rattle.certificate_text.specs.Told.{path_data};
 ghost use Rattle.serde_json.specs.View.{view};
 
+use crate::out::Writer;
 use crate::part::Part;
 use crate::unread::Unread;
-use json::Writer;
 use serde_json::Value;
 use std::alloc::{AllocError, Global};
 use sysmem_tree::Path;
@@ -31,19 +31,14 @@ impl Part for Path {
     }
 
     fn read(alloc: Global, value: &Value) -> Result<Path, Unread> {
-        match value.as_str() {
-            Some(text) => path_of(alloc, text),
-            None => Err(Unread::WrongForm),
-        }
+        let mut ordinals = Vec::new(alloc);
+        read_path(&mut ordinals, value)?;
+        Ok(Path::new(ordinals))
     }
 }
 
 /// Puts the path of these ordinals behind what is written, and writes it in the text on the way.
-pub(crate) fn put_path(
-    out: &mut Writer,
-    text: &mut String,
-    ordinals: &[u32],
-) -> Result<(), AllocError>
+fn put_path(out: &mut Writer, text: &mut String, ordinals: &[u32]) -> Result<(), AllocError>
     ensures { PutsData result out.old out.new (path_data ordinals.now) }
 {
     text.clear();
@@ -90,31 +85,43 @@ fn push_step(text: &mut String, ordinal: u32) -> Result<(), AllocError>
     text.push_str(digits.format(ordinal))
 }
 
-/// The path of a text: `/` is the root's.
-fn path_of(alloc: Global, text: &str) -> Result<Path, Unread>
-    ensures { Says result (path_said text.now) }
+/// Reads a path into the list, in place of what that has.
+pub(crate) fn read_path(ordinals: &mut Vec<u32>, value: &Value) -> Result<(), Unread>
+    ensures { SaysAs (λ _. ordinals.new.items) result (node_said (view value.now)) }
 {
+    match value.as_str() {
+        Some(text) => read_text(ordinals, text),
+        None => Err(Unread::WrongForm),
+    }
+}
+
+/// The same of a path's text: `/` is the root's.
+fn read_text(ordinals: &mut Vec<u32>, text: &str) -> Result<(), Unread>
+    ensures { SaysAs (λ _. ordinals.new.items) result (path_said text.now) }
+{
+    ordinals.clear();
     match text.as_bytes().split_first() {
-        Some((first, behind)) if *first == b'/' => path_behind(alloc, behind),
+        Some((first, behind)) if *first == b'/' => read_behind(ordinals, behind),
         _ => Err(Unread::WrongForm),
     }
 }
 
-/// The path whose text has this behind its first slash.
-fn path_behind(alloc: Global, bytes: &[u8]) -> Result<Path, Unread>
-    ensures { Says result (path_behind bytes.now) }
+/// Reads what stands behind the first slash.
+fn read_behind(ordinals: &mut Vec<u32>, bytes: &[u8]) -> Result<(), Unread>
+    requires { ordinals.old.items ≡ [] }
+    ensures { SaysAs (λ _. ordinals.new.items) result (path_behind bytes.now) }
 {
     if bytes.is_empty() {
-        return Ok(Path::new(Vec::new(alloc)));
+        return Ok(());
     }
-    Ok(Path::new(steps_of(alloc, bytes)?))
+    read_steps(ordinals, bytes)
 }
 
-/// The ordinals between slashes.
-fn steps_of(alloc: Global, bytes: &[u8]) -> Result<Vec<u32>, Unread>
-    ensures { SaysAs (λ ordinals. ordinals.items) result (steps_said None bytes.now) }
+/// Reads the ordinals between slashes.
+fn read_steps(ordinals: &mut Vec<u32>, bytes: &[u8]) -> Result<(), Unread>
+    requires { ordinals.old.items ≡ [] }
+    ensures { SaysAs (λ _. ordinals.new.items) result (steps_said None bytes.now) }
 {
-    let mut ordinals = Vec::new(alloc);
     let mut ordinal = None;
     for byte in bytes {
         if *byte == b'/' {
@@ -125,7 +132,7 @@ fn steps_of(alloc: Global, bytes: &[u8]) -> Result<Vec<u32>, Unread>
         }
     }
     ordinals.push(ordinal.ok_or(Unread::WrongForm)?)?;
-    Ok(ordinals)
+    Ok(())
 }
 
 /// An ordinal with a further digit.

@@ -6,26 +6,21 @@ ghost use Rattle.certificate_text.specs.Told.{path_data, paths_data};
 ghost use Rattle.serde_json.specs.View.{items_of, items_view, view};
 ghost use Rattle.std.specs.Prelude.{◌≡◌, map, IfOk};
 
+use crate::out::Writer;
 use crate::part::Part;
-use crate::path::{path_value, put_path};
+use crate::path::{path_value, read_path};
 use crate::unread::Unread;
-use json::Writer;
 use serde_json::Value;
 use std::alloc::{AllocError, Global};
 use sysmem_proof::PathList;
-use sysmem_tree::Path;
 
 impl Part for PathList {
     ghost told = { paths_data };
 
     ghost said = { list_said node_said };
 
-    fn put(&self, out: &mut Writer, text: &mut String) -> Result<(), AllocError> {
-        out.begin_array()?;
-        for path in self.iter() {
-            put_path(out, text, path)?;
-        }
-        out.end_array()
+    fn put(&self, out: &mut Writer, _text: &mut String) -> Result<(), AllocError> {
+        out.paths(self)
     }
 
     fn value(&self, alloc: Global) -> Result<Value, AllocError> {
@@ -57,9 +52,10 @@ fn each_path(alloc: Global, values: &[Value]) -> Result<PathList, Unread>
     ensures { Says result (each_said node_said (items_view values.now)) }
 {
     let mut paths = PathList::new(alloc);
+    let mut ordinals = Vec::new(alloc);
     for value in values {
-        let path = Path::read(alloc, value)?;
-        paths = paths.with(path.ordinals())?;
+        read_path(&mut ordinals, value)?;
+        paths = paths.with(ordinals.as_slice())?;
     }
     Ok(paths)
 }

@@ -66,7 +66,7 @@ fn each_of<T: Part>(alloc: Global, values: &[Value]) -> Result<Vec<T>, Unread>
 {
     let mut parts = Vec::new(alloc);
     for value in values {
-        let part = T::read(alloc, value)?;
+        let part = T::read_behind(alloc, parts.as_slice(), value)?;
         parts.push(part)?;
     }
     Ok(parts)

@@ -11,8 +11,8 @@ ghost use Rattle.certificate_text.specs.Told.{heap_data, image_bounds_data, imag
 
 use crate::bounds::{bounds_beside, put_bounds};
 use crate::member::{put_number, put_text};
+use crate::out::Writer;
 use crate::reading::{expect_object, number_at, number_to, text_at};
-use json::Writer;
 use serde_json::Value;
 use std::alloc::AllocError;
 use sysmem_counts::Field;

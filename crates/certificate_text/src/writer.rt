@@ -6,7 +6,7 @@ ghost use Rattle.certificate_text.specs.Certificate.{HasTaken, certificate_text}
 ghost use Rattle.certificate_text.specs.Told.{decision_data};
 
 use crate::claim::put_decision;
-use json::Writer;
+use crate::out::Writer;
 use std::alloc::{AllocError, Global};
 use std::marker::Model;
 use sysmem_proof::Claim;
@@ -35,7 +35,7 @@ impl CertificateWriter {
     pub fn new(alloc: Global) -> Result<CertificateWriter, AllocError>
         ensures { IfOk result (λ writer. HasTaken writer []) }
     {
-        let mut out = Writer::new(Vec::new(alloc));
+        let mut out = Writer::new(alloc);
         out.begin_array()?;
         Ok(CertificateWriter {
             out,
@@ -65,7 +65,7 @@ impl CertificateWriter {
     {
         let CertificateWriter { mut out, .. } = self;
         out.end_array()?;
-        let mut text = out.into_inner();
+        let mut text = out.into_inner()?;
         text.push(b'\n')?;
         Ok(text)
     }
