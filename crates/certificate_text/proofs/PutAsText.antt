@@ -16,7 +16,7 @@ use Rattle.certificate_text.specs.Certificate.{Adds, tokens_of}
 use Rattle.json.specs.Written.{Written, Writes}
 use Rattle.certificate_text.specs.Out.{out_view, IsOut}
 use Rattle.certificate_text.specs.Told.{line_data, lines_data, path_data, paths_data}
-use Rattle.certificate_text.specs.declared.out.Writer.TheInside.{Inside}
+use Rattle.certificate_text.specs.declared.json_writer.Writer.TheInside.{Inside}
 
 pub shows_printed : (w : Inside) (h : IsOut w) → (out_view w).tokens ≡ h.printed
 shows_printed w h = ap tokens h.text ∙ tokens-print h.printed h.printable

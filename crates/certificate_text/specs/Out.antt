@@ -7,7 +7,7 @@ use Rattle.json.specs.Written.{Written}
 use Rattle.serde_json.specs.Written.{compact_text}
 use Rattle.sysmem_proof.specs.Line.{LineFacts}
 use Rattle.certificate_text.specs.Told.{line_data, paths_data}
-use Rattle.certificate_text.specs.declared.out.Writer.TheInside.{Inside}
+use Rattle.certificate_text.specs.declared.json_writer.Writer.TheInside.{Inside}
 
 -- the tokens are those that a reader finds in the whole text
 abbrev pub out_view : Inside → Written

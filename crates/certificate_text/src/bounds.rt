@@ -8,8 +8,8 @@ ghost use Rattle.certificate_text.specs.SettingsSaid.{any_number, any_size, boun
 ghost use Rattle.certificate_text.specs.Bounds.{bounds_data, count_data, size_data};
 ghost use Rattle.certificate_text.specs.Certificate.{PutsData, PutsMember};
 
+use crate::json_writer::Writer;
 use crate::member::put_number;
-use crate::out::Writer;
 use crate::reading::{expect_object, number_at, number_to};
 use serde_json::Value;
 use std::alloc::AllocError;

@@ -9,8 +9,8 @@ ghost use Rattle.certificate_text.specs.SettingsSaid.{settings_said};
 ghost use Rattle.serde_json.specs.View.{view};
 ghost use Rattle.certificate_text.specs.Told.{claim_data, decision_data, lines_data, proof_members, settings_data, verdict_members, verdict_name};
 
+use crate::json_writer::Writer;
 use crate::member::put_text;
-use crate::out::Writer;
 use crate::part::{Part, put_list_at};
 use crate::reading::{expect_object, list_at, list_of, number_to, text_at};
 use crate::settings::{put_settings, settings_of};

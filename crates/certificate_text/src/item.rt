@@ -8,8 +8,8 @@ ghost use Rattle.serde_json.specs.View.{view};
 ghost use Rattle.certificate_text.specs.Told.{conflict_data, earlier_data, item_data, refutation_data, lines_data};
 ghost use Rattle.serde_json.specs.Data.{object, member, no_members};
 
+use crate::json_writer::Writer;
 use crate::line::{named_value, put_named, read_named};
-use crate::out::Writer;
 use crate::part::{Part, list_value, put_list};
 use crate::reading::{expect_object, has_key, list_at, list_of, number_at};
 use crate::unread::Unread;

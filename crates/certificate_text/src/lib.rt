@@ -10,10 +10,10 @@
 mod bounds;
 mod claim;
 mod item;
+mod json_writer;
 pub mod laws;
 mod line;
 mod member;
-mod out;
 mod part;
 mod path;
 mod path_list;

@@ -11,7 +11,7 @@ ghost use Rattle.certificate_text.specs.Said.{line_said, named_said};
 ghost use Rattle.certificate_text.specs.Told.{line_data, named_data};
 ghost use Rattle.serde_json.specs.View.{view};
 
-use crate::out::Writer;
+use crate::json_writer::Writer;
 use crate::part::Part;
 use crate::path_list::paths_at;
 use crate::reading::{expect_object, text_at};

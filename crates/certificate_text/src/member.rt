@@ -4,7 +4,7 @@ ghost use Rattle.certificate_text.specs.Bounds.{count_data};
 ghost use Rattle.certificate_text.specs.Certificate.{PutsMember};
 ghost use Rattle.serde_json.specs.Data.{string};
 
-use crate::out::Writer;
+use crate::json_writer::Writer;
 use std::alloc::AllocError;
 
 /// Puts a text under a key.

@@ -7,7 +7,7 @@ ghost use Rattle.serde_json.specs.Data.{Data};
 ghost use Rattle.serde_json.specs.View.{view, items_view, items_of};
 ghost use Rattle.std.specs.Prelude.{◌≡◌, map, IfOk, Option};
 
-use crate::out::Writer;
+use crate::json_writer::Writer;
 use crate::unread::Unread;
 use serde_json::Value;
 use std::alloc::{AllocError, Global};

@@ -10,7 +10,7 @@ ghost use Rattle.certificate_text.specs.Said.{node_said};
 ghost use Rattle.certificate_text.specs.Told.{path_data};
 ghost use Rattle.serde_json.specs.View.{view};
 
-use crate::out::Writer;
+use crate::json_writer::Writer;
 use crate::part::Part;
 use crate::unread::Unread;
 use serde_json::Value;

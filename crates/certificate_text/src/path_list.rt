@@ -6,7 +6,7 @@ ghost use Rattle.certificate_text.specs.Told.{path_data, paths_data};
 ghost use Rattle.serde_json.specs.View.{items_of, items_view, view};
 ghost use Rattle.std.specs.Prelude.{◌≡◌, map, IfOk};
 
-use crate::out::Writer;
+use crate::json_writer::Writer;
 use crate::part::Part;
 use crate::path::{path_value, read_path};
 use crate::unread::Unread;

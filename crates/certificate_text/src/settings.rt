@@ -10,8 +10,8 @@ ghost use Rattle.sysmem_sanitise.specs.Reading.Pairs.{lists_colour, has_pair, sa
 ghost use Rattle.certificate_text.specs.Told.{heap_data, image_bounds_data, image_data, settings_data};
 
 use crate::bounds::{bounds_beside, put_bounds};
+use crate::json_writer::Writer;
 use crate::member::{put_number, put_text};
-use crate::out::Writer;
 use crate::reading::{expect_object, number_at, number_to, text_at};
 use serde_json::Value;
 use std::alloc::AllocError;

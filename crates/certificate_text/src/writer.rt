@@ -6,7 +6,7 @@ ghost use Rattle.certificate_text.specs.Certificate.{HasTaken, certificate_text}
 ghost use Rattle.certificate_text.specs.Told.{decision_data};
 
 use crate::claim::put_decision;
-use crate::out::Writer;
+use crate::json_writer::Writer;
 use std::alloc::{AllocError, Global};
 use std::marker::Model;
 use sysmem_proof::Claim;

@@ -1,6 +1,6 @@
 use Rattle.std.proofs.Common.{ap, ◌++◌, ◌∙◌}
 use Rattle.certificate_text.proofs.PutAsText.{whole_text}
-use Rattle.certificate_text.proofs.out.Writer.into_inner.Goals as goal
+use Rattle.certificate_text.proofs.json_writer.Writer.into_inner.Goals as goal
 
 pub returns : goal.returns
 returns c =

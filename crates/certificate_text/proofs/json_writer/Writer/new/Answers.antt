@@ -1,6 +1,6 @@
 use Rattle.std.proofs.Common.{rules}
 use Rattle.certificate_text.proofs.PutAsText.{empty, empty_tokens}
-use Rattle.certificate_text.proofs.out.Writer.new.Goals as goal
+use Rattle.certificate_text.proofs.json_writer.Writer.new.Goals as goal
 
 pub invariant_of-result : goal.invariant_of-result
 invariant_of-result c = empty _ (search rules) (search rules) (search rules)

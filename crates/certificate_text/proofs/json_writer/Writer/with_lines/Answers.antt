@@ -3,7 +3,7 @@ use Rattle.serde_json.specs.View.{items_of}
 use Rattle.serde_json.specs.Written.{items_text}
 use Rattle.certificate_text.specs.Told.{line_data}
 use Rattle.certificate_text.proofs.PutAsText.{lines_have, listed, list_added}
-use Rattle.certificate_text.proofs.out.Writer.with_lines.Goals as goal
+use Rattle.certificate_text.proofs.json_writer.Writer.with_lines.Goals as goal
 
 pub invariant_of-result : goal.invariant_of-result
 invariant_of-result c =
