@@ -19,7 +19,7 @@ proved:
 test:
 	RT_JOBS=$(JOBS) rt ci
 
-# Tests of the proved program as a whole (they need a C compiler and Python): reports, refusals, records, worked values, small trees beside each of their selections, certificates and their checks, files that fail, and each allocation refused in turn.
+# Tests of the proved program as a whole (they need a C compiler and Python): reports, refusals, records, worked values, small trees beside each of their selections, certificates and their checks, files that fail, each allocation refused in turn, and scripts on threads.
 program-test: proved
 	@$(MAKE) --no-print-directory built-test
 
@@ -35,6 +35,7 @@ built-test:
 	tests/checks
 	tests/failing_files
 	tests/want_of_memory
+	tests/threads
 
 # Wrong bodies beyond those of the gate, each of which the prover must refuse, over what is kept of each crate's proof (which is made first where there is none).
 wrong-bodies:
