@@ -20,12 +20,13 @@ proved:
 test:
 	RT_JOBS=$(JOBS) rt ci
 
-# Tests of the proved program as a whole (they need a C compiler and Python): reports, refusals, records, worked values, small trees beside each of their selections, certificates and their checks, files that fail, each allocation refused in turn, and scripts played through handles.
+# Tests of the proved program as a whole (they need a C compiler and Python): reports, refusals, records, worked values, small trees beside each of their selections, certificates and their checks, files that fail, each allocation refused in turn, scripts played through handles, and scripts on threads.
 program-test: proved
 	@$(MAKE) --no-print-directory built-test
 
 # The same where `make test` or `make proved` has just built the program.
 built-test:
+	docs/definitions --check
 	tests/reports
 	tests/refusals
 	tests/records
@@ -37,6 +38,7 @@ built-test:
 	tests/failing_files
 	tests/want_of_memory
 	tests/handles
+	tests/threads
 
 # Wrong bodies beyond those of the gate, each of which the prover must refuse, over what is kept of each crate's proof (which is made first where there is none).
 wrong-bodies:

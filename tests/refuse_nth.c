@@ -6,12 +6,12 @@
 #include <stdlib.h>
 #include <unistd.h>
 
-static long met;
+static _Atomic long met;
 
 static int is_refused(void) {
     const char *wanted = getenv("REFUSE_NTH");
-    met++;
-    if (!wanted || atol(wanted) != met)
+    long now = ++met;
+    if (!wanted || atol(wanted) != now)
         return 0;
     const char *path = getenv("REFUSED_FILE");
     if (path) {

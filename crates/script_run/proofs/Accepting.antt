@@ -129,6 +129,7 @@ module _ (one : OneCheck) (alone : FaultIsAlone) (input certificate : List ℕ) 
       let both : Ok report ≡ Err fault = alone input fault (Ok report) (h.script fault refl) runs in
       absurd (cc)
   ends_in_yes (Err faults.Proof) before after h = absurd ((h.proof_refused refl).none checks.holds.objects checks.holds.lists)
+  ends_in_yes (Err (faults.Audit found)) before after h = absurd (h.no_audit found refl)
 
 pub certificates_are_accepted : CertificatesReadBack → OneCheck → CertifiedIsReport → FaultIsAlone → CertificatesAreAccepted
 certificates_are_accepted read_back one without alone input c certifies fed short =

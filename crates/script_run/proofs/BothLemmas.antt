@@ -10,8 +10,9 @@ use Rattle.script_reading.specs.declared.fault.ParseFault.TheVariants as parsing
 use Rattle.script_reading.specs.declared.fault.ScriptFault.{ScriptFault}
 use Rattle.script_reading.specs.Faults.{GivesOneOf}
 use Rattle.script_reading.specs.Text.{longest}
+use Rattle.script_run.specs.declared.fault.Disagreement.{Disagreement}
 use Rattle.script_run.specs.declared.fault.RunFault.{RunFault}
-use Rattle.script_run.specs.declared.fault.RunFault.TheVariants.{Read, Write, NoMemory, Script, Proof}
+use Rattle.script_run.specs.declared.fault.RunFault.TheVariants.{Read, Write, NoMemory, Script, Proof, Audit}
 use Rattle.script_run.specs.declared.running.CertifiedReport.{CertifiedReport}
 use Rattle.script_run.specs.declared.running.Ended.{Ended}
 use Rattle.script_run.specs.declared.running.Ended.TheVariants.{Done, MemoryRefused}
@@ -23,13 +24,14 @@ use Rattle.script_run.proofs.RunLemmas.{Appends-nothing, runs-input}
 
 module _ (had hold proof_hold : Option (List ℕ)) where
   -- a run that ends before it writes
-  both-early : (fault : RunFault) → fault ≢ Write → fault ≢ Proof → ((refused : ScriptFault) → fault ≡ Script refused → IfSome had (λ input. RunsTo input (Err refused)))
+  both-early : (fault : RunFault) → fault ≢ Write → fault ≢ Proof → ((found : Disagreement) → fault ≢ Audit found) → ((refused : ScriptFault) → fault ≡ Script refused → IfSome had (λ input. RunsTo input (Err refused)))
       → RanWithProof (Err fault) had hold hold proof_hold proof_hold
-  both-early fault other read refused = record {
+  both-early fault other read audited refused = record {
     done = λ is. absurd (cc);
     starved = λ is. absurd (cc);
     unchecked = λ is. absurd (cc);
     no_proof = λ is. absurd (read (cc));
+    no_audit = λ found is. absurd (audited found (cc));
     refused = λ found is. refused found (cc);
     front = λ is. absurd (other (cc));
     unwritten = λ found is not. (Appends-nothing hold, Appends-nothing proof_hold);
@@ -37,15 +39,15 @@ module _ (had hold proof_hold : Option (List ℕ)) where
 
   -- a run whose reader failed, or whose memory ended as it read
   pub both-unread : (result : Result Ended RunFault) (fault : ReadFault) → result ≡ Err (fault_of_read fault) → RanWithProof result had hold hold proof_hold proof_hold
-  both-unread result reading.Failed e = rw e (both-early Read (λ is. absurd (cc)) (λ is. absurd (cc)) (λ found is. absurd (cc)))
-  both-unread result reading.NoMemory e = rw e (both-early NoMemory (λ is. absurd (cc)) (λ is. absurd (cc)) (λ found is. absurd (cc)))
+  both-unread result reading.Failed e = rw e (both-early Read (λ is. absurd (cc)) (λ is. absurd (cc)) (λ found is. absurd (cc)) (λ found is. absurd (cc)))
+  both-unread result reading.NoMemory e = rw e (both-early NoMemory (λ is. absurd (cc)) (λ is. absurd (cc)) (λ found is. absurd (cc)) (λ found is. absurd (cc)))
 
   -- a run whose script was refused, or whose memory ended
   pub both-refused : (result : Result Ended RunFault) (fault : ParseFault) (new : Option (List ℕ)) (bytes : List ℕ) → result ≡ Err (fault_of_parse fault) → ReadsToLimit longest had new bytes
       → GivesOneOf {X = CertifiedReport} {A = CertifiedFacts} certified_seen (Err fault) (CertifiesTo bytes) → RanWithProof result had hold hold proof_hold proof_hold
-  both-refused result parsing.NoMemory new bytes e read said = rw e (both-early NoMemory (λ is. absurd (cc)) (λ is. absurd (cc)) (λ found is. absurd (cc)))
+  both-refused result parsing.NoMemory new bytes e read said = rw e (both-early NoMemory (λ is. absurd (cc)) (λ is. absurd (cc)) (λ found is. absurd (cc)) (λ found is. absurd (cc)))
   both-refused result (parsing.Refused fault) new bytes e read said =
-      rw e (both-early (Script fault) (λ is. absurd (cc)) (λ is. absurd (cc))
+      rw e (both-early (Script fault) (λ is. absurd (cc)) (λ is. absurd (cc)) (λ found is. absurd (cc))
       (λ found is. let same : fault ≡ found = (cc) in runs-input anyhow had new bytes (Err found) read (rw (← same) said)))
 
 module _ (old new before after proof_before proof_after : Option (List ℕ)) (bytes : List ℕ) (c : CertifiedFacts) (read : ReadsToLimit longest old new bytes) (runs : CertifiesTo bytes (Ok c)) where
@@ -64,6 +66,7 @@ module _ (old new before after proof_before proof_after : Option (List ℕ)) (by
     starved = λ is. absurd (cc);
     unchecked = λ is. absurd (cc);
     no_proof = λ is. absurd (cc);
+    no_audit = λ found is. absurd (cc);
     refused = λ found is. absurd (cc);
     front = λ is. part old certified fronts;
     unwritten = λ found is not. absurd (not (cc));
@@ -81,6 +84,7 @@ module _ (old new before after proof_before proof_after : Option (List ℕ)) (by
     starved = λ is. both old true e written proved certified;
     unchecked = λ is. absurd (cc);
     no_proof = λ is. absurd (cc);
+    no_audit = λ found is. absurd (cc);
     refused = λ found is. absurd (cc);
     front = λ is. absurd (cc);
     unwritten = λ found is not. absurd (cc);
@@ -93,6 +97,7 @@ module _ (old new before after proof_before proof_after : Option (List ℕ)) (by
     starved = λ is. absurd (cc);
     unchecked = λ is. absurd (cc);
     no_proof = λ is. absurd (cc);
+    no_audit = λ found is. absurd (cc);
     refused = λ found is. absurd (cc);
     front = λ is. absurd (cc);
     unwritten = λ found is not. absurd (cc);

@@ -18,8 +18,9 @@ use Rattle.script_reading.specs.Text.{IsJson, IsValue, Outcome, longest, not_jso
 use Rattle.script_run.specs.declared.checked_file.CheckAnswer.{CheckAnswer}
 use Rattle.script_run.specs.declared.checked_file.CheckAnswer.TheVariants as answers
 use Rattle.script_run.specs.declared.decider.Objection.{Objection}
+use Rattle.script_run.specs.declared.fault.Disagreement.{Disagreement}
 use Rattle.script_run.specs.declared.fault.RunFault.{RunFault}
-use Rattle.script_run.specs.declared.fault.RunFault.TheVariants.{NoMemory, Proof, Script, Write}
+use Rattle.script_run.specs.declared.fault.RunFault.TheVariants.{Audit, NoMemory, Proof, Script, Write}
 use Rattle.script_run.specs.declared.fault.RunFault.TheVariants as faults
 use Rattle.script_run.specs.declared.running.Ended.{Ended}
 use Rattle.script_run.specs.declared.running.Ended.TheVariants.{CheckedNo, Done}
@@ -97,12 +98,13 @@ both_of (Some input) (Some certificate) A B P f a b = f input certificate a b
 -- ---- how it ends
 
 -- a check that ends before it answers
-check-early : (fault : RunFault) (had proof hold : Option (List ℕ)) → fault ≢ Write → fault ≢ Proof → ((found : ScriptFault) → fault ≡ Script found → IfSome had (λ input. RunsTo input (Err found)))
+check-early : (fault : RunFault) (had proof hold : Option (List ℕ)) → fault ≢ Write → fault ≢ Proof → ((found : Disagreement) → fault ≢ Audit found) → ((found : ScriptFault) → fault ≡ Script found → IfSome had (λ input. RunsTo input (Err found)))
     → HasChecked (Err fault) had proof hold hold
-check-early fault had proof hold other another of = record {
+check-early fault had proof hold other another audited of = record {
   yes = λ is. absurd (cc);
   no = λ is. absurd (cc);
   fed = λ is. absurd (cc);
+  no_audit = λ found is. absurd (audited found (cc));
   script = λ found is. of found (cc);
   proof_refused = λ is. absurd (another (cc));
   front = λ is. absurd (other (cc));
@@ -111,19 +113,19 @@ check-early fault had proof hold other another of = record {
 
 script-refused : (result : Result Ended RunFault) (fault : ScriptFault) (had left proof hold : Option (List ℕ)) (bytes : List ℕ) → result ≡ Err (Script fault) → ReadsToLimit longest had left bytes
     → RunsTo bytes (Err fault) → HasChecked result had proof hold hold
-script-refused result fault had left proof hold bytes e read runs = rw e (check-early (Script fault) had proof hold (λ is. absurd (cc)) (λ is. absurd (cc))
+script-refused result fault had left proof hold bytes e read runs = rw e (check-early (Script fault) had proof hold (λ is. absurd (cc)) (λ is. absurd (cc)) (λ found is. absurd (cc))
     (λ found is. let same : fault ≡ found = cc in runs-input anyhow had left bytes (Err found) read (subst (λ f. RunsTo bytes (Err f)) same runs)))
 
 -- one whose script is no JSON, or whose memory ended
 pub check-unspelled : (result : Result Ended RunFault) (fault : ParseFault) (had left proof hold : Option (List ℕ)) (bytes : List ℕ) → result ≡ Err (fault_of_parse fault) → ReadsToLimit longest had left bytes
     → GivesOneOf {X = Value} {A = Data} view (Err fault) (Outcome IsValue bytes) → HasChecked result had proof hold hold
-check-unspelled result parsing.NoMemory had left proof hold bytes e read said = rw e (check-early NoMemory had proof hold (λ is. absurd (cc)) (λ is. absurd (cc)) (λ found is. absurd (cc)))
+check-unspelled result parsing.NoMemory had left proof hold bytes e read said = rw e (check-early NoMemory had proof hold (λ is. absurd (cc)) (λ is. absurd (cc)) (λ found is. absurd (cc)) (λ found is. absurd (cc)))
 check-unspelled result (parsing.Refused fault) had left proof hold bytes e read said = script-refused result fault had left proof hold bytes e read (fault_of bytes (Err fault) fault refl said)
 
 -- one whose script has a fault, or whose memory ended
 pub check-no-script : (result : Result Ended RunFault) (fault : ParseFault) (had left proof hold : Option (List ℕ)) (bytes : List ℕ) (d : Data) → result ≡ Err (fault_of_parse fault)
     → ReadsToLimit longest had left bytes → Outcome IsValue bytes (Ok d) → Gives {X = Read} {A = ScriptFacts} script_seen (Err fault) (script_of d) → HasChecked result had proof hold hold
-check-no-script result parsing.NoMemory had left proof hold bytes d e read spells said = rw e (check-early NoMemory had proof hold (λ is. absurd (cc)) (λ is. absurd (cc)) (λ found is. absurd (cc)))
+check-no-script result parsing.NoMemory had left proof hold bytes d e read spells said = rw e (check-early NoMemory had proof hold (λ is. absurd (cc)) (λ is. absurd (cc)) (λ found is. absurd (cc)) (λ found is. absurd (cc)))
 check-no-script result (parsing.Refused fault) had left proof hold bytes d e read spells said =
     script-refused result fault had left proof hold bytes e read (value_fault bytes d fault (spells_value bytes d spells) said)
 
@@ -134,11 +136,12 @@ module _ (had left proof proof_left : Option (List ℕ)) (bytes certificate : Li
 
   -- one whose certificate is refused, or whose memory ended
   pub check-refused : (result : Result Ended RunFault) (fault : RunFault) (hold : Option (List ℕ)) → result ≡ Err fault → IsRefusal certificate fault → HasChecked result had proof hold hold
-  check-refused result NoMemory hold e why = rw e (check-early NoMemory had proof hold (λ is. absurd (cc)) (λ is. absurd (cc)) (λ found is. absurd (cc)))
+  check-refused result NoMemory hold e why = rw e (check-early NoMemory had proof hold (λ is. absurd (cc)) (λ is. absurd (cc)) (λ found is. absurd (cc)) (λ found is. absurd (cc)))
   check-refused result Proof hold e why = rw e (record {
     yes = λ is. absurd (cc);
     no = λ is. absurd (cc);
     fed = λ is. absurd (cc);
+    no_audit = λ found is. absurd (cc);
     script = λ found is. absurd (cc);
     proof_refused = λ is. both_of had proof (λ input. IsScriptOf input script) IsNoList ProofIsRefused (λ input c a b. record { script = script; reads = a; none = b })
         reads (of_none proof proof_left certificate proof_read why);
@@ -148,6 +151,7 @@ module _ (had left proof proof_left : Option (List ℕ)) (bytes certificate : Li
   check-refused result faults.Read hold e why = absurd why
   check-refused result Write hold e why = absurd why
   check-refused result (Script fault) hold e why = absurd why
+  check-refused result (Audit found) hold e why = absurd why
 
   module _ (before after : Option (List ℕ)) (answer : CheckAnswer) (text : List ℕ) (holds : AnswersIn script certificate answer text) where
     answered : IfSome proof (λ c. AnswersIn script c answer text)
@@ -159,6 +163,7 @@ module _ (had left proof proof_left : Option (List ℕ)) (bytes certificate : Li
       yes = λ is. absurd (cc);
       no = λ is. absurd (cc);
       fed = λ is. absurd (cc);
+      no_audit = λ found is. absurd (cc);
       script = λ found is. absurd (cc);
       proof_refused = λ is. absurd (cc);
       front = λ is. both_of had proof (λ input. IsScriptOf input script) (λ c. AnswersIn script c answer text) (λ input c. WritesAnswerPart input c before after)
@@ -179,6 +184,7 @@ module _ (had left proof proof_left : Option (List ℕ)) (bytes certificate : Li
         yes = λ e. written_as before after answers.Yes text holds_yes written;
         no = λ e. absurd (cc);
         fed = λ e. absurd (cc);
+        no_audit = λ found e. absurd (cc);
         script = λ found e. absurd (cc);
         proof_refused = λ e. absurd (cc);
         front = λ e. absurd (cc);
@@ -196,6 +202,7 @@ module _ (had left proof proof_left : Option (List ℕ)) (bytes certificate : Li
             (λ input c a b. record { objection = objection; writes = record { text = text; checks = record { script = script; reads = a; holds = b }; written = written } })
             reads (answered before after (answers.No objection) text holds_no);
         fed = λ e. absurd (cc);
+        no_audit = λ found e. absurd (cc);
         script = λ found e. absurd (cc);
         proof_refused = λ e. absurd (cc);
         front = λ e. absurd (cc);

@@ -10,8 +10,9 @@ use Rattle.script_reading.specs.declared.fault.ParseFault.TheVariants as parsing
 use Rattle.script_reading.specs.declared.fault.ScriptFault.{ScriptFault}
 use Rattle.script_reading.specs.Faults.{GivesOneOf}
 use Rattle.script_reading.specs.Text.{too_long, not_json, spelled, longest}
+use Rattle.script_run.specs.declared.fault.Disagreement.{Disagreement}
 use Rattle.script_run.specs.declared.fault.RunFault.{RunFault}
-use Rattle.script_run.specs.declared.fault.RunFault.TheVariants.{Read, Write, NoMemory, Script, Proof}
+use Rattle.script_run.specs.declared.fault.RunFault.TheVariants.{Read, Write, NoMemory, Script, Proof, Audit}
 use Rattle.script_run.specs.declared.report.Report.{Report}
 use Rattle.script_run.specs.declared.running.Ended.{Ended}
 use Rattle.script_run.specs.declared.running.Ended.TheVariants.{Done, MemoryRefused}
@@ -50,14 +51,15 @@ Appends-nothing None = tt
 Appends-nothing (Some bytes) = sym (append-nil bytes)
 
 -- a run that ends before it writes
-ran-early : (fault : RunFault) (had hold : Option (List ℕ)) → fault ≢ Write → fault ≢ Proof
+ran-early : (fault : RunFault) (had hold : Option (List ℕ)) → fault ≢ Write → fault ≢ Proof → ((found : Disagreement) → fault ≢ Audit found)
     → ((refused : ScriptFault) → fault ≡ Script refused → IfSome had (λ input. RunsTo input (Err refused)))
     → Ran (Err fault) had hold hold
-ran-early fault had hold other read refused = record {
+ran-early fault had hold other read audited refused = record {
   done = λ is. absurd (cc);
   starved = λ is. absurd (cc);
   unchecked = λ is. absurd (cc);
   no_proof = λ is. absurd (read (cc));
+  no_audit = λ found is. absurd (audited found (cc));
   refused = λ found is. refused found (cc);
   front = λ is. absurd (other (cc));
   unwritten = λ found is not. Appends-nothing hold;
@@ -66,16 +68,16 @@ ran-early fault had hold other read refused = record {
 -- a run whose reader failed, or whose memory ended as it read
 pub ran-unread : (result : Result Ended RunFault) (fault : ReadFault) (had hold : Option (List ℕ))
     → result ≡ Err (fault_of_read fault) → Ran result had hold hold
-ran-unread result reading.Failed had hold e = rw e (ran-early Read had hold (λ is. absurd (cc)) (λ is. absurd (cc)) (λ found is. absurd (cc)))
-ran-unread result reading.NoMemory had hold e = rw e (ran-early NoMemory had hold (λ is. absurd (cc)) (λ is. absurd (cc)) (λ found is. absurd (cc)))
+ran-unread result reading.Failed had hold e = rw e (ran-early Read had hold (λ is. absurd (cc)) (λ is. absurd (cc)) (λ found is. absurd (cc)) (λ found is. absurd (cc)))
+ran-unread result reading.NoMemory had hold e = rw e (ran-early NoMemory had hold (λ is. absurd (cc)) (λ is. absurd (cc)) (λ found is. absurd (cc)) (λ found is. absurd (cc)))
 
 -- a run whose script was refused, or whose memory ended
 pub ran-refused : (result : Result Ended RunFault) (fault : ParseFault) (old new hold : Option (List ℕ)) (bytes : List ℕ)
     → result ≡ Err (fault_of_parse fault) → ReadsToLimit longest old new bytes
     → GivesOneOf {X = Report} {A = ReportFacts} report_seen (Err fault) (RunsTo bytes) → Ran result old hold hold
-ran-refused result parsing.NoMemory old new hold bytes e read said = rw e (ran-early NoMemory old hold (λ is. absurd (cc)) (λ is. absurd (cc)) (λ found is. absurd (cc)))
+ran-refused result parsing.NoMemory old new hold bytes e read said = rw e (ran-early NoMemory old hold (λ is. absurd (cc)) (λ is. absurd (cc)) (λ found is. absurd (cc)) (λ found is. absurd (cc)))
 ran-refused result (parsing.Refused fault) old new hold bytes e read said =
-    rw e (ran-early (Script fault) old hold (λ is. absurd (cc)) (λ is. absurd (cc))
+    rw e (ran-early (Script fault) old hold (λ is. absurd (cc)) (λ is. absurd (cc)) (λ found is. absurd (cc))
     (λ found is. let same : fault ≡ found = (cc) in runs-input anyhow old new bytes (Err found) read (rw (← same) said)))
 
 module _ (old new before after : Option (List ℕ)) (bytes : List ℕ) (report : ReportFacts)
@@ -87,6 +89,7 @@ module _ (old new before after : Option (List ℕ)) (bytes : List ℕ) (report :
     starved = λ is. absurd (cc);
     unchecked = λ is. absurd (cc);
     no_proof = λ is. absurd (cc);
+    no_audit = λ found is. absurd (cc);
     refused = λ found is. absurd (cc);
     front = λ is. part-input old new before after bytes report read runs front;
     unwritten = λ found is not. absurd (not (cc));
@@ -104,6 +107,7 @@ module _ (old new before after : Option (List ℕ)) (bytes : List ℕ) (report :
     starved = λ is. writes old true e written (runs-input anyhow old new bytes (Ok report) read runs);
     unchecked = λ is. absurd (cc);
     no_proof = λ is. absurd (cc);
+    no_audit = λ found is. absurd (cc);
     refused = λ found is. absurd (cc);
     front = λ is. absurd (cc);
     unwritten = λ found is not. absurd (cc);
@@ -116,6 +120,7 @@ module _ (old new before after : Option (List ℕ)) (bytes : List ℕ) (report :
     starved = λ is. absurd (cc);
     unchecked = λ is. absurd (cc);
     no_proof = λ is. absurd (cc);
+    no_audit = λ found is. absurd (cc);
     refused = λ found is. absurd (cc);
     front = λ is. absurd (cc);
     unwritten = λ found is not. absurd (cc);

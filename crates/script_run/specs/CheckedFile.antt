@@ -17,8 +17,9 @@ use Rattle.script_run.specs.Outcome.{RunsTo}
 use Rattle.script_run.specs.declared.checked_file.CheckAnswer.{CheckAnswer}
 use Rattle.script_run.specs.declared.checked_file.CheckAnswer.TheVariants as answers
 use Rattle.script_run.specs.declared.decider.Objection.{Objection}
+use Rattle.script_run.specs.declared.fault.Disagreement.{Disagreement}
 use Rattle.script_run.specs.declared.fault.RunFault.{RunFault}
-use Rattle.script_run.specs.declared.fault.RunFault.TheVariants.{NoMemory, Read, Write, Script, Proof}
+use Rattle.script_run.specs.declared.fault.RunFault.TheVariants.{NoMemory, Read, Write, Script, Proof, Audit}
 use Rattle.script_run.specs.declared.running.Ended.{Ended}
 use Rattle.script_run.specs.declared.running.Ended.TheVariants.{Done, MemoryRefused, CheckedNo}
 
@@ -109,6 +110,7 @@ pub record HasChecked (result : Result Ended RunFault) (had proof before after :
   pub yes : result ≡ Ok Done → IfBoth had proof (λ input certificate. WritesAnswer input certificate answers.Yes before after)
   pub no : result ≡ Ok CheckedNo → IfBoth had proof (λ input certificate. WritesNo input certificate before after)
   pub fed : result ≢ Ok MemoryRefused
+  pub no_audit : (found : Disagreement) → result ≢ Err (Audit found)
   pub script : (fault : ScriptFault) → result ≡ Err (Script fault) → IfSome had (λ input. RunsTo input (Err fault))
   pub proof_refused : result ≡ Err Proof → IfBoth had proof ProofIsRefused
   pub front : result ≡ Err Write → IfBoth had proof (λ input certificate. WritesAnswerPart input certificate before after)

@@ -1,7 +1,7 @@
 -- The exit status of a run or a check, and the fault that is told.
 use Rattle.std.specs.Prelude.{ℕ, Option, Some, None, Result, Ok, Err}
 use Rattle.script_run.specs.declared.fault.RunFault.{RunFault}
-use Rattle.script_run.specs.declared.fault.RunFault.TheVariants.{Read, Write, NoMemory, Script, Proof}
+use Rattle.script_run.specs.declared.fault.RunFault.TheVariants.{Read, Write, NoMemory, Script, Proof, Audit}
 use Rattle.script_run.specs.declared.running.Ended.{Ended}
 use Rattle.script_run.specs.declared.running.Ended.TheVariants.{Done, MemoryRefused, CheckedNo}
 
@@ -14,6 +14,7 @@ run_code (Err (Script fault)) = 3
 run_code (Err Proof) = 3
 run_code (Ok MemoryRefused) = 4
 run_code (Err NoMemory) = 4
+run_code (Err (Audit found)) = 5
 run_code (Ok CheckedNo) = 6
 
 -- the fault whose text a run or a check leaves on standard error

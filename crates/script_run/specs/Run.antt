@@ -4,7 +4,8 @@ use Rattle.std.specs.Io.KnownBytes.{Appends}
 use Rattle.byte_transfer.specs.Transfer.{WritesFront}
 use Rattle.script_reading.specs.declared.fault.ScriptFault.{ScriptFault}
 use Rattle.script_run.specs.declared.fault.RunFault.{RunFault}
-use Rattle.script_run.specs.declared.fault.RunFault.TheVariants.{Write, Script, Proof}
+use Rattle.script_run.specs.declared.fault.Disagreement.{Disagreement}
+use Rattle.script_run.specs.declared.fault.RunFault.TheVariants.{Write, Script, Proof, Audit}
 use Rattle.script_run.specs.declared.running.Ended.{Ended}
 use Rattle.script_run.specs.declared.running.Ended.TheVariants.{Done, MemoryRefused, CheckedNo}
 use Rattle.script_run.specs.Certificate.{CertifiedFacts, CertifiesTo}
@@ -28,6 +29,7 @@ pub record Ran (result : Result Ended RunFault) (had before after : Option (List
   pub starved : result ≡ Ok MemoryRefused → IfSome had (λ input. Writes input true before after)
   pub unchecked : result ≢ Ok CheckedNo
   pub no_proof : result ≢ Err Proof
+  pub no_audit : (found : Disagreement) → result ≢ Err (Audit found)
   pub refused : (fault : ScriptFault) → result ≡ Err (Script fault)
       → IfSome had (λ input. RunsTo input (Err fault))
   pub front : result ≡ Err Write → IfSome had (λ input. WritesPart input before after)
@@ -58,6 +60,7 @@ pub record RanWithProof (result : Result Ended RunFault) (had before after proof
   pub starved : result ≡ Ok MemoryRefused → IfSome had (λ input. WritesBoth input true before after proof_before proof_after)
   pub unchecked : result ≢ Ok CheckedNo
   pub no_proof : result ≢ Err Proof
+  pub no_audit : (found : Disagreement) → result ≢ Err (Audit found)
   pub refused : (fault : ScriptFault) → result ≡ Err (Script fault)
       → IfSome had (λ input. RunsTo input (Err fault))
   pub front : result ≡ Err Write → IfSome had (λ input. WritesPartOfBoth input before after proof_before proof_after)

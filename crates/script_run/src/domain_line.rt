@@ -20,7 +20,7 @@ use sysmem_tree::{DomainId, Path, Tree};
 
 /// Puts the line of a domain that was decided behind the text: `domain /0 chosen 1 count 2 size 4096 place ram#0 cpu
 /// image none`.
-pub(crate) fn put_chosen(
+pub fn put_chosen(
     text: &mut String,
     platform: &Platform,
     path: &Path,
@@ -41,7 +41,7 @@ pub(crate) fn put_chosen(
 }
 
 /// Puts a line of one word behind the text: `domain /0 empty`.
-pub(crate) fn put_word(text: &mut String, path: &Path, word: &str) -> Result<(), AllocError>
+pub fn put_word(text: &mut String, path: &Path, word: &str) -> Result<(), AllocError>
     ensures { Puts result text.old text.new (domain_line path.now word.now) }
 {
     put_path(text, path)?;

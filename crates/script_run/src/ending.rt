@@ -13,7 +13,8 @@ pub struct Ending {
 }
 
 /// The ending of a run: 0 where it is done, 1 for a read or write fault, 3 for a script that is
-/// refused, or a certificate that can't be read, 4 for want of memory and 6 for a certificate that is wrong.
+/// refused, or a certificate that can't be read, 4 for want of memory, 5 where an audit says no, and 6 for a
+/// certificate that is wrong.
 pub fn ending_of(outcome: Result<Ended, RunFault>) -> Ending
     ensures status { result.status ≡ run_code outcome }
     ensures fault { result.fault ≡ fault_said outcome }
@@ -40,6 +41,7 @@ fn fault_ending(fault: RunFault) -> Ending
         RunFault::Read | RunFault::Write => 1,
         RunFault::Script(_) | RunFault::Proof => 3,
         RunFault::NoMemory => 4,
+        RunFault::Audit(_) => 5,
     };
     Ending {
         status,

@@ -7,6 +7,20 @@ use byte_transfer::{ReadFault, WriteFault};
 use script_reading::{ParseFault, ScriptFault};
 use thiserror::Error;
 
+/// What the audit of a collection on threads found not to agree.
+#[derive(Clone, Copy, Debug, PartialEq, Eq, Error)]
+pub enum Disagreement {
+    /// What is left of a node's handle is missing, doubled, or of no node.
+    #[error("A1")]
+    Handles,
+    /// The calls of a path differ.
+    #[error("A3")]
+    Calls,
+    /// A handle has another verdict than the collection.
+    #[error("A4")]
+    Verdicts,
+}
+
 /// Why a run ended before all was written.
 #[derive(Clone, Copy, Debug, PartialEq, Eq, Error)]
 pub enum RunFault {
@@ -25,6 +39,9 @@ pub enum RunFault {
     /// The certificate is longer than 4,194,304 bytes, no JSON or no list.
     #[error("proof refused")]
     Proof,
+    /// The handles that threads had don't agree with their collection.
+    #[error("audit: {0}")]
+    Audit(Disagreement),
 }
 
 impl From<ReadFault> for RunFault {

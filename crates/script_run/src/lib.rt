@@ -18,6 +18,7 @@ mod failing;
 mod fault;
 pub mod laws;
 mod line;
+mod replaying;
 mod reply;
 mod report;
 mod runner;
@@ -26,6 +27,9 @@ mod searching;
 mod telling;
 
 pub use checked_file::check_file;
+pub use domain_line::{put_chosen, put_word};
 pub use ending::{Ending, ending_of};
-pub use fault::RunFault;
+pub use fault::{Disagreement, RunFault};
+pub use replaying::replies_of;
+pub use reply::Reply;
 pub use running::{Ended, run, run_leaving, run_with_proof};

@@ -25,6 +25,7 @@ use crate::deciding::put_decision;
 use crate::failing::{failed_before, put_failed, put_failed_since};
 use crate::line::put_call;
 use crate::reply::Reply;
+use crate::searching::Searching;
 use crate::telling::told;
 use script_reading::{Act, Call};
 use serde_json::Value;
@@ -100,6 +101,14 @@ impl Runner {
     {
         self.reply(alloc, number, call, text)?;
         self.decide_waiting(alloc, decider, text)
+    }
+
+    /// Makes a call, decides each domain that waits then, and gives the reply.
+    pub(crate) fn reply_to(&mut self, alloc: Global, call: &Call<'_>) -> Result<Reply, Stop> {
+        let answered = self.answer(alloc, call)?;
+        let mut unsaid = String::new(alloc);
+        self.decide_waiting(alloc, &mut Searching, &mut unsaid)?;
+        Ok(answered)
     }
 
     /// Makes a call, and puts its line and those of the domains that it makes fail behind the text.

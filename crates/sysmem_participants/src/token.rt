@@ -6,11 +6,13 @@ ghost use Rattle.sysmem_tree.specs.ActionKind.{binds, closes, creates_group, dup
 
 use crate::collection::Collection;
 use crate::group::Group;
+use crate::reading::Reader;
 use crate::seat::Seat;
 use crate::stub::Stub;
+use std::alloc::AllocError;
 use std::marker::Model;
-use std::sync::Wait;
 use std::sync::ledger::Ledger;
+use std::sync::{Arc, Wait};
 use std::thread::Threads;
 use sysmem_search::Gate;
 use sysmem_tree::{NodeKind, Refusal};
@@ -112,5 +114,11 @@ impl<L: Ledger, G: Gate + Drop + Sync> Token<L, G> {
     {
         let Token { seat } = self;
         seat.close(rt)
+    }
+
+    /// What reads the collection's book. `AllocError` where memory is refused.
+    pub fn reader(&self) -> Result<Reader<L>, AllocError> {
+        let shared = Arc::try_clone(&self.seat.shared)?;
+        Ok(Reader::new(shared))
     }
 }

@@ -1,5 +1,7 @@
 //! `sysmem_replay run FILE` replays a script of calls on shared buffer collections and prints its
 //! report; with `--proof OUT` it also writes the certificate of its decisions.
+//! `sysmem_replay threads FILE` replays it with a thread for each actor, and prints what became of
+//! each domain.
 //! `sysmem_replay check FILE PROOF` tests such a certificate.
 #![tactic(auto)]
 
@@ -12,14 +14,17 @@ use refusal::refusal_ending;
 pub use script_run::{
     Ended, Ending, RunFault, check_file, ending_of, run, run_leaving, run_with_proof,
 };
+pub use script_threads::run_threads;
 use std::alloc::Global;
 use std::fs::File;
 use std::process::ExitCode;
+use std::sync::Wait;
+use std::thread::Threads;
 use std::{env, io, mem};
 
 fn main(rt: HostRuntime) -> ExitCode {
     let ending = match given_words(&rt) {
-        Ok(words) => obey(&rt, words.as_slice()),
+        Ok(words) => obey(&rt, &rt, words.as_slice()),
         Err(ending) => ending,
     };
     if let Some(fault) = ending.fault {
@@ -44,10 +49,11 @@ fn given_words(rt: &HostRuntime) -> Result<Vec<String>, Ending> {
     Ok(given)
 }
 
-/// Does what the words ask for.
-fn obey(rt: &HostRuntime, words: &[String]) -> Ending {
+/// Does what the words ask for; only `threads` starts any.
+fn obey<T: Threads + Wait + Sync>(rt: &HostRuntime, threads: &T, words: &[String]) -> Ending {
     match read_words(rt.alloc(), words) {
         Ok(Job::Run { file, proof }) => ending_of(run_file(rt, file, proof)),
+        Ok(Job::Threads { file }) => ending_of(play_file(rt, threads, file)),
         Ok(Job::Check { file, proof }) => ending_of(check_files(rt, file, proof)),
         Err(Refusal::Parser(error)) => tell(rt, &error),
         Err(Refusal::OneFile) => refuse(
@@ -96,6 +102,20 @@ fn run_last<R: Source, W: Sink>(
     let ended = run_leaving(alloc, reader, writer, &mut left);
     mem::forget(left);
     ended
+}
+
+/// Opens the script, and replays it with a thread for each actor.
+fn play_file<T: Threads + Wait + Sync>(
+    rt: &HostRuntime,
+    threads: &T,
+    file: &str,
+) -> Result<Ended, RunFault> {
+    let Ok(script) = File::open(rt, file) else {
+        return Err(RunFault::Read);
+    };
+    let mut reader = Counted::new(script);
+    let mut writer = Counted::new(io::writer(rt));
+    run_threads(threads, rt.alloc(), &mut reader, &mut writer)
 }
 
 /// Opens the script and then the certificate, and tests that.

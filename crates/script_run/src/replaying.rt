@@ -1,0 +1,30 @@
+//! The replies of a script's calls, without a report.
+
+use crate::decider::Stop;
+use crate::reply::Reply;
+use crate::runner::Runner;
+use script_reading::Call;
+use std::alloc::{AllocError, Global};
+use sysmem_sanitise::Platform;
+
+/// What each call answers where they are made in order on one collection of this platform, whose
+/// domains are decided by a search. `AllocError` where memory is refused, to a reply or a decision too.
+pub fn replies_of(
+    alloc: Global,
+    platform: Platform,
+    calls: &[Call<'_>],
+) -> Result<Vec<Reply>, AllocError> {
+    let mut runner = Runner::new(alloc, platform)?;
+    let mut replies = Vec::with_capacity(alloc, calls.len())?;
+    for call in calls {
+        let reply = match runner.reply_to(alloc, call) {
+            Ok(reply) => reply,
+            Err(Stop::NoMemory | Stop::Refused(_)) => return Err(AllocError),
+        };
+        replies.push(reply)?;
+    }
+    if runner.is_starved() {
+        return Err(AllocError);
+    }
+    Ok(replies)
+}

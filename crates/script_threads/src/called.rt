@@ -1,0 +1,73 @@
+//! What becomes of a handle by a call.
+
+use crate::handle::Handle;
+use std::sync::Wait;
+use std::sync::ledger::Ledger;
+use std::thread::Threads;
+use sysmem_participants::Stub;
+use sysmem_tree::Refusal;
+
+/// A handle, or what is left of it.
+pub(crate) enum Rest<L: Ledger> {
+    Handle(Handle<L>),
+    Stub(Stub<L>),
+}
+
+/// What becomes of a handle by a call.
+pub(crate) struct Called<L: Ledger> {
+    pub(crate) rest: Rest<L>,
+    /// The handle that the call makes.
+    pub(crate) made: Option<Handle<L>>,
+    /// Whether memory was refused to the call.
+    pub(crate) is_starved: bool,
+}
+
+impl<L: Ledger> Called<L> {
+    /// The handle is as it is now, and no further one is made.
+    pub(crate) fn kept(handle: Handle<L>) -> Called<L> {
+        Called {
+            rest: Rest::Handle(handle),
+            made: None,
+            is_starved: false,
+        }
+    }
+
+    /// A further handle is made.
+    pub(crate) fn made(handle: Handle<L>, made: Handle<L>) -> Called<L> {
+        Called {
+            rest: Rest::Handle(handle),
+            made: Some(made),
+            is_starved: false,
+        }
+    }
+
+    /// The handle is spent.
+    pub(crate) fn spent(stub: Stub<L>) -> Called<L> {
+        Called {
+            rest: Rest::Stub(stub),
+            made: None,
+            is_starved: false,
+        }
+    }
+
+    /// Memory was refused, and so the handle is closed: nobody waits for what it can't do any more.
+    pub(crate) fn starved<R: Threads + Wait + Sync>(rt: &R, handle: Handle<L>) -> Called<L> {
+        Called {
+            rest: Rest::Stub(handle.close(rt)),
+            made: None,
+            is_starved: true,
+        }
+    }
+
+    /// An action is refused.
+    pub(crate) fn refused<R: Threads + Wait + Sync>(
+        rt: &R,
+        handle: Handle<L>,
+        refusal: Refusal,
+    ) -> Called<L> {
+        match refusal {
+            Refusal::NoMemory => Called::starved(rt, handle),
+            _ => Called::kept(handle),
+        }
+    }
+}
