@@ -3,7 +3,7 @@ ghost use Rattle.std.specs.Prelude.{◌≡◌, Err, IfNone, IfOk, IfSome, IsSome
 ghost use Rattle.std.specs.Bool.{Decides};
 ghost use Rattle.clap.specs.Words.{FailsBy, app_of, fault_of, rule_of, subcommand_of, subcommand_rows_of};
 ghost use Rattle.clap.specs.declared.builder.command.Command.TheViews.{out-Command as fields_of};
-ghost use Rattle.command_line.specs.CommandLine.{AsksForJob, AsksForNone, EmptiesScript, IsOneFile, IsPlainRun, IsRefusedBy, certificate_rule, check_app, file_rule, jobless_app, proof_rule, replay_app, run_app, runs_app};
+ghost use Rattle.command_line.specs.CommandLine.{AsksForJob, AsksForNone, EmptiesScript, IsOneFile, IsPlainRun, IsRefusedBy, certificate_rule, check_app, file_rule, jobless_app, tellers_app, proof_rule, replay_app, run_app, runs_app, explain_app};
 
 use clap::{Arg, ArgMatches, Command, Error};
 use std::alloc::{AllocError, Global};
@@ -15,6 +15,10 @@ pub enum Job<'a> {
     Run {
         file: &'a str,
         proof: Option<&'a str>,
+    },
+    /// Explain a script.
+    Explain {
+        file: &'a str,
     },
     /// Test the certificate in `proof` against the script in `file`.
     Check {
@@ -114,6 +118,10 @@ fn job_in<'a>(matches: &ArgMatches<'a>) -> Option<Job<'a>>
             let proof = entries.get_str("proof");
             Some(Job::Run { file, proof })
         }
+        "explain" => {
+            let file = entries.get_str("FILE")?;
+            Some(Job::Explain { file })
+        }
         "check" => {
             let file = entries.get_str("FILE")?;
             let proof = entries.get_str("PROOF")?;
@@ -127,9 +135,18 @@ fn job_in<'a>(matches: &ArgMatches<'a>) -> Option<Job<'a>>
 fn replay_command<'a>(alloc: Global) -> Result<Command<'a>, AllocError>
     ensures { IfOk result (λ c. app_of c ≡ replay_app) }
 {
-    let command = command_of_runs(alloc)?;
+    let command = command_of_tellers(alloc)?;
     let check = check_command(alloc)?;
     command.subcommand(check)
+}
+
+/// The same with the subcommands `run` and `explain` alone.
+fn command_of_tellers<'a>(alloc: Global) -> Result<Command<'a>, AllocError>
+    ensures { IfOk result (λ c. app_of c ≡ tellers_app) }
+{
+    let command = command_of_runs(alloc)?;
+    let explain = explain_command(alloc)?;
+    command.subcommand(explain)
 }
 
 /// The same with the subcommand `run` alone.
@@ -163,6 +180,17 @@ fn run_command<'a>(alloc: Global) -> Result<Command<'a>, AllocError>
         .about("Replays a script, and prints a line for each call and each decision")
         .arg(file_arg(alloc))?
         .arg(out_arg(alloc))
+}
+
+fn explain_command<'a>(alloc: Global) -> Result<Command<'a>, AllocError>
+    ensures app { IfOk result (λ c. app_of c ≡ explain_app) }
+    ensures local { IfOk result (λ c. (fields_of c).has_globals ≡ false) }
+{
+    Command::new(alloc, "explain")
+        .about(
+            "Explains a script: where it has a fault, or what its report means and what would help",
+        )
+        .arg(file_arg(alloc))
 }
 
 fn check_command<'a>(alloc: Global) -> Result<Command<'a>, AllocError>

@@ -24,8 +24,11 @@ mod runner;
 mod running;
 mod searching;
 mod telling;
+mod told;
 
 pub use checked_file::check_file;
 pub use ending::{Ending, ending_of};
 pub use fault::RunFault;
+pub use report::Report;
 pub use running::{Ended, run, run_leaving, run_with_proof};
+pub use told::{Told, tell};

@@ -1,5 +1,6 @@
 //! `sysmem_replay run FILE` replays a script of calls on shared buffer collections and prints its
 //! report; with `--proof OUT` it also writes the certificate of its decisions.
+//! `sysmem_replay explain FILE` says what a script means: where it has a fault, or what its report comes from.
 //! `sysmem_replay check FILE PROOF` tests such a certificate.
 #![tactic(auto)]
 
@@ -8,6 +9,7 @@ mod refusal;
 use byte_transfer::{Counted, Sink, Source};
 use clap::Error;
 pub use command_line::{Job, Refusal, read_words};
+pub use explain::{Outcome, explain_file};
 use refusal::refusal_ending;
 pub use script_run::{
     Ended, Ending, RunFault, check_file, ending_of, run, run_leaving, run_with_proof,
@@ -48,6 +50,7 @@ fn given_words(rt: &HostRuntime) -> Result<Vec<String>, Ending> {
 fn obey(rt: &HostRuntime, words: &[String]) -> Ending {
     match read_words(rt.alloc(), words) {
         Ok(Job::Run { file, proof }) => ending_of(run_file(rt, file, proof)),
+        Ok(Job::Explain { file }) => explain_script(rt, file),
         Ok(Job::Check { file, proof }) => ending_of(check_files(rt, file, proof)),
         Err(Refusal::Parser(error)) => tell(rt, &error),
         Err(Refusal::OneFile) => refuse(
@@ -96,6 +99,23 @@ fn run_last<R: Source, W: Sink>(
     let ended = run_leaving(alloc, reader, writer, &mut left);
     mem::forget(left);
     ended
+}
+
+/// Opens the script, and explains it: a script that is refused is explained too, and ends with the status 3.
+fn explain_script(rt: &HostRuntime, file: &str) -> Ending {
+    let Ok(script) = File::open(rt, file) else {
+        return ending_of(Err(RunFault::Read));
+    };
+    let mut reader = Counted::new(script);
+    let mut writer = Counted::new(io::writer(rt));
+    match explain_file(rt.alloc(), file, &mut reader, &mut writer) {
+        Ok(Outcome::Refused) => Ending {
+            status: 3,
+            fault: None,
+        },
+        Ok(_) => ending_of(Ok(Ended::Done)),
+        Err(fault) => ending_of(Err(fault)),
+    }
 }
 
 /// Opens the script and then the certificate, and tests that.
