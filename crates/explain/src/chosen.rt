@@ -92,7 +92,15 @@ fn tell_offer(
         .position(|offer| *offer == settings.offer)
         .unwrap_or(0);
     let earlier = offers.get(..before).unwrap_or(&[]);
-    let rows = offer_rows(alloc, story, earlier, people, true, false)?;
+    let rows = offer_rows(
+        alloc,
+        story,
+        earlier,
+        people,
+        true,
+        false,
+        platform.colours().len(),
+    )?;
     tell_rows(items, 2, "not ", &rows)
 }
 

@@ -6,7 +6,7 @@ use crate::chosen::tell_settings;
 use crate::fixed::tell_misfits;
 use crate::pending::tell_pending;
 use crate::refused::{left_out, put_domain};
-use crate::selecting::{Empty, tell_empty};
+use crate::selecting::{Empty, MOST_TOLD, tell_empty};
 use crate::setting::Setting;
 use crate::story::{Domain, Story};
 use script_faults::wording::put_few;
@@ -17,6 +17,8 @@ use std::alloc::{AllocError, Global};
 use std::fmt::Write;
 use sysmem_tree::NodeKind;
 
+/// How many choices are named.
+const MOST_CHOICES: usize = 6;
 /// How many participants are named.
 const MOST_WHO: usize = 8;
 
@@ -91,6 +93,7 @@ fn tell_choice(
 /// Tells which child was chosen of each group that is selected.
 fn tell_children(items: &mut Items, story: &Story<'_>, index: usize) -> Result<(), AllocError> {
     let alloc = items.alloc();
+    let mut texts: Vec<String> = Vec::new(alloc);
     for (number, node) in story.nodes.iter().enumerate() {
         let is_group = node.state.kind == NodeKind::Group;
         if node.domain != index || !is_group || !node.is_selected {
@@ -104,12 +107,16 @@ fn tell_children(items: &mut Items, story: &Story<'_>, index: usize) -> Result<(
             if is_chosen {
                 let group = node.name;
                 let name = story.name(child);
-                let text = format!(in alloc; "{group}: {name}")?;
-                items.say(1, "choice", text)?;
+                texts.push(format!(in alloc; "{group}: {name}")?)?;
             }
         }
     }
-    Ok(())
+    if texts.is_empty() {
+        return Ok(());
+    }
+    let mut text = String::new(alloc);
+    put_texts(&mut text, &texts, MOST_CHOICES)?;
+    items.say(1, "choice", text)
 }
 
 /// Tells why a domain has no settings.
@@ -130,6 +137,10 @@ fn tell_none(
     };
     let mut told = 0usize;
     tell_empty(items, 1, empty, &[], &mut told, story.nodes.len())?;
+    if told >= MOST_TOLD {
+        let text = String::from_str(items.alloc(), "further selections fail too")?;
+        items.say(1, "", text)?;
+    }
     let people = asked_in(items.alloc(), story, index, false)?;
     tell_changes(items, setting, story, story.path(domain.root), &people)
 }

@@ -20,14 +20,10 @@ pub(crate) enum Edit {
     NoMemory(Field),
     /// A bound is left out of all entries.
     NoBound(Field),
-    /// The usage is without `cpu`.
-    NoCpu,
-    /// All entries are left out.
-    NoEntries,
 }
 
 /// The changes that are tried, those that are mostly meant first.
-pub(crate) const EDITS: [Edit; 26] = [
+pub(crate) const EDITS: [Edit; 24] = [
     Edit::Supports(Field::RamDomainSupported),
     Edit::Supports(Field::CpuDomainSupported),
     Edit::Supports(Field::InaccessibleDomainSupported),
@@ -52,13 +48,11 @@ pub(crate) const EDITS: [Edit; 26] = [
     Edit::NoMemory(Field::PermittedHeaps),
     Edit::NoMemory(Field::PhysicallyContiguousRequired),
     Edit::NoMemory(Field::SecureRequired),
-    Edit::NoCpu,
-    Edit::NoEntries,
 ];
 
 /// Constraints after a change, with what is changed in words.
 #[derive(Drop)]
-pub(crate) struct Edited {
+pub(crate) struct Changed {
     pub(crate) value: Value,
     pub(crate) words: String,
 }
@@ -68,14 +62,12 @@ pub(crate) fn edited(
     alloc: Global,
     value: &Value,
     edit: Edit,
-) -> Result<Option<Edited>, AllocError> {
+) -> Result<Option<Changed>, AllocError> {
     match edit {
         Edit::Supports(field) => supporting(alloc, value, field.name()),
         Edit::NoCount(field) => without(alloc, value, field.name()),
         Edit::NoMemory(field) => without_memory(alloc, value, field.name()),
         Edit::NoBound(field) => without_bound(alloc, value, field.name()),
-        Edit::NoCpu => without_cpu(alloc, value),
-        Edit::NoEntries => without(alloc, value, ENTRIES),
     }
 }
 
@@ -133,7 +125,7 @@ fn words_without(alloc: Global, key: &str, value: &Value) -> Result<String, Allo
     Ok(words)
 }
 
-fn supporting(alloc: Global, value: &Value, key: &str) -> Result<Option<Edited>, AllocError> {
+fn supporting(alloc: Global, value: &Value, key: &str) -> Result<Option<Changed>, AllocError> {
     let memory = value.get(MEMORY);
     let is = match memory.and_then(|memory| memory.get(key)) {
         Some(Value::Bool(true)) => return Ok(None),
@@ -141,23 +133,23 @@ fn supporting(alloc: Global, value: &Value, key: &str) -> Result<Option<Edited>,
         None => "is absent, so false",
     };
     let object = with(alloc, memory, key, Value::Bool(true))?;
-    Ok(Some(Edited {
+    Ok(Some(Changed {
         value: with(alloc, Some(value), MEMORY, object)?,
         words: format!(in alloc; "{key} true ({is})")?,
     }))
 }
 
-fn without(alloc: Global, value: &Value, key: &str) -> Result<Option<Edited>, AllocError> {
+fn without(alloc: Global, value: &Value, key: &str) -> Result<Option<Changed>, AllocError> {
     let Some(member) = value.get(key) else {
         return Ok(None);
     };
-    Ok(Some(Edited {
+    Ok(Some(Changed {
         value: lacking(alloc, value, key)?,
         words: words_without(alloc, key, member)?,
     }))
 }
 
-fn without_memory(alloc: Global, value: &Value, key: &str) -> Result<Option<Edited>, AllocError> {
+fn without_memory(alloc: Global, value: &Value, key: &str) -> Result<Option<Changed>, AllocError> {
     let Some(memory) = value.get(MEMORY) else {
         return Ok(None);
     };
@@ -165,13 +157,13 @@ fn without_memory(alloc: Global, value: &Value, key: &str) -> Result<Option<Edit
         return Ok(None);
     };
     let object = lacking(alloc, memory, key)?;
-    Ok(Some(Edited {
+    Ok(Some(Changed {
         value: with(alloc, Some(value), MEMORY, object)?,
         words: words_without(alloc, key, member)?,
     }))
 }
 
-fn without_bound(alloc: Global, value: &Value, key: &str) -> Result<Option<Edited>, AllocError> {
+fn without_bound(alloc: Global, value: &Value, key: &str) -> Result<Option<Changed>, AllocError> {
     let Some(entries) = value.get(ENTRIES).and_then(Value::as_array) else {
         return Ok(None);
     };
@@ -188,30 +180,8 @@ fn without_bound(alloc: Global, value: &Value, key: &str) -> Result<Option<Edite
     if words.is_empty() {
         return Ok(None);
     }
-    Ok(Some(Edited {
+    Ok(Some(Changed {
         value: with(alloc, Some(value), ENTRIES, Value::Array(copy))?,
         words,
-    }))
-}
-
-fn without_cpu(alloc: Global, value: &Value) -> Result<Option<Edited>, AllocError> {
-    let Some(usages) = value.get("usage").and_then(Value::as_array) else {
-        return Ok(None);
-    };
-    let mut copy = Vec::new(alloc);
-    for usage in usages {
-        if usage.as_str() != Some("cpu") {
-            copy.push(usage.clone()?)?;
-        }
-    }
-    if copy.len() == usages.len() {
-        return Ok(None);
-    }
-    if copy.is_empty() {
-        copy.push(Value::String(String::from_str(alloc, "none")?))?;
-    }
-    Ok(Some(Edited {
-        value: with(alloc, Some(value), "usage", Value::Array(copy))?,
-        words: String::from_str(alloc, "usage without cpu")?,
     }))
 }

@@ -4,7 +4,7 @@ use crate::asked::{Asked, put_people};
 use crate::counting::{count_text, is_count_line};
 use crate::offering::{distance_of, is_refused, offer_name, offer_reasons, offer_text, offers_of};
 use crate::placing::{has_no_place, place_reasons, places_of, put_place, put_place_reason};
-use crate::rows::{Reason, Row, add, tell_rows};
+use crate::rows::{Reason, Row, add, are_same, tell_rows};
 use crate::story::Story;
 use script_faults::Items;
 use std::alloc::{AllocError, Global};
@@ -58,7 +58,15 @@ pub(crate) fn tell_conflict(
     if offers.iter().all(|offer| is_refused(offer, people, whole)) {
         let head = none_of(alloc, "offer", offers.len())?;
         items.say(depth, "image", head)?;
-        let rows = offer_rows(alloc, story, &offers, people, whole, true)?;
+        let rows = offer_rows(
+            alloc,
+            story,
+            &offers,
+            people,
+            whole,
+            true,
+            platform.colours().len(),
+        )?;
         tell_rows(items, depth.saturating_add(1), "", &rows)?;
     }
     Ok(())
@@ -118,15 +126,17 @@ fn tell_in_the_way(
             kept = rest;
         }
     }
-    let mut text = String::new(alloc);
+    let mut text = String::from_str(alloc, "in the way: ")?;
     put_people(&mut text, story, &kept)?;
     let others = people.len().saturating_sub(kept.len());
     if kept.len() == 1 {
         text.push_str(" can't be met even by itself")?;
-    } else if others > 0 {
+    } else if others == 1 {
+        text.push_str(", whatever the other asks")?;
+    } else if others > 1 {
         write!(text, ", whatever the other {others} ask")?;
     }
-    items.say(depth, "in the way", text)
+    items.say(depth, "", text)
 }
 
 fn all_but<'a>(
@@ -172,7 +182,7 @@ pub(crate) fn place_rows(
     Ok(rows)
 }
 
-/// Rows of offers that participants refuse, in the same way.
+/// Rows of offers that participants refuse, in the same way. A pair that is refused in each of so many colour spaces for the same reasons is named once.
 pub(crate) fn offer_rows(
     alloc: Global,
     story: &Story<'_>,
@@ -180,16 +190,78 @@ pub(crate) fn offer_rows(
     people: &[Asked<'_>],
     whole: bool,
     all: bool,
+    colours: usize,
 ) -> Result<Vec<Row>, AllocError> {
     let mut rows = Vec::new(alloc);
+    let mut pair: Vec<Refused> = Vec::new(alloc);
     for offer in offers {
+        if pair
+            .first()
+            .is_some_and(|first| !are_one_pair(&first.offer, offer))
+        {
+            add_pair(alloc, &mut rows, &pair, colours)?;
+            pair.clear();
+        }
         let reasons = offer_reasons(alloc, offer, people, whole)?;
-        let far = if all { distance_of(&reasons) } else { 0 };
-        let texts = texts_of(alloc, story, offer, &reasons, all)?;
-        let name = offer_name(alloc, offer)?;
-        add(&mut rows, name, texts, far)?;
+        pair.push(Refused {
+            offer: *offer,
+            texts: texts_of(alloc, story, offer, &reasons, all)?,
+            distance: if all { distance_of(&reasons) } else { 0 },
+        })?;
     }
+    add_pair(alloc, &mut rows, &pair, colours)?;
     Ok(rows)
+}
+
+/// An offer that is refused, and why.
+#[derive(Drop)]
+struct Refused {
+    offer: Offer,
+    texts: Vec<String>,
+    distance: usize,
+}
+
+fn are_one_pair(a: &Offer, b: &Offer) -> bool {
+    match (a, b) {
+        (Offer::Image(pair, _), Offer::Image(other, _)) => pair == other,
+        _ => false,
+    }
+}
+
+/// Adds the offers of one pair to the rows.
+fn add_pair(
+    alloc: Global,
+    rows: &mut Vec<Row>,
+    offers: &[Refused],
+    colours: usize,
+) -> Result<(), AllocError> {
+    let Some(first) = offers.first() else {
+        return Ok(());
+    };
+    let is_one = offers.len() == colours
+        && 1 < colours
+        && offers
+            .iter()
+            .all(|other| are_same(&other.texts, &first.texts));
+    for (k, refused) in offers.iter().enumerate() {
+        if is_one && 0 < k {
+            continue;
+        }
+        let name = match &refused.offer {
+            Offer::Image(pair, _) if is_one => {
+                let format = pair.format.name();
+                let modifier = pair.modifier.name();
+                format!(in alloc; "{format} {modifier}")?
+            }
+            offer => offer_name(alloc, offer)?,
+        };
+        let mut texts = Vec::new(alloc);
+        for text in &refused.texts {
+            texts.push(String::from_str(alloc, text)?)?;
+        }
+        add(rows, name, texts, refused.distance)?;
+    }
+    Ok(())
 }
 
 fn texts_of(

@@ -52,7 +52,8 @@ pub(crate) fn add(
     Ok(())
 }
 
-fn are_same(a: &[String], b: &[String]) -> bool {
+/// Whether the texts are the same.
+pub(crate) fn are_same(a: &[String], b: &[String]) -> bool {
     a.len() == b.len() && a.iter().zip(b).all(|(x, y)| x.as_str() == y.as_str())
 }
 

@@ -10,7 +10,7 @@ use sysmem_sanitise::Platform;
 use sysmem_tree::NodeKind;
 
 /// How many failing selections are told.
-const MOST_TOLD: usize = 12;
+pub(crate) const MOST_TOLD: usize = 12;
 
 /// A group, and the child that is chosen of it.
 #[derive(Clone, Copy, Debug)]
@@ -29,7 +29,7 @@ struct Settled {
 }
 
 /// What choices settle in a domain.
-fn settled(
+fn walk(
     alloc: Global,
     story: &Story<'_>,
     root: usize,
@@ -88,14 +88,14 @@ pub(crate) fn tell_empty(
     levels: usize,
 ) -> Result<(), AllocError> {
     let alloc = items.alloc();
-    let walk = settled(alloc, empty.story, empty.root, choices)?;
-    let people = asked_by(alloc, empty.story, &walk.nodes)?;
-    let whole = walk.open.is_none();
+    let settled = walk(alloc, empty.story, empty.root, choices)?;
+    let people = asked_by(alloc, empty.story, &settled.nodes)?;
+    let whole = settled.open.is_none();
     if whole || is_unmet(alloc, empty.platform, &people)? {
         *told = told.saturating_add(1);
         return tell_conflict(items, depth, empty.platform, empty.story, &people, whole);
     }
-    let (Some(group), Some(fewer)) = (walk.open, levels.checked_sub(1)) else {
+    let (Some(group), Some(fewer)) = (settled.open, levels.checked_sub(1)) else {
         return Ok(());
     };
     tell_group(items, depth, empty, choices, told, fewer, group)
@@ -117,8 +117,6 @@ fn tell_group(
     let mut names: Vec<&str> = Vec::new(alloc);
     for child in empty.story.children(alloc, group)? {
         if *told >= MOST_TOLD {
-            let text = String::from_str(alloc, "further selections fail too")?;
-            items.say(depth, "", text)?;
             break;
         }
         let mut longer = Vec::from_slice(alloc, choices)?;

@@ -1,7 +1,7 @@
 //! What is tried: the script's calls with others behind them or in their place.
 
 use script_reading::Call;
-use script_run::{Told, tell};
+use script_run::{Replayed, replay};
 use std::alloc::{AllocError, Global};
 use sysmem_sanitise::Platform;
 
@@ -14,9 +14,9 @@ pub(crate) struct Setting<'a> {
 
 impl<'a> Setting<'a> {
     /// What these calls do on the platform.
-    pub(crate) fn tell(&self, alloc: Global, calls: &[Call<'_>]) -> Result<Told, AllocError> {
+    pub(crate) fn tell(&self, alloc: Global, calls: &[Call<'_>]) -> Result<Replayed, AllocError> {
         let platform = self.platform.copy()?;
-        tell(alloc, platform, calls)
+        replay(alloc, platform, calls)
     }
 }
 

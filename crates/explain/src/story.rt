@@ -5,7 +5,7 @@ ghost use Rattle.sysmem_tree.specs.Nodes.{HasNode};
 use certificate_text::push_path;
 use script_faults::actor_of;
 use script_reading::{Act, Call};
-use script_run::Told;
+use script_run::Replayed;
 use serde_json::Value;
 use std::alloc::{AllocError, Global};
 use sysmem_alloc::Book;
@@ -157,7 +157,7 @@ pub(crate) fn story_of<'a>(
     alloc: Global,
     value: &'a Value,
     calls: &[Call<'a>],
-    told: &'a Told,
+    told: &'a Replayed,
 ) -> Result<Story<'a>, AllocError> {
     let tree = told.book().tree();
     let mut story = Story {
@@ -177,7 +177,7 @@ fn calls_of<'a>(
     alloc: Global,
     value: &'a Value,
     calls: &[Call<'a>],
-    told: &'a Told,
+    told: &'a Replayed,
 ) -> Result<Vec<Made<'a>>, AllocError> {
     let mut made = Vec::new(alloc);
     let values = value.get("calls").and_then(Value::as_array);
@@ -247,7 +247,7 @@ fn index_of(tree: &Tree, domain: DomainId) -> usize {
 }
 
 /// Gives each node the name that the script has for it.
-fn name_nodes<'a>(story: &mut Story<'a>, calls: &[Call<'a>], told: &Told) {
+fn name_nodes<'a>(story: &mut Story<'a>, calls: &[Call<'a>], told: &Replayed) {
     if let Some(root) = story.nodes.first_mut() {
         root.name = "root";
     }
@@ -297,7 +297,7 @@ fn settings_in(verdict: Option<&Verdict>) -> Option<Settings> {
 }
 
 /// Reads of the report what became of each domain, and after which call.
-fn read_lines<'a>(story: &mut Story<'a>, told: &'a Told) -> Result<(), AllocError> {
+fn read_lines<'a>(story: &mut Story<'a>, told: &'a Replayed) -> Result<(), AllocError> {
     let mut number = 0usize;
     for line in told.report.text.lines() {
         if !is_domain_line(line) {

@@ -18,24 +18,24 @@ pub fn explain_file<R: Source, W: Sink>(
     writer: &mut W,
 ) -> Result<Outcome, RunFault> {
     let bytes = read_up_to_limit(alloc, reader, LONGEST)?;
-    let Ok(told) = told(alloc, file, &bytes) else {
+    let Ok(printed) = printed_of(alloc, file, &bytes) else {
         return Err(RunFault::NoMemory);
     };
-    write_fully(writer, told.text.as_bytes())?;
-    Ok(told.outcome)
+    write_fully(writer, printed.text.as_bytes())?;
+    Ok(printed.outcome)
 }
 
 /// An explanation's text.
 #[derive(Debug, Drop)]
-struct Told {
+struct Printed {
     outcome: Outcome,
     text: String,
 }
 
-fn told(alloc: Global, file: &str, bytes: &[u8]) -> Result<Told, AllocError> {
+fn printed_of(alloc: Global, file: &str, bytes: &[u8]) -> Result<Printed, AllocError> {
     let explanation = explain(alloc, file, bytes)?;
     let text = text_of(alloc, &explanation.items)?;
-    Ok(Told {
+    Ok(Printed {
         outcome: explanation.outcome,
         text,
     })

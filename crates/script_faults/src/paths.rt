@@ -6,6 +6,9 @@ use serde_json::Value;
 use std::alloc::{AllocError, Global};
 use std::fmt::Write;
 
+/// How many characters of a key are shown.
+const MOST: usize = 60;
+
 /// A path from the script to a value in it.
 pub(crate) type Path<'a> = Vec<Step<'a>>;
 
@@ -54,10 +57,23 @@ pub(crate) fn put_path(text: &mut String, path: &[Step<'_>]) -> Result<(), Alloc
                 if 0 < k {
                     text.push_str(".")?;
                 }
-                put_visible(text, key)?;
+                put_key(text, key)?;
             }
             Step::Item(index) => write!(text, "[{index}]")?,
         }
+    }
+    Ok(())
+}
+
+/// Puts a key behind a text, the front of it where it is long.
+fn put_key(text: &mut String, key: &str) -> Result<(), AllocError> {
+    let mut front = String::new(*text.allocator());
+    for c in key.chars().take(MOST) {
+        front.push(c)?;
+    }
+    put_visible(text, &front)?;
+    if front.len() < key.len() {
+        text.push_str("...")?;
     }
     Ok(())
 }

@@ -101,12 +101,10 @@ fn missing<'a>(
     at: &str,
     is_platform: bool,
 ) -> Result<Said<'a>, AllocError> {
-    let object = match path.split_last() {
-        Some((_, object)) => object,
-        None => path,
-    };
+    let mut object = Vec::from_slice(alloc, path)?;
+    let _missing = object.pop();
     Ok(Said {
-        path: Vec::from_slice(alloc, object)?,
+        path: object,
         part: Part::Begin,
         note: format!(in alloc; "{at} is missing")?,
         helps: needed(alloc, "needed", allowed(at, is_platform))?,
@@ -170,13 +168,12 @@ fn of_side<'a>(
     value: &'a Value,
 ) -> Result<Said<'a>, AllocError> {
     let at = faulty.fault.at.name();
-    let mut side = "height";
-    if !value
-        .get("width")
-        .is_some_and(|width| is_number_within(width, 0, 4294967295))
-    {
-        side = "width";
-    }
+    let width = value.get("width");
+    let side = if width.is_some_and(|width| is_number_within(width, 0, 4294967295)) {
+        "height"
+    } else {
+        "width"
+    };
     let helps = needed(alloc, "allowed", allowed(at, faulty.is_platform))?;
     let Some(number) = value.get(side) else {
         return Ok(Said {

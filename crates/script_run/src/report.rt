@@ -11,7 +11,7 @@ ghost use Rattle.sysmem_tree.specs.Domain.{HasDomain};
 
 use crate::decider::{Decider, Stop};
 use crate::domain_line::put_domain;
-use crate::told::told_of;
+use crate::replayed::replayed_of;
 use script_reading::Call;
 use std::alloc::{AllocError, Global};
 use sysmem_alloc::Book;
@@ -43,8 +43,8 @@ pub(crate) fn report_of<D: Decider>(
         (D.objects decider.new))) }
     ensures given { D.given decider.new ≡ D.given decider.old }
 {
-    match told_of(alloc, platform, calls, decider) {
-        Ok(told) => Ok(told.into_report()),
+    match replayed_of(alloc, platform, calls, decider) {
+        Ok(replayed) => Ok(replayed.into_report()),
         Err(stop) => Err(stop),
     }
 }

@@ -18,12 +18,12 @@ use sysmem_sanitise::Platform;
 
 /// A collection on which calls were made, and their report.
 #[derive(Debug, Drop)]
-pub struct Told {
+pub struct Replayed {
     pub report: Report,
     runner: Runner,
 }
 
-impl Told {
+impl Replayed {
     /// The book of the collection, as the last call left it.
     pub fn book(&self) -> &Book {
         self.runner.book()
@@ -39,7 +39,7 @@ impl Told {
     pub(crate) fn into_report(self) -> Report
         ensures { result ≡ self.report }
     {
-        let Told {
+        let Replayed {
             report,
             runner: _runner,
         } = self;
@@ -49,27 +49,27 @@ impl Told {
 
 /// Makes the calls on a platform, as `run` does, and keeps the collection beside their report. `AllocError` where memory is refused outside of a reply or
 /// a decision.
-pub fn tell(alloc: Global, platform: Platform, calls: &[Call<'_>]) -> Result<Told, AllocError>
-    ensures { IfOk result (λ told. IsReported platform (map call_seen calls.now)
-        (anyhow platform) (string_bytes told.report.text) told.report.starved) }
+pub fn replay(alloc: Global, platform: Platform, calls: &[Call<'_>]) -> Result<Replayed, AllocError>
+    ensures { IfOk result (λ replayed. IsReported platform (map call_seen calls.now)
+        (anyhow platform) (string_bytes replayed.report.text) replayed.report.starved) }
 {
-    match told_of(alloc, platform, calls, &mut Searching) {
-        Ok(told) => Ok(told),
+    match replayed_of(alloc, platform, calls, &mut Searching) {
+        Ok(replayed) => Ok(replayed),
         Err(_) => Err(AllocError),
     }
 }
 
 /// The calls on a platform, made in their order on one collection whose domains are decided so. Memory that is refused outside of a reply or
 /// a decision is the `Err`, and so is an objection to a decision.
-pub(crate) fn told_of<D: Decider>(
+pub(crate) fn replayed_of<D: Decider>(
     alloc: Global,
     platform: Platform,
     calls: &[Call<'_>],
     decider: &mut D,
-) -> Result<Told, Stop>
+) -> Result<Replayed, Stop>
     requires { D.gave decider.old platform [] }
-    ensures report { IfOk result (λ told. IsReported platform (map call_seen calls.now)
-        (D.gave decider.new platform) (string_bytes told.report.text) told.report.starved) }
+    ensures report { IfOk result (λ replayed. IsReported platform (map call_seen calls.now)
+        (D.gave decider.new platform) (string_bytes replayed.report.text) replayed.report.starved) }
     ensures stops { IfErr result (λ stop. IfObjects stop (IsStopped platform
         (map call_seen calls.now) (D.gave decider.old platform) (D.gave decider.new platform)
         (D.objects decider.new))) }
@@ -87,5 +87,5 @@ pub(crate) fn told_of<D: Decider>(
         text,
         starved: runner.is_starved(),
     };
-    Ok(Told { report, runner })
+    Ok(Replayed { report, runner })
 }
