@@ -1,7 +1,8 @@
 //! Single changes that make an empty decision one that chooses, found by trying each.
 
 use crate::asked::{Asked, stated};
-use crate::edits::{EDITS, edited};
+use crate::edits::{EDITS, Edit, edited};
+use crate::leasts::Halving;
 use crate::setting::{Setting, told_of};
 use crate::story::Story;
 use script_faults::{Items, Kind};
@@ -12,6 +13,8 @@ use sysmem_sanitise::read_constraints;
 
 /// How many changes are told.
 const MOST: usize = 5;
+/// How often the way to the least change is halved.
+const MOST_HALVINGS: usize = 140;
 /// How many are tried.
 const TRIES: usize = 200;
 
@@ -42,13 +45,27 @@ pub(crate) fn tell_changes(
                 continue;
             };
             tried = tried.saturating_add(1);
-            let outcome = outcome_of(alloc, setting, story, path, one.node, &change.value)?;
-            let Some(line) = outcome else {
+            let trial = Trial {
+                setting,
+                story,
+                path,
+                node: one.node,
+            };
+            let Some(line) = trial.outcome(alloc, &change.value)? else {
                 continue;
             };
             let label = LABELS.get(count).copied().unwrap_or("");
             count = count.saturating_add(1);
-            put_change(&mut found, story, one.node, label, &change.words, line)?;
+            let least = trial.least(
+                alloc,
+                value,
+                edit,
+                Found {
+                    words: change.words,
+                    line,
+                },
+            )?;
+            put_change(&mut found, story, one.node, label, &least.words, least.line)?;
         }
     }
     put_head(items, count, tried)?;
@@ -80,24 +97,71 @@ fn put_change(
     items.push(Kind::Decision, 3, "->", line)
 }
 
-/// What the domain at a path becomes where a participant states these constraints, if it is chosen then.
-fn outcome_of(
-    alloc: Global,
-    setting: &Setting<'_>,
-    story: &Story<'_>,
-    path: &str,
+/// A change that helps, with the decision that comes then.
+#[derive(Drop)]
+struct Found {
+    words: String,
+    line: String,
+}
+
+/// Trying constraints of a participant, for the domain at a path.
+#[derive(Clone, Copy)]
+struct Trial<'a, 'b> {
+    setting: &'b Setting<'a>,
+    story: &'b Story<'a>,
+    path: &'b str,
     node: usize,
-    value: &Value,
-) -> Result<Option<String>, AllocError> {
-    if read_constraints(alloc, value).is_err() {
-        return Ok(None);
+}
+
+impl Trial<'_, '_> {
+    /// What the domain becomes where the participant states these constraints, if it is chosen then.
+    fn outcome(&self, alloc: Global, value: &Value) -> Result<Option<String>, AllocError> {
+        if read_constraints(alloc, value).is_err() {
+            return Ok(None);
+        }
+        let number = self
+            .story
+            .deed(self.node, &["set_constraints"])
+            .unwrap_or(0);
+        let calls = replaced(alloc, self.setting.calls, number, value)?;
+        let told = self.setting.tell(alloc, &calls)?;
+        match told_of(told.report.text.as_str(), self.path) {
+            Some(line) if line.starts_with("chosen ") => {
+                Ok(Some(String::from_str(alloc, line)?))
+            }
+            _ => Ok(None),
+        }
     }
-    let number = story.deed(node, &["set_constraints"]).unwrap_or(0);
-    let calls = replaced(alloc, setting.calls, number, value)?;
-    let told = setting.tell(alloc, &calls)?;
-    match told_of(told.report.text.as_str(), path) {
-        Some(line) if line.starts_with("chosen ") => { Ok(Some(String::from_str(alloc, line)?)) }
-        _ => Ok(None),
+
+    /// The least change of the field that an edit leaves out, where leaving it out does.
+    fn least(
+        &self,
+        alloc: Global,
+        value: &Value,
+        edit: Edit,
+        found: Found,
+    ) -> Result<Found, AllocError> {
+        let mut best = found;
+        let Some(mut halving) = Halving::of(value, edit, &best.line) else {
+            return Ok(best);
+        };
+        for _halving in 0..MOST_HALVINGS {
+            let Some(amount) = halving.next() else {
+                break;
+            };
+            let Some(change) = halving.changed(alloc, value, amount)? else {
+                break;
+            };
+            let outcome = self.outcome(alloc, &change.value)?;
+            halving.learn(amount, outcome.is_some());
+            if let Some(line) = outcome {
+                best = Found {
+                    words: change.words,
+                    line,
+                };
+            }
+        }
+        Ok(best)
     }
 }
 

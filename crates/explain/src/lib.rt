@@ -17,6 +17,7 @@ mod edits;
 mod empty;
 mod explaining;
 mod fixed;
+mod leasts;
 mod offering;
 mod pending;
 mod placing;

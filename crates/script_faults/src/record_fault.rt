@@ -94,6 +94,10 @@ fn needed(alloc: Global, word: &str, what: &str) -> Result<Vec<String>, AllocErr
     one(alloc, help)
 }
 
+fn missing_note(alloc: Global, name: &str) -> Result<String, AllocError> {
+    format!(in alloc; "{name} is missing")
+}
+
 /// A field that isn't there: the object that lacks it is pointed at.
 fn missing<'a>(
     alloc: Global,
@@ -106,7 +110,7 @@ fn missing<'a>(
     Ok(Said {
         path: object,
         part: Part::Begin,
-        note: format!(in alloc; "{at} is missing")?,
+        note: missing_note(alloc, at)?,
         helps: needed(alloc, "needed", allowed(at, is_platform))?,
     })
 }
@@ -179,7 +183,7 @@ fn of_side<'a>(
         return Ok(Said {
             path,
             part: Part::Begin,
-            note: format!(in alloc; "{side} is missing")?,
+            note: missing_note(alloc, side)?,
             helps,
         });
     };
