@@ -8,7 +8,7 @@ ghost use Rattle.json_places.specs.Places.{IsPlaceOf, IsSpelling};
 
 use crate::keys::{Span, Step, is_spelled};
 use crate::machine::Machine;
-use crate::taken::{Halt, Mark, Taken};
+use crate::taken::{Halt, Mark};
 use serde_json::Value;
 use std::alloc::{AllocError, Global};
 
@@ -48,16 +48,16 @@ impl<'a> Finder<'a> {
 
     /// Takes the byte at this place. Of a key that an object has twice the last counts.
     fn take(&mut self, at: usize, byte: u8) -> Result<(), Halt> {
-        let taken = self.machine.take(at, byte)?;
-        if taken.number_ended {
+        if self.machine.end_number(at, byte) {
             self.ended(at);
         }
-        self.marked(at, taken)?;
+        let mark = self.machine.take(at, byte)?;
+        self.marked(at, mark)?;
         Ok(())
     }
 
-    fn marked(&mut self, at: usize, taken: Taken) -> Result<(), AllocError> {
-        match taken.mark {
+    fn marked(&mut self, at: usize, mark: Mark) -> Result<(), AllocError> {
+        match mark {
             Mark::Begins => {
                 let around = self.machine.open().len();
                 self.began(at, around, false)

@@ -1,7 +1,7 @@
 //! Reads a JSON text a byte at a time, and keeps what is open.
 
 use crate::keys::Span;
-use crate::taken::{Expected, Halt, Mark, Taken};
+use crate::taken::{Expected, Halt, Mark};
 use std::alloc::Global;
 
 /// How many lists and objects may be open at once.
@@ -138,22 +138,43 @@ impl Machine {
         )
     }
 
-    /// Takes the byte at this place.
-    pub(crate) fn take(&mut self, at: usize, byte: u8) -> Result<Taken, Halt> {
-        let number_ended = self.ends_number(byte);
-        if number_ended {
+    /// Whether a number ends before this byte, which then is complete.
+    pub(crate) fn end_number(&mut self, at: usize, byte: u8) -> bool {
+        let ends = self.ends_number(byte);
+        if ends {
             self.complete(at);
         }
-        let mark = self.mark(at, byte)?;
-        Ok(Taken { number_ended, mark })
+        ends
+    }
+
+    /// Takes the byte at this place, where no number ends before it.
+    pub(crate) fn take(&mut self, at: usize, byte: u8) -> Result<Mark, Halt> {
+        match self.state {
+            State::Value => self.value(at, byte),
+            State::FirstItem => if byte == b']' {
+                self.close(at)
+            } else {
+                self.value(at, byte)
+            },
+            State::FirstKey => if byte == b'}' {
+                self.close(at)
+            } else {
+                self.key(at, byte)
+            },
+            State::Key => self.key(at, byte),
+            State::Colon => self.colon(byte),
+            State::After => self.after(at, byte),
+            State::Text | State::Escape | State::Hex(_) | State::SecondSlash | State::SecondU => {
+                self.text(at, byte)
+            }
+            State::Word(word, done) => self.word(at, byte, word, done),
+            _ => self.number(byte),
+        }
     }
 
     /// At the end of the text: whether a number ended with it, or what is due.
     pub(crate) fn finish(&mut self, at: usize) -> Result<bool, Expected> {
-        let number_ended = self.ends_number(b' ');
-        if number_ended {
-            self.complete(at);
-        }
+        let number_ended = self.end_number(at, b' ');
         if matches!(self.state, State::After) && self.open.is_empty() {
             return Ok(number_ended);
         }
@@ -218,30 +239,6 @@ impl Machine {
 
     fn wrong(&self) -> Result<Mark, Halt> {
         Err(Halt::Wrong(self.due()))
-    }
-
-    fn mark(&mut self, at: usize, byte: u8) -> Result<Mark, Halt> {
-        match self.state {
-            State::Value => self.value(at, byte),
-            State::FirstItem => if byte == b']' {
-                self.close(at)
-            } else {
-                self.value(at, byte)
-            },
-            State::FirstKey => if byte == b'}' {
-                self.close(at)
-            } else {
-                self.key(at, byte)
-            },
-            State::Key => self.key(at, byte),
-            State::Colon => self.colon(byte),
-            State::After => self.after(at, byte),
-            State::Text | State::Escape | State::Hex(_) | State::SecondSlash | State::SecondU => {
-                self.text(at, byte)
-            }
-            State::Word(word, done) => self.word(at, byte, word, done),
-            _ => self.number(byte),
-        }
     }
 
     /// A byte where a value is due.

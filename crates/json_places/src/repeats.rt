@@ -27,8 +27,9 @@ pub fn repeated_keys(
     let mut keys = Vec::new(alloc);
     let mut repeats = Vec::new(alloc);
     for (at, byte) in bytes.iter().enumerate() {
+        let _ended = machine.end_number(at, *byte);
         match machine.take(at, *byte) {
-            Ok(taken) => match taken.mark {
+            Ok(mark) => match mark {
                 Mark::KeyEnds => note(&machine, bytes, &mut keys, &mut repeats)?,
                 Mark::Ends => leave(&machine, &mut keys),
                 _ => {}

@@ -21,10 +21,11 @@ pub struct Stop {
 pub fn stop_of(alloc: Global, bytes: &[u8]) -> Result<Option<Stop>, AllocError> {
     let mut machine = Machine::new(alloc);
     for (at, byte) in bytes.iter().enumerate() {
+        if machine.end_number(at, *byte) && is_too_great(alloc, &machine, bytes, at)? {
+            return stopped(alloc, &machine, bytes, machine.begin(), Expected::Smaller);
+        }
         match machine.take(at, *byte) {
-            Ok(taken) => if taken.number_ended && is_too_great(alloc, &machine, bytes, at)? {
-                return stopped(alloc, &machine, bytes, machine.begin(), Expected::Smaller);
-            },
+            Ok(_) => {}
             Err(Halt::NoMemory) => return Err(AllocError),
             Err(Halt::Wrong(expected)) => {
                 return stopped(alloc, &machine, bytes, at, expected);

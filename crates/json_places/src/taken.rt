@@ -108,11 +108,3 @@ pub(crate) enum Mark {
     /// A key ends with this byte.
     KeyEnds,
 }
-
-/// What a byte does.
-#[derive(Clone, Copy, Debug)]
-pub(crate) struct Taken {
-    /// Whether a number ended before it.
-    pub(crate) number_ended: bool,
-    pub(crate) mark: Mark,
-}
