@@ -6,14 +6,17 @@
 //! ```
 #![tactic(auto)]
 
+mod amiss;
 mod constraints;
 mod copying;
+mod distinct;
 mod equal;
 mod fault;
 pub mod laws;
 mod platform;
 mod reading;
 
+pub use amiss::amiss_in_entry;
 pub use constraints::Constraints;
 pub use fault::{Code, Fault, FaultPlace};
 pub use platform::Platform;
