@@ -26,6 +26,20 @@ added numbers path are = ap (λ xs. paths_in ((xs ++ length path ∷ []) ++ path
 pub added_are : (numbers : List ℕ) (path : List ℕ) → AreOfPaths numbers → AreOfPaths ((numbers ++ length path ∷ []) ++ path)
 added_are numbers path are = ap (λ xs. (xs ++ length path ∷ []) ++ path) are ∙ (sym (one_more (paths_in numbers) path) ∙ ap numbers_of (sym (added numbers path are)))
 
+-- the numbers of some paths and those of others behind them
+numbers_join : (ps qs : List (List ℕ)) → numbers_of (ps ++ qs) ≡ numbers_of ps ++ numbers_of qs
+numbers_join [] qs = refl
+numbers_join (p ∷ ps) qs = ap (λ xs. length p ∷ xs) (ap (λ xs. p ++ xs) (numbers_join ps qs) ∙ sym (append_assoc p (numbers_of ps) (numbers_of qs)))
+
+-- other paths, behind numbers of paths
+pub joined : (a b : List ℕ) → AreOfPaths a → AreOfPaths b → paths_in (a ++ b) ≡ paths_in a ++ paths_in b
+joined a b one other = ap (λ xs. paths_in (xs ++ b)) one
+    ∙ (ap (λ xs. paths_in (numbers_of (paths_in a) ++ xs)) other ∙ (ap paths_in (sym (numbers_join (paths_in a) (paths_in b))) ∙ read_back (paths_in a ++ paths_in b)))
+
+pub joined_are : (a b : List ℕ) → AreOfPaths a → AreOfPaths b → AreOfPaths (a ++ b)
+joined_are a b one other = ap (λ xs. xs ++ b) one
+    ∙ (ap (λ xs. numbers_of (paths_in a) ++ xs) other ∙ (sym (numbers_join (paths_in a) (paths_in b)) ∙ ap numbers_of (sym (joined a b one other))))
+
 -- what stands behind the first of some numbers of paths: that many steps, and numbers of the other paths
 pub record Begins (many : ℕ) (behind : List ℕ) : Type 0 where
   pub path : List ℕ

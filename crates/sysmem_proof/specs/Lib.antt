@@ -15,6 +15,7 @@ pub mod Cannot
 pub mod Finder
 pub mod Found
 pub mod Roll
+pub mod Roster
 pub mod EachLine
 pub mod Whom
 pub mod Refusals

@@ -32,12 +32,23 @@ impl Model for Line {
 }
 
 impl Line {
+    ghost use Rattle.std.specs.Arc.{arc_value};
+
     /// This field, for the participants at these paths. Any are a line; whether it is true is a checker's matter. `AllocError` where
     /// memory is refused.
     pub fn new(alloc: Global, field: Field, nodes: PathList) -> Result<Line, AllocError>
         ensures { IfOk result (λ line. line ≡ record { field = field; nodes = nodes }) }
     {
         let nodes = Arc::new(alloc, nodes)?;
+        Ok(Line { field, nodes })
+    }
+
+    /// This field, for the participants at the paths of a list that other lines share.
+    pub(crate) fn sharing(field: Field, nodes: &Arc<PathList>) -> Result<Line, AllocError>
+        ensures { IfOk result (λ line. line
+            ≡ record { field = field; nodes = arc_value nodes.now }) }
+    {
+        let nodes = Arc::try_clone(nodes)?;
         Ok(Line { field, nodes })
     }
 

@@ -48,6 +48,15 @@ impl PathList {
         Ok(PathList { numbers })
     }
 
+    /// These paths and behind them those of the other list. `AllocError` where memory is refused.
+    pub(crate) fn with_those(self, others: &PathList) -> Result<PathList, AllocError>
+        ensures { IfOk result (λ list. list ≡ self ++ others.now) }
+    {
+        let PathList { mut numbers } = self;
+        numbers.extend_from_slice(others.numbers.as_slice())?;
+        Ok(PathList { numbers })
+    }
+
     /// The same paths, without room that isn't used. `AllocError` where the smaller room is refused.
     pub(crate) fn fitted(self) -> Result<PathList, AllocError>
         ensures { IfOk result (λ list. list ≡ self) }

@@ -12,6 +12,7 @@ ghost use Rattle.sysmem_merge.specs.Reasons.{IsOfferLine, IsUnnamedLine};
 ghost use Rattle.sysmem_proof.specs.Conflict.{RefusesOffer, RefusesPlace};
 ghost use Rattle.sysmem_proof.specs.Members.{members_at};
 ghost use Rattle.sysmem_proof.specs.Refusals.{AreRefusals, AreSoFar, Ends, GoOn, RefusesLast, ShareOffer, SharePlace, StandFor};
+ghost use Rattle.sysmem_proof.specs.Roster.{IsRosterOf};
 ghost use Rattle.sysmem_proof.specs.Whom.{names};
 ghost use Rattle.sysmem_sanitise.specs.Participant.{Participant};
 ghost use Rattle.sysmem_sanitise.specs.Platform.{offers_of};
@@ -21,8 +22,9 @@ ghost use Rattle.sysmem_tree.specs.Shape.{Member};
 use crate::first_refusing::{Reading, first_lacking, first_refused, read_offer};
 use crate::line::{Line, Lines};
 use crate::pair_lines::is_shared;
-use crate::whom::{Whom, line_of};
-use std::alloc::{AllocError, Global};
+use crate::roster::Roster;
+use crate::whom::{Whom, line_for, line_of};
+use std::alloc::AllocError;
 use sysmem_counts::Field;
 use sysmem_formats::{Offer, offer_at};
 use sysmem_memory::{CoherencyDomain, HeapInfo, Place};
@@ -101,14 +103,15 @@ fn comes_first(field: Field) -> bool
 
 /// The first line of the table that is true for the offer of the participants at these nodes, `None` where they share it.
 fn offer_line(
-    alloc: Global,
+    roster: &Roster,
     tree: &Tree,
     nodes: &[NodeId],
     offer: &Offer,
     whole: bool,
     before: &[Line],
 ) -> Result<Option<Line>, AllocError>
-    requires { All (HasNode tree.now.nodes) nodes.now }
+    requires roster { IsRosterOf tree.now.nodes roster.now }
+    requires there { All (HasNode tree.now.nodes) nodes.now }
     ensures line { (ms : List Member) → StandFor (members_at tree.now.nodes nodes.now) ms
         → IfOk result (λ line. IfSome line (RefusesOffer whole ms offer.now)) }
     ensures share { (ms : List Member) → StandFor (members_at tree.now.nodes nodes.now) ms
@@ -116,14 +119,14 @@ fn offer_line(
 {
     match read_offer(tree, nodes, offer) {
         Reading::Refused(field, node) => {
-            let line = line_of(alloc, tree, &[node], field, Whom::All, before)?;
+            let line = line_for(roster, tree, node, field)?;
             Ok(Some(line))
         }
         Reading::Read(read) => {
             let Some(field) = read.first_line(whole) else {
                 return Ok(None);
             };
-            let line = line_of(alloc, tree, nodes, field, whom_for(field, offer), before)?;
+            let line = line_of(roster, tree, nodes, field, whom_for(field, offer), before)?;
             Ok(Some(line))
         }
     }
@@ -131,7 +134,7 @@ fn offer_line(
 
 /// The same, where the last of the lines so far is that of an earlier offer: it is taken again where it is the offer's own.
 fn next_line(
-    alloc: Global,
+    roster: &Roster,
     tree: &Tree,
     nodes: &[NodeId],
     earlier: &Offer,
@@ -139,6 +142,7 @@ fn next_line(
     whole: bool,
     before: &[Line],
 ) -> Result<Option<Line>, AllocError>
+    requires roster { IsRosterOf tree.now.nodes roster.now }
     requires there { All (HasNode tree.now.nodes) nodes.now }
     requires last { (ms : List Member) → StandFor (members_at tree.now.nodes nodes.now) ms
         → RefusesLast (RefusesOffer whole ms) earlier.now before.now }
@@ -151,31 +155,32 @@ fn next_line(
     if again.is_some() {
         return Ok(again);
     }
-    offer_line(alloc, tree, nodes, offer, whole, before)
+    offer_line(roster, tree, nodes, offer, whole, before)
 }
 
 /// Lines that refuse each offer of the platform to the participants at these nodes, or each before the first that they share; where it
 /// is given, at most those before `until`. `whole` says that they are all that a decision has.
 pub(crate) fn refused_offers(
-    alloc: Global,
+    roster: &Roster,
     platform: &Platform,
     tree: &Tree,
     nodes: &[NodeId],
     whole: bool,
     until: Option<Offer>,
 ) -> Result<Refusals, AllocError>
-    requires { All (HasNode tree.now.nodes) nodes.now }
+    requires roster { IsRosterOf tree.now.nodes roster.now }
+    requires there { All (HasNode tree.now.nodes) nodes.now }
     ensures { (ms : List Member) → StandFor (members_at tree.now.nodes nodes.now) ms
         → IfOk result (AreRefusals (RefusesOffer whole ms)
         (Ends until (λ (o : Offered). o) (ShareOffer whole ms)) (offers_of platform.now)) }
 {
-    let mut lines = Vec::new(alloc);
+    let mut lines = Vec::new(roster.alloc);
     let mut earlier = Offer::NoImage;
     while let Some(offer) = offer_at(platform.pairs(), platform.colours(), lines.len()) {
         if until == Some(offer) {
             return Ok(Refusals::UpTo(Lines::new(lines)));
         }
-        let Some(line) = next_line(alloc, tree, nodes, &earlier, &offer, whole, &lines)? else {
+        let Some(line) = next_line(roster, tree, nodes, &earlier, &offer, whole, &lines)? else {
             return Ok(Refusals::UpTo(Lines::new(lines)));
         };
         lines.push(line)?;
@@ -186,7 +191,7 @@ pub(crate) fn refused_offers(
 
 /// The line of the first of the participants at these nodes to whom the place is refused, `None` where they share it or it is `until`.
 fn place_line(
-    alloc: Global,
+    roster: &Roster,
     tree: &Tree,
     nodes: &[NodeId],
     place: Place,
@@ -194,7 +199,8 @@ fn place_line(
     until: Option<Place>,
     before: &[Line],
 ) -> Result<Option<Line>, AllocError>
-    requires { All (HasNode tree.now.nodes) nodes.now }
+    requires roster { IsRosterOf tree.now.nodes roster.now }
+    requires there { All (HasNode tree.now.nodes) nodes.now }
     ensures line { (ms : List Member) → StandFor (members_at tree.now.nodes nodes.now) ms
         → IfOk result (λ line. IfSome line
         (RefusesPlace ms (record { place = place; heap = heap.now }))) }
@@ -208,13 +214,13 @@ fn place_line(
     let Some(first) = first_refused(tree, nodes, heap, place.coherency) else {
         return Ok(None);
     };
-    let line = line_of(alloc, tree, &[first.node], first.field, Whom::All, before)?;
+    let line = line_for(roster, tree, first.node, first.field)?;
     Ok(Some(line))
 }
 
 /// Puts the line for a place behind the lines so far, if the heap has it; false where they end at it.
 fn push_place(
-    alloc: Global,
+    roster: &Roster,
     tree: &Tree,
     nodes: &[NodeId],
     place: Place,
@@ -222,7 +228,8 @@ fn push_place(
     until: Option<Place>,
     lines: &mut Vec<Line>,
 ) -> Result<bool, AllocError>
-    requires { All (HasNode tree.now.nodes) nodes.now }
+    requires roster { IsRosterOf tree.now.nodes roster.now }
+    requires there { All (HasNode tree.now.nodes) nodes.now }
     ensures { (ms : List Member) → StandFor (members_at tree.now.nodes nodes.now) ms
         → (xs left : List HeapPlace) → AreSoFar (RefusesPlace ms) xs lines.old.items
         (put_if (has_domain heap.now.domains place.coherency)
@@ -233,7 +240,7 @@ fn push_place(
     if !heap.domains.has(place.coherency) {
         return Ok(true);
     }
-    let Some(line) = place_line(alloc, tree, nodes, place, heap, until, lines)? else {
+    let Some(line) = place_line(roster, tree, nodes, place, heap, until, lines)? else {
         return Ok(false);
     };
     lines.push(line)?;
@@ -242,7 +249,7 @@ fn push_place(
 
 /// Puts the lines for the places of a heap behind the lines so far; false where they end at one of them.
 fn push_heap(
-    alloc: Global,
+    roster: &Roster,
     tree: &Tree,
     nodes: &[NodeId],
     index: usize,
@@ -250,7 +257,8 @@ fn push_heap(
     until: Option<Place>,
     lines: &mut Vec<Line>,
 ) -> Result<bool, AllocError>
-    requires { All (HasNode tree.now.nodes) nodes.now }
+    requires roster { IsRosterOf tree.now.nodes roster.now }
+    requires there { All (HasNode tree.now.nodes) nodes.now }
     ensures { (ms : List Member) → StandFor (members_at tree.now.nodes nodes.now) ms
         → (xs : List HeapPlace) (heaps : List HeapFacts)
         → AreSoFar (RefusesPlace ms) xs lines.old.items
@@ -263,41 +271,42 @@ fn push_heap(
         heap: index,
         coherency: CoherencyDomain::Cpu,
     };
-    if !push_place(alloc, tree, nodes, cpu, heap, until, lines)? {
+    if !push_place(roster, tree, nodes, cpu, heap, until, lines)? {
         return Ok(false);
     }
     let ram = Place {
         heap: index,
         coherency: CoherencyDomain::Ram,
     };
-    if !push_place(alloc, tree, nodes, ram, heap, until, lines)? {
+    if !push_place(roster, tree, nodes, ram, heap, until, lines)? {
         return Ok(false);
     }
     let inaccessible = Place {
         heap: index,
         coherency: CoherencyDomain::Inaccessible,
     };
-    push_place(alloc, tree, nodes, inaccessible, heap, until, lines)
+    push_place(roster, tree, nodes, inaccessible, heap, until, lines)
 }
 
 /// Lines that refuse each place of the platform to the participants at these nodes, or each before the first that they share; where it
 /// is given, at most those before `until`.
 pub(crate) fn refused_places(
-    alloc: Global,
+    roster: &Roster,
     platform: &Platform,
     tree: &Tree,
     nodes: &[NodeId],
     until: Option<Place>,
 ) -> Result<Refusals, AllocError>
-    requires { All (HasNode tree.now.nodes) nodes.now }
+    requires roster { IsRosterOf tree.now.nodes roster.now }
+    requires there { All (HasNode tree.now.nodes) nodes.now }
     ensures { (ms : List Member) → StandFor (members_at tree.now.nodes nodes.now) ms
         → IfOk result (AreRefusals (RefusesPlace ms)
         (Ends until (λ (p : HeapPlace). p.place) (SharePlace ms))
         (places_of platform.now.heaps)) }
 {
-    let mut lines = Vec::new(alloc);
+    let mut lines = Vec::new(roster.alloc);
     for (index, heap) in platform.heaps().iter().enumerate() {
-        if !push_heap(alloc, tree, nodes, index, heap, until, &mut lines)? {
+        if !push_heap(roster, tree, nodes, index, heap, until, &mut lines)? {
             return Ok(Refusals::UpTo(Lines::new(lines)));
         }
     }

@@ -16,7 +16,7 @@ use std::alloc::{AllocError, Global};
 use std::marker::Model;
 use sysmem_merge::Settings;
 use sysmem_merge::laws::sums_in_any_order;
-use sysmem_proof::{Base, Conflict, find_conflict_as};
+use sysmem_proof::{Base, Conflict, Finder};
 use sysmem_sanitise::Platform;
 use sysmem_tree::layout_laws::{choice_settles_share, none_open_is_selection};
 use sysmem_tree::{DomainId, Layout, Prefix, Tree};
@@ -36,10 +36,11 @@ pub(crate) struct Question<'a> {
     parts: Vec<Option<Part>>,
     /// By the number of choices.
     levels: Vec<Level>,
+    finder: Finder<'a>,
 }
 
 impl<'a> Model for Question<'a> {
-    ghost use Rattle.std.specs.Prelude.{option_map};
+    ghost use Rattle.std.specs.Prelude.{◌≡◌, option_map};
     ghost use Rattle.sysmem_search.specs.Standing.{Standing, StandsAt};
     ghost use Rattle.sysmem_tree.specs.Domain.{HasDomain, IsSoundTree};
 
@@ -61,7 +62,13 @@ impl<'a> Model for Question<'a> {
           nodes = q.tree.now.nodes;
           domain = q.domain;
           base = option_map (λ b. b.now) q.base;
-        }) q.layout q.parts.items q.levels.items q.prefix };
+        }) q.layout q.parts.items q.levels.items q.prefix
+        × q.finder ≡ record {
+          platform = q.platform.now;
+          nodes = q.tree.now.nodes;
+          domain = q.domain;
+          base = option_map (λ b. b.now) q.base;
+        } };
 }
 
 impl<'a> Question<'a> {
@@ -103,6 +110,7 @@ impl<'a> Question<'a> {
             prefix: Prefix::new(),
             parts: Vec::new(alloc),
             levels,
+            finder: Finder::new(alloc, platform, tree, domain, base),
         })
     }
 
@@ -166,24 +174,17 @@ impl<'a> Question<'a> {
     }
 
     /// A conflict of the participants that the choices settle, where no settings meet them.
-    pub(crate) fn conflict(&self) -> Result<Conflict, AllocError>
-        requires prefix { IsPrefix (forest self.now.matter) self.now.choices }
-        requires unmet { IfSome (after (forest self.now.matter) self.now.choices)
-            (λ d. (t : Settled) → ¬ (MeetsHere self.now.matter d t)) }
-        ensures { IfOk result (λ conflict. IfSome (after (forest self.now.matter) self.now.choices)
-            (λ d. IsConflictFor self.now.matter.platform (terms self.now.matter) d conflict)) }
+    pub(crate) fn conflict(&mut self) -> Result<Conflict, AllocError>
+        requires prefix { IsPrefix (forest self.old.matter) self.old.choices }
+        requires unmet { IfSome (after (forest self.old.matter) self.old.choices)
+            (λ d. (t : Settled) → ¬ (MeetsHere self.old.matter d t)) }
+        ensures same { self.new ≡ self.old }
+        ensures conflict { IfOk result
+            (λ conflict. IfSome (after (forest self.old.matter) self.old.choices)
+            (λ d. IsConflictFor self.old.matter.platform (terms self.old.matter) d conflict)) }
     {
         let whole = self.children().is_none();
-        let found = find_conflict_as(
-            self.alloc,
-            self.platform,
-            self.tree,
-            self.domain,
-            &self.layout,
-            self.base,
-            &self.prefix,
-            whole,
-        )?;
+        let found = self.finder.conflict(&self.layout, &self.prefix, whole)?;
         match found {
             Some(conflict) => Ok(conflict),
             None => unreachable!(),

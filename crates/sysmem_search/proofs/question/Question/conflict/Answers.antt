@@ -1,41 +1,26 @@
 -- A finder finds none only where some settings meet.
-use Rattle.std.proofs.Common.{◌≡◌, length, sym, subst}
-use Rattle.std.specs.Prelude.{IfSome, option_map}
+use Rattle.std.proofs.Common.{◌≡◌, length, sym, ◌∙◌, subst}
+use Rattle.std.specs.Prelude.{IfNone, IfOk, IfSome, option_map}
 use Rattle.sysmem_merge.specs.declared.settings.Settings.{Settings}
 use Rattle.sysmem_proof.specs.Conflict.{IsConflictFor}
+use Rattle.sysmem_proof.specs.Verdict.{MeetsSettled}
 use Rattle.sysmem_search.specs.Question.{MeetsHere}
 use Rattle.sysmem_proof.specs.Matter.{Matter, forest, terms}
+use Rattle.sysmem_search.specs.Standing.{numbers}
 use Rattle.sysmem_search.proofs.AskedMembers.{if_some}
 use Rattle.sysmem_search.proofs.Unmet.{no_conflict, none_are_left}
 use Rattle.sysmem_tree.specs.Forest.{choices}
+use Rattle.sysmem_tree.specs.Layout.{IsLayout}
+use Rattle.sysmem_tree.specs.OpenGroups.{HoldsNodes}
 use Rattle.sysmem_tree.specs.Selection.{IsPrefix, after}
 use Rattle.sysmem_search.proofs.question.Question.conflict.Goals as goal
 
-pub find_conflict_as-requires-clause-lays : goal.find_conflict_as-requires-clause-lays
-find_conflict_as-requires-clause-lays c = c.self.invariant.2.laid.lays
+pub conflict-requires-clause-lays : goal.conflict-requires-clause-lays
+conflict-requires-clause-lays c = subst (λ (x : Matter). IsLayout c.self.inside.layout (numbers x)) (sym c.self.invariant.3) c.self.invariant.2.laid.lays
 
-pub find_conflict_as-requires-clause-nodes : goal.find_conflict_as-requires-clause-nodes
-find_conflict_as-requires-clause-nodes c = c.self.invariant.2.laid.nodes
+pub conflict-requires-clause-nodes : goal.conflict-requires-clause-nodes
+conflict-requires-clause-nodes c = subst (λ (x : Matter). HoldsNodes c.self.inside.layout x.nodes) (sym c.self.invariant.3) c.self.invariant.2.laid.nodes
 
-pub find_conflict_as-requires-clause-prefix : goal.find_conflict_as-requires-clause-prefix
-find_conflict_as-requires-clause-prefix c = subst (λ s. IsPrefix (forest s.matter) s.choices) (sym c.self.view_is) c.requires.prefix
-
-pub find_conflict_as-requires-clause-whole : goal.find_conflict_as-requires-clause-whole
-find_conflict_as-requires-clause-whole c = λ d leads.
-    let m : Matter = record { platform = c.self.inside.platform.now; nodes = c.self.inside.tree.now.nodes; domain = c.self.inside.domain; base = option_map (λ b. b.now) c.self.inside.base } in
-    none_are_left m c.self.inside.prefix c.children.result c.is_none-whole.result d leads c.is_none-whole.ensures
-    (subst (λ s. IfSome (after (forest s.matter) s.choices) (λ e. option_map length (choices e) ≡ c.children.result)) (sym c.self.view_is) c.children.ensures.number)
-
-pub unreachable-requires : goal.unreachable-requires
-unreachable-requires c =
-    let m : Matter = record { platform = c.self.inside.platform.now; nodes = c.self.inside.tree.now.nodes; domain = c.self.inside.domain; base = option_map (λ b. b.now) c.self.inside.base } in
-    let prefix = subst (λ s. IsPrefix (forest s.matter) s.choices) (sym c.self.view_is) c.requires.prefix in
-    let unmet = subst (λ s. IfSome (after (forest s.matter) s.choices) (λ d. (t : Settings) → ¬ (MeetsHere s.matter d t))) (sym c.self.view_is) c.requires.unmet in
-    no_conflict m c.self.inside.prefix c.in_ok-found.found prefix c.in-None.is unmet c.in_ok-found.ensures.none
-
-pub returns : goal.returns
-returns c =
-    let m : Matter = record { platform = c.self.inside.platform.now; nodes = c.self.inside.tree.now.nodes; domain = c.self.inside.domain; base = option_map (λ b. b.now) c.self.inside.base } in
-    subst (λ s. IfSome (after (forest s.matter) s.choices) (λ d. IsConflictFor s.matter.platform (terms s.matter) d c.in-Some.conflict)) c.self.view_is
-    (if_some (λ d. IsConflictFor m.platform (terms m) d c.in-Some.conflict) (after (forest m) c.self.inside.prefix) (λ d leads.
-    subst (λ o. IfSome o (IsConflictFor m.platform (terms m) d)) c.in-Some.is (c.in_ok-found.ensures.conflict d leads)))
+pub conflict-requires-clause-prefix : goal.conflict-requires-clause-prefix
+conflict-requires-clause-prefix c = subst (λ (x : Matter). IsPrefix (forest x) c.self.inside.prefix) (sym c.self.invariant.3)
+    (subst (λ s. IsPrefix (forest s.matter) s.choices) (sym c.self.view_is) c.requires.prefix)

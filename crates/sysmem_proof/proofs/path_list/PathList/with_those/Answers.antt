@@ -1,0 +1,14 @@
+-- The others' numbers stand behind.
+use Rattle.std.proofs.Common.{◌++◌, sym, ap, ap₂, ◌∙◌, subst}
+use Rattle.sysmem_proof.specs.PathList.{AreOfPaths, paths_in}
+use Rattle.sysmem_proof.proofs.PathLists.{joined, joined_are}
+use Rattle.sysmem_proof.proofs.path_list.PathList.with_those.Goals as goal
+
+pub invariant_of-result : goal.invariant_of-result
+invariant_of-result c = subst AreOfPaths
+    (sym (c.in_ok-extend_from_slice.ensures.ok ∙ ap (λ xs. c.self.inside.numbers.items ++ xs) c.as_slice.ensures))
+    (joined_are c.self.inside.numbers.items c.others.inside.numbers.items c.self.invariant c.others.invariant)
+
+pub returns : goal.returns
+returns c = ap paths_in (c.in_ok-extend_from_slice.ensures.ok ∙ ap (λ xs. c.self.inside.numbers.items ++ xs) c.as_slice.ensures)
+    ∙ (joined c.self.inside.numbers.items c.others.inside.numbers.items c.self.invariant c.others.invariant ∙ ap₂ ◌++◌ c.self.view_is c.others.view_is)
