@@ -164,6 +164,7 @@ fn find_on_base(
 fn keep_roster(
     roster: &mut Option<Roster>,
     alloc: Global,
+    platform: &Platform,
     tree: &Tree,
 ) -> Result<(), AllocError>
     requires { IfSome roster.old (IsRosterOf tree.now.nodes) }
@@ -171,7 +172,7 @@ fn keep_roster(
     ensures own { IfSome roster.new (IsRosterOf tree.now.nodes) }
 {
     if roster.is_none() {
-        *roster = Some(Roster::new(alloc, tree)?);
+        *roster = Some(Roster::new(alloc, platform, tree)?);
     }
     Ok(())
 }
@@ -264,7 +265,7 @@ impl<'a> Finder<'a> {
         if let Some(base) = self.base {
             return find_on_base(self.alloc, self.platform, self.tree, base, &nodes);
         }
-        keep_roster(&mut self.roster, self.alloc, self.tree)?;
+        keep_roster(&mut self.roster, self.alloc, self.platform, self.tree)?;
         match &self.roster {
             Some(roster) => find_initial(roster, self.platform, self.tree, &nodes, whole),
             None => unreachable!(),
@@ -337,7 +338,7 @@ pub fn lines_before(
     }
     let layout = tree.layout(domain);
     let nodes = settled_at(tree, &layout, domain, selection)?;
-    let roster = Roster::new(alloc, tree)?;
+    let roster = Roster::new(alloc, platform, tree)?;
     let (offer, place) = (settings.offer, settings.place);
     let offers = refused_offers(&roster, platform, tree, &nodes, true, Some(offer))?;
     let places = refused_places(&roster, platform, tree, &nodes, Some(place))?;

@@ -120,7 +120,7 @@ pub(crate) fn read_offer(tree: &Tree, nodes: &[NodeId], offer: &Offer) -> Readin
 }
 
 /// The first field that refuses a participant, if there is one, the coherency domain of the heap.
-fn refused_place(
+pub(crate) fn refused_place(
     asked: Option<&Constraints>,
     heap: &HeapInfo,
     domain: CoherencyDomain,
@@ -139,19 +139,22 @@ fn refused_place(
 pub(crate) fn first_refused(
     tree: &Tree,
     nodes: &[NodeId],
-    heap: &HeapInfo,
-    domain: CoherencyDomain,
+    row: &[Option<Field>],
 ) -> Option<Refuser>
-    requires { All (HasNode tree.now.nodes) nodes.now }
+    requires there { All (HasNode tree.now.nodes) nodes.now }
+    requires long { length row.now ≡ length tree.now.nodes }
     ensures there { IfSome result (λ first. Contains nodes.now first.node) }
-    ensures refused { IfSome result (λ first.
-        Any (λ p. refuses_by first.field p.memory p.usage heap.now domain ≡ true)
+    ensures refused { IfSome result (λ first. (heap : HeapFacts) (domain : CoherencyDomain)
+        → IsRow tree.now.nodes heap domain row.now
+        → Any (λ p. refuses_by first.field p.memory p.usage heap domain ≡ true)
         (participants (members_at tree.now.nodes (first.node ∷ [])))) }
-    ensures allowed { IfNone result (All (λ p. AllowsPlace p.memory p.usage heap.now domain)
+    ensures allowed { IfNone result ((heap : HeapFacts) (domain : CoherencyDomain)
+        → IsRow tree.now.nodes heap domain row.now
+        → All (λ p. AllowsPlace p.memory p.usage heap domain)
         (participants (members_at tree.now.nodes nodes.now))) }
 {
     for node in nodes {
-        if let Some(field) = refused_place(tree.constraints_of(*node), heap, domain) {
+        if let Some(field) = row[tree.number_of(*node) as usize] {
             let node = *node;
             return Some(Refuser { field, node });
         }

@@ -21,6 +21,7 @@ mod earlier;
 mod finder;
 mod first_refusing;
 mod fixed_faults;
+mod heap_rows;
 pub mod laws;
 mod line;
 mod line_faults;

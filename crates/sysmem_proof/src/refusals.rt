@@ -211,7 +211,7 @@ fn place_line(
     if until == Some(place) {
         return Ok(None);
     }
-    let Some(first) = first_refused(tree, nodes, heap, place.coherency) else {
+    let Some(first) = first_refused(tree, nodes, roster.row(place)) else {
         return Ok(None);
     };
     let line = line_for(roster, tree, first.node, first.field)?;

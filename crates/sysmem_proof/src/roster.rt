@@ -6,9 +6,13 @@ ghost use Rattle.sysmem_proof.specs.Roster.{IsRosterOf};
 ghost use Rattle.sysmem_tree.specs.Nodes.{HasNode};
 ghost use Rattle.sysmem_tree.specs.Path.{path_of};
 
+use crate::heap_rows::HeapRows;
 use crate::path_list::PathList;
 use std::alloc::{AllocError, Global};
 use std::sync::Arc;
+use sysmem_counts::Field;
+use sysmem_memory::Place;
+use sysmem_sanitise::Platform;
 use sysmem_tree::{NodeId, Tree};
 
 /// The nodes of a tree, each with the list of its path, which lines share.
@@ -17,6 +21,8 @@ pub struct Roster {
     pub(crate) alloc: Global,
     /// By the number of the node, the list of its path alone.
     paths: Vec<Arc<PathList>>,
+    /// By the platform's heaps, which nodes refuse it.
+    heaps: Vec<HeapRows>,
 }
 
 /// The list of a node's path alone.
@@ -30,8 +36,8 @@ fn path_alone(alloc: Global, tree: &Tree, node: NodeId) -> Result<Arc<PathList>,
 }
 
 impl Roster {
-    /// Of this tree. `AllocError` where memory is refused.
-    pub fn new(alloc: Global, tree: &Tree) -> Result<Roster, AllocError>
+    /// Of this tree, for this platform. `AllocError` where memory is refused.
+    pub fn new(alloc: Global, platform: &Platform, tree: &Tree) -> Result<Roster, AllocError>
         ensures { IfOk result (IsRosterOf tree.now.nodes) }
     {
         let mut paths = Vec::new(alloc);
@@ -41,7 +47,15 @@ impl Roster {
                 paths.push(path_alone(alloc, tree, node)?)?;
             }
         }
-        Ok(Roster { alloc, paths })
+        let mut heaps = Vec::new(alloc);
+        for heap in platform.heaps() {
+            heaps.push(HeapRows::new(alloc, tree, heap)?)?;
+        }
+        Ok(Roster {
+            alloc,
+            paths,
+            heaps,
+        })
     }
 
     /// The list of the path of a node of the tree alone.
@@ -51,5 +65,11 @@ impl Roster {
         ensures { arc_value result.now ≡ path_of tree.now.nodes node ∷ [] }
     {
         &self.paths[tree.number_of(node) as usize]
+    }
+
+    /// The row of a place.
+    pub(crate) fn row(&self, place: Place) -> &[Option<Field>]
+    {
+        self.heaps[place.heap].row(place.coherency)
     }
 }
