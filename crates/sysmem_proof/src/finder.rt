@@ -57,7 +57,7 @@ fn settled_at(tree: &Tree, domain: DomainId, prefix: &Prefix) -> Result<Vec<Node
     one_forest();
     members_stand_once();
     choices_leave_one_forest();
-    tree.nodes();
+    tree.recall_sound();
     tree.participants(domain, prefix.choices())
 }
 

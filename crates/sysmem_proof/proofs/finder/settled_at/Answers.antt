@@ -14,6 +14,6 @@ participants-requires-clause-prefix c = subst (IsPrefix (forest_of by_number c.a
 pub returns : goal.returns
 returns c = λ d accepted leads elsewhere once.
     if_ok c.participants.result (λ found. found.items ≡ participants_of c.args.tree.now.nodes c.args.domain c.choices.result.now) (λ found. AreSettledAt c.args.tree.now.nodes d accepted found.items)
-    (λ found is. settled_found c.args.tree.now.nodes c.nodes.ensures.sound.tree c.one_path.ensures c.args.domain c.requires.domain (c.one_forest.ensures c.args.tree.now.nodes c.args.domain) c.args.prefix.now
-    (c.members_stand_once.ensures c.args.tree.now.nodes c.args.domain c.args.prefix.now c.nodes.ensures.sound.tree c.requires.domain) accepted elsewhere once d leads found.items
+    (λ found is. settled_found c.args.tree.now.nodes c.recall_sound.ensures.tree c.one_path.ensures c.args.domain c.requires.domain (c.one_forest.ensures c.args.tree.now.nodes c.args.domain) c.args.prefix.now
+    (c.members_stand_once.ensures c.args.tree.now.nodes c.args.domain c.args.prefix.now c.recall_sound.ensures.tree c.requires.domain) accepted elsewhere once d leads found.items
     (is ∙ ap (participants_of c.args.tree.now.nodes c.args.domain) c.choices.ensures)) c.participants.ensures.nodes
