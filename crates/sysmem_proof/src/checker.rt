@@ -72,7 +72,7 @@ impl<'a> Checker<'a> {
           base = option_map (λ b. b.now) base.entry;
         } }
     {
-        tree.nodes();
+        tree.recall_sound();
         Checker {
             platform,
             tree,
@@ -104,7 +104,7 @@ impl<'a> Checker<'a> {
     {
         choices_leave_one_forest();
         few_children();
-        self.tree.nodes();
+        self.tree.recall_sound();
         let (_, children) = self.layout.next_group(prefix)?;
         Some(children as u8)
     }
@@ -115,7 +115,7 @@ impl<'a> Checker<'a> {
     {
         few_choices();
         choices_leave_one_forest();
-        self.tree.nodes();
+        self.tree.recall_sound();
     }
 
     /// Those whom these choices settle.

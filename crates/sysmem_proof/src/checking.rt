@@ -51,7 +51,7 @@ impl<'a> Checker<'a> {
         choices_leave_one_forest();
         one_forest();
         one_path();
-        self.tree.nodes();
+        self.tree.recall_sound();
         settled_members(self.tree, self.domain, prefix)
     }
 
@@ -61,6 +61,6 @@ impl<'a> Checker<'a> {
             → All (HasNode self.now.nodes) b.accepted }
         ensures few { (b : BaseFacts) → self.now.base ≡ Some b → length b.accepted ≤ 128 }
     {
-        self.tree.nodes();
+        self.tree.recall_sound();
     }
 }

@@ -66,7 +66,7 @@ fn settled_at(
     one_forest();
     members_stand_once();
     choices_leave_one_forest();
-    tree.nodes();
+    tree.recall_sound();
     let _ = domain;
     tree.participants_in(layout, prefix.choices())
 }

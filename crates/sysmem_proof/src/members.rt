@@ -79,7 +79,7 @@ pub(crate) fn settled_members(tree: &Tree, domain: DomainId, prefix: &Prefix) ->
     ensures order { IsPermutation result (members_of tree.now.nodes domain prefix.now) }
     ensures there { All (HasNode tree.now.nodes) result }
 {
-    tree.nodes();
+    tree.recall_sound();
     members_stand_once();
     prefix_of_prefix();
     choice_settles_share();

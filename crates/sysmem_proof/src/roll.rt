@@ -76,7 +76,7 @@ impl<'a> Roll<'a> {
           accepted = accepted.now;
         } }
     {
-        tree.nodes();
+        tree.recall_sound();
         choices_leave_one_forest();
         let mut marks = layout.settled_marks(prefix);
         mark_all(tree, accepted, &mut marks);
@@ -128,7 +128,7 @@ impl<'a> Roll<'a> {
     {
         one_path();
         one_forest();
-        self.tree.nodes();
+        self.tree.recall_sound();
     }
 
     /// How many nodes the tree has.
@@ -191,7 +191,7 @@ fn few_paths(tree: &Tree, domain: DomainId, prefix: &Prefix, accepted: &[NodeId]
 {
     one_path();
     one_forest();
-    tree.nodes();
+    tree.recall_sound();
 }
 
 /// Whether a participant is there.

@@ -85,7 +85,7 @@ impl Kept {
         ensures { IfOk result (λ made.
             IsKeptOf platform.now tree.now.nodes (option_map (λ b. b.now) base.entry) made []) }
     {
-        tree.nodes();
+        tree.recall_sound();
         match base {
             None => Ok(Kept::Sum(Sum::new(alloc, platform)?)),
             Some(base) => Ok(Kept::OnBase(OnBase::behind(tree, base.accepted()))),

@@ -77,7 +77,7 @@ pub(crate) fn first_level(
       base = option_map (λ b. b.now) base.entry;
     }) layout.now [] level) }
 {
-    tree.nodes();
+    tree.recall_sound();
     let none = Kept::new(alloc, platform, tree, domain, base)?;
     let mut part = Part::new(alloc, platform, base)?;
     let walk = layout.settled_first();

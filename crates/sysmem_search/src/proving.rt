@@ -82,7 +82,7 @@ fn certify(
     }) (verdicts.Chosen chosen.now) (proves.Choice certificate)) }
 {
     few_choices();
-    tree.nodes();
+    tree.recall_sound();
     let mut question = Question::new(alloc, platform, tree, domain, base)?;
     let selection = chosen.selection();
     let settings = chosen.settings();

@@ -89,7 +89,7 @@ impl<'a> Question<'a> {
           choices = [];
         }) }
     {
-        tree.nodes();
+        tree.recall_sound();
         let layout = tree.layout(domain);
         let first = first_level(alloc, platform, tree, domain, base, &layout)?;
         let levels = Vec::from_array(alloc, [first])?;

@@ -91,6 +91,13 @@ impl Tree {
         self.nodes.len() as u32
     }
 
+    /// Recalls, for a proof, that this tree is sound, as each is. It does nothing.
+    pub fn recall_sound(&self)
+        ensures { IsSoundTree self.now }
+    {
+        let _ = &self.nodes;
+    }
+
     /// The node to which these ordinals lead from the root; `None` where the tree has none there.
     pub fn node_at(&self, path: &[u32]) -> Option<NodeId>
         ensures node { result ≡ node_at self.now.nodes path.now }

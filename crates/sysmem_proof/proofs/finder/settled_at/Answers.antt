@@ -28,6 +28,6 @@ returns c = λ d accepted leads elsewhere once.
           (prefix_numbers c.args.tree.now.nodes c.args.domain c.args.prefix.now (c.choices_leave_one_forest.ensures c.args.tree.now.nodes c.args.domain c.args.prefix.now) c.requires.prefix);
     } in
     if_ok c.participants_in.result (λ found. found.items ≡ participants_of c.args.tree.now.nodes c.args.domain c.choices.result.now) (λ found. AreSettledAt c.args.tree.now.nodes d accepted found.items)
-    (λ found is. settled_found c.args.tree.now.nodes c.nodes.ensures.sound.tree c.one_path.ensures c.args.domain c.requires.domain (c.one_forest.ensures c.args.tree.now.nodes c.args.domain) c.args.prefix.now
-    (c.members_stand_once.ensures c.args.tree.now.nodes c.args.domain c.args.prefix.now c.nodes.ensures.sound.tree c.requires.domain) accepted elsewhere once d leads found.items
+    (λ found is. settled_found c.args.tree.now.nodes c.recall_sound.ensures.tree c.one_path.ensures c.args.domain c.requires.domain (c.one_forest.ensures c.args.tree.now.nodes c.args.domain) c.args.prefix.now
+    (c.members_stand_once.ensures c.args.tree.now.nodes c.args.domain c.args.prefix.now c.recall_sound.ensures.tree c.requires.domain) accepted elsewhere once d leads found.items
     (is ∙ ap (participants_of c.args.tree.now.nodes c.args.domain) c.choices.ensures)) (c.participants_in.ensures.nodes c.args.domain chosen)

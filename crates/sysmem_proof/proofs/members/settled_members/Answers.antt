@@ -13,7 +13,7 @@ pub gather-requires : goal.gather-requires
 gather-requires c =
     let nodes = c.args.tree.now.nodes in
     let d = forest_of by_number nodes c.args.domain [] in
-    let few = few_settled nodes c.args.domain c.nodes.ensures.sound.tree.few (λ cs. c.members_stand_once.ensures nodes c.args.domain cs c.nodes.ensures.sound.tree c.requires.domain) [] d refl in
+    let few = few_settled nodes c.args.domain c.recall_sound.ensures.tree.few (λ cs. c.members_stand_once.ensures nodes c.args.domain cs c.recall_sound.ensures.tree c.requires.domain) [] d refl in
     let none = ap length c.none-members.ensures in
     (settled d, c.settled_first.ensures d c.layout-layout.ensures.lays, omega (arith, few, none))
 
@@ -61,7 +61,7 @@ gather-requires-in-loop-choice c =
       share_of c.layout-layout.result c.child_at-child.result,
       c.settled_with.ensures,
       more_few c.layout-layout.result d (take k cs) _ _ g c.choice_settles_share.ensures (get_or cs c.loop-choice.choice-index 0) c.child_at-child.result child
-          (few_settled nodes c.args.domain c.nodes.ensures.sound.tree.few (λ cs. c.members_stand_once.ensures nodes c.args.domain cs c.nodes.ensures.sound.tree c.requires.domain)),
+          (few_settled nodes c.args.domain c.recall_sound.ensures.tree.few (λ cs. c.members_stand_once.ensures nodes c.args.domain cs c.recall_sound.ensures.tree c.requires.domain)),
     )
 
 pub open_after-group-requires : goal.open_after-group-requires
@@ -100,7 +100,7 @@ returns-clause-there c =
     let nodes = c.args.tree.now.nodes in
     let d = forest_of by_number nodes c.args.domain [] in
     let cs = c.choices-choice-items.result.now in
-    members_there nodes c.args.domain c.args.prefix.now _ (c.members_stand_once.ensures nodes c.args.domain c.args.prefix.now c.nodes.ensures.sound.tree c.requires.domain)
+    members_there nodes c.args.domain c.args.prefix.now _ (c.members_stand_once.ensures nodes c.args.domain c.args.prefix.now c.recall_sound.ensures.tree c.requires.domain)
     (all_gathered nodes c.args.domain c.layout-layout.result c.args.prefix.now _ _
     (subst (λ xs. AreGathered c.layout-layout.result d xs c.loop-choice.members c.loop-choice.group)
     (take_all c.loop-choice.choice-index cs (omega (arith, c.loop-choice-test.false)) ∙ c.choices-choice-items.ensures) c.loop-choice.invariant))

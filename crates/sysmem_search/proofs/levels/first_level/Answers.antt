@@ -17,16 +17,16 @@ add_settled-requires-clause-few c =
     let d = forest_of by_number c.args.tree.now.nodes c.args.domain [] in (
       settled d,
       c.settled_first-walk.ensures d c.requires.lays,
-      few_settled c.args.tree.now.nodes c.args.domain [] d c.nodes.ensures.sound.tree (root_there c.args.tree.now.nodes c.args.domain c.requires.domain) refl,
+      few_settled c.args.tree.now.nodes c.args.domain [] d c.recall_sound.ensures.tree (root_there c.args.tree.now.nodes c.args.domain c.requires.domain) refl,
     )
 
 pub join_of-requires : goal.join_of-requires
 join_of-requires c =
     let d = forest_of by_number c.args.tree.now.nodes c.args.domain [] in
-    let few = few_settled c.args.tree.now.nodes c.args.domain [] d c.nodes.ensures.sound.tree (root_there c.args.tree.now.nodes c.args.domain c.requires.domain) refl in
+    let few = few_settled c.args.tree.now.nodes c.args.domain [] d c.recall_sound.ensures.tree (root_there c.args.tree.now.nodes c.args.domain c.requires.domain) refl in
     have_room c.args.platform.now c.args.tree.now.nodes (option_map (λ b. b.now) c.args.base) c.in_ok-none.none c.add_settled.new.part [] (asked_in c.args.tree.now.nodes (settled d))
     c.in_ok-none.ensures (c.add_settled.ensures (settled d) (c.settled_first-walk.ensures d c.requires.lays))
-    (few_accepted c.args.platform.now c.args.tree.now.nodes c.args.domain (option_map (λ b. b.now) c.args.base) c.nodes.ensures.sound.tree.few c.requires.base)
+    (few_accepted c.args.platform.now c.args.tree.now.nodes c.args.domain (option_map (λ b. b.now) c.args.base) c.recall_sound.ensures.tree.few c.requires.base)
     (omega arith) (omega (arith, few, few_asked_of c.args.tree.now.nodes (settled d)))
 
 pub returns : goal.returns

@@ -20,7 +20,7 @@ refute_earlier-requires c =
     record {
       start = ap (λ s. s.choices) c.in_ok-question.ensures;
       room = few_selected c.args.platform.now c.args.tree.now.nodes c.args.domain base selection chosen.selection chosen.settings c.selection-selection.ensures c.requires.optimal.1 c.few_choices.ensures
-          c.nodes.ensures.sound.tree;
+          c.recall_sound.ensures.tree;
       prefix = selected_prefix c.args.platform.now c.args.tree.now.nodes c.args.domain base selection chosen.selection chosen.settings c.selection-selection.ensures c.requires.optimal.1 q
           c.in_ok-question.ensures;
       unmet = selected_unmet c.args.platform.now c.args.tree.now.nodes c.args.domain base selection chosen.selection chosen.settings c.selection-selection.ensures c.requires.optimal.1 q

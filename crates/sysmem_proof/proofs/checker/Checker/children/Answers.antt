@@ -30,7 +30,7 @@ pub overflow_cast-result : goal.overflow_cast-result
 overflow_cast-result c =
     let few = few_told c.self.inside.tree.now.nodes c.self.inside.domain c.args.prefix.now
     (c.choices_leave_one_forest.ensures c.self.inside.tree.now.nodes c.self.inside.domain c.args.prefix.now) _ (c.next_group.ensures.group _ c.self.invariant.3)
-    c.few_children.ensures c.nodes.ensures.sound.tree (subst (λ (x : Matter). IsPrefix (forest x) c.args.prefix.now) (sym c.self.view_is) c.requires)
+    c.few_children.ensures c.recall_sound.ensures.tree (subst (λ (x : Matter). IsPrefix (forest x) c.args.prefix.now) (sym c.self.view_is) c.requires)
     _ _ c.in_ok-children.was in omega (arith, few)
 
 pub returns : goal.returns

@@ -8,8 +8,8 @@ use Rattle.sysmem_proof.proofs.checker.Checker.few_accepted.Goals as goal
 
 pub returns-clause-there : goal.returns-clause-there
 returns-clause-there c = subst (λ (x : Matter). (b : BaseFacts) → x.base ≡ Some b → All (HasNode x.nodes) b.accepted) c.self.view_is
-    (λ b some. (few_before c.self.inside.platform.now c.self.inside.tree.now.nodes c.self.inside.domain _ b c.nodes.ensures.sound.tree.few c.self.invariant.2 some).0)
+    (λ b some. (few_before c.self.inside.platform.now c.self.inside.tree.now.nodes c.self.inside.domain _ b c.recall_sound.ensures.tree.few c.self.invariant.2 some).0)
 
 pub returns-clause-few : goal.returns-clause-few
 returns-clause-few c = subst (λ (x : Matter). (b : BaseFacts) → x.base ≡ Some b → length b.accepted ≤ 128) c.self.view_is
-    (λ b some. (few_before c.self.inside.platform.now c.self.inside.tree.now.nodes c.self.inside.domain _ b c.nodes.ensures.sound.tree.few c.self.invariant.2 some).1)
+    (λ b some. (few_before c.self.inside.platform.now c.self.inside.tree.now.nodes c.self.inside.domain _ b c.recall_sound.ensures.tree.few c.self.invariant.2 some).1)

@@ -7,5 +7,5 @@ use Rattle.sysmem_proof.proofs.checker.Checker.few_choices.Goals as goal
 
 pub returns : goal.returns
 returns c = subst (λ (x : Matter). (cs : List ℕ) → IsPrefix (forest x) cs → length cs ≤ 128) c.self.view_is
-    (λ cs prefix. few_of c.self.inside.tree.now.nodes c.self.inside.domain c.few_choices.ensures c.nodes.ensures.sound.tree cs
+    (λ cs prefix. few_of c.self.inside.tree.now.nodes c.self.inside.domain c.few_choices.ensures c.recall_sound.ensures.tree cs
     (c.choices_leave_one_forest.ensures c.self.inside.tree.now.nodes c.self.inside.domain cs) prefix)

@@ -18,5 +18,5 @@ settled_members-requires-clause-prefix c =
 
 pub returns-clause-asks : goal.returns-clause-asks
 returns-clause-asks c = subst (λ (x : Matter). (d : Forest Member) → after (forest x) c.args.prefix.now ≡ Some d → IsPermutation (asked_in x.nodes c.settled_members.result) (participants (settled d))) c.self.view_is
-    (λ d leads. asked_of_settled c.self.inside.tree.now.nodes c.nodes.ensures.sound.tree c.one_path.ensures c.self.inside.domain c.self.invariant.0
+    (λ d leads. asked_of_settled c.self.inside.tree.now.nodes c.recall_sound.ensures.tree c.one_path.ensures c.self.inside.domain c.self.invariant.0
     (c.one_forest.ensures c.self.inside.tree.now.nodes c.self.inside.domain) c.args.prefix.now c.settled_members.result c.settled_members.ensures.order d leads)

@@ -8,12 +8,12 @@ settled_marks-marks-requires-clause-prefix c =
     (_, c.requires.lays, prefix_numbers c.args.tree.now.nodes c.args.domain c.args.prefix.now (c.choices_leave_one_forest.ensures c.args.tree.now.nodes c.args.domain c.args.prefix.now) c.requires.prefix)
 
 pub settled_marks-marks-requires-clause-nodes : goal.settled_marks-marks-requires-clause-nodes
-settled_marks-marks-requires-clause-nodes c = (c.args.tree.now.nodes, c.nodes.ensures.sound.tree, c.requires.nodes)
+settled_marks-marks-requires-clause-nodes c = (c.args.tree.now.nodes, c.recall_sound.ensures.tree, c.requires.nodes)
 
 pub invariant_of-result : goal.invariant_of-result
 invariant_of-result c = (
   c.requires.domain,
-  c.nodes.ensures.sound,
+  c.recall_sound.ensures,
   c.requires.there,
   both_marked _ _ c.args.accepted.now _ c.mark_all.ensures
       (c.settled_marks-marks.ensures c.args.tree.now.nodes c.args.domain c.requires.lays

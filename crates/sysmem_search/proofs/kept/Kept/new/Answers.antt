@@ -12,7 +12,7 @@ pub behind-requires-clause-few : goal.behind-requires-clause-few
 behind-requires-clause-few c =
     let given = subst (IsGivenBase c.args.platform.now c.args.tree.now.nodes c.args.domain) (ap (option_map (λ b. b.now)) c.in-Some.is) c.requires in
     let few = few_different c.in-Some.base.now.accepted _ given.1.once (named_there c.args.tree.now.nodes (λ n. n.domain ≢ c.args.domain) c.in-Some.base.now.accepted given.1.elsewhere) in
-    subst (λ xs. length xs ≤ 128) (sym c.accepted.ensures) (omega (arith, few, c.nodes.ensures.sound.tree.few))
+    subst (λ xs. length xs ≤ 128) (sym c.accepted.ensures) (omega (arith, few, c.recall_sound.ensures.tree.few))
 
 pub returns-in-Some : goal.returns-in-Some
 returns-in-Some c = subst (λ o. IsKeptOf c.args.platform.now c.args.tree.now.nodes o (kept_as.OnBase c.behind.result) []) (sym (ap (option_map (λ b. b.now)) c.in-Some.is))

@@ -41,7 +41,7 @@ none_kept (x ∷ parts) slot part none here = absurd (cc)
 pub invariant_of-result : goal.invariant_of-result
 invariant_of-result c = (
   c.requires.domain,
-  c.nodes.ensures.sound,
+  c.recall_sound.ensures,
   record {
     given = c.requires.base;
     laid = record { lays = c.layout-layout.ensures.lays; nodes = c.layout-layout.ensures.nodes };
