@@ -25,3 +25,4 @@ pub mod Walk
 pub mod Asked
 pub mod PlacesBefore
 pub mod Choice
+pub mod FirstConflict
