@@ -123,7 +123,7 @@ impl Runner {
             (state_of self.new) (string_bytes text.old) (string_bytes text.new)) }
     {
         legal_is_sound();
-        self.book.platform();
+        self.book.recall_legal();
         let had_failed = failed_before(self.book.tree(), &call.act);
         let reply = self.answer(alloc, call)?;
         put_call(text, number, call, reply)?;
@@ -206,7 +206,7 @@ impl Runner {
         let had_failed = self.book.tree().failed_domains();
         self.enter(domain, claim);
         put_failed(text, self.book.tree(), &had_failed)?;
-        self.book.platform();
+        self.book.recall_legal();
         Ok(())
     }
 

@@ -1,15 +1,15 @@
 use Rattle.sysmem_tree.specs.ActionKind.{deed_of}
 use Rattle.script_run.proofs.Answering.{refused_as, accepted_as}
-use Rattle.script_run.proofs.Growing.{applied_there, there_after}
+use Rattle.script_run.proofs.Growing.{still_there}
 use Rattle.script_run.proofs.runner.Runner.act.Goals as goal
 
 pub invariant_of-self : goal.invariant_of-self
 invariant_of-self c = record {
-  there = applied_there c.args.self.now.book c.apply.new.self c.args.node (deed_of c.args.action) _ c.apply.result c.args.self.now.there c.apply.ensures.accepted c.apply.ensures.unchanged;
+  there = still_there c.args.self.now.book.state.tree.nodes c.apply.new.self.state.tree.nodes c.args.self.now.names.items c.apply.ensures.still.grows c.args.self.now.there;
 }
 
 pub keep_name-requires : goal.keep_name-requires
-keep_name-requires c = (there_after c.args.self.now.book.state.tree c.args.node (deed_of c.args.action) (record { tree = c.apply.new.self.state.tree; node = c.in-Ok.done.node }) c.in-Ok.ensures.accepted).there
+keep_name-requires c = c.in-Ok.ensures.there
 
 pub returns-in_ok-keep_name-in-Ok : goal.returns-in_ok-keep_name-in-Ok
 returns-in_ok-keep_name-in-Ok c =

@@ -5,7 +5,7 @@ use Rattle.sysmem_alloc.specs.Book.{BookFacts}
 use Rattle.sysmem_alloc.specs.Decision.{Claimed}
 use Rattle.script_run.specs.Runner.{state_of}
 use Rattle.script_run.proofs.Following.{entered_as, none_mapped, one_longer, turned}
-use Rattle.script_run.proofs.Growing.{decided_there}
+use Rattle.script_run.proofs.Growing.{still_there}
 use Rattle.script_run.proofs.Told.{if_unmapped}
 use Rattle.script_run.proofs.runner.Runner.enter.Goals as goal
 
@@ -13,9 +13,9 @@ pub decide-requires-clause-right : goal.decide-requires-clause-right
 decide-requires-clause-right c = if_unmapped (λ shared. arc_value shared) _ c.args.claim c.requires.1
 
 pub invariant_of-self : goal.invariant_of-self
-invariant_of-self c =
-    let d : Claimed = record { domain = c.args.domain; claim = option_map (λ shared. arc_value shared) c.args.claim } in
-    record { there = decided_there c.args.self.now.book c.decide.new.self d _ c.args.self.now.there c.decide.ensures.entered }
+invariant_of-self c = record {
+  there = still_there c.args.self.now.book.state.tree.nodes c.decide.new.self.state.tree.nodes c.args.self.now.names.items c.decide.ensures.still.grows c.args.self.now.there;
+}
 
 pub returns-clause-state : goal.returns-clause-state
 returns-clause-state c =

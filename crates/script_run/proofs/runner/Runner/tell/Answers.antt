@@ -16,4 +16,4 @@ returns-clause-lines c =
     enters_as (state_of c.args.self.now) (state_of c.enter.new.self) d told.what _ _ _ c.failed_domains-had_failed.result told.tells told.put marked failed c.enter.ensures.state
 
 pub returns-clause-few : goal.returns-clause-few
-returns-clause-few c = few_in c.few_entries.ensures c.enter.new.self.book c.platform.ensures.book
+returns-clause-few c = few_in c.few_entries.ensures c.enter.new.self.book c.recall_legal.ensures
