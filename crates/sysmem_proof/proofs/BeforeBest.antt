@@ -33,7 +33,7 @@ use Rattle.sysmem_proof.proofs.FoundConflicts.{there_is}
 use Rattle.sysmem_proof.proofs.Growing.{sub_itself}
 
 -- what is at the place behind some elements
-at_behind : {X : Type 0} (before behind : List X) (x : X) → slice_get (before ++ x ∷ behind) (length before) ≡ Some x
+pub at_behind : {X : Type 0} (before behind : List X) (x : X) → slice_get (before ++ x ∷ behind) (length before) ≡ Some x
 at_behind [] behind x = refl
 at_behind (y ∷ before) behind x = at_behind before behind x
 

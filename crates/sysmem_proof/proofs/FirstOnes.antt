@@ -41,6 +41,10 @@ pub is_false : (t u : Bool) → t ≡ u → IsTrue (not t) → u ≡ false
 is_false true u is fails = absurd (cc)
 is_false false u is fails = sym is
 
+pub is_true : (t u : Bool) → t ≡ u → not t ≡ false → u ≡ true
+is_true true u is fails = sym is
+is_true false u is fails = absurd (cc)
+
 -- what is known stays so, whatever would be true else; what isn't known is as it is now
 pub still_known : {X : Type 0} (o : Option X) (A C : Type 0) (B : X → Type 0) (t : Bool) → is_some o ≡ not t → t ≡ false → MatchOption o A B → MatchOption o C B
 still_known None A C B t is known h = absurd (cc)

@@ -75,7 +75,7 @@ module _ (nodes : List NodeFacts) (ns given named' : List ℕ) (one : given ≡ 
 
 -- a participant by its path
 module _ (nodes : List NodeFacts) where
-  one_path : (n : ℕ) (P : Participant → Type 0) → Any P (participants (members_at nodes (n ∷ []))) → map (λ m. m.path) (members_named whoms.All (members_at nodes (n ∷ []))) ≡ path_of nodes n ∷ []
+  pub one_path : (n : ℕ) (P : Participant → Type 0) → Any P (participants (members_at nodes (n ∷ []))) → map (λ m. m.path) (members_named whoms.All (members_at nodes (n ∷ []))) ≡ path_of nodes n ∷ []
   one_path n P any = by (slice_get nodes n) any where
     by : (u : Option NodeFacts) → Any P (participants (cons_option (option_map (by_path n (path_of nodes n)) u) []))
         → map (λ m. m.path) (members_named whoms.All (cons_option (option_map (by_path n (path_of nodes n)) u) [])) ≡ path_of nodes n ∷ []
@@ -100,7 +100,7 @@ pub fixed_met : (platform : PlatformFacts) (terms : Terms) (d : Forest Member) �
 fixed_met platform terms d covers counted = (terms.settings, record { same = refl; covers = covers; counted = counted })
 
 -- where lines end that have nothing to go up to
-ended : {X Y : Type 0} (key : X → Y) (Share : X → Type 0) (x : X) → Ends None key Share x → Share x
+pub ended : {X Y : Type 0} (key : X → Y) (Share : X → Type 0) (x : X) → Ends None key Share x → Share x
 ended key Share x (inl is) = absurd (cc)
 ended key Share x (inr end) = end.1
 

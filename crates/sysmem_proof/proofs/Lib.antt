@@ -55,3 +55,6 @@ pub mod FailsOrCovers
 pub mod Refutable
 pub mod Certifying
 pub mod Provable
+pub mod FirstWithout
+pub mod FirstLines
+pub mod FirstKinds

@@ -56,7 +56,7 @@ names_those whom some all stand =
     (some_are_named (members_named whom some) all stand.apart (sub_trans (filter_sub (λ m. option_map_or (names whom) m.constraints false) some) stand.among) (all_ask whom some))
 
 -- one of some numbers
-one_of : (f : ℕ → Option Member) (ns : List ℕ) (n : ℕ) → Contains ns n → IsSublist (filter_map f (n ∷ [])) (filter_map f ns)
+pub one_of : (f : ℕ → Option Member) (ns : List ℕ) (n : ℕ) → Contains ns n → IsSublist (filter_map f (n ∷ [])) (filter_map f ns)
 one_of f [] n has = absurd (omega (arith, has.1))
 one_of f (x ∷ ns) n (zero, less, same) = subst (λ y. IsSublist (filter_map f (y ∷ [])) (filter_map f (x ∷ ns))) same (by (f x)) where
   by : (o : Option Member) → IsSublist (cons_option o []) (cons_option o (filter_map f ns))

@@ -37,7 +37,7 @@ module _ (p : Pair) (c d : ColourSpace) where
   either_above es (inr above) = inr (λ h most fits under. above h most (height_in es h fits) under)
 
 module _ (p : Pair) (c d : ColourSpace) (ds : List OfferDemand) where
-  same_line : (field : Field) → field ≢ ColorSpaces → IsOfferLine field (Image p c) ds → IsOfferLine field (Image p d) ds
+  pub same_line : (field : Field) → field ≢ ColorSpaces → IsOfferLine field (Image p c) ds → IsOfferLine field (Image p d) ds
   same_line PixelFormat other line = line
   same_line ColorSpaces other line = absurd (other refl)
   same_line MaxSizeBytes other line =
@@ -47,7 +47,7 @@ module _ (p : Pair) (c d : ColourSpace) (ds : List OfferDemand) where
   same_line MaxBytesPerRow other line = (line.0, line.1, λ w r most width row under. line.2 w r most (width_in p c d _ w width) (row_in p c d _ w r row) under)
   same_line _ other line = line
 
-  same_unnamed : (field : Field) → field ≢ UnnamedColorSpace → IsUnnamedLine field (Image p c) ds → IsUnnamedLine field (Image p d) ds
+  pub same_unnamed : (field : Field) → field ≢ UnnamedColorSpace → IsUnnamedLine field (Image p c) ds → IsUnnamedLine field (Image p d) ds
   same_unnamed UnnamedPixelFormat other line = ((λ e. absurd (cc)), line.1)
   same_unnamed UnnamedPixelFormatModifier other line = ((λ e. absurd (cc)), line.1)
   same_unnamed UnnamedColorSpace other line = absurd (other refl)

@@ -1,10 +1,13 @@
--- Which conflict a finder gives: the first in the order of the table, and in it of each place and of each offer the first line that is true.
-use Rattle.std.specs.Prelude.{◌≡◌, ◌∷◌, ◌++◌, List, [], Option, Some, None, All, IfSome, is_none}
+-- Which conflict a finder gives: count before places before offers, and of each place and each offer the first line that is true.
+use Rattle.std.specs.Prelude.{◌≡◌, ℕ, Bool, List, [], ◌∷◌, ◌++◌, Option, Some, None, All, IfSome, IsSomeAnd, is_none, slice_get, take}
 use Rattle.std.specs.List.{AllZip}
 use Rattle.sysmem_counts.specs.Counts.{IsCounted, IsFixedCountLine}
 use Rattle.sysmem_counts.specs.declared.field.Field.{Field}
 use Rattle.sysmem_counts.specs.declared.field.Field.TheVariants.{MinBufferCount, MaxBufferCount}
+use Rattle.sysmem_formats.specs.declared.colour_space.ColourSpace.{ColourSpace}
 use Rattle.sysmem_formats.specs.declared.offer.Offer.{Offer}
+use Rattle.sysmem_formats.specs.declared.offer.Offer.TheVariants.{Image}
+use Rattle.sysmem_formats.specs.declared.offer.Pair.{Pair}
 use Rattle.sysmem_memory.specs.Listed.{HeapPlace, places_of}
 use Rattle.sysmem_memory.specs.PlaceTable.{AllowsPlace, first_refusing}
 use Rattle.sysmem_merge.specs.declared.reason.Reason.TheVariants as reasons
@@ -21,45 +24,60 @@ use Rattle.sysmem_tree.specs.Shape.{Member}
 use Rattle.sysmem_proof.specs.declared.conflict.Conflict.{Conflict}
 use Rattle.sysmem_proof.specs.declared.conflict.Conflict.TheVariants.{Count, Places, Offers, Fixed}
 use Rattle.sysmem_proof.specs.Base.{Terms}
+use Rattle.sysmem_proof.specs.Conflict.{RefusesOffer, RefusesPlace}
 use Rattle.sysmem_proof.specs.Line.{LineFacts}
 use Rattle.sysmem_proof.specs.Members.{participants}
 
--- the first participant among some members that hasn't the property: who stands before it has, or asks nothing
-pub record IsFirstWithout (Has : Participant → Type 0) (ms : List Member) (first : Member) (p : Participant) : Type 0 where
-  pub before : List Member
-  pub behind : List Member
-  pub there : ms ≡ before ++ first ∷ behind
-  pub asks : first.constraints ≡ Some p
-  pub all : All (λ m. IfSome m.constraints Has) before
-
--- the line names the first participant to whom the place is refused, and nobody else, by the first field that refuses it
-pub record NamesFirstRefused (ms : List Member) (place : HeapPlace) (line : LineFacts) : Type 0 where
+-- at the path stands the first of some members who says this, and who stand before him have a property, or ask nothing
+pub record IsFirstWithout (Has Says : Participant → Type 0) (ms : List Member) (path : List ℕ) : Type 0 where
+  pub index : ℕ
   pub first : Member
-  pub asked : Participant
-  pub is : IsFirstWithout (λ p. AllowsPlace p.memory p.usage place.heap place.place.coherency) ms first asked
-  pub field : first_refusing asked.memory asked.usage place.heap place.place.coherency ≡ Some line.field
-  pub alone : line.nodes ≡ first.path ∷ []
+  pub here : slice_get ms index ≡ Some first
+  pub at : first.path ≡ path
+  pub before : All (λ m. IfSome m.constraints Has) (take index ms)
+  pub says : IsSomeAnd first.constraints Says
 
--- the line's field is the first of the table that is true of all for the offer
-abbrev pub HasFirstLine : Bool → List Member → Offer → LineFacts → Type 0
-HasFirstLine whole ms o line = IsFirstOf (IsRefusingLine whole o (offer_demands (participants ms))) offer_lines line.field
+-- the field is the first that refuses the place, to the first participant at all to whom it is refused
+abbrev pub IsFirstRefused : HeapPlace → List Member → Field → List ℕ → Type 0
+IsFirstRefused p ms field path = IsFirstWithout (λ one. AllowsPlace one.memory one.usage p.heap p.place.coherency)
+    (λ one. first_refusing one.memory one.usage p.heap p.place.coherency ≡ Some field) ms path
 
--- of an initial domain: count, then places, then offers
+-- the line refuses the place, and names the first participant to whom it is refused, and nobody else, by the first field that does it
+pub record IsPlaceLineGiven (ms : List Member) (p : HeapPlace) (line : LineFacts) : Type 0 where
+  pub refuses : RefusesPlace ms p line
+  pub path : List ℕ
+  pub alone : line.nodes ≡ path ∷ []
+  pub first : IsFirstRefused p ms line.field path
+
+-- two offers are images of one pair, each in a colour space of its own
+pub record AreOfPair (one other : Offer) : Type 0 where
+  pub pair : Pair
+  pub colour : ColourSpace
+  pub own : ColourSpace
+  pub first : one ≡ Image pair colour
+  pub second : other ≡ Image pair own
+
+-- the line refuses the offer, and is the first of the table that is true of the participants for it
+pub record IsOfferLineGiven (whole : Bool) (ms : List Member) (o : Offer) (line : LineFacts) : Type 0 where
+  pub refuses : RefusesOffer whole ms o line
+  pub first : IsFirstOf (IsRefusingLine whole o (offer_demands (participants ms))) offer_lines line.field
+
+-- of an initial domain: a line of the count, the maximum's before the limit's; without one a line for each place; without these one for each offer
 abbrev pub IsFirstConflict : PlatformFacts → Forest Member → Conflict → Type 0
 IsFirstConflict platform d (Count line) = IsFirstReason (is_none (choices d)) platform (participants (settled d)) (reasons.Count line.field)
 IsFirstConflict platform d (Places lines) = IsFirstReason (is_none (choices d)) platform (participants (settled d)) reasons.NoPlace
-    × AllZip (NamesFirstRefused (settled d)) (places_of platform.heaps) lines
+    × AllZip (IsPlaceLineGiven (settled d)) (places_of platform.heaps) lines
 IsFirstConflict platform d (Offers lines) = IsFirstReason (is_none (choices d)) platform (participants (settled d)) reasons.NoOffer
-    × AllZip (HasFirstLine (is_none (choices d)) (settled d)) (offers_of platform) lines
+    × AllZip (IsOfferLineGiven (is_none (choices d)) (settled d)) (offers_of platform) lines
 IsFirstConflict platform d (Fixed field node) = ⊥
 
--- of an attached domain: the count, too little before too much; then the first participant whom the settings fail, with the first field
+-- of an attached domain: a line of the count, too few before too many; without one the first participant whom the settings fail, with the
+-- first field in which they do
 abbrev pub IsFirstFixedConflict : PlatformFacts → Terms → Forest Member → Conflict → Type 0
 IsFirstFixedConflict platform terms d (Count line) =
     IsFirstOf (λ field. IsFixedCountLine terms.settings.count field (counts_asked (participants (terms.accepted ++ settled d)))) (MinBufferCount ∷ MaxBufferCount ∷ []) line.field
 IsFirstFixedConflict platform terms d (Fixed field node) = IsCounted (counts_asked (participants (terms.accepted ++ settled d))) terms.settings.count
-    × ((first : Member) × (asked : Participant) × IsFirstWithout (CoversOn platform terms.settings) (settled d) first asked
-    × IsFirstUncovered field platform terms.settings asked × (node ≡ first.path))
+    × IsFirstWithout (CoversOn platform terms.settings) (IsFirstUncovered field platform terms.settings) (settled d) node
 IsFirstFixedConflict platform terms d (Places lines) = ⊥
 IsFirstFixedConflict platform terms d (Offers lines) = ⊥
 

@@ -1,10 +1,12 @@
 //! What participants of a tree ask of the number of buffers, and why a number doesn't suit them.
 
-ghost use Rattle.std.specs.Prelude.{◌≡◌, ◌≤◌, List, All, IfSome, IfNone, length};
+ghost use Rattle.std.specs.Prelude.{◌≡◌, ◌≤◌, List, [], ◌∷◌, All, IfSome, IfNone, length};
 ghost use Rattle.sysmem_counts.specs.Bounds.{IsTallyOf};
 ghost use Rattle.sysmem_counts.specs.Counts.{IsCounted, IsFixedCountLine};
 ghost use Rattle.sysmem_counts.specs.declared.constraints.CountConstraints.{CountConstraints as Counted};
+ghost use Rattle.sysmem_counts.specs.declared.field.Field.TheVariants.{MinBufferCount, MaxBufferCount};
 ghost use Rattle.sysmem_merge.specs.Demands.{counts_asked};
+ghost use Rattle.sysmem_merge.specs.First.{IsFirstOf};
 ghost use Rattle.sysmem_proof.specs.Members.{members_at, participants};
 ghost use Rattle.sysmem_tree.specs.Nodes.{HasNode};
 
@@ -33,6 +35,9 @@ pub(crate) fn fixed_line(counts: &CountBounds, count: u32) -> Option<Field>
     requires { count ≤ 128 }
     ensures line { (ps : List Counted) → IsTallyOf counts.now ps
         → IfSome result (λ field. IsFixedCountLine count field ps) }
+    ensures first { (ps : List Counted) → IsTallyOf counts.now ps
+        → IfSome result (IsFirstOf (λ field. IsFixedCountLine count field ps)
+        (MinBufferCount ∷ MaxBufferCount ∷ [])) }
     ensures suits { (ps : List Counted) → IsTallyOf counts.now ps
         → IfNone result (IsCounted ps count) }
 {

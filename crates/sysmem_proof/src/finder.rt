@@ -5,6 +5,7 @@ ghost use Rattle.sysmem_merge.specs.declared.settings.Settings.{Settings as Sett
 ghost use Rattle.sysmem_proof.specs.Base.{IsElsewhere, IsGivenBase, terms_of};
 ghost use Rattle.sysmem_proof.specs.Certificate.{RefuseBeforeFor};
 ghost use Rattle.sysmem_proof.specs.Conflict.{IsConflict, IsConflictFor, IsFixedConflict};
+ghost use Rattle.sysmem_proof.specs.FirstConflict.{IsFirstConflict, IsFirstConflictFor, IsFirstFixedConflict};
 ghost use Rattle.sysmem_proof.specs.Found.{AreSettledAt, IsBestChoice};
 ghost use Rattle.sysmem_proof.specs.Members.{members_at};
 ghost use Rattle.sysmem_proof.specs.Refusals.{StandFor};
@@ -95,6 +96,10 @@ fn find_initial(
         → StandFor (members_at tree.now.nodes nodes.now) (settled d)
         → whole ≡ is_none (choices d)
         → IfOk result (λ found. IfSome found (IsConflict platform.now d)) }
+    ensures first { (d : Forest Member)
+        → StandFor (members_at tree.now.nodes nodes.now) (settled d)
+        → whole ≡ is_none (choices d)
+        → IfOk result (λ found. IfSome found (IsFirstConflict platform.now d)) }
     ensures none { (d : Forest Member)
         → StandFor (members_at tree.now.nodes nodes.now) (settled d)
         → whole ≡ is_none (choices d)
@@ -132,6 +137,12 @@ fn find_on_base(
         (members_at tree.now.nodes base.now.accepted ++ settled d)
         → IfOk result (λ found. IfSome found
         (IsFixedConflict platform.now (terms_of tree.now.nodes base.now) d)) }
+    ensures first { (d : Forest Member)
+        → StandFor (members_at tree.now.nodes nodes.now) (settled d)
+        → StandFor (members_at tree.now.nodes (base.now.accepted ++ nodes.now))
+        (members_at tree.now.nodes base.now.accepted ++ settled d)
+        → IfOk result (λ found. IfSome found
+        (IsFirstFixedConflict platform.now (terms_of tree.now.nodes base.now) d)) }
     ensures none { (d : Forest Member)
         → StandFor (members_at tree.now.nodes nodes.now) (settled d)
         → StandFor (members_at tree.now.nodes (base.now.accepted ++ nodes.now))
@@ -174,6 +185,10 @@ pub fn find_conflict(
         → after (shape_of tree.now.nodes domain) prefix.now ≡ Some d
         → IfOk result (λ found. IfSome found (IsConflictFor platform.now
         (option_map (terms_of tree.now.nodes) (option_map (λ b. b.now) base.entry)) d)) }
+    ensures first { (d : Forest Member)
+        → after (shape_of tree.now.nodes domain) prefix.now ≡ Some d
+        → IfOk result (λ found. IfSome found (IsFirstConflictFor platform.now
+        (option_map (terms_of tree.now.nodes) (option_map (λ b. b.now) base.entry)) d)) }
     ensures none { (d : Forest Member)
         → after (shape_of tree.now.nodes domain) prefix.now ≡ Some d
         → IfOk result (λ found. IfNone found ((t : Settled) × MeetsSettled platform.now
@@ -209,6 +224,10 @@ pub fn find_conflict_as(
     ensures conflict { (d : Forest Member)
         → after (shape_of tree.now.nodes domain) prefix.now ≡ Some d
         → IfOk result (λ found. IfSome found (IsConflictFor platform.now
+        (option_map (terms_of tree.now.nodes) (option_map (λ b. b.now) base.entry)) d)) }
+    ensures first { (d : Forest Member)
+        → after (shape_of tree.now.nodes domain) prefix.now ≡ Some d
+        → IfOk result (λ found. IfSome found (IsFirstConflictFor platform.now
         (option_map (terms_of tree.now.nodes) (option_map (λ b. b.now) base.entry)) d)) }
     ensures none { (d : Forest Member)
         → after (shape_of tree.now.nodes domain) prefix.now ≡ Some d

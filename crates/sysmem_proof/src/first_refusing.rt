@@ -1,17 +1,19 @@
 //! The first of some participants who refuses an offer, a place, or settings that are given.
 
-ghost use Rattle.std.specs.Prelude.{◌≡◌, ◌<◌, true, List, [], ◌∷◌, All, Any, Contains, IfSome, IfNone, IsTrue, length, option_map};
+ghost use Rattle.std.specs.Prelude.{◌≡◌, ◌<◌, true, false, List, [], ◌∷◌, Some, All, Any, Contains, IfSome, IfNone, IsSomeAnd, IsTrue, length, option_map};
 ghost use Rattle.std.specs.List.{cons_option};
-ghost use Rattle.sysmem_memory.specs.PlaceTable.{AllowsPlace, refuses_by};
-ghost use Rattle.sysmem_merge.specs.Demands.{OfferDemand, offer_demands};
-ghost use Rattle.sysmem_merge.specs.Failing.{FailsOn};
+ghost use Rattle.sysmem_memory.specs.PlaceTable.{AllowsPlace, first_refusing, refuses_by};
+ghost use Rattle.sysmem_merge.specs.Demands.{OfferDemand, offer_demand, offer_demands};
+ghost use Rattle.sysmem_merge.specs.Failing.{FailsOn, IsFirstUncovered};
 ghost use Rattle.sysmem_merge.specs.OfferRead.{IsOfferRead};
 ghost use Rattle.sysmem_merge.specs.Offers.{has_colour, has_format};
 ghost use Rattle.sysmem_merge.specs.Reasons.{IsOfferLine};
 ghost use Rattle.sysmem_merge.specs.Settings.{CoversOn};
+ghost use Rattle.sysmem_proof.specs.FirstConflict.{IsFirstWithout};
 ghost use Rattle.sysmem_proof.specs.Members.{members_at, participants};
-ghost use Rattle.sysmem_proof.specs.Reading.{IsReading};
+ghost use Rattle.sysmem_proof.specs.Reading.{IsReading, TakesIn};
 ghost use Rattle.sysmem_tree.specs.Nodes.{HasNode};
+ghost use Rattle.sysmem_tree.specs.Path.{path_of};
 
 use crate::asked::add_read;
 use sysmem_counts::Field;
@@ -57,8 +59,10 @@ fn has_colour(entries: &[Entry], offer: &Offer) -> bool
 
 /// Whether a participant, if there is one, doesn't take the offer, by this field: its format or its colour space.
 fn lacks_offer(field: Field, asked: Option<&Constraints>, offer: &Offer) -> bool
-    ensures { IsTrue result → IsOfferLine field offer.now
+    ensures line { IsTrue result → IsOfferLine field offer.now
         (offer_demands (cons_option (option_map (λ one. one.now) asked.entry) [])) }
+    ensures takes { result ≡ false → All (λ p. TakesIn field offer.now (offer_demand p))
+        (cons_option (option_map (λ one. one.now) asked.entry) []) }
 {
     let Some(one) = asked else {
         return false;
@@ -82,6 +86,8 @@ pub(crate) fn first_lacking(
     ensures there { IfSome result (Contains nodes.now) }
     ensures line { IfSome result (λ node. IsOfferLine field offer.now
         (offer_demands (participants (members_at tree.now.nodes (node ∷ []))))) }
+    ensures none { IfNone result (All (λ p. TakesIn field offer.now (offer_demand p))
+        (participants (members_at tree.now.nodes nodes.now))) }
 {
     for node in nodes {
         if lacks_offer(field, tree.constraints_of(*node), offer) {
@@ -130,6 +136,9 @@ fn refused_place(
         (cons_option (option_map (λ one. one.now) asked.entry) [])) }
     ensures allowed { IfNone result (All (λ p. AllowsPlace p.memory p.usage heap.now domain)
         (cons_option (option_map (λ one. one.now) asked.entry) [])) }
+    ensures first { IfSome result (λ field.
+        IsSomeAnd (option_map (λ one. one.now) asked.entry)
+        (λ p. first_refusing p.memory p.usage heap.now domain ≡ Some field)) }
 {
     let one = asked?;
     refuses(one.memory(), one.usage(), heap, domain)
@@ -149,6 +158,10 @@ pub(crate) fn first_refused(
         (participants (members_at tree.now.nodes (first.node ∷ [])))) }
     ensures allowed { IfNone result (All (λ p. AllowsPlace p.memory p.usage heap.now domain)
         (participants (members_at tree.now.nodes nodes.now))) }
+    ensures first { IfSome result (λ first. IsFirstWithout
+        (λ p. AllowsPlace p.memory p.usage heap.now domain)
+        (λ p. first_refusing p.memory p.usage heap.now domain ≡ Some first.field)
+        (members_at tree.now.nodes nodes.now) (path_of tree.now.nodes first.node)) }
 {
     for node in nodes {
         if let Some(field) = refused_place(tree.constraints_of(*node), heap, domain) {
@@ -170,6 +183,9 @@ fn failing_field(
         (cons_option (option_map (λ one. one.now) asked.entry) [])) }
     ensures covered { IfNone result (All (CoversOn platform.now settings.now)
         (cons_option (option_map (λ one. one.now) asked.entry) [])) }
+    ensures first { IfSome result (λ field.
+        IsSomeAnd (option_map (λ one. one.now) asked.entry)
+        (IsFirstUncovered field platform.now settings.now)) }
 {
     first_uncovered(platform, settings, asked?)
 }
@@ -189,6 +205,9 @@ pub(crate) fn first_failing(
         (participants (members_at tree.now.nodes (first.node ∷ [])))) }
     ensures covered { IfNone result (All (CoversOn platform.now settings.now)
         (participants (members_at tree.now.nodes nodes.now))) }
+    ensures first { IfSome result (λ first. IsFirstWithout (CoversOn platform.now settings.now)
+        (IsFirstUncovered first.field platform.now settings.now)
+        (members_at tree.now.nodes nodes.now) (path_of tree.now.nodes first.node)) }
 {
     for node in nodes {
         if let Some(field) = failing_field(platform, settings, tree.constraints_of(*node)) {

@@ -4,6 +4,7 @@ ghost use Rattle.std.specs.Prelude.{◌≡◌, ◌≢◌, Bool, List, IsTrue};
 ghost use Rattle.sysmem_counts.specs.declared.field.Field.TheVariants.{ColorSpaces, UnnamedColorSpace};
 ghost use Rattle.sysmem_formats.specs.declared.offer.Offer.TheVariants.{NoImage};
 ghost use Rattle.sysmem_proof.specs.Conflict.{RefusesOffer};
+ghost use Rattle.sysmem_proof.specs.FirstConflict.{AreOfPair};
 ghost use Rattle.sysmem_proof.specs.Line.{LineFacts};
 ghost use Rattle.sysmem_tree.specs.Shape.{Member};
 
@@ -17,6 +18,8 @@ pub(crate) fn is_shared(field: Field, one: &Offer, other: &Offer) -> bool
     ensures shared { IsTrue result → (whole : Bool) (ms : List Member) (line : LineFacts)
         → line.field ≡ field → RefusesOffer whole ms one.now line
         → RefusesOffer whole ms other.now line }
+    ensures pair { IsTrue result → AreOfPair one.now other.now }
+    ensures ignores { IsTrue result → (field ≢ ColorSpaces) × (field ≢ UnnamedColorSpace) }
 {
     let (Offer::Image(pair, _), Offer::Image(own, _)) = (one, other) else {
         return false;

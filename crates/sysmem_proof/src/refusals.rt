@@ -1,16 +1,17 @@
 //! Lines that refuse the offers of a platform, or its places, one after another.
 
 ghost use Rattle.std.specs.Prelude.{◌≡◌, ◌⊎◌, ◌+◌, true, List, ◌∷◌, All, Some, IfOk, IfSome, IfNone, IsTrue, filter, option_map, slice_get};
-ghost use Rattle.sysmem_counts.specs.declared.field.Field.TheVariants.{PixelFormat};
+ghost use Rattle.sysmem_counts.specs.declared.field.Field.TheVariants.{ColorSpaces, PixelFormat};
 ghost use Rattle.sysmem_formats.specs.declared.offer.Offer.{Offer as Offered};
 ghost use Rattle.sysmem_memory.specs.Domain.{has_domain};
 ghost use Rattle.sysmem_memory.specs.Heap.{HeapFacts};
 ghost use Rattle.sysmem_memory.specs.Listed.{HeapPlace, places_from, places_of, put_if};
-ghost use Rattle.sysmem_merge.specs.Demands.{offer_demands};
+ghost use Rattle.sysmem_merge.specs.Demands.{offer_demand, offer_demands};
 ghost use Rattle.sysmem_merge.specs.OfferRead.{IsRefusingLine};
 ghost use Rattle.sysmem_merge.specs.Reasons.{IsOfferLine, IsUnnamedLine};
-ghost use Rattle.sysmem_proof.specs.Conflict.{RefusesOffer, RefusesPlace};
-ghost use Rattle.sysmem_proof.specs.Members.{members_at};
+ghost use Rattle.sysmem_proof.specs.FirstConflict.{IsOfferLineGiven, IsPlaceLineGiven};
+ghost use Rattle.sysmem_proof.specs.Members.{members_at, participants};
+ghost use Rattle.sysmem_proof.specs.Reading.{TakesIn};
 ghost use Rattle.sysmem_proof.specs.Refusals.{AreRefusals, AreSoFar, Ends, GoOn, RefusesLast, ShareOffer, SharePlace, StandFor};
 ghost use Rattle.sysmem_proof.specs.Whom.{names};
 ghost use Rattle.sysmem_sanitise.specs.Participant.{Participant};
@@ -74,9 +75,9 @@ fn line_again(
     before: &[Line],
 ) -> Result<Option<Line>, AllocError>
     requires { All (HasNode tree.now.nodes) nodes.now }
-    ensures { (whole : _) (ms : List Member)
-        → RefusesLast (RefusesOffer whole ms) earlier.now before.now
-        → IfOk result (λ line. IfSome line (RefusesOffer whole ms offer.now)) }
+    ensures { (whole : _) (ms : List Member) → StandFor (members_at tree.now.nodes nodes.now) ms
+        → RefusesLast (IsOfferLineGiven whole ms) earlier.now before.now
+        → IfOk result (λ line. IfSome line (IsOfferLineGiven whole ms offer.now)) }
 {
     let Some(last) = before.last() else {
         return Ok(None);
@@ -85,18 +86,24 @@ fn line_again(
     if !is_shared(field, earlier, offer) {
         return Ok(None);
     }
-    if !comes_first(field) && first_lacking(tree, nodes, Field::ColorSpaces, offer).is_some() {
+    if !is_before_colour(tree, nodes, field, offer) {
         return Ok(None);
     }
     let line = last.again()?;
     Ok(Some(line))
 }
 
-/// Whether no line of a colour space comes before one with this field.
-fn comes_first(field: Field) -> bool
-    ensures { IsTrue result → field ≡ PixelFormat }
+/// Whether no line of the colour space comes before one with this field: it is that of the format, or all take the offer's colour space.
+fn is_before_colour(tree: &Tree, nodes: &[NodeId], field: Field, offer: &Offer) -> bool
+    requires { All (HasNode tree.now.nodes) nodes.now }
+    ensures { IsTrue result → (field ≡ PixelFormat)
+        ⊎ All (λ p. TakesIn ColorSpaces offer.now (offer_demand p))
+        (participants (members_at tree.now.nodes nodes.now)) }
 {
-    matches!(field, Field::PixelFormat)
+    match field {
+        Field::PixelFormat => true,
+        _ => first_lacking(tree, nodes, Field::ColorSpaces, offer).is_none(),
+    }
 }
 
 /// The first line of the table that is true for the offer of the participants at these nodes, `None` where they share it.
@@ -110,7 +117,7 @@ fn offer_line(
 ) -> Result<Option<Line>, AllocError>
     requires { All (HasNode tree.now.nodes) nodes.now }
     ensures line { (ms : List Member) → StandFor (members_at tree.now.nodes nodes.now) ms
-        → IfOk result (λ line. IfSome line (RefusesOffer whole ms offer.now)) }
+        → IfOk result (λ line. IfSome line (IsOfferLineGiven whole ms offer.now)) }
     ensures share { (ms : List Member) → StandFor (members_at tree.now.nodes nodes.now) ms
         → IfOk result (λ line. IfNone line (ShareOffer whole ms offer.now)) }
 {
@@ -141,9 +148,9 @@ fn next_line(
 ) -> Result<Option<Line>, AllocError>
     requires there { All (HasNode tree.now.nodes) nodes.now }
     requires last { (ms : List Member) → StandFor (members_at tree.now.nodes nodes.now) ms
-        → RefusesLast (RefusesOffer whole ms) earlier.now before.now }
+        → RefusesLast (IsOfferLineGiven whole ms) earlier.now before.now }
     ensures line { (ms : List Member) → StandFor (members_at tree.now.nodes nodes.now) ms
-        → IfOk result (λ line. IfSome line (RefusesOffer whole ms offer.now)) }
+        → IfOk result (λ line. IfSome line (IsOfferLineGiven whole ms offer.now)) }
     ensures share { (ms : List Member) → StandFor (members_at tree.now.nodes nodes.now) ms
         → IfOk result (λ line. IfNone line (ShareOffer whole ms offer.now)) }
 {
@@ -166,7 +173,7 @@ pub(crate) fn refused_offers(
 ) -> Result<Refusals, AllocError>
     requires { All (HasNode tree.now.nodes) nodes.now }
     ensures { (ms : List Member) → StandFor (members_at tree.now.nodes nodes.now) ms
-        → IfOk result (AreRefusals (RefusesOffer whole ms)
+        → IfOk result (AreRefusals (IsOfferLineGiven whole ms)
         (Ends until (λ (o : Offered). o) (ShareOffer whole ms)) (offers_of platform.now)) }
 {
     let mut lines = Vec::new(alloc);
@@ -197,7 +204,7 @@ fn place_line(
     requires { All (HasNode tree.now.nodes) nodes.now }
     ensures line { (ms : List Member) → StandFor (members_at tree.now.nodes nodes.now) ms
         → IfOk result (λ line. IfSome line
-        (RefusesPlace ms (record { place = place; heap = heap.now }))) }
+        (IsPlaceLineGiven ms (record { place = place; heap = heap.now }))) }
     ensures end { (ms : List Member) → StandFor (members_at tree.now.nodes nodes.now) ms
         → IfOk result (λ line. IfNone line (Ends until (λ (p : HeapPlace). p.place) (SharePlace ms)
         (record { place = place; heap = heap.now }))) }
@@ -224,10 +231,10 @@ fn push_place(
 ) -> Result<bool, AllocError>
     requires { All (HasNode tree.now.nodes) nodes.now }
     ensures { (ms : List Member) → StandFor (members_at tree.now.nodes nodes.now) ms
-        → (xs left : List HeapPlace) → AreSoFar (RefusesPlace ms) xs lines.old.items
+        → (xs left : List HeapPlace) → AreSoFar (IsPlaceLineGiven ms) xs lines.old.items
         (put_if (has_domain heap.now.domains place.coherency)
         (record { place = place; heap = heap.now }) left)
-        → IfOk result (GoOn (RefusesPlace ms)
+        → IfOk result (GoOn (IsPlaceLineGiven ms)
         (Ends until (λ (p : HeapPlace). p.place) (SharePlace ms)) xs lines.new.items left) }
 {
     if !heap.domains.has(place.coherency) {
@@ -253,9 +260,9 @@ fn push_heap(
     requires { All (HasNode tree.now.nodes) nodes.now }
     ensures { (ms : List Member) → StandFor (members_at tree.now.nodes nodes.now) ms
         → (xs : List HeapPlace) (heaps : List HeapFacts)
-        → AreSoFar (RefusesPlace ms) xs lines.old.items
+        → AreSoFar (IsPlaceLineGiven ms) xs lines.old.items
         (places_from index (heap.now ∷ heaps))
-        → IfOk result (GoOn (RefusesPlace ms)
+        → IfOk result (GoOn (IsPlaceLineGiven ms)
         (Ends until (λ (p : HeapPlace). p.place) (SharePlace ms)) xs lines.new.items
         (places_from (index + 1) heaps)) }
 {
@@ -291,7 +298,7 @@ pub(crate) fn refused_places(
 ) -> Result<Refusals, AllocError>
     requires { All (HasNode tree.now.nodes) nodes.now }
     ensures { (ms : List Member) → StandFor (members_at tree.now.nodes nodes.now) ms
-        → IfOk result (AreRefusals (RefusesPlace ms)
+        → IfOk result (AreRefusals (IsPlaceLineGiven ms)
         (Ends until (λ (p : HeapPlace). p.place) (SharePlace ms))
         (places_of platform.now.heaps)) }
 {

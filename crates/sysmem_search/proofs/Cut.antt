@@ -8,7 +8,7 @@ use Rattle.sysmem_proof.specs.Matter.{Matter}
 use Rattle.sysmem_proof.specs.Verdict.{Meeting}
 use Rattle.sysmem_proof.specs.declared.refutation.Item.{Item}
 use Rattle.sysmem_proof.specs.declared.refutation.Item.TheVariants.{Split, Leaf}
-use Rattle.sysmem_search.specs.Cut.{AreCut, IsCut, SplitsAreMet}
+use Rattle.sysmem_search.specs.Cut.{AreCut, IsCut, AreFirstItems}
 use Rattle.sysmem_search.specs.Live.{SomeMeet}
 use Rattle.sysmem_tree.specs.Forest.{Forest, choices}
 use Rattle.sysmem_tree.specs.Shape.{Member}
@@ -20,23 +20,23 @@ zip_to R S step [] (y ∷ ys) h = absurd h
 zip_to R S step (x ∷ xs) [] h = absurd h
 zip_to R S step (x ∷ xs) (y ∷ ys) h = (step x y h.0, zip_to R S step xs ys h.1)
 
-module _ (Met : Meeting) (L : Conflicts) where
+module _ (Met : Meeting) (First L : Conflicts) where
   split_on : (n : ℕ) (xs ys : List Item) (ds es : List (Forest Member)) (o : Option (List (Forest Member)))
-      → ((fs : List (Forest Member)) → Refutes L xs fs → SplitsAreMet Met xs fs → SplitsAreMet Met (xs ++ ys) (fs ++ es))
-      → IsSomeAnd o (λ fs. (length fs ≡ n) × Refutes L xs (fs ++ ds)) → IfSome o (λ fs. SplitsAreMet Met xs (fs ++ ds)) → IfSome o (λ fs. SplitsAreMet Met (xs ++ ys) (fs ++ (ds ++ es)))
+      → ((fs : List (Forest Member)) → Refutes L xs fs → AreFirstItems Met First xs fs → AreFirstItems Met First (xs ++ ys) (fs ++ es))
+      → IsSomeAnd o (λ fs. (length fs ≡ n) × Refutes L xs (fs ++ ds)) → IfSome o (λ fs. AreFirstItems Met First xs (fs ++ ds)) → IfSome o (λ fs. AreFirstItems Met First (xs ++ ys) (fs ++ (ds ++ es)))
   split_on n xs ys ds es None more r a = tt
-  split_on n xs ys ds es (Some fs) more r a = subst (SplitsAreMet Met (xs ++ ys)) (append_assoc fs ds es) (more (fs ++ ds) r.1 a)
+  split_on n xs ys ds es (Some fs) more r a = subst (AreFirstItems Met First (xs ++ ys)) (append_assoc fs ds es) (more (fs ++ ds) r.1 a)
 
-  cut_append : (xs ys : List Item) (ds es : List (Forest Member)) → Refutes L xs ds → SplitsAreMet Met xs ds → SplitsAreMet Met ys es → SplitsAreMet Met (xs ++ ys) (ds ++ es)
+  cut_append : (xs ys : List Item) (ds es : List (Forest Member)) → Refutes L xs ds → AreFirstItems Met First xs ds → AreFirstItems Met First ys es → AreFirstItems Met First (xs ++ ys) (ds ++ es)
   cut_append [] ys [] es r a b = b
   cut_append [] ys (d ∷ ds) es r a b = absurd r
   cut_append (Leaf c ∷ xs) ys [] es r a b = absurd r
   cut_append (Split n ∷ xs) ys [] es r a b = absurd r
-  cut_append (Leaf c ∷ xs) ys (d ∷ ds) es r a b = cut_append xs ys ds es r.1 a b
+  cut_append (Leaf c ∷ xs) ys (d ∷ ds) es r a b = (a.0, cut_append xs ys ds es r.1 a.1 b)
   cut_append (Split n ∷ xs) ys (d ∷ ds) es r a b = (a.0, split_on n xs ys ds es (choices d) (λ fs r h. cut_append xs ys fs es r h b) r a.1)
 
-  cut_each : (es : List (Forest Member)) (rs : List (List Item)) → AllZip (λ e items. Refutes L items (e ∷ [])) es rs → AllZip (λ e items. SplitsAreMet Met items (e ∷ [])) es rs
-      → SplitsAreMet Met (flat_map (λ items. items) rs) es
+  cut_each : (es : List (Forest Member)) (rs : List (List Item)) → AllZip (λ e items. Refutes L items (e ∷ [])) es rs → AllZip (λ e items. AreFirstItems Met First items (e ∷ [])) es rs
+      → AreFirstItems Met First (flat_map (λ items. items) rs) es
   cut_each [] [] zip cut = tt
   cut_each [] (r ∷ rs) zip cut = absurd zip
   cut_each (e ∷ es) [] zip cut = absurd zip
@@ -44,11 +44,11 @@ module _ (Met : Meeting) (L : Conflicts) where
 
   -- a split where some settings meet what is settled, and behind it refutations of each choice
   pub splits_cut : (d : Forest Member) (es : List (Forest Member)) (rs : List (List Item)) → choices d ≡ Some es → SomeMeet Met d
-      → AllZip (λ e items. Refutes L items (e ∷ [])) es rs → AllZip (λ e items. SplitsAreMet Met items (e ∷ [])) es rs → SplitsAreMet Met (Split (length es) ∷ flat_map (λ items. items) rs) (d ∷ [])
+      → AllZip (λ e items. Refutes L items (e ∷ [])) es rs → AllZip (λ e items. AreFirstItems Met First items (e ∷ [])) es rs → AreFirstItems Met First (Split (length es) ∷ flat_map (λ items. items) rs) (d ∷ [])
   splits_cut d es rs open' met zip cut = (
     met,
-    subst (λ o. IfSome o (λ fs. SplitsAreMet Met (flat_map (λ items. items) rs) (fs ++ []))) (sym open')
-        (subst (SplitsAreMet Met (flat_map (λ items. items) rs)) (sym (append-nil es)) (cut_each es rs zip cut)),
+    subst (λ o. IfSome o (λ fs. AreFirstItems Met First (flat_map (λ items. items) rs) (fs ++ []))) (sym open')
+        (subst (AreFirstItems Met First (flat_map (λ items. items) rs)) (sym (append-nil es)) (cut_each es rs zip cut)),
   )
 
 -- refutations of the choices before the first go in front of those after it

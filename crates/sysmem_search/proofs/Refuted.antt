@@ -6,6 +6,7 @@ use Rattle.std.proofs.lemmas.List.{append-nil, drop_more, flat_map_more, length-
 use Rattle.std.proofs.lemmas.Option.{same_Some, none-some, slice_get_within}
 use Rattle.sysmem_proof.specs.Certificate.{IsRefutation, RefutesEarlier}
 use Rattle.sysmem_proof.specs.Conflict.{IsConflictFor}
+use Rattle.sysmem_proof.specs.FirstConflict.{IsFirstConflictFor}
 use Rattle.sysmem_proof.specs.declared.refutation.Item.{Item}
 use Rattle.sysmem_proof.specs.declared.refutation.Item.TheVariants.{Split}
 use Rattle.sysmem_proof.specs.Matter.{Matter, forest, terms}
@@ -174,7 +175,7 @@ module _ (m : Matter) where
         refutation = Split (length so.alternatives) ∷ flat_map (λ xs. xs) so.refutations;
         items = so.items;
         refutes = splits_refute (IsConflictFor m.platform (terms m)) d so.alternatives so.refutations so.open' refuted;
-        cut = splits_cut (MeetsSoFar m) (IsConflictFor m.platform (terms m)) d so.alternatives so.refutations so.open' met refuted
+        cut = splits_cut (MeetsSoFar m) (IsFirstConflictFor m.platform (terms m)) (IsConflictFor m.platform (terms m)) d so.alternatives so.refutations so.open' met refuted
             (zip_to (IsCutRefutation m) (IsCut m) (λ e items h. h.1) so.alternatives so.refutations each);
       } where
         take_all : {A : Type 0} (xs : List A) → take (length xs) xs ≡ xs

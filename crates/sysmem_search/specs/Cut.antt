@@ -1,8 +1,10 @@
--- Refutations that end where they can: no choice is gone on with after which nothing meets what is settled.
+-- Refutations that end where they can, by the conflict that comes first there: no choice is gone on with after which nothing meets what is settled.
 use Rattle.std.specs.Prelude.{ℕ, List, [], ◌∷◌, ◌++◌, IfSome, slice_get, take}
 use Rattle.std.specs.List.{AllZip}
 use Rattle.sysmem_proof.specs.CertificateFacts.{CertificateFacts}
-use Rattle.sysmem_proof.specs.Matter.{Matter, forest}
+use Rattle.sysmem_proof.specs.Certificate.{Conflicts}
+use Rattle.sysmem_proof.specs.FirstConflict.{IsFirstConflictFor}
+use Rattle.sysmem_proof.specs.Matter.{Matter, forest, terms}
 use Rattle.sysmem_proof.specs.Verdict.{Meeting}
 use Rattle.sysmem_proof.specs.declared.certificate.Proof.{Proof}
 use Rattle.sysmem_proof.specs.declared.certificate.Proof.TheVariants as proves
@@ -15,16 +17,16 @@ use Rattle.sysmem_search.specs.Question.{MeetsSoFar}
 use Rattle.sysmem_tree.specs.Forest.{Forest, choices}
 use Rattle.sysmem_tree.specs.Shape.{Member}
 
--- of items that refute forests in turn: each split stands where some settings meet what is settled
-abbrev pub SplitsAreMet : Meeting → List Item → List (Forest Member) → Type 0
-SplitsAreMet Met [] ds = Unit {0}
-SplitsAreMet Met (item ∷ items) [] = Unit {0}
-SplitsAreMet Met (Leaf conflict ∷ items) (d ∷ ds) = SplitsAreMet Met items ds
-SplitsAreMet Met (Split n ∷ items) (d ∷ ds) = SomeMeet Met d × IfSome (choices d) (λ es. SplitsAreMet Met items (es ++ ds))
+-- of items that refute forests in turn: each split stands where some settings meet what is settled, and each leaf has the conflict that comes first
+abbrev pub AreFirstItems : Meeting → Conflicts → List Item → List (Forest Member) → Type 0
+AreFirstItems Met First [] ds = Unit {0}
+AreFirstItems Met First (item ∷ items) [] = Unit {0}
+AreFirstItems Met First (Leaf conflict ∷ items) (d ∷ ds) = First d conflict × AreFirstItems Met First items ds
+AreFirstItems Met First (Split n ∷ items) (d ∷ ds) = SomeMeet Met d × IfSome (choices d) (λ es. AreFirstItems Met First items (es ++ ds))
 
 -- of items that refute a forest
 abbrev pub IsCut : Matter → Forest Member → List Item → Type 0
-IsCut m d items = SplitsAreMet (MeetsSoFar m) items (d ∷ [])
+IsCut m d items = AreFirstItems (MeetsSoFar m) (IsFirstConflictFor m.platform (terms m)) items (d ∷ [])
 
 -- of items that refute, for each of the choices in turn, the choices before it
 abbrev pub AreCut : Matter → Forest Member → List ℕ → List (List (List Item)) → Type 0

@@ -4,6 +4,7 @@ ghost use Rattle.std.specs.Prelude.{◌≡◌, ◌≤◌, ◌<◌, ◌↔◌, �
 ghost use Rattle.sysmem_merge.specs.declared.settings.Settings.{Settings as Settled};
 ghost use Rattle.sysmem_search.specs.Live.{SomeMeet};
 ghost use Rattle.sysmem_proof.specs.Conflict.{IsConflictFor};
+ghost use Rattle.sysmem_proof.specs.FirstConflict.{IsFirstConflictFor};
 ghost use Rattle.sysmem_search.specs.Question.{MeetsOf, MeetsHere, MeetsSoFar, IsBestOf};
 ghost use Rattle.sysmem_proof.specs.Matter.{forest, terms};
 ghost use Rattle.sysmem_search.specs.Standing.{Standing};
@@ -165,13 +166,17 @@ impl<'a> Question<'a> {
         level.kept.has_best(self.platform, self.base)
     }
 
-    /// A conflict of the participants that the choices settle, where no settings meet them.
+    /// The conflict of the participants that the choices settle which comes first, where no settings meet them.
     pub(crate) fn conflict(&self) -> Result<Conflict, AllocError>
         requires prefix { IsPrefix (forest self.now.matter) self.now.choices }
         requires unmet { IfSome (after (forest self.now.matter) self.now.choices)
             (λ d. (t : Settled) → ¬ (MeetsHere self.now.matter d t)) }
-        ensures { IfOk result (λ conflict. IfSome (after (forest self.now.matter) self.now.choices)
+        ensures conflict { IfOk result (λ conflict.
+            IfSome (after (forest self.now.matter) self.now.choices)
             (λ d. IsConflictFor self.now.matter.platform (terms self.now.matter) d conflict)) }
+        ensures first { IfOk result (λ conflict.
+            IfSome (after (forest self.now.matter) self.now.choices)
+            (λ d. IsFirstConflictFor self.now.matter.platform (terms self.now.matter) d conflict)) }
     {
         let whole = self.children().is_none();
         let found = find_conflict_as(

@@ -1,11 +1,16 @@
 -- The lines end at the offer and the place of the settings.
-use Rattle.std.proofs.Common.{◌≡◌, [], sym, ◌∙◌, subst}
+use Rattle.std.proofs.Common.{◌≡◌, true, [], sym, ◌∙◌, subst}
+use Rattle.sysmem_memory.specs.Listed.{places_of}
+use Rattle.sysmem_sanitise.specs.Platform.{offers_of}
 use Rattle.std.proofs.lemmas.Option.{same_Some}
 use Rattle.sysmem_tree.specs.Forest.{settled}
 use Rattle.sysmem_proof.specs.Base.{IsElsewhere}
+use Rattle.sysmem_proof.specs.Conflict.{RefusesOffer, RefusesPlace}
+use Rattle.sysmem_proof.specs.FirstConflict.{IsOfferLineGiven, IsPlaceLineGiven}
 use Rattle.sysmem_proof.specs.Verdict.{IsBestOfAll}
 use Rattle.sysmem_proof.proofs.BeforeBest.{before_initial, best_initial, offers_before, places_before}
 use Rattle.sysmem_proof.proofs.Conflicts.{LineLaws}
+use Rattle.sysmem_proof.proofs.FirstKinds.{refusals_weaker}
 use Rattle.sysmem_proof.proofs.SettledNodes.{found_at, no_nodes, no_pairs}
 use Rattle.sysmem_proof.proofs.finder.lines_before.Goals as goal
 
@@ -29,6 +34,6 @@ returns c = λ members selects earlier.
     let two = found_at c.args.tree.now.nodes members [] c.in_ok-nodes.nodes.items c.deref-2.result.now c.deref-2.ensures.value
     (c.in_ok-nodes.ensures members [] selects.leads (no_nodes (IsElsewhere c.args.tree.now.nodes c.args.domain)) no_pairs) in
     before_initial _ c.args.base c.args.platform.now c.args.tree.now.nodes (settled members) c.args.settings.now (record { earlier = earlier; offers = c.into_lines.result; places = c.into_lines-2.result }) none (record {
-      offers = offers_before laws c.args.platform.now (settled members) c.args.settings.now best c.in_ok-offers.offers c.into_lines.result c.into_lines.ensures (c.in_ok-offers.ensures (settled members) one.stand);
-      places = places_before laws c.args.platform.now (settled members) c.args.settings.now best c.in_ok-places.places c.into_lines-2.result c.into_lines-2.ensures (c.in_ok-places.ensures (settled members) two.stand);
+      offers = offers_before laws c.args.platform.now (settled members) c.args.settings.now best c.in_ok-offers.offers c.into_lines.result c.into_lines.ensures (refusals_weaker (IsOfferLineGiven true (settled members)) (RefusesOffer true (settled members)) (λ o line given. given.refuses) _ (offers_of c.args.platform.now) _ (c.in_ok-offers.ensures (settled members) one.stand));
+      places = places_before laws c.args.platform.now (settled members) c.args.settings.now best c.in_ok-places.places c.into_lines-2.result c.into_lines-2.ensures (refusals_weaker (IsPlaceLineGiven (settled members)) (RefusesPlace (settled members)) (λ p line given. given.refuses) _ (places_of c.args.platform.now.heaps) _ (c.in_ok-places.ensures (settled members) two.stand));
     })

@@ -1,7 +1,8 @@
 -- One more to whom the place isn't refused.
-use Rattle.std.proofs.Common.{arith}
-use Rattle.sysmem_memory.specs.PlaceTable.{AllowsPlace}
+use Rattle.std.proofs.Common.{◌≡◌, Some, arith}
+use Rattle.sysmem_memory.specs.PlaceTable.{AllowsPlace, first_refusing}
 use Rattle.sysmem_proof.proofs.FirstOnes.{all_more, all_have}
+use Rattle.sysmem_proof.proofs.FirstWithout.{first_here}
 use Rattle.sysmem_proof.proofs.first_refusing.first_refused.Goals as goal
 
 pub loop-node-preserved : goal.loop-node-preserved
@@ -10,3 +11,7 @@ loop-node-preserved c = all_more c.args.tree.now.nodes c.args.nodes.now c.requir
 
 pub returns-clause-allowed : goal.returns-clause-allowed
 returns-clause-allowed c = all_have c.args.tree.now.nodes c.args.nodes.now c.loop-node.node-index (λ p. AllowsPlace p.memory p.usage c.args.heap.now c.args.domain) (omega (arith, c.loop-node-test.false)) c.loop-node.invariant
+
+pub returns-in-Some-clause-first : goal.returns-in-Some-clause-first
+returns-in-Some-clause-first c = first_here c.args.tree.now.nodes c.args.nodes.now c.requires c.loop-node.node-index c.node-item.result c.loop-node-test.true c.node-item.is _ c.constraints_of.ensures
+    (λ p. AllowsPlace p.memory p.usage c.args.heap.now c.args.domain) (λ p. first_refusing p.memory p.usage c.args.heap.now c.args.domain ≡ Some c.in-Some.field) c.loop-node.invariant c.in-Some.ensures.first

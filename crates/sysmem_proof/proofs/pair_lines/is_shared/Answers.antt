@@ -1,5 +1,5 @@
 -- A line of one offer of a pair is one of the others.
-use Rattle.std.proofs.Common.{refl, sym, ◌∙◌, subst}
+use Rattle.std.proofs.Common.{refl, sym, ◌∙◌, ap, subst}
 use Rattle.std.specs.Prelude.{◌≢◌}
 use Rattle.sysmem_counts.specs.declared.field.Field.TheVariants.{ColorSpaces, UnnamedColorSpace}
 use Rattle.sysmem_formats.specs.declared.offer.Offer.TheVariants.{Image}
@@ -19,3 +19,15 @@ returns-clause-shared c = λ same whole ms line heads refuses.
     let own = subst (λ p. RefusesOffer whole ms (Image p c.in-Image-Image.field-1-0) line) (c.is_same_pair.ensures same) here in
     subst (λ o. RefusesOffer whole ms o line) (sym c.in-Image-Image.is-1)
     (same_refusal whole ms c.in-Image-Image.own c.in-Image-Image.field-1-0 c.in-Image-Image.field-1-1 line line refl refl takes names own)
+
+pub returns-clause-pair : goal.returns-clause-pair
+returns-clause-pair c = λ same. record {
+  pair = c.in-Image-Image.own;
+  colour = c.in-Image-Image.field-1-0;
+  own = c.in-Image-Image.field-1-1;
+  first = c.in-Image-Image.is-0 ∙ ap (λ p. Image p c.in-Image-Image.field-1-0) (c.is_same_pair.ensures same);
+  second = c.in-Image-Image.is-1;
+}
+
+pub returns-clause-ignores : goal.returns-clause-ignores
+returns-clause-ignores c = λ same. c.ignores_colour.ensures c.if-not-ignores_colour.false

@@ -2,7 +2,7 @@
 use Rattle.std.proofs.Common.{List, ◌-◌, drop, length}
 use Rattle.sysmem_sanitise.specs.Platform.{offers_of}
 use Rattle.sysmem_tree.specs.Shape.{Member}
-use Rattle.sysmem_proof.specs.Conflict.{RefusesOffer}
+use Rattle.sysmem_proof.specs.FirstConflict.{IsOfferLineGiven}
 use Rattle.sysmem_proof.specs.Members.{members_at}
 use Rattle.sysmem_proof.specs.Refusals.{AreSoFar, RefusesLast, StandFor}
 use Rattle.sysmem_proof.proofs.refusals.refused_offers.Given as goal
@@ -10,8 +10,8 @@ use Rattle.sysmem_proof.proofs.refusals.refused_offers.Given as goal
 abbrev pub invariant-loop-offer : goal.invariant-loop-offer
 invariant-loop-offer l = record {
   so_far : (ms : List Member) → StandFor (members_at l.tree.nodes l.nodes) ms
-      → AreSoFar (RefusesOffer l.whole ms) (offers_of l.platform) l.lines.items (drop (length l.lines.items) (offers_of l.platform));
-  last : (ms : List Member) → StandFor (members_at l.tree.nodes l.nodes) ms → RefusesLast (RefusesOffer l.whole ms) l.earlier l.lines.items;
+      → AreSoFar (IsOfferLineGiven l.whole ms) (offers_of l.platform) l.lines.items (drop (length l.lines.items) (offers_of l.platform));
+  last : (ms : List Member) → StandFor (members_at l.tree.nodes l.nodes) ms → RefusesLast (IsOfferLineGiven l.whole ms) l.earlier l.lines.items;
 }
 
 abbrev pub decreases-loop-offer : goal.decreases-loop-offer

@@ -2,11 +2,11 @@
 use Rattle.std.proofs.Common.{List, drop}
 use Rattle.sysmem_memory.specs.Listed.{places_from, places_of}
 use Rattle.sysmem_tree.specs.Shape.{Member}
-use Rattle.sysmem_proof.specs.Conflict.{RefusesPlace}
+use Rattle.sysmem_proof.specs.FirstConflict.{IsPlaceLineGiven}
 use Rattle.sysmem_proof.specs.Members.{members_at}
 use Rattle.sysmem_proof.specs.Refusals.{AreSoFar, StandFor}
 use Rattle.sysmem_proof.proofs.refusals.refused_places.Given as goal
 
 abbrev pub invariant-loop-index : goal.invariant-loop-index
 invariant-loop-index l = (ms : List Member) → StandFor (members_at l.tree.nodes l.nodes) ms
-    → AreSoFar (RefusesPlace ms) (places_of l.platform.heaps) l.lines.items (places_from l.index (drop l.index l.platform.heaps))
+    → AreSoFar (IsPlaceLineGiven ms) (places_of l.platform.heaps) l.lines.items (places_from l.index (drop l.index l.platform.heaps))

@@ -3,6 +3,7 @@ use Rattle.std.proofs.Common.{◌≡◌, length, sym, subst}
 use Rattle.std.specs.Prelude.{IfSome, option_map}
 use Rattle.sysmem_merge.specs.declared.settings.Settings.{Settings}
 use Rattle.sysmem_proof.specs.Conflict.{IsConflictFor}
+use Rattle.sysmem_proof.specs.FirstConflict.{IsFirstConflictFor}
 use Rattle.sysmem_search.specs.Question.{MeetsHere}
 use Rattle.sysmem_proof.specs.Matter.{Matter, forest, terms}
 use Rattle.sysmem_search.proofs.AskedMembers.{if_some}
@@ -33,9 +34,16 @@ unreachable-requires c =
     let unmet = subst (λ s. IfSome (after (forest s.matter) s.choices) (λ d. (t : Settings) → ¬ (MeetsHere s.matter d t))) (sym c.self.view_is) c.requires.unmet in
     no_conflict m c.self.inside.prefix c.in_ok-found.found prefix c.in-None.is unmet c.in_ok-found.ensures.none
 
-pub returns : goal.returns
-returns c =
+pub returns-clause-conflict : goal.returns-clause-conflict
+returns-clause-conflict c =
     let m : Matter = record { platform = c.self.inside.platform.now; nodes = c.self.inside.tree.now.nodes; domain = c.self.inside.domain; base = option_map (λ b. b.now) c.self.inside.base } in
     subst (λ s. IfSome (after (forest s.matter) s.choices) (λ d. IsConflictFor s.matter.platform (terms s.matter) d c.in-Some.conflict)) c.self.view_is
     (if_some (λ d. IsConflictFor m.platform (terms m) d c.in-Some.conflict) (after (forest m) c.self.inside.prefix) (λ d leads.
     subst (λ o. IfSome o (IsConflictFor m.platform (terms m) d)) c.in-Some.is (c.in_ok-found.ensures.conflict d leads)))
+
+pub returns-clause-first : goal.returns-clause-first
+returns-clause-first c =
+    let m : Matter = record { platform = c.self.inside.platform.now; nodes = c.self.inside.tree.now.nodes; domain = c.self.inside.domain; base = option_map (λ b. b.now) c.self.inside.base } in
+    subst (λ s. IfSome (after (forest s.matter) s.choices) (λ d. IsFirstConflictFor s.matter.platform (terms s.matter) d c.in-Some.conflict)) c.self.view_is
+    (if_some (λ d. IsFirstConflictFor m.platform (terms m) d c.in-Some.conflict) (after (forest m) c.self.inside.prefix) (λ d leads.
+    subst (λ o. IfSome o (IsFirstConflictFor m.platform (terms m) d)) c.in-Some.is (c.in_ok-found.ensures.first d leads)))
