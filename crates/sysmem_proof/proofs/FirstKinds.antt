@@ -68,13 +68,15 @@ module _ (whole : Bool) (platform : PlatformFacts) where
 
   module _ (ms : List Member) (count : ℕ) (counted : IsCounted (counts_asked (participants ms)) count) where
     place_refused : (p : HeapPlace) (line : LineFacts) → IsPlaceLineGiven ms p line → IsRefused p.heap p.place.coherency (place_demands (participants ms))
-    place_refused p line given = (line.field,
+    place_refused p line given = (
+      line.field,
       (place_told p.heap p.place.coherency line.field (participants ms) true
-      ((λ is. any_at (λ q. refuses_by line.field q.memory q.usage p.heap p.place.coherency ≡ true) ms given.first.index given.first.first given.first.here (by given.first.first.constraints given.first.says)), (λ any. refl))).0 refl) where
-        by : (c : Option Participant) → IsSomeAnd c (λ q. first_refusing q.memory q.usage p.heap p.place.coherency ≡ Some line.field)
-            → IsSomeAnd c (λ q. refuses_by line.field q.memory q.usage p.heap p.place.coherency ≡ true)
-        by None h = h
-        by (Some q) h = subst (λ o. IfSome o (λ f. refuses_by f q.memory q.usage p.heap p.place.coherency ≡ true)) h (find_passes (λ f. refuses_by f q.memory q.usage p.heap p.place.coherency) place_fields)
+          ((λ is. any_at (λ q. refuses_by line.field q.memory q.usage p.heap p.place.coherency ≡ true) ms given.first.index given.first.first given.first.here (by given.first.first.constraints given.first.says)), (λ any. refl))).0 refl,
+    ) where
+      by : (c : Option Participant) → IsSomeAnd c (λ q. first_refusing q.memory q.usage p.heap p.place.coherency ≡ Some line.field)
+          → IsSomeAnd c (λ q. refuses_by line.field q.memory q.usage p.heap p.place.coherency ≡ true)
+      by None h = h
+      by (Some q) h = subst (λ o. IfSome o (λ f. refuses_by f q.memory q.usage p.heap p.place.coherency ≡ true)) h (find_passes (λ f. refuses_by f q.memory q.usage p.heap p.place.coherency) place_fields)
 
     -- a line for each place, where a count suits
     pub places_first : (lines : List LineFacts) → AllZip (IsPlaceLineGiven ms) (places_of platform.heaps) lines → IsFirstReason whole platform (participants ms) reasons.NoPlace

@@ -52,12 +52,11 @@ returns-in-Some-first_failing-clause-first c = λ d own stand.
     c.counts_at.result c.counts_at.ensures in
     let found = c.in-Some-first_failing.first in
     let first = subst (λ (s : Settings). IsFirstWithout (CoversOn c.args.platform.now s) (IsFirstUncovered found.field c.args.platform.now s) (members_at c.args.tree.now.nodes c.args.nodes.now) (path_of c.args.tree.now.nodes found.node))
-    c.settings-settings.ensures c.in-Some-first_failing.ensures.first in
-    (
+    c.settings-settings.ensures c.in-Some-first_failing.ensures.first in (
       subst (λ (s : Settings). IsCounted (counts_asked (participants all)) s.count) c.settings-settings.ensures (c.in_default.ensures.suits (counts_asked (participants all)) tally),
       subst (IsFirstWithout (CoversOn c.args.platform.now c.args.base.now.settings) (IsFirstUncovered found.field c.args.platform.now c.args.base.now.settings) (settled d)) (sym c.in_ok-path-in-Some-first_failing.ensures.path)
-      (first_of_all (CoversOn c.args.platform.now c.args.base.now.settings) (IsFirstUncovered found.field c.args.platform.now c.args.base.now.settings) (members_at c.args.tree.now.nodes c.args.nodes.now) (settled d)
-      (path_of c.args.tree.now.nodes found.node) own first),
+          (first_of_all (CoversOn c.args.platform.now c.args.base.now.settings) (IsFirstUncovered found.field c.args.platform.now c.args.base.now.settings) (members_at c.args.tree.now.nodes c.args.nodes.now) (settled d)
+          (path_of c.args.tree.now.nodes found.node) own first),
     )
 
 pub returns-in-Some-first_failing-clause-conflict : goal.returns-in-Some-first_failing-clause-conflict
