@@ -1,6 +1,6 @@
 -- Which kind of conflict comes first: a count line, a line for each place, or a line for each offer.
-use Rattle.std.proofs.Common.{◌≡◌, ◌<◌, ◌≤◌, inl, inr, ℕ, zero, suc, Bool, true, false, List, [], ◌∷◌, Option, Some, None, slice_get, refl, sym, ◌∙◌, ap, subst, arith}
-use Rattle.std.specs.Prelude.{◌↔◌, All, Any, Contains, IfSome, IsSomeAnd, IsTrue, is_none}
+use Rattle.std.proofs.Common.{◌≡◌, ◌<◌, ◌≤◌, inl, inr, ℕ, zero, suc, Bool, true, false, List, [], ◌∷◌, Option, Some, None, slice_get, refl, sym, subst, arith}
+use Rattle.std.specs.Prelude.{◌↔◌, Any, Contains, IfSome, IsSomeAnd, IsTrue, is_none}
 use Rattle.std.specs.List.{AllZip, cons_option}
 use Rattle.std.proofs.lemmas.List.Elements.{All-nil, All-cons, All-map}
 use Rattle.std.proofs.lemmas.Option.{same_Some, none-some}
@@ -12,7 +12,7 @@ use Rattle.sysmem_counts.specs.declared.field.Field.{Field}
 use Rattle.sysmem_counts.specs.declared.field.Field.TheVariants.{MinBufferCount, MaxBufferCount, BufferCountLimit}
 use Rattle.sysmem_formats.specs.declared.offer.Offer.{Offer}
 use Rattle.sysmem_memory.specs.Listed.{HeapPlace, places_of}
-use Rattle.sysmem_memory.specs.Place.{IsPlace, IsRefused}
+use Rattle.sysmem_memory.specs.Place.{IsRefused}
 use Rattle.sysmem_memory.specs.PlaceTable.{AllowsPlace, first_refusing, place_fields, refuses_by}
 use Rattle.sysmem_memory.proofs.CallerLemmas.{listed_is_place, none_refuses}
 use Rattle.sysmem_merge.specs.declared.reason.Reason.{Reason}

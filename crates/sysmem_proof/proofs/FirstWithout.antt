@@ -4,7 +4,7 @@ use Rattle.std.specs.Prelude.{All, IfSome, IsSomeAnd, option_map}
 use Rattle.std.specs.List.{cons_option}
 use Rattle.std.proofs.lemmas.List.{take_all, take-append-drop, take-append-le}
 use Rattle.std.proofs.lemmas.List.Elements.{All-nil, All-cons, All-head, All-tail, filter_map-append}
-use Rattle.std.proofs.lemmas.Option.{same_Some, none-some, slice_get-get_or}
+use Rattle.std.proofs.lemmas.Option.{none-some, slice_get-get_or}
 use Rattle.list_lemmas.proofs.CallerLemmas.{slice_get_some}
 use Rattle.sysmem_sanitise.specs.Participant.{Participant}
 use Rattle.sysmem_tree.specs.Node.{NodeFacts}

@@ -1,5 +1,5 @@
 -- Where nobody lacks the colour space, each takes it.
-use Rattle.std.proofs.Common.{inl, inr}
+use Rattle.std.proofs.Common.{inr}
 use Rattle.sysmem_proof.proofs.FirstLines.{if_none}
 use Rattle.sysmem_proof.proofs.refusals.is_before_colour.Goals as goal
 

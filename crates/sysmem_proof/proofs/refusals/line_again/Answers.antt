@@ -1,7 +1,7 @@
 -- The line of the offer before refuses this one too, and is its first.
 use Rattle.std.proofs.Common.{◌≡◌, ◌-◌, Some, length, option_copied, slice_get, sym, ◌∙◌, ap, subst}
 use Rattle.sysmem_proof.specs.FirstConflict.{IsOfferLineGiven}
-use Rattle.sysmem_proof.specs.Members.{members_at, participants}
+use Rattle.sysmem_proof.specs.Members.{members_at}
 use Rattle.sysmem_proof.proofs.FirstLines.{line_again}
 use Rattle.sysmem_proof.proofs.refusals.line_again.Goals as goal
 
