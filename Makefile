@@ -40,7 +40,7 @@ built-test:
 	tests/handles
 	tests/threads
 
-# Wrong bodies beyond those of the gate, each of which the prover must refuse, over what is kept of each crate's proof (which is made first where there is none).
+# Wrong bodies beyond those of the gate, each of which the prover must refuse. Of a crate the functions that they change are checked, and the crates below it are built.
 wrong-bodies:
 	tests/wrong_bodies
 
