@@ -21,7 +21,8 @@ read_among : (ss ts us vs : List Left) → AreRead ss us → AreRead ts vs → A
 read_among ss ts us vs read also among k d less =
     let below : k < length ss = omega (arith, less, read.many) in
     let (j, within, like) = among k d below in (
-      j, omega (arith, within, also.many),
+      j,
+      omega (arith, within, also.many),
       λ e.
           let alike : IsLike (get_or ss k d) (get_or ts j e) = like e in
           let one : IsRead (get_or ss k d) (get_or us k d) = read.each k d below in
@@ -55,14 +56,15 @@ one_platform sound b ss a platform is agrees are =
     sym (agrees.platform 0 (none_left platform) less) ∙ are 0 (none_left platform) less
 
 pub two_audits : AuditsAgree → NoneClosed → LegalIsSound → TwoAuditsAgree
-two_audits agree closed sound platform ss ts a x (b, is, agrees) (c, also, agrees') for_ss for_ts same open open' =
+two_audits agree closed sound platform ss ts a x (b, is, agrees) (c, also, agrees') for_ss for_ts same calm calm' =
     let (us, read, audited) = agrees.audited in
     let (vs, read', audited') = agrees'.audited in
     let platforms : b.platform ≡ c.platform = one_platform sound b ss a platform is agrees for_ss ∙ sym (one_platform sound c ts x platform also agrees' for_ts) in
     let got : GotOneVerdict b c us vs =
     agree b c us vs a x is also platforms audited audited' (record { first = read_among ss ts us vs read read' same.first; second = read_among ts ss vs us read' read same.second })
-    (closed b us a is audited (read_open ss us read open)) (closed c vs x also audited' (read_open ts vs read' open')) in (
-      b, c,
+    (closed b us a is audited (read_open ss us read calm)) (closed c vs x also audited' (read_open ts vs read' calm')) in (
+      b,
+      c,
       record {
         first = (is, agrees);
         second = (also, agrees');

@@ -77,10 +77,11 @@ pub record AreRead (old new : List Left) : Type 0 where
 
 -- the stubs are of collections for this platform
 abbrev pub AreFor : PlatformFacts → List Left → Type 0
-AreFor platform stubs = (k : ℕ) (d : Left) → k < length stubs → (slice_index_or stubs k d).platform ≡ platform
+AreFor platform stubs = (k : ℕ) (d : Left) → k < length stubs
+    → (slice_index_or stubs k d).platform ≡ platform
 
--- a book and the stubs of its collection agree, once the stubs' cells were read: it is for their platform, and has as
--- many actions as they have together
+-- a book and the stubs of its collection agree, once the stubs' cells were read: it is for their
+-- platform, and has as many actions as they have together
 pub record AgreesWith (b : BookFacts) (stubs : List Left) (a : Audit) : Type 0 where
   pub platform : AreFor b.platform stubs
   pub counted : sum_by (λ (s : Left). length s.deeds) stubs ≡ actions_in b.history

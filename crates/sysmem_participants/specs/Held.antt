@@ -62,7 +62,13 @@ root_of platform cell = record {
 
 -- what is left of it
 abbrev pub left_of : Held → Left
-left_of h = record { path = h.path; deeds = h.deeds; cell = h.cell; known = h.known; platform = h.platform }
+left_of h = record {
+  path = h.path;
+  deeds = h.deeds;
+  cell = h.cell;
+  known = h.known;
+  platform = h.platform;
+}
 
 -- nothing that the handle knows refuses the action
 abbrev pub MayEnter : Held → Deed → Type 0
