@@ -33,7 +33,10 @@ fn main(rt: HostRuntime) -> Result<()> {
     } = told;
     tell(&rt, "camera", camera)?;
     tell(&rt, "encoder", encoder)?;
-    tell(&rt, "recorder", recorder)?;
+    match recorder {
+        Some(recorder) => tell(&rt, "recorder", recorder)?,
+        None => println!(rt; "recorder: not let in")?,
+    }
     let (nodes, actions, decisions) = (audit.nodes, audit.actions, audit.decisions);
     println!(rt; "audit: {nodes} nodes, {actions} actions, {decisions} decisions")?;
     Ok(())

@@ -29,7 +29,8 @@ pub(crate) struct Asks {
 pub(crate) struct Told {
     pub(crate) camera: Result<Settings, Refusal>,
     pub(crate) encoder: Result<Settings, Refusal>,
-    pub(crate) recorder: Result<Settings, Refusal>,
+    /// `None` where it wasn't let in.
+    pub(crate) recorder: Option<Result<Settings, Refusal>>,
     pub(crate) audit: Audit,
 }
 
@@ -73,19 +74,32 @@ pub(crate) fn share<L: Ledger + Send + Sync, R: Threads + Wait + Sync>(
     camera.end(rt);
     encoder.end(rt);
     recorder.end(rt);
-    let (Some(filmed), Some(encoded), Some(recorded)) = (filmed, encoded, recorded) else {
+    let (Some(filmed), Some(encoded)) = (filmed, encoded) else {
         bail!("no memory for a token");
     };
-    let stubs = [root, filmed.stub, encoded.stub, recorded.stub];
-    match audit(rt, Vec::from_array(alloc, stubs)?) {
+    let mut stubs = Vec::from_array(alloc, [root, filmed.stub, encoded.stub])?;
+    let recorder = told_to(&mut stubs, recorded)?;
+    match audit(rt, stubs) {
         Ok(audit) => Ok(Told {
             camera: filmed.told,
             encoder: encoded.told,
-            recorder: recorded.told,
+            recorder,
             audit,
         }),
         Err(fault) => bail!("the audit says {}", fault.name()),
     }
+}
+
+/// What somebody was told who was let in late, if anybody was; what is left of the handle comes to the others' stubs.
+fn told_to<L: Ledger>(
+    stubs: &mut Vec<Stub<L>>,
+    late: Option<Part<L>>,
+) -> Result<Option<Result<Settings, Refusal>>> {
+    let Some(part) = late else {
+        return Ok(None);
+    };
+    stubs.push(part.stub)?;
+    Ok(Some(part.told))
 }
 
 /// Releases a token: what is left of it. It is closed where that is refused.

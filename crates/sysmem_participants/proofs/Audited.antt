@@ -62,8 +62,8 @@ calls_nowhere : (b : BookFacts) (path : List ℕ) → node_at b.state.tree.nodes
 unfolding calls_at
 calls_nowhere b path none = ap (λ o. unwrap_or (option_map (trees.log (map tree_entry b.history)) o) []) none
 
-none_left : Left
-none_left = record { path = []; deeds = []; cell = 0; known = None }
+pub none_left : PlatformFacts → Left
+none_left platform = record { path = []; deeds = []; cell = 0; known = None; platform = platform }
 
 -- two paths that lead to one node are the same
 same_path : OnePath → (b : BookFacts) → IsSoundState b.state → (p q : List ℕ) (i : ℕ) → node_at b.state.tree.nodes p ≡ Some i → node_at b.state.tree.nodes q ≡ Some i → p ≡ q
@@ -71,7 +71,7 @@ same_path one b good p q i at also =
     let only = one b.state.tree.nodes i good.tree.tree (node_within b.state.tree.nodes good.tree.tree p i at) in
     only.only p at ∙ sym (only.only q also)
 
-is_sound : LegalIsSound → (b : BookFacts) → IsBook b → IsSoundState b.state
+pub is_sound : LegalIsSound → (b : BookFacts) → IsBook b → IsSoundState b.state
 is_sound sound b is = subst IsSoundState (sym is.replayed) (sound b.platform b.history is.legal)
 
 -- at a path that leads to a node in one book, the other has a node too, with the same calls
@@ -80,12 +80,12 @@ like_there : OnePath → LegalIsSound → (b c : BookFacts) (ss ts : List Left) 
 like_there one sound b c ss ts a x is audited other among path i at =
     let good : IsSoundState b.state = is_sound sound b is in
     let (k, less, own) = audited.all i (node_within b.state.tree.nodes good.tree.tree path i at) in
-    let s : Left = get_or ss k none_left in
-    let mine : IsOf b s i = own none_left in
-    let (j, below, like) = among k none_left less in
-    let t : Left = get_or ts j none_left in
-    let alike : IsLike s t = like none_left in
-    let (n, yours) = other.each j none_left below in
+    let s : Left = get_or ss k (none_left b.platform) in
+    let mine : IsOf b s i = own (none_left b.platform) in
+    let (j, below, like) = among k (none_left b.platform) less in
+    let t : Left = get_or ts j (none_left b.platform) in
+    let alike : IsLike s t = like (none_left b.platform) in
+    let (n, yours) = other.each j (none_left b.platform) below in
     let home : s.path ≡ path = same_path one b good s.path path i mine.at at in
     let away : t.path ≡ path = alike.path ∙ home in
     let here : calls_at b path ≡ s.deeds = ap (calls_at b) (sym home) ∙ calls_of b s i mine in

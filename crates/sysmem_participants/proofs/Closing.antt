@@ -71,7 +71,7 @@ none_left stay platform all es (Acted i deed ∷ fs) parts legal are = (
 pub none_closed : NumbersStay → NoneClosed
 none_closed stay b ss a is audited are = none_left stay b.platform b.history [] b.history refl is.legal (λ i less. by i (subst (λ (s : State). i < length s.tree.nodes) (sym is.replayed) less)) where
   empty : Left
-  empty = record { path = []; deeds = []; cell = 0; known = None }
+  empty = record { path = []; deeds = []; cell = 0; known = None; platform = b.platform }
 
   by : (i : ℕ) → i < length b.state.tree.nodes → AllByRecursion IsKept (book_log b.history i)
   by i less =

@@ -5,3 +5,4 @@ mod Entries
 mod Ruled
 mod Audited
 mod Closing
+mod TwoAudits

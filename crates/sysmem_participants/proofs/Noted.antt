@@ -27,10 +27,20 @@ pub noted_by : {V : Type 0} (told : Result V Refusal) (at : V → RulingFacts) (
 noted_by (Ok v) at h platform path o noted set p q decided told = set ∙ ap Some decided
 noted_by (Err refusal) at h platform path o noted set p q decided told = λ _. (o, set, told_to h platform path o refusal p q told)
 
-pub tells_of : {V : Type 0} (told : Result V Refusal) (h : Held) (platform : PlatformFacts) (path : List ℕ) (o : Outcome) → platform ≡ h.platform → path ≡ h.path
-    → IfErr told (IsTold platform path o) → IfErr told (Tells h)
-tells_of (Ok v) h platform path o p q told = tt
-tells_of (Err refusal) h platform path o p q told = λ _. (o, told_to h platform path o refusal p q told)
+-- what was known is what is found in the cell
+was_known : (was known : Option Outcome) (o : Outcome) → known ≡ was → Agrees known o → IfSome was (λ k. k ≡ o)
+was_known None known o is agrees = tt
+was_known (Some x) known o is agrees = subst (λ k. Agrees k o) is agrees
+
+pub tells_of : {V : Type 0} (told : Result V Refusal) (h : Held) (known : Option Outcome) (platform : PlatformFacts) (path : List ℕ) (o : Outcome) → known ≡ h.known → Agrees known o
+    → platform ≡ h.platform → path ≡ h.path → IfErr told (IsTold platform path o) → IfErr told (Tells h)
+tells_of (Ok v) h known platform path o was agrees p q told = tt
+tells_of (Err refusal) h known platform path o was agrees p q told = λ _. (o, was_known h.known known o was agrees, told_to h platform path o refusal p q told)
+
+-- what was known before a while, and is what is known after it
+known_before : (a b : Option Outcome) (o : Outcome) → IfSome a (λ x. b ≡ Some x) → IfSome b (λ k. k ≡ o) → IfSome a (λ k. k ≡ o)
+known_before None b o kept is = tt
+known_before (Some x) b o kept is = subst (λ k. IfSome k (λ y. y ≡ o)) kept is
 
 -- what is known still after a while and then a while more
 pub known_on : (a b c : Option Outcome) → IfSome a (λ o. b ≡ Some o) → IfSome b (λ o. c ≡ Some o) → IfSome a (λ o. c ≡ Some o)
@@ -46,6 +56,6 @@ waited {V} told at h k n same kept after = (after.0 ∙ same, known_on h.known k
   by (Ok v) noted = noted
   by (Err refusal) noted = λ decided. let (o, set, was_told) = noted decided in (o, set, told_to h k.platform k.path o refusal (ap (λ (x : Held). x.platform) same) (ap (λ (x : Held). x.path) same) was_told)
 
-pub tells_as : {V : Type 0} (told : Result V Refusal) (h k : Held) → IsSameBut h k → IfErr told (Tells k) → IfErr told (Tells h)
-tells_as (Ok v) h k same tells = tt
-tells_as (Err refusal) h k same tells = λ decided. let (o, was_told) = tells decided in (o, told_to h k.platform k.path o refusal (ap (λ (x : Held). x.platform) same) (ap (λ (x : Held). x.path) same) was_told)
+pub tells_as : {V : Type 0} (told : Result V Refusal) (h k : Held) → IsSameBut h k → IsStillKnown h k → IfErr told (Tells k) → IfErr told (Tells h)
+tells_as (Ok v) h k same kept tells = tt
+tells_as (Err refusal) h k same kept tells = λ decided. let (o, knew, was_told) = tells decided in (o, known_before h.known k.known o kept knew, told_to h k.platform k.path o refusal (ap (λ (x : Held). x.platform) same) (ap (λ (x : Held). x.path) same) was_told)

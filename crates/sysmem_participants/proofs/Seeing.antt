@@ -1,5 +1,5 @@
 -- Stubs that were seen one after the other.
-use Rattle.std.proofs.Common.{◌≡◌, ◌<◌, ℕ, zero, suc, ◌+◌, Bool, true, false, List, [], ◌∷◌, Option, Some, None, length, replicate, get_or, map, slice_set, refl, sym, ◌∙◌, ap, subst, arith, inl, inr}
+use Rattle.std.proofs.Common.{◌≡◌, ◌<◌, ℕ, zero, suc, ◌+◌, Bool, true, false, List, [], ◌∷◌, Option, Some, None, length, replicate, get_or, map, slice_get, slice_set, refl, sym, ◌∙◌, ap, subst, arith, inl, inr}
 use Rattle.std.specs.Prelude.{IfSome}
 use Rattle.std.proofs.lemmas.Bool.{cases_eq}
 use Rattle.std.proofs.lemmas.List.{get_or-set_same, get_or-set_other, length-set}
@@ -7,6 +7,7 @@ use Rattle.std.proofs.lemmas.Option.{same_Some}
 use Rattle.sysmem_alloc.specs.Book.{BookFacts}
 use Rattle.sysmem_room.specs.declared.outcome.Outcome.{Outcome}
 use Rattle.sysmem_room.specs.Agreeing.{IsKnown, book_log}
+use Rattle.sysmem_sanitise.specs.Platform.{PlatformFacts}
 use Rattle.sysmem_tree.specs.Path.{node_at}
 use Rattle.sysmem_participants.specs.Audit.{AreMatched, AreRead, HasAt, HaveCalls, IsAmong, IsAmongPaths, IsOf, IsRead}
 use Rattle.sysmem_participants.specs.Held.{Left}
@@ -137,13 +138,13 @@ known_stays None = tt
 known_stays (Some x) = refl
 
 read_nothing : (s : Left) → IsRead s s
-read_nothing s = record { path = refl; deeds = refl; cell = refl; known = known_stays s.known }
+read_nothing s = record { path = refl; deeds = refl; cell = refl; known = known_stays s.known; platform = refl }
 
 pub none_read : (stubs : List Left) → AreRead stubs stubs
 none_read stubs = record { many = refl; each = λ k d less. read_nothing (get_or stubs k d) }
 
 read_on : (a b c : Left) → IsRead a b → IsRead b c → IsRead a c
-read_on a b c one two = record { path = two.path ∙ one.path; deeds = two.deeds ∙ one.deeds; cell = two.cell ∙ one.cell; known = known_on a.known b.known c.known one.known two.known }
+read_on a b c one two = record { path = two.path ∙ one.path; deeds = two.deeds ∙ one.deeds; cell = two.cell ∙ one.cell; known = known_on a.known b.known c.known one.known two.known; platform = two.platform ∙ one.platform }
 
 same_default : (xs : List Left) (k : ℕ) (d e : Left) → k < length xs → get_or xs k d ≡ get_or xs k e
 same_default [] k d e less = absurd (omega (arith, less))
@@ -175,3 +176,18 @@ same_deeds old new read = by old new read.many read.each where
       let own : y.deeds ≡ x.deeds = (each 0 x (omega arith)).deeds in
       let rest : map (λ (s : Left). s.deeds) ys ≡ map (λ (s : Left). s.deeds) xs = by xs ys (omega (arith, many)) (λ k d less. each (suc k) d (omega (arith, less))) in
       ap (λ z. z ∷ map (λ (s : Left). s.deeds) ys) own ∙ ap (λ zs. x.deeds ∷ zs) rest
+
+-- the stubs before an index are for a platform
+abbrev pub ForFirst : PlatformFacts → List Left → ℕ → Type 0
+ForFirst platform stubs index = (k : ℕ) (d : Left) → k < index → (get_or stubs k d).platform ≡ platform
+
+pub for_more : (platform : PlatformFacts) (stubs : List Left) (index : ℕ) (s : Left) → slice_get stubs index ≡ Some s → s.platform ≡ platform → ForFirst platform stubs index
+    → ForFirst platform stubs (index + 1)
+for_more platform stubs index s at own first k d below = elim (cases_eq k index) [
+  | inl same ↦ ap (λ (x : Left). x.platform) (ap (λ j. get_or stubs j d) same ∙ found stubs index at) ∙ own
+  | inr other ↦ first k d (omega (arith, below, other))
+] where
+  found : (xs : List Left) (i : ℕ) → slice_get xs i ≡ Some s → get_or xs i d ≡ s
+  found [] i here = absurd (cc)
+  found (x ∷ xs) zero here = same_Some x s here
+  found (x ∷ xs) (suc i) here = found xs i here

@@ -1,7 +1,8 @@
 -- What stubs and a book say of one another.
-use Rattle.std.specs.Prelude.{◌≡◌, ◌<◌, ◌+◌, ℕ, List, [], ◌∷◌, Option, None, Some, IfSome, codes, length, slice_index_or}
+use Rattle.std.specs.Prelude.{◌≡◌, ◌<◌, ◌+◌, ℕ, List, [], ◌∷◌, Option, None, Some, IfSome, codes, length, slice_index_or, sum_by}
 use Rattle.sysmem_alloc.specs.Book.{BookFacts, IsBook}
 use Rattle.sysmem_alloc.specs.Entry.{BookEntry, Acted, Decided}
+use Rattle.sysmem_sanitise.specs.Platform.{PlatformFacts}
 use Rattle.sysmem_room.specs.Agreeing.{AgreesAt, book_log}
 use Rattle.sysmem_room.specs.Counting.{actions_in}
 use Rattle.sysmem_tree.specs.Path.{node_at}
@@ -67,15 +68,28 @@ pub record IsRead (old new : Left) : Type 0 where
   pub deeds : new.deeds ≡ old.deeds
   pub cell : new.cell ≡ old.cell
   pub known : IfSome old.known (λ o. new.known ≡ Some o)
+  pub platform : new.platform ≡ old.platform
 
 -- stubs once their cells were read
 pub record AreRead (old new : List Left) : Type 0 where
   pub many : length new ≡ length old
   pub each : (k : ℕ) (d : Left) → k < length old → IsRead (slice_index_or old k d) (slice_index_or new k d)
 
--- a legal book and the stubs agree, once the stubs' cells were read
+-- the stubs are of collections for this platform
+abbrev pub AreFor : PlatformFacts → List Left → Type 0
+AreFor platform stubs = (k : ℕ) (d : Left) → k < length stubs
+    → (slice_index_or stubs k d).platform ≡ platform
+
+-- a book and the stubs of its collection agree, once the stubs' cells were read: it is for their
+-- platform, and has as many actions as they have together
+pub record AgreesWith (b : BookFacts) (stubs : List Left) (a : Audit) : Type 0 where
+  pub platform : AreFor b.platform stubs
+  pub counted : sum_by (λ (s : Left). length s.deeds) stubs ≡ actions_in b.history
+  pub audited : (read : List Left) × AreRead stubs read × IsAudited b read a
+
+-- a legal book and the stubs agree
 abbrev pub SomeBookAgrees : List Left → Audit → Type 0
-SomeBookAgrees stubs a = (b : BookFacts) × (read : List Left) × IsBook b × IsAudited b read a × AreRead stubs read
+SomeBookAgrees stubs a = (b : BookFacts) × IsBook b × AgreesWith b stubs a
 
 -- faults as the program prints them; a want of memory is told as that refusal
 abbrev pub fault_text : AuditFault → List ℕ

@@ -29,6 +29,7 @@ pub record Left : Type 0 where
   pub deeds : List Deed
   pub cell : ℕ
   pub known : Option Outcome
+  pub platform : PlatformFacts
 
 -- what the actions make of the node
 abbrev pub state_of : Held → NodeState
@@ -61,7 +62,13 @@ root_of platform cell = record {
 
 -- what is left of it
 abbrev pub left_of : Held → Left
-left_of h = record { path = h.path; deeds = h.deeds; cell = h.cell; known = h.known }
+left_of h = record {
+  path = h.path;
+  deeds = h.deeds;
+  cell = h.cell;
+  known = h.known;
+  platform = h.platform;
+}
 
 -- nothing that the handle knows refuses the action
 abbrev pub MayEnter : Held → Deed → Type 0
@@ -69,7 +76,8 @@ MayEnter h deed = due h.known h.path (state_of h) (kind_of deed) ≡ None
 
 -- how a handle refuses an action: for want of memory, because it and the collection disagree, or for what is due
 abbrev pub Answers : Held → Deed → Refusal → Type 0
-Answers h deed r = r ≢ Strange → r ≢ NoMemory → MayAnswer (due h.known h.path (state_of h) (kind_of deed)) h.known r
+Answers h deed r = r ≢ Strange → r ≢ NoMemory
+    → MayAnswer (due h.known h.path (state_of h) (kind_of deed)) h.known (kind_of deed) r
 
 -- how it refuses one that ends its node: because the two disagree, or for the node's state
 abbrev pub AnswersAtEnd : Held → Deed → Refusal → Type 0

@@ -10,11 +10,12 @@ use Rattle.sysmem_proof.specs.Verdict.{IsSameAnswer}
 use Rattle.sysmem_room.specs.declared.outcome.Outcome.{Outcome}
 use Rattle.sysmem_room.specs.declared.outcome.Outcome.TheVariants as outcomes
 use Rattle.sysmem_room.specs.Ruling.{RulingFacts}
+use Rattle.sysmem_sanitise.specs.Platform.{PlatformFacts}
 use Rattle.sysmem_tree.specs.ActionKind.{kind_of}
 use Rattle.sysmem_tree.specs.History.{is_close}
 use Rattle.sysmem_tree.specs.Laws.{SameReady}
 use Rattle.sysmem_participants.specs.declared.faults.Audit.{Audit}
-use Rattle.sysmem_participants.specs.Audit.{HasAt, IsAudited}
+use Rattle.sysmem_participants.specs.Audit.{AgreesWith, AreFor, HasAt, IsAudited, SomeBookAgrees}
 use Rattle.sysmem_participants.specs.Held.{Left}
 
 -- a stub has the path and the calls of another
@@ -71,3 +72,21 @@ IsOpen s = AllByRecursion (λ deed. is_close (kind_of deed) ≡ false) s.deeds
 abbrev pub NoneClosed : Type 0
 NoneClosed = (b : BookFacts) (ss : List Left) (a : Audit) → IsBook b → IsAudited b ss a
     → ((k : ℕ) (d : Left) → k < length ss → IsOpen (slice_index_or ss k d)) → NoEarlyClose b.history
+
+-- no stub's node was closed
+abbrev pub AreOpen : List Left → Type 0
+AreOpen ss = (k : ℕ) (d : Left) → k < length ss → IsOpen (slice_index_or ss k d)
+
+-- the stubs of each of two collections agree with a legal book, and the two books got one verdict
+pub record FoundOneVerdict (ss ts : List Left) (a x : Audit) (b c : BookFacts) : Type 0 where
+  pub first : IsBook b × AgreesWith b ss a
+  pub second : IsBook c × AgreesWith c ts x
+  pub verdict : GotOneVerdict b c ss ts
+
+-- two audits that said yes, of collections for one platform with the same calls at each path and no
+-- node that was closed, found books that got one verdict for the initial domain
+abbrev pub TwoAuditsAgree : Type 0
+TwoAuditsAgree = (platform : PlatformFacts) (ss ts : List Left) (a x : Audit)
+    → SomeBookAgrees ss a → SomeBookAgrees ts x → AreFor platform ss → AreFor platform ts
+    → HaveSameCalls ss ts → AreOpen ss → AreOpen ts
+    → (b c : BookFacts) × FoundOneVerdict ss ts a x b c

@@ -1,5 +1,5 @@
 -- What a handle is told of its domain's verdict.
-use Rattle.std.specs.Prelude.{◌≡◌, ◌≢◌, ℕ, false, true, List, Option, Some}
+use Rattle.std.specs.Prelude.{◌≡◌, ◌≢◌, ℕ, false, true, List, Option, Some, IfSome}
 use Rattle.sysmem_alloc.specs.Frozen.{FrozenFacts}
 use Rattle.sysmem_proof.specs.declared.verdict.Verdict.{Verdict}
 use Rattle.sysmem_proof.specs.declared.verdict.Verdict.TheVariants as verdicts
@@ -81,6 +81,7 @@ abbrev pub IsToldBy : Held → Option Outcome → Refusal → Type 0
 IsToldBy h known refusal = refusal ≢ refusals.Pending
     → (o : Outcome) × (known ≡ Some o) × IsTold h.platform h.path o refusal
 
--- what a handle is told tells what became of its domain
+-- what a handle is told tells what became of its domain: what it knew of that, where it knew it
 abbrev pub Tells : Held → Refusal → Type 0
-Tells h refusal = refusal ≢ refusals.Pending → (o : Outcome) × IsTold h.platform h.path o refusal
+Tells h refusal = refusal ≢ refusals.Pending
+    → (o : Outcome) × IfSome h.known (λ k. k ≡ o) × IsTold h.platform h.path o refusal

@@ -44,12 +44,18 @@ fn opened<L: Ledger, G: Gate + Drop + Sync>(
 {
     let alloc = rules.alloc;
     let platform = rules.platform.copy()?;
+    let own = rules.platform.copy()?;
     let log = Log::new(alloc, NodeKind::Token, true)?;
     let rules = Arc::try_clone(rules)?;
     let opened = Room::open(alloc, blank, platform)?;
     let room = Mutex::new(opened.room);
     let changed = Condvar::new();
-    let shared = Arc::new(alloc, Shared { room, changed })?;
+    let shared = Shared {
+        room,
+        changed,
+        platform: own,
+    };
+    let shared = Arc::new(alloc, shared)?;
     let note = opened.cell.note();
     Ok(Seat {
         shared,

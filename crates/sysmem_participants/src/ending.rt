@@ -82,7 +82,7 @@ fn end_in_hold<L: Ledger, R: Wait>(
     ensures answers { IfErr result (λ refusal. refusal ≢ Refusal.Strange
         → IsAnswer (due (option_map (λ o. o.now) known.entry) path.now
         (shown_by log.now).state (kind_of (deed_of action)))
-        (option_map (λ o. o.now) known.entry) refusal) }
+        (option_map (λ o. o.now) known.entry) (kind_of (deed_of action)) refusal) }
     ensures parts { mine.new.parts ≡ mine.old.parts }
     ensures counted { OnOk result (mine.new.amount ≡ mine.old.amount + 1) }
     ensures uncounted { OnErr result (mine.new.amount ≡ mine.old.amount) }

@@ -1,7 +1,8 @@
 //! The audit of a collection whose handles are all spent.
 
-ghost use Rattle.std.specs.Prelude.{◌≡◌, ◌+◌, length, sum_by, vec_len, IfOk};
-ghost use Rattle.sysmem_participants.specs.Audit.{SomeBookAgrees};
+ghost use Rattle.std.specs.Prelude.{◌≡◌, ◌+◌, length, sum_by, vec_len, IfOk, IsTrue};
+ghost use Rattle.sysmem_alloc.specs.Book.{IsBook};
+ghost use Rattle.sysmem_participants.specs.Audit.{AgreesWith, AreFor, SomeBookAgrees};
 ghost use Rattle.sysmem_room.specs.Counting.{actions_in};
 
 use crate::agreeing::stubs_agree;
@@ -11,6 +12,7 @@ use crate::stub::Stub;
 use std::sync::ledger::{Ledger, Share};
 use std::sync::{Arc, Wait};
 use sysmem_room::Room;
+use sysmem_sanitise::Platform;
 
 /// A share with all parts and amounts of the stubs'.
 fn joined<L: Ledger>(start: Share<L>, stubs: Vec<Stub<L>>) -> Share<L>
@@ -36,14 +38,33 @@ fn count<L: Ledger>(room: &mut Room<L>, stubs: Vec<Stub<L>>)
     room.count(&mut all);
 }
 
-/// What is found of a collection by the stubs of all its handles, once these are spent.
+/// Whether all stubs are of collections for this platform.
+fn are_for<L: Ledger>(platform: &Platform, stubs: &[Stub<L>]) -> bool
+    ensures { IsTrue result → AreFor platform.now stubs.now }
+{
+    for stub in stubs {
+        if !stub.shared.platform.is_same(platform) {
+            return false;
+        }
+    }
+    true
+}
+
+/// What is found of a collection by the stubs of all its handles, once these are spent: its book,
+/// which stays as it is, has what they have, for their platform, and as many actions as they have
+/// together.
 fn audited<L: Ledger>(room: &mut Room<L>, stubs: Vec<Stub<L>>) -> Result<Audit, AuditFault>
-    ensures agree { IfOk result (SomeBookAgrees stubs.items) }
+    ensures same { room.new ≡ room.old }
+    ensures book { IsBook room.old }
+    ensures agree { IfOk result (AgreesWith room.old stubs.items) }
     ensures sum { IfOk result (λ audit.
         audit.actions ≡ sum_by (λ s. length s.deeds) stubs.items) }
 {
     let mut stubs = stubs;
-    room.book().platform();
+    let is_for = are_for(room.book().platform(), &stubs);
+    if !is_for {
+        return Err(AuditFault::Stubs);
+    }
     let audit = stubs_agree(room.book(), &mut stubs)?;
     count(room, stubs);
     Ok(audit)
@@ -61,8 +82,8 @@ fn shared_of<L: Ledger>(stubs: &[Stub<L>]) -> Result<Arc<Shared<L>>, AuditFault>
 }
 
 /// Joins the stubs of a collection, once all its handles are spent: whether they and its book say
-/// the same, and what there is to count. As many actions as the handles made stand in the book. Of
-/// no stubs it answers `Stubs`.
+/// the same, and what there is to count. As many actions as the handles made stand in the book, and
+/// it is for their platform. Of no stubs, and of some for another platform, it answers `Stubs`.
 pub fn audit<L: Ledger, R: Wait>(rt: &R, stubs: Vec<Stub<L>>) -> Result<Audit, AuditFault>
     ensures agree { IfOk result (SomeBookAgrees stubs.items) }
     ensures sum { IfOk result (λ audit.

@@ -1,6 +1,6 @@
 //! What follows from audits that said yes.
 
-ghost use Rattle.sysmem_participants.specs.Laws.{AuditsAgree, NoneClosed};
+ghost use Rattle.sysmem_participants.specs.Laws.{AuditsAgree, NoneClosed, TwoAuditsAgree};
 
 use sysmem_alloc::laws::{confluence, legal_is_sound, numbers_stay};
 use sysmem_tree::laws::one_path;
@@ -21,4 +21,15 @@ pub fn none_closed()
     ensures { NoneClosed }
 {
     numbers_stay();
+}
+
+/// Two calls of `audit` that said yes, of collections of one platform with the same calls at each
+/// path, none of whose nodes was closed: there are books for them, and these got one verdict for
+/// the initial domain, where memory was not refused to it.
+pub fn two_audits_agree()
+    ensures { TwoAuditsAgree }
+{
+    audits_agree();
+    none_closed();
+    legal_is_sound();
 }

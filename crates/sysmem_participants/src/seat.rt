@@ -48,7 +48,7 @@ impl<L: Ledger, G: Gate + Drop> Model for Seat<L, G> {
       deeds = s.log.deeds;
       cell = cell_name (arc_value s.cell);
       known = s.note.known;
-      platform = (arc_value s.rules).platform;
+      platform = (arc_value s.shared).platform;
     } };
 
     ghost invariant = { λ s. (s.share.parts ≡ 1)
@@ -84,7 +84,7 @@ impl<L: Ledger, G: Gate + Drop> Seat<L, G> {
         ensures empty { IfOk result (λ child. child.log.deeds ≡ []) }
         ensures cell { IfOk result (λ child. cell_name (arc_value child.cell) ≡ self.now.cell) }
         ensures platform { IfOk result (λ child.
-            (arc_value child.rules).platform ≡ self.now.platform) }
+            (arc_value child.shared).platform ≡ self.now.platform) }
     {
         let alloc = self.rules.alloc;
         let mut path = Vec::with_capacity(alloc, self.path.len().saturating_add(1))?;
@@ -116,7 +116,7 @@ impl<L: Ledger, G: Gate + Drop> Seat<L, G> {
         let Some(outcome) = self.cell.get_as(&mut self.note) else {
             return Err(Refusal::Pending);
         };
-        told(outcome, &self.rules.platform, &self.path, &self.log)
+        told(outcome, &self.shared.platform, &self.path, &self.log)
     }
 
     /// What became of the domain, once something did.

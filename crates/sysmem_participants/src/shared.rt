@@ -10,11 +10,14 @@ use sysmem_room::Room;
 use sysmem_sanitise::Platform;
 use sysmem_search::Gate;
 
-/// A collection's book under its lock, and where one waits for a verdict.
+/// A collection's book under its lock, where one waits for a verdict, and the platform for which
+/// it is decided.
 #[derive(Drop)]
 pub(crate) struct Shared<L: Ledger> {
     pub(crate) room: Mutex<Room<L>>,
     pub(crate) changed: Condvar,
+    /// The one that its handles, and what is left of them, are for.
+    pub(crate) platform: Platform,
 }
 
 /// What an allocator decides for, and who is told of its searches.

@@ -11,7 +11,7 @@ use sysmem_room::Outcome;
 use sysmem_tree::Action;
 
 /// What is left of a handle that was spent: its node's path, its accepted actions, its share of the
-/// ledger, and what it knows of its domain's cell. An audit wants one for each node.
+/// ledger, what it knows of its domain's cell, and the platform. An audit wants one for each node.
 #[derive(Drop)]
 pub struct Stub<L: Ledger> {
     pub(crate) shared: Arc<Shared<L>>,
@@ -36,6 +36,7 @@ impl<L: Ledger> Model for Stub<L> {
       deeds = map deed_of s.actions.items;
       cell = cell_name (arc_value s.cell);
       known = s.note.known;
+      platform = (arc_value s.shared).platform;
     } };
 
     ghost invariant = { λ s. (s.share.parts ≡ 1)

@@ -1,5 +1,5 @@
 -- What a handle's action is refused for, by what the handle knows.
-use Rattle.std.specs.Prelude.{◌≡◌, ◌==◌, ℕ, Bool, false, List, Option, Some, None, option_map, unwrap_or, if◌then◌else◌}
+use Rattle.std.specs.Prelude.{◌≡◌, ◌==◌, ℕ, Bool, true, false, List, Option, Some, None, is_some, option_map, unwrap_or, if◌then◌else◌}
 use Rattle.std.specs.List.{list_any}
 use Rattle.sysmem_alloc.specs.Frozen.{FrozenFacts}
 use Rattle.sysmem_proof.specs.declared.verdict.Verdict.{Verdict}
@@ -11,6 +11,7 @@ use Rattle.sysmem_tree.specs.declared.state.NodeState.{NodeState}
 use Rattle.sysmem_tree.specs.ActionKind.{ends_node}
 use Rattle.sysmem_tree.specs.Path.{node_at}
 use Rattle.sysmem_tree.specs.Shape.{members_of}
+use Rattle.sysmem_tree.specs.Table.{makes}
 use Rattle.sysmem_room.specs.declared.outcome.Outcome.{Outcome}
 use Rattle.sysmem_room.specs.declared.outcome.Outcome.TheVariants as outcomes
 use Rattle.sysmem_room.specs.Log.{log_refusal}
@@ -46,21 +47,22 @@ first_of (Some a) b = Some a
 abbrev pub due : Option Outcome → List ℕ → NodeState → ActionKind → Option Refusal
 due known path state kind = first_of (known_refusal known path kind) (log_refusal state kind)
 
--- a refusal that a handle can't foresee
-abbrev pub IsUnforeseen : Option Outcome → Refusal → Type 0
-IsUnforeseen known TooManyNodes = Unit {0}
-IsUnforeseen None DomainFailed = Unit {0}
-IsUnforeseen None NotSelected = Unit {0}
-IsUnforeseen known r = ⊥
+-- a refusal that a handle can't foresee: too many nodes, of an action that makes one; and by a verdict
+-- that it doesn't know, of an action that doesn't end its node
+abbrev pub IsUnforeseen : Option Outcome → ActionKind → Refusal → Type 0
+IsUnforeseen known kind TooManyNodes = is_some (makes kind) ≡ true
+IsUnforeseen None kind DomainFailed = ends_node kind ≡ false
+IsUnforeseen None kind NotSelected = ends_node kind ≡ false
+IsUnforeseen known kind r = ⊥
 
 -- what is due is answered, and nothing else but what the handle can't foresee
-abbrev pub IsAnswer : Option Refusal → Option Outcome → Refusal → Type 0
-IsAnswer (Some q) known r = r ≡ q
-IsAnswer None known r = IsUnforeseen known r
+abbrev pub IsAnswer : Option Refusal → Option Outcome → ActionKind → Refusal → Type 0
+IsAnswer (Some q) known kind r = r ≡ q
+IsAnswer None known kind r = IsUnforeseen known kind r
 
 -- the same by what a handle knew before a call: a verdict that it hadn't known may come before what is due
-abbrev pub MayAnswer : Option Refusal → Option Outcome → Refusal → Type 0
-MayAnswer None known r = IsUnforeseen known r
-MayAnswer (Some q) None DomainFailed = Unit {0}
-MayAnswer (Some q) None NotSelected = Unit {0}
-MayAnswer (Some q) known r = r ≡ q
+abbrev pub MayAnswer : Option Refusal → Option Outcome → ActionKind → Refusal → Type 0
+MayAnswer None known kind r = IsUnforeseen known kind r
+MayAnswer (Some q) None kind DomainFailed = Unit {0}
+MayAnswer (Some q) None kind NotSelected = Unit {0}
+MayAnswer (Some q) known kind r = r ≡ q

@@ -80,16 +80,16 @@ pub fn due(
     }
 }
 
-/// The book's refusal as a handle answers it that foresaw none: what it can't foresee, or
-/// `Strange`, since the two disagree.
-pub(crate) fn unforeseen(known: Option<&Outcome>, refusal: Refusal) -> Refusal
+/// The book's refusal of an action of this kind as a handle answers it that foresaw none: what it
+/// can't foresee, or `Strange`, since the two disagree.
+pub(crate) fn unforeseen(known: Option<&Outcome>, kind: ActionKind, refusal: Refusal) -> Refusal
     ensures { result ≢ Refusal.Strange
-        → IsAnswer None (option_map (λ o. o.now) known.entry) result }
+        → IsAnswer None (option_map (λ o. o.now) known.entry) kind result }
 {
     match (refusal, known) {
-        (Refusal::TooManyNodes, _) => Refusal::TooManyNodes,
-        (Refusal::DomainFailed, None) => Refusal::DomainFailed,
-        (Refusal::NotSelected, None) => Refusal::NotSelected,
+        (Refusal::TooManyNodes, _) if kind.makes().is_some() => Refusal::TooManyNodes,
+        (Refusal::DomainFailed, None) if !kind.ends_node() => Refusal::DomainFailed,
+        (Refusal::NotSelected, None) if !kind.ends_node() => Refusal::NotSelected,
         _ => Refusal::Strange,
     }
 }

@@ -217,7 +217,7 @@ impl<L: Ledger> Room<L> {
         ensures answers { IfErr result (λ refusal. refusal ≢ Refusal.Strange
             → IsAnswer (due (option_map (λ o. o.now) known.entry) path.now
             (shown_by log.now).state (kind_of (deed_of action)))
-            (option_map (λ o. o.now) known.entry) refusal) }
+            (option_map (λ o. o.now) known.entry) (kind_of (deed_of action)) refusal) }
         ensures parts { mine.new.parts ≡ mine.old.parts }
         ensures counted { OnOk result (mine.new.amount ≡ mine.old.amount + 1) }
         ensures uncounted { OnErr result (mine.new.amount ≡ mine.old.amount) }
@@ -228,12 +228,13 @@ impl<L: Ledger> Room<L> {
         let Some(node) = self.node_of(path, log, known) else {
             return Err(Refusal::Strange);
         };
-        if let Some(refusal) = due(known, path, log.state(), action.kind()) {
+        let kind = action.kind();
+        if let Some(refusal) = due(known, path, log.state(), kind) {
             return Err(refusal);
         }
         match self.enter(Event { node, action }, fresh, mine) {
             Ok(done) => Ok(done),
-            Err(refusal) => Err(unforeseen(known, refusal)),
+            Err(refusal) => Err(unforeseen(known, kind, refusal)),
         }
     }
 

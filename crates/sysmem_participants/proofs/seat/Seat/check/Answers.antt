@@ -22,6 +22,6 @@ returns g c =
         pending = search rules;
         known = search rules;
         shown = search rules;
-        tells = tells_of c.told.result c.args.self.now c.deref-2.result.now.platform c.deref-3.result.now c.in-Some.outcome.now platform path c.told.ensures.told;
+        tells = tells_of c.told.result c.args.self.now c.self.inside.note.known c.deref-2.result.now.platform c.deref-3.result.now c.in-Some.outcome.now was c.in-Some.ensures.value.1 platform path c.told.ensures.told;
       },
     )

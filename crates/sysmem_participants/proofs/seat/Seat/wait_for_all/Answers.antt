@@ -14,7 +14,7 @@ returns g c =
       deeds = c.self.inside.log.deeds;
       cell = cell_name (arc_value c.self.inside.cell);
       known = c.wait_until_set.new.note.known;
-      platform = (arc_value c.self.inside.rules).platform;
+      platform = (arc_value c.self.inside.shared).platform;
     } in
     let same : IsSameBut c.args.self.now after_waiting = search rules in
     let kept : IsStillKnown c.args.self.now after_waiting = search rules in (
@@ -28,6 +28,6 @@ returns g c =
         decided = search rules;
         known = search rules;
         shown = search rules;
-        tells = tells_as c.check.result c.args.self.now after_waiting same c.check.ensures.tells;
+        tells = tells_as c.check.result c.args.self.now after_waiting same kept c.check.ensures.tells;
       },
     )

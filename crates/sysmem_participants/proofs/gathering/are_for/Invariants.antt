@@ -1,0 +1,7 @@
+use Rattle.std.proofs.Common.{◌≡◌, ◌<◌, ℕ, get_or}
+use Rattle.sysmem_participants.specs.Held.{Left}
+use Rattle.sysmem_participants.proofs.Seeing.{ForFirst}
+use Rattle.sysmem_participants.proofs.gathering.are_for.Given as goal
+
+abbrev pub invariant-loop-stub : goal.invariant-loop-stub
+invariant-loop-stub l = ForFirst l.platform l.stubs l.stub-index
