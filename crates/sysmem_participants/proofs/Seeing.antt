@@ -87,7 +87,7 @@ pub marked_all : (b : BookFacts) (stubs : List Left) (marks : List Bool) (calls 
     → AreMatched b stubs → (i : ℕ) → i < length b.state.tree.nodes → get_or marks i false ≡ true
 marked_all b stubs marks calls verdicts index end seen matched i less =
     let (k, below, path) = matched.all i less in
-    let d : Left = record { path = []; deeds = []; cell = 0; known = None } in
+    let d : Left = record { path = []; deeds = []; cell = 0; known = None; platform = b.platform } in
     let (j, at, is) = seen.each k d (omega (arith, below, end)) in
     let same : j ≡ i = same_Some j i (sym at ∙ path d) in
     subst (λ n. get_or marks n false ≡ true) same is

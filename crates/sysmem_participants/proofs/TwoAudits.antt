@@ -1,5 +1,5 @@
 -- Two audits that said yes.
-use Rattle.std.proofs.Common.{◌≡◌, ◌<◌, ℕ, false, List, [], ◌∷◌, Option, Some, length, slice_get, get_or, sym, ◌∙◌, ap, subst, arith}
+use Rattle.std.proofs.Common.{◌≡◌, ◌<◌, ℕ, false, List, [], ◌∷◌, None, Some, length, slice_get, get_or, sym, ◌∙◌, ap, subst, arith}
 use Rattle.std.specs.Prelude.{IfSome, IsSomeAnd}
 use Rattle.std.specs.List.{AllByRecursion}
 use Rattle.sysmem_sanitise.specs.Platform.{PlatformFacts}
@@ -42,16 +42,16 @@ read_initial b s t read (i, at, home) = (i, ap (node_at b.state.tree.nodes) read
 read_known : (s t : Left) (o : Outcome) → IsRead s t → s.known ≡ Some o → t.known ≡ Some o
 read_known s t o read knows = subst (λ k. IfSome k (λ x. t.known ≡ Some x)) knows read.known
 
-some_there : {P : NodeFacts → Type 0} (nodes : List NodeFacts) → IsSomeAnd (slice_get nodes 0) P → 0 < length nodes
-some_there [] is = absurd is
-some_there (n ∷ nodes) is = omega arith
+some_there : (P : NodeFacts → Type 0) (nodes : List NodeFacts) → IsSomeAnd (slice_get nodes 0) P → 0 < length nodes
+some_there P [] is = absurd is
+some_there P (n ∷ nodes) is = omega arith
 
 -- a book with which stubs of a platform agree is for that
 one_platform : LegalIsSound → (b : BookFacts) (ss : List Left) (a : Audit) (platform : PlatformFacts) → IsBook b → AgreesWith b ss a → AreFor platform ss → b.platform ≡ platform
 one_platform sound b ss a platform is agrees are =
     let (us, read, audited) = agrees.audited in
     let good = is_sound sound b is in
-    let some : 0 < length b.state.tree.nodes = some_there b.state.tree.nodes good.tree.tree.root in
+    let some : 0 < length b.state.tree.nodes = some_there (λ (n : NodeFacts). (n.birth ≡ None) × (n.domain ≡ 0)) b.state.tree.nodes good.tree.tree.root in
     let less : 0 < length ss = omega (arith, some, audited.many, read.many) in
     sym (agrees.platform 0 (none_left platform) less) ∙ are 0 (none_left platform) less
 

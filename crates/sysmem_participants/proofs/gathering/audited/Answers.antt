@@ -13,7 +13,7 @@ returns-clause-agree g c =
     record {
       platform = search (rules, tests);
       counted = sym (sum_written c.args.stubs.len c.args.stubs.items c.stubs_agree.new.stubs many read) ∙ c.count.ensures.actions;
-      audited = (c.stubs_agree.new.stubs, read, subst (λ (b : BookFacts). IsAudited b c.stubs_agree.new.stubs _) book c.in_ok-audit.ensures.agree);
+      audited = (c.stubs_agree.new.stubs, read, subst (λ (b : BookFacts). IsAudited b c.stubs_agree.new.stubs c.in_ok-audit.audit) book c.in_ok-audit.ensures.agree);
     }
 
 pub returns-clause-sum : goal.returns-clause-sum
