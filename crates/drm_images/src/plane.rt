@@ -43,7 +43,7 @@ pub fn image_bytes(pair: Pair, pitch: u32, height: u32) -> Option<u64>
 }
 
 /// The plane of this index, from 0, of an image with rows of `pitch` bytes, its height in pixels, or `None` where it
-/// has fewer. The planes are in the order of DRM; no plane ends behind the image.
+/// has fewer. The planes are in the order of DRM; no plane ends after the image does.
 pub fn plane_at(pair: Pair, pitch: u32, height: u32, index: usize) -> Option<Plane>
     requires { bytes_of pair pitch height < 2 ^ 64 }
     ensures plane { result ≡ slice_get (planes_of pair pitch height) index }
@@ -64,7 +64,7 @@ pub fn plane_at(pair: Pair, pitch: u32, height: u32, index: usize) -> Option<Pla
     }
 }
 
-/// Of a format with one plane behind the first.
+/// Of a format with one plane after the first.
 #[tactic(auto, using(crate::proofs::Halves::halves))]
 fn paired_plane(pitch: u32, rows: u64, index: usize) -> Option<Plane>
     requires some { 1 ≤ index }
@@ -83,7 +83,7 @@ fn paired_plane(pitch: u32, rows: u64, index: usize) -> Option<Plane>
     })
 }
 
-/// Of a format with two planes behind the first.
+/// Of a format with two planes after the first.
 #[tactic(auto, using(crate::proofs::Halves::quarters))]
 fn colour_plane(pitch: u32, rows: u64, index: usize) -> Option<Plane>
     requires some { 1 ≤ index }
