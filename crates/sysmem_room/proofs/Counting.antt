@@ -1,5 +1,5 @@
 -- What an action adds to the history and to the nodes.
-use Rattle.std.proofs.Common.{◌≡◌, ◌≤◌, ℕ, suc, ◌+◌, Bool, true, false, List, [], ◌∷◌, ◌++◌, length, Option, Some, None, Result, Ok, Err, slice_set, refl, sym, ◌∙◌, ap, arith, length-append}
+use Rattle.std.proofs.Common.{◌≡◌, ℕ, suc, ◌+◌, List, [], ◌∷◌, ◌++◌, length, Option, Some, None, Ok, slice_set, refl, sym, ◌∙◌, ap, arith, length-append}
 use Rattle.std.specs.Prelude.{is_some, if◌then◌else◌}
 use Rattle.std.proofs.lemmas.List.{length-set, length-map}
 use Rattle.sysmem_tree.specs.declared.action.ActionKind.{ActionKind}
@@ -10,11 +10,11 @@ use Rattle.sysmem_tree.specs.ActionKind.{Deed, kind_of}
 use Rattle.sysmem_tree.specs.Domain.{TreeFacts}
 use Rattle.sysmem_tree.specs.Node.{NodeFacts}
 use Rattle.sysmem_tree.specs.Table.{makes, makes_root}
-use Rattle.sysmem_tree.specs.Tree.{Applied, applied, tree_after, node_after, nodes_made, nodes_after, domains_after, left_out_but, decided}
+use Rattle.sysmem_tree.specs.Tree.{Applied, applied, node_after, nodes_made, nodes_after, domains_after, left_out_but, decided}
 use Rattle.sysmem_tree.proofs.CallerLemmas.{accepted}
 use Rattle.sysmem_alloc.specs.Book.{BookFacts, entered}
 use Rattle.sysmem_alloc.specs.Decision.{Claimed, answer_of, choices_of}
-use Rattle.sysmem_alloc.specs.Entry.{BookEntry, Acted, Decided}
+use Rattle.sysmem_alloc.specs.Entry.{BookEntry, Decided}
 use Rattle.sysmem_alloc.specs.Sound.{roots_of}
 use Rattle.sysmem_alloc.proofs.CallerLemmas.{acted_roots, added, decided_roots}
 use Rattle.sysmem_tree.specs.Shape.{members_of}

@@ -1,17 +1,15 @@
 -- A history's actions on a node, entry by entry.
-use Rattle.std.proofs.Common.{◌≡◌, ◌≤◌, ℕ, zero, suc, ◌+◌, ◌==◌, Bool, true, false, List, [], ◌∷◌, ◌++◌, Option, Some, None, drop, length, slice_get, refl, sym, ◌∙◌, ap, map, subst, arith, rules, tests}
+use Rattle.std.proofs.Common.{◌≡◌, ℕ, zero, suc, ◌+◌, ◌==◌, Bool, true, false, List, [], ◌∷◌, ◌++◌, Some, drop, slice_get, refl, sym, ◌∙◌, ap, map, subst, arith, rules, tests}
 use Rattle.std.specs.Prelude.{if◌then◌else◌}
 use Rattle.std.proofs.lemmas.Option.{same_Some}
 use Rattle.sysmem_alloc.specs.declared.entry.Entry.{Entry}
 use Rattle.sysmem_alloc.specs.declared.entry.Entry.TheVariants as entries
-use Rattle.sysmem_alloc.specs.Entry.{BookEntry, Acted, Decided, tree_entry, entry_in, deed_with}
+use Rattle.sysmem_alloc.specs.Entry.{BookEntry, Acted, Decided, entry_in, deed_with}
 use Rattle.sysmem_proof.specs.Asked.{asks_at}
 use Rattle.sysmem_tree.specs.declared.action.ActionKind.{ActionKind}
-use Rattle.sysmem_alloc.specs.Decision.{Claimed}
 use Rattle.sysmem_tree.specs.declared.action.Action.{Action}
 use Rattle.sysmem_tree.specs.ActionKind.{Deed, deed_of}
 use Rattle.sysmem_tree.specs.Node.{NodeFacts}
-use Rattle.sysmem_tree.specs.History.{deed_on, log}
 use Rattle.sysmem_room.specs.Agreeing.{own_deeds, book_log}
 
 pub log_cons : (i : ℕ) (e : BookEntry) (es : List BookEntry) → book_log (e ∷ es) i ≡ own_deeds i e ++ book_log es i

@@ -50,19 +50,19 @@ due known path state kind = first_of (known_refusal known path kind) (log_refusa
 -- a refusal that a handle can't foresee: too many nodes, of an action that makes one; and by a verdict
 -- that it doesn't know, of an action that doesn't end its node
 abbrev pub IsUnforeseen : Option Outcome → ActionKind → Refusal → Type 0
-IsUnforeseen known kind TooManyNodes = is_some (makes kind) ≡ true
-IsUnforeseen None kind DomainFailed = ends_node kind ≡ false
-IsUnforeseen None kind NotSelected = ends_node kind ≡ false
-IsUnforeseen known kind r = ⊥
+IsUnforeseen known act TooManyNodes = is_some (makes act) ≡ true
+IsUnforeseen None act DomainFailed = ends_node act ≡ false
+IsUnforeseen None act NotSelected = ends_node act ≡ false
+IsUnforeseen known act r = ⊥
 
 -- what is due is answered, and nothing else but what the handle can't foresee
 abbrev pub IsAnswer : Option Refusal → Option Outcome → ActionKind → Refusal → Type 0
-IsAnswer (Some q) known kind r = r ≡ q
-IsAnswer None known kind r = IsUnforeseen known kind r
+IsAnswer (Some q) known act r = r ≡ q
+IsAnswer None known act r = IsUnforeseen known act r
 
 -- the same by what a handle knew before a call: a verdict that it hadn't known may come before what is due
 abbrev pub MayAnswer : Option Refusal → Option Outcome → ActionKind → Refusal → Type 0
-MayAnswer None known kind r = IsUnforeseen known kind r
-MayAnswer (Some q) None kind DomainFailed = Unit {0}
-MayAnswer (Some q) None kind NotSelected = Unit {0}
-MayAnswer (Some q) known kind r = r ≡ q
+MayAnswer None known act r = IsUnforeseen known act r
+MayAnswer (Some q) None act DomainFailed = Unit {0}
+MayAnswer (Some q) None act NotSelected = Unit {0}
+MayAnswer (Some q) known act r = r ≡ q

@@ -1,11 +1,9 @@
-use Rattle.std.proofs.Common.{refl, ◌≡◌, ◌==◌, ℕ, ◌∙◌, [], ◌∷◌, ap, subst, sym, rules, tests}
-use Rattle.std.specs.Prelude.{Some, slice_get, if◌then◌else◌}
+use Rattle.std.proofs.Common.{refl, ◌≡◌, [], ◌∷◌, rules, tests}
+use Rattle.std.specs.Prelude.{Some, slice_get}
 use Rattle.std.proofs.lemmas.Option.{slice_get_read}
-use Rattle.sysmem_alloc.specs.declared.entry.Entry.{Entry}
 use Rattle.sysmem_alloc.specs.Entry.{entry_in, deed_with}
 use Rattle.sysmem_proof.specs.Asked.{asks_at}
-use Rattle.sysmem_tree.specs.declared.action.Action.{Action}
-use Rattle.sysmem_tree.specs.ActionKind.{Deed, deed_of}
+use Rattle.sysmem_tree.specs.ActionKind.{deed_of}
 use Rattle.sysmem_room.specs.Agreeing.{own_deeds}
 use Rattle.sysmem_room.proofs.Reading.{own_acted, reads}
 use Rattle.sysmem_room.proofs.agreeing.read_on.Goals as goal

@@ -1,6 +1,6 @@
-use Rattle.std.proofs.Common.{◌∙◌, ap, subst, sym, arith, ◌≡◌, ◌≤◌, ◌+◌, length, map}
+use Rattle.std.proofs.Common.{◌∙◌, ap, subst, sym, arith, ◌≤◌, ◌+◌, length}
 use Rattle.std.proofs.lemmas.List.{length-map}
-use Rattle.sysmem_tree.specs.ActionKind.{deed_of, kind_of}
+use Rattle.sysmem_tree.specs.ActionKind.{deed_of}
 use Rattle.sysmem_tree.specs.Table.{state_after}
 use Rattle.sysmem_room.specs.Log.{LogFacts, begun_as}
 use Rattle.sysmem_room.proofs.Logs.{state_push}

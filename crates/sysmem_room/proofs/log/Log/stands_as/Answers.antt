@@ -1,4 +1,4 @@
-use Rattle.std.proofs.Common.{◌≡◌, ◌==◌, rules, tests, slice_get}
+use Rattle.std.proofs.Common.{rules, tests, slice_get}
 use Rattle.sysmem_room.specs.Log.{shown_by}
 use Rattle.sysmem_room.proofs.Owning.{as_logged, as_rooted}
 use Rattle.sysmem_room.proofs.log.Log.stands_as.Goals as goal

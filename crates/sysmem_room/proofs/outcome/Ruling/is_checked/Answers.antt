@@ -1,5 +1,5 @@
 -- A claim that is true is one to which the checker says yes.
-use Rattle.std.proofs.Common.{◌≡◌, ℕ, Option, ap, subst, sym, ◌∙◌}
+use Rattle.std.proofs.Common.{◌≡◌, ℕ, Option, subst, sym, ◌∙◌}
 use Rattle.sysmem_alloc.specs.Frozen.{FrozenFacts}
 use Rattle.sysmem_proof.specs.declared.certificate.Claim.{Claim as AClaim}
 use Rattle.sysmem_proof.specs.Base.{BaseFacts}

@@ -1,5 +1,5 @@
 -- The book under the lock is the one that was asked.
-use Rattle.std.proofs.Common.{◌≡◌, subst}
+use Rattle.std.proofs.Common.{subst}
 use Rattle.std.specs.Prelude.{◌↔◌, IsTrue}
 use Rattle.sysmem_alloc.specs.Frozen.{IsStill}
 use Rattle.sysmem_room.proofs.room.Room.conclude.Goals as goal

@@ -1,5 +1,5 @@
 -- What is true of what was frozen is right for a book that still has that.
-use Rattle.std.proofs.Common.{◌∙◌, arith, ap, subst, sym, ◌≡◌, ◌+◌, length}
+use Rattle.std.proofs.Common.{◌∙◌, arith, ap, subst, sym, length}
 use Rattle.std.specs.Arc.{arc_value}
 use Rattle.sysmem_alloc.specs.Claims.{IsRightClaim}
 use Rattle.sysmem_alloc.specs.Frozen.{IsStill}

@@ -1,9 +1,8 @@
 -- What an action adds is counted, and a domain that it makes has a cell.
-use Rattle.std.proofs.Common.{◌∙◌, ap, sym, arith, Bool, true, ℕ, ◌≡◌, ◌≤◌, ◌+◌, length}
-use Rattle.std.specs.Prelude.{if◌then◌else◌, is_some}
-use Rattle.sysmem_tree.specs.ActionKind.{deed_of, kind_of}
+use Rattle.std.proofs.Common.{◌∙◌, ap, sym, arith, Bool, ℕ, length}
+use Rattle.std.specs.Prelude.{if◌then◌else◌}
+use Rattle.sysmem_tree.specs.ActionKind.{deed_of}
 use Rattle.sysmem_tree.specs.Domain.{TreeFacts}
-use Rattle.sysmem_tree.specs.Table.{makes_root}
 use Rattle.sysmem_alloc.specs.Book.{BookFacts}
 use Rattle.sysmem_alloc.specs.Entry.{Acted}
 use Rattle.sysmem_room.specs.Counting.{actions_in, nodes_by}

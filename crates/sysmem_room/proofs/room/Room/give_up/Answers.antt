@@ -1,5 +1,5 @@
 -- A decision changes no count.
-use Rattle.std.proofs.Common.{◌∙◌, arith, ap, sym, ◌≡◌, ◌+◌, length}
+use Rattle.std.proofs.Common.{◌∙◌, arith, ap, sym, length}
 use Rattle.sysmem_tree.specs.Domain.{TreeFacts}
 use Rattle.sysmem_room.proofs.Counting.{decides}
 use Rattle.sysmem_room.proofs.room.Room.give_up.Goals as goal
