@@ -7,7 +7,7 @@ use Rattle.script_run.specs.Runner.{state_of}
 use Rattle.script_reading.specs.Seen.{call_seen}
 use Rattle.script_run.proofs.Reaching.{reaches-start, reaches-stop, reaches-take, reaches-end, drop-call_seen}
 use Rattle.script_run.proofs.Stopping.{no_objection, stopped_as}
-use Rattle.script_run.proofs.report.report_of.Goals as goal
+use Rattle.script_run.proofs.replayed.replayed_of.Goals as goal
 
 pub returns-in_err-runner-clause-stops : goal.returns-in_err-runner-clause-stops
 returns-in_err-runner-clause-stops g c =

@@ -1,0 +1,469 @@
+//! Which offers of a platform participants refuse, and why.
+
+use crate::asked::{Asked, put_has};
+use crate::deriving::{Deriving, Side, format_of};
+use crate::domains::put_texts;
+use crate::rows::Reason;
+use crate::story::Story;
+use script_faults::wording::{put_few, put_joined};
+use std::alloc::{AllocError, Global};
+use std::fmt::Write;
+use sysmem_counts::Field;
+use sysmem_formats::{ColourSpace, Modifier, Offer, offer_at};
+use sysmem_image::{ColourSet, entry_for, takes_colour};
+use sysmem_merge::OfferRead;
+use sysmem_sanitise::Platform;
+
+/// The lines on the bounds of images, in the order of the conflict table.
+const LINES: [Field; 9] = [
+    Field::SizeAlignment,
+    Field::BytesPerRowDivisor,
+    Field::StartOffsetDivisor,
+    Field::DisplayRectAlignment,
+    Field::RequiredMinSize,
+    Field::MaxSize,
+    Field::MaxWidthTimesHeight,
+    Field::MaxBytesPerRow,
+    Field::MaxSizeBytes,
+];
+
+const UNNAMED: [Field; 3] = [
+    Field::UnnamedPixelFormat,
+    Field::UnnamedPixelFormatModifier,
+    Field::UnnamedColorSpace,
+];
+
+const COLOURS: [ColourSpace; 8] = [
+    ColourSpace::Srgb,
+    ColourSpace::Rec601Ntsc,
+    ColourSpace::Rec601NtscFullRange,
+    ColourSpace::Rec601Pal,
+    ColourSpace::Rec601PalFullRange,
+    ColourSpace::Rec709,
+    ColourSpace::Rec2020,
+    ColourSpace::Rec2100,
+];
+
+/// The offers of a platform, in its order.
+pub(crate) fn offers_of(alloc: Global, platform: &Platform) -> Result<Vec<Offer>, AllocError> {
+    let mut offers = Vec::new(alloc);
+    let most = platform
+        .pairs()
+        .len()
+        .saturating_mul(platform.colours().len())
+        .saturating_add(1);
+    for index in 0..most {
+        if let Some(offer) = offer_at(platform.pairs(), platform.colours(), index) {
+            offers.push(offer)?;
+        }
+    }
+    Ok(offers)
+}
+
+/// What participants say of an offer together.
+fn read_of(offer: &Offer, people: &[Asked<'_>]) -> OfferRead {
+    let mut read = OfferRead::new(offer);
+    for one in people {
+        read.add(one.asked);
+    }
+    read
+}
+
+/// Whether an offer is refused by participants, who are all that there are if `whole` says so.
+pub(crate) fn is_refused(offer: &Offer, people: &[Asked<'_>], whole: bool) -> bool {
+    read_of(offer, people).first_line(whole).is_some()
+}
+
+/// Those who have entries and none for an offer.
+fn without_entry<'a>(
+    alloc: Global,
+    offer: &Offer,
+    people: &[Asked<'a>],
+) -> Result<Vec<Asked<'a>>, AllocError> {
+    let mut those = Vec::new(alloc);
+    for one in people {
+        let entries = one.asked.entries();
+        if !entries.is_empty() && entry_for(entries, offer).is_none() {
+            those.push(*one)?;
+        }
+    }
+    Ok(those)
+}
+
+/// Those whose entry for an offer lacks its colour space.
+fn without_colour<'a>(
+    alloc: Global,
+    offer: &Offer,
+    people: &[Asked<'a>],
+) -> Result<Vec<Asked<'a>>, AllocError> {
+    let mut those = Vec::new(alloc);
+    for one in people {
+        if let Some(entry) = entry_for(one.asked.entries(), offer) {
+            if !takes_colour(entry, offer) {
+                those.push(*one)?;
+            }
+        }
+    }
+    Ok(those)
+}
+
+/// What is true against an offer: all who have no entry for it; or else all who lack its colour space; or else each line of the bounds, of all;
+/// or else what nobody names, where they are all that there are.
+pub(crate) fn offer_reasons<'a>(
+    alloc: Global,
+    offer: &Offer,
+    people: &[Asked<'a>],
+    whole: bool,
+) -> Result<Vec<Reason<'a>>, AllocError> {
+    let mut reasons = Vec::new(alloc);
+    let refusing = without_entry(alloc, offer, people)?;
+    if !refusing.is_empty() {
+        reasons.push(Reason {
+            field: Field::PixelFormat,
+            people: refusing,
+        })?;
+        return Ok(reasons);
+    }
+    let wrong = without_colour(alloc, offer, people)?;
+    if !wrong.is_empty() {
+        reasons.push(Reason {
+            field: Field::ColorSpaces,
+            people: wrong,
+        })?;
+        return Ok(reasons);
+    }
+    let read = read_of(offer, people);
+    for field in LINES {
+        if read.is_line(field) {
+            reasons.push(Reason {
+                field,
+                people: Vec::from_slice(alloc, people)?,
+            })?;
+        }
+    }
+    if reasons.is_empty() && whole {
+        for field in UNNAMED {
+            if read.is_unnamed(field) {
+                reasons.push(Reason {
+                    field,
+                    people: Vec::from_slice(alloc, people)?,
+                })?;
+            }
+        }
+    }
+    Ok(reasons)
+}
+
+/// How far an offer is from being taken: how many have no entry for it, and how many lack its colour space, which is nearer.
+pub(crate) fn distance_of(reasons: &[Reason<'_>]) -> usize {
+    let mut far = 0usize;
+    for reason in reasons {
+        match reason.field {
+            Field::PixelFormat => {
+                far = far.saturating_add(reason.people.len().saturating_mul(2));
+            }
+            Field::ColorSpaces => far = far.saturating_add(reason.people.len()),
+            _ => {}
+        }
+    }
+    far
+}
+
+/// The name of an offer: `NV12 LINEAR REC709`, or `without an image`.
+pub(crate) fn offer_name(alloc: Global, offer: &Offer) -> Result<String, AllocError> {
+    match offer {
+        Offer::NoImage => String::from_str(alloc, "without an image"),
+        Offer::Image(pair, colour) => {
+            let format = pair.format.name();
+            let modifier = pair.modifier.name();
+            let colour = colour.name();
+            format!(in alloc; "{format} {modifier} {colour}")
+        }
+    }
+}
+
+/// The sentence of a reason against an offer, with the numbers of all participants.
+pub(crate) fn offer_text(
+    alloc: Global,
+    story: &Story<'_>,
+    offer: &Offer,
+    reason: &Reason<'_>,
+) -> Result<String, AllocError> {
+    let mut text = String::new(alloc);
+    let people = &reason.people;
+    let deriving = Deriving {
+        story,
+        people,
+        offer: *offer,
+    };
+    match reason.field {
+        Field::PixelFormat => put_no_entry(&mut text, story, offer, people)?,
+        Field::ColorSpaces => put_colours(&mut text, story, offer, people)?,
+        Field::UnnamedPixelFormat => put_unnamed(&mut text, story, people, "format")?,
+        Field::UnnamedPixelFormatModifier => {
+            put_unnamed(&mut text, story, people, "modifier")?;
+        }
+        Field::UnnamedColorSpace => put_unnamed(&mut text, story, people, "colour space")?,
+        Field::RequiredMinSize => put_required(&mut text, deriving)?,
+        Field::MaxSize => put_too_large(&mut text, deriving)?,
+        Field::MaxWidthTimesHeight => put_too_many_pixels(&mut text, deriving)?,
+        Field::MaxBytesPerRow => put_too_long(&mut text, deriving)?,
+        Field::MaxSizeBytes => put_too_big(&mut text, deriving)?,
+        field => put_no_multiple(&mut text, deriving, field)?,
+    }
+    Ok(text)
+}
+
+/// Puts who has no entry for an offer behind a text, with the modifiers that they take its format with.
+fn put_no_entry(
+    text: &mut String,
+    story: &Story<'_>,
+    offer: &Offer,
+    people: &[Asked<'_>],
+) -> Result<(), AllocError> {
+    let Offer::Image(pair, _) = offer else {
+        return put_has(text, story, people, "takes images only", "take images only");
+    };
+    let alloc = *text.allocator();
+    let mut none = Vec::new(alloc);
+    for one in people {
+        let mut modifiers: Vec<&str> = Vec::new(alloc);
+        for entry in one.asked.entries() {
+            if entry.format.is_none() || entry.format == Some(pair.format) {
+                modifiers.push(entry.modifier.map_or("DO_NOT_CARE", Modifier::name))?;
+            }
+        }
+        if modifiers.is_empty() {
+            none.push(*one)?;
+            continue;
+        }
+        if !text.is_empty() {
+            text.push_str("; ")?;
+        }
+        let name = story.name(one.node);
+        let format = pair.format.name();
+        write!(text, "{name} takes {format} only as ")?;
+        put_joined(text, &modifiers, "and")?;
+    }
+    if none.is_empty() {
+        return Ok(());
+    }
+    if !text.is_empty() {
+        text.push_str("; ")?;
+    }
+    put_has(
+        text,
+        story,
+        &none,
+        "has no entry for it",
+        "have no entry for it",
+    )
+}
+
+/// Puts in which colour spaces participants take an offer behind a text.
+fn put_colours(
+    text: &mut String,
+    story: &Story<'_>,
+    offer: &Offer,
+    people: &[Asked<'_>],
+) -> Result<(), AllocError> {
+    let alloc = *text.allocator();
+    let mut done: Vec<ColourSet> = Vec::new(alloc);
+    for one in people {
+        let Some(entry) = entry_for(one.asked.entries(), offer) else {
+            continue;
+        };
+        if done.contains(&entry.colours) {
+            continue;
+        }
+        done.push(entry.colours)?;
+        let mut those = Vec::new(alloc);
+        for other in people {
+            match entry_for(other.asked.entries(), offer) {
+                Some(same) if same.colours == entry.colours => those.push(*other)?,
+                _ => {}
+            }
+        }
+        if !text.is_empty() {
+            text.push_str("; ")?;
+        }
+        put_has(text, story, &those, "takes it only in ", "take it only in ")?;
+        put_colour_names(text, entry.colours)?;
+    }
+    Ok(())
+}
+
+fn put_colour_names(text: &mut String, colours: ColourSet) -> Result<(), AllocError> {
+    let mut names: Vec<&str> = Vec::new(*text.allocator());
+    for colour in COLOURS {
+        if colours.lists(colour) {
+            names.push(colour.name())?;
+        }
+    }
+    put_few(text, &names, 4)
+}
+
+/// Puts that nobody names a part of an image's name behind a text.
+fn put_unnamed(
+    text: &mut String,
+    story: &Story<'_>,
+    people: &[Asked<'_>],
+    what: &str,
+) -> Result<(), AllocError> {
+    put_has(text, story, people, "takes", "take")?;
+    write!(text, " any {what}, but nobody names the {what}")
+}
+
+/// Puts that a least size is above what somebody will put behind a text.
+fn put_required(text: &mut String, deriving: Deriving<'_, '_>) -> Result<(), AllocError> {
+    for side in [Side::Width, Side::Height] {
+        let low = deriving.least(|entry| {
+            u64::from(u32::MAX).saturating_sub(u64::from(side.of(entry.bounds.asked.min_size)))
+        });
+        let top = deriving.least(|entry| u64::from(side.of(entry.bounds.asked.required_min_size)));
+        let (Some((first, below)), Some((second, most))) = (low, top) else {
+            continue;
+        };
+        let least = u64::from(u32::MAX).saturating_sub(below);
+        if least <= most {
+            continue;
+        }
+        if !text.is_empty() {
+            text.push_str("; ")?;
+        }
+        let name = side.name();
+        let takes = deriving.story.name(first);
+        let puts = deriving.story.name(second);
+        write!(
+            text,
+            "{takes} takes a {name} of {least} or more (min_size), {puts} will put {most} \
+             (required_min_size)"
+        )?;
+    }
+    Ok(())
+}
+
+/// Puts that the smallest image is larger than somebody takes behind a text.
+fn put_too_large(text: &mut String, deriving: Deriving<'_, '_>) -> Result<(), AllocError> {
+    let alloc = *text.allocator();
+    for side in [Side::Width, Side::Height] {
+        let top = deriving.least(|entry| u64::from(side.of(entry.bounds.asked.max_size)));
+        let Some((node, most)) = top else {
+            continue;
+        };
+        let least = deriving.side(alloc, side)?;
+        if least.value <= u128::from(most) {
+            continue;
+        }
+        if !text.is_empty() {
+            text.push_str("; ")?;
+        }
+        let who = deriving.story.name(node);
+        let name = side.name();
+        let value = least.value;
+        let why = least.why.as_str();
+        write!(
+            text,
+            "the least {name} is {value}: {why}; {who} takes at most {most} (max_size)"
+        )?;
+    }
+    Ok(())
+}
+
+fn put_too_many_pixels(text: &mut String, deriving: Deriving<'_, '_>) -> Result<(), AllocError> {
+    let alloc = *text.allocator();
+    let width = deriving.side(alloc, Side::Width)?.value;
+    let height = deriving.side(alloc, Side::Height)?.value;
+    let pixels = width.saturating_mul(height);
+    let why = deriving.why_size(alloc)?;
+    write!(
+        text,
+        "the smallest image has {width}x{height} = {pixels} pixels: {why}"
+    )?;
+    if let Some((node, most)) = deriving.least(|entry| entry.bounds.asked.max_width_times_height) {
+        let who = deriving.story.name(node);
+        write!(
+            text,
+            "; {who} takes at most {most} (max_width_times_height)"
+        )?;
+    }
+    Ok(())
+}
+
+fn put_too_long(text: &mut String, deriving: Deriving<'_, '_>) -> Result<(), AllocError> {
+    let row = deriving.row(*text.allocator(), true)?;
+    let value = row.value;
+    let why = row.why.as_str();
+    write!(text, "the least row is {value} bytes: {why}")?;
+    let most = deriving.least(|entry| u64::from(entry.bounds.asked.max_bytes_per_row));
+    if let Some((node, most)) = most {
+        let who = deriving.story.name(node);
+        write!(text, "; {who} takes at most {most} (max_bytes_per_row)")?;
+    }
+    Ok(())
+}
+
+fn put_too_big(text: &mut String, deriving: Deriving<'_, '_>) -> Result<(), AllocError> {
+    let size = deriving.size(*text.allocator(), true)?;
+    let value = size.value;
+    let why = size.why.as_str();
+    write!(text, "a buffer has {value} bytes at least: {why}")?;
+    let mut best: Option<(usize, u64)> = None;
+    for one in deriving.people {
+        let most = one.asked.memory().max_size_bytes;
+        let is_less = match best {
+            Some((_, least)) => most < least,
+            None => true,
+        };
+        if is_less {
+            best = Some((one.node, most));
+        }
+    }
+    if let Some((node, most)) = best {
+        let who = deriving.story.name(node);
+        write!(text, "; {who} takes at most {most} (max_size_bytes)")?;
+    }
+    Ok(())
+}
+
+/// Puts that what participants want multiples of has no common multiple behind a text.
+fn put_no_multiple(
+    text: &mut String,
+    deriving: Deriving<'_, '_>,
+    field: Field,
+) -> Result<(), AllocError> {
+    let alloc = *text.allocator();
+    let name = field.name();
+    let mut parts: Vec<String> = Vec::new(alloc);
+    for one in deriving.people {
+        let Some(entry) = entry_for(one.asked.entries(), &deriving.offer) else {
+            continue;
+        };
+        let bounds = entry.bounds.asked;
+        let who = deriving.story.name(one.node);
+        let part = match field {
+            Field::BytesPerRowDivisor => {
+                let value = bounds.bytes_per_row_divisor;
+                format!(in alloc; "{who} {value}")?
+            }
+            Field::StartOffsetDivisor => {
+                let value = bounds.start_offset_divisor;
+                format!(in alloc; "{who} {value}")?
+            }
+            Field::SizeAlignment => {
+                let (width, height) = (bounds.size_alignment.width, bounds.size_alignment.height);
+                format!(in alloc; "{who} {width}x{height}")?
+            }
+            _ => {
+                let size = bounds.display_rect_alignment;
+                let (width, height) = (size.width, size.height);
+                format!(in alloc; "{who} {width}x{height}")?
+            }
+        };
+        parts.push(part)?;
+    }
+    write!(text, "{name} of ")?;
+    put_texts(text, &parts, 4)?;
+    let format = format_of(&deriving.offer);
+    write!(text, " have no common multiple up to 4294967295 ({format})")
+}
