@@ -1,14 +1,13 @@
 //! Which places of a platform participants refuse, and by which field.
 
-use crate::asked::{Asked, put_has, stated};
 use crate::rows::Reason;
-use crate::story::Story;
-use script_faults::wording::put_visible;
+use explanation_text::wording::put_visible;
 use std::alloc::{AllocError, Global};
 use std::fmt::Write;
 use sysmem_counts::Field;
 use sysmem_memory::{CoherencyDomain, HeapInfo, Place, refuses_in};
 use sysmem_sanitise::Platform;
+use value_sources::{Asked, put_has};
 
 /// The fields by which a place is refused, in the order of the place table.
 const FIELDS: [Field; 7] = [
@@ -113,47 +112,38 @@ pub(crate) fn put_place(
 }
 
 /// Puts why participants refuse a place by a field behind a text.
-pub(crate) fn put_place_reason(
-    text: &mut String,
-    story: &Story<'_>,
-    reason: &Reason<'_>,
-) -> Result<(), AllocError> {
+pub(crate) fn put_place_reason(text: &mut String, reason: &Reason<'_>) -> Result<(), AllocError> {
     let people = &reason.people;
     let name = reason.field.name();
     match reason.field {
-        Field::PermittedHeaps => put_permits(text, story, people),
+        Field::PermittedHeaps => put_permits(text, people),
         Field::PhysicallyContiguousRequired => {
-            put_has(text, story, people, "needs", "need")?;
+            put_has(text, people, "needs", "need")?;
             write!(text, " contiguous memory ({name})")
         }
         Field::SecureRequired => {
-            put_has(text, story, people, "needs", "need")?;
+            put_has(text, people, "needs", "need")?;
             write!(text, " secure memory ({name})")
         }
         Field::Usage => {
-            put_has(text, story, people, "uses", "use")?;
+            put_has(text, people, "uses", "use")?;
             text.push_str(" the CPU (usage cpu), which doesn't reach it")
         }
-        _ => put_unsupported(text, story, people, name),
+        _ => put_unsupported(text, people, name),
     }
 }
 
 /// Puts which heaps participants permit behind a text; of several with other lists only that it isn't this one.
-fn put_permits(
-    text: &mut String,
-    story: &Story<'_>,
-    people: &[Asked<'_>],
-) -> Result<(), AllocError> {
+fn put_permits(text: &mut String, people: &[Asked<'_>]) -> Result<(), AllocError> {
     let [one] = people else {
         return put_has(
             text,
-            story,
             people,
             "doesn't permit this heap",
             "don't permit this heap",
         );
     };
-    put_has(text, story, people, "permits only", "permit only")?;
+    put_has(text, people, "permits only", "permit only")?;
     for (k, heap) in one
         .asked
         .memory()
@@ -171,8 +161,8 @@ fn put_permits(
 }
 
 /// Whether a participant states a field of its memory.
-fn states(story: &Story<'_>, node: usize, field: &str) -> bool {
-    match stated(story, node) {
+fn states(one: &Asked<'_>, field: &str) -> bool {
+    match one.stated {
         Some(value) => match value.get("buffer_memory_constraints") {
             Some(memory) => memory.get(field).is_some(),
             None => false,
@@ -182,31 +172,26 @@ fn states(story: &Story<'_>, node: usize, field: &str) -> bool {
 }
 
 /// Puts who says that it doesn't take a coherency domain behind a text, and who doesn't say that it does.
-fn put_unsupported(
-    text: &mut String,
-    story: &Story<'_>,
-    people: &[Asked<'_>],
-    field: &str,
-) -> Result<(), AllocError> {
+fn put_unsupported(text: &mut String, people: &[Asked<'_>], field: &str) -> Result<(), AllocError> {
     let alloc = *text.allocator();
     let mut said = Vec::new(alloc);
     let mut absent = Vec::new(alloc);
     for one in people {
-        if states(story, one.node, field) {
+        if states(one, field) {
             said.push(*one)?;
         } else {
             absent.push(*one)?;
         }
     }
     if !said.is_empty() {
-        put_has(text, story, &said, "says", "say")?;
+        put_has(text, &said, "says", "say")?;
         write!(text, " {field} false")?;
     }
     if !said.is_empty() && !absent.is_empty() {
         text.push_str("; ")?;
     }
     if !absent.is_empty() {
-        put_has(text, story, &absent, "doesn't say", "don't say")?;
+        put_has(text, &absent, "doesn't say", "don't say")?;
         write!(text, " {field}, so it's false")?;
     }
     Ok(())

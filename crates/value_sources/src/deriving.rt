@@ -1,8 +1,8 @@
 //! The sizes of the smallest image, each with where it comes from.
 
 use crate::asked::Asked;
-use crate::story::Story;
-use script_faults::wording::{MOST_NAMES, put_count, put_few};
+use crate::multiples::{Multiple, multiple_of, up};
+use explanation_text::wording::put_count;
 use std::alloc::{AllocError, Global};
 use std::fmt::Write;
 use sysmem_formats::{
@@ -12,27 +12,27 @@ use sysmem_image::{Entry, Size, entry_for};
 
 /// A number, and where it comes from.
 #[derive(Drop)]
-pub(crate) struct Derived {
-    pub(crate) value: u128,
-    pub(crate) why: String,
+pub struct Derived {
+    pub value: u128,
+    pub why: String,
 }
 
 /// A side of an image.
 #[derive(Clone, Copy, Debug, PartialEq, Eq)]
-pub(crate) enum Side {
+pub enum Side {
     Width,
     Height,
 }
 
 impl Side {
-    pub(crate) fn of(self, size: Size) -> u32 {
+    pub fn of(self, size: Size) -> u32 {
         match self {
             Side::Width => size.width,
             Side::Height => size.height,
         }
     }
 
-    pub(crate) fn name(self) -> &'static str {
+    pub fn name(self) -> &'static str {
         match self {
             Side::Width => "width",
             Side::Height => "height",
@@ -40,57 +40,15 @@ impl Side {
     }
 }
 
-/// A number that others are multiples of, and who asks for it.
-#[derive(Drop)]
-struct Multiple {
-    value: u128,
-    who: String,
-}
-
-/// Participants, with an offer and the story that has their names.
+/// Participants, with an offer.
 #[derive(Clone, Copy)]
-pub(crate) struct Deriving<'a, 'b> {
-    pub(crate) story: &'b Story<'a>,
-    pub(crate) people: &'b [Asked<'a>],
-    pub(crate) offer: Offer,
-}
-
-/// The least multiple of a number that isn't below a value.
-fn up(value: u128, multiple: u128) -> u128 {
-    if multiple < 2 {
-        return value;
-    }
-    let over = value % multiple;
-    if over == 0 {
-        return value;
-    }
-    value.saturating_add(multiple.saturating_sub(over))
-}
-
-fn gcd(a: u128, b: u128) -> u128 {
-    let mut low = a;
-    let mut high = b;
-    for _step in 0..512 {
-        if low == 0 {
-            break;
-        }
-        let rest = high % low;
-        high = low;
-        low = rest;
-    }
-    high
-}
-
-fn lcm(a: u128, b: u128) -> u128 {
-    let shared = gcd(a, b);
-    if shared == 0 {
-        return 0;
-    }
-    (a / shared).saturating_mul(b)
+pub struct Deriving<'a, 'b> {
+    pub people: &'b [Asked<'a>],
+    pub offer: Offer,
 }
 
 /// The name of an offer's format.
-pub(crate) fn format_of(offer: &Offer) -> &'static str {
+pub fn format_of(offer: &Offer) -> &'static str {
     match offer {
         Offer::NoImage => "none",
         Offer::Image(pair, _) => pair.format.name(),
@@ -133,54 +91,6 @@ fn tile_bytes(offer: &Offer) -> u128 {
     }
 }
 
-/// The number that all are divisors of, and those who are needed for it.
-fn multiple_of(alloc: Global, parts: Vec<Multiple>) -> Result<Derived, AllocError> {
-    let whole = lcm_but(&parts, usize::MAX, &[]);
-    let mut left_out: Vec<usize> = Vec::new(alloc);
-    for k in (0..parts.len()).rev() {
-        let is_trivial = match parts.get(k) {
-            Some(part) => part.value < 2,
-            None => true,
-        };
-        if is_trivial || lcm_but(&parts, k, &left_out) == whole {
-            left_out.push(k)?;
-        }
-    }
-    let mut texts: Vec<String> = Vec::new(alloc);
-    let kept = parts.len().saturating_sub(left_out.len());
-    for (k, part) in parts.iter().enumerate() {
-        if left_out.contains(&k) {
-            continue;
-        }
-        let who = part.who.as_str();
-        let value = part.value;
-        let text = if kept == 1 {
-            String::from_str(alloc, who)?
-        } else {
-            format!(in alloc; "{who} {value}")?
-        };
-        texts.push(text)?;
-    }
-    let mut words: Vec<&str> = Vec::new(alloc);
-    for text in &texts {
-        words.push(text.as_str())?;
-    }
-    let mut why = String::new(alloc);
-    put_few(&mut why, &words, MOST_NAMES)?;
-    Ok(Derived { value: whole, why })
-}
-
-/// The least common multiple of all parts but one and some others.
-fn lcm_but(parts: &[Multiple], index: usize, others: &[usize]) -> u128 {
-    let mut whole = 1u128;
-    for (k, part) in parts.iter().enumerate() {
-        if k != index && !others.contains(&k) {
-            whole = lcm(whole, part.value);
-        }
-    }
-    whole
-}
-
 impl<'a> Deriving<'a, '_> {
     /// A participant's entry for the offer.
     fn entry(&self, one: &Asked<'a>) -> Option<&'a Entry> {
@@ -188,10 +98,10 @@ impl<'a> Deriving<'a, '_> {
     }
 
     /// The first who wishes the greatest of some numbers, with that.
-    fn greatest<F: Fn(&Entry) -> u32>(&self, wish: F) -> Option<(usize, u32)>
+    fn greatest<F: Fn(&Entry) -> u32>(&self, wish: F) -> Option<(&'a str, u32)>
         requires { F.IsAlwaysCallable wish }
     {
-        let mut best: Option<(usize, u32)> = None;
+        let mut best: Option<(&'a str, u32)> = None;
         for one in self.people {
             let Some(entry) = self.entry(one) else {
                 continue;
@@ -202,17 +112,17 @@ impl<'a> Deriving<'a, '_> {
                 None => true,
             };
             if is_more {
-                best = Some((one.node, value));
+                best = Some((one.name, value));
             }
         }
         best
     }
 
     /// The first who wishes the least of some numbers, with that.
-    pub(crate) fn least<F: Fn(&Entry) -> u64>(&self, wish: F) -> Option<(usize, u64)>
+    pub fn least<F: Fn(&Entry) -> u64>(&self, wish: F) -> Option<(&'a str, u64)>
         requires { F.IsAlwaysCallable wish }
     {
-        let mut best: Option<(usize, u64)> = None;
+        let mut best: Option<(&'a str, u64)> = None;
         for one in self.people {
             let Some(entry) = self.entry(one) else {
                 continue;
@@ -223,7 +133,7 @@ impl<'a> Deriving<'a, '_> {
                 None => true,
             };
             if is_less {
-                best = Some((one.node, value));
+                best = Some((one.name, value));
             }
         }
         best
@@ -244,7 +154,7 @@ impl<'a> Deriving<'a, '_> {
                 continue;
             };
             let value = u128::from(wish(entry));
-            let name = self.story.name(one.node);
+            let name = one.name;
             let who = format!(in alloc; "{name} {field}")?;
             parts.push(Multiple { value, who })?;
         }
@@ -252,7 +162,7 @@ impl<'a> Deriving<'a, '_> {
     }
 
     /// The least width or height.
-    pub(crate) fn side(&self, alloc: Global, side: Side) -> Result<Derived, AllocError> {
+    pub fn side(&self, alloc: Global, side: Side) -> Result<Derived, AllocError> {
         let low = self.greatest(|entry| side.of(entry.bounds.asked.min_size));
         let wish = self.greatest(|entry| side.of(entry.bounds.asked.required_max_size));
         let mut why = String::new(alloc);
@@ -261,15 +171,14 @@ impl<'a> Deriving<'a, '_> {
             None => 1,
         };
         let (base, first) = match (low, wish) {
-            (_, Some((node, value))) if value > least => {
-                (value, Some((node, "required_max_size")))
+            (_, Some((name, value))) if value > least => {
+                (value, Some((name, "required_max_size")))
             }
-            (Some((node, _)), _) if least > 1 => (least, Some((node, "min_size"))),
+            (Some((name, _)), _) if least > 1 => (least, Some((name, "min_size"))),
             _ => (1, None),
         };
         match first {
-            Some((node, field)) => {
-                let name = self.story.name(node);
+            Some((name, field)) => {
                 write!(why, "{name} {field}")?;
             }
             None => why.push_str("nobody asks for more than 1")?,
@@ -312,7 +221,7 @@ impl<'a> Deriving<'a, '_> {
     }
 
     /// Where the least width and height come from.
-    pub(crate) fn why_size(&self, alloc: Global) -> Result<String, AllocError> {
+    pub fn why_size(&self, alloc: Global) -> Result<String, AllocError> {
         let width = self.side(alloc, Side::Width)?.why;
         let height = self.side(alloc, Side::Height)?.why;
         if width == height {
@@ -322,7 +231,7 @@ impl<'a> Deriving<'a, '_> {
     }
 
     /// The least row in bytes; where the width comes from is said too if that is asked for.
-    pub(crate) fn row(&self, alloc: Global, is_alone: bool) -> Result<Derived, AllocError> {
+    pub fn row(&self, alloc: Global, is_alone: bool) -> Result<Derived, AllocError> {
         let width = self.side(alloc, Side::Width)?;
         let pixel = u128::from(bytes_per_pixel(&self.offer));
         let packed = width.value.saturating_mul(pixel);
@@ -331,9 +240,8 @@ impl<'a> Deriving<'a, '_> {
         let mut why = String::new(alloc);
         let mut base = plain;
         match self.greatest(|entry| entry.bounds.asked.min_bytes_per_row) {
-            Some((node, least)) if u128::from(least) > plain => {
+            Some((name, least)) if u128::from(least) > plain => {
                 base = u128::from(least);
-                let name = self.story.name(node);
                 write!(why, "{name} min_bytes_per_row")?;
             }
             _ => {
@@ -386,8 +294,8 @@ impl<'a> Deriving<'a, '_> {
     }
 
     /// The greatest least size of a buffer that somebody states.
-    fn least_size(&self) -> Option<(usize, u64)> {
-        let mut best: Option<(usize, u64)> = None;
+    fn least_size(&self) -> Option<(&'a str, u64)> {
+        let mut best: Option<(&'a str, u64)> = None;
         for one in self.people {
             let value = one.asked.memory().min_size_bytes;
             let is_more = match best {
@@ -395,14 +303,14 @@ impl<'a> Deriving<'a, '_> {
                 None => value > 1,
             };
             if is_more {
-                best = Some((one.node, value));
+                best = Some((one.name, value));
             }
         }
         best
     }
 
     /// The least size of a buffer in bytes; where the image's sides come from is said too if that is asked for.
-    pub(crate) fn size(&self, alloc: Global, is_alone: bool) -> Result<Derived, AllocError> {
+    pub fn size(&self, alloc: Global, is_alone: bool) -> Result<Derived, AllocError> {
         let least = self.least_size();
         let stated = match least {
             Some((_, value)) => u128::from(value),
@@ -415,8 +323,7 @@ impl<'a> Deriving<'a, '_> {
             }
         }
         match least {
-            Some((node, value)) => {
-                let name = self.story.name(node);
+            Some((name, value)) => {
                 Ok(Derived {
                     value: u128::from(value),
                     why: format!(in alloc; "{name} min_size_bytes")?,

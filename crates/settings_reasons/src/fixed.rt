@@ -1,17 +1,16 @@
 //! Why the settings that were decided before don't suit those who come late.
 
-use crate::asked::{Asked, asked_in};
 use crate::offering::{offer_name, offer_text};
 use crate::placing::{put_place, put_place_reason};
 use crate::rows::Reason;
-use crate::story::{Domain, Story};
-use script_faults::Items;
+use explanation_text::Items;
 use std::alloc::{AllocError, Global};
 use std::fmt::Write;
 use sysmem_counts::Field;
 use sysmem_image::{ImageBounds, Size, entry_for};
 use sysmem_merge::{Settings, fails_in};
 use sysmem_sanitise::Platform;
+use value_sources::Asked;
 
 /// The fields in which settings may fail a participant, in the order in which they are looked at.
 const FIELDS: [Field; 22] = [
@@ -39,36 +38,39 @@ const FIELDS: [Field; 22] = [
     Field::Usage,
 ];
 
-/// Tells in which fields the settings of the domain to which a domain was attached fail its participants.
-pub(crate) fn tell_misfits(
+/// Tells in which fields settings fail participants who come late.
+pub fn tell_misfits(
     items: &mut Items,
     platform: &Platform,
-    story: &Story<'_>,
-    index: usize,
-    domain: &Domain<'_>,
+    people: &[Asked<'_>],
+    settings: &Settings,
 ) -> Result<(), AllocError> {
-    let alloc = items.alloc();
-    let Some(above) = domain.host.and_then(|host| story.domain_of(host)) else {
-        return Ok(());
-    };
-    let Some(settings) = &above.settings else {
-        return Ok(());
-    };
     let before = items.len();
-    for one in asked_in(alloc, story, index, false)? {
-        for field in FIELDS {
-            if fails_in(field, platform, settings, one.asked) {
-                let text = misfit_text(alloc, platform, story, settings, one, field)?;
-                items.say(1, "misfit", text)?;
-            }
-        }
+    for one in people {
+        tell_misfit(items, platform, *one, settings)?;
     }
     if items.len() == before {
         let count = settings.count;
-        let text = format!(in alloc;
+        let text = format!(in items.alloc();
             "{count} buffers were decided: no more are there for those who come late, or these take no so many"
         )?;
         return items.say(1, "count", text);
+    }
+    Ok(())
+}
+
+fn tell_misfit(
+    items: &mut Items,
+    platform: &Platform,
+    one: Asked<'_>,
+    settings: &Settings,
+) -> Result<(), AllocError> {
+    let alloc = items.alloc();
+    for field in FIELDS {
+        if fails_in(field, platform, settings, one.asked) {
+            let text = misfit_text(alloc, platform, settings, one, field)?;
+            items.say(1, "misfit", text)?;
+        }
     }
     Ok(())
 }
@@ -77,7 +79,6 @@ pub(crate) fn tell_misfits(
 fn misfit_text(
     alloc: Global,
     platform: &Platform,
-    story: &Story<'_>,
     settings: &Settings,
     one: Asked<'_>,
     field: Field,
@@ -87,14 +88,12 @@ fn misfit_text(
     let reason = Reason { field, people };
     match field {
         Field::PixelFormat | Field::ColorSpaces => {
-            let mut text = offer_text(alloc, story, &settings.offer, &reason)?;
+            let mut text = offer_text(alloc, &settings.offer, &reason)?;
             let holds = offer_name(alloc, &settings.offer)?;
             write!(text, "; the buffers are {holds}")?;
             Ok(text)
         }
-        Field::MinSizeBytes | Field::MaxSizeBytes => {
-            size_text(alloc, story, settings, one, field)
-        }
+        Field::MinSizeBytes | Field::MaxSizeBytes => { size_text(alloc, settings, one, field) }
         Field::PermittedHeaps
         | Field::PhysicallyContiguousRequired
         | Field::SecureRequired
@@ -103,18 +102,17 @@ fn misfit_text(
         | Field::InaccessibleDomainSupported
         | Field::Usage => {
             let mut text = String::new(alloc);
-            put_place_reason(&mut text, story, &reason)?;
+            put_place_reason(&mut text, &reason)?;
             text.push_str(": the buffers lie in ")?;
             put_place(&mut text, platform, settings.place)?;
             Ok(text)
         }
-        _ => bound_text(alloc, story, settings, one, field),
+        _ => bound_text(alloc, settings, one, field),
     }
 }
 
 fn size_text(
     alloc: Global,
-    story: &Story<'_>,
     settings: &Settings,
     one: Asked<'_>,
     field: Field,
@@ -125,7 +123,7 @@ fn size_text(
     } else {
         memory.max_size_bytes
     };
-    let who = story.name(one.node);
+    let who = one.name;
     let name = field.name();
     let size = settings.size_bytes;
     format!(in alloc; "{who} says {name} {mine}: the buffers have {size} bytes")
@@ -133,12 +131,11 @@ fn size_text(
 
 fn bound_text(
     alloc: Global,
-    story: &Story<'_>,
     settings: &Settings,
     one: Asked<'_>,
     field: Field,
 ) -> Result<String, AllocError> {
-    let who = story.name(one.node);
+    let who = one.name;
     let name = field.name();
     let mut text = format!(in alloc; "{who} says {name} ")?;
     if let Some(entry) = entry_for(one.asked.entries(), &settings.offer) {

@@ -1,11 +1,6 @@
 //! Which offers of a platform participants refuse, and why.
-
-use crate::asked::{Asked, put_has};
-use crate::deriving::{Deriving, Side, format_of};
-use crate::domains::put_texts;
 use crate::rows::Reason;
-use crate::story::Story;
-use script_faults::wording::{put_few, put_joined};
+use explanation_text::wording::{put_few, put_joined};
 use std::alloc::{AllocError, Global};
 use std::fmt::Write;
 use sysmem_counts::Field;
@@ -13,6 +8,7 @@ use sysmem_formats::{ColourSpace, Modifier, Offer, offer_at};
 use sysmem_image::{ColourSet, entry_for, takes_colour};
 use sysmem_merge::OfferRead;
 use sysmem_sanitise::Platform;
+use value_sources::{Asked, Deriving, Side, format_of, put_has, put_texts};
 
 /// The lines on the bounds of images, in the order of the conflict table.
 const LINES: [Field; 9] = [
@@ -185,25 +181,23 @@ pub(crate) fn offer_name(alloc: Global, offer: &Offer) -> Result<String, AllocEr
 /// The sentence of a reason against an offer, with the numbers of all participants.
 pub(crate) fn offer_text(
     alloc: Global,
-    story: &Story<'_>,
     offer: &Offer,
     reason: &Reason<'_>,
 ) -> Result<String, AllocError> {
     let mut text = String::new(alloc);
     let people = &reason.people;
     let deriving = Deriving {
-        story,
         people,
         offer: *offer,
     };
     match reason.field {
-        Field::PixelFormat => put_no_entry(&mut text, story, offer, people)?,
-        Field::ColorSpaces => put_colours(&mut text, story, offer, people)?,
-        Field::UnnamedPixelFormat => put_unnamed(&mut text, story, people, "format")?,
+        Field::PixelFormat => put_no_entry(&mut text, offer, people)?,
+        Field::ColorSpaces => put_colours(&mut text, offer, people)?,
+        Field::UnnamedPixelFormat => put_unnamed(&mut text, people, "format")?,
         Field::UnnamedPixelFormatModifier => {
-            put_unnamed(&mut text, story, people, "modifier")?;
+            put_unnamed(&mut text, people, "modifier")?;
         }
-        Field::UnnamedColorSpace => put_unnamed(&mut text, story, people, "colour space")?,
+        Field::UnnamedColorSpace => put_unnamed(&mut text, people, "colour space")?,
         Field::RequiredMinSize => put_required(&mut text, deriving)?,
         Field::MaxSize => put_too_large(&mut text, deriving)?,
         Field::MaxWidthTimesHeight => put_too_many_pixels(&mut text, deriving)?,
@@ -215,14 +209,9 @@ pub(crate) fn offer_text(
 }
 
 /// Puts who has no entry for an offer behind a text, with the modifiers that they take its format with.
-fn put_no_entry(
-    text: &mut String,
-    story: &Story<'_>,
-    offer: &Offer,
-    people: &[Asked<'_>],
-) -> Result<(), AllocError> {
+fn put_no_entry(text: &mut String, offer: &Offer, people: &[Asked<'_>]) -> Result<(), AllocError> {
     let Offer::Image(pair, _) = offer else {
-        return put_has(text, story, people, "takes images only", "take images only");
+        return put_has(text, people, "takes images only", "take images only");
     };
     let alloc = *text.allocator();
     let mut none = Vec::new(alloc);
@@ -240,7 +229,7 @@ fn put_no_entry(
         if !text.is_empty() {
             text.push_str("; ")?;
         }
-        let name = story.name(one.node);
+        let name = one.name;
         let format = pair.format.name();
         write!(text, "{name} takes {format} only as ")?;
         put_joined(text, &modifiers, "and")?;
@@ -251,22 +240,11 @@ fn put_no_entry(
     if !text.is_empty() {
         text.push_str("; ")?;
     }
-    put_has(
-        text,
-        story,
-        &none,
-        "has no entry for it",
-        "have no entry for it",
-    )
+    put_has(text, &none, "has no entry for it", "have no entry for it")
 }
 
 /// Puts in which colour spaces participants take an offer behind a text.
-fn put_colours(
-    text: &mut String,
-    story: &Story<'_>,
-    offer: &Offer,
-    people: &[Asked<'_>],
-) -> Result<(), AllocError> {
+fn put_colours(text: &mut String, offer: &Offer, people: &[Asked<'_>]) -> Result<(), AllocError> {
     let alloc = *text.allocator();
     let mut done: Vec<ColourSet> = Vec::new(alloc);
     for one in people {
@@ -287,7 +265,7 @@ fn put_colours(
         if !text.is_empty() {
             text.push_str("; ")?;
         }
-        put_has(text, story, &those, "takes it only in ", "take it only in ")?;
+        put_has(text, &those, "takes it only in ", "take it only in ")?;
         put_colour_names(text, entry.colours)?;
     }
     Ok(())
@@ -304,13 +282,8 @@ fn put_colour_names(text: &mut String, colours: ColourSet) -> Result<(), AllocEr
 }
 
 /// Puts that nobody names a part of an image's name behind a text.
-fn put_unnamed(
-    text: &mut String,
-    story: &Story<'_>,
-    people: &[Asked<'_>],
-    what: &str,
-) -> Result<(), AllocError> {
-    put_has(text, story, people, "takes", "take")?;
+fn put_unnamed(text: &mut String, people: &[Asked<'_>], what: &str) -> Result<(), AllocError> {
+    put_has(text, people, "takes", "take")?;
     write!(text, " any {what}, but nobody names the {what}")
 }
 
@@ -332,8 +305,8 @@ fn put_required(text: &mut String, deriving: Deriving<'_, '_>) -> Result<(), All
             text.push_str("; ")?;
         }
         let name = side.name();
-        let takes = deriving.story.name(first);
-        let puts = deriving.story.name(second);
+        let takes = first;
+        let puts = second;
         write!(
             text,
             "{takes} takes a {name} of {least} or more (min_size), {puts} will put {most} \
@@ -348,7 +321,7 @@ fn put_too_large(text: &mut String, deriving: Deriving<'_, '_>) -> Result<(), Al
     let alloc = *text.allocator();
     for side in [Side::Width, Side::Height] {
         let top = deriving.least(|entry| u64::from(side.of(entry.bounds.asked.max_size)));
-        let Some((node, most)) = top else {
+        let Some((who, most)) = top else {
             continue;
         };
         let least = deriving.side(alloc, side)?;
@@ -358,7 +331,6 @@ fn put_too_large(text: &mut String, deriving: Deriving<'_, '_>) -> Result<(), Al
         if !text.is_empty() {
             text.push_str("; ")?;
         }
-        let who = deriving.story.name(node);
         let name = side.name();
         let value = least.value;
         let why = least.why.as_str();
@@ -380,8 +352,7 @@ fn put_too_many_pixels(text: &mut String, deriving: Deriving<'_, '_>) -> Result<
         text,
         "the smallest image has {width}x{height} = {pixels} pixels: {why}"
     )?;
-    if let Some((node, most)) = deriving.least(|entry| entry.bounds.asked.max_width_times_height) {
-        let who = deriving.story.name(node);
+    if let Some((who, most)) = deriving.least(|entry| entry.bounds.asked.max_width_times_height) {
         write!(
             text,
             "; {who} takes at most {most} (max_width_times_height)"
@@ -396,8 +367,7 @@ fn put_too_long(text: &mut String, deriving: Deriving<'_, '_>) -> Result<(), All
     let why = row.why.as_str();
     write!(text, "the least row is {value} bytes: {why}")?;
     let most = deriving.least(|entry| u64::from(entry.bounds.asked.max_bytes_per_row));
-    if let Some((node, most)) = most {
-        let who = deriving.story.name(node);
+    if let Some((who, most)) = most {
         write!(text, "; {who} takes at most {most} (max_bytes_per_row)")?;
     }
     Ok(())
@@ -408,7 +378,7 @@ fn put_too_big(text: &mut String, deriving: Deriving<'_, '_>) -> Result<(), Allo
     let value = size.value;
     let why = size.why.as_str();
     write!(text, "a buffer has {value} bytes at least: {why}")?;
-    let mut best: Option<(usize, u64)> = None;
+    let mut best: Option<(&'a str, u64)> = None;
     for one in deriving.people {
         let most = one.asked.memory().max_size_bytes;
         let is_less = match best {
@@ -416,11 +386,10 @@ fn put_too_big(text: &mut String, deriving: Deriving<'_, '_>) -> Result<(), Allo
             None => true,
         };
         if is_less {
-            best = Some((one.node, most));
+            best = Some((one.name, most));
         }
     }
-    if let Some((node, most)) = best {
-        let who = deriving.story.name(node);
+    if let Some((who, most)) = best {
         write!(text, "; {who} takes at most {most} (max_size_bytes)")?;
     }
     Ok(())
@@ -440,7 +409,7 @@ fn put_no_multiple(
             continue;
         };
         let bounds = entry.bounds.asked;
-        let who = deriving.story.name(one.node);
+        let who = one.name;
         let part = match field {
             Field::BytesPerRowDivisor => {
                 let value = bounds.bytes_per_row_divisor;

@@ -1,6 +1,7 @@
 //! The least change of a field that makes a decision possible, once leaving the field out does.
 
-use crate::edits::{Amount, Changed, Edit, amount_in, with_amount};
+use crate::amount::{Amount, amount_in, with_amount};
+use crate::edits::{Changed, Edit};
 use serde_json::Value;
 use std::alloc::{AllocError, Global};
 use sysmem_counts::Field;
@@ -90,7 +91,7 @@ fn field_of(edit: Edit) -> Field {
 
 /// Values of a field that are between the stated one and none, the next of which is to be tried.
 #[derive(Clone, Copy, Debug)]
-pub(crate) struct Halving {
+pub struct Halving {
     edit: Edit,
     stated: Amount,
     /// What is known to do, and what is known not to.
@@ -101,7 +102,7 @@ pub(crate) struct Halving {
 
 impl Halving {
     /// The values that a change leaves between, where leaving the field out gives this line.
-    pub(crate) fn of(value: &Value, edit: Edit, line: &str) -> Option<Halving> {
+    pub fn of(value: &Value, edit: Edit, line: &str) -> Option<Halving> {
         let field = field_of(edit);
         let stated = amount_in(value, edit)?;
         if let Some(goal) = raised(field, line) {
@@ -126,9 +127,9 @@ impl Halving {
     }
 
     /// The value that is to be tried next; `None` where none is left.
-    pub(crate) fn next(&self) -> Option<Amount> {
+    pub fn next(&self) -> Option<Amount> {
         if self.is_raised {
-            return if self.good.is_same(self.bad) {
+            return if self.good == self.bad {
                 None
             } else {
                 Some(self.good)
@@ -138,7 +139,7 @@ impl Halving {
     }
 
     /// A value was tried, and does or doesn't.
-    pub(crate) fn learn(&mut self, amount: Amount, does: bool) {
+    pub fn learn(&mut self, amount: Amount, does: bool) {
         if self.is_raised {
             self.bad = self.good;
             return;
@@ -151,7 +152,7 @@ impl Halving {
     }
 
     /// The constraints with a value.
-    pub(crate) fn changed(
+    pub fn changed(
         &self,
         alloc: Global,
         value: &Value,

@@ -1,11 +1,10 @@
 //! Rows of what fails for the same reasons.
 
-use crate::asked::Asked;
-use crate::domains::put_texts;
-use script_faults::Items;
+use explanation_text::Items;
 use std::alloc::AllocError;
 use std::fmt::Write;
 use sysmem_counts::Field;
+use value_sources::{Asked, put_texts};
 
 /// How many rows of one kind are told; one more is shown rather than counted.
 const MOST_ROWS: usize = 6;

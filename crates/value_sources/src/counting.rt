@@ -1,8 +1,6 @@
 //! How many buffers participants need, and where the number comes from.
 
-use crate::asked::{Asked, put_has};
-use crate::domains::put_texts;
-use crate::story::Story;
+use crate::asked::{Asked, put_has, put_texts};
 use std::alloc::{AllocError, Global};
 use std::fmt::Write;
 use sysmem_counts::{BUFFER_COUNT_LIMIT, CountBounds, Field};
@@ -47,8 +45,8 @@ fn total(people: &[Asked<'_>], part: Part) -> u64 {
 }
 
 /// The first who asks for the most, with that, if anybody asks for some.
-fn greatest(people: &[Asked<'_>], part: Part) -> Option<(usize, u32)> {
-    let mut best: Option<(usize, u32)> = None;
+fn greatest<'a>(people: &[Asked<'a>], part: Part) -> Option<(&'a str, u32)> {
+    let mut best: Option<(&'a str, u32)> = None;
     for one in people {
         let value = value_of(one, part);
         let least = match best {
@@ -56,7 +54,7 @@ fn greatest(people: &[Asked<'_>], part: Part) -> Option<(usize, u32)> {
             None => 0,
         };
         if value > least {
-            best = Some((one.node, value));
+            best = Some((one.name, value));
         }
     }
     best
@@ -74,22 +72,14 @@ fn held(people: &[Asked<'_>]) -> u64 {
 }
 
 /// Puts what participants hold together behind a text, as a sum of named parts.
-fn put_held(text: &mut String, story: &Story<'_>, people: &[Asked<'_>]) -> Result<(), AllocError> {
+fn put_held(text: &mut String, people: &[Asked<'_>]) -> Result<(), AllocError> {
     let start = text.len();
-    put_part(text, start, story, people, Part::Camping, "camping")?;
-    put_part(
-        text,
-        start,
-        story,
-        people,
-        Part::Dedicated,
-        "dedicated slack",
-    )?;
-    if let Some((node, value)) = greatest(people, Part::Shared) {
+    put_part(text, start, people, Part::Camping, "camping")?;
+    put_part(text, start, people, Part::Dedicated, "dedicated slack")?;
+    if let Some((name, value)) = greatest(people, Part::Shared) {
         if text.len() > start {
             text.push_str(" + ")?;
         }
-        let name = story.name(node);
         write!(text, "{name} {value} (shared slack, the greatest)")?;
     }
     Ok(())
@@ -98,7 +88,6 @@ fn put_held(text: &mut String, story: &Story<'_>, people: &[Asked<'_>]) -> Resul
 fn put_part(
     text: &mut String,
     start: usize,
-    story: &Story<'_>,
     people: &[Asked<'_>],
     part: Part,
     word: &str,
@@ -107,7 +96,7 @@ fn put_part(
     let mut parts: Vec<String> = Vec::new(alloc);
     for one in people {
         let value = value_of(one, part);
-        let name = story.name(one.node);
+        let name = one.name;
         if value > 0 {
             parts.push(format!(in alloc; "{name} {value}")?)?;
         }
@@ -135,7 +124,7 @@ fn put_part(
 }
 
 /// The least count that the participants need.
-pub(crate) fn needed(people: &[Asked<'_>]) -> u64 {
+pub fn needed(people: &[Asked<'_>]) -> u64 {
     let least = match greatest(people, Part::Minimum) {
         Some((_, value)) => u64::from(value),
         None => 0,
@@ -144,61 +133,50 @@ pub(crate) fn needed(people: &[Asked<'_>]) -> u64 {
 }
 
 /// Where that count comes from.
-pub(crate) fn why_needed(
-    alloc: Global,
-    story: &Story<'_>,
-    people: &[Asked<'_>],
-) -> Result<String, AllocError> {
+pub fn why_needed(alloc: Global, people: &[Asked<'_>]) -> Result<String, AllocError> {
     let mut text = String::new(alloc);
     let sum = held(people);
     let most = greatest(people, Part::Minimum);
     if sum >= needed(people) {
-        put_held(&mut text, story, people)?;
+        put_held(&mut text, people)?;
         return Ok(text);
     }
-    let Some((node, _)) = most else {
+    let Some((name, _)) = most else {
         return String::from_str(alloc, "nobody asks for more than one");
     };
-    let name = story.name(node);
     write!(text, "{name} min_buffer_count")?;
     if sum > 0 {
         write!(text, "; held are {sum}: ")?;
-        put_held(&mut text, story, people)?;
+        put_held(&mut text, people)?;
     }
     Ok(text)
 }
 
 /// Whether a line on the count is true of participants.
-pub(crate) fn is_count_line(field: Field, people: &[Asked<'_>]) -> bool {
+pub fn is_count_line(field: Field, people: &[Asked<'_>]) -> bool {
     bounds_of(people).is_line(field)
 }
 
 /// The sentence of a line on the count that is true of participants.
-pub(crate) fn count_text(
-    alloc: Global,
-    story: &Story<'_>,
-    field: Field,
-    people: &[Asked<'_>],
-) -> Result<String, AllocError> {
+pub fn count_text(alloc: Global, field: Field, people: &[Asked<'_>]) -> Result<String, AllocError> {
     let mut text = String::new(alloc);
-    put_has(&mut text, story, people, "needs", "need")?;
+    put_has(&mut text, people, "needs", "need")?;
     let count = needed(people);
-    let why = why_needed(alloc, story, people)?;
+    let why = why_needed(alloc, people)?;
     write!(text, " {count} buffers: {why}")?;
     if field == Field::BufferCountLimit {
         write!(text, "; there are at most {BUFFER_COUNT_LIMIT}")?;
         return Ok(text);
     }
-    if let Some((node, most)) = least_maximum(people) {
-        let name = story.name(node);
+    if let Some((name, most)) = least_maximum(people) {
         write!(text, "; {name} takes at most {most} (max_buffer_count)")?;
     }
     Ok(text)
 }
 
 /// The first who takes the fewest buffers at most, with that.
-pub(crate) fn least_maximum(people: &[Asked<'_>]) -> Option<(usize, u32)> {
-    let mut best: Option<(usize, u32)> = None;
+pub fn least_maximum<'a>(people: &[Asked<'a>]) -> Option<(&'a str, u32)> {
+    let mut best: Option<(&'a str, u32)> = None;
     for one in people {
         let most = one.asked.counts().max_buffer_count;
         let is_less = match best {
@@ -206,7 +184,7 @@ pub(crate) fn least_maximum(people: &[Asked<'_>]) -> Option<(usize, u32)> {
             None => true,
         };
         if is_less {
-            best = Some((one.node, most));
+            best = Some((one.name, most));
         }
     }
     best

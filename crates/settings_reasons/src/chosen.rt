@@ -1,37 +1,32 @@
 //! What decided each value of a choice.
 
-use crate::asked::Asked;
-use crate::counting::why_needed;
-use crate::deriving::{Deriving, Side};
-use crate::empty::{offer_rows, place_rows};
 use crate::offering::{offer_name, offers_of};
 use crate::placing::{places_of, put_place};
+use crate::refusing::{offer_rows, place_rows};
 use crate::rows::tell_rows;
-use crate::story::Story;
-use script_faults::Items;
+use explanation_text::Items;
 use std::alloc::AllocError;
 use sysmem_formats::Offer;
 use sysmem_merge::Settings;
 use sysmem_sanitise::Platform;
+use value_sources::{Asked, Deriving, Side, why_needed};
 
 /// Tells where the settings come from that were chosen for participants.
-pub(crate) fn tell_settings(
+pub fn tell_settings(
     items: &mut Items,
     platform: &Platform,
-    story: &Story<'_>,
     people: &[Asked<'_>],
     settings: &Settings,
 ) -> Result<(), AllocError> {
     let alloc = items.alloc();
-    let why = why_needed(alloc, story, people)?;
+    let why = why_needed(alloc, people)?;
     let count = settings.count;
     let mark = if why.contains('(') { " =" } else { ":" };
     let text = format!(in alloc; "{count}{mark} {why}")?;
     items.say(1, "count", text)?;
-    tell_place(items, platform, story, people, settings)?;
-    tell_offer(items, platform, story, people, settings)?;
+    tell_place(items, platform, people, settings)?;
+    tell_offer(items, platform, people, settings)?;
     let deriving = Deriving {
-        story,
         people,
         offer: settings.offer,
     };
@@ -54,7 +49,6 @@ pub(crate) fn tell_settings(
 fn tell_place(
     items: &mut Items,
     platform: &Platform,
-    story: &Story<'_>,
     people: &[Asked<'_>],
     settings: &Settings,
 ) -> Result<(), AllocError> {
@@ -68,7 +62,7 @@ fn tell_place(
         .position(|place| *place == settings.place)
         .unwrap_or(0);
     let earlier = places.get(..before).unwrap_or(&[]);
-    let rows = place_rows(alloc, platform, story, earlier, people, false)?;
+    let rows = place_rows(alloc, platform, earlier, people, false)?;
     tell_rows(items, 2, "not ", &rows)
 }
 
@@ -76,7 +70,6 @@ fn tell_place(
 fn tell_offer(
     items: &mut Items,
     platform: &Platform,
-    story: &Story<'_>,
     people: &[Asked<'_>],
     settings: &Settings,
 ) -> Result<(), AllocError> {
@@ -94,7 +87,6 @@ fn tell_offer(
     let earlier = offers.get(..before).unwrap_or(&[]);
     let rows = offer_rows(
         alloc,
-        story,
         earlier,
         people,
         true,
