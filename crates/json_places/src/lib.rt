@@ -19,7 +19,7 @@ mod taken;
 
 pub use finding::{key_span_of, span_of};
 pub use keys::{Span, Step};
-pub use lines::{column_of, end_of_line, line_of, start_of_line};
+pub use lines::{begins_character, characters, column_of, end_of_line, line_of, start_of_line};
 pub use repeats::repeated_keys;
 pub use stopping::{Stop, stop_of};
 pub use taken::Expected;

@@ -22,13 +22,13 @@ pub fn column_of(bytes: &[u8], at: usize) -> usize {
     characters(line).saturating_add(1)
 }
 
-/// How many characters begin in the bytes.
-fn characters(bytes: &[u8]) -> usize {
+/// How many characters begin in the bytes, as UTF-8 has them.
+pub fn characters(bytes: &[u8]) -> usize {
     bytes.iter().filter(|b| begins_character(**b)).count()
 }
 
 /// Whether a byte of UTF-8 begins a character.
-fn begins_character(byte: u8) -> bool {
+pub fn begins_character(byte: u8) -> bool {
     byte < 0x80 || byte >= 0xC0
 }
 

@@ -8,7 +8,7 @@ use std::alloc::Global;
 const MOST_OPEN: usize = 127;
 
 /// What the next byte belongs to.
-#[derive(Clone, Copy, Debug, PartialEq, Eq)]
+#[derive(Clone, Copy)]
 enum State {
     /// A value is due.
     Value,
@@ -40,7 +40,7 @@ enum State {
     Word(Word, u8),
 }
 
-#[derive(Clone, Copy, Debug, PartialEq, Eq)]
+#[derive(Clone, Copy)]
 enum Word {
     Null,
     True,
@@ -66,7 +66,7 @@ impl Word {
 }
 
 /// A list or an object that is not complete.
-#[derive(Clone, Copy, Debug)]
+#[derive(Clone, Copy)]
 pub(crate) struct Open {
     /// Where its bracket stands.
     pub(crate) start: usize,
@@ -78,7 +78,7 @@ pub(crate) struct Open {
 }
 
 /// How far a text is read.
-#[derive(Debug, Drop)]
+#[derive(Drop)]
 pub(crate) struct Machine {
     state: State,
     open: Vec<Open>,

@@ -9,7 +9,7 @@ use std::alloc::{AllocError, Global};
 const MOST_KEYS: usize = 64;
 
 /// A key of an object that is open.
-#[derive(Clone, Copy, Debug)]
+#[derive(Clone, Copy)]
 struct Key {
     /// How many lists and objects are open around its value.
     depth: usize,

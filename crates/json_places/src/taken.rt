@@ -6,7 +6,7 @@ ghost use Rattle.json_places.specs.declared.taken.Halt.TheVariants.{NoMemory};
 use std::alloc::{AllocError, AllocFailed};
 
 /// What the grammar allows where a text stops being JSON.
-#[derive(Clone, Copy, Debug, PartialEq, Eq)]
+#[derive(Clone, Copy, Debug)]
 pub enum Expected {
     /// A value.
     Value,
@@ -70,7 +70,7 @@ impl Expected {
 }
 
 /// Why no further byte is taken.
-#[derive(Clone, Copy, Debug)]
+#[derive(Clone, Copy)]
 pub(crate) enum Halt {
     /// A growth was refused.
     NoMemory,
@@ -95,7 +95,7 @@ impl<T: Drop> From<AllocFailed<T>> for Halt {
 }
 
 /// What begins or ends with a byte.
-#[derive(Clone, Copy, Debug, PartialEq, Eq)]
+#[derive(Clone, Copy)]
 pub(crate) enum Mark {
     Nothing,
     /// A value that is no list and no object begins.

@@ -1,15 +1,12 @@
 //! The faults of a script's calls, in words.
 
-use crate::document::{Document, Part};
-use crate::items::Items;
-use crate::keys::{CALLS, CONSTRAINTS, is_one_of};
-use crate::kinds::wrong_kind;
-use crate::near::nearest;
-use crate::paths::{Path, with};
-use crate::record_fault::one;
-use crate::unknown::first_unknown;
-use crate::wording::{put_few, put_joined};
+use crate::keys::CALLS;
+use explanation_text::wording::{put_few, put_joined};
+use explanation_text::{Items, nearest};
 use json_places::Step;
+use record_faults::{
+    CONSTRAINTS, Document, Part, Path, first_unknown, is_one_of, key_of, one, wrong_kind,
+};
 use script_reading::ScriptFault;
 use serde_json::Value;
 use std::alloc::{AllocError, Global};
@@ -227,10 +224,7 @@ fn tell_key<'a>(
     path: Path<'a>,
 ) -> Result<(), AllocError> {
     let alloc = items.alloc();
-    let key = match path.last() {
-        Some(Step::Key(key)) => *key,
-        _ => "",
-    };
+    let key = key_of(&path);
     let help = if is_one_of(key, CONSTRAINTS) {
         String::from_str(alloc, "it belongs into constraints")?
     } else if key == "as" {

@@ -1,15 +1,10 @@
 //! The faults of a script, in words.
 
 use crate::call_fault::tell_call_fault;
-use crate::document::{Document, Part, show};
-use crate::items::{Items, Kind};
 use crate::keys::SCRIPT;
-use crate::kinds::wrong_kind;
-use crate::near::nearest;
-use crate::record_fault::{one, tell_record_fault};
-use crate::snippet::Mark;
-use crate::unknown::first_unknown;
+use explanation_text::{Items, Kind, Mark, nearest, show};
 use json_places::{Span, Step, stop_of};
+use record_faults::{Document, Part, first_unknown, key_of, one, tell_record_fault, wrong_kind};
 use script_reading::{LONGEST, ScriptFault};
 use std::alloc::{AllocError, Global};
 use std::fmt::Write;
@@ -149,10 +144,7 @@ fn tell_misshapen(items: &mut Items, document: &Document<'_>) -> Result<(), Allo
         return document.point(items, 1, &root, Part::Value, &note, &[]);
     }
     if let Some(path) = first_unknown(alloc, document, &root, SCRIPT)? {
-        let key = match path.last() {
-            Some(Step::Key(key)) => *key,
-            _ => "",
-        };
+        let key = key_of(&path);
         let help = match nearest(alloc, key, SCRIPT)? {
             Some(near) => format!(in alloc; "did you mean {near}?")?,
             None => String::from_str(alloc, "a script has just platform and calls")?,

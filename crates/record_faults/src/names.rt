@@ -1,7 +1,7 @@
 //! The names of the profile, and other people's names for what it has.
 
-use crate::near::nearest;
-use crate::wording::put_joined;
+use explanation_text::nearest;
+use explanation_text::wording::put_joined;
 use std::alloc::{AllocError, Global};
 use std::fmt::Write;
 

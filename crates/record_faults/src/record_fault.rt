@@ -2,18 +2,17 @@
 
 use crate::document::{Document, Part};
 use crate::firsts::put_first_like;
-use crate::items::Items;
 use crate::keys::{
     CONSTRAINTS, Due, ENTRY, HEAP_NAME, MEMORY, PAIR, PLATFORM, PLATFORM_HEAP, SIZE, allowed,
     due_at, is_one_of,
 };
 use crate::kinds::{is_number_within, kind_of, wrong_number, wrong_value};
 use crate::names::hint_of_name;
-use crate::near::nearest;
 use crate::paths::{Path, joined, with};
 use crate::record_place::place_of;
-use crate::unknown::first_unknown;
-use crate::wording::put_joined;
+use crate::unknown::{first_unknown, key_of};
+use explanation_text::wording::put_joined;
+use explanation_text::{Items, nearest};
 use json_places::Step;
 use serde_json::Value;
 use std::alloc::{AllocError, Global};
@@ -83,7 +82,7 @@ fn said_of<'a>(alloc: Global, faulty: Faulty<'a, '_>) -> Result<Said<'a>, AllocE
 }
 
 /// One sentence of what helps.
-pub(crate) fn one(alloc: Global, help: String) -> Result<Vec<String>, AllocError> {
+pub fn one(alloc: Global, help: String) -> Result<Vec<String>, AllocError> {
     let mut helps = Vec::new(alloc);
     helps.push(help)?;
     Ok(helps)
@@ -150,12 +149,8 @@ fn of_object<'a>(
     let at = faulty.fault.at.name();
     let keys = keys_at(at, &path, faulty.is_platform);
     if let Some(unknown) = first_unknown(alloc, faulty.document, &path, keys)? {
-        let key = match unknown.last() {
-            Some(Step::Key(key)) => *key,
-            _ => "",
-        };
         return Ok(Said {
-            helps: helps_of_key(alloc, key, keys, faulty.is_platform)?,
+            helps: helps_of_key(alloc, key_of(&unknown), keys, faulty.is_platform)?,
             path: unknown,
             part: Part::Key,
             note: String::from_str(alloc, "unknown key")?,

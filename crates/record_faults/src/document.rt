@@ -1,8 +1,7 @@
 //! A script's text with the value that it spells, and pointing at a part of it.
 
-use crate::items::{Items, Kind};
 use crate::paths::{Path, put_path, value_at};
-use crate::snippet::{Mark, put_snippet};
+use explanation_text::{Items, Kind, Mark, show};
 use json_places::{Span, Step, key_span_of, span_of};
 use serde_json::Value;
 use std::alloc::{AllocError, Global};
@@ -19,7 +18,7 @@ pub struct Document<'a> {
 
 /// What of a member is pointed at.
 #[derive(Clone, Copy, Debug, PartialEq, Eq)]
-pub(crate) enum Part {
+pub enum Part {
     Value,
     Key,
     /// Where it begins, as something is missing in it.
@@ -28,12 +27,12 @@ pub(crate) enum Part {
 
 impl<'a> Document<'a> {
     /// The value at a path.
-    pub(crate) fn at(&self, path: &[Step<'_>]) -> Option<&'a Value> {
+    pub fn at(&self, path: &[Step<'_>]) -> Option<&'a Value> {
         value_at(self.value, path)
     }
 
     /// Where the value at a path or its key stands, if it does.
-    pub(crate) fn span(
+    pub fn span(
         &self,
         alloc: Global,
         path: &[Step<'_>],
@@ -49,7 +48,7 @@ impl<'a> Document<'a> {
     }
 
     /// How the value at a path is written.
-    pub(crate) fn written(&self, alloc: Global, path: &[Step<'_>]) -> Result<&'a [u8], AllocError> {
+    pub fn written(&self, alloc: Global, path: &[Step<'_>]) -> Result<&'a [u8], AllocError> {
         match self.span(alloc, path, Part::Value)? {
             Some(span) => Ok(span.within(self.bytes)),
             None => Ok(&[]),
@@ -57,7 +56,7 @@ impl<'a> Document<'a> {
     }
 
     /// Puts a part of the text with carets below it, a note, and what helps behind the items.
-    pub(crate) fn point(
+    pub fn point(
         &self,
         items: &mut Items,
         depth: usize,
@@ -86,7 +85,7 @@ impl<'a> Document<'a> {
     }
 
     /// The same of a part that is known, with what stands behind its line and column.
-    pub(crate) fn show(
+    pub fn show(
         &self,
         items: &mut Items,
         depth: usize,
@@ -104,18 +103,4 @@ impl<'a> Document<'a> {
             helps,
         )
     }
-}
-
-/// Puts a part of a text with carets below it behind the items.
-pub fn show(
-    items: &mut Items,
-    depth: usize,
-    file: &str,
-    bytes: &[u8],
-    mark: Mark<'_>,
-    helps: &[String],
-) -> Result<(), AllocError> {
-    let mut text = String::new(items.alloc());
-    put_snippet(&mut text, file, bytes, mark, helps)?;
-    items.push(Kind::Source, depth, "", text)
 }

@@ -48,7 +48,7 @@ fn item_of(field: &str) -> &'static str {
 }
 
 /// `a string, where a list is due`.
-pub(crate) fn wrong_kind(alloc: Global, value: &Value, due: &str) -> Result<String, AllocError> {
+pub fn wrong_kind(alloc: Global, value: &Value, due: &str) -> Result<String, AllocError> {
     let kind = kind_of(value);
     format!(in alloc; "{kind}, where {due} due")
 }

@@ -10,7 +10,7 @@ use std::alloc::{AllocError, Global};
 const MOST: usize = 16;
 
 /// The path to the first member, as the text has them, of the object at a path whose key isn't one of these.
-pub(crate) fn first_unknown<'a>(
+pub fn first_unknown<'a>(
     alloc: Global,
     document: &Document<'a>,
     path: &[Step<'a>],
@@ -43,4 +43,12 @@ pub(crate) fn first_unknown<'a>(
         }
     }
     Ok(first.map(|(_, path)| path))
+}
+
+/// The key of the member at a path; empty where the path ends with no key.
+pub fn key_of<'a>(path: &[Step<'a>]) -> &'a str {
+    match path.last() {
+        Some(Step::Key(key)) => *key,
+        _ => "",
+    }
 }

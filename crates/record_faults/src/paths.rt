@@ -1,6 +1,6 @@
 //! Paths to values in a script.
 
-use crate::wording::put_visible;
+use explanation_text::wording::put_visible;
 use json_places::Step;
 use serde_json::Value;
 use std::alloc::{AllocError, Global};
@@ -10,14 +10,10 @@ use std::fmt::Write;
 const MOST: usize = 60;
 
 /// A path from the script to a value in it.
-pub(crate) type Path<'a> = Vec<Step<'a>>;
+pub type Path<'a> = Vec<Step<'a>>;
 
 /// A path with a further step.
-pub(crate) fn with<'a>(
-    alloc: Global,
-    path: &[Step<'a>],
-    step: Step<'a>,
-) -> Result<Path<'a>, AllocError> {
+pub fn with<'a>(alloc: Global, path: &[Step<'a>], step: Step<'a>) -> Result<Path<'a>, AllocError> {
     let mut longer = Vec::from_slice(alloc, path)?;
     longer.push(step)?;
     Ok(longer)
