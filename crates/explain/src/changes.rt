@@ -1,15 +1,13 @@
 //! Single changes that make an empty decision one that chooses, found by trying each.
 
-use crate::asked::{Asked, stated};
-use crate::edits::{EDITS, Edit, edited};
-use crate::leasts::Halving;
-use crate::setting::{Setting, told_of};
-use crate::story::Story;
-use script_faults::{Items, Kind};
+use constraint_edits::{EDITS, Edit, Halving, edited};
+use explanation_text::{Items, Kind};
 use script_reading::{Act, Call};
+use script_story::{Setting, Story, told_of};
 use serde_json::Value;
 use std::alloc::{AllocError, Global};
 use sysmem_sanitise::read_constraints;
+use value_sources::Asked;
 
 /// How many changes are told.
 const MOST: usize = 5;
@@ -38,7 +36,7 @@ pub(crate) fn tell_changes(
             if count >= MOST || tried >= TRIES {
                 continue;
             }
-            let Some(value) = stated(story, one.node) else {
+            let Some(value) = one.stated else {
                 continue;
             };
             let Some(change) = edited(alloc, value, edit)? else {

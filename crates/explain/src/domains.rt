@@ -1,21 +1,17 @@
 //! What became of each domain, and why.
 
-use crate::asked::asked_in;
 use crate::changes::tell_changes;
-use crate::chosen::tell_settings;
-use crate::fixed::tell_misfits;
 use crate::pending::tell_pending;
-use crate::refused::{left_out, put_domain};
 use crate::selecting::{Empty, MOST_TOLD, tell_empty};
-use crate::setting::Setting;
-use crate::story::{Domain, Story};
-use script_faults::wording::put_few;
-use script_faults::{Items, Kind};
+use explanation_text::{Items, Kind};
 use script_reading::Act;
+use script_story::{Domain, Setting, Story, asked_in, left_out, put_domain};
 use serde_json::Value;
+use settings_reasons::{tell_misfits, tell_settings};
 use std::alloc::{AllocError, Global};
 use std::fmt::Write;
 use sysmem_tree::NodeKind;
+use value_sources::put_texts;
 
 /// How many choices are named.
 const MOST_CHOICES: usize = 6;
@@ -85,7 +81,7 @@ fn tell_choice(
     }
     let people = asked_in(alloc, story, index, true)?;
     match &domain.settings {
-        Some(settings) => tell_settings(items, setting.platform, story, &people, settings),
+        Some(settings) => tell_settings(items, setting.platform, &people, settings),
         None => Ok(()),
     }
 }
@@ -128,7 +124,7 @@ fn tell_none(
     domain: &Domain<'_>,
 ) -> Result<(), AllocError> {
     if domain.host.is_some() {
-        return tell_misfits(items, setting.platform, story, index, domain);
+        return tell_late(items, setting, story, index, domain);
     }
     let empty = Empty {
         platform: setting.platform,
@@ -143,6 +139,24 @@ fn tell_none(
     }
     let people = asked_in(items.alloc(), story, index, false)?;
     tell_changes(items, setting, story, story.path(domain.root), &people)
+}
+
+/// Tells why settings that were decided before don't suit those of an attached domain.
+fn tell_late(
+    items: &mut Items,
+    setting: &Setting<'_>,
+    story: &Story<'_>,
+    index: usize,
+    domain: &Domain<'_>,
+) -> Result<(), AllocError> {
+    let Some(above) = domain.host.and_then(|host| story.domain_of(host)) else {
+        return Ok(());
+    };
+    let Some(settings) = &above.settings else {
+        return Ok(());
+    };
+    let people = asked_in(items.alloc(), story, index, false)?;
+    tell_misfits(items, setting.platform, &people, settings)
 }
 
 /// The title of a domain's section: `domain / (root): chosen, after call 7 (set_constraints encoder)`.
@@ -189,20 +203,6 @@ fn tell_who(
     }
     put_texts(&mut text, &names, MOST_WHO)?;
     items.say(1, "who", text)
-}
-
-/// Puts at most so many of the texts behind another.
-pub(crate) fn put_texts(
-    text: &mut String,
-    texts: &[String],
-    most: usize,
-) -> Result<(), AllocError> {
-    let alloc = *text.allocator();
-    let mut words: Vec<&str> = Vec::new(alloc);
-    for one in texts {
-        words.push(one.as_str())?;
-    }
-    put_few(text, &words, most)
 }
 
 /// A participant with its path, its actor and what it uses the buffers for: `camera /0 (actor camera, usage video)`.

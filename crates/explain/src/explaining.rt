@@ -1,13 +1,13 @@
 //! What a script's text means.
 
 use crate::domains::tell_domains;
-use crate::refused::{put_domain, refused, tell_refused};
-use crate::setting::Setting;
-use crate::story::{Story, story_of};
+use explanation_text::wording::put_count;
+use explanation_text::{Item, Items, Kind, Mark, show};
 use json_places::{column_of, line_of, repeated_keys};
-use script_faults::wording::put_count;
-use script_faults::{Document, Item, Items, Kind, Mark, show, tell_fault, tell_no_json};
+use record_faults::Document;
+use script_faults::{tell_fault, tell_no_json};
 use script_reading::{ParseFault, Script, ScriptFault, parse_script, read_script};
+use script_story::{Setting, Story, put_domain, refused, story_of, tell_refused};
 use serde_json::Value;
 use std::alloc::{AllocError, Global};
 use std::fmt::Write;

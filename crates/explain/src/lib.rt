@@ -7,27 +7,13 @@
 //! ```
 #![tactic(auto)]
 
-mod asked;
 mod changes;
-mod chosen;
-mod counting;
-mod deriving;
 mod domains;
-mod edits;
-mod empty;
 mod explaining;
-mod fixed;
-mod leasts;
-mod offering;
 mod pending;
-mod placing;
-mod refused;
-mod rows;
 mod selecting;
-mod setting;
-mod story;
 mod written;
 
 pub use explaining::{Explanation, Outcome, explain};
-pub use script_faults::{Item, Kind, text_of};
+pub use explanation_text::{Item, Kind, text_of};
 pub use written::explain_file;

@@ -1,11 +1,9 @@
 //! Who is awaited, what helps, and what would be decided then.
 
-use crate::refused::put_domain;
-use crate::setting::{Setting, told_of};
-use crate::story::Story;
-use script_faults::wording::{MOST_NAMES, put_count, put_few};
-use script_faults::{Items, Kind};
+use explanation_text::wording::{MOST_NAMES, put_count, put_few};
+use explanation_text::{Items, Kind};
 use script_reading::{Act, Call};
+use script_story::{Setting, Story, put_domain, told_of};
 use std::alloc::{AllocError, Global};
 use std::fmt::Write;
 use sysmem_tree::NodeKind;

@@ -1,10 +1,9 @@
 //! Why no selection of groups' children has settings.
 
-use crate::asked::asked_by;
-use crate::empty::{is_unmet, tell_conflict};
-use crate::story::Story;
-use script_faults::wording::put_joined;
-use script_faults::{Items, are_same};
+use explanation_text::wording::put_joined;
+use explanation_text::{Items, are_same};
+use script_story::{Story, asked_by};
+use settings_reasons::{is_unmet, tell_conflict};
 use std::alloc::{AllocError, Global};
 use sysmem_sanitise::Platform;
 use sysmem_tree::NodeKind;
@@ -93,7 +92,7 @@ pub(crate) fn tell_empty(
     let whole = settled.open.is_none();
     if whole || is_unmet(alloc, empty.platform, &people)? {
         *told = told.saturating_add(1);
-        return tell_conflict(items, depth, empty.platform, empty.story, &people, whole);
+        return tell_conflict(items, depth, empty.platform, &people, whole);
     }
     let (Some(group), Some(fewer)) = (settled.open, levels.checked_sub(1)) else {
         return Ok(());

@@ -2,7 +2,7 @@
 
 use crate::explaining::{Outcome, explain};
 use byte_transfer::{Sink, Source, read_up_to_limit, write_fully};
-use script_faults::text_of;
+use explanation_text::text_of;
 use script_reading::LONGEST;
 use script_run::RunFault;
 use std::alloc::{AllocError, Global};

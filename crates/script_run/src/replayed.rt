@@ -1,9 +1,10 @@
 //! A script's calls, made on a collection, with their report.
 
-ghost use Rattle.std.specs.Prelude.{◌≡◌, [], map, IfErr, IfOk};
+ghost use Rattle.std.specs.Prelude.{◌≡◌, [], None, map, slice_get, unwrap_or, IfErr, IfOk};
 ghost use Rattle.std.specs.String.{string_bytes};
 ghost use Rattle.script_reading.specs.Seen.{call_seen};
 ghost use Rattle.script_run.specs.Outcome.{anyhow};
+ghost use Rattle.script_run.specs.Replayed.{LeavesIn, end_of};
 ghost use Rattle.script_run.specs.Report.{IsReported};
 ghost use Rattle.script_run.specs.Stop.{IfObjects, IsStopped};
 
@@ -25,13 +26,18 @@ pub struct Replayed {
 
 impl Replayed {
     /// The book of the collection, as the last call left it.
-    pub fn book(&self) -> &Book {
+    pub fn book(&self) -> &Book
+        ensures platform { result.now.platform ≡ (end_of self.now).platform }
+        ensures state { result.now.state ≡ (end_of self.now).book }
+    {
         self.runner.book()
     }
 
-    /// The number of the node that the name at a place stands for, 0 being the root's, and that of each call that makes a name the next;
-    /// `None` where there is none, or the call that makes it was not made.
-    pub fn node_named(&self, place: usize) -> Option<u32> {
+    /// The number of the node that the name at a place stands for, 0 being the root's place, and that
+    /// of each call that makes a name the next; `None` where there is none, or that call was not made.
+    pub fn node_named(&self, place: usize) -> Option<u32>
+        ensures { result ≡ unwrap_or (slice_get (end_of self.now).names place) None }
+    {
         self.runner.node_number(place)
     }
 
@@ -47,11 +53,13 @@ impl Replayed {
     }
 }
 
-/// Makes the calls on a platform, as `run` does, and keeps the collection beside their report. `AllocError` where memory is refused outside of a reply or
-/// a decision.
+/// Makes the calls on a platform, as `run` does, and keeps the collection beside their report.
+/// `AllocError` where memory is refused outside of a reply or a decision.
 pub fn replay(alloc: Global, platform: Platform, calls: &[Call<'_>]) -> Result<Replayed, AllocError>
-    ensures { IfOk result (λ replayed. IsReported platform (map call_seen calls.now)
+    ensures report { IfOk result (λ replayed. IsReported platform (map call_seen calls.now)
         (anyhow platform) (string_bytes replayed.report.text) replayed.report.starved) }
+    ensures leaves { IfOk result (λ replayed. LeavesIn platform (map call_seen calls.now)
+        (string_bytes replayed.report.text) (end_of replayed)) }
 {
     match replayed_of(alloc, platform, calls, &mut Searching) {
         Ok(replayed) => Ok(replayed),
@@ -70,6 +78,8 @@ pub(crate) fn replayed_of<D: Decider>(
     requires { D.gave decider.old platform [] }
     ensures report { IfOk result (λ replayed. IsReported platform (map call_seen calls.now)
         (D.gave decider.new platform) (string_bytes replayed.report.text) replayed.report.starved) }
+    ensures leaves { IfOk result (λ replayed. LeavesIn platform (map call_seen calls.now)
+        (string_bytes replayed.report.text) (end_of replayed)) }
     ensures stops { IfErr result (λ stop. IfObjects stop (IsStopped platform
         (map call_seen calls.now) (D.gave decider.old platform) (D.gave decider.new platform)
         (D.objects decider.new))) }

@@ -362,7 +362,9 @@ impl Runner {
     }
 
     /// The number of that node.
-    pub(crate) fn node_number(&self, place: usize) -> Option<u32> {
+    pub(crate) fn node_number(&self, place: usize) -> Option<u32>
+        ensures { result ≡ unwrap_or (slice_get (state_of self.now).names place) None }
+    {
         let node = self.node_at(place)?;
         Some(self.book.tree().number_of(node))
     }

@@ -9,7 +9,7 @@ use std::alloc::AllocError;
 use sysmem_formats::Offer;
 use sysmem_merge::Settings;
 use sysmem_sanitise::Platform;
-use value_sources::{Asked, Deriving, Side, why_needed};
+use value_sources::{Asked, Side, Wishes, why_needed};
 
 /// Tells where the settings come from that were chosen for participants.
 pub fn tell_settings(
@@ -26,19 +26,19 @@ pub fn tell_settings(
     items.say(1, "count", text)?;
     tell_place(items, platform, people, settings)?;
     tell_offer(items, platform, people, settings)?;
-    let deriving = Deriving {
+    let wishes = Wishes {
         people,
         offer: settings.offer,
     };
     if let Offer::Image(_, _) = settings.offer {
-        tell_sides(items, deriving)?;
-        let row = deriving.row(alloc, false)?;
+        tell_sides(items, wishes)?;
+        let row = wishes.row(alloc, false)?;
         let value = row.value;
         let why = row.why.as_str();
         let text = format!(in alloc; "{value}: {why}")?;
         items.say(1, "row", text)?;
     }
-    let size = deriving.size(alloc, false)?;
+    let size = wishes.size(alloc, false)?;
     let value = size.value;
     let why = size.why.as_str();
     let text = format!(in alloc; "{value}: {why}")?;
@@ -97,10 +97,10 @@ fn tell_offer(
 }
 
 /// Tells where the width and the height come from.
-fn tell_sides(items: &mut Items, deriving: Deriving<'_, '_>) -> Result<(), AllocError> {
+fn tell_sides(items: &mut Items, wishes: Wishes<'_, '_>) -> Result<(), AllocError> {
     let alloc = items.alloc();
-    let width = deriving.side(alloc, Side::Width)?;
-    let height = deriving.side(alloc, Side::Height)?;
+    let width = wishes.side(alloc, Side::Width)?;
+    let height = wishes.side(alloc, Side::Height)?;
     let (w, h) = (width.value, height.value);
     let first = width.why.as_str();
     let second = height.why.as_str();

@@ -8,7 +8,7 @@ use sysmem_formats::{ColourSpace, Modifier, Offer, offer_at};
 use sysmem_image::{ColourSet, entry_for, takes_colour};
 use sysmem_merge::OfferRead;
 use sysmem_sanitise::Platform;
-use value_sources::{Asked, Deriving, Side, format_of, put_has, put_texts};
+use value_sources::{Asked, Side, Wishes, format_of, put_has, put_texts};
 
 /// The lines on the bounds of images, in the order of the conflict table.
 const LINES: [Field; 9] = [
@@ -186,7 +186,7 @@ pub(crate) fn offer_text(
 ) -> Result<String, AllocError> {
     let mut text = String::new(alloc);
     let people = &reason.people;
-    let deriving = Deriving {
+    let wishes = Wishes {
         people,
         offer: *offer,
     };
@@ -198,12 +198,12 @@ pub(crate) fn offer_text(
             put_unnamed(&mut text, people, "modifier")?;
         }
         Field::UnnamedColorSpace => put_unnamed(&mut text, people, "colour space")?,
-        Field::RequiredMinSize => put_required(&mut text, deriving)?,
-        Field::MaxSize => put_too_large(&mut text, deriving)?,
-        Field::MaxWidthTimesHeight => put_too_many_pixels(&mut text, deriving)?,
-        Field::MaxBytesPerRow => put_too_long(&mut text, deriving)?,
-        Field::MaxSizeBytes => put_too_big(&mut text, deriving)?,
-        field => put_no_multiple(&mut text, deriving, field)?,
+        Field::RequiredMinSize => put_required(&mut text, wishes)?,
+        Field::MaxSize => put_too_large(&mut text, wishes)?,
+        Field::MaxWidthTimesHeight => put_too_many_pixels(&mut text, wishes)?,
+        Field::MaxBytesPerRow => put_too_long(&mut text, wishes)?,
+        Field::MaxSizeBytes => put_too_big(&mut text, wishes)?,
+        field => put_no_multiple(&mut text, wishes, field)?,
     }
     Ok(text)
 }
@@ -288,12 +288,12 @@ fn put_unnamed(text: &mut String, people: &[Asked<'_>], what: &str) -> Result<()
 }
 
 /// Puts that a least size is above what somebody will put behind a text.
-fn put_required(text: &mut String, deriving: Deriving<'_, '_>) -> Result<(), AllocError> {
+fn put_required(text: &mut String, wishes: Wishes<'_, '_>) -> Result<(), AllocError> {
     for side in [Side::Width, Side::Height] {
-        let low = deriving.least(|entry| {
+        let low = wishes.least(|entry| {
             u64::from(u32::MAX).saturating_sub(u64::from(side.of(entry.bounds.asked.min_size)))
         });
-        let top = deriving.least(|entry| u64::from(side.of(entry.bounds.asked.required_min_size)));
+        let top = wishes.least(|entry| u64::from(side.of(entry.bounds.asked.required_min_size)));
         let (Some((first, below)), Some((second, most))) = (low, top) else {
             continue;
         };
@@ -317,14 +317,14 @@ fn put_required(text: &mut String, deriving: Deriving<'_, '_>) -> Result<(), All
 }
 
 /// Puts that the smallest image is larger than somebody takes behind a text.
-fn put_too_large(text: &mut String, deriving: Deriving<'_, '_>) -> Result<(), AllocError> {
+fn put_too_large(text: &mut String, wishes: Wishes<'_, '_>) -> Result<(), AllocError> {
     let alloc = *text.allocator();
     for side in [Side::Width, Side::Height] {
-        let top = deriving.least(|entry| u64::from(side.of(entry.bounds.asked.max_size)));
+        let top = wishes.least(|entry| u64::from(side.of(entry.bounds.asked.max_size)));
         let Some((who, most)) = top else {
             continue;
         };
-        let least = deriving.side(alloc, side)?;
+        let least = wishes.side(alloc, side)?;
         if least.value <= u128::from(most) {
             continue;
         }
@@ -342,17 +342,17 @@ fn put_too_large(text: &mut String, deriving: Deriving<'_, '_>) -> Result<(), Al
     Ok(())
 }
 
-fn put_too_many_pixels(text: &mut String, deriving: Deriving<'_, '_>) -> Result<(), AllocError> {
+fn put_too_many_pixels(text: &mut String, wishes: Wishes<'_, '_>) -> Result<(), AllocError> {
     let alloc = *text.allocator();
-    let width = deriving.side(alloc, Side::Width)?.value;
-    let height = deriving.side(alloc, Side::Height)?.value;
+    let width = wishes.side(alloc, Side::Width)?.value;
+    let height = wishes.side(alloc, Side::Height)?.value;
     let pixels = width.saturating_mul(height);
-    let why = deriving.why_size(alloc)?;
+    let why = wishes.why_size(alloc)?;
     write!(
         text,
         "the smallest image has {width}x{height} = {pixels} pixels: {why}"
     )?;
-    if let Some((who, most)) = deriving.least(|entry| entry.bounds.asked.max_width_times_height) {
+    if let Some((who, most)) = wishes.least(|entry| entry.bounds.asked.max_width_times_height) {
         write!(
             text,
             "; {who} takes at most {most} (max_width_times_height)"
@@ -361,51 +361,54 @@ fn put_too_many_pixels(text: &mut String, deriving: Deriving<'_, '_>) -> Result<
     Ok(())
 }
 
-fn put_too_long(text: &mut String, deriving: Deriving<'_, '_>) -> Result<(), AllocError> {
-    let row = deriving.row(*text.allocator(), true)?;
+fn put_too_long(text: &mut String, wishes: Wishes<'_, '_>) -> Result<(), AllocError> {
+    let row = wishes.row(*text.allocator(), true)?;
     let value = row.value;
     let why = row.why.as_str();
     write!(text, "the least row is {value} bytes: {why}")?;
-    let most = deriving.least(|entry| u64::from(entry.bounds.asked.max_bytes_per_row));
+    let most = wishes.least(|entry| u64::from(entry.bounds.asked.max_bytes_per_row));
     if let Some((who, most)) = most {
         write!(text, "; {who} takes at most {most} (max_bytes_per_row)")?;
     }
     Ok(())
 }
 
-fn put_too_big(text: &mut String, deriving: Deriving<'_, '_>) -> Result<(), AllocError> {
-    let size = deriving.size(*text.allocator(), true)?;
+fn put_too_big(text: &mut String, wishes: Wishes<'_, '_>) -> Result<(), AllocError> {
+    let size = wishes.size(*text.allocator(), true)?;
     let value = size.value;
     let why = size.why.as_str();
     write!(text, "a buffer has {value} bytes at least: {why}")?;
-    let mut best: Option<(&'a str, u64)> = None;
-    for one in deriving.people {
-        let most = one.asked.memory().max_size_bytes;
-        let is_less = match best {
-            Some((_, least)) => most < least,
-            None => true,
-        };
-        if is_less {
-            best = Some((one.name, most));
-        }
-    }
-    if let Some((who, most)) = best {
+    if let Some((who, most)) = least_bytes(wishes.people) {
         write!(text, "; {who} takes at most {most} (max_size_bytes)")?;
     }
     Ok(())
 }
 
+/// The first who takes the fewest bytes at most, with that.
+fn least_bytes<'a>(people: &[Asked<'a>]) -> Option<(&'a str, u64)> {
+    let mut best = 0usize;
+    let mut least = u64::MAX;
+    for (index, one) in people.iter().enumerate() {
+        let most = one.asked.memory().max_size_bytes;
+        if most < least {
+            best = index;
+            least = most;
+        }
+    }
+    Some((people.get(best)?.name, least))
+}
+
 /// Puts that what participants want multiples of has no common multiple behind a text.
 fn put_no_multiple(
     text: &mut String,
-    deriving: Deriving<'_, '_>,
+    wishes: Wishes<'_, '_>,
     field: Field,
 ) -> Result<(), AllocError> {
     let alloc = *text.allocator();
     let name = field.name();
     let mut parts: Vec<String> = Vec::new(alloc);
-    for one in deriving.people {
-        let Some(entry) = entry_for(one.asked.entries(), &deriving.offer) else {
+    for one in wishes.people {
+        let Some(entry) = entry_for(one.asked.entries(), &wishes.offer) else {
             continue;
         };
         let bounds = entry.bounds.asked;
@@ -433,6 +436,6 @@ fn put_no_multiple(
     }
     write!(text, "{name} of ")?;
     put_texts(text, &parts, 4)?;
-    let format = format_of(&deriving.offer);
+    let format = format_of(&wishes.offer);
     write!(text, " have no common multiple up to 4294967295 ({format})")
 }

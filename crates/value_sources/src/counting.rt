@@ -46,18 +46,19 @@ fn total(people: &[Asked<'_>], part: Part) -> u64 {
 
 /// The first who asks for the most, with that, if anybody asks for some.
 fn greatest<'a>(people: &[Asked<'a>], part: Part) -> Option<(&'a str, u32)> {
-    let mut best: Option<(&'a str, u32)> = None;
-    for one in people {
+    let mut best = 0usize;
+    let mut most = 0u32;
+    for (index, one) in people.iter().enumerate() {
         let value = value_of(one, part);
-        let least = match best {
-            Some((_, value)) => value,
-            None => 0,
-        };
-        if value > least {
-            best = Some((one.name, value));
+        if value > most {
+            best = index;
+            most = value;
         }
     }
-    best
+    if most == 0 {
+        return None;
+    }
+    Some((people.get(best)?.name, most))
 }
 
 /// What participants hold together.
@@ -124,7 +125,7 @@ fn put_part(
 }
 
 /// The least count that the participants need.
-pub fn needed(people: &[Asked<'_>]) -> u64 {
+fn needed(people: &[Asked<'_>]) -> u64 {
     let least = match greatest(people, Part::Minimum) {
         Some((_, value)) => u64::from(value),
         None => 0,
@@ -175,17 +176,15 @@ pub fn count_text(alloc: Global, field: Field, people: &[Asked<'_>]) -> Result<S
 }
 
 /// The first who takes the fewest buffers at most, with that.
-pub fn least_maximum<'a>(people: &[Asked<'a>]) -> Option<(&'a str, u32)> {
-    let mut best: Option<(&'a str, u32)> = None;
-    for one in people {
+fn least_maximum<'a>(people: &[Asked<'a>]) -> Option<(&'a str, u32)> {
+    let mut best = 0usize;
+    let mut least = u32::MAX;
+    for (index, one) in people.iter().enumerate() {
         let most = one.asked.counts().max_buffer_count;
-        let is_less = match best {
-            Some((_, least)) => most < least,
-            None => true,
-        };
-        if is_less {
-            best = Some((one.name, most));
+        if most < least {
+            best = index;
+            least = most;
         }
     }
-    best
+    Some((people.get(best)?.name, least))
 }

@@ -1,6 +1,6 @@
 //! Numbers that others are multiples of, with who asks for each.
 
-use crate::deriving::Derived;
+use crate::sizes::Derived;
 use explanation_text::wording::{MOST_NAMES, put_few};
 use std::alloc::{AllocError, Global};
 

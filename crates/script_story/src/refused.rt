@@ -1,9 +1,10 @@
 //! Why calls were refused.
 
 use crate::story::{Made, Story};
+use explanation_text::wording::{MOST_NAMES, put_few};
+use explanation_text::{Items, Kind};
 use json_places::Step;
-use script_faults::wording::{MOST_NAMES, put_few};
-use script_faults::{Document, Items, Kind, tell_record_fault};
+use record_faults::{Document, tell_record_fault};
 use script_reading::Act;
 use std::alloc::{AllocError, Global};
 use std::fmt::Write;
@@ -24,7 +25,7 @@ struct Row {
 }
 
 /// How many calls were refused: those whose reply isn't `ok`, the answers of `check` and `wait` left out.
-pub(crate) fn refused(story: &Story<'_>) -> usize {
+pub fn refused(story: &Story<'_>) -> usize {
     story.calls.iter().filter(|call| is_refused(call)).count()
 }
 
@@ -47,7 +48,7 @@ fn is_told(story: &Story<'_>, call: &Made<'_>) -> bool {
 }
 
 /// Tells the calls that were refused, those with one cause in one row.
-pub(crate) fn tell_refused<'a>(
+pub fn tell_refused<'a>(
     items: &mut Items,
     document: &Document<'a>,
     story: &Story<'a>,
@@ -236,11 +237,7 @@ fn cause_of_skipped(
 }
 
 /// Puts a domain with its root's name behind a text: `domain /0 (camera)`.
-pub(crate) fn put_domain(
-    text: &mut String,
-    story: &Story<'_>,
-    root: usize,
-) -> Result<(), AllocError> {
+pub fn put_domain(text: &mut String, story: &Story<'_>, root: usize) -> Result<(), AllocError> {
     let path = story.path(root);
     let name = story.name(root);
     write!(text, "domain {path} ({name})")
@@ -264,11 +261,7 @@ fn ended(alloc: Global, story: &Story<'_>, node: usize) -> Result<String, AllocE
 }
 
 /// Which group chose another child than the one above a node.
-pub(crate) fn left_out(
-    alloc: Global,
-    story: &Story<'_>,
-    node: usize,
-) -> Result<String, AllocError> {
+pub fn left_out(alloc: Global, story: &Story<'_>, node: usize) -> Result<String, AllocError> {
     let mut below = node;
     let mut above = parent_of(story, node);
     for _level in 0..128 {

@@ -42,7 +42,7 @@ impl Side {
 
 /// Participants, with an offer.
 #[derive(Clone, Copy)]
-pub struct Deriving<'a, 'b> {
+pub struct Wishes<'a, 'b> {
     pub people: &'b [Asked<'a>],
     pub offer: Offer,
 }
@@ -91,7 +91,7 @@ fn tile_bytes(offer: &Offer) -> u128 {
     }
 }
 
-impl<'a> Deriving<'a, '_> {
+impl<'a> Wishes<'a, '_> {
     /// A participant's entry for the offer.
     fn entry(&self, one: &Asked<'a>) -> Option<&'a Entry> {
         entry_for(one.asked.entries(), &self.offer)
@@ -101,8 +101,8 @@ impl<'a> Deriving<'a, '_> {
     fn greatest<F: Fn(&Entry) -> u32>(&self, wish: F) -> Option<(&'a str, u32)>
         requires { F.IsAlwaysCallable wish }
     {
-        let mut best: Option<(&'a str, u32)> = None;
-        for one in self.people {
+        let mut best: Option<(usize, u32)> = None;
+        for (index, one) in self.people.iter().enumerate() {
             let Some(entry) = self.entry(one) else {
                 continue;
             };
@@ -112,18 +112,19 @@ impl<'a> Deriving<'a, '_> {
                 None => true,
             };
             if is_more {
-                best = Some((one.name, value));
+                best = Some((index, value));
             }
         }
-        best
+        let (index, value) = best?;
+        Some((self.people.get(index)?.name, value))
     }
 
     /// The first who wishes the least of some numbers, with that.
     pub fn least<F: Fn(&Entry) -> u64>(&self, wish: F) -> Option<(&'a str, u64)>
         requires { F.IsAlwaysCallable wish }
     {
-        let mut best: Option<(&'a str, u64)> = None;
-        for one in self.people {
+        let mut best: Option<(usize, u64)> = None;
+        for (index, one) in self.people.iter().enumerate() {
             let Some(entry) = self.entry(one) else {
                 continue;
             };
@@ -133,10 +134,11 @@ impl<'a> Deriving<'a, '_> {
                 None => true,
             };
             if is_less {
-                best = Some((one.name, value));
+                best = Some((index, value));
             }
         }
-        best
+        let (index, value) = best?;
+        Some((self.people.get(index)?.name, value))
     }
 
     /// A multiple that each participant asks for, behind those that are given.
