@@ -170,13 +170,11 @@ fn replaced<'a>(
     number: usize,
     value: &'a Value,
 ) -> Result<Vec<Call<'a>>, AllocError> {
-    let mut copy = Vec::new(alloc);
-    for (index, call) in calls.iter().enumerate() {
-        let mut call = *call;
-        if index.saturating_add(1) == number {
+    let mut copy = Vec::from_slice(alloc, calls)?;
+    if let Some(index) = number.checked_sub(1) {
+        if let Some(call) = copy.get_mut(index) {
             call.act = Act::SetConstraints(Some(value));
         }
-        copy.push(call)?;
     }
     Ok(copy)
 }

@@ -1,5 +1,10 @@
 //! What is tried: the script's calls with others behind them or in their place.
 
+ghost use Rattle.std.specs.Prelude.{map, IfOk};
+ghost use Rattle.std.specs.String.{string_bytes};
+ghost use Rattle.script_reading.specs.Seen.{call_seen};
+ghost use Rattle.script_run.specs.Replayed.{LeavesIn, end_of};
+
 use crate::words::{is_domain_line, path_in, told_in};
 use script_reading::Call;
 use script_run::{Replayed, replay};
@@ -14,8 +19,11 @@ pub struct Setting<'a> {
 }
 
 impl<'a> Setting<'a> {
-    /// What these calls do on the platform.
-    pub fn tell(&self, alloc: Global, calls: &[Call<'_>]) -> Result<Replayed, AllocError> {
+    /// What these calls do on the platform: the report of a script with them, and its collection.
+    pub fn tell(&self, alloc: Global, calls: &[Call<'_>]) -> Result<Replayed, AllocError>
+        ensures { IfOk result (λ told. LeavesIn self.now.platform.now (map call_seen calls.now)
+            (string_bytes told.report.text) (end_of told)) }
+    {
         let platform = self.platform.copy()?;
         replay(alloc, platform, calls)
     }
