@@ -18,8 +18,16 @@ const TRIES: usize = 200;
 
 const LABELS: [&str; 5] = ["1.", "2.", "3.", "4.", "5."];
 
-/// Tells the changes of one field of one participant with which the domain at a path would have settings, each with the decision that would
-/// come: it is the line of the report of the changed script.
+/// What was found of changes so far.
+#[derive(Drop)]
+struct Search {
+    found: Items,
+    count: usize,
+    tried: usize,
+}
+
+/// Tells the changes of one field of one participant with which the domain at a path would have
+/// settings, each with the decision that would come: the line of the report of the changed script.
 pub(crate) fn tell_changes(
     items: &mut Items,
     setting: &Setting<'_>,
@@ -27,47 +35,76 @@ pub(crate) fn tell_changes(
     path: &str,
     people: &[Asked<'_>],
 ) -> Result<(), AllocError> {
-    let alloc = items.alloc();
-    let mut found = Items::new(alloc);
-    let mut count = 0usize;
-    let mut tried = 0usize;
+    let mut search = Search {
+        found: Items::new(items.alloc()),
+        count: 0,
+        tried: 0,
+    };
     for edit in EDITS {
-        for one in people {
-            if count >= MOST || tried >= TRIES {
-                continue;
-            }
-            let Some(value) = one.stated else {
-                continue;
-            };
-            let Some(change) = edited(alloc, value, edit)? else {
-                continue;
-            };
-            tried = tried.saturating_add(1);
-            let trial = Trial {
-                setting,
-                story,
-                path,
-                node: one.node,
-            };
-            let Some(line) = trial.outcome(alloc, &change.value)? else {
-                continue;
-            };
-            let label = LABELS.get(count).copied().unwrap_or("");
-            count = count.saturating_add(1);
-            let least = trial.least(
-                alloc,
-                value,
-                edit,
-                Found {
-                    words: change.words,
-                    line,
-                },
-            )?;
-            put_change(&mut found, story, one.node, label, &least.words, least.line)?;
-        }
+        try_edit(&mut search, setting, story, path, people, edit)?;
     }
-    put_head(items, count, tried)?;
-    items.append(found)
+    put_head(items, search.count, search.tried)?;
+    items.append(search.found)
+}
+
+/// Tries an edit of each participant's constraints.
+fn try_edit(
+    search: &mut Search,
+    setting: &Setting<'_>,
+    story: &Story<'_>,
+    path: &str,
+    people: &[Asked<'_>],
+    edit: Edit,
+) -> Result<(), AllocError> {
+    for one in people {
+        if search.count >= MOST || search.tried >= TRIES {
+            break;
+        }
+        let trial = Trial {
+            setting,
+            story,
+            path,
+            node: one.node,
+        };
+        try_change(search, trial, one, edit)?;
+    }
+    Ok(())
+}
+
+/// Tries an edit of a participant's constraints, and tells it where it helps.
+fn try_change(
+    search: &mut Search,
+    trial: Trial<'_, '_>,
+    one: &Asked<'_>,
+    edit: Edit,
+) -> Result<(), AllocError> {
+    let alloc = search.found.alloc();
+    let Some(value) = one.stated else {
+        return Ok(());
+    };
+    let Some(change) = edited(alloc, value, edit)? else {
+        return Ok(());
+    };
+    search.tried = search.tried.saturating_add(1);
+    let Some(line) = trial.outcome(alloc, &change.value)? else {
+        return Ok(());
+    };
+    let label = LABELS.get(search.count).copied().unwrap_or("");
+    search.count = search.count.saturating_add(1);
+    let found = Found {
+        words: change.words,
+        line,
+    };
+    let least = trial.least(alloc, value, edit, found)?;
+    let words = least.words.as_str();
+    put_change(
+        &mut search.found,
+        trial.story,
+        one.node,
+        label,
+        words,
+        least.line,
+    )
 }
 
 fn put_head(items: &mut Items, count: usize, tried: usize) -> Result<(), AllocError> {

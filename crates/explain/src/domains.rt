@@ -95,16 +95,15 @@ fn tell_children(items: &mut Items, story: &Story<'_>, index: usize) -> Result<(
         if node.domain != index || !is_group || !node.is_selected {
             continue;
         }
-        for child in story.children(alloc, number)? {
-            let is_chosen = match story.nodes.get(child) {
-                Some(known) => known.is_selected,
-                None => false,
-            };
-            if is_chosen {
-                let group = node.name;
-                let name = story.name(child);
-                texts.push(format!(in alloc; "{group}: {name}")?)?;
-            }
+        let children = story.children(alloc, number)?;
+        if let Some(child) = children
+            .iter()
+            .copied()
+            .find(|child| story.is_selected(*child))
+        {
+            let group = node.name;
+            let name = story.name(child);
+            texts.push(format!(in alloc; "{group}: {name}")?)?;
         }
     }
     if texts.is_empty() {

@@ -60,25 +60,34 @@ fn tell_awaited(
 ) -> Result<(), AllocError> {
     for (k, first) in awaited.iter().enumerate() {
         let is_again = awaited.iter().take(k).any(|one| one.help == first.help);
-        if is_again {
+        if !is_again {
+            tell_those(items, story, awaited, first.help.as_str())?;
+        }
+    }
+    Ok(())
+}
+
+/// Tells those who are awaited for whom this helps.
+fn tell_those(
+    items: &mut Items,
+    story: &Story<'_>,
+    awaited: &[Awaited],
+    help: &str,
+) -> Result<(), AllocError> {
+    let mut seen = 0usize;
+    for one in awaited {
+        if one.help.as_str() != help {
             continue;
         }
-        let mut seen = 0usize;
-        for one in awaited {
-            if one.help != first.help {
-                continue;
-            }
-            seen = seen.saturating_add(1);
-            if seen <= MOST_ROWS {
-                tell_one(items, story, one)?;
-            }
+        seen = seen.saturating_add(1);
+        if seen <= MOST_ROWS {
+            tell_one(items, story, one)?;
         }
-        if seen > MOST_ROWS {
-            let more = seen.saturating_sub(MOST_ROWS);
-            let help = first.help.as_str();
-            let text = format!(in *first.help.allocator(); "{more} more: {help}")?;
-            items.say(1, "awaits", text)?;
-        }
+    }
+    if seen > MOST_ROWS {
+        let more = seen.saturating_sub(MOST_ROWS);
+        let text = format!(in items.alloc(); "{more} more: {help}")?;
+        items.say(1, "awaits", text)?;
     }
     Ok(())
 }
@@ -234,7 +243,7 @@ fn put_ended(text: &mut String, story: &Story<'_>, awaited: &[Awaited]) -> Resul
     let mut gone: Vec<&str> = Vec::new(alloc);
     let mut full: Vec<&str> = Vec::new(alloc);
     for one in awaited {
-        if story.kind_before(one.node, usize::MAX) == NodeKind::Group {
+        if is_group(story, one) {
             full.push(story.name(one.node))?;
         } else {
             gone.push(story.name(one.node))?;
@@ -254,8 +263,8 @@ fn put_ended(text: &mut String, story: &Story<'_>, awaited: &[Awaited]) -> Resul
     Ok(())
 }
 
-/// The script's calls with those behind them that end what is awaited: tokens and collections are released, groups complete, the innermost
-/// first. `None` where a group has no child.
+/// The script's calls with those behind them that end what is awaited: tokens and collections are
+/// released, groups complete, the innermost first. `None` where a group has no child.
 fn without<'a>(
     alloc: Global,
     setting: &Setting<'a>,
@@ -264,19 +273,38 @@ fn without<'a>(
 ) -> Result<Option<Vec<Call<'a>>>, AllocError> {
     let mut calls: Vec<Call<'a>> = Vec::from_slice(alloc, setting.calls)?;
     for one in awaited {
-        if story.kind_before(one.node, usize::MAX) != NodeKind::Group {
+        if !is_group(story, one) {
             calls.push(call_on(story, one.node, Act::Release))?;
         }
     }
-    for one in awaited.iter().rev() {
-        if story.kind_before(one.node, usize::MAX) == NodeKind::Group {
-            if story.children(alloc, one.node)?.is_empty() {
-                return Ok(None);
-            }
-            calls.push(call_on(story, one.node, Act::AllChildrenPresent))?;
-        }
+    if complete(&mut calls, story, awaited)? {
+        Ok(Some(calls))
+    } else {
+        Ok(None)
     }
-    Ok(Some(calls))
+}
+
+fn is_group(story: &Story<'_>, one: &Awaited) -> bool {
+    story.kind_before(one.node, usize::MAX) == NodeKind::Group
+}
+
+/// Puts a call behind the calls for each group that is awaited, and says whether each has a child.
+fn complete<'a>(
+    calls: &mut Vec<Call<'a>>,
+    story: &Story<'a>,
+    awaited: &[Awaited],
+) -> Result<bool, AllocError> {
+    let alloc = *calls.allocator();
+    for one in awaited.iter().rev() {
+        if !is_group(story, one) {
+            continue;
+        }
+        if story.children(alloc, one.node)?.is_empty() {
+            return Ok(false);
+        }
+        calls.push(call_on(story, one.node, Act::AllChildrenPresent))?;
+    }
+    Ok(true)
 }
 
 /// A call of this act on a node.

@@ -45,9 +45,7 @@ fn walk(
         nodes.push(node)?;
         let children = story.children(alloc, node)?;
         if !is_group(story, node) {
-            for child in children.iter().rev() {
-                left.push(*child)?;
-            }
+            put_reversed(&mut left, &children)?;
             continue;
         }
         match choices.iter().find(|choice| choice.group == node) {
@@ -58,6 +56,13 @@ fn walk(
         }
     }
     Ok(Settled { nodes, open })
+}
+
+fn put_reversed(left: &mut Vec<usize>, nodes: &[usize]) -> Result<(), AllocError> {
+    for node in nodes.iter().rev() {
+        left.push(*node)?;
+    }
+    Ok(())
 }
 
 fn is_group(story: &Story<'_>, node: usize) -> bool {

@@ -10,6 +10,7 @@ use std::alloc::{AllocError, Global};
 use std::fmt::Write;
 use sysmem_sanitise::{Fault, read_constraints};
 use sysmem_tree::NodeKind;
+use value_sources::put_texts;
 
 /// How many rows of refused calls are told.
 const MOST_ROWS: usize = 12;
@@ -183,11 +184,7 @@ fn put_numbers(text: &mut String, numbers: &[usize]) -> Result<(), AllocError> {
     for number in numbers {
         texts.push(format!(in alloc; "{number}")?)?;
     }
-    let mut words: Vec<&str> = Vec::new(alloc);
-    for one in &texts {
-        words.push(one.as_str())?;
-    }
-    put_few(text, &words, 8)
+    put_texts(text, &texts, 8)
 }
 
 /// Why a call was refused.
@@ -268,7 +265,7 @@ pub fn left_out(alloc: Global, story: &Story<'_>, node: usize) -> Result<String,
         let Some(group) = above else {
             break;
         };
-        if is_selected(story, group) {
+        if story.is_selected(group) {
             break;
         }
         below = group;
@@ -281,7 +278,7 @@ pub fn left_out(alloc: Global, story: &Story<'_>, node: usize) -> Result<String,
     let other = chosen
         .iter()
         .copied()
-        .find(|child| is_selected(story, *child))
+        .find(|child| story.is_selected(*child))
         .unwrap_or(below);
     let name = story.name(group);
     let yes = story.name(other);
@@ -295,13 +292,6 @@ pub fn left_out(alloc: Global, story: &Story<'_>, node: usize) -> Result<String,
 
 fn parent_of(story: &Story<'_>, node: usize) -> Option<usize> {
     story.nodes.get(node)?.parent
-}
-
-fn is_selected(story: &Story<'_>, node: usize) -> bool {
-    match story.nodes.get(node) {
-        Some(node) => node.is_selected,
-        None => false,
-    }
 }
 
 /// Who was still awaited when a verdict was asked for, and when it came.

@@ -133,6 +133,14 @@ impl<'a> Story<'a> {
         }
     }
 
+    /// Whether a node is selected.
+    pub fn is_selected(&self, node: usize) -> bool {
+        match self.nodes.get(node) {
+            Some(known) => known.is_selected,
+            None => false,
+        }
+    }
+
     /// The call of this number, from 1.
     pub fn call(&self, number: usize) -> Option<&Made<'a>> {
         self.calls.get(number.checked_sub(1)?)

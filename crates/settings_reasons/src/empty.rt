@@ -41,32 +41,57 @@ pub fn tell_conflict(
         offers: &offers,
     };
     tell_in_the_way(items, depth, choices, people)?;
+    tell_counts(items, depth, people)?;
+    tell_places(items, depth, choices, people)?;
+    tell_offers(items, depth, choices, people, whole)
+}
+
+/// Tells why no count suits participants, where none does.
+fn tell_counts(items: &mut Items, depth: usize, people: &[Asked<'_>]) -> Result<(), AllocError> {
     for field in COUNTS {
         if is_count_line(field, people) {
-            let text = count_text(alloc, field, people)?;
+            let text = count_text(items.alloc(), field, people)?;
             items.say(depth, "count", text)?;
         }
     }
-    if has_no_place(platform, &places, people) {
-        let head = none_of(alloc, "place", places.len())?;
-        items.say(depth, "place", head)?;
-        let rows = place_rows(alloc, platform, &places, people, true)?;
-        tell_rows(items, depth.saturating_add(1), "", &rows)?;
-    }
-    if offers.iter().all(|offer| is_refused(offer, people, whole)) {
-        let head = none_of(alloc, "offer", offers.len())?;
-        items.say(depth, "image", head)?;
-        let rows = offer_rows(
-            alloc,
-            &offers,
-            people,
-            whole,
-            true,
-            platform.colours().len(),
-        )?;
-        tell_rows(items, depth.saturating_add(1), "", &rows)?;
-    }
     Ok(())
+}
+
+/// Tells who refuses each place, where somebody does.
+fn tell_places(
+    items: &mut Items,
+    depth: usize,
+    choices: Choices<'_>,
+    people: &[Asked<'_>],
+) -> Result<(), AllocError> {
+    let alloc = items.alloc();
+    if !has_no_place(choices.platform, choices.places, people) {
+        return Ok(());
+    }
+    let head = none_of(alloc, "place", choices.places.len())?;
+    items.say(depth, "place", head)?;
+    let rows = place_rows(alloc, choices.platform, choices.places, people, true)?;
+    tell_rows(items, depth.saturating_add(1), "", &rows)
+}
+
+/// Tells who refuses each offer, where somebody does.
+fn tell_offers(
+    items: &mut Items,
+    depth: usize,
+    choices: Choices<'_>,
+    people: &[Asked<'_>],
+    whole: bool,
+) -> Result<(), AllocError> {
+    let alloc = items.alloc();
+    let offers = choices.offers;
+    if !offers.iter().all(|offer| is_refused(offer, people, whole)) {
+        return Ok(());
+    }
+    let head = none_of(alloc, "offer", offers.len())?;
+    items.say(depth, "image", head)?;
+    let colours = choices.platform.colours().len();
+    let rows = offer_rows(alloc, offers, people, whole, true, colours)?;
+    tell_rows(items, depth.saturating_add(1), "", &rows)
 }
 
 fn none_of(alloc: Global, what: &str, count: usize) -> Result<String, AllocError> {

@@ -4,7 +4,7 @@ use explanation_text::wording::{put_few, put_joined};
 use std::alloc::{AllocError, Global};
 use std::fmt::Write;
 use sysmem_counts::Field;
-use sysmem_formats::{ColourSpace, Modifier, Offer, offer_at};
+use sysmem_formats::{ColourSpace, Modifier, Offer, PixelFormat, offer_at};
 use sysmem_image::{ColourSet, entry_for, takes_colour};
 use sysmem_merge::OfferRead;
 use sysmem_sanitise::Platform;
@@ -129,25 +129,43 @@ pub(crate) fn offer_reasons<'a>(
         return Ok(reasons);
     }
     let read = read_of(offer, people);
-    for field in LINES {
-        if read.is_line(field) {
-            reasons.push(Reason {
-                field,
-                people: Vec::from_slice(alloc, people)?,
-            })?;
-        }
-    }
+    add_lines(&mut reasons, &read, people)?;
     if reasons.is_empty() && whole {
-        for field in UNNAMED {
-            if read.is_unnamed(field) {
-                reasons.push(Reason {
-                    field,
-                    people: Vec::from_slice(alloc, people)?,
-                })?;
-            }
-        }
+        add_unnamed(&mut reasons, &read, people)?;
     }
     Ok(reasons)
+}
+
+/// Adds each line of the bounds that is true of what participants say.
+fn add_lines<'a>(
+    reasons: &mut Vec<Reason<'a>>,
+    read: &OfferRead,
+    people: &[Asked<'a>],
+) -> Result<(), AllocError> {
+    let alloc = *reasons.allocator();
+    for field in LINES {
+        if read.is_line(field) {
+            let people = Vec::from_slice(alloc, people)?;
+            reasons.push(Reason { field, people })?;
+        }
+    }
+    Ok(())
+}
+
+/// Adds what none of them names.
+fn add_unnamed<'a>(
+    reasons: &mut Vec<Reason<'a>>,
+    read: &OfferRead,
+    people: &[Asked<'a>],
+) -> Result<(), AllocError> {
+    let alloc = *reasons.allocator();
+    for field in UNNAMED {
+        if read.is_unnamed(field) {
+            let people = Vec::from_slice(alloc, people)?;
+            reasons.push(Reason { field, people })?;
+        }
+    }
+    Ok(())
 }
 
 /// How far an offer is from being taken: how many have no entry for it, and how many lack its colour space, which is nearer.
@@ -216,12 +234,7 @@ fn put_no_entry(text: &mut String, offer: &Offer, people: &[Asked<'_>]) -> Resul
     let alloc = *text.allocator();
     let mut none = Vec::new(alloc);
     for one in people {
-        let mut modifiers: Vec<&str> = Vec::new(alloc);
-        for entry in one.asked.entries() {
-            if entry.format.is_none() || entry.format == Some(pair.format) {
-                modifiers.push(entry.modifier.map_or("DO_NOT_CARE", Modifier::name))?;
-            }
-        }
+        let modifiers = modifiers_of(alloc, one, pair.format)?;
         if modifiers.is_empty() {
             none.push(*one)?;
             continue;
@@ -243,6 +256,21 @@ fn put_no_entry(text: &mut String, offer: &Offer, people: &[Asked<'_>]) -> Resul
     put_has(text, &none, "has no entry for it", "have no entry for it")
 }
 
+/// The modifiers that a participant takes a format with.
+fn modifiers_of(
+    alloc: Global,
+    one: &Asked<'_>,
+    format: PixelFormat,
+) -> Result<Vec<&'static str>, AllocError> {
+    let mut names = Vec::new(alloc);
+    for entry in one.asked.entries() {
+        if entry.format.is_none() || entry.format == Some(format) {
+            names.push(entry.modifier.map_or("DO_NOT_CARE", Modifier::name))?;
+        }
+    }
+    Ok(names)
+}
+
 /// Puts in which colour spaces participants take an offer behind a text.
 fn put_colours(text: &mut String, offer: &Offer, people: &[Asked<'_>]) -> Result<(), AllocError> {
     let alloc = *text.allocator();
@@ -255,13 +283,7 @@ fn put_colours(text: &mut String, offer: &Offer, people: &[Asked<'_>]) -> Result
             continue;
         }
         done.push(entry.colours)?;
-        let mut those = Vec::new(alloc);
-        for other in people {
-            match entry_for(other.asked.entries(), offer) {
-                Some(same) if same.colours == entry.colours => those.push(*other)?,
-                _ => {}
-            }
-        }
+        let those = with_colours(alloc, offer, people, entry.colours)?;
         if !text.is_empty() {
             text.push_str("; ")?;
         }
@@ -269,6 +291,23 @@ fn put_colours(text: &mut String, offer: &Offer, people: &[Asked<'_>]) -> Result
         put_colour_names(text, entry.colours)?;
     }
     Ok(())
+}
+
+/// Those who take an offer in these colour spaces.
+fn with_colours<'a>(
+    alloc: Global,
+    offer: &Offer,
+    people: &[Asked<'a>],
+    colours: ColourSet,
+) -> Result<Vec<Asked<'a>>, AllocError> {
+    let mut those = Vec::new(alloc);
+    for one in people {
+        match entry_for(one.asked.entries(), offer) {
+            Some(entry) if entry.colours == colours => those.push(*one)?,
+            _ => {}
+        }
+    }
+    Ok(those)
 }
 
 fn put_colour_names(text: &mut String, colours: ColourSet) -> Result<(), AllocError> {
@@ -294,7 +333,7 @@ fn put_required(text: &mut String, wishes: Wishes<'_, '_>) -> Result<(), AllocEr
             u64::from(u32::MAX).saturating_sub(u64::from(side.of(entry.bounds.asked.min_size)))
         });
         let top = wishes.least(|entry| u64::from(side.of(entry.bounds.asked.required_min_size)));
-        let (Some((first, below)), Some((second, most))) = (low, top) else {
+        let (Some((takes, below)), Some((puts, most))) = (low, top) else {
             continue;
         };
         let least = u64::from(u32::MAX).saturating_sub(below);
@@ -305,8 +344,6 @@ fn put_required(text: &mut String, wishes: Wishes<'_, '_>) -> Result<(), AllocEr
             text.push_str("; ")?;
         }
         let name = side.name();
-        let takes = first;
-        let puts = second;
         write!(
             text,
             "{takes} takes a {name} of {least} or more (min_size), {puts} will put {most} \

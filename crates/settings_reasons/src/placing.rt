@@ -30,13 +30,19 @@ const DOMAINS: [CoherencyDomain; 3] = [
 pub(crate) fn places_of(alloc: Global, platform: &Platform) -> Result<Vec<Place>, AllocError> {
     let mut places = Vec::new(alloc);
     for (heap, info) in platform.heaps().iter().enumerate() {
-        for coherency in DOMAINS {
-            if info.domains.has(coherency) {
-                places.push(Place { heap, coherency })?;
-            }
-        }
+        add_places(&mut places, heap, info)?;
     }
     Ok(places)
+}
+
+/// Adds the places of a heap.
+fn add_places(places: &mut Vec<Place>, heap: usize, info: &HeapInfo) -> Result<(), AllocError> {
+    for coherency in DOMAINS {
+        if info.domains.has(coherency) {
+            places.push(Place { heap, coherency })?;
+        }
+    }
+    Ok(())
 }
 
 /// Those who refuse a place by a field.

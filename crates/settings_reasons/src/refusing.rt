@@ -21,20 +21,38 @@ pub(crate) fn place_rows(
     let mut rows = Vec::new(alloc);
     for place in places {
         let reasons = place_reasons(alloc, platform, *place, people)?;
-        let most = if all { reasons.len() } else { 1 };
-        let mut texts = Vec::new(alloc);
-        let mut far = 0usize;
-        for reason in reasons.iter().take(most) {
-            let mut text = String::new(alloc);
-            put_place_reason(&mut text, reason)?;
-            texts.push(text)?;
-            far = far.saturating_add(reason.people.len());
-        }
+        let texts = place_texts(alloc, &reasons, all)?;
+        let far = if all { refusals(&reasons) } else { 0 };
         let mut name = String::new(alloc);
         put_place(&mut name, platform, *place)?;
-        add(&mut rows, name, texts, if all { far } else { 0 })?;
+        add(&mut rows, name, texts, far)?;
     }
     Ok(rows)
+}
+
+/// The reasons against a place in words, or the first of them.
+fn place_texts(
+    alloc: Global,
+    reasons: &[Reason<'_>],
+    all: bool,
+) -> Result<Vec<String>, AllocError> {
+    let most = if all { reasons.len() } else { 1 };
+    let mut texts = Vec::new(alloc);
+    for reason in reasons.iter().take(most) {
+        let mut text = String::new(alloc);
+        put_place_reason(&mut text, reason)?;
+        texts.push(text)?;
+    }
+    Ok(texts)
+}
+
+/// How many refusals these are: who refuses by two fields counts twice.
+fn refusals(reasons: &[Reason<'_>]) -> usize {
+    let mut count = 0usize;
+    for reason in reasons {
+        count = count.saturating_add(reason.people.len());
+    }
+    count
 }
 
 /// Rows of offers that participants refuse, in the same way. A pair that is refused in each of so many colour spaces for the same reasons is named once.
@@ -109,13 +127,17 @@ fn add_pair(
             }
             offer => offer_name(alloc, offer)?,
         };
-        let mut texts = Vec::new(alloc);
-        for text in &refused.texts {
-            texts.push(String::from_str(alloc, text)?)?;
-        }
-        add(rows, name, texts, refused.distance)?;
+        add(rows, name, copied(alloc, &refused.texts)?, refused.distance)?;
     }
     Ok(())
+}
+
+fn copied(alloc: Global, texts: &[String]) -> Result<Vec<String>, AllocError> {
+    let mut copy = Vec::new(alloc);
+    for text in texts {
+        copy.push(String::from_str(alloc, text)?)?;
+    }
+    Ok(copy)
 }
 
 fn texts_of(

@@ -91,18 +91,28 @@ pub(crate) fn tell_rows(
 /// The indices of the rows, the nearest first.
 fn order_of(items: &Items, rows: &[Row]) -> Result<Vec<usize>, AllocError> {
     let mut order: Vec<usize> = Vec::new(items.alloc());
-    let mut farthest = 0usize;
-    for row in rows {
-        farthest = farthest.max(row.distance);
-    }
-    for distance in 0..farthest.saturating_add(1) {
-        for (index, row) in rows.iter().enumerate() {
-            if row.distance == distance {
-                order.push(index)?;
-            }
-        }
+    for distance in 0..farthest(rows).saturating_add(1) {
+        add_at(&mut order, rows, distance)?;
     }
     Ok(order)
+}
+
+fn farthest(rows: &[Row]) -> usize {
+    let mut most = 0usize;
+    for row in rows {
+        most = most.max(row.distance);
+    }
+    most
+}
+
+/// Adds the indices of the rows at a distance.
+fn add_at(order: &mut Vec<usize>, rows: &[Row], distance: usize) -> Result<(), AllocError> {
+    for (index, row) in rows.iter().enumerate() {
+        if row.distance == distance {
+            order.push(index)?;
+        }
+    }
+    Ok(())
 }
 
 fn tell_row(items: &mut Items, depth: usize, before: &str, row: &Row) -> Result<(), AllocError> {

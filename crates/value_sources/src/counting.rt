@@ -5,6 +5,9 @@ use std::alloc::{AllocError, Global};
 use std::fmt::Write;
 use sysmem_counts::{BUFFER_COUNT_LIMIT, CountBounds, Field};
 
+/// How many nodes a tree has at most.
+const MOST_NODES: usize = 128;
+
 /// How many parts of a sum are shown.
 const MOST_PARTS: usize = 5;
 
@@ -27,10 +30,13 @@ fn value_of(one: &Asked<'_>, part: Part) -> u32 {
     }
 }
 
-/// The bounds of their counts.
+/// The bounds of the counts of participants, of whom a tree has no more than this many.
 fn bounds_of(people: &[Asked<'_>]) -> CountBounds {
     let mut bounds = CountBounds::new();
-    for one in people.iter().take(128) {
+    for k in 0..MOST_NODES {
+        let Some(one) = people.get(k) else {
+            break;
+        };
         bounds.add(one.asked.counts());
     }
     bounds
@@ -115,13 +121,18 @@ fn put_part(
         put_texts(text, &parts, MOST_PARTS.saturating_sub(1))?;
         return text.push_str(")");
     }
+    put_sum(text, &parts)?;
+    write!(text, " ({word})")
+}
+
+fn put_sum(text: &mut String, parts: &[String]) -> Result<(), AllocError> {
     for (k, one) in parts.iter().enumerate() {
         if 0 < k {
             text.push_str(" + ")?;
         }
         text.push_str(one)?;
     }
-    write!(text, " ({word})")
+    Ok(())
 }
 
 /// The least count that the participants need.

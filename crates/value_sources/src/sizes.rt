@@ -295,20 +295,21 @@ impl<'a> Wishes<'a, '_> {
         Ok(Derived { value, why })
     }
 
-    /// The greatest least size of a buffer that somebody states.
+    /// The greatest least size of a buffer that somebody states, if one is above 1.
     fn least_size(&self) -> Option<(&'a str, u64)> {
-        let mut best: Option<(&'a str, u64)> = None;
-        for one in self.people {
+        let mut best = 0usize;
+        let mut most = 1u64;
+        for (index, one) in self.people.iter().enumerate() {
             let value = one.asked.memory().min_size_bytes;
-            let is_more = match best {
-                Some((_, most)) => value > most,
-                None => value > 1,
-            };
-            if is_more {
-                best = Some((one.name, value));
+            if value > most {
+                best = index;
+                most = value;
             }
         }
-        best
+        if most == 1 {
+            return None;
+        }
+        Some((self.people.get(best)?.name, most))
     }
 
     /// The least size of a buffer in bytes; where the image's sides come from is said too if that is asked for.
