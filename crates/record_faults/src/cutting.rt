@@ -2,76 +2,33 @@
 
 use crate::paths::{Path, value_at};
 use json_places::Step;
-use serde_json::{Map, Value};
+use serde_json::Value;
 use std::alloc::{AllocError, Global};
+use std::fmt::Write;
 use sysmem_sanitise::{Code, Fault, read_constraints, read_platform};
 
 /// A copy of a value in which the list at a path has its first items alone, as many as are said.
-#[cycle(cut)]
 fn cut(alloc: Global, value: &Value, path: &[Step<'_>], most: usize) -> Result<Value, AllocError> {
-    match path.split_first() {
-        None => front(alloc, value, most),
-        Some((Step::Key(key), rest)) => match value.as_object() {
-            Some(members) => cut_member(alloc, members, key, rest, most),
-            None => value.clone(),
-        },
-        Some((Step::Item(index), rest)) => match value.as_array() {
-            Some(list) => cut_item(alloc, list, *index, rest, most),
-            None => value.clone(),
-        },
+    let mut copy = value.clone()?;
+    let pointer = pointer_of(alloc, path)?;
+    if let Some(at) = copy.pointer_mut(&pointer) {
+        if let Some(list) = at.as_array_mut() {
+            list.truncate(most);
+        }
     }
+    Ok(copy)
 }
 
-/// A copy of a list's first items.
-fn front(alloc: Global, value: &Value, most: usize) -> Result<Value, AllocError> {
-    let Some(list) = value.as_array() else {
-        return value.clone();
-    };
-    let mut copy = Vec::new(alloc);
-    for item in list.iter().take(most) {
-        copy.push(item.clone()?)?;
+/// A path as a JSON pointer; a record's keys have no `/` and no `~`.
+fn pointer_of(alloc: Global, path: &[Step<'_>]) -> Result<String, AllocError> {
+    let mut pointer = String::new(alloc);
+    for step in path {
+        match *step {
+            Step::Key(key) => write!(pointer, "/{key}")?,
+            Step::Item(index) => write!(pointer, "/{index}")?,
+        }
     }
-    Ok(Value::Array(copy))
-}
-
-#[cycle(cut)]
-fn cut_member(
-    alloc: Global,
-    members: &Map<String, Value>,
-    key: &str,
-    rest: &[Step<'_>],
-    most: usize,
-) -> Result<Value, AllocError> {
-    let mut copy = Map::new(alloc);
-    for (name, value) in members {
-        let value = if name.as_str() == key {
-            cut(alloc, value, rest, most)?
-        } else {
-            value.clone()?
-        };
-        copy.insert(name.clone()?, value)?;
-    }
-    Ok(Value::Object(copy))
-}
-
-#[cycle(cut)]
-fn cut_item(
-    alloc: Global,
-    list: &[Value],
-    index: usize,
-    rest: &[Step<'_>],
-    most: usize,
-) -> Result<Value, AllocError> {
-    let mut copy = Vec::new(alloc);
-    for (k, value) in list.iter().enumerate() {
-        let value = if k == index {
-            cut(alloc, value, rest, most)?
-        } else {
-            value.clone()?
-        };
-        copy.push(value)?;
-    }
-    Ok(Value::Array(copy))
+    Ok(pointer)
 }
 
 /// A record with its first fault, whose lists are cut where the fault stays.

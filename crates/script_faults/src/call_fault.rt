@@ -1,5 +1,9 @@
 //! The faults of a script's calls, in words.
 
+ghost use Rattle.std.specs.Prelude.{◌≡◌, IfSome};
+ghost use Rattle.serde_json.specs.View.{view};
+ghost use Rattle.script_reading.specs.Call.{actor_of};
+
 use crate::keys::CALLS;
 use explanation_text::wording::{put_few, put_joined};
 use explanation_text::{Items, nearest};
@@ -44,6 +48,7 @@ pub(crate) fn tell_call_fault<'a>(
     match fault {
         ScriptFault::TooManyActors(_) => tell_actors(items, faulty),
         ScriptFault::BadName(_) => tell_name(items, faulty),
+        ScriptFault::SharedName(_) => tell_shared(items, faulty),
         _ => tell_shape(items, faulty),
     }
 }
@@ -99,8 +104,13 @@ impl<'a> Faulty<'a, '_> {
 }
 
 /// The actor of a call, as it is named.
-pub fn actor_of(call: &Value) -> &str {
-    call.get("actor").and_then(Value::as_str).unwrap_or("main")
+pub fn actor_of(call: &Value) -> &str
+    ensures { IfSome (actor_of (view call.now)) (λ actor. result.now ≡ actor) }
+{
+    match call.get("actor") {
+        Some(actor) => actor.as_str().unwrap_or("main"),
+        None => "main",
+    }
 }
 
 fn tell_actors(items: &mut Items, faulty: Faulty<'_, '_>) -> Result<(), AllocError> {
@@ -287,6 +297,31 @@ fn tell_name(items: &mut Items, faulty: Faulty<'_, '_>) -> Result<(), AllocError
         None => String::from_str(alloc, "the program makes root")?,
     };
     faulty.point(items, "as", "made before", help)
+}
+
+/// Tells a name on which another actor made a call.
+fn tell_shared(items: &mut Items, faulty: Faulty<'_, '_>) -> Result<(), AllocError> {
+    let alloc = items.alloc();
+    let on = faulty.text("on").unwrap_or("");
+    let actor = actor_of(faulty.call);
+    let earlier = faulty
+        .calls
+        .iter()
+        .take(faulty.index)
+        .position(|call| is_by_another(call, on, actor));
+    let help = match earlier {
+        Some(index) => {
+            let number = index.saturating_add(1);
+            format!(in alloc; "call {number} is made on it by another actor")?
+        }
+        None => String::from_str(alloc, "an earlier call on it is another actor's")?,
+    };
+    faulty.point(items, "on", "another actor's name", help)
+}
+
+/// Whether a call is made on a name, and not by this actor.
+fn is_by_another(call: &Value, on: &str, actor: &str) -> bool {
+    call.get("on").and_then(Value::as_str) == Some(on) && actor_of(call) != actor
 }
 
 /// The index of the earlier call that makes a name.

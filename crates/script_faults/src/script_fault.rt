@@ -17,7 +17,7 @@ pub fn tell_fault<'a>(
 ) -> Result<(), AllocError> {
     put_answer(items, fault)?;
     match fault {
-        ScriptFault::TooLong => tell_length(items, document.bytes),
+        ScriptFault::TooLong => tell_length(items),
         ScriptFault::NotJson => Ok(()),
         ScriptFault::Misshapen => tell_misshapen(items, document),
         ScriptFault::CallMisshapen(number)
@@ -44,10 +44,9 @@ fn put_answer(items: &mut Items, fault: ScriptFault) -> Result<(), AllocError> {
     items.push(Kind::Answer, 0, "", text)
 }
 
-fn tell_length(items: &mut Items, bytes: &[u8]) -> Result<(), AllocError> {
+fn tell_length(items: &mut Items) -> Result<(), AllocError> {
     let alloc = items.alloc();
     let text = format!(in alloc; "the script has more than {LONGEST} bytes; no more are read")?;
-    let _ = bytes;
     items.say(1, "", text)
 }
 
