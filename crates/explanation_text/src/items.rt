@@ -1,6 +1,11 @@
 //! What is told, as one list of items.
 
+ghost use Rattle.std.specs.Prelude.{◌≡◌, ◌↔◌, ◌++◌, [], ◌∷◌, IsTrue, OnOk, length};
+ghost use Rattle.explanation_text.specs.declared.items.Kind.TheVariants.{Words};
+ghost use Rattle.explanation_text.specs.Items.{item_of};
+
 use std::alloc::{AllocError, Global};
+use std::marker::Model;
 
 /// How an item is shown.
 #[derive(Clone, Copy, Debug, PartialEq, Eq)]
@@ -36,8 +41,19 @@ pub struct Items {
     list: Vec<Item>,
 }
 
+impl Model for Items {
+    ghost use Rattle.std.specs.Prelude.{List};
+    ghost use Rattle.explanation_text.specs.declared.items.Item.{Item};
+
+    ghost Value = { List Item };
+
+    ghost view = { λ items. items.list.items };
+}
+
 impl Items {
-    pub fn new(alloc: Global) -> Items {
+    pub fn new(alloc: Global) -> Items
+        ensures { result ≡ [] }
+    {
         Items {
             alloc,
             list: Vec::new(alloc),
@@ -54,7 +70,9 @@ impl Items {
         depth: usize,
         label: &'static str,
         text: String,
-    ) -> Result<(), AllocError> {
+    ) -> Result<(), AllocError>
+        ensures { OnOk result (self.new ≡ self.old ++ item_of kind depth label text ∷ []) }
+    {
         self.list.push(Item {
             label,
             text,
@@ -65,34 +83,38 @@ impl Items {
     }
 
     /// Puts words with a label behind the list.
-    pub fn say(
-        &mut self,
-        depth: usize,
-        label: &'static str,
-        text: String,
-    ) -> Result<(), AllocError> {
+    pub fn say(&mut self, depth: usize, label: &'static str, text: String) -> Result<(), AllocError>
+        ensures { OnOk result (self.new ≡ self.old ++ item_of Words depth label text ∷ []) }
+    {
         self.push(Kind::Words, depth, label, text)
     }
 
     /// Puts all of another list behind this one.
-    pub fn append(&mut self, others: Items) -> Result<(), AllocError> {
-        for item in others.list {
-            self.list.push(item)?;
-        }
-        Ok(())
+    pub fn append(&mut self, others: Items) -> Result<(), AllocError>
+        ensures { OnOk result (self.new ≡ self.old ++ others) }
+    {
+        let Items { mut list, .. } = others;
+        self.list.append(&mut list)
     }
 
     /// How many there are.
-    pub fn len(&self) -> usize {
+    pub fn len(&self) -> usize
+        ensures { result ≡ length self.now }
+    {
         self.list.len()
     }
 
     /// Whether there are none.
-    pub fn is_empty(&self) -> bool {
+    pub fn is_empty(&self) -> bool
+        ensures { IsTrue result ↔ (length self.now ≡ 0) }
+    {
         self.list.is_empty()
     }
 
-    pub fn into_list(self) -> Vec<Item> {
+    /// The items, the first one first.
+    pub fn into_list(self) -> Vec<Item>
+        ensures { result.items ≡ self }
+    {
         self.list
     }
 }
