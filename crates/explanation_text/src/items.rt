@@ -1,11 +1,6 @@
 //! What is told, as one list of items.
 
-ghost use Rattle.std.specs.Prelude.{◌≡◌, ◌↔◌, ◌++◌, [], ◌∷◌, IsTrue, OnOk, length};
-ghost use Rattle.explanation_text.specs.declared.items.Kind.TheVariants.{Words};
-ghost use Rattle.explanation_text.specs.Items.{item_of};
-
 use std::alloc::{AllocError, Global};
-use std::marker::Model;
 
 /// How an item is shown.
 #[derive(Clone, Copy, Debug, PartialEq, Eq)]
@@ -41,19 +36,8 @@ pub struct Items {
     list: Vec<Item>,
 }
 
-impl Model for Items {
-    ghost use Rattle.std.specs.Prelude.{List};
-    ghost use Rattle.explanation_text.specs.declared.items.Item.{Item};
-
-    ghost Value = { List Item };
-
-    ghost view = { λ items. items.list.items };
-}
-
 impl Items {
-    pub fn new(alloc: Global) -> Items
-        ensures { result ≡ [] }
-    {
+    pub fn new(alloc: Global) -> Items {
         Items {
             alloc,
             list: Vec::new(alloc),
@@ -70,9 +54,7 @@ impl Items {
         depth: usize,
         label: &'static str,
         text: String,
-    ) -> Result<(), AllocError>
-        ensures { OnOk result (self.new ≡ self.old ++ item_of kind depth label text ∷ []) }
-    {
+    ) -> Result<(), AllocError> {
         self.list.push(Item {
             label,
             text,
@@ -83,38 +65,34 @@ impl Items {
     }
 
     /// Puts words with a label behind the list.
-    pub fn say(&mut self, depth: usize, label: &'static str, text: String) -> Result<(), AllocError>
-        ensures { OnOk result (self.new ≡ self.old ++ item_of Words depth label text ∷ []) }
-    {
+    pub fn say(
+        &mut self,
+        depth: usize,
+        label: &'static str,
+        text: String,
+    ) -> Result<(), AllocError> {
         self.push(Kind::Words, depth, label, text)
     }
 
     /// Puts all of another list behind this one.
-    pub fn append(&mut self, others: Items) -> Result<(), AllocError>
-        ensures { OnOk result (self.new ≡ self.old ++ others) }
-    {
-        let Items { mut list, .. } = others;
-        self.list.append(&mut list)
+    pub fn append(&mut self, others: Items) -> Result<(), AllocError> {
+        for item in others.list {
+            self.list.push(item)?;
+        }
+        Ok(())
     }
 
     /// How many there are.
-    pub fn len(&self) -> usize
-        ensures { result ≡ length self.now }
-    {
+    pub fn len(&self) -> usize {
         self.list.len()
     }
 
     /// Whether there are none.
-    pub fn is_empty(&self) -> bool
-        ensures { IsTrue result ↔ (length self.now ≡ 0) }
-    {
+    pub fn is_empty(&self) -> bool {
         self.list.is_empty()
     }
 
-    /// The items, the first one first.
-    pub fn into_list(self) -> Vec<Item>
-        ensures { result.items ≡ self }
-    {
+    pub fn into_list(self) -> Vec<Item> {
         self.list
     }
 }

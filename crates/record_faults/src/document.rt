@@ -1,11 +1,5 @@
 //! A script's text with the value that it spells, and pointing at a part of it.
 
-ghost use Rattle.std.specs.Prelude.{◌≡◌, IfOk, IfSome, Some, option_map};
-ghost use Rattle.serde_json.specs.Data.{Data};
-ghost use Rattle.serde_json.specs.View.{view};
-ghost use Rattle.json_places.specs.Places.{IsPlaceOf};
-ghost use Rattle.record_faults.specs.Path.{at_path};
-
 use crate::paths::{Path, put_path, value_at};
 use explanation_text::{Items, Kind, Mark, show};
 use json_places::{Span, Step, key_span_of, span_of};
@@ -33,23 +27,8 @@ pub enum Part {
 
 impl<'a> Document<'a> {
     /// The value at a path.
-    pub fn at(&self, path: &[Step<'_>]) -> Option<&'a Value>
-        ensures { option_map (λ v. view v.now) result
-            ≡ at_path path.now (view self.now.value.now) }
-    {
+    pub fn at(&self, path: &[Step<'_>]) -> Option<&'a Value> {
         value_at(self.value, path)
-    }
-
-    /// Where the value at a path stands, if it does.
-    pub fn place(&self, alloc: Global, path: &[Step<'_>]) -> Result<Option<Span>, AllocError>
-        ensures { IfOk result (λ found. IfSome found (λ span. (value : Data)
-            × (at_path path.now (view self.now.value.now) ≡ Some value)
-            × IsPlaceOf self.now.bytes.now value span)) }
-    {
-        let Some(value) = self.at(path) else {
-            return Ok(None);
-        };
-        span_of(alloc, self.bytes, path, value)
     }
 
     /// Where the value at a path or its key stands, if it does.
@@ -62,12 +41,15 @@ impl<'a> Document<'a> {
         if part == Part::Key {
             return key_span_of(alloc, self.bytes, path);
         }
-        self.place(alloc, path)
+        let Some(value) = self.at(path) else {
+            return Ok(None);
+        };
+        span_of(alloc, self.bytes, path, value)
     }
 
     /// How the value at a path is written.
     pub fn written(&self, alloc: Global, path: &[Step<'_>]) -> Result<&'a [u8], AllocError> {
-        match self.place(alloc, path)? {
+        match self.span(alloc, path, Part::Value)? {
             Some(span) => Ok(span.within(self.bytes)),
             None => Ok(&[]),
         }

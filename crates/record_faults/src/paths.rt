@@ -1,9 +1,5 @@
 //! Paths to values in a script.
 
-ghost use Rattle.std.specs.Prelude.{◌≡◌, option_map};
-ghost use Rattle.serde_json.specs.View.{view};
-ghost use Rattle.record_faults.specs.Path.{at_path, stepped};
-
 use explanation_text::wording::put_visible;
 use json_places::Step;
 use serde_json::Value;
@@ -35,23 +31,15 @@ pub(crate) fn joined<'a>(
 }
 
 /// The value at a path from this one.
-pub(crate) fn value_at<'a>(value: &'a Value, path: &[Step<'_>]) -> Option<&'a Value>
-    ensures { option_map (λ v. view v.now) result ≡ at_path path.now (view value.now) }
-{
-    match path.split_first() {
-        None => Some(value),
-        Some((step, rest)) => value_at(stepped(value, *step)?, rest),
+pub(crate) fn value_at<'a>(value: &'a Value, path: &[Step<'_>]) -> Option<&'a Value> {
+    let mut at = value;
+    for step in path {
+        at = match *step {
+            Step::Key(key) => at.get(key)?,
+            Step::Item(index) => at.get(index)?,
+        };
     }
-}
-
-/// The value to which a step leads.
-fn stepped<'a>(value: &'a Value, step: Step<'_>) -> Option<&'a Value>
-    ensures { option_map (λ v. view v.now) result ≡ stepped step (view value.now) }
-{
-    match step {
-        Step::Key(key) => value.get(key),
-        Step::Item(index) => value.get(index),
-    }
+    Some(at)
 }
 
 /// Puts a path behind a text: `calls[4].constraints.usage[0]`, or `the script`.

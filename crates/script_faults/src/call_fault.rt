@@ -1,9 +1,5 @@
 //! The faults of a script's calls, in words.
 
-ghost use Rattle.std.specs.Prelude.{◌≡◌, IfSome};
-ghost use Rattle.serde_json.specs.View.{view};
-ghost use Rattle.script_reading.specs.Call.{actor_of};
-
 use crate::keys::CALLS;
 use explanation_text::wording::{put_few, put_joined};
 use explanation_text::{Items, nearest};
@@ -104,9 +100,7 @@ impl<'a> Faulty<'a, '_> {
 }
 
 /// The actor of a call, as it is named.
-pub fn actor_of(call: &Value) -> &str
-    ensures { IfSome (actor_of (view call.now)) (λ actor. result.now ≡ actor) }
-{
+pub fn actor_of(call: &Value) -> &str {
     match call.get("actor") {
         Some(actor) => actor.as_str().unwrap_or("main"),
         None => "main",
