@@ -1,0 +1,4 @@
+pub mod Ends
+pub mod Image
+pub mod Says
+pub mod Words
