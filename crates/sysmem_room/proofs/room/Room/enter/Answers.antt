@@ -71,7 +71,7 @@ invariant_of-self-2 g c =
     let many = as_many _ c.history-entries.result.now c.self.inside.book.history (length c.history-entries.result.now) c.history-entries.ensures.entries refl in
     let few = c.few_entries.ensures c.self.inside.book.platform c.self.inside.book.history c.history-entries.ensures.book.legal in
     let history = ap (λ (b : BookFacts). actions_in b.history) c.in_ok-done.ensures.entered in (
-      history ∙ omega (arith, push, actions, c.add.ensures.total),
+      history ∙ omega (arith, push, actions, c.add-2.ensures.total),
       omega (arith, amount, c.split_off-share.ensures.amount_left),
       omega (arith, parts, more, c.split_off-share.ensures.parts_left, c.parts_of-parts.ensures, ap nodes_by c.kind-kind.ensures),
       all,
