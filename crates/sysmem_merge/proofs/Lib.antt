@@ -9,6 +9,7 @@ pub mod FirstFits
 pub mod Fits
 pub mod Joining
 pub mod Keeping
+pub mod LeastFit
 pub mod Lines
 pub mod Many
 pub mod OfferReading

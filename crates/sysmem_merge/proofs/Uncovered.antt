@@ -20,7 +20,7 @@ use Rattle.sysmem_memory.specs.Heap.{HeapFacts}
 use Rattle.sysmem_memory.specs.PlaceTable.{refuses_by, place_fields, first_refusing}
 use Rattle.sysmem_merge.specs.declared.settings.Settings.{Settings}
 use Rattle.sysmem_merge.specs.Demands.{offer_demand}
-use Rattle.sysmem_merge.specs.Failing.{FailsIn, IsFirstUncovered, offer_fields, size_fields}
+use Rattle.sysmem_merge.specs.Failing.{FailsIn, FailsOn, IsFirstUncovered, offer_fields, size_fields}
 use Rattle.sysmem_merge.specs.First.{IsFirstOf}
 use Rattle.sysmem_merge.specs.Offers.{has_format, has_colour, entry_bounds, AcceptsOffer}
 use Rattle.sysmem_merge.specs.Settings.{CoversOn}
@@ -368,4 +368,12 @@ pub place_test : (field : Field) (heap : HeapFacts) (s : Settings) (p : Particip
 place_test field heap s p bounds place else exact none same = (
   λ yes. else.0 (inr (sym same ∙ yes)),
   λ fails. elim (else.1 fails) as (λ _. IsTrue place) [ inl b ↦ absurd (cc (exact.1 b, none)) | inr refuses ↦ same ∙ refuses ],
+)
+
+-- a test in the heap of the settings' index is one on the platform
+pub fails_on : (field : Field) (platform : PlatformFacts) (s : Settings) (p : Participant) (heap : HeapFacts) (r : Bool) → slice_get platform.heaps s.place.heap ≡ Some heap → IsTrue r ↔ FailsIn field heap s p
+    → IsTrue r ↔ FailsOn field platform s p
+fails_on field platform s p heap r here exact = (
+  λ yes. record { heap = heap; has = here; fails = exact.0 yes },
+  λ on. exact.1 (subst (λ h. FailsIn field h s p) (cc (on.has, here)) on.fails),
 )
