@@ -19,7 +19,7 @@ use sysmem_sanitise::Platform;
 use sysmem_tree::DomainId;
 
 /// A report.
-#[derive(Debug, Drop)]
+#[derive(Drop)]
 pub struct Report {
     /// A line for each call, for each domain that was decided or failed, and for each domain without a verdict.
     pub text: String,

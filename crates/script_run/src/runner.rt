@@ -38,7 +38,7 @@ use sysmem_sanitise::{Code, Fault, Platform, read_constraints};
 use sysmem_tree::{Action, DomainId, Event, NodeId, Refusal};
 
 /// A collection with the names of its nodes.
-#[derive(Debug, Drop)]
+#[derive(Drop)]
 pub struct Runner {
     book: Book,
     /// For each name, in the order of the calls that make one, the node that it stands for; `None` where that call
