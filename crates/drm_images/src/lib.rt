@@ -2,7 +2,7 @@
 //!
 //! ```
 //! let pair = Pair { format: format_of(0x3231_564e)?, modifier: modifier_of(0)? }; // NV12, linear
-//! let colours = plane_at(pair, 1472, 1088, 1); // offset 1601536, pitch 1472, rows 544
+//! let colours = plane_at(pair, 1472, 1088, 1); // offset 1601536, pitch 1472, 544 rows
 //! ```
 #![tactic(auto)]
 
