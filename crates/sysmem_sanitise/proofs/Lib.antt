@@ -1,11 +1,13 @@
 mod Bounds
-pub mod CallerLemmas
 mod Examples
 mod Heaps
 mod Members
 mod Names
+mod NoneTwice
 mod Participants
 mod Platforms
 mod Refusals
+mod Refused
 mod Same
 mod Steps
+pub mod CallerLemmas

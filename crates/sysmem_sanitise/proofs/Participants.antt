@@ -56,7 +56,7 @@ with_family-keeps before after d few gives =
     let (name, text, found) = bind-ok (text_of _ d) _ family read in
     subst (λ u. usage_bits u < 2 ^ 5) (ok-same _ after made) (or_lt 5 (usage_bits before) family few (family-few name family (search (rules, tests))))
 
-usage-by : (n m : ℕ) → (n == 1 || (not (n == 0) && not (m == 1))) ≡ true → (n ≢ 0) × (m ≡ 1 → n ≡ 1)
+pub usage-by : (n m : ℕ) → (n == 1 || (not (n == 0) && not (m == 1))) ≡ true → (n ≢ 0) × (m ≡ 1 → n ≡ 1)
 usage-by n m h = search (rules, tests)
 
 pub usage_of-is : (d : Data) (u : Usage) → usage_of d ≡ Ok u → IsUsage u

@@ -86,7 +86,7 @@ pub same_modifier : (a b : Modifier) → Decides (modifier.ghosts.eq a b) (a ≡
 same_modifier a b = search rules
 
 -- where a test tells equal values, it tells equal options
-same_options : {K : Type 0} (E : K → K → Bool) → ((x y : K) → Decides (E x y) (x ≡ y)) → (p q : Option K) → Decides (option_eq E p q) (p ≡ q)
+pub same_options : {K : Type 0} (E : K → K → Bool) → ((x y : K) → Decides (E x y) (x ≡ y)) → (p q : Option K) → Decides (option_eq E p q) (p ≡ q)
 same_options E decides None None = (λ e. refl, λ e. refl)
 same_options E decides None (Some y) = (λ e. cc, λ e. cc)
 same_options E decides (Some x) None = (λ e. cc, λ e. cc)

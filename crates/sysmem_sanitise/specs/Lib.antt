@@ -1,3 +1,4 @@
+pub mod Amiss
 pub mod Equal
 pub mod EqualLaws
 pub mod Faults

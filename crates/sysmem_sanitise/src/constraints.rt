@@ -1,15 +1,17 @@
 //! What a participant asks of the buffers, as its record says it.
 
-ghost use Rattle.std.specs.Prelude.{◌≡◌, ◌≤◌, ◌↔◌, length, false, All, AllPairs, IsTrue};
+ghost use Rattle.std.specs.Prelude.{◌≡◌, ◌≤◌, ◌↔◌, length, false, All, AllPairs, IfErr, IfOk, IsTrue};
 ghost use Rattle.sysmem_memory.specs.Heap.{same_heap};
+ghost use Rattle.sysmem_sanitise.specs.Amiss.{ParticipantAmiss};
 ghost use Rattle.sysmem_sanitise.specs.Equal.{same_participant};
 ghost use Rattle.sysmem_sanitise.specs.EqualLaws.{participant_laws};
 ghost use Rattle.sysmem_sanitise.specs.Participant.{IsParticipant, IsUsage, IsEntry, AreApart};
 ghost use Rattle.sysmem_sanitise.specs.Reading.Heaps.{IsHeapName};
 
+use crate::amiss::amiss_in_participant;
 use crate::equal::is_same_memory;
 use std::marker::Model;
-use sysmem_counts::{CountConstraints, Usage};
+use sysmem_counts::{CountConstraints, Field, Usage};
 use sysmem_image::Entry;
 use sysmem_memory::MemoryConstraints;
 
@@ -68,6 +70,26 @@ impl Constraints {
             counts,
             memory,
             entries,
+        }
+    }
+
+    /// The constraints of these parts. It fails with a field in which no participant is so, where they are the parts of
+    /// none; where an entry is amiss, with the field in which it is.
+    pub fn of(
+        usage: Usage,
+        counts: CountConstraints,
+        memory: MemoryConstraints,
+        entries: Vec<Entry>,
+    ) -> Result<Constraints, Field>
+        ensures made { IfOk result (λ constraints. constraints
+            ≡ record { usage = usage; counts = counts; memory = memory; entries = entries.items }) }
+        ensures taken { IfOk result (λ _. IsParticipant usage memory entries.items) }
+        ensures refused { IfErr result (λ _. IsParticipant usage memory entries.items → ⊥) }
+        ensures amiss { IfErr result (λ field. ParticipantAmiss field usage memory entries.items) }
+    {
+        match amiss_in_participant(usage, &memory, &entries) {
+            Some(field) => Err(field),
+            None => Ok(Constraints::new(usage, counts, memory, entries)),
         }
     }
 

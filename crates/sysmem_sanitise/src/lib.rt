@@ -6,8 +6,10 @@
 //! ```
 #![tactic(auto)]
 
+mod amiss;
 mod constraints;
 mod copying;
+mod distinct;
 mod equal;
 mod fault;
 pub mod laws;

@@ -1,16 +1,19 @@
 //! What a platform has, as its record says it.
 
-ghost use Rattle.std.specs.Prelude.{◌≡◌, ◌≢◌, ◌≤◌, ◌↔◌, length, false, All, AllPairs, IfOk, IsTrue};
+ghost use Rattle.std.specs.Prelude.{◌≡◌, ◌≢◌, ◌≤◌, ◌↔◌, length, false, All, AllPairs, IfErr, IfOk, IsTrue};
 ghost use Rattle.sysmem_formats.specs.Layout.{IsTiledMisfit};
 ghost use Rattle.sysmem_memory.specs.Heap.{same_heap};
+ghost use Rattle.sysmem_sanitise.specs.Amiss.{PlatformAmiss};
 ghost use Rattle.sysmem_sanitise.specs.Equal.{same_platform};
 ghost use Rattle.sysmem_sanitise.specs.EqualLaws.{platform_laws};
 ghost use Rattle.sysmem_sanitise.specs.Platform.{IsPlatform, IsHeap};
 
+use crate::amiss::amiss_in_platform;
 use crate::copying::copied_heaps;
 use crate::equal::are_same_heaps;
 use std::alloc::AllocError;
 use std::marker::Model;
+use sysmem_counts::Field;
 use sysmem_formats::{ColourSpace, Pair};
 use sysmem_memory::HeapInfo;
 
@@ -60,6 +63,25 @@ impl Platform {
             heaps,
             pairs,
             colours,
+        }
+    }
+
+    /// The platform of these parts. It fails with a field in which no platform is so, where they are the parts of none.
+    pub fn of(
+        heaps: Vec<HeapInfo>,
+        pairs: Vec<Pair>,
+        colours: Vec<ColourSpace>,
+    ) -> Result<Platform, Field>
+        ensures made { IfOk result (λ platform. platform
+            ≡ record { heaps = heaps.items; pairs = pairs.items; colours = colours.items }) }
+        ensures taken { IfOk result (λ _. IsPlatform heaps.items pairs.items colours.items) }
+        ensures refused { IfErr result (λ _. IsPlatform heaps.items pairs.items colours.items → ⊥) }
+        ensures amiss { IfErr result
+            (λ field. PlatformAmiss field heaps.items pairs.items colours.items) }
+    {
+        match amiss_in_platform(&heaps, &pairs, &colours) {
+            Some(field) => Err(field),
+            None => Ok(Platform::new(heaps, pairs, colours)),
         }
     }
 

@@ -7,7 +7,7 @@ use std::test::Fail;
 use sysmem_sanitise::{Constraints, Platform, read_constraints, read_platform};
 
 /// A participant that permits the heap of this id, and whose second entry has this least width.
-fn asked(alloc: Global, id: u32, width: u32) -> Result<Constraints, Fail> {
+pub(crate) fn asked(alloc: Global, id: u32, width: u32) -> Result<Constraints, Fail> {
     let text = format!(in alloc;
         "{{\"usage\":[\"cpu\"],\"buffer_memory_constraints\":{{\"permitted_heaps\":[{{\"heap_type\":\"a\",\"id\":{id}}}]}},\"image_format_constraints\":[{{\"pixel_format\":\"R8\",\"color_spaces\":[\"SRGB\"]}},{{\"pixel_format\":\"NV12\",\"color_spaces\":[\"SRGB\"],\"min_size\":{{\"width\":{width},\"height\":2}}}}]}}"
     )?;
@@ -16,7 +16,7 @@ fn asked(alloc: Global, id: u32, width: u32) -> Result<Constraints, Fail> {
 }
 
 /// A platform of one heap of this id, with these colour spaces.
-fn had(alloc: Global, id: u32, colours: &str) -> Result<Platform, Fail> {
+pub(crate) fn had(alloc: Global, id: u32, colours: &str) -> Result<Platform, Fail> {
     let text = format!(in alloc;
         "{{\"heaps\":[{{\"heap_type\":\"a\",\"id\":{id},\"domains\":[\"cpu\"]}}],\"pairs\":[{{\"pixel_format\":\"R8\"}}],\"color_spaces\":[{colours}]}}"
     )?;

@@ -17,9 +17,9 @@ use sysmem_image::Entry;
 
 /// A format and a modifier that an entry asks for, each `None` for `DO_NOT_CARE`.
 #[derive(Clone, Copy)]
-pub(super) struct AskedPair {
-    pub(super) format: Option<PixelFormat>,
-    pub(super) modifier: Option<Modifier>,
+pub(crate) struct AskedPair {
+    pub(crate) format: Option<PixelFormat>,
+    pub(crate) modifier: Option<Modifier>,
 }
 
 fn modifier_beside(format: Option<PixelFormat>, object: &Value) -> Result<Option<Modifier>, Fault>
@@ -43,7 +43,8 @@ fn asked_of(object: &Value) -> Result<AskedPair, Fault>
     Ok(AskedPair { format, modifier })
 }
 
-fn asks_misfit(asked: AskedPair) -> bool
+/// Whether a tiled modifier is asked for with a named format that isn't of 4 bytes.
+pub(crate) fn asks_misfit(asked: AskedPair) -> bool
     ensures { result ≡ asks_misfit asked.format asked.modifier }
 {
     match (asked.format, asked.modifier) {
@@ -70,7 +71,8 @@ fn is_same(a: AskedPair, b: AskedPair) -> bool
     is_same_format(a.format, b.format) && is_same_modifier(a.modifier, b.modifier)
 }
 
-fn pair_asked(entry: &Entry) -> AskedPair
+/// The pair of format and modifier that an entry asks for.
+pub(crate) fn pair_asked(entry: &Entry) -> AskedPair
     ensures { result ≡ pair_asked entry.now }
 {
     AskedPair {
@@ -79,7 +81,8 @@ fn pair_asked(entry: &Entry) -> AskedPair
     }
 }
 
-fn is_asked_already(entries: &[Entry], new: AskedPair) -> bool
+/// Whether one of the entries asks for the same.
+pub(crate) fn is_asked_already(entries: &[Entry], new: AskedPair) -> bool
     ensures { result ≡ is_asked_already entries.now new }
 {
     entries.iter().any(|entry| is_same(pair_asked(entry), new))

@@ -31,7 +31,7 @@ macro_rules! read_bound {
 }
 
 /// The greatest alignment or divisor.
-const MOST_MULTIPLE: u64 = 65_536;
+pub(crate) const MOST_MULTIPLE: u64 = 65_536;
 
 /// Whether an alignment or a divisor may be so.
 pub(super) fn is_multiple(number: u64) -> bool

@@ -26,7 +26,8 @@ fn has_only_heap_bytes(text: &str) -> bool
     text.as_bytes().iter().all(|byte| is_heap_byte(*byte))
 }
 
-fn is_heap_type(text: &str) -> bool
+/// Whether the type of a heap may be so.
+pub(crate) fn is_heap_type(text: &str) -> bool
     ensures { result ≡ is_heap_type text.now }
 {
     1 <= text.len() && text.len() <= 128 && has_only_heap_bytes(text)
@@ -63,7 +64,8 @@ fn permitted_heap(alloc: Global, object: &Value) -> Result<Heap, Fault>
     heap_name_of(alloc, object)
 }
 
-fn has_permitted(heaps: &[Heap], new: &Heap) -> bool
+/// Whether one of the heaps has the same type and id.
+pub(crate) fn has_permitted(heaps: &[Heap], new: &Heap) -> bool
     ensures { result ≡ has_permitted heaps.now new.now }
 {
     heaps.iter().any(|heap| *heap == *new)

@@ -47,7 +47,8 @@ fn domains_in(list: &[Value]) -> Result<CoherencyDomains, Fault>
     Ok(domains)
 }
 
-fn has_domains(domains: CoherencyDomains) -> bool
+/// Whether there is some domain.
+pub(crate) fn has_domains(domains: CoherencyDomains) -> bool
     ensures { result ≡ has_domains domains }
 {
     domains.cpu || domains.ram || domains.inaccessible
@@ -94,7 +95,8 @@ fn heap_of(alloc: Global, object: &Value) -> Result<HeapInfo, Fault>
     })
 }
 
-fn has_heap(heaps: &[HeapInfo], new: &HeapInfo) -> bool
+/// Whether one of the heaps has the same type and id.
+pub(crate) fn has_heap(heaps: &[HeapInfo], new: &HeapInfo) -> bool
     ensures { result ≡ has_heap heaps.now new.now }
 {
     heaps.iter().any(|heap| heap.heap == new.heap)

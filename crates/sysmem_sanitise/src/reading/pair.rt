@@ -44,7 +44,8 @@ fn pair_of(object: &Value) -> Result<Pair, Fault>
     })
 }
 
-fn has_pair(pairs: &[Pair], new: Pair) -> bool
+/// Whether one of the pairs is the same.
+pub(crate) fn has_pair(pairs: &[Pair], new: Pair) -> bool
     ensures { result ≡ has_pair pairs.now new }
 {
     pairs.iter().any(|pair| is_same(*pair, new))
@@ -56,7 +57,8 @@ fn is_same(a: Pair, b: Pair) -> bool
     a.format as u32 == b.format as u32 && a.modifier as u32 == b.modifier as u32
 }
 
-fn is_tiled_misfit(pair: Pair) -> bool
+/// Whether a tiled modifier is with a format that isn't of 4 bytes.
+pub(crate) fn is_tiled_misfit(pair: Pair) -> bool
     ensures { result ≡ is_tiled_misfit pair }
 {
     sysmem_formats::is_tiled_misfit(pair)
@@ -89,7 +91,8 @@ pub(super) fn pairs_of(alloc: Global, value: &Value) -> Result<Vec<Pair>, Fault>
     Ok(pairs)
 }
 
-fn lists_colour(colours: &[ColourSpace], new: ColourSpace) -> bool
+/// Whether the colour space is among these.
+pub(crate) fn lists_colour(colours: &[ColourSpace], new: ColourSpace) -> bool
     ensures { result ≡ lists_colour colours.now new }
 {
     colours.contains(&new)

@@ -2,7 +2,7 @@
 
 ghost use Rattle.std.specs.Prelude.{◌≡◌};
 ghost use Rattle.serde_json.specs.View.{view, items_view};
-ghost use Rattle.sysmem_sanitise.specs.Reading.Constraints.{no_usage, with_family, usage_of};
+ghost use Rattle.sysmem_sanitise.specs.Reading.Constraints.{is_usage, no_usage, with_family, usage_of};
 ghost use Rattle.sysmem_sanitise.specs.Reading.Fields.{read_each};
 
 use super::field::{list_of, text_of};
@@ -30,12 +30,19 @@ fn families_of(list: &[Value]) -> Result<Usage, Fault>
     Ok(usage)
 }
 
+/// Whether some families are `none` alone, or others.
+pub(crate) fn is_usage(usage: Usage) -> bool
+    ensures { result ≡ is_usage usage }
+{
+    usage == Usage::NONE || (!usage.is_empty() && !usage.contains(Usage::NONE))
+}
+
 /// A list of families that isn't empty: none alone, or others. A repeated family counts once.
 pub(super) fn usage_of(value: &Value) -> Result<Usage, Fault>
     ensures { result ≡ usage_of (view value.now) }
 {
     let usage = families_of(list_of(value, Field::Usage)?)?;
-    if usage == Usage::NONE || (!usage.is_empty() && !usage.contains(Usage::NONE)) {
+    if is_usage(usage) {
         Ok(usage)
     } else {
         Err(Fault::of(Code::BadUsage, Field::Usage))
