@@ -1,0 +1,3 @@
+mod Corners
+mod Lists
+mod Writable

@@ -1,0 +1,19 @@
+-- Lists that are made item by item.
+use Rattle.std.proofs.Common.{◌≡◌, ℕ, ◌+◌, ◌<◌, ◌≤◌, List, [], ◌∷◌, ◌++◌, length, get_or, take, sym, ap, ◌∙◌, subst, arith}
+use Rattle.std.specs.List.{AllZip}
+use Rattle.std.proofs.lemmas.List.{take_more, take_all}
+use Rattle.std.proofs.lemmas.Slice.Zip.{all_zipped_more}
+
+-- one more of two lists whose items are related
+pub zip-more : {A B : Type 0} (R : A → B → Type 0) (xs : List A) (ys zs : List B) (i : ℕ) (d : A) (y : B) → i < length xs
+    → AllZip R (take i xs) ys → R (get_or xs i d) y → zs ≡ ys ++ y ∷ [] → AllZip R (take (i + 1) xs) zs
+zip-more R xs ys zs i d y within before holds made =
+    subst (λ l. AllZip R l zs) (sym (take_more xs i d within)) (subst (λ l. AllZip R (take i xs ++ get_or xs i d ∷ []) l) (sym made) (all_zipped_more R (take i xs) ys (get_or xs i d) y before holds))
+
+-- what holds of those so far and one more
+pub so-more : {X : Type 0} (P : List X → Type 0) (xs : List X) (i : ℕ) (x : X) → i < length xs → x ≡ get_or xs i x → P (take i xs ++ x ∷ []) → P (take (i + 1) xs)
+so-more P xs i x within is holds = subst P (sym (take_more xs i x within ∙ ap (λ y. take i xs ++ y ∷ []) (sym is))) holds
+
+-- what holds of all, of as many as there are or more
+pub so-all : {X : Type 0} (P : List X → Type 0) (xs : List X) (i : ℕ) → length xs ≤ i → P xs → P (take (i + 1) xs)
+so-all P xs i over holds = subst P (sym (take_all (i + 1) xs (omega (arith, over)))) holds

@@ -1,0 +1,29 @@
+-- With one more there are settings, or none.
+use Rattle.std.proofs.Common.{arith, take, false}
+use Rattle.sysmem_merge.specs.Aggregate.{StandsFor}
+use Rattle.sysmem_merge.specs.Best.{IsBest, IsUnmet}
+use Rattle.sysmem_merge.specs.Reasons.{IsFirstReason}
+use Rattle.flat_negotiation.proofs.Lists.{so-more}
+use Rattle.flat_negotiation.proofs.settling.stop_of.Goals as goal
+
+pub returns-in-Err : goal.returns-in-Err
+returns-in-Err c =
+    let asked = c.args.asked.now in
+    let platform = c.args.platform.now in
+    let stands = c.in_ok-add.ensures.ok platform (take c.loop-who.who asked) c.loop-who.invariant.0 in
+    record {
+      who = c.loop-who-test.true;
+      shared = c.loop-who.invariant.2;
+      unmet = so-more (λ l. IsUnmet false platform l) asked c.loop-who.who c.index-asked-who.result c.loop-who-test.true c.index-asked-who.is (c.in-Err.ensures.none platform _ stands);
+      reason = so-more (λ l. IsFirstReason false platform l c.in-Err.reason) asked c.loop-who.who c.index-asked-who.result c.loop-who-test.true c.index-asked-who.is (c.in-Err.ensures.reason platform _ stands);
+    }
+
+pub loop-who-preserved : goal.loop-who-preserved
+loop-who-preserved c =
+    let asked = c.args.asked.now in
+    let platform = c.args.platform.now in
+    let stands = c.in_ok-add.ensures.ok platform (take c.loop-who.who asked) c.loop-who.invariant.0 in (
+      so-more (λ l. StandsFor c.add.new.self platform l) asked c.loop-who.who c.index-asked-who.result c.loop-who-test.true c.index-asked-who.is stands,
+      omega (arith, c.in_ok-add.ensures.grows, c.loop-who.invariant.1),
+      so-more (λ l. IsBest false platform l c.in-Ok.settings) asked c.loop-who.who c.index-asked-who.result c.loop-who-test.true c.index-asked-who.is (c.in-Ok.ensures.best platform _ stands),
+    )

@@ -1,0 +1,5 @@
+pub mod Blame
+pub mod Refusals
+pub mod Said
+pub mod Unsettled
+pub mod Written

@@ -1,0 +1,18 @@
+//! A list of participants without groups, from the structs of a C program: the best settings for all of them, or who is in
+//! the way.
+#![tactic(auto)]
+
+mod blaming;
+mod flat;
+mod negotiating;
+mod refusal;
+mod said;
+mod settling;
+mod unsettled;
+mod written;
+
+pub use flat::{FlatImage, FlatRefusal, FlatSettings};
+pub use negotiating::negotiate;
+pub use refusal::refusal_of;
+pub use unsettled::{Refusal, Stop, Unsettled};
+pub use written::settings_of;

@@ -1,0 +1,100 @@
+//! The best settings of a list, or where it stops having some.
+
+ghost use Rattle.std.specs.Prelude.{◌≡◌, ◌≤◌, length, true, IfErr, IfOk};
+ghost use Rattle.sysmem_merge.specs.Aggregate.{StandsFor};
+ghost use Rattle.sysmem_merge.specs.Best.{IsBest, IsUnmet};
+ghost use Rattle.sysmem_merge.specs.Reasons.{IsFirstReason};
+ghost use Rattle.flat_negotiation.specs.Blame.{IsStop};
+ghost use Rattle.flat_negotiation.specs.Unsettled.{AreUnmet};
+
+use crate::blaming::blamed_field;
+use crate::unsettled::{Refusal, Stop, Unsettled};
+use std::alloc::{AllocError, Global};
+use sysmem_merge::{Aggregate, Reason, Settings};
+use sysmem_sanitise::{Constraints, Platform};
+
+/// What is kept of all of a list.
+fn aggregate_of<'p>(
+    alloc: Global,
+    platform: &'p Platform,
+    asked: &[Constraints],
+) -> Result<Aggregate<'p>, AllocError>
+    requires { length asked.now ≤ 1024 }
+    ensures { IfOk result (λ aggregate. StandsFor aggregate platform.now asked.now) }
+{
+    let mut aggregate = Aggregate::new(alloc, platform)?;
+    for index in 0..asked.len() {
+        aggregate.add(&asked[index])?;
+    }
+    Ok(aggregate)
+}
+
+/// Where a list stops having settings that meet it, for a list that has none, for this reason.
+fn stop_of(
+    alloc: Global,
+    platform: &Platform,
+    asked: &[Constraints],
+    reason: Reason,
+) -> Result<Stop, AllocError>
+    requires few { length asked.now ≤ 1024 }
+    requires unmet { IsUnmet true platform.now asked.now }
+    requires reason { IsFirstReason true platform.now asked.now reason }
+    ensures { IfOk result (IsStop platform.now asked.now) }
+{
+    let mut aggregate = Aggregate::new(alloc, platform)?;
+    let mut shared = aggregate.best_settings(false).ok();
+    for who in 0..asked.len() {
+        aggregate.add(&asked[who])?;
+        match aggregate.best_settings(false) {
+            Ok(settings) => shared = Some(settings),
+            Err(reason) => {
+                return Ok(Stop {
+                    who,
+                    whole: false,
+                    reason,
+                    shared,
+                });
+            }
+        }
+    }
+    Ok(Stop {
+        who: asked.len(),
+        whole: true,
+        reason,
+        shared,
+    })
+}
+
+/// The best settings for all of a list of at most 1,024 participants. It fails where memory is refused, and where there are
+/// none.
+pub(crate) fn settled(
+    alloc: Global,
+    platform: &Platform,
+    asked: &[Constraints],
+) -> Result<Settings, Unsettled>
+    requires { length asked.now ≤ 1024 }
+    ensures best { IfOk result (IsBest true platform.now asked.now) }
+    ensures unmet { IfErr result (AreUnmet platform.now asked.now) }
+{
+    let aggregate = aggregate_of(alloc, platform, asked)?;
+    match aggregate.best_settings(true) {
+        Ok(settings) => Ok(settings),
+        Err(reason) => Err(refused(alloc, platform, asked, reason)),
+    }
+}
+
+/// Who is in the way of a list that has no settings, for this reason.
+fn refused(alloc: Global, platform: &Platform, asked: &[Constraints], reason: Reason) -> Unsettled
+    requires few { length asked.now ≤ 1024 }
+    requires unmet { IsUnmet true platform.now asked.now }
+    requires reason { IsFirstReason true platform.now asked.now reason }
+    ensures { AreUnmet platform.now asked.now result }
+{
+    match stop_of(alloc, platform, asked, reason) {
+        Ok(stop) => Unsettled::Unmet(Refusal {
+            stop,
+            field: blamed_field(platform, asked, &stop),
+        }),
+        Err(_) => Unsettled::NoMemory,
+    }
+}
