@@ -5,7 +5,7 @@ FILE ?= examples/one_participant.json
 # third less processor time than several.
 JOBS ?= $(shell awk -v n=$$(nproc) '/^MemAvailable/ { m = int($$2 / 4000000); print m < 1 ? 1 : m < n ? m : n }' /proc/meminfo)
 
-.PHONY: run proved test program-test built-test wrong-bodies bench
+.PHONY: run proved test program-test built-test wrong-bodies bench lib install lib-test
 
 # Runs a script: with the proved program where `make proved` has built it, else without proving.
 run:
@@ -39,6 +39,20 @@ built-test:
 	tests/want_of_memory
 	tests/handles
 	tests/threads
+	@$(MAKE) --no-print-directory lib-test
+
+# The library for C, C++ and Python, proved, as an archive and as a shared object, in out/. It needs a C compiler and binutils.
+lib:
+	c/archive
+	@$(MAKE) --no-print-directory -f c/lib.mk
+
+# Installs it with its header and its pkg-config file under PREFIX.
+install: lib
+	@$(MAKE) --no-print-directory -f c/lib.mk install
+
+# Tests of the library as installed (they need compilers of C and C++, Python and pkg-config).
+lib-test:
+	tests/library
 
 # Wrong bodies beyond those of the gate, each of which the prover must refuse. Of a crate the functions that they change are checked, and the crates below it are built.
 wrong-bodies:

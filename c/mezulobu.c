@@ -1,0 +1,149 @@
+/* The face of the proved exports: null pointers become what these take, which is no null pointer. */
+#include "mezulobu.h"
+#include <stdlib.h>
+#include <string.h>
+
+uint32_t mezulobu_rt_run(const uint8_t *, size_t, uint8_t *, size_t, size_t *);
+uint32_t mezulobu_rt_run_with_proof(const uint8_t *, size_t, uint8_t *, size_t, size_t *, uint8_t *, size_t, size_t *);
+uint32_t mezulobu_rt_check(const uint8_t *, size_t, const uint8_t *, size_t, uint8_t *, size_t, size_t *);
+uint32_t mezulobu_rt_check_status(const uint8_t *, size_t, const uint8_t *, size_t);
+uint32_t mezulobu_rt_planes(uint32_t, uint64_t, uint32_t, uint32_t, struct mezulobu_layout *);
+uint32_t mezulobu_rt_negotiate(const struct mezulobu_platform *, const struct mezulobu_participant *, size_t,
+                               struct mezulobu_settings *, struct mezulobu_refusal *);
+
+/* Bytes that may be null where there are none. */
+static int lacks(const void *bytes, size_t size) { return !bytes && size; }
+
+/* A buffer with its size, which are null together where the caller wants no such text. */
+static int lacks_room(const void *buffer, const size_t *size) { return size ? lacks(buffer, *size) : buffer != NULL; }
+
+int mezulobu_run(const void *script, size_t script_size, char *text, size_t *text_size,
+                 void *certificate, size_t *certificate_size)
+{
+    uint8_t none[3];
+    if (lacks(script, script_size) || !text_size || lacks_room(text, text_size)
+        || lacks_room(certificate, certificate_size))
+        return MEZULOBU_MISUSED;
+    const uint8_t *in = script ? script : &none[0];
+    uint8_t *out = text ? (uint8_t *)text : &none[1];
+    uint8_t *proof = certificate ? certificate : &none[2];
+    if (!certificate_size)
+        return (int)mezulobu_rt_run(in, script_size, out, *text_size, text_size);
+    return (int)mezulobu_rt_run_with_proof(in, script_size, out, *text_size, text_size,
+                                           proof, *certificate_size, certificate_size);
+}
+
+int mezulobu_check(const void *script, size_t script_size, const void *certificate, size_t certificate_size,
+                   char *text, size_t *text_size)
+{
+    uint8_t none[3];
+    if (lacks(script, script_size) || lacks(certificate, certificate_size) || lacks_room(text, text_size))
+        return MEZULOBU_MISUSED;
+    const uint8_t *in = script ? script : &none[0];
+    const uint8_t *proof = certificate ? certificate : &none[1];
+    uint8_t *out = text ? (uint8_t *)text : &none[2];
+    if (!text_size)
+        return (int)mezulobu_rt_check_status(in, script_size, proof, certificate_size);
+    return (int)mezulobu_rt_check(in, script_size, proof, certificate_size, out, *text_size, text_size);
+}
+
+int mezulobu_planes(uint32_t format, uint64_t modifier, uint32_t pitch, uint32_t height, struct mezulobu_layout *layout)
+{
+    return layout ? (int)mezulobu_rt_planes(format, modifier, pitch, height, layout) : MEZULOBU_MISUSED;
+}
+
+/* What stands for a list without items. */
+static const struct mezulobu_heap no_heap;
+static const struct mezulobu_pair no_pair;
+static const uint32_t no_color;
+static const struct mezulobu_entry no_entry;
+static const struct mezulobu_participant no_participant;
+
+/* A platform without null pointers; 0 where it is misused. */
+static int mend_platform(struct mezulobu_platform *p)
+{
+    if (p->struct_size != sizeof *p || lacks(p->heaps, p->n_heaps) || lacks(p->pairs, p->n_pairs) || lacks(p->colors, p->n_colors))
+        return 0;
+    p->heaps = p->heaps ? p->heaps : &no_heap;
+    p->pairs = p->pairs ? p->pairs : &no_pair;
+    p->colors = p->colors ? p->colors : &no_color;
+    return 1;
+}
+
+/* The same of a participant. */
+static int mend_participant(struct mezulobu_participant *p)
+{
+    if (p->struct_size != sizeof *p || lacks(p->entries, p->n_entries))
+        return 0;
+    for (size_t i = 0; i < p->n_entries; i++)
+        if (p->entries[i].struct_size != sizeof p->entries[i])
+            return 0;
+    p->entries = p->entries ? p->entries : &no_entry;
+    return 1;
+}
+
+static int negotiate_list(const struct mezulobu_platform *platform, struct mezulobu_participant *list, size_t n,
+                          struct mezulobu_settings *settings, struct mezulobu_refusal *refusal)
+{
+    for (size_t i = 0; i < n; i++)
+        if (!mend_participant(&list[i]))
+            return MEZULOBU_MISUSED;
+    return (int)mezulobu_rt_negotiate(platform, n ? list : &no_participant, n, settings, refusal);
+}
+
+int mezulobu_negotiate(const struct mezulobu_platform *platform, const struct mezulobu_participant *participants, size_t n,
+                       struct mezulobu_settings *settings, struct mezulobu_refusal *refusal)
+{
+    struct mezulobu_refusal own = {.struct_size = sizeof own};
+    struct mezulobu_refusal *why = refusal ? refusal : &own;
+    if (!platform || lacks(participants, n) || !settings || settings->struct_size != sizeof *settings || why->struct_size != sizeof *why)
+        return MEZULOBU_MISUSED;
+    struct mezulobu_platform on = *platform;
+    if (!mend_platform(&on))
+        return MEZULOBU_MISUSED;
+    if (n > SIZE_MAX / sizeof *participants)
+        return MEZULOBU_MISUSED;
+    struct mezulobu_participant *list = n ? malloc(n * sizeof *list) : NULL;
+    if (n && !list) {
+        *why = (struct mezulobu_refusal){.struct_size = sizeof *why, .who = MEZULOBU_NOBODY};
+        return MEZULOBU_NO_MEMORY;
+    }
+    if (n)
+        memcpy(list, participants, n * sizeof *list);
+    int status = negotiate_list(&on, list, n, settings, why);
+    free(list);
+    return status;
+}
+
+const char *mezulobu_field_name(uint32_t field)
+{
+    static const char *const names[] = {
+        "usage", "min_buffer_count_for_camping", "min_buffer_count_for_dedicated_slack", "min_buffer_count_for_shared_slack",
+        "min_buffer_count", "max_buffer_count", "buffer_memory_constraints", "image_format_constraints",
+        "min_size_bytes", "max_size_bytes", "physically_contiguous_required", "secure_required",
+        "cpu_domain_supported", "ram_domain_supported", "inaccessible_domain_supported", "permitted_heaps",
+        "pixel_format", "pixel_format_modifier", "pixel_format_and_modifiers", "color_spaces",
+        "min_size", "max_size", "size_alignment", "min_bytes_per_row",
+        "max_bytes_per_row", "bytes_per_row_divisor", "start_offset_divisor", "display_rect_alignment",
+        "required_min_size", "required_max_size", "max_width_times_height", "require_bytes_per_row_at_pixel_boundary",
+        "buffer_count_limit", "unnamed_pixel_format", "unnamed_pixel_format_modifier", "unnamed_color_space",
+        "heaps", "pairs", "heap_type", "id",
+        "contiguous", "secure", "domains",
+    };
+    return field && field <= sizeof names / sizeof names[0] ? names[field - 1] : "?";
+}
+
+const char *mezulobu_status_name(int status)
+{
+    switch (status) {
+    case MEZULOBU_DONE: return "DONE";
+    case MEZULOBU_MISUSED: return "MISUSED";
+    case MEZULOBU_REFUSED: return "REFUSED";
+    case MEZULOBU_NO_MEMORY: return "NO_MEMORY";
+    case MEZULOBU_TOO_SMALL: return "TOO_SMALL";
+    case MEZULOBU_NO: return "NO";
+    default: return "?";
+    }
+}
+
+uint32_t mezulobu_version(void) { return MEZULOBU_VERSION; }

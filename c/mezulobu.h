@@ -1,0 +1,230 @@
+/* mezulobu.h: the shared-buffer negotiator for C and C++. Link with: pkg-config --cflags --libs mezulobu
+ *
+ * No call keeps anything: any thread may call at any time, with memory of its own. No call prints, ends the process, or
+ * touches a file, errno, a signal or the environment. Memory comes from the program's malloc, realloc and free alone, and
+ * each call has freed all of it when it returns. Don't call from a signal handler, nor in the forked child of a process
+ * with threads. Memory that a call writes to may not overlap other memory that it is given. */
+#ifndef MEZULOBU_H
+#define MEZULOBU_H
+
+#include <stddef.h>
+#include <stdint.h>
+#ifndef __cplusplus
+#include <stdbool.h>
+#endif
+
+#ifdef __cplusplus
+extern "C" {
+#endif
+
+#define MEZULOBU_VERSION 0x00010000u /* major 16 bits, minor 16 bits */
+
+/* What a call answers: the exit status that the program has of the same, and 2 and 5 for what only a caller can get wrong. */
+enum mezulobu_status {
+    MEZULOBU_DONE = 0,      /* done; of a check: yes */
+    MEZULOBU_MISUSED = 2,   /* a null pointer where none may be, or a struct_size that this library doesn't know */
+    MEZULOBU_REFUSED = 3,   /* the script or the certificate is refused, or a struct */
+    MEZULOBU_NO_MEMORY = 4, /* memory was refused, to all of it or to a decision */
+    MEZULOBU_TOO_SMALL = 5, /* a buffer is too small; each size says what is needed */
+    MEZULOBU_NO = 6         /* a check: no; a negotiation: no settings meet everybody */
+};
+
+/* ---- Bytes in, bytes out ------------------------------------------------------------------------------------------
+ *
+ * An output has a size, which goes in as the room of its buffer and comes out as the length of its text. Where a text is
+ * longer than its room the status is TOO_SMALL, each size says what its text needs, and no buffer is written to. A buffer
+ * may be null where its room is 0: so call once with room 0 to learn the sizes, or with 64 KiB and again only where that
+ * was too small. The same bytes give the same texts as long as memory isn't refused. Nothing is cut off.
+ *
+ * At NO_MEMORY each size is 0, and no buffer is written to. After a text a buffer is as it was. A text isn't ended by a 0. */
+
+/* Replays a script. At DONE text is its report and, where certificate_size isn't null, certificate proves its decisions.
+ * At REFUSED text is the words of the script's first fault, as `script refused: Q4 at call 7`, and the certificate is of
+ * length 0. Without a certificate, certificate and certificate_size are null. */
+int mezulobu_run(const void *script, size_t script_size,
+                 char *text, size_t *text_size,
+                 void *certificate, size_t *certificate_size);
+
+/* Tests a certificate against a script. At DONE and at NO text is the answer, "yes N\n" or "no Nk domain PATH\n". At
+ * REFUSED it is the words of what is refused: as of a script, or `proof refused`. For the status alone, which is never
+ * TOO_SMALL then, text and text_size are null. */
+int mezulobu_check(const void *script, size_t script_size,
+                   const void *certificate, size_t certificate_size,
+                   char *text, size_t *text_size);
+
+/* ---- A list of participants, without a script -----------------------------------------------------------------------
+ *
+ * Formats are DRM_FORMAT_*, modifiers DRM_FORMAT_MOD_*. In what the caller states, **a number that is 0 says nothing**: what
+ * stands for it is what a record without the field has. So a struct that begins as zeros, as `= {0}`, states nothing, and a
+ * caller fills in what it means. Each struct_size is sizeof of the struct; another size is MISUSED. A list of no items may be
+ * null. Text in brackets is the name of the field in a script's records, where FORMATS says more. */
+
+enum { /* usage: a set, not empty */
+    MEZULOBU_USE_NONE = 1, /* stands alone */
+    MEZULOBU_USE_CPU = 2,
+    MEZULOBU_USE_VULKAN = 4,
+    MEZULOBU_USE_DISPLAY = 8,
+    MEZULOBU_USE_VIDEO = 16
+};
+
+enum { /* colour spaces: a set, and of a platform's list one each */
+    MEZULOBU_SRGB = 1,
+    MEZULOBU_REC601_NTSC = 2,
+    MEZULOBU_REC601_NTSC_FULL_RANGE = 4,
+    MEZULOBU_REC601_PAL = 8,
+    MEZULOBU_REC601_PAL_FULL_RANGE = 16,
+    MEZULOBU_REC709 = 32,
+    MEZULOBU_REC2020 = 64,
+    MEZULOBU_REC2100 = 128,
+    MEZULOBU_COLOR_DO_NOT_CARE = 256 /* in an entry's set alone */
+};
+
+enum { /* coherency domains, as settings and refusals have them */
+    MEZULOBU_COHERENT_CPU = 1,
+    MEZULOBU_COHERENT_RAM = 2,
+    MEZULOBU_COHERENT_INACCESSIBLE = 4
+};
+
+struct mezulobu_size {
+    uint32_t width, height;
+};
+
+/* A heap, which is named by its index in the platform's list. At least one of the three coherency domains is true. */
+struct mezulobu_heap {
+    bool contiguous, secure;
+    bool cpu, ram, inaccessible;
+};
+
+struct mezulobu_pair {
+    uint64_t modifier;
+    uint32_t format;
+    uint32_t reserved;
+};
+
+/* What the allocator offers. Each list is in the order of preference, isn't empty, and has no item twice. */
+struct mezulobu_platform {
+    size_t struct_size;
+    const struct mezulobu_heap *heaps; /* at most 64 */
+    size_t n_heaps;
+    const struct mezulobu_pair *pairs;
+    size_t n_pairs;
+    const uint32_t *colors; /* MEZULOBU_SRGB .. */
+    size_t n_colors;
+};
+
+/* One image format that a participant takes, and its bounds on such images. */
+struct mezulobu_entry {
+    size_t struct_size;
+    uint64_t modifier;          /* not read where any_modifier is true; DRM_FORMAT_MOD_INVALID isn't "any", and is refused */
+    uint32_t format;            /* not read where any_format is true */
+    uint32_t colors;            /* a set, not empty */
+    bool any_format, any_modifier;
+    bool rows_end_at_pixels;    /* [require_bytes_per_row_at_pixel_boundary] */
+    struct mezulobu_size min_size, max_size, size_alignment;
+    uint32_t min_pitch, max_pitch, pitch_divisor, offset_divisor; /* in bytes [min_bytes_per_row .. start_offset_divisor] */
+    struct mezulobu_size display_rect_alignment;
+    struct mezulobu_size required_min_size, required_max_size;
+    uint64_t max_pixels;        /* [max_width_times_height] */
+};
+
+/* What a participant asks for. Without entries it takes every offer. */
+struct mezulobu_participant {
+    size_t struct_size;
+    uint8_t usage;
+    bool contiguous, secure;     /* what the heap must be */
+    bool cpu, ram, inaccessible; /* the coherency domains that it takes; where none is true, cpu */
+    uint32_t camping, dedicated_slack, shared_slack, min_count, max_count;
+    uint64_t min_bytes, max_bytes;
+    uint64_t heaps;              /* bit i: heap i is permitted; 0 permits each */
+    const struct mezulobu_entry *entries;
+    size_t n_entries;
+};
+
+struct mezulobu_plane {
+    uint64_t offset; /* from the buffer's start to the first row, in bytes */
+    uint64_t rows;   /* how many, with what a tile adds */
+    uint32_t pitch;  /* the bytes of a row */
+    uint32_t reserved;
+};
+
+/* Where an image lies in a buffer, as a dma-buf is imported. */
+struct mezulobu_layout {
+    uint64_t bytes; /* of the whole image: no plane ends after them */
+    uint32_t n_planes;
+    uint32_t reserved;
+    struct mezulobu_plane planes[4]; /* in the order of DRM; all 0 where there is none */
+};
+
+/* The smallest image that everybody allows; all of it is 0 where the buffers hold no image. */
+struct mezulobu_image {
+    uint64_t modifier;
+    uint32_t format;
+    uint32_t color; /* MEZULOBU_SRGB .. */
+    uint32_t width, height;
+    struct mezulobu_layout layout;
+};
+
+struct mezulobu_settings {
+    size_t struct_size;
+    uint64_t bytes;     /* the size of each buffer, at least 1 */
+    size_t heap;        /* the index on the platform */
+    uint32_t count;     /* how many buffers: 1 to 128 */
+    uint32_t coherency; /* MEZULOBU_COHERENT_CPU .. */
+    struct mezulobu_image image;
+};
+
+enum mezulobu_kind {                /* of a refusal */
+    MEZULOBU_KIND_PLATFORM = 1,     /* the platform's struct states none */
+    MEZULOBU_KIND_PARTICIPANT = 2,  /* that of the participant who states none */
+    MEZULOBU_KIND_TOO_MANY = 3,     /* more than 1,024 participants */
+    MEZULOBU_KIND_COUNT = 4,        /* no number of buffers suits those up to who */
+    MEZULOBU_KIND_PLACES = 5,       /* each place is refused by one of those up to who */
+    MEZULOBU_KIND_OFFERS = 6        /* no offer suits those up to who */
+};
+
+#define MEZULOBU_NOBODY SIZE_MAX
+
+/* Why there are no settings. At REFUSED (the first three kinds) field is what is amiss in a struct, and index the item of its
+ * list. At NO the participants before who can share settings, and those up to who can't: who is the first with whom there are
+ * none. What those before would share first is heap and coherency, and format, modifier and color, all 0 without an image; of
+ * PLACES field is what who refuses that place for, of OFFERS the first line of the conflict table that is true of that offer
+ * for those up to who. who is NOBODY where all can share settings but for a name of the image that nobody gives. */
+struct mezulobu_refusal {
+    size_t struct_size;
+    size_t who;
+    size_t index;
+    size_t heap;
+    uint64_t modifier;
+    uint32_t format;
+    uint32_t color;
+    uint32_t coherency;
+    uint32_t kind;  /* enum mezulobu_kind */
+    uint32_t field; /* mezulobu_field_name tells its name; 0 is none */
+    uint32_t reserved;
+};
+
+/* The best settings for n participants on a platform. DONE: settings. NO: none meet them all, and refusal says who is in the
+ * way. REFUSED: a struct states nothing that could be meant, and refusal says whose and which field. NO_MEMORY: refusal has kind
+ * 0. MISUSED. settings is written at DONE alone, refusal at NO, REFUSED and NO_MEMORY; it may be null. */
+int mezulobu_negotiate(const struct mezulobu_platform *platform,
+                       const struct mezulobu_participant *participants, size_t n,
+                       struct mezulobu_settings *settings, struct mezulobu_refusal *refusal);
+
+/* The name of a refusal's field, as "max_size"; "?" of a number that is none. */
+const char *mezulobu_field_name(uint32_t field);
+
+/* The layout of an image with rows of pitch bytes in the first plane, its height in pixels. DONE; REFUSED where there is no
+ * such format or modifier here, where tiles don't go with the format, or where the bytes don't fit 64 bits: layout is as it
+ * was then. MISUSED. */
+int mezulobu_planes(uint32_t format, uint64_t modifier, uint32_t pitch, uint32_t height, struct mezulobu_layout *layout);
+
+/* The name of a status, as "TOO_SMALL"; "?" of a number that is none. */
+const char *mezulobu_status_name(int status);
+
+/* The version of the library, as MEZULOBU_VERSION is that of the header. */
+uint32_t mezulobu_version(void);
+
+#ifdef __cplusplus
+}
+#endif
+#endif

@@ -1,0 +1,4 @@
+pub mod Ends
+pub mod Negotiated
+pub mod Says
+pub mod Words

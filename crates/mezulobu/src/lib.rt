@@ -1,0 +1,175 @@
+//! The negotiator for C: the bytes of a script in, the bytes of its report and of its certificate out; and a list of participants
+//! as structs in, their settings as a struct out.
+//!
+//! `c/mezulobu.c` is what a program calls: it turns null pointers into what these functions take.
+#![tactic(auto)]
+
+mod buffer;
+mod told;
+mod words;
+
+ghost use Rattle.std.specs.Prelude.{◌≡◌, ◌⊎◌, ℕ, List};
+ghost use Rattle.mezulobu.specs.Ends.{Ends, EndsBoth};
+ghost use Rattle.flat_parts.specs.Layout.{IsLayout, IsNoLayout};
+ghost use Rattle.mezulobu.specs.Negotiated.{Negotiates, status_of};
+ghost use Rattle.mezulobu.specs.Says.{CheckSays, ProvedRunSays, RunSays};
+
+use crate::buffer::{hand_out, hand_out_both};
+use crate::told::{check_told, proved_run_told, run_told};
+use flat_negotiation::{FlatRefusal, FlatSettings, Unsettled, negotiate, refusal_of, settings_of};
+use flat_parts::{FlatLayout, FlatParticipant, FlatPlatform, layout_of};
+use std::alloc::Global;
+
+const DONE: u32 = 0;
+
+const REFUSED: u32 = 3;
+
+const NO_MEMORY: u32 = 4;
+
+const TOO_SMALL: u32 = 5;
+
+const NO: u32 = 6;
+
+/// Replays a script: the text is its report, or the words of its first fault.
+#[unsafe(no_mangle)]
+pub extern "C" fn mezulobu_rt_run(
+    alloc: Global,
+    script: &[u8],
+    text: &mut [u8],
+    size: &mut usize,
+) -> u32
+    ensures { Ends (RunSays script.now) text.old text.new size.new result }
+{
+    let Ok(told) = run_told(alloc, script) else {
+        *size = 0;
+        return NO_MEMORY;
+    };
+    *size = told.text.len();
+    if hand_out(&told.text, text) {
+        told.status
+    } else {
+        TOO_SMALL
+    }
+}
+
+/// Replays a script, and hands out the certificate of its decisions too.
+#[unsafe(no_mangle)]
+pub extern "C" fn mezulobu_rt_run_with_proof(
+    alloc: Global,
+    script: &[u8],
+    text: &mut [u8],
+    size: &mut usize,
+    certificate: &mut [u8],
+    certificate_size: &mut usize,
+) -> u32
+    ensures { EndsBoth (ProvedRunSays script.now) text.old text.new
+        certificate.old certificate.new size.new certificate_size.new result }
+{
+    let Ok(told) = proved_run_told(alloc, script) else {
+        *size = 0;
+        *certificate_size = 0;
+        return NO_MEMORY;
+    };
+    *size = told.text.len();
+    *certificate_size = told.certificate.len();
+    if hand_out_both(&told.text, text, &told.certificate, certificate) {
+        told.status
+    } else {
+        TOO_SMALL
+    }
+}
+
+/// Tests a certificate against a script: the text is the answer, or the words of what is refused.
+#[unsafe(no_mangle)]
+pub extern "C" fn mezulobu_rt_check(
+    alloc: Global,
+    script: &[u8],
+    certificate: &[u8],
+    text: &mut [u8],
+    size: &mut usize,
+) -> u32
+    ensures { Ends (CheckSays script.now certificate.now) text.old text.new size.new result }
+{
+    let Ok(told) = check_told(alloc, script, certificate) else {
+        *size = 0;
+        return NO_MEMORY;
+    };
+    *size = told.text.len();
+    if hand_out(&told.text, text) {
+        told.status
+    } else {
+        TOO_SMALL
+    }
+}
+
+/// The same for a caller who wants the status alone.
+#[unsafe(no_mangle)]
+pub extern "C" fn mezulobu_rt_check_status(alloc: Global, script: &[u8], certificate: &[u8]) -> u32
+    ensures { (result ≡ 4)
+        ⊎ ((text : List ℕ) × CheckSays script.now certificate.now result text) }
+{
+    match check_told(alloc, script, certificate) {
+        Ok(told) => told.status,
+        Err(_) => NO_MEMORY,
+    }
+}
+
+/// The best settings for a list of participants, or who is in the way.
+#[unsafe(no_mangle)]
+pub extern "C" fn mezulobu_rt_negotiate(
+    alloc: Global,
+    platform: &FlatPlatform<'_>,
+    participants: &[FlatParticipant<'_>],
+    settings: &mut FlatSettings,
+    refusal: &mut FlatRefusal,
+) -> u32
+    ensures { Negotiates platform.now participants.now settings.old settings.new
+        refusal.old refusal.new result }
+{
+    match negotiate(alloc, platform, participants) {
+        Ok(settled) => {
+            *settings = settings_of(settings.struct_size, &settled);
+            DONE
+        }
+        Err(unsettled) => {
+            *refusal = refusal_of(refusal.struct_size, &unsettled);
+            status_of(&unsettled)
+        }
+    }
+}
+
+/// The status of why there are no settings.
+fn status_of(unsettled: &Unsettled) -> u32
+    ensures { result ≡ status_of unsettled.now }
+{
+    match unsettled {
+        Unsettled::NoMemory => NO_MEMORY,
+        Unsettled::TooMany => REFUSED,
+        Unsettled::Platform(_) => REFUSED,
+        Unsettled::Participant(_, _) => REFUSED,
+        Unsettled::Unmet(_) => NO,
+    }
+}
+
+/// The planes of an image of a format and a modifier, by their codes, with rows of `pitch` bytes and its height in pixels.
+#[unsafe(no_mangle)]
+pub extern "C" fn mezulobu_rt_planes(
+    format: u32,
+    modifier: u64,
+    pitch: u32,
+    height: u32,
+    layout: &mut FlatLayout,
+) -> u32
+    ensures known { (result ≡ 0) ⊎ (result ≡ 3) }
+    ensures done { result ≡ 0 → IsLayout format modifier pitch height layout.new }
+    ensures refused { result ≡ 3 → IsNoLayout format modifier pitch height }
+    ensures kept { result ≡ 3 → layout.new ≡ layout.old }
+{
+    match layout_of(format, modifier, pitch, height) {
+        Some(planes) => {
+            *layout = planes;
+            DONE
+        }
+        None => REFUSED,
+    }
+}
