@@ -142,8 +142,8 @@ def flat_participant(p):
 def random_platform(r):
     heaps = []
     for i in range(r.randint(1, 3)):
-        heaps.append({"heap_type": "heap", "id": i, "contiguous": r.random() < 0.5, "secure": r.random() < 0.2})
-        heaps[-1]["domains"] = r.sample(DOMAINS, r.randint(1, 3))
+        heaps.append({"heap_type": "heap", "id": i, "contiguous": r.random() < 0.5, "secure": r.random() < 0.05})
+        heaps[-1]["domains"] = r.sample(DOMAINS, r.choice([1, 2, 3, 3]))
     formats = r.sample(list(FORMATS), r.randint(1, 4))
     pairs = [{"pixel_format": f, "pixel_format_modifier": "LINEAR"} for f in formats]
     if r.random() < 0.4:
@@ -156,7 +156,7 @@ def sides(r, least, most):
 
 
 def random_entry(r, platform, asked):
-    pair = r.choice(platform["pairs"])
+    pair = platform["pairs"][0] if r.random() < 0.6 else r.choice(platform["pairs"])
     e = {"pixel_format": pair["pixel_format"], "pixel_format_modifier": pair["pixel_format_modifier"]}
     if r.random() < 0.15:
         e["pixel_format"] = "DO_NOT_CARE"
@@ -165,22 +165,22 @@ def random_entry(r, platform, asked):
     if (e["pixel_format"], e["pixel_format_modifier"]) in asked:
         return None
     asked.add((e["pixel_format"], e["pixel_format_modifier"]))
-    e["color_spaces"] = r.choice([platform["color_spaces"], ["DO_NOT_CARE"], r.sample(COLORS, 2)])
+    e["color_spaces"] = r.choice([platform["color_spaces"], platform["color_spaces"], ["DO_NOT_CARE"], r.sample(COLORS, 2)])
     some = {"min_size": sides(r, 1, 300), "max_size": sides(r, 100, 4000), "size_alignment": {"width": r.choice([1, 2, 16]), "height": r.choice([1, 4, 6])}}
     some |= {"min_bytes_per_row": r.randint(1, 3000), "max_bytes_per_row": r.randint(500, 9000), "bytes_per_row_divisor": r.choice([1, 6, 64, 256])}
     some |= {"start_offset_divisor": r.choice([1, 64, 4096]), "display_rect_alignment": sides(r, 1, 4), "required_min_size": sides(r, 100, 400)}
     some |= {"required_max_size": sides(r, 1, 300), "max_width_times_height": r.randint(10000, 10**7), "require_bytes_per_row_at_pixel_boundary": True}
-    return e | {name: some[name] for name in some if r.random() < 0.25}
+    return e | {name: some[name] for name in some if r.random() < 0.2}
 
 
 def random_participant(r, platform):
-    p = {"usage": r.choice([["none"], r.sample(USAGE[1:], r.randint(1, 3))])}
+    p = {"usage": r.choice([["none"], r.sample(USAGE[1:], r.choice([1, 1, 2, 3]))])}
     p |= {name: r.randint(1, 4) for name in list(COUNTS)[:4] if r.random() < 0.4}
     if r.random() < 0.2:
-        p["max_buffer_count"] = r.randint(3, 20)
-    memory = {f"{name}_domain_supported": True for name in r.sample(DOMAINS, r.randint(1, 3))}
+        p["max_buffer_count"] = r.randint(5, 40)
+    memory = {f"{name}_domain_supported": True for name in r.sample(DOMAINS, r.choice([1, 2, 3, 3]))}
     memory = {f"{name}_domain_supported": False for name in DOMAINS} | memory
-    memory |= {name: True for name in ("physically_contiguous_required", "secure_required") if r.random() < 0.1}
+    memory |= {name: True for name in ("physically_contiguous_required", "secure_required") if r.random() < 0.03}
     if r.random() < 0.2:
         memory["min_size_bytes"] = r.randint(1, 10**6)
     if r.random() < 0.1:

@@ -1,5 +1,5 @@
-// refuse_each NAME ..: runs each NAME.json with its certificate, and checks that, while one allocation after the other is refused: the
-// status is NO_MEMORY, no buffer is written to, and nothing stays allocated. The last line is 'N passed, M failed'.
+// refuse_each NAME ..: runs each NAME.json with its certificate, checks that, and negotiates two lists, while one allocation after the other
+// is refused: the status is NO_MEMORY, no text and no settings are written, and nothing stays allocated. The last line is 'N passed, M failed'.
 #include "mezulobu.h"
 #include <stdio.h>
 #include <stdlib.h>
@@ -77,9 +77,45 @@ static int call(int checks, size_t n, size_t m)
     return status == MEZULOBU_NO_MEMORY && !size && (checks || !other_size) && is_empty(text, 512) && is_empty(other, 512) ? 1 : -1;
 }
 
+static const struct mezulobu_heap heaps[] = {{.cpu = true}, {.contiguous = true, .cpu = true, .ram = true}};
+static const struct mezulobu_pair pairs[] = {{.format = 0x34324241}, {.format = 0x3231564e}};
+static const uint32_t colors[] = {MEZULOBU_SRGB, MEZULOBU_REC709};
+static const struct mezulobu_platform platform = {sizeof platform, heaps, 2, pairs, 2, colors, 2};
+static const struct mezulobu_entry entry = {.struct_size = sizeof entry, .format = 0x3231564e, .colors = MEZULOBU_REC709};
+static const struct mezulobu_entry other_entry = {.struct_size = sizeof entry, .format = 0x34324241, .colors = MEZULOBU_SRGB};
+static const struct mezulobu_participant participants[] = {
+    {.struct_size = sizeof participants[0], .usage = MEZULOBU_USE_VIDEO, .camping = 2, .heaps = 2, .entries = &entry, .n_entries = 1},
+    {.struct_size = sizeof participants[0], .usage = MEZULOBU_USE_CPU, .entries = &entry, .n_entries = 1},
+    {.struct_size = sizeof participants[0], .usage = MEZULOBU_USE_CPU, .entries = &other_entry, .n_entries = 1},
+};
+
+// The same of a negotiation of the first participants, which ends so where no allocation is refused.
+static int negotiate(size_t n, int wanted)
+{
+    struct mezulobu_settings s = {.struct_size = sizeof s}, before = s;
+    struct mezulobu_refusal r = {.struct_size = sizeof r};
+    met = held = 0;
+    counts = 1;
+    int status = mezulobu_negotiate(&platform, participants, n, &s, &r);
+    counts = 0;
+    if (held)
+        return -1;
+    if (met < refused)
+        return status == wanted ? 0 : -1;
+    return status == MEZULOBU_NO_MEMORY && !memcmp(&s, &before, sizeof s) && !r.kind && r.who == MEZULOBU_NOBODY ? 1 : -1;
+}
+
 int main(int count, char **names)
 {
     long passed = 0, failed = 0;
+    for (size_t n = 2; n <= 3; n++) {
+        int came = 1;
+        for (refused = 1; came == 1; refused++)
+            came = negotiate(n, n == 2 ? MEZULOBU_DONE : MEZULOBU_NO);
+        came || refused < 10 ? failed++ : passed++;
+        if (came)
+            printf("library: another answer: a list of %zu: allocation %ld refused\n", n, refused - 1);
+    }
     for (int i = 1; i < count; i++) {
         size_t n = content(script, sizeof script, names[i], ".json"), m = content(proof, sizeof proof, names[i], ".proof");
         for (int checks = 0; checks < 2; checks++) {
