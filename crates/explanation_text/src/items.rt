@@ -64,7 +64,7 @@ impl Items {
         Ok(())
     }
 
-    /// Puts words with a label behind the list.
+    /// Puts words with a label after the list.
     pub fn say(
         &mut self,
         depth: usize,
@@ -74,7 +74,7 @@ impl Items {
         self.push(Kind::Words, depth, label, text)
     }
 
-    /// Puts all of another list behind this one.
+    /// Puts all of another list after this one.
     pub fn append(&mut self, others: Items) -> Result<(), AllocError> {
         for item in others.list {
             self.list.push(item)?;

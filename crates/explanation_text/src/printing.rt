@@ -19,7 +19,7 @@ pub fn text_of(alloc: Global, items: &[Item]) -> Result<String, AllocError> {
     Ok(text)
 }
 
-/// Puts an item behind the text, and keeps how far what stands below it is indented.
+/// Puts an item after the text, and keeps how far what stands below it is indented.
 fn put_item(text: &mut String, indents: &mut Vec<usize>, item: &Item) -> Result<(), AllocError> {
     let indent = match item.depth.checked_sub(1) {
         Some(above) => indents.get(above).copied().unwrap_or(2),
@@ -47,7 +47,7 @@ fn put_item(text: &mut String, indents: &mut Vec<usize>, item: &Item) -> Result<
     }
 }
 
-/// How many columns an item's label takes, with the space behind it.
+/// How many columns an item's label takes, with the space after it.
 fn label_width(item: &Item) -> usize {
     if item.label.is_empty() {
         return 0;
@@ -76,7 +76,7 @@ fn put_label(text: &mut String, item: &Item, label: usize) -> Result<(), AllocEr
     put_repeated(text, ' ', label.saturating_sub(width_of(item.label)))
 }
 
-/// Puts lines behind the text, each behind some spaces.
+/// Puts lines after the text, each after some spaces.
 fn put_source(text: &mut String, indent: usize, source: &str) -> Result<(), AllocError> {
     for line in source.lines() {
         put_repeated(text, ' ', indent)?;
@@ -86,14 +86,14 @@ fn put_source(text: &mut String, indent: usize, source: &str) -> Result<(), Allo
     Ok(())
 }
 
-/// Puts words behind the text, broken at spaces; a name stays with its path.
+/// Puts words after the text, broken at spaces; a name stays with its path.
 fn put_words(
     text: &mut String,
     indent: usize,
     label: usize,
     words: &str,
 ) -> Result<(), AllocError> {
-    let behind = indent.saturating_add(label.max(2));
+    let inner = indent.saturating_add(label.max(2));
     let most = WIDTH
         .saturating_sub(indent)
         .saturating_sub(label)
@@ -109,7 +109,7 @@ fn put_words(
         let needed = used.saturating_add(width).saturating_add(path);
         if 0 < k && needed >= most && !word.starts_with('/') {
             text.push_str("\n")?;
-            put_repeated(text, ' ', behind)?;
+            put_repeated(text, ' ', inner)?;
             used = width;
         } else if 0 < k {
             text.push_str(" ")?;

@@ -15,7 +15,7 @@ const BEFORE: usize = 24;
 /// How wide what helps may be.
 const HELP: usize = 88;
 
-/// A part of a text, what stands behind its line and column, and what is said of it.
+/// A part of a text, what stands after its line and column, and what is said of it.
 #[derive(Clone, Copy)]
 pub struct Mark<'a> {
     pub span: Span,
@@ -31,7 +31,7 @@ struct Window {
     carets: usize,
 }
 
-/// Puts a part of a text with carets below it behind the items.
+/// Puts a part of a text with carets below it after the items.
 pub fn show(
     items: &mut Items,
     depth: usize,
@@ -45,7 +45,7 @@ pub fn show(
     items.push(Kind::Source, depth, "", text)
 }
 
-/// Puts where a part stands, its line, carets with a note below it, and what helps behind a text.
+/// Puts where a part stands, its line, carets with a note below it, and what helps after a text.
 fn put_snippet(
     text: &mut String,
     file: &str,
@@ -89,7 +89,7 @@ fn put_helps(text: &mut String, width: usize, helps: &[String]) -> Result<(), Al
     Ok(())
 }
 
-/// Puts what helps behind a text, broken at spaces.
+/// Puts what helps after a text, broken at spaces.
 fn put_help(text: &mut String, width: usize, help: &str) -> Result<(), AllocError> {
     let mut used = 0usize;
     for word in help.split(' ') {
@@ -166,7 +166,7 @@ fn cut(
     })
 }
 
-/// Puts bytes behind a text, as characters that can be seen.
+/// Puts bytes after a text, as characters that can be seen.
 fn put_part(text: &mut String, bytes: &[u8]) -> Result<(), AllocError> {
     let lossy = String::from_utf8_lossy(*text.allocator(), bytes)?;
     put_visible(text, &lossy)

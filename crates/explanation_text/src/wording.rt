@@ -6,7 +6,7 @@ use std::fmt::Write;
 /// How many names one list has; one more is shown rather than counted.
 pub const MOST_NAMES: usize = 4;
 
-/// Puts the names behind the text, as `a, b and c`.
+/// Puts the names after the text, as `a, b and c`.
 pub fn put_joined(text: &mut String, names: &[&str], word: &str) -> Result<(), AllocError> {
     let last = names.len().saturating_sub(1);
     for (k, name) in names.iter().enumerate() {
@@ -23,7 +23,7 @@ pub fn put_joined(text: &mut String, names: &[&str], word: &str) -> Result<(), A
     Ok(())
 }
 
-/// Puts at most so many of the names behind the text, and counts the others: `a, b and 3 more`.
+/// Puts at most so many of the names after the text, and counts the others: `a, b and 3 more`.
 pub fn put_few(text: &mut String, names: &[&str], most: usize) -> Result<(), AllocError> {
     if names.len() <= most.saturating_add(1) {
         return put_joined(text, names, "and");
@@ -38,7 +38,7 @@ pub fn put_few(text: &mut String, names: &[&str], most: usize) -> Result<(), All
     write!(text, " and {more} more")
 }
 
-/// Puts a count with its word behind the text: `1 call`, `2 calls`.
+/// Puts a count with its word after the text: `1 call`, `2 calls`.
 pub fn put_count(text: &mut String, count: usize, one: &str, many: &str) -> Result<(), AllocError> {
     let word = if count == 1 { one } else { many };
     write!(text, "{count} {word}")
@@ -57,7 +57,7 @@ fn is_unseen(c: char) -> bool {
     )
 }
 
-/// Puts a text behind another, each of its characters as one that can be seen: a tab as a space, and others as U+FFFD.
+/// Puts a text after another, each of its characters as one that can be seen: a tab as a space, and others as U+FFFD.
 pub fn put_visible(text: &mut String, source: &str) -> Result<(), AllocError> {
     for c in source.chars() {
         if c == '\t' {
@@ -71,7 +71,7 @@ pub fn put_visible(text: &mut String, source: &str) -> Result<(), AllocError> {
     Ok(())
 }
 
-/// Puts so many of a character behind the text.
+/// Puts so many of a character after the text.
 pub fn put_repeated(text: &mut String, c: char, times: usize) -> Result<(), AllocError> {
     for _i in 0..times {
         text.push(c)?;

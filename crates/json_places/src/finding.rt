@@ -8,6 +8,7 @@ ghost use Rattle.json_places.specs.Places.{IsPlaceOf, IsSpelling};
 
 use crate::keys::{Span, Step, is_spelled};
 use crate::machine::Machine;
+use crate::path::value_at;
 use crate::taken::{Halt, Mark};
 use serde_json::Value;
 use std::alloc::{AllocError, Global};
@@ -145,15 +146,18 @@ fn found_at<'a>(
     Ok(finder.found)
 }
 
-/// Where this value, which is the one at a path, stands in a text. `None`: not there, by the path or by what the text spells there.
+/// Where the value at a path stands in a text that spells this value. `None`: there is none at the path, or it isn't found.
 pub fn span_of<'a>(
     alloc: Global,
     bytes: &'a [u8],
     path: &'a [Step<'a>],
-    value: &Value,
+    whole: &Value,
 ) -> Result<Option<Span>, AllocError>
-    ensures { IfOk result (λ found. IfSome found (IsPlaceOf bytes.now (view value.now))) }
+    ensures { IfOk result (λ span. IfSome span (IsPlaceOf bytes.now path.now (view whole.now))) }
 {
+    let Some(value) = value_at(whole, path) else {
+        return Ok(None);
+    };
     let Some(found) = found_at(alloc, bytes, path)? else {
         return Ok(None);
     };

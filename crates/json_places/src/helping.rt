@@ -26,7 +26,7 @@ pub(crate) fn help_of(
             plain(alloc, "keys stand in objects, and this is one")
         }
         Expected::CommaOrBrace | Expected::CommaOrBracket => {
-            help_behind_value(alloc, machine, bytes, at, byte)
+            help_after_value(alloc, machine, bytes, at, byte)
         }
         Expected::End => plain(alloc, "one JSON value is complete before this"),
         Expected::Text => help_in_text(alloc, machine, bytes),
@@ -41,7 +41,7 @@ fn plain(alloc: Global, words: &str) -> Result<String, AllocError> {
     String::from_str(alloc, words)
 }
 
-/// Puts where a byte stands behind the words.
+/// Puts where a byte stands after the words.
 fn put_place(words: &mut String, bytes: &[u8], at: usize) -> Result<(), AllocError> {
     let line = if at <= bytes.len() {
         line_of(bytes, at)
@@ -132,8 +132,8 @@ fn help_of_key(bytes: &[u8], at: usize, byte: u8) -> &'static str {
     }
 }
 
-/// Behind a value, where a comma or the bracket that ends what is open is due.
-fn help_behind_value(
+/// After a value, where a comma or the bracket that ends what is open is due.
+fn help_after_value(
     alloc: Global,
     machine: &Machine,
     bytes: &[u8],

@@ -220,7 +220,7 @@ impl Machine {
         }
     }
 
-    /// What is due behind a value.
+    /// What is due after a value.
     fn due_after(&self) -> Expected {
         match self.open.last() {
             None => Expected::End,
@@ -312,7 +312,7 @@ impl Machine {
         self.wrong()
     }
 
-    /// A byte behind a complete value.
+    /// A byte after a complete value.
     fn after(&mut self, at: usize, byte: u8) -> Result<Mark, Halt> {
         if is_space(byte) {
             return Ok(Mark::Nothing);

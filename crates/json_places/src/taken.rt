@@ -12,7 +12,7 @@ pub enum Expected {
     Value,
     /// A key, in quotes.
     Key,
-    /// The colon behind a key.
+    /// The colon after a key.
     Colon,
     /// A comma, or the end of the object.
     CommaOrBrace,
@@ -22,11 +22,11 @@ pub enum Expected {
     End,
     /// A digit of a number.
     Digit,
-    /// No digit, behind a first 0.
+    /// No digit, after a first 0.
     NoDigit,
     /// Four hexadecimal digits of an escape.
     Hex,
-    /// What may stand behind a backslash.
+    /// What may stand after a backslash.
     Escape,
     /// A further character of a string, or its end.
     Text,
@@ -45,7 +45,7 @@ pub enum Expected {
 }
 
 impl Expected {
-    /// In words, behind "expected".
+    /// In words, after "expected".
     pub fn words(self) -> &'static str {
         match self {
             Expected::Value => "a value",

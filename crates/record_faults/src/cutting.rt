@@ -1,7 +1,7 @@
 //! Records with a list cut off, by which the item with a fault is found.
 
-use crate::paths::{Path, value_at};
-use json_places::Step;
+use crate::paths::Path;
+use json_places::{Step, value_at};
 use serde_json::Value;
 use std::alloc::{AllocError, Global};
 use std::fmt::Write;
@@ -84,7 +84,7 @@ impl Narrowing {
     }
 
     /// The index of the last item of the shortest front, of at least `least` items, with which the list at a path has the fault, and cuts
-    /// the list behind it; `None` where that front is empty, or the fault isn't there. Longer fronts have it too, so halving finds it.
+    /// the list after it; `None` where that front is empty, or the fault isn't there. Longer fronts have it too, so halving finds it.
     pub(crate) fn item(
         &mut self,
         path: &[Step<'_>],
@@ -112,7 +112,7 @@ impl Narrowing {
         Ok(high.checked_sub(1))
     }
 
-    /// The path of the faulty item of the list at a path, with the rest behind it; or the path itself.
+    /// The path of the faulty item of the list at a path, with the rest after it; or the path itself.
     pub(crate) fn in_list<'a>(
         &mut self,
         path: Path<'a>,

@@ -1,8 +1,8 @@
 //! A script's text with the value that it spells, and pointing at a part of it.
 
-use crate::paths::{Path, put_path, value_at};
+use crate::paths::{Path, put_path};
 use explanation_text::{Items, Kind, Mark, show};
-use json_places::{Span, Step, key_span_of, span_of};
+use json_places::{Span, Step, key_span_of, span_of, value_at};
 use serde_json::Value;
 use std::alloc::{AllocError, Global};
 
@@ -41,10 +41,7 @@ impl<'a> Document<'a> {
         if part == Part::Key {
             return key_span_of(alloc, self.bytes, path);
         }
-        let Some(value) = self.at(path) else {
-            return Ok(None);
-        };
-        span_of(alloc, self.bytes, path, value)
+        span_of(alloc, self.bytes, path, self.value)
     }
 
     /// How the value at a path is written.
@@ -55,7 +52,7 @@ impl<'a> Document<'a> {
         }
     }
 
-    /// Puts a part of the text with carets below it, a note, and what helps behind the items.
+    /// Puts a part of the text with carets below it, a note, and what helps after the items.
     pub fn point(
         &self,
         items: &mut Items,
@@ -84,7 +81,7 @@ impl<'a> Document<'a> {
         self.show(items, depth, span, &said, note, helps)
     }
 
-    /// The same of a part that is known, with what stands behind its line and column.
+    /// The same of a part that is known, with what stands after its line and column.
     pub fn show(
         &self,
         items: &mut Items,

@@ -1,12 +1,12 @@
 //! Where what a list has twice stands first.
 
-use crate::paths::{put_path, value_at, with};
-use json_places::Step;
+use crate::paths::{put_path, with};
+use json_places::{Step, value_at};
 use serde_json::Value;
 use std::alloc::AllocError;
 use sysmem_sanitise::Code;
 
-/// Puts where the value at a path, which its list has twice, stands first behind a text, if it is found.
+/// Puts where the value at a path, which its list has twice, stands first after a text, if it is found.
 pub(crate) fn put_first_like(
     text: &mut String,
     script: &Value,

@@ -2,7 +2,6 @@
 
 use explanation_text::wording::put_visible;
 use json_places::Step;
-use serde_json::Value;
 use std::alloc::{AllocError, Global};
 use std::fmt::Write;
 
@@ -19,7 +18,7 @@ pub fn with<'a>(alloc: Global, path: &[Step<'a>], step: Step<'a>) -> Result<Path
     Ok(longer)
 }
 
-/// A path with further steps behind it.
+/// A path with further steps after it.
 pub(crate) fn joined<'a>(
     alloc: Global,
     path: &[Step<'a>],
@@ -30,19 +29,7 @@ pub(crate) fn joined<'a>(
     Ok(longer)
 }
 
-/// The value at a path from this one.
-pub(crate) fn value_at<'a>(value: &'a Value, path: &[Step<'_>]) -> Option<&'a Value> {
-    let mut at = value;
-    for step in path {
-        at = match *step {
-            Step::Key(key) => at.get(key)?,
-            Step::Item(index) => at.get(index)?,
-        };
-    }
-    Some(at)
-}
-
-/// Puts a path behind a text: `calls[4].constraints.usage[0]`, or `the script`.
+/// Puts a path after a text: `calls[4].constraints.usage[0]`, or `the script`.
 pub(crate) fn put_path(text: &mut String, path: &[Step<'_>]) -> Result<(), AllocError> {
     if path.is_empty() {
         return text.push_str("the script");
@@ -61,7 +48,7 @@ pub(crate) fn put_path(text: &mut String, path: &[Step<'_>]) -> Result<(), Alloc
     Ok(())
 }
 
-/// Puts a key behind a text, the front of it where it is long.
+/// Puts a key after a text, the front of it where it is long.
 fn put_key(text: &mut String, key: &str) -> Result<(), AllocError> {
     let mut front = String::new(*text.allocator());
     for c in key.chars().take(MOST) {

@@ -3,8 +3,8 @@
 use crate::cutting::Narrowing;
 use crate::keys::{ENTRY, HEAP_NAME, MEMORY, PAIR, is_one_of};
 use crate::names::MODIFIERS_OR_ANY;
-use crate::paths::{Path, value_at, with};
-use json_places::Step;
+use crate::paths::{Path, with};
+use json_places::{Step, value_at};
 use serde_json::Value;
 use std::alloc::{AllocError, Global};
 use sysmem_sanitise::Fault;
@@ -36,7 +36,7 @@ pub(crate) fn place_of(
     Ok(vec![in alloc; Step::Key(at)]?)
 }
 
-/// The faulty item of the list that is a member of the record, with the rest behind it.
+/// The faulty item of the list that is a member of the record, with the rest after it.
 fn in_member(
     alloc: Global,
     cut: Narrowing,
