@@ -98,10 +98,7 @@ fn put_words(
         .saturating_sub(indent)
         .saturating_sub(label)
         .saturating_sub(2);
-    let mut parts: Vec<&str> = Vec::new(*text.allocator());
-    for word in words.split(' ') {
-        parts.push(word)?;
-    }
+    let parts: Vec<&str> = words.split(' ').collect(*text.allocator())?;
     let mut used = 0usize;
     for (k, word) in parts.iter().enumerate() {
         let width = width_of(word);

@@ -6,7 +6,6 @@ use json_places::{
     Span, begins_character, characters, column_of, end_of_line, line_of, start_of_line,
 };
 use std::alloc::{AllocError, Global};
-use std::fmt::Write;
 
 /// How many characters of a line are shown.
 const ROOM: usize = 84;

@@ -1,7 +1,6 @@
 //! Lists of names and counts, in words.
 
 use std::alloc::AllocError;
-use std::fmt::Write;
 
 /// How many names one list has; one more is shown rather than counted.
 pub const MOST_NAMES: usize = 4;
