@@ -4,7 +4,6 @@ use crate::paths::Path;
 use json_places::{Step, value_at};
 use serde_json::Value;
 use std::alloc::{AllocError, Global};
-use std::fmt::Write;
 use sysmem_sanitise::{Code, Fault, read_constraints, read_platform};
 
 /// A copy of a value in which the list at a path has its first items alone, as many as are said.

@@ -1,7 +1,12 @@
 //! A script's text with the value that it spells, and pointing at a part of it.
 
+ghost use Rattle.std.specs.Prelude.{◌≡◌, ◌≢◌, IfOk, IfSome, option_map};
+ghost use Rattle.serde_json.specs.View.{view};
+ghost use Rattle.json_places.specs.Places.{IsPlaceOf, value_on};
+ghost use Rattle.record_faults.specs.declared.document.Part.TheVariants.{Key};
+
 use crate::paths::{Path, put_path};
-use explanation_text::{Items, Kind, Mark, show};
+use explanation_text::{Items, Mark, show};
 use json_places::{Span, Step, key_span_of, span_of, value_at};
 use serde_json::Value;
 use std::alloc::{AllocError, Global};
@@ -27,7 +32,10 @@ pub enum Part {
 
 impl<'a> Document<'a> {
     /// The value at a path.
-    pub fn at(&self, path: &[Step<'_>]) -> Option<&'a Value> {
+    pub fn at(&self, path: &[Step<'_>]) -> Option<&'a Value>
+        ensures { option_map (λ found. view found.now) result
+            ≡ value_on path.now (view self.now.value.now) }
+    {
         value_at(self.value, path)
     }
 
@@ -37,7 +45,10 @@ impl<'a> Document<'a> {
         alloc: Global,
         path: &[Step<'_>],
         part: Part,
-    ) -> Result<Option<Span>, AllocError> {
+    ) -> Result<Option<Span>, AllocError>
+        ensures { part ≢ Key → IfOk result (λ span. IfSome span
+            (IsPlaceOf self.now.bytes.now path.now (view self.now.value.now))) }
+    {
         if part == Part::Key {
             return key_span_of(alloc, self.bytes, path);
         }

@@ -5,7 +5,7 @@ use serde_json::{Number, Value};
 use std::alloc::{AllocError, Global};
 
 /// What a value is, in words.
-pub(crate) fn kind_of(value: &Value) -> &'static str {
+fn kind_of(value: &Value) -> &'static str {
     match value {
         Value::Null => "null",
         Value::Bool(true) => "true",

@@ -3,7 +3,6 @@
 use explanation_text::nearest;
 use explanation_text::wording::put_joined;
 use std::alloc::{AllocError, Global};
-use std::fmt::Write;
 
 pub(crate) const USAGES: &[&str] = &["none", "cpu", "vulkan", "display", "video"];
 

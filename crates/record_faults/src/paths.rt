@@ -3,7 +3,6 @@
 use explanation_text::wording::put_visible;
 use json_places::Step;
 use std::alloc::{AllocError, Global};
-use std::fmt::Write;
 
 /// How many characters of a key are shown.
 const MOST: usize = 60;

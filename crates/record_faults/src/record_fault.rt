@@ -6,7 +6,7 @@ use crate::keys::{
     CONSTRAINTS, Due, ENTRY, HEAP_NAME, MEMORY, PAIR, PLATFORM, PLATFORM_HEAP, SIZE, allowed,
     due_at, is_one_of,
 };
-use crate::kinds::{is_number_within, kind_of, wrong_number, wrong_value};
+use crate::kinds::{is_number_within, wrong_kind, wrong_number, wrong_value};
 use crate::names::hint_of_name;
 use crate::paths::{Path, joined, with};
 use crate::record_place::place_of;
@@ -264,39 +264,55 @@ fn of_list<'a>(
     path: Path<'a>,
     value: &'a Value,
 ) -> Result<Said<'a>, AllocError> {
-    let at = faulty.fault.at.name();
     let is_empty = matches!(value.as_array(), Some(list) if list.is_empty());
-    let note = match faulty.fault.code {
-        Code::NotAnObject => {
-            let kind = kind_of(value);
-            format!(in alloc; "{kind}, where an object is due")?
-        }
-        Code::TooMany => String::from_str(alloc, "the 65th")?,
-        Code::TiledMisfit => {
-            String::from_str(alloc, "a tiled modifier doesn't go with this format")?
-        }
-        _ if is_empty => String::from_str(alloc, "the list is empty")?,
-        Code::BadUsage => String::from_str(alloc, "none stands alone")?,
-        _ => String::from_str(alloc, "given before")?,
-    };
-    let helps = match faulty.fault.code {
-        Code::NotAnObject => Vec::new(alloc),
-        Code::TooMany => needed(alloc, "allowed", "at most 64")?,
-        Code::TiledMisfit => needed(
-            alloc,
-            "tiles go with formats of 4 bytes",
-            "R8G8B8A8, B8G8R8A8, R8G8B8X8 and B8G8R8X8",
-        )?,
-        Code::BadUsage => needed(alloc, "allowed", allowed("usage", false))?,
-        _ if is_empty => needed(alloc, "needed", allowed(at, faulty.is_platform))?,
-        code => first_like(alloc, faulty, &path, code)?,
-    };
+    let note = note_of_list(alloc, faulty.fault.code, value, is_empty)?;
+    let helps = helps_of_list(alloc, faulty, &path, is_empty)?;
     Ok(Said {
         path,
         part: Part::Value,
         note,
         helps,
     })
+}
+
+/// What is wrong with a list, with one of its items, or with what stands for an object.
+fn note_of_list(
+    alloc: Global,
+    code: Code,
+    value: &Value,
+    is_empty: bool,
+) -> Result<String, AllocError> {
+    let note = match code {
+        Code::NotAnObject => return wrong_kind(alloc, value, "an object is"),
+        Code::TooMany => "the 65th",
+        Code::TiledMisfit => "a tiled modifier doesn't go with this format",
+        _ if is_empty => "the list is empty",
+        Code::BadUsage => "none stands alone",
+        _ => "given before",
+    };
+    String::from_str(alloc, note)
+}
+
+/// What helps there.
+fn helps_of_list(
+    alloc: Global,
+    faulty: Faulty<'_, '_>,
+    path: &[Step<'_>],
+    is_empty: bool,
+) -> Result<Vec<String>, AllocError> {
+    let at = faulty.fault.at.name();
+    match faulty.fault.code {
+        Code::NotAnObject => Ok(Vec::new(alloc)),
+        Code::TooMany => needed(alloc, "allowed", "at most 64"),
+        Code::TiledMisfit => needed(
+            alloc,
+            "tiles go with formats of 4 bytes",
+            "R8G8B8A8, B8G8R8A8, R8G8B8X8 and B8G8R8X8",
+        ),
+        Code::BadUsage => needed(alloc, "allowed", allowed("usage", false)),
+        _ if is_empty => needed(alloc, "needed", allowed(at, faulty.is_platform)),
+        code => first_like(alloc, faulty, path, code),
+    }
 }
 
 /// Where what is given twice stands first, and which names count as equal.

@@ -6,8 +6,7 @@ use explanation_text::{Items, Kind, Mark, nearest, show};
 use json_places::{Span, Step, stop_of};
 use record_faults::{Document, Part, first_unknown, key_of, one, tell_record_fault, wrong_kind};
 use script_reading::{LONGEST, ScriptFault};
-use std::alloc::{AllocError, Global};
-use std::fmt::Write;
+use std::alloc::AllocError;
 
 /// Tells why a script is refused, and where.
 pub fn tell_fault<'a>(
