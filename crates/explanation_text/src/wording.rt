@@ -49,10 +49,15 @@ fn is_unseen(c: char) -> bool {
         u32::from(c),
         0..=0x1F
             | 0x7F..=0x9F
+            | 0xAD
+            | 0x61C
+            | 0x180E
             | 0x200B..=0x200F
             | 0x2028..=0x202E
             | 0x2060..=0x206F
             | 0xFEFF
+            | 0xFFF9..=0xFFFB
+            | 0xE0000..=0xE007F
     )
 }
 
