@@ -1,12 +1,18 @@
 //! Single changes that make an empty decision one that chooses, found by trying each.
 
+ghost use Rattle.std.specs.Prelude.{◌≡◌, map, IfOk, IfSome};
+ghost use Rattle.std.specs.String.{string_bytes};
+ghost use Rattle.serde_json.specs.View.{view};
+ghost use Rattle.script_reading.specs.Seen.{call_seen};
+ghost use Rattle.script_story.specs.Told.{IsReportedOn};
+ghost use Rattle.explain.specs.Edited.{IsPromised, stating};
+
 use constraint_edits::{EDITS, Edit, Halving, edited};
 use explanation_text::{Items, Kind};
 use script_reading::{Act, Call};
-use script_story::{Setting, Story, told_of};
+use script_story::{Setting, Story};
 use serde_json::Value;
 use std::alloc::{AllocError, Global};
-use sysmem_sanitise::read_constraints;
 use value_sources::Asked;
 
 /// How many changes are told.
@@ -60,11 +66,14 @@ fn try_edit(
         if search.count >= MOST || search.tried >= TRIES {
             break;
         }
+        let Some(number) = story.deed(one.node, &["set_constraints"]) else {
+            continue;
+        };
         let trial = Trial {
             setting,
-            story,
             path,
-            node: one.node,
+            name: story.name(one.node),
+            place: number.saturating_sub(1),
         };
         try_change(search, trial, one, edit)?;
     }
@@ -96,15 +105,7 @@ fn try_change(
         line,
     };
     let least = trial.least(alloc, value, edit, found)?;
-    let words = least.words.as_str();
-    put_change(
-        &mut search.found,
-        trial.story,
-        one.node,
-        label,
-        words,
-        least.line,
-    )
+    put_change(&mut search.found, trial, label, least)
 }
 
 fn put_head(items: &mut Items, count: usize, tried: usize) -> Result<(), AllocError> {
@@ -117,19 +118,23 @@ fn put_head(items: &mut Items, count: usize, tried: usize) -> Result<(), AllocEr
     items.say(1, "change", text)
 }
 
+/// Puts a change that was tried, and what it gives.
 fn put_change(
     items: &mut Items,
-    story: &Story<'_>,
-    node: usize,
+    trial: Trial<'_, '_>,
     label: &'static str,
-    words: &str,
-    line: String,
-) -> Result<(), AllocError> {
-    let name = story.name(node);
-    let number = story.deed(node, &["set_constraints"]).unwrap_or(0);
+    found: Found,
+) -> Result<(), AllocError>
+    requires { IsPromised trial.setting.now.platform.now
+        (map call_seen trial.setting.now.calls.now) trial.place trial.path.now
+        (string_bytes found.line) }
+{
+    let name = trial.name;
+    let number = trial.place.saturating_add(1);
+    let words = found.words.as_str();
     let text = format!(in items.alloc(); "{name} (call {number}): {words}")?;
     items.say(2, label, text)?;
-    items.push(Kind::Decision, 3, "->", line)
+    items.push(Kind::Decision, 3, "->", found.line)
 }
 
 /// A change that helps, with the decision that comes then.
@@ -143,27 +148,24 @@ struct Found {
 #[derive(Clone, Copy)]
 struct Trial<'a, 'b> {
     setting: &'b Setting<'a>,
-    story: &'b Story<'a>,
     path: &'b str,
-    node: usize,
+    /// The participant's name.
+    name: &'b str,
+    /// The place of the call that states its constraints, from 0.
+    place: usize,
 }
 
 impl Trial<'_, '_> {
     /// What the domain becomes where the participant states these constraints, if it is chosen then.
-    fn outcome(&self, alloc: Global, value: &Value) -> Result<Option<String>, AllocError> {
-        if read_constraints(alloc, value).is_err() {
-            return Ok(None);
-        }
-        let number = self
-            .story
-            .deed(self.node, &["set_constraints"])
-            .unwrap_or(0);
-        let calls = replaced(alloc, self.setting.calls, number, value)?;
-        let told = self.setting.tell(alloc, &calls)?;
-        match told_of(told.report.text.as_str(), self.path) {
-            Some(line) if line.starts_with("chosen ") => {
-                Ok(Some(String::from_str(alloc, line)?))
-            }
+    fn outcome(&self, alloc: Global, value: &Value) -> Result<Option<String>, AllocError>
+        ensures { IfOk result (λ said. IfSome said (λ what. IsReportedOn
+            self.now.setting.now.platform.now (stating (map call_seen
+            self.now.setting.now.calls.now) self.now.place (view value.now)) self.now.path.now
+            (string_bytes what))) }
+    {
+        let calls = replaced(alloc, self.setting.calls, self.place, value)?;
+        match self.setting.outcome(alloc, &calls, self.path)? {
+            Some(line) if line.as_str().starts_with("chosen ") => Ok(Some(line)),
             _ => Ok(None),
         }
     }
@@ -175,7 +177,14 @@ impl Trial<'_, '_> {
         value: &Value,
         edit: Edit,
         found: Found,
-    ) -> Result<Found, AllocError> {
+    ) -> Result<Found, AllocError>
+        requires { IsPromised self.now.setting.now.platform.now
+            (map call_seen self.now.setting.now.calls.now) self.now.place self.now.path.now
+            (string_bytes found.line) }
+        ensures { IfOk result (λ best. IsPromised self.now.setting.now.platform.now
+            (map call_seen self.now.setting.now.calls.now) self.now.place self.now.path.now
+            (string_bytes best.line)) }
+    {
         let mut best = found;
         let Some(mut halving) = Halving::of(value, edit, &best.line) else {
             return Ok(best);
@@ -200,18 +209,19 @@ impl Trial<'_, '_> {
     }
 }
 
-/// The calls, of which that of a number states these constraints.
+/// The calls, of which that at a place states these constraints.
 fn replaced<'a>(
     alloc: Global,
     calls: &[Call<'a>],
-    number: usize,
+    place: usize,
     value: &'a Value,
-) -> Result<Vec<Call<'a>>, AllocError> {
+) -> Result<Vec<Call<'a>>, AllocError>
+    ensures { IfOk result (λ made.
+        map call_seen made.items ≡ stating (map call_seen calls.now) place (view value.now)) }
+{
     let mut copy = Vec::from_slice(alloc, calls)?;
-    if let Some(index) = number.checked_sub(1) {
-        if let Some(call) = copy.get_mut(index) {
-            call.act = Act::SetConstraints(Some(value));
-        }
+    if place < copy.len() {
+        copy[place].act = Act::SetConstraints(Some(value));
     }
     Ok(copy)
 }

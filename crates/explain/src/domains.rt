@@ -177,7 +177,7 @@ fn put_title(items: &mut Items, story: &Story<'_>, domain: &Domain<'_>) -> Resul
 
 /// The report's line on a domain.
 fn put_line(items: &mut Items, domain: &Domain<'_>) -> Result<(), AllocError> {
-    let line = String::from_str(items.alloc(), domain.told())?;
+    let line = String::from_str(items.alloc(), domain.told)?;
     items.push(Kind::Decision, 1, "told", line)
 }
 
@@ -225,7 +225,7 @@ fn who(alloc: Global, story: &Story<'_>, node: usize) -> Result<String, AllocErr
     Ok(text)
 }
 
-/// Puts the usage that a call states behind a text.
+/// Puts the usage that a call states after a text.
 fn put_usage(text: &mut String, story: &Story<'_>, number: usize) -> Result<(), AllocError> {
     let Some(call) = story.call(number) else {
         return Ok(());

@@ -3,7 +3,7 @@
 use explanation_text::wording::{MOST_NAMES, put_count, put_few};
 use explanation_text::{Items, Kind};
 use script_reading::{Act, Call};
-use script_story::{Setting, Story, put_domain, told_of};
+use script_story::{Setting, Story, put_domain};
 use std::alloc::{AllocError, Global};
 use std::fmt::Write;
 use sysmem_tree::NodeKind;
@@ -134,7 +134,7 @@ fn awaited_of(alloc: Global, story: &Story<'_>, node: usize) -> Result<Awaited, 
     })
 }
 
-/// Puts what an awaited node is behind a text: `a token of call 3 (main)`, without the article.
+/// Puts what an awaited node is after a text: `a token of call 3 (main)`, without the article.
 fn put_what(
     text: &mut String,
     story: &Story<'_>,
@@ -220,14 +220,13 @@ fn tell_without(
     let Some(calls) = without(alloc, setting, story, awaited)? else {
         return Ok(());
     };
-    let told = setting.tell(alloc, &calls)?;
+    let outcome = setting.outcome(alloc, &calls, path)?;
     let mut text = String::from_str(alloc, "with ")?;
     put_ended(&mut text, story, awaited)?;
-    match told_of(told.report.text.as_str(), path) {
-        Some(what) if what != "pending" => {
+    match outcome {
+        Some(line) if line.as_str() != "pending" => {
             text.push_str(" it would be:")?;
             items.say(1, "then", text)?;
-            let line = String::from_str(alloc, what)?;
             items.push(Kind::Decision, 2, "->", line)
         }
         _ => {
@@ -237,7 +236,7 @@ fn tell_without(
     }
 }
 
-/// Puts who would be released and what would be complete behind a text.
+/// Puts who would be released and what would be complete after a text.
 fn put_ended(text: &mut String, story: &Story<'_>, awaited: &[Awaited]) -> Result<(), AllocError> {
     let alloc = *text.allocator();
     let mut gone: Vec<&str> = Vec::new(alloc);
@@ -263,7 +262,7 @@ fn put_ended(text: &mut String, story: &Story<'_>, awaited: &[Awaited]) -> Resul
     Ok(())
 }
 
-/// The script's calls with those behind them that end what is awaited: tokens and collections are
+/// The script's calls with those after them that end what is awaited: tokens and collections are
 /// released, groups complete, the innermost first. `None` where a group has no child.
 fn without<'a>(
     alloc: Global,
@@ -288,7 +287,7 @@ fn is_group(story: &Story<'_>, one: &Awaited) -> bool {
     story.kind_before(one.node, usize::MAX) == NodeKind::Group
 }
 
-/// Puts a call behind the calls for each group that is awaited, and says whether each has a child.
+/// Puts a call after the calls for each group that is awaited, and says whether each has a child.
 fn complete<'a>(
     calls: &mut Vec<Call<'a>>,
     story: &Story<'a>,

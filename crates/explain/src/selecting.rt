@@ -142,7 +142,7 @@ fn tell_group(
     put_case(items, depth, empty.story, group, &names, last)
 }
 
-/// Puts what holds for some children of a group behind the items.
+/// Puts what holds for some children of a group after the items.
 fn put_case(
     items: &mut Items,
     depth: usize,

@@ -8,7 +8,7 @@ use record_faults::{Document, tell_record_fault};
 use script_reading::Act;
 use std::alloc::{AllocError, Global};
 use std::fmt::Write;
-use sysmem_sanitise::{Fault, read_constraints};
+use sysmem_sanitise::{Code, Fault, read_constraints};
 use sysmem_tree::NodeKind;
 use value_sources::put_texts;
 
@@ -117,7 +117,7 @@ fn add_row(
     Ok(())
 }
 
-/// The fault of the constraints that a call states.
+/// The fault of the constraints that a call states, of one that was refused for it.
 fn fault_of(alloc: Global, call: &Made<'_>) -> Result<Option<Fault>, AllocError> {
     let Act::SetConstraints(Some(value)) = call.act else {
         return Ok(None);
@@ -127,6 +127,7 @@ fn fault_of(alloc: Global, call: &Made<'_>) -> Result<Option<Fault>, AllocError>
     }
     match read_constraints(alloc, value) {
         Ok(_) => Ok(None),
+        Err(fault) if matches!(fault.code, Code::WantOfMemory) => Err(AllocError),
         Err(fault) => Ok(Some(fault)),
     }
 }
@@ -160,7 +161,7 @@ fn tell_row<'a>(
     tell_record_fault(items, 2, document, &base, fault, false)
 }
 
-/// Puts which calls they are behind a text: `call 3, bind a`, or `calls 3, 4 and 5`.
+/// Puts which calls they are after a text: `call 3, bind a`, or `calls 3, 4 and 5`.
 fn put_calls(text: &mut String, call: &Made<'_>, numbers: &[usize]) -> Result<(), AllocError> {
     let Some((number, others)) = numbers.split_first() else {
         return Ok(());
@@ -233,7 +234,7 @@ fn cause_of_skipped(
     }
 }
 
-/// Puts a domain with its root's name behind a text: `domain /0 (camera)`.
+/// Puts a domain with its root's name after a text: `domain /0 (camera)`.
 pub fn put_domain(text: &mut String, story: &Story<'_>, root: usize) -> Result<(), AllocError> {
     let path = story.path(root);
     let name = story.name(root);
@@ -317,7 +318,7 @@ fn too_early(
     text.push_str(" still awaited")?;
     if let Some(domain) = story.domain_of(node) {
         let last = domain.ended.unwrap_or(0);
-        write!(text, ": move it behind call {last}")?;
+        write!(text, ": move it after call {last}")?;
     }
     Ok(text)
 }
@@ -360,7 +361,7 @@ fn unbound(
     match story.deed(node, &["bind"]) {
         Some(later) if later > number => {
             format!(in alloc;
-                "{on} is a token until call {later} binds it: move it behind that call"
+                "{on} is a token until call {later} binds it: move it after that call"
             )
         }
         _ => format!(in alloc; "{on} is a token: bind makes it a collection"),

@@ -1,6 +1,9 @@
 //! What a script's calls did, call by call and node by node.
 
-use crate::words::{first_word, told_in};
+ghost use Rattle.std.specs.Prelude.{◌≡◌};
+ghost use Rattle.script_story.specs.Told.{path_at};
+
+use crate::words::first_word;
 use script_reading::Act;
 use std::alloc::{AllocError, Global};
 use sysmem_merge::Settings;
@@ -87,8 +90,8 @@ pub struct Domain<'a> {
     pub root: usize,
     /// The node to which its root was attached, by number; `None` of the initial one.
     pub host: Option<usize>,
-    /// The report's line on it.
-    pub line: &'a str,
+    /// What the report says of it after its path: of a verdict the word, and what was chosen.
+    pub told: &'a str,
     /// The call after which that came; `None` where it has no verdict.
     pub ended: Option<usize>,
     /// The settings that were chosen.
@@ -96,14 +99,9 @@ pub struct Domain<'a> {
 }
 
 impl<'a> Domain<'a> {
-    /// What the report says of it behind its path.
-    pub fn told(&self) -> &'a str {
-        told_in(self.line)
-    }
-
     /// The word of its verdict, or `pending`.
     pub fn verdict(&self) -> &'a str {
-        first_word(self.told())
+        first_word(self.told)
     }
 }
 
@@ -126,7 +124,10 @@ impl<'a> Story<'a> {
         }
     }
 
-    pub fn path(&self, node: usize) -> &str {
+    /// The path of a node, as a report has it; empty where there is no such node.
+    pub fn path(&self, node: usize) -> &str
+        ensures { result.now ≡ path_at self.now.nodes.items node }
+    {
         match self.nodes.get(node) {
             Some(node) => &node.path,
             None => "",

@@ -1,9 +1,14 @@
 //! The story of a script's calls, told from their replay.
 
+ghost use Rattle.std.specs.Prelude.{◌≡◌, All, Contains, [], IfOk, IfSome, List, OnOk, slice_get, ℕ};
+ghost use Rattle.std.specs.Str.Lines.{lines};
+ghost use Rattle.std.specs.String.{string_bytes};
+ghost use Rattle.script_story.specs.Told.{AreTold, IsOn};
+ghost use Rattle.sysmem_tree.specs.Domain.{HasDomain};
 ghost use Rattle.sysmem_tree.specs.Nodes.{HasNode};
 
 use crate::story::{Domain, Made, Node, Story};
-use crate::words::{is_domain_line, path_in, reply_in};
+use crate::words::{first_word, is_domain_line, reply_in, said_on};
 use certificate_text::push_path;
 use script_faults::actor_of;
 use script_reading::Call;
@@ -21,17 +26,18 @@ pub fn story_of<'a>(
     value: &'a Value,
     calls: &[Call<'a>],
     told: &'a Replayed,
-) -> Result<Story<'a>, AllocError> {
-    let tree = told.book().tree();
+) -> Result<Story<'a>, AllocError>
+    ensures { IfOk result (AreTold (lines (string_bytes told.now.report.text))) }
+{
+    let mut nodes = nodes_of(alloc, told.book().tree())?;
+    name_nodes(&mut nodes, calls, told);
     let mut story = Story {
         calls: calls_of(alloc, value, calls, told)?,
-        nodes: nodes_of(alloc, tree)?,
-        domains: Vec::new(alloc),
+        nodes,
+        domains: domains_of(alloc, told.book())?,
         order: Vec::new(alloc),
     };
-    name_nodes(&mut story, calls, told);
-    add_domains(&mut story, told.book())?;
-    read_lines(&mut story, told)?;
+    read_lines(&mut story, &told.report.text)?;
     Ok(story)
 }
 
@@ -109,8 +115,8 @@ fn index_of(tree: &Tree, domain: DomainId) -> usize {
 }
 
 /// Gives each node the name that the script has for it.
-fn name_nodes<'a>(story: &mut Story<'a>, calls: &[Call<'a>], told: &Replayed) {
-    if let Some(root) = story.nodes.first_mut() {
+fn name_nodes<'a>(nodes: &mut [Node<'a>], calls: &[Call<'a>], told: &Replayed) {
+    if let Some(root) = nodes.first_mut() {
         root.name = "root";
     }
     let mut place = 0usize;
@@ -122,32 +128,44 @@ fn name_nodes<'a>(story: &mut Story<'a>, calls: &[Call<'a>], told: &Replayed) {
         let Some(number) = told.node_named(place) else {
             continue;
         };
-        if let Some(node) = story.nodes.get_mut(number as usize) {
+        if let Some(node) = nodes.get_mut(number as usize) {
             node.name = name;
             node.made_by = Some(index.saturating_add(1));
         }
     }
 }
 
-fn add_domains(story: &mut Story<'_>, book: &Book) -> Result<(), AllocError> {
+/// The domains, of which nothing is told yet.
+fn domains_of<'a>(alloc: Global, book: &Book) -> Result<Vec<Domain<'a>>, AllocError>
+    ensures { IfOk result (λ domains. All (λ domain. domain.told.now ≡ []) domains.items) }
+{
     let tree = book.tree();
+    let mut domains = Vec::new(alloc);
     for index in 0..tree.domains() {
         if let Some(domain) = tree.domain_at(index) {
-            let root = tree.root_of(domain);
-            let host = match tree.host_of(domain) {
-                Some(host) => Some(tree.number_of(host) as usize),
-                None => None,
-            };
-            story.domains.push(Domain {
-                root: tree.number_of(root) as usize,
-                host,
-                line: "",
-                ended: None,
-                settings: settings_in(book.verdict_of(domain)),
-            })?;
+            domains.push(domain_of(book, domain))?;
         }
     }
-    Ok(())
+    Ok(domains)
+}
+
+/// A domain of which nothing is told yet.
+fn domain_of<'a>(book: &Book, domain: DomainId) -> Domain<'a>
+    requires { HasDomain book.now.state.tree.nodes domain }
+    ensures { result.told.now ≡ [] }
+{
+    let tree = book.tree();
+    let host = match tree.host_of(domain) {
+        Some(host) => Some(tree.number_of(host) as usize),
+        None => None,
+    };
+    Domain {
+        root: tree.number_of(tree.root_of(domain)) as usize,
+        host,
+        told: "",
+        ended: None,
+        settings: settings_in(book.verdict_of(domain)),
+    }
 }
 
 /// The settings that a verdict chooses.
@@ -159,31 +177,54 @@ fn settings_in(verdict: Option<&Verdict>) -> Option<Settings> {
 }
 
 /// Reads of the report what became of each domain, and after which call.
-fn read_lines<'a>(story: &mut Story<'a>, told: &'a Replayed) -> Result<(), AllocError> {
+fn read_lines<'a>(story: &mut Story<'a>, report: &'a str) -> Result<(), AllocError>
+    requires { AreTold (lines report.now) story.old }
+    ensures { OnOk result (AreTold (lines report.now) story.new) }
+{
     let mut number = 0usize;
-    for line in told.report.text.lines() {
-        if !is_domain_line(line) {
+    for line in report.lines() {
+        if is_domain_line(line) {
+            keep_line(story, line, number)?;
+        } else {
             number = number.saturating_add(1);
-            continue;
         }
-        let Some(index) = domain_at(story, path_in(line)) else {
-            continue;
-        };
-        if let Some(domain) = story.domains.get_mut(index) {
-            domain.line = line;
-            if domain.verdict() != "pending" {
-                domain.ended = Some(number);
-            }
-        }
-        story.order.push(index)?;
     }
     Ok(())
 }
 
-/// The index of the domain whose root is at a path.
-fn domain_at(story: &Story<'_>, path: &str) -> Option<usize> {
-    story
-        .domains
-        .iter()
-        .position(|domain| story.path(domain.root) == path)
+/// Keeps what a line of the report says of a domain, and the call after which it stands.
+fn keep_line<'a>(story: &mut Story<'a>, line: &'a str, number: usize) -> Result<(), AllocError>
+    ensures { OnOk result ((said : List (List ℕ)) → Contains said line.now
+        → AreTold said story.old → AreTold said story.new) }
+{
+    let Some((index, told)) = told_in(story, line) else {
+        return Ok(());
+    };
+    story.order.push(index)?;
+    if index < story.domains.len() {
+        let domain = story.domains[index];
+        let ended = match first_word(told) {
+            "pending" => domain.ended,
+            _ => Some(number),
+        };
+        story.domains[index] = Domain {
+            told,
+            ended,
+            ..domain
+        };
+    }
+    Ok(())
+}
+
+/// The index of the domain of which a line tells, and what it says of it.
+fn told_in<'a>(story: &Story<'_>, line: &'a str) -> Option<(usize, &'a str)>
+    ensures { IfSome result (λ found. IfSome (slice_get story.now.domains.items found.0)
+        (λ domain. IsOn story.now.nodes.items domain line.now found.1.now)) }
+{
+    for (index, domain) in story.domains.iter().enumerate() {
+        if let Some(told) = said_on(line, story.path(domain.root)) {
+            return Some((index, told));
+        }
+    }
+    None
 }

@@ -1,7 +1,10 @@
 //! Words of a report's line.
 
-/// The text behind the first word.
-pub(crate) fn behind_word(text: &str) -> &str {
+ghost use Rattle.std.specs.Prelude.{◌≡◌, IfSome};
+ghost use Rattle.script_story.specs.Told.{line_on};
+
+/// The text after the first word.
+pub(crate) fn after_word(text: &str) -> &str {
     match text.split_once(' ') {
         Some((_, more)) => more,
         None => "",
@@ -15,20 +18,19 @@ pub(crate) fn first_word(text: &str) -> &str {
     }
 }
 
-/// The path of a domain's line.
-pub(crate) fn path_in(line: &str) -> &str {
-    first_word(behind_word(line))
+/// What a line says of the domain at a path; `None` where it tells of something else.
+pub(crate) fn said_on<'a>(line: &'a str, path: &str) -> Option<&'a str>
+    ensures { IfSome result (λ what. line.now ≡ line_on path.now what.now) }
+{
+    let place = line.strip_prefix("domain ")?;
+    let rest = place.strip_prefix(path)?;
+    rest.strip_prefix(" ")
 }
 
-/// What a domain's line says behind its path.
-pub(crate) fn told_in(line: &str) -> &str {
-    behind_word(behind_word(line))
-}
-
-/// The reply in a call's line, behind its number, its name and the name that it is made on, and the name that it makes.
+/// The reply in a call's line, after its number, its name and the name that it is made on, and the name that it makes.
 pub(crate) fn reply_in(line: &str, makes: bool) -> &str {
-    let rest = behind_word(behind_word(behind_word(line)));
-    if makes { behind_word(rest) } else { rest }
+    let rest = after_word(after_word(after_word(line)));
+    if makes { after_word(rest) } else { rest }
 }
 
 pub(crate) fn is_domain_line(line: &str) -> bool {
