@@ -2,7 +2,7 @@
 
 use crate::changes::tell_changes;
 use crate::pending::tell_pending;
-use crate::selecting::{Empty, MOST_TOLD, tell_empty};
+use crate::selecting::{Empty, MOST_TOLD, tell_empty, tell_left_out};
 use explanation_text::{Items, Kind};
 use script_reading::Act;
 use script_story::{Domain, Setting, Story, asked_in, left_out, put_domain};
@@ -79,6 +79,12 @@ fn tell_choice(
         text.push_str(", unchanged: these accept its settings")?;
         return items.say(1, "from", text);
     }
+    let selections = Empty {
+        platform: setting.platform,
+        story,
+        root: domain.root,
+    };
+    tell_left_out(items, selections)?;
     let people = asked_in(alloc, story, index, true)?;
     match &domain.settings {
         Some(settings) => tell_settings(items, setting.platform, &people, settings),

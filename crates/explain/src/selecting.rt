@@ -142,6 +142,48 @@ fn tell_group(
     put_case(items, depth, empty.story, group, &names, last)
 }
 
+/// Tells of each group in a chosen selection why its children before the chosen one aren't chosen.
+pub(crate) fn tell_left_out(items: &mut Items, empty: Empty<'_, '_>) -> Result<(), AllocError> {
+    let alloc = items.alloc();
+    let mut choices: Vec<Choice> = Vec::new(alloc);
+    let mut told = 0usize;
+    for _group in 0..empty.story.nodes.len() {
+        let Some(group) = walk(alloc, empty.story, empty.root, &choices)?.open else {
+            break;
+        };
+        let Some(child) = tell_before(items, empty, &choices, &mut told, group)? else {
+            break;
+        };
+        choices.push(Choice { group, child })?;
+    }
+    Ok(())
+}
+
+/// Tells why the children of a group before the chosen one aren't, and says which that is.
+fn tell_before(
+    items: &mut Items,
+    empty: Empty<'_, '_>,
+    choices: &[Choice],
+    told: &mut usize,
+    group: usize,
+) -> Result<Option<usize>, AllocError> {
+    let alloc = items.alloc();
+    for child in empty.story.children(alloc, group)? {
+        if empty.story.is_selected(child) {
+            return Ok(Some(child));
+        }
+        if *told < MOST_TOLD {
+            let name = empty.story.name(child);
+            let text = format!(in alloc; "not {name}:")?;
+            items.say(2, "", text)?;
+            let mut longer = Vec::from_slice(alloc, choices)?;
+            longer.push(Choice { group, child })?;
+            tell_empty(items, 3, empty, &longer, told, empty.story.nodes.len())?;
+        }
+    }
+    Ok(None)
+}
+
 /// Puts what holds for some children of a group after the items.
 fn put_case(
     items: &mut Items,
