@@ -10,7 +10,7 @@ ghost use Rattle.explain.specs.Edited.{IsPromised, stating};
 use constraint_edits::{EDITS, Edit, Halving, edited};
 use explanation_text::{Items, Kind};
 use script_reading::{Act, Call};
-use script_story::{Setting, Story};
+use script_story::{Deed, Setting, Story};
 use serde_json::Value;
 use std::alloc::{AllocError, Global};
 use value_sources::Asked;
@@ -66,7 +66,7 @@ fn try_edit(
         if search.count >= MOST || search.tried >= TRIES {
             break;
         }
-        let Some(number) = story.deed(one.node, &["set_constraints"]) else {
+        let Some(number) = story.deed(one.node, Deed::SetConstraints) else {
             continue;
         };
         let trial = Trial {

@@ -5,7 +5,7 @@ use crate::pending::tell_pending;
 use crate::selecting::{Empty, MOST_TOLD, tell_empty, tell_left_out};
 use explanation_text::{Items, Kind};
 use script_reading::Act;
-use script_story::{Domain, Setting, Story, asked_in, left_out, put_domain};
+use script_story::{Deed, Domain, Setting, Story, asked_in, left_out, put_domain};
 use serde_json::Value;
 use settings_reasons::{tell_misfits, tell_settings};
 use std::alloc::{AllocError, Global};
@@ -215,11 +215,11 @@ fn who(alloc: Global, story: &Story<'_>, node: usize) -> Result<String, AllocErr
     let name = story.name(node);
     let path = story.path(node);
     let mut text = format!(in alloc; "{name} {path}")?;
-    let Some(number) = story.deed(node, &["set_constraints"]) else {
+    let Some(number) = story.deed(node, Deed::SetConstraints) else {
         return Ok(text);
     };
     let setter = story.actor(number);
-    match story.deed(node, &["bind"]) {
+    match story.deed(node, Deed::Bind) {
         Some(bound) if story.actor(bound) != setter => {
             let binder = story.actor(bound);
             write!(text, " (bound by {binder}, set by {setter}")?;

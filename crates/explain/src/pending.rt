@@ -3,7 +3,7 @@
 use explanation_text::wording::{MOST_NAMES, put_count, put_few};
 use explanation_text::{Items, Kind};
 use script_reading::{Act, Call};
-use script_story::{Setting, Story, put_domain};
+use script_story::{Deed, Setting, Story, put_domain};
 use std::alloc::{AllocError, Global};
 use std::fmt::Write;
 use sysmem_tree::NodeKind;
@@ -152,7 +152,7 @@ fn put_what(
         }
         NodeKind::Collection => {
             text.push_str("collection of ")?;
-            put_origin(text, story, story.deed(node, &["bind"]))
+            put_origin(text, story, story.deed(node, Deed::Bind))
         }
         NodeKind::Group => {
             text.push_str("group of ")?;

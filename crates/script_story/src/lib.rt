@@ -17,5 +17,5 @@ mod words;
 pub use asked::{asked_by, asked_in};
 pub use refused::{left_out, put_domain, refused, tell_refused};
 pub use setting::Setting;
-pub use story::{Domain, Made, Node, Story};
+pub use story::{Deed, Deeds, Domain, Made, Node, Story};
 pub use telling::story_of;

@@ -1,6 +1,6 @@
 //! Why calls were refused.
 
-use crate::story::{Made, Story};
+use crate::story::{Deed, Made, Story};
 use explanation_text::wording::{MOST_NAMES, put_few};
 use explanation_text::{Items, Kind};
 use json_places::Step;
@@ -332,7 +332,7 @@ fn wrong_state(
     number: usize,
 ) -> Result<String, AllocError> {
     let on = call.on;
-    if let Some(gone) = story.deed_before(node, &["release", "close"], number) {
+    if let Some(gone) = story.deed_before(node, Deed::End, number) {
         let actor = story.actor(gone);
         let how = match story.call(gone) {
             Some(deed) if deed.name() == "close" => "closed",
@@ -358,7 +358,7 @@ fn unbound(
     number: usize,
 ) -> Result<String, AllocError> {
     let on = call.on;
-    match story.deed(node, &["bind"]) {
+    match story.deed(node, Deed::Bind) {
         Some(later) if later > number => {
             format!(in alloc;
                 "{on} is a token until call {later} binds it: move it after that call"
@@ -378,9 +378,7 @@ fn wrong_group(
 ) -> Result<String, AllocError> {
     let on = call.on;
     if makes {
-        let last = story
-            .deed_before(node, &["all_children_present"], number)
-            .unwrap_or(0);
+        let last = story.deed_before(node, Deed::Complete, number).unwrap_or(0);
         return format!(in alloc;
             "{on} got its last child before call {last}, all_children_present"
         );
@@ -404,7 +402,7 @@ fn wrong_collection(
     match call.act {
         Act::SetConstraints(_) => set_before(alloc, story, call, node, number),
         Act::Duplicate(_) | Act::CreateGroup(_) | Act::Bind => {
-            let bound = story.deed_before(node, &["bind"], number).unwrap_or(0);
+            let bound = story.deed_before(node, Deed::Bind, number).unwrap_or(0);
             format!(in alloc; "{on} is no token any more: call {bound} bound it")
         }
         _ => format!(in alloc; "{on} is a collection, no group"),
@@ -422,7 +420,7 @@ fn set_before(
     let on = call.on;
     let actor = call.actor;
     let first = story
-        .deed_before(node, &["set_constraints"], number)
+        .deed_before(node, Deed::SetConstraints, number)
         .unwrap_or(0);
     let mut text = format!(in alloc;
         "call {first} already set {on}; call {number} changed nothing"

@@ -66,6 +66,64 @@ fn name_of(act: &Act<'_>) -> &'static str {
     }
 }
 
+/// What is done to a node once.
+#[derive(Clone, Copy, Debug, PartialEq, Eq)]
+pub enum Deed {
+    Bind,
+    SetConstraints,
+    /// It is released or closed.
+    End,
+    /// A group has all its children.
+    Complete,
+}
+
+/// The deed that a call does, if it does one.
+fn deed_of(act: &Act<'_>) -> Option<Deed> {
+    match act {
+        Act::Bind => Some(Deed::Bind),
+        Act::SetConstraints(_) => Some(Deed::SetConstraints),
+        Act::Release | Act::Close => Some(Deed::End),
+        Act::AllChildrenPresent => Some(Deed::Complete),
+        _ => None,
+    }
+}
+
+/// The numbers of the first calls that did a node's deeds.
+#[derive(Clone, Copy, Debug, Default)]
+pub struct Deeds {
+    bind: Option<usize>,
+    set_constraints: Option<usize>,
+    end: Option<usize>,
+    complete: Option<usize>,
+}
+
+impl Deeds {
+    fn of(&self, deed: Deed) -> Option<usize> {
+        match deed {
+            Deed::Bind => self.bind,
+            Deed::SetConstraints => self.set_constraints,
+            Deed::End => self.end,
+            Deed::Complete => self.complete,
+        }
+    }
+
+    /// Keeps the number of a call that was made, where it is the first that does its deed.
+    pub(crate) fn note(&mut self, act: &Act<'_>, number: usize) {
+        let Some(deed) = deed_of(act) else {
+            return;
+        };
+        if self.of(deed).is_some() {
+            return;
+        }
+        match deed {
+            Deed::Bind => self.bind = Some(number),
+            Deed::SetConstraints => self.set_constraints = Some(number),
+            Deed::End => self.end = Some(number),
+            Deed::Complete => self.complete = Some(number),
+        }
+    }
+}
+
 /// A node, as the last call left it.
 #[derive(Drop)]
 pub struct Node<'a> {
@@ -81,6 +139,8 @@ pub struct Node<'a> {
     pub made_by: Option<usize>,
     pub is_selected: bool,
     pub constraints: Option<&'a Constraints>,
+    /// What was done to it, by which calls.
+    pub deeds: Deeds,
 }
 
 /// A domain, as the last call left it.
@@ -155,23 +215,17 @@ impl<'a> Story<'a> {
         }
     }
 
-    /// The number of the first call of one of these names that was made on a node, before the call of a number.
-    pub fn deed_before(&self, node: usize, names: &[&str], number: usize) -> Option<usize> {
-        for (index, call) in self.calls.iter().enumerate() {
-            if index.saturating_add(1) >= number {
-                return None;
-            }
-            let is_named = names.iter().any(|name| *name == call.name());
-            if is_named && call.node == Some(node) && call.is_accepted() {
-                return Some(index.saturating_add(1));
-            }
-        }
-        None
+    /// The number of the first call that did this to a node.
+    pub fn deed(&self, node: usize, deed: Deed) -> Option<usize> {
+        self.nodes.get(node)?.deeds.of(deed)
     }
 
-    /// The number of the first call of one of these names that was made on a node.
-    pub fn deed(&self, node: usize, names: &[&str]) -> Option<usize> {
-        self.deed_before(node, names, usize::MAX)
+    /// The same, before the call of a number.
+    pub fn deed_before(&self, node: usize, deed: Deed, number: usize) -> Option<usize> {
+        match self.deed(node, deed) {
+            Some(made) if made < number => Some(made),
+            _ => None,
+        }
     }
 
     /// What a node is before the call of a number.
@@ -182,7 +236,7 @@ impl<'a> Story<'a> {
         if known.state.kind == NodeKind::Group {
             return NodeKind::Group;
         }
-        if self.deed_before(node, &["bind"], number).is_some() {
+        if self.deed_before(node, Deed::Bind, number).is_some() {
             NodeKind::Collection
         } else {
             NodeKind::Token
@@ -211,20 +265,16 @@ impl<'a> Story<'a> {
         if known.made_by.is_some_and(|made| made >= number) {
             return false;
         }
-        let is_open = self
-            .deed_before(node, &["release", "close"], number)
-            .is_none();
+        let is_open = self.deed_before(node, Deed::End, number).is_none();
         match self.kind_before(node, number) {
             NodeKind::Token => is_open,
             NodeKind::Collection => {
-                is_open
-                    && self
-                        .deed_before(node, &["set_constraints"], number)
-                        .is_none()
+                let is_set = self
+                    .deed_before(node, Deed::SetConstraints, number)
+                    .is_some();
+                is_open && !is_set
             }
-            NodeKind::Group => self
-                .deed_before(node, &["all_children_present"], number)
-                .is_none(),
+            NodeKind::Group => self.deed_before(node, Deed::Complete, number).is_none(),
         }
     }
 

@@ -7,7 +7,7 @@ ghost use Rattle.script_story.specs.Told.{AreTold, IsOn};
 ghost use Rattle.sysmem_tree.specs.Domain.{HasDomain};
 ghost use Rattle.sysmem_tree.specs.Nodes.{HasNode};
 
-use crate::story::{Domain, Made, Node, Story};
+use crate::story::{Deeds, Domain, Made, Node, Story};
 use crate::words::{first_word, is_domain_line, reply_in, said_on};
 use certificate_text::push_path;
 use script_faults::actor_of;
@@ -31,8 +31,10 @@ pub fn story_of<'a>(
 {
     let mut nodes = nodes_of(alloc, told.book().tree())?;
     name_nodes(&mut nodes, calls, told);
+    let calls = calls_of(alloc, value, calls, told)?;
+    note_deeds(&mut nodes, &calls);
     let mut story = Story {
-        calls: calls_of(alloc, value, calls, told)?,
+        calls,
         nodes,
         domains: domains_of(alloc, told.book())?,
         order: Vec::new(alloc),
@@ -94,6 +96,7 @@ fn node_of<'a>(alloc: Global, tree: &'a Tree, node: NodeId) -> Result<Node<'a>, 
         made_by: None,
         is_selected: tree.is_selected(node),
         constraints: tree.constraints_of(node),
+        deeds: Deeds::default(),
     })
 }
 
@@ -131,6 +134,18 @@ fn name_nodes<'a>(nodes: &mut [Node<'a>], calls: &[Call<'a>], told: &Replayed) {
         if let Some(node) = nodes.get_mut(number as usize) {
             node.name = name;
             node.made_by = Some(index.saturating_add(1));
+        }
+    }
+}
+
+/// Keeps at each node which calls did something to it.
+fn note_deeds(nodes: &mut [Node<'_>], calls: &[Made<'_>]) {
+    for (index, call) in calls.iter().enumerate() {
+        if !call.is_accepted() {
+            continue;
+        }
+        if let Some(node) = call.node.and_then(|number| nodes.get_mut(number)) {
+            node.deeds.note(&call.act, index.saturating_add(1));
         }
     }
 }
