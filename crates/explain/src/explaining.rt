@@ -7,7 +7,7 @@ use json_places::{column_of, line_of, repeated_keys};
 use record_faults::Document;
 use script_faults::{tell_fault, tell_no_json};
 use script_reading::{ParseFault, Script, ScriptFault, parse_script, read_script};
-use script_story::{Setting, Story, put_domain, refused, story_of, tell_refused};
+use script_story::{Setting, Story, put_domain, refused_calls, story_of, tell_refused};
 use serde_json::Value;
 use std::alloc::{AllocError, Global};
 use std::fmt::Write;
@@ -116,7 +116,7 @@ fn outcome_of(story: &Story<'_>) -> Outcome {
         .domains
         .iter()
         .all(|domain| domain.verdict() == "chosen");
-    if refused(story) == 0 && is_fine {
+    if refused_calls(story) == 0 && is_fine {
         Outcome::Fine
     } else {
         Outcome::Faulty
@@ -127,7 +127,7 @@ fn outcome_of(story: &Story<'_>) -> Outcome {
 fn put_answer(items: &mut Items, story: &Story<'_>) -> Result<(), AllocError> {
     let mut text = String::new(items.alloc());
     put_count(&mut text, story.calls.len(), "call", "calls")?;
-    match refused(story) {
+    match refused_calls(story) {
         0 => text.push_str(", none refused")?,
         count => write!(text, ", {count} refused")?,
     }

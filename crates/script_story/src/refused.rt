@@ -26,7 +26,7 @@ struct Row {
 }
 
 /// How many calls were refused: those whose reply isn't `ok`, the answers of `check` and `wait` left out.
-pub fn refused(story: &Story<'_>) -> usize {
+pub fn refused_calls(story: &Story<'_>) -> usize {
     story.calls.iter().filter(|call| is_refused(call)).count()
 }
 
