@@ -1,5 +1,6 @@
 -- What reports say of domains.
-use Rattle.std.specs.Prelude.{◌≡◌, ◌++◌, ◌⊎◌, ℕ, All, Contains, List, [], codes, false, option_map_or, slice_get}
+use Rattle.std.specs.Prelude.{◌≡◌, ◌++◌, ◌⊎◌, ℕ, All, Contains, List, [], codes, false, slice_get}
+use Rattle.std.specs.Option.{option_map_or}
 use Rattle.std.specs.Str.Lines.{lines}
 use Rattle.std.specs.String.{string_bytes}
 use Rattle.sysmem_sanitise.specs.Platform.{PlatformFacts}
