@@ -99,7 +99,7 @@ fn lacking(alloc: Global, object: &Value, key: &str) -> Result<Value, AllocError
     Ok(Value::Object(copy))
 }
 
-/// Puts a value in short behind a text: a size as `1920x1080`.
+/// Puts a value in short after a text: a size as `1920x1080`.
 fn put_value(text: &mut String, value: &Value) -> Result<(), AllocError> {
     if let (Some(width), Some(height)) = (value.get("width"), value.get("height")) {
         if let (Some(width), Some(height)) = (width.as_u64(), height.as_u64()) {

@@ -16,7 +16,7 @@ pub struct Asked<'a> {
     pub stated: Option<&'a Value>,
 }
 
-/// Puts the names of participants with a word behind a text: `camera takes`, `camera and encoder take`.
+/// Puts the names of participants with a word after a text: `camera takes`, `camera and encoder take`.
 pub fn put_has(
     text: &mut String,
     people: &[Asked<'_>],
@@ -28,7 +28,7 @@ pub fn put_has(
     text.push_str(if people.len() == 1 { one } else { many })
 }
 
-/// Puts the names of participants behind a text.
+/// Puts the names of participants after a text.
 pub fn put_people(text: &mut String, people: &[Asked<'_>]) -> Result<(), AllocError> {
     let mut names: Vec<&str> = Vec::new(*text.allocator());
     for one in people {
@@ -37,7 +37,7 @@ pub fn put_people(text: &mut String, people: &[Asked<'_>]) -> Result<(), AllocEr
     put_few(text, &names, MOST_NAMES)
 }
 
-/// Puts at most so many of the texts behind another.
+/// Puts at most so many of the texts after another.
 pub fn put_texts(text: &mut String, texts: &[String], most: usize) -> Result<(), AllocError> {
     let mut words: Vec<&str> = Vec::new(*text.allocator());
     for one in texts {

@@ -1,5 +1,10 @@
 //! How many buffers participants need, and where the number comes from.
 
+ghost use Rattle.std.specs.Prelude.{◌≡◌, ◌↔◌, ◌≤◌, ◌<◌, All, IfSome, IfNone, IsTrue, length};
+ghost use Rattle.sysmem_counts.specs.Bounds.{IsTallyOf};
+ghost use Rattle.sysmem_counts.specs.Counts.{IsCountLine};
+ghost use Rattle.value_sources.specs.Sources.{IsNumberOf, counts_of, part_of};
+
 use crate::asked::{Asked, put_has, put_texts};
 use std::alloc::{AllocError, Global};
 use std::fmt::Write;
@@ -20,7 +25,9 @@ enum Part {
     Minimum,
 }
 
-fn value_of(one: &Asked<'_>, part: Part) -> u32 {
+fn value_of(one: &Asked<'_>, part: Part) -> u32
+    ensures { result ≡ part_of part one.now }
+{
     let counts = one.asked.counts();
     match part {
         Part::Camping => counts.min_buffer_count_for_camping,
@@ -30,13 +37,13 @@ fn value_of(one: &Asked<'_>, part: Part) -> u32 {
     }
 }
 
-/// The bounds of the counts of participants, of whom a tree has no more than this many.
-fn bounds_of(people: &[Asked<'_>]) -> CountBounds {
+/// The bounds of the counts of participants, of the first 128 where there are more.
+fn bounds_of(people: &[Asked<'_>]) -> CountBounds
+    ensures { length people.now ≤ 128 → IsTallyOf result (counts_of people.now) }
+{
     let mut bounds = CountBounds::new();
-    for k in 0..MOST_NODES {
-        let Some(one) = people.get(k) else {
-            break;
-        };
+    let some = &people[..people.len().min(MOST_NODES)];
+    for one in some {
         bounds.add(one.asked.counts());
     }
     bounds
@@ -51,20 +58,18 @@ fn total(people: &[Asked<'_>], part: Part) -> u64 {
 }
 
 /// The first who asks for the most, with that, if anybody asks for some.
-fn greatest<'a>(people: &[Asked<'a>], part: Part) -> Option<(&'a str, u32)> {
-    let mut best = 0usize;
-    let mut most = 0u32;
-    for (index, one) in people.iter().enumerate() {
-        let value = value_of(one, part);
-        if value > most {
-            best = index;
-            most = value;
-        }
-    }
+fn greatest<'a>(people: &[Asked<'a>], part: Part) -> Option<(&'a str, u32)>
+    ensures from { IfSome result (λ r. IsNumberOf (part_of part) people.now r.0.now r.1) }
+    ensures most { IfSome result (λ r. All (λ one. part_of part one ≤ r.1) people.now) }
+    ensures some { IfSome result (λ r. 0 < r.1) }
+    ensures none { IfNone result (All (λ one. part_of part one ≡ 0) people.now) }
+{
+    let one = people.iter().rev().max_by_key(|one| value_of(one, part))?;
+    let most = value_of(one, part);
     if most == 0 {
         return None;
     }
-    Some((people.get(best)?.name, most))
+    Some((one.name, most))
 }
 
 /// What participants hold together.
@@ -78,7 +83,7 @@ fn held(people: &[Asked<'_>]) -> u64 {
         .saturating_add(shared)
 }
 
-/// Puts what participants hold together behind a text, as a sum of named parts.
+/// Puts what participants hold together after a text, as a sum of named parts.
 fn put_held(text: &mut String, people: &[Asked<'_>]) -> Result<(), AllocError> {
     let start = text.len();
     put_part(text, start, people, Part::Camping, "camping")?;
@@ -164,8 +169,10 @@ pub fn why_needed(alloc: Global, people: &[Asked<'_>]) -> Result<String, AllocEr
     Ok(text)
 }
 
-/// Whether a line on the count is true of participants.
-pub fn is_count_line(field: Field, people: &[Asked<'_>]) -> bool {
+/// Whether a line on the count is true of participants; of more than 128 only the first are asked.
+pub fn is_count_line(field: Field, people: &[Asked<'_>]) -> bool
+    ensures { length people.now ≤ 128 → IsTrue result ↔ IsCountLine field (counts_of people.now) }
+{
     bounds_of(people).is_line(field)
 }
 
@@ -187,15 +194,14 @@ pub fn count_text(alloc: Global, field: Field, people: &[Asked<'_>]) -> Result<S
 }
 
 /// The first who takes the fewest buffers at most, with that.
-fn least_maximum<'a>(people: &[Asked<'a>]) -> Option<(&'a str, u32)> {
-    let mut best = 0usize;
-    let mut least = u32::MAX;
-    for (index, one) in people.iter().enumerate() {
-        let most = one.asked.counts().max_buffer_count;
-        if most < least {
-            best = index;
-            least = most;
-        }
-    }
-    Some((people.get(best)?.name, least))
+fn least_maximum<'a>(people: &[Asked<'a>]) -> Option<(&'a str, u32)>
+    ensures from { IfSome result (λ r. IsNumberOf (λ one. one.asked.now.counts.max_buffer_count)
+        people.now r.0.now r.1) }
+    ensures least { IfSome result (λ r.
+        All (λ one. r.1 ≤ one.asked.now.counts.max_buffer_count) people.now) }
+{
+    let one = people
+        .iter()
+        .min_by_key(|one| one.asked.counts().max_buffer_count)?;
+    Some((one.name, one.asked.counts().max_buffer_count))
 }

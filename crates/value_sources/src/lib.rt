@@ -12,7 +12,9 @@ mod asked;
 mod counting;
 mod multiples;
 mod sizes;
+mod wishes;
 
 pub use asked::{Asked, put_has, put_people, put_texts};
 pub use counting::{count_text, is_count_line, why_needed};
-pub use sizes::{Derived, Side, Wishes, format_of};
+pub use sizes::{Derived, format_of};
+pub use wishes::{Side, Wish, Wishes};

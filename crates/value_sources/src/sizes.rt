@@ -1,50 +1,20 @@
 //! The sizes of the smallest image, each with where it comes from.
 
-use crate::asked::Asked;
 use crate::multiples::{Multiple, multiple_of, up};
+use crate::wishes::{Side, Wish, Wishes};
 use explanation_text::wording::put_count;
 use std::alloc::{AllocError, Global};
 use std::fmt::Write;
 use sysmem_formats::{
     Modifier, Offer, PixelFormat, bytes_per_pixel, own_alignment, own_row_divisor,
 };
-use sysmem_image::{Entry, Size, entry_for};
+use sysmem_image::entry_for;
 
 /// A number, and where it comes from.
 #[derive(Drop)]
 pub struct Derived {
     pub value: u128,
     pub why: String,
-}
-
-/// A side of an image.
-#[derive(Clone, Copy, Debug, PartialEq, Eq)]
-pub enum Side {
-    Width,
-    Height,
-}
-
-impl Side {
-    pub fn of(self, size: Size) -> u32 {
-        match self {
-            Side::Width => size.width,
-            Side::Height => size.height,
-        }
-    }
-
-    pub fn name(self) -> &'static str {
-        match self {
-            Side::Width => "width",
-            Side::Height => "height",
-        }
-    }
-}
-
-/// Participants, with an offer.
-#[derive(Clone, Copy)]
-pub struct Wishes<'a, 'b> {
-    pub people: &'b [Asked<'a>],
-    pub offer: Offer,
 }
 
 /// The name of an offer's format.
@@ -92,100 +62,48 @@ fn tile_bytes(offer: &Offer) -> u128 {
 }
 
 impl<'a> Wishes<'a, '_> {
-    /// A participant's entry for the offer.
-    fn entry(&self, one: &Asked<'a>) -> Option<&'a Entry> {
-        entry_for(one.asked.entries(), &self.offer)
-    }
-
-    /// The first who wishes the greatest of some numbers, with that.
-    fn greatest<F: Fn(&Entry) -> u32>(&self, wish: F) -> Option<(&'a str, u32)>
-        requires { F.IsAlwaysCallable wish }
-    {
-        let mut best: Option<(usize, u32)> = None;
-        for (index, one) in self.people.iter().enumerate() {
-            let Some(entry) = self.entry(one) else {
-                continue;
-            };
-            let value = wish(entry);
-            let is_more = match best {
-                Some((_, most)) => value > most,
-                None => true,
-            };
-            if is_more {
-                best = Some((index, value));
-            }
-        }
-        let (index, value) = best?;
-        Some((self.people.get(index)?.name, value))
-    }
-
-    /// The first who wishes the least of some numbers, with that.
-    pub fn least<F: Fn(&Entry) -> u64>(&self, wish: F) -> Option<(&'a str, u64)>
-        requires { F.IsAlwaysCallable wish }
-    {
-        let mut best: Option<(usize, u64)> = None;
-        for (index, one) in self.people.iter().enumerate() {
-            let Some(entry) = self.entry(one) else {
-                continue;
-            };
-            let value = wish(entry);
-            let is_less = match best {
-                Some((_, least)) => value < least,
-                None => true,
-            };
-            if is_less {
-                best = Some((index, value));
-            }
-        }
-        let (index, value) = best?;
-        Some((self.people.get(index)?.name, value))
-    }
-
-    /// A multiple that each participant asks for, behind those that are given.
-    fn add_multiples<F: Fn(&Entry) -> u32>(
+    /// Puts a multiple that each participant with an entry for the offer asks for after those that are given.
+    fn add_multiples(
         &self,
         parts: &mut Vec<Multiple>,
         field: &str,
-        wish: F,
-    ) -> Result<(), AllocError>
-        requires { F.IsAlwaysCallable wish }
-    {
+        wish: Wish,
+    ) -> Result<(), AllocError> {
         let alloc = *parts.allocator();
         for one in self.people {
-            let Some(entry) = self.entry(one) else {
-                continue;
-            };
-            let value = u128::from(wish(entry));
-            let name = one.name;
-            let who = format!(in alloc; "{name} {field}")?;
-            parts.push(Multiple { value, who })?;
+            if let Some(entry) = entry_for(one.asked.entries(), &self.offer) {
+                let value = u128::from(wish.of(entry));
+                let name = one.name;
+                let who = format!(in alloc; "{name} {field}")?;
+                parts.push(Multiple { value, who })?;
+            }
         }
         Ok(())
     }
 
     /// The least width or height.
     pub fn side(&self, alloc: Global, side: Side) -> Result<Derived, AllocError> {
-        let low = self.greatest(|entry| side.of(entry.bounds.asked.min_size));
-        let wish = self.greatest(|entry| side.of(entry.bounds.asked.required_max_size));
-        let mut why = String::new(alloc);
-        let least = match low {
-            Some((_, value)) => value.max(1),
-            None => 1,
+        let (base, first) = self.side_asked(side);
+        let why = match first {
+            Some((name, field)) => format!(in alloc; "{name} {field}")?,
+            None => String::from_str(alloc, "nobody asks for more than 1")?,
         };
-        let (base, first) = match (low, wish) {
-            (_, Some((name, value))) if value > least => {
-                (value, Some((name, "required_max_size")))
-            }
-            (Some((name, _)), _) if least > 1 => (least, Some((name, "min_size"))),
-            _ => (1, None),
-        };
-        match first {
-            Some((name, field)) => {
-                write!(why, "{name} {field}")?;
-            }
-            None => why.push_str("nobody asks for more than 1")?,
-        }
         self.round_side(alloc, side, base, first.is_some(), why)
+    }
+
+    /// The least width or height that somebody asks for, with who does and by which field, where it is above 1.
+    fn side_asked(&self, side: Side) -> (u64, Option<(&'a str, &'static str)>) {
+        let wish = self.greatest(Wish::RequiredMost(side));
+        match self.greatest(Wish::Least(side)) {
+            Some((name, least)) if least > 1 => match wish {
+                Some((other, most)) if most > least => (most, Some((other, "required_max_size"))),
+                _ => (least, Some((name, "min_size"))),
+            },
+            _ => match wish {
+                Some((other, most)) if most > 1 => (most, Some((other, "required_max_size"))),
+                _ => (1, None),
+            },
+        }
     }
 
     /// A side, rounded up to what it has to be a multiple of.
@@ -193,7 +111,7 @@ impl<'a> Wishes<'a, '_> {
         &self,
         alloc: Global,
         side: Side,
-        base: u32,
+        base: u64,
         is_asked: bool,
         why: String,
     ) -> Result<Derived, AllocError> {
@@ -206,9 +124,7 @@ impl<'a> Wishes<'a, '_> {
             value: u128::from(own),
             who: format!(in alloc; "{format} itself")?,
         })?;
-        self.add_multiples(&mut parts, "size_alignment", |entry| {
-            side.of(entry.bounds.asked.size_alignment)
-        })?;
+        self.add_multiples(&mut parts, "size_alignment", Wish::Alignment(side))?;
         let align = multiple_of(alloc, parts)?;
         let value = up(u128::from(base), align.value);
         if value != u128::from(base) {
@@ -241,7 +157,7 @@ impl<'a> Wishes<'a, '_> {
         let plain = up(packed, tile);
         let mut why = String::new(alloc);
         let mut base = plain;
-        match self.greatest(|entry| entry.bounds.asked.min_bytes_per_row) {
+        match self.greatest(Wish::LeastRow) {
             Some((name, least)) if u128::from(least) > plain => {
                 base = u128::from(least);
                 write!(why, "{name} min_bytes_per_row")?;
@@ -274,17 +190,9 @@ impl<'a> Wishes<'a, '_> {
             value: u128::from(own_row_divisor(&self.offer)),
             who,
         })?;
-        self.add_multiples(&mut parts, "bytes_per_row_divisor", |entry| {
-            entry.bounds.asked.bytes_per_row_divisor
-        })?;
-        let pixel = bytes_per_pixel(&self.offer);
-        self.add_multiples(&mut parts, "whole pixels in a row", |entry| {
-            if entry.bounds.at_pixel_boundary {
-                pixel
-            } else {
-                1
-            }
-        })?;
+        self.add_multiples(&mut parts, "bytes_per_row_divisor", Wish::RowDivisor)?;
+        let whole = Wish::WholePixels(bytes_per_pixel(&self.offer));
+        self.add_multiples(&mut parts, "whole pixels in a row", whole)?;
         let divisor = multiple_of(alloc, parts)?;
         let value = up(base, divisor.value);
         if value != base {
@@ -293,23 +201,6 @@ impl<'a> Wishes<'a, '_> {
             write!(why, " = {base}, up to a multiple of {multiple} ({who})")?;
         }
         Ok(Derived { value, why })
-    }
-
-    /// The greatest least size of a buffer that somebody states, if one is above 1.
-    fn least_size(&self) -> Option<(&'a str, u64)> {
-        let mut best = 0usize;
-        let mut most = 1u64;
-        for (index, one) in self.people.iter().enumerate() {
-            let value = one.asked.memory().min_size_bytes;
-            if value > most {
-                best = index;
-                most = value;
-            }
-        }
-        if most == 1 {
-            return None;
-        }
-        Some((self.people.get(best)?.name, most))
     }
 
     /// The least size of a buffer in bytes; where the image's sides come from is said too if that is asked for.
@@ -364,7 +255,7 @@ impl<'a> Wishes<'a, '_> {
     }
 }
 
-/// Puts how many pixels of how many bytes behind a text.
+/// Puts how many pixels of how many bytes after a text.
 fn put_pixels(text: &mut String, width: u128, bytes: u128) -> Result<(), AllocError> {
     let pixels = if width == 1 { "pixel" } else { "pixels" };
     write!(text, "{width} {pixels} of ")?;
