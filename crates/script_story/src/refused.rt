@@ -427,7 +427,12 @@ fn set_before(
     )?;
     let is_meant = story.nodes.iter().any(|other| other.name == actor);
     if is_meant && actor != on {
-        write!(text, " (is {actor} meant? its actor is {actor})")?;
+        put_meant(&mut text, actor)?;
     }
     Ok(text)
+}
+
+/// Puts who may be meant after a text.
+fn put_meant(text: &mut String, actor: &str) -> Result<(), AllocError> {
+    write!(text, " (is {actor} meant? its actor is {actor})")
 }
