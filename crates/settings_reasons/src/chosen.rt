@@ -1,6 +1,7 @@
 //! What decided each value of a choice.
 
-use crate::offering::{offer_name, offers_of};
+use crate::offer_words::offer_name;
+use crate::offering::offers_of;
 use crate::placing::{places_of, put_place};
 use crate::refusing::{offer_rows, place_rows};
 use crate::rows::tell_rows;

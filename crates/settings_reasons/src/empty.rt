@@ -1,6 +1,11 @@
 //! Why no settings meet participants.
 
-use crate::offering::{is_refused, offers_of};
+ghost use Rattle.std.specs.Prelude.{◌≡◌, ◌==◌, false, not, filter, IfOk, IfSome, IsTrue};
+ghost use Rattle.settings_reasons.specs.True.{AreInTheWay};
+ghost use Rattle.sysmem_merge.specs.Best.{IsUnmet};
+ghost use Rattle.value_sources.specs.Sources.{all_asked};
+
+use crate::offering::{are_refused, offers_of};
 use crate::placing::{has_no_place, places_of};
 use crate::refusing::{offer_rows, place_rows};
 use crate::rows::tell_rows;
@@ -10,6 +15,7 @@ use std::fmt::Write;
 use sysmem_counts::Field;
 use sysmem_formats::Offer;
 use sysmem_memory::Place;
+use sysmem_merge::Aggregate;
 use sysmem_sanitise::Platform;
 use value_sources::{Asked, count_text, is_count_line, put_people};
 
@@ -40,7 +46,7 @@ pub fn tell_conflict(
         places: &places,
         offers: &offers,
     };
-    tell_in_the_way(items, depth, choices, people)?;
+    tell_in_the_way(items, depth, platform, people)?;
     tell_counts(items, depth, people)?;
     tell_places(items, depth, choices, people)?;
     tell_offers(items, depth, choices, people, whole)
@@ -65,7 +71,7 @@ fn tell_places(
     people: &[Asked<'_>],
 ) -> Result<(), AllocError> {
     let alloc = items.alloc();
-    if !has_no_place(choices.platform, choices.places, people) {
+    if !has_no_place(choices.platform, people) {
         return Ok(());
     }
     let head = none_of(alloc, "place", choices.places.len())?;
@@ -84,7 +90,7 @@ fn tell_offers(
 ) -> Result<(), AllocError> {
     let alloc = items.alloc();
     let offers = choices.offers;
-    if !offers.iter().all(|offer| is_refused(offer, people, whole)) {
+    if !are_refused(offers, people, whole) {
         return Ok(());
     }
     let head = none_of(alloc, "offer", offers.len())?;
@@ -101,52 +107,61 @@ fn none_of(alloc: Global, what: &str, count: usize) -> Result<String, AllocError
     format!(in alloc; "each of the {count} {what}s fails; the nearest first:")
 }
 
-/// Whether no count, no place or no offer suits these participants, whoever else takes part.
-fn leave_none(choices: Choices<'_>, people: &[Asked<'_>]) -> bool {
-    if COUNTS.iter().any(|field| is_count_line(*field, people)) {
-        return true;
-    }
-    has_no_place(choices.platform, choices.places, people)
-        || choices
-            .offers
-            .iter()
-            .all(|offer| is_refused(offer, people, false))
-}
+/// How many participants may be asked together; a tree has at most 128.
+const MOST_ASKED: usize = 1024;
 
-/// Whether these participants leave no settings, whatever others ask.
+/// Whether these participants leave no settings, whatever others ask. False of more than 1,024.
 pub fn is_unmet(
     alloc: Global,
     platform: &Platform,
     people: &[Asked<'_>],
-) -> Result<bool, AllocError> {
-    let places = places_of(alloc, platform)?;
-    let offers = offers_of(alloc, platform)?;
-    let choices = Choices {
-        platform,
-        places: &places,
-        offers: &offers,
-    };
-    Ok(leave_none(choices, people))
+) -> Result<bool, AllocError>
+    ensures { IfOk result
+        (λ unmet. IsTrue unmet → IsUnmet false platform.now (all_asked people.now)) }
+{
+    if people.len() > MOST_ASKED {
+        return Ok(false);
+    }
+    let mut asked = Aggregate::new(alloc, platform)?;
+    for one in people {
+        asked.add(one.asked)?;
+    }
+    Ok(asked.best_settings(false).is_err())
 }
 
-/// Tells those who leave no settings by themselves, each of whom is needed for that; or who can't be met even alone.
-fn tell_in_the_way(
-    items: &mut Items,
-    depth: usize,
-    choices: Choices<'_>,
-    people: &[Asked<'_>],
-) -> Result<(), AllocError> {
-    let alloc = items.alloc();
-    if !leave_none(choices, people) {
-        return Ok(());
+/// Those who leave no settings by themselves, each of whom is needed for that; none where all together leave some.
+fn in_the_way<'a>(
+    alloc: Global,
+    platform: &Platform,
+    people: &[Asked<'a>],
+) -> Result<Option<Vec<Asked<'a>>>, AllocError>
+    ensures { IfOk result (λ found. IfSome found
+        (λ some. AreInTheWay platform.now people.now some.items)) }
+{
+    if !is_unmet(alloc, platform, people)? {
+        return Ok(None);
     }
     let mut kept = Vec::from_slice(alloc, people)?;
     for one in people {
         let rest = all_but(alloc, &kept, one.node)?;
-        if leave_none(choices, &rest) {
+        if is_unmet(alloc, platform, &rest)? {
             kept = rest;
         }
     }
+    Ok(Some(kept))
+}
+
+/// Tells those who leave no settings by themselves; or who can't be met even alone.
+fn tell_in_the_way(
+    items: &mut Items,
+    depth: usize,
+    platform: &Platform,
+    people: &[Asked<'_>],
+) -> Result<(), AllocError> {
+    let alloc = items.alloc();
+    let Some(kept) = in_the_way(alloc, platform, people)? else {
+        return Ok(());
+    };
     let mut text = String::from_str(alloc, "in the way: ")?;
     put_people(&mut text, &kept)?;
     let others = people.len().saturating_sub(kept.len());
@@ -160,16 +175,18 @@ fn tell_in_the_way(
     items.say(depth, "", text)
 }
 
+/// The participants without the one of this number.
 fn all_but<'a>(
     alloc: Global,
     people: &[Asked<'a>],
     node: usize,
-) -> Result<Vec<Asked<'a>>, AllocError> {
-    let mut rest = Vec::new(alloc);
-    for one in people {
-        if one.node != node {
-            rest.push(*one)?;
-        }
-    }
-    Ok(rest)
+) -> Result<Vec<Asked<'a>>, AllocError>
+    ensures { IfOk result
+        (λ rest. rest.items ≡ filter (λ one. not (one.node == node)) people.now) }
+{
+    people
+        .iter()
+        .copied()
+        .filter(|one| one.node != node)
+        .collect(alloc)
 }

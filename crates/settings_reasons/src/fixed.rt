@@ -1,6 +1,9 @@
 //! Why the settings that were decided before don't suit those who come late.
 
-use crate::offering::{offer_name, offer_text};
+ghost use Rattle.std.specs.Prelude.{All, IfOk};
+ghost use Rattle.sysmem_merge.specs.Failing.{FailsOn};
+
+use crate::offer_words::{offer_name, offer_text};
 use crate::placing::{put_place, put_place_reason};
 use crate::rows::Reason;
 use explanation_text::Items;
@@ -9,7 +12,7 @@ use std::fmt::Write;
 use sysmem_counts::Field;
 use sysmem_image::{ImageBounds, Size, entry_for};
 use sysmem_merge::{Settings, fails_in};
-use sysmem_sanitise::Platform;
+use sysmem_sanitise::{Constraints, Platform};
 use value_sources::Asked;
 
 /// The fields in which settings may fail a participant, in the order in which they are looked at.
@@ -66,13 +69,30 @@ fn tell_misfit(
     settings: &Settings,
 ) -> Result<(), AllocError> {
     let alloc = items.alloc();
-    for field in FIELDS {
-        if fails_in(field, platform, settings, one.asked) {
-            let text = misfit_text(alloc, platform, settings, one, field)?;
-            items.say(1, "misfit", text)?;
-        }
+    for field in failing(alloc, platform, settings, one.asked)? {
+        let text = misfit_text(alloc, platform, settings, one, field)?;
+        items.say(1, "misfit", text)?;
     }
     Ok(())
+}
+
+/// The fields in which settings fail a participant.
+fn failing(
+    alloc: Global,
+    platform: &Platform,
+    settings: &Settings,
+    asked: &Constraints,
+) -> Result<Vec<Field>, AllocError>
+    ensures { IfOk result (λ fields.
+        All (λ field. FailsOn field platform.now settings.now asked.now) fields.items) }
+{
+    let mut fields = Vec::new(alloc);
+    for field in FIELDS {
+        if fails_in(field, platform, settings, asked) {
+            fields.push(field)?;
+        }
+    }
+    Ok(fields)
 }
 
 /// Puts a sentence on a field in which settings fail a participant.
@@ -164,7 +184,7 @@ fn put_size(text: &mut String, size: Size) -> Result<(), AllocError> {
     write!(text, "{width}x{height}")
 }
 
-/// Puts the value of a field of bounds behind a text.
+/// Puts the value of a field of bounds after a text.
 fn put_bound(text: &mut String, bounds: &ImageBounds, field: Field) -> Result<(), AllocError> {
     match field {
         Field::MinSize => put_size(text, bounds.min_size),

@@ -11,6 +11,7 @@
 mod chosen;
 mod empty;
 mod fixed;
+mod offer_words;
 mod offering;
 mod placing;
 mod refusing;

@@ -1,11 +1,17 @@
 //! Which places of a platform participants refuse, and by which field.
 
+ghost use Rattle.std.specs.Prelude.{All, IfOk, OnOk, IsTrue};
+ghost use Rattle.settings_reasons.specs.True.{IsPlaceReason, Refuses};
+ghost use Rattle.sysmem_memory.specs.Place.{HasNoPlace};
+ghost use Rattle.sysmem_merge.specs.Demands.{place_demands};
+ghost use Rattle.value_sources.specs.Sources.{all_asked};
+
 use crate::rows::Reason;
 use explanation_text::wording::put_visible;
 use std::alloc::{AllocError, Global};
 use std::fmt::Write;
 use sysmem_counts::Field;
-use sysmem_memory::{CoherencyDomain, HeapInfo, Place, refuses_in};
+use sysmem_memory::{CoherencyDomain, HeapInfo, MemoryBounds, Place, refuses_in};
 use sysmem_sanitise::Platform;
 use value_sources::{Asked, put_has};
 
@@ -52,7 +58,9 @@ fn refusing<'a>(
     place: Place,
     field: Field,
     people: &[Asked<'a>],
-) -> Result<Vec<Asked<'a>>, AllocError> {
+) -> Result<Vec<Asked<'a>>, AllocError>
+    ensures { IfOk result (λ those. All (Refuses field heap.now place.coherency) those.items) }
+{
     let mut those = Vec::new(alloc);
     for one in people {
         let memory = one.asked.memory();
@@ -70,40 +78,62 @@ pub(crate) fn place_reasons<'a>(
     place: Place,
     people: &[Asked<'a>],
 ) -> Result<Vec<Reason<'a>>, AllocError> {
+    match platform.heaps().get(place.heap) {
+        Some(heap) => reasons_in(alloc, heap, place, people),
+        None => Ok(Vec::new(alloc)),
+    }
+}
+
+/// The same of a place in this heap.
+fn reasons_in<'a>(
+    alloc: Global,
+    heap: &HeapInfo,
+    place: Place,
+    people: &[Asked<'a>],
+) -> Result<Vec<Reason<'a>>, AllocError>
+    ensures { IfOk result
+        (λ reasons. All (IsPlaceReason heap.now place.coherency) reasons.items) }
+{
     let mut reasons = Vec::new(alloc);
-    let Some(heap) = platform.heaps().get(place.heap) else {
-        return Ok(reasons);
-    };
     for field in FIELDS {
-        let people = refusing(alloc, heap, place, field, people)?;
-        if !people.is_empty() {
-            reasons.push(Reason { field, people })?;
-        }
+        let those = refusing(alloc, heap, place, field, people)?;
+        add_reason(&mut reasons, heap, place, field, those)?;
     }
     Ok(reasons)
 }
 
-/// Whether each place is refused by somebody.
-pub(crate) fn has_no_place(platform: &Platform, places: &[Place], people: &[Asked<'_>]) -> bool {
-    places
-        .iter()
-        .all(|place| is_refused(platform, *place, people))
-}
-
-fn is_refused(platform: &Platform, place: Place, people: &[Asked<'_>]) -> bool {
-    match platform.heaps().get(place.heap) {
-        Some(heap) => people.iter().any(|one| refuses_one(heap, place, one)),
-        None => true,
+/// Adds a field by which these refuse a place in a heap, if they are some.
+fn add_reason<'a>(
+    reasons: &mut Vec<Reason<'a>>,
+    heap: &HeapInfo,
+    place: Place,
+    field: Field,
+    people: Vec<Asked<'a>>,
+) -> Result<(), AllocError>
+    requires { All (Refuses field heap.now place.coherency) people.items }
+    ensures { OnOk result (All (IsPlaceReason heap.now place.coherency) reasons.old.items
+        → All (IsPlaceReason heap.now place.coherency) reasons.new.items) }
+{
+    if people.is_empty() {
+        return Ok(());
     }
+    reasons.push(Reason { field, people })?;
+    Ok(())
 }
 
-fn refuses_one(heap: &HeapInfo, place: Place, one: &Asked<'_>) -> bool {
-    let memory = one.asked.memory();
-    let usage = one.asked.usage();
-    FIELDS.iter().any(|field| refuses_in(*field, memory, usage, heap, place.coherency))
+/// Whether each place of the platform is refused by somebody.
+pub(crate) fn has_no_place(platform: &Platform, people: &[Asked<'_>]) -> bool
+    ensures { IsTrue result → HasNoPlace platform.now.heaps (place_demands (all_asked people.now)) }
+{
+    let heaps = platform.heaps();
+    let mut bounds = MemoryBounds::new(heaps);
+    for one in people {
+        bounds.add(heaps, one.asked.memory(), one.asked.usage());
+    }
+    bounds.first_place(heaps).is_none()
 }
 
-/// Puts the name of a place behind a text: `cma#0 ram`.
+/// Puts the name of a place after a text: `cma#0 ram`.
 pub(crate) fn put_place(
     text: &mut String,
     platform: &Platform,
@@ -117,7 +147,7 @@ pub(crate) fn put_place(
     text.push_str(place.coherency.name())
 }
 
-/// Puts why participants refuse a place by a field behind a text.
+/// Puts why participants refuse a place by a field after a text.
 pub(crate) fn put_place_reason(text: &mut String, reason: &Reason<'_>) -> Result<(), AllocError> {
     let people = &reason.people;
     let name = reason.field.name();
@@ -139,7 +169,7 @@ pub(crate) fn put_place_reason(text: &mut String, reason: &Reason<'_>) -> Result
     }
 }
 
-/// Puts which heaps participants permit behind a text; of several with other lists only that it isn't this one.
+/// Puts which heaps participants permit after a text; of several with other lists only that it isn't this one.
 fn put_permits(text: &mut String, people: &[Asked<'_>]) -> Result<(), AllocError> {
     let [one] = people else {
         return put_has(
@@ -177,7 +207,7 @@ fn states(one: &Asked<'_>, field: &str) -> bool {
     }
 }
 
-/// Puts who says that it doesn't take a coherency domain behind a text, and who doesn't say that it does.
+/// Puts who says that it doesn't take a coherency domain after a text, and who doesn't say that it does.
 fn put_unsupported(text: &mut String, people: &[Asked<'_>], field: &str) -> Result<(), AllocError> {
     let alloc = *text.allocator();
     let mut said = Vec::new(alloc);

@@ -1,6 +1,7 @@
 //! Rows of the places and offers that participants refuse.
 
-use crate::offering::{distance_of, offer_name, offer_reasons, offer_text};
+use crate::offer_words::{offer_name, offer_text};
+use crate::offering::{distance_of, offer_reasons};
 use crate::placing::{place_reasons, put_place, put_place_reason};
 use crate::rows::{Reason, Row, add, are_same};
 use std::alloc::{AllocError, Global};

@@ -134,7 +134,7 @@ fn tell_row(items: &mut Items, depth: usize, before: &str, row: &Row) -> Result<
     Ok(())
 }
 
-/// Puts at most four names behind a text.
+/// Puts at most four names after a text.
 fn put_names(text: &mut String, names: &[String]) -> Result<(), AllocError> {
     put_texts(text, names, 3)
 }
