@@ -1,5 +1,5 @@
 -- Whoever isn't needed is left out.
-use Rattle.std.proofs.Common.{◌≡◌, sym, ◌∙◌, ap}
+use Rattle.std.proofs.Common.{◌≡◌}
 use Rattle.settings_reasons.proofs.People.{all_in_the_way, fewer_in_the_way, same_in_the_way}
 use Rattle.settings_reasons.proofs.empty.in_the_way.Goals as goal
 use Rattle.settings_reasons.proofs.empty.in_the_way.Goals.{then-branch, else-branch}

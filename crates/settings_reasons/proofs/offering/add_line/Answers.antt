@@ -1,10 +1,4 @@
 -- The line is true of all, so it is of those who are named.
-use Rattle.std.proofs.Common.{sym, subst}
-use Rattle.std.proofs.lemmas.List.Elements.{All-push}
-use Rattle.sysmem_merge.specs.Demands.{offer_demands}
-use Rattle.sysmem_merge.specs.OfferRead.{IsRefusingLine}
-use Rattle.value_sources.specs.Sources.{all_asked}
-use Rattle.settings_reasons.specs.True.{IsLineReason}
 use Rattle.settings_reasons.proofs.People.{line_more}
 use Rattle.settings_reasons.proofs.offering.add_line.Goals as goal
 

@@ -1,5 +1,5 @@
 -- One more is asked, and at the end no place is left.
-use Rattle.std.proofs.Common.{sym, subst, arith}
+use Rattle.std.proofs.Common.{subst, arith}
 use Rattle.std.proofs.lemmas.List.{take_all}
 use Rattle.sysmem_memory.specs.Place.{AreDomainsLeft, HasNoPlace}
 use Rattle.sysmem_merge.specs.Demands.{place_demands}
