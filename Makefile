@@ -20,7 +20,7 @@ proved:
 test:
 	RT_JOBS=$(JOBS) rt ci
 
-# Tests of the proved program as a whole (they need a C compiler and Python): reports, refusals, records, worked values, small trees beside each of their selections, certificates and their checks, files that fail, each allocation refused in turn, scripts played through handles, and scripts on threads.
+# Tests of the proved program as a whole (they need a C compiler and Python): reports, refusals, records, worked values, small trees beside each of their selections, certificates and their checks, files that fail, each allocation refused in turn, scripts played through handles, scripts on threads, and explanations.
 program-test: proved
 	@$(MAKE) --no-print-directory built-test
 
@@ -39,6 +39,7 @@ built-test:
 	tests/want_of_memory
 	tests/handles
 	tests/threads
+	tests/explanations
 	@$(MAKE) --no-print-directory lib-test
 
 # The library for C, C++ and Python, proved, as an archive and as a shared object, in out/. It needs a C compiler and binutils.

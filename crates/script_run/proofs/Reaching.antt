@@ -7,6 +7,7 @@ use Rattle.script_reading.specs.declared.call.Call.{Call}
 use Rattle.script_reading.specs.Script.{CallFacts}
 use Rattle.script_reading.specs.Seen.{call_seen}
 use Rattle.script_run.specs.declared.decider.Objection.{Objection}
+use Rattle.script_run.specs.Replayed.{LeavesIn}
 use Rattle.script_run.specs.Report.{Gave, GoesIn, IsReported, pending_lines}
 use Rattle.script_run.specs.State.{RunState, first_run_state}
 use Rattle.script_run.specs.Stop.{IsStopped, Objects, StopsIn}
@@ -70,14 +71,20 @@ drop-call_seen calls place call within e =
     drop-map call_seen place calls ∙ (at_drop_more (λ (l : List Call). map call_seen l) calls place call within
     ∙ (ap (λ (c : Call). call_seen c ∷ map call_seen (drop (place + 1) calls)) (sym e) ∙ ap (λ (l : List CallFacts). call_seen call ∷ l) (sym (drop-map call_seen (place + 1) calls))))
 
+-- behind all calls, these were made
+reaches-all : (platform : PlatformFacts) (calls : List Call) (place : ℕ) (s : RunState) (text : List ℕ) (G H : Gave) → length calls ≤ place
+    → Reaches platform (map call_seen calls) place s text G H → GoesIn 1 (first_run_state platform) (map call_seen calls) s [] text G H
+reaches-all platform calls place s text G H all reached =
+    let none : drop place (map call_seen calls) ≡ [] = at_drop_all (λ (l : List CallFacts). l) (map call_seen calls) place (rw length-map all) in
+    let whole : reached.made ≡ map call_seen calls = sym (append-nil reached.made) ∙ (ap (λ qs. reached.made ++ qs) (sym none) ∙ sym reached.split) in
+    subst (λ qs. GoesIn 1 (first_run_state platform) qs s [] text G H) whole reached.goes
+
 -- behind all calls the report ends
 pub reaches-end : (platform : PlatformFacts) (calls : List Call) (place : ℕ) (s : RunState) (before after : List ℕ) (G H : Gave) → length calls ≤ place → G []
     → Reaches platform (map call_seen calls) place s before G H → after ≡ before ++ pending_lines s.book
     → IsReported platform (map call_seen calls) H after s.starved
 reaches-end platform calls place s before after G H all given reached e =
-    let none : drop place (map call_seen calls) ≡ [] = at_drop_all (λ (l : List CallFacts). l) (map call_seen calls) place (rw length-map all) in
-    let whole : reached.made ≡ map call_seen calls = sym (append-nil reached.made) ∙ (ap (λ qs. reached.made ++ qs) (sym none) ∙ sym reached.split) in
-    let goes : GoesIn 1 (first_run_state platform) (map call_seen calls) s [] before G H = subst (λ qs. GoesIn 1 (first_run_state platform) qs s [] before G H) whole reached.goes in
+    let goes = reaches-all platform calls place s before G H all reached in
     record {
       decisions = goes.decisions;
       report = record {
@@ -89,4 +96,23 @@ reaches-end platform calls place s before after G H all given reached e =
         memory = refl;
       };
       gave = goes.gave [] given;
+    }
+
+-- and the collection stands as the last of them left it
+pub reaches-last : (platform : PlatformFacts) (calls : List Call) (place : ℕ) (s : RunState) (before after : List ℕ) (G H : Gave) → length calls ≤ place
+    → Reaches platform (map call_seen calls) place s before G H → after ≡ before ++ pending_lines s.book
+    → LeavesIn platform (map call_seen calls) after s
+reaches-last platform calls place s before after G H all reached e =
+    let goes = reaches-all platform calls place s before G H all reached in
+    record {
+      decisions = goes.decisions;
+      report = record {
+        last = s;
+        lines = goes.lines;
+        goes = goes.goes;
+        done = reached.idle;
+        put = e ∙ ap (λ ts. ts ++ pending_lines s.book) goes.put;
+        memory = refl;
+      };
+      stands = refl;
     }

@@ -9,6 +9,7 @@ pub mod Laws
 pub mod Lines
 pub mod Marks
 pub mod Outcome
+pub mod Replayed
 pub mod Report
 pub mod Run
 pub mod Runner

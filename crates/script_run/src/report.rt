@@ -11,7 +11,7 @@ ghost use Rattle.sysmem_tree.specs.Domain.{HasDomain};
 
 use crate::decider::{Decider, Stop};
 use crate::domain_line::put_domain;
-use crate::runner::Runner;
+use crate::replayed::replayed_of;
 use script_reading::Call;
 use std::alloc::{AllocError, Global};
 use sysmem_alloc::Book;
@@ -43,18 +43,10 @@ pub(crate) fn report_of<D: Decider>(
         (D.objects decider.new))) }
     ensures given { D.given decider.new ≡ D.given decider.old }
 {
-    let mut runner = Runner::new(alloc, platform)?;
-    let mut text = String::new(alloc);
-    for (index, call) in calls.iter().enumerate() {
-        if let Err(stop) = runner.take(alloc, index + 1, call, decider, &mut text) {
-            return Err(runner.stopped(stop));
-        }
+    match replayed_of(alloc, platform, calls, decider) {
+        Ok(replayed) => Ok(replayed.into_report()),
+        Err(stop) => Err(stop),
     }
-    put_pending(&mut text, runner.book())?;
-    Ok(Report {
-        text,
-        starved: runner.is_starved(),
-    })
 }
 
 /// The domain of this index, if it has no verdict.
@@ -70,7 +62,7 @@ fn pending_at(book: &Book, index: u32) -> Option<DomainId>
 }
 
 /// Puts the line of each domain without a verdict behind the text, in order of creation of their roots.
-fn put_pending(text: &mut String, book: &Book) -> Result<(), AllocError>
+pub(crate) fn put_pending(text: &mut String, book: &Book) -> Result<(), AllocError>
     ensures { Puts result text.old text.new (pending_lines book.now.state) }
 {
     let tree = book.tree();

@@ -361,6 +361,14 @@ impl Runner {
         self.names.get(place).copied().unwrap_or(None)
     }
 
+    /// The number of that node.
+    pub(crate) fn node_number(&self, place: usize) -> Option<u32>
+        ensures { result ≡ unwrap_or (slice_get (state_of self.now).names place) None }
+    {
+        let node = self.node_at(place)?;
+        Some(self.book.tree().number_of(node))
+    }
+
     /// Keeps what the name that a call gives stands for, if it gives one.
     fn keep_name(&mut self, act: &Act<'_>, node: Option<NodeId>) -> Result<(), AllocError>
         requires { IfSome node (HasNode (state_of self.old).book.tree.nodes) }

@@ -5,9 +5,9 @@ use Rattle.sysmem_alloc.specs.Book.{BookFacts}
 use Rattle.script_run.specs.Report.{pending_lines}
 use Rattle.script_run.specs.Runner.{state_of}
 use Rattle.script_reading.specs.Seen.{call_seen}
-use Rattle.script_run.proofs.Reaching.{reaches-start, reaches-stop, reaches-take, reaches-end, drop-call_seen}
+use Rattle.script_run.proofs.Reaching.{reaches-start, reaches-stop, reaches-take, reaches-end, reaches-last, drop-call_seen}
 use Rattle.script_run.proofs.Stopping.{no_objection, stopped_as}
-use Rattle.script_run.proofs.report.report_of.Goals as goal
+use Rattle.script_run.proofs.replayed.replayed_of.Goals as goal
 
 pub returns-in_err-runner-clause-stops : goal.returns-in_err-runner-clause-stops
 returns-in_err-runner-clause-stops g c =
@@ -46,3 +46,9 @@ returns-clause-report g c =
     let all : length c.args.calls.now ≤ c.loop-index.index = omega arith in
     rw c.is_starved.ensures (reaches-end _ c.args.calls.now c.loop-index.index (state_of c.loop-index.runner) (string_bytes c.loop-index.text) _ _ _ all c.requires c.loop-index.invariant.0
     (c.in_ok-put_pending.ensures ∙ ap (λ (b : BookFacts). string_bytes c.loop-index.text ++ pending_lines b.state) c.book.ensures))
+
+pub returns-clause-leaves : goal.returns-clause-leaves
+returns-clause-leaves g c =
+    let all : length c.args.calls.now ≤ c.loop-index.index = omega arith in
+    reaches-last _ c.args.calls.now c.loop-index.index (state_of c.loop-index.runner) (string_bytes c.loop-index.text) _ _ _ all c.loop-index.invariant.0
+    (c.in_ok-put_pending.ensures ∙ ap (λ (b : BookFacts). string_bytes c.loop-index.text ++ pending_lines b.state) c.book.ensures)

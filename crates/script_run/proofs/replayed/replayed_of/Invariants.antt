@@ -3,7 +3,7 @@ use Rattle.std.specs.String.{string_bytes}
 use Rattle.script_run.specs.Runner.{state_of}
 use Rattle.script_reading.specs.Seen.{call_seen}
 use Rattle.script_run.proofs.Reaching.{Reaches}
-use Rattle.script_run.proofs.report.report_of.Given as goal
+use Rattle.script_run.proofs.replayed.replayed_of.Given as goal
 
 abbrev pub invariant-loop-index : goal.invariant-loop-index
 invariant-loop-index g l =
