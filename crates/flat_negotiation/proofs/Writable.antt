@@ -1,11 +1,10 @@
 -- The best settings for what structs state can be told in their terms.
-use Rattle.std.proofs.Common.{arith, ◌≡◌, ◌⊎◌, inl, inr, ℕ, ◌<◌, ◌≤◌, ◌^◌, zero, suc, List, [], ◌∷◌, map, Option, Some, None, Contains, refl, sym, ap, ◌∙◌, subst, true, IsSomeAnd, slice_get}
+use Rattle.std.proofs.Common.{arith, ◌≡◌, ◌⊎◌, inl, inr, ℕ, zero, suc, List, [], ◌∷◌, map, Option, Some, None, Contains, refl, sym, ap, subst, true, IsSomeAnd, slice_get}
 use Rattle.std.specs.Prelude.{IsSome, MatchOption}
 use Rattle.std.specs.List.{AllZip}
 use Rattle.std.proofs.lemmas.List.Elements.{Contains-append_right, Contains-append_cases}
 use Rattle.std.proofs.lemmas.Slice.Zip.{AllZip-right}
 use Rattle.drm_images.specs.Codes.{fourcc}
-use Rattle.drm_images.specs.Planes.{bytes_of}
 use Rattle.sysmem_formats.specs.Offers.{images}
 use Rattle.sysmem_formats.specs.declared.colour_space.ColourSpace.{ColourSpace}
 use Rattle.sysmem_formats.specs.declared.offer.Offer.{Offer}
@@ -15,7 +14,7 @@ use Rattle.sysmem_merge.specs.Best.{IsBest}
 use Rattle.sysmem_merge.specs.declared.settings.Settings.{Settings}
 use Rattle.sysmem_sanitise.specs.Participant.{Participant}
 use Rattle.sysmem_sanitise.specs.Platform.{PlatformFacts, offers_of}
-use Rattle.flat_parts.specs.Pairs.{HasCodes, IsPairSaid}
+use Rattle.flat_parts.specs.Pairs.{IsPairSaid}
 use Rattle.flat_parts.specs.declared.flat.FlatPair.{FlatPair}
 use Rattle.flat_parts.specs.declared.flat.FlatPlatform.{FlatPlatform}
 use Rattle.flat_negotiation.specs.Said.{IsPlatformSaid}

@@ -1,5 +1,5 @@
 -- Refusals as a C program is told them.
-use Rattle.std.specs.Prelude.{ℕ, ◌^◌, ◌-◌, Bool, Option, Some, None, if◌then◌else◌}
+use Rattle.std.specs.Prelude.{ℕ, ◌^◌, ◌-◌, Option, Some, None, if◌then◌else◌}
 use Rattle.std.specs.Option.{unwrap_or}
 use Rattle.drm_images.specs.Codes.{fourcc, modifier_bits}
 use Rattle.sysmem_counts.specs.declared.field.Field.{Field}
@@ -9,7 +9,6 @@ use Rattle.sysmem_formats.specs.declared.offer.Offer.TheVariants as offer
 use Rattle.sysmem_merge.specs.declared.reason.Reason.{Reason}
 use Rattle.sysmem_merge.specs.declared.reason.Reason.TheVariants.{Count, NoPlace, NoOffer}
 use Rattle.sysmem_merge.specs.declared.settings.Settings.{Settings}
-use Rattle.flat_parts.specs.declared.unsaid.Amiss.{Amiss}
 use Rattle.flat_parts.specs.Colours.{colour_bit}
 use Rattle.flat_negotiation.specs.declared.flat.FlatRefusal.{FlatRefusal}
 use Rattle.flat_negotiation.specs.declared.unsettled.Refusal.{Refusal}

@@ -1,5 +1,5 @@
 -- Why structs have no settings.
-use Rattle.std.specs.Prelude.{◌≡◌, ℕ, ◌<◌, List, length, true, IsSomeAnd, slice_get}
+use Rattle.std.specs.Prelude.{◌<◌, List, length, true, IsSomeAnd, slice_get}
 use Rattle.std.specs.List.{AllZip}
 use Rattle.sysmem_sanitise.specs.Participant.{Participant}
 use Rattle.sysmem_sanitise.specs.Platform.{PlatformFacts}

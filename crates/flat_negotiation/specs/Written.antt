@@ -1,5 +1,5 @@
 -- Settings as a C program is told them.
-use Rattle.std.specs.Prelude.{◌≡◌, ℕ, ◌^◌, ◌<◌, ◌≤◌, Some, IsSome}
+use Rattle.std.specs.Prelude.{◌≡◌, ℕ, ◌≤◌, Some, IsSome}
 use Rattle.drm_images.specs.Codes.{fourcc, modifier_bits}
 use Rattle.sysmem_formats.specs.declared.colour_space.ColourSpace.{ColourSpace}
 use Rattle.sysmem_formats.specs.declared.offer.Offer.{Offer}
