@@ -3,6 +3,7 @@ mod Counting
 mod Lacking
 mod Logs
 mod Owning
+mod Placing
 pub mod Reading
 mod Still
 pub mod CallerLemmas

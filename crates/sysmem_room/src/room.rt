@@ -17,10 +17,11 @@ ghost use Rattle.sysmem_tree.specs.Nodes.{HasNode};
 ghost use Rattle.sysmem_tree.specs.Table.{makes_root};
 ghost use Rattle.sysmem_tree.specs.Tree.{applied};
 
-use crate::agreeing::has_actions;
+use crate::agreeing::has_placed;
 use crate::cell::{DomainCell, FreshCell, keep, publish_action, publish_decision};
 use crate::log::Log;
 use crate::outcome::{Outcome, Ruling};
+use crate::places::Places;
 use crate::refusing::{due, unforeseen};
 use crate::verdicts::has_verdict;
 use once_cell::race::OnceBox;
@@ -39,6 +40,8 @@ use sysmem_tree::{Action, ActionKind, DomainId, Event, MOST_NODES, NodeId, Refus
 #[derive(Drop)]
 pub struct Room<L: Ledger> {
     book: Book,
+    /// Where in the book's history the actions on each node are.
+    places: Box<Places>,
     counted: Counted<L>,
     /// One part that stays here, and one for each node that can still be made.
     spare: Share<L>,
@@ -53,6 +56,7 @@ impl<L: Ledger> Model for Room<L> {
     ghost use Rattle.std.specs.Vec.{vec_capacity, vec_len};
     ghost use Rattle.sysmem_alloc.specs.Book.{BookFacts};
     ghost use Rattle.sysmem_room.specs.Counting.{actions_in, all_parts};
+    ghost use Rattle.sysmem_room.specs.Places.{ArePlaces};
 
     ghost Value = { BookFacts };
 
@@ -63,7 +67,8 @@ impl<L: Ledger> Model for Room<L> {
         × (r.spare.parts + length r.book.state.tree.nodes ≡ all_parts)
         × (L.parts ≡ all_parts)
         × (vec_len r.cells ≡ length r.book.state.tree.domains)
-        × (128 ≤ vec_capacity r.cells) };
+        × (128 ≤ vec_capacity r.cells)
+        × ArePlaces r.book.history r.places.value };
 }
 
 /// A new collection.
@@ -111,12 +116,14 @@ impl<L: Ledger> Room<L> {
         let fresh = FreshCell::new(alloc)?;
         let cell = fresh.shared()?;
         let mut cells = Vec::with_capacity(alloc, MOST_NODES)?;
+        let places = Box::new(alloc, Places::new())?;
         let book = Book::new(alloc, platform)?;
         cells.push_reserved(fresh.kept());
         let (counted, mut spare) = blank.open();
         let share = spare.split_off(1, 0);
         let room = Room {
             book,
+            places,
             counted,
             spare,
             cells,
@@ -159,12 +166,16 @@ impl<L: Ledger> Room<L> {
             ≡ nodes_by (kind_of (deed_of event.action))) }
         ensures empty { IfOk result (λ done. done.share.amount ≡ 0) }
     {
+        few_entries();
+        let acted = event.node;
         let kind = event.action.kind();
         let parts = parts_of(kind);
+        let entries = self.book.history().len();
         let done = self.book.apply(event)?;
         let tree = self.book.tree();
         tree.nodes();
         tree.domains();
+        self.places.add(tree.number_of(acted), entries);
         self.counted.add(mine, 1);
         let share = self.spare.split_off(parts, 0);
         keep(&mut self.cells, fresh);
@@ -184,7 +195,7 @@ impl<L: Ledger> Room<L> {
     {
         let tree = self.book.tree();
         let node = tree.node_at(path)?;
-        let is_own = has_actions(&self.book, node, log.actions())
+        let is_own = has_placed(&self.book, &self.places, node, log.actions())
             && log.stands_as(tree, node)
             && has_verdict(&self.book, node, known);
         if is_own { Some(node) } else { None }
