@@ -1,5 +1,6 @@
 mod Asking
 mod Counting
+mod Foreseeing
 mod Lacking
 mod Logs
 mod Owning

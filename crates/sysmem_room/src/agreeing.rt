@@ -1,12 +1,12 @@
 //! Whether a history has the actions of a log.
 
-ghost use Rattle.std.specs.Prelude.{◌≡◌, ◌<◌, ◌≤◌, ◌++◌, [], ◌∷◌, IfSome, IsTrue, drop, length, map, option_map, take};
+ghost use Rattle.std.specs.Prelude.{◌≡◌, ◌≢◌, ◌<◌, ◌≤◌, ◌++◌, ◌↔◌, List, [], ◌∷◌, IfSome, IsTrue, None, drop, length, map, option_map, take};
 ghost use Rattle.std.specs.Arc.{arc_value};
 ghost use Rattle.sysmem_alloc.specs.Entry.{entry_in};
 ghost use Rattle.sysmem_room.specs.Agreeing.{book_log, own_deeds};
 ghost use Rattle.sysmem_room.specs.Places.{ArePlaces};
 ghost use Rattle.sysmem_proof.specs.Asked.{asks_at};
-ghost use Rattle.sysmem_tree.specs.ActionKind.{deed_of};
+ghost use Rattle.sysmem_tree.specs.ActionKind.{Deed, deed_of};
 ghost use Rattle.sysmem_tree.specs.Nodes.{HasNode};
 ghost use Rattle.sysmem_alloc.specs.Entry.{deed_with};
 
@@ -30,8 +30,8 @@ pub(crate) fn lent(asked: &Option<Arc<Constraints>>) -> Option<&Constraints>
 #[inline(never)]
 pub(crate) fn has_set(tree: &Tree, node: NodeId, asked: Option<&Constraints>) -> bool
     requires { HasNode tree.now.nodes node }
-    ensures { IsTrue result → asks_at tree.now.nodes node
-        ≡ option_map (λ one. one.now) asked.entry }
+    ensures { IsTrue result ↔ (asks_at tree.now.nodes node
+        ≡ option_map (λ one. one.now) asked.entry) }
 {
     match (tree.constraints_of(node), asked) {
         (None, None) => true,
@@ -44,7 +44,7 @@ pub(crate) fn has_set(tree: &Tree, node: NodeId, asked: Option<&Constraints>) ->
 #[inline(always)]
 fn is_same_action(tree: &Tree, node: NodeId, kind: ActionKind, action: &Action) -> bool
     requires { HasNode tree.now.nodes node }
-    ensures { IsTrue result → deed_with (asks_at tree.now.nodes node) kind ≡ deed_of action.now }
+    ensures { IsTrue result ↔ (deed_with (asks_at tree.now.nodes node) kind ≡ deed_of action.now) }
 {
     if kind != action.kind() {
         return false;
@@ -64,6 +64,8 @@ fn read_on(tree: &Tree, node: NodeId, entry: &Entry, actions: &[Action], at: usi
     ensures read { IfSome result (λ next. drop at (map deed_of actions.now)
         ≡ own_deeds node (entry_in tree.now.nodes entry.now)
         ++ drop next (map deed_of actions.now)) }
+    ensures unread { result ≡ None → (rest : List Deed) → drop at (map deed_of actions.now)
+        ≢ own_deeds node (entry_in tree.now.nodes entry.now) ++ rest }
 {
     let Entry::Acted(acted, kind) = entry else {
         return Some(at);
@@ -82,7 +84,7 @@ fn read_on(tree: &Tree, node: NodeId, entry: &Entry, actions: &[Action], at: usi
 /// Whether a book's history has just these actions on a node.
 pub fn has_actions(book: &Book, node: NodeId, actions: &[Action]) -> bool
     requires { HasNode book.now.state.tree.nodes node }
-    ensures { IsTrue result → book_log book.now.history node ≡ map deed_of actions.now }
+    ensures { IsTrue result ↔ (book_log book.now.history node ≡ map deed_of actions.now) }
 {
     let tree = book.tree();
     let entries = book.history();

@@ -1,13 +1,13 @@
 //! What lies under a collection's lock.
 
-ghost use Rattle.std.specs.Prelude.{◌≡◌, ◌≢◌, ◌<◌, ◌≤◌, ◌+◌, ◌++◌, ◌↔◌, ℕ, List, Ok, Err, Some, None, true, false, length, option_map, is_some, IfErr, IfOk, IfSome, IsTrue, OnErr, OnOk};
+ghost use Rattle.std.specs.Prelude.{◌≡◌, ◌≢◌, ◌<◌, ◌≤◌, ◌+◌, ◌++◌, ◌↔◌, ℕ, List, Ok, Err, Some, None, true, false, length, map, option_map, is_some, IfErr, IfOk, IfSome, IsTrue, OnErr, OnOk};
 ghost use Rattle.std.specs.Arc.{arc_value};
 ghost use Rattle.sysmem_alloc.specs.Book.{entered, new_book};
 ghost use Rattle.sysmem_alloc.specs.Entry.{Acted, Decided};
 ghost use Rattle.sysmem_alloc.specs.Frozen.{IsStill, frozen_of};
 ghost use Rattle.sysmem_alloc.specs.State.{next_ready};
 ghost use Rattle.sysmem_proof.specs.Claim.{IsTrueClaim};
-ghost use Rattle.sysmem_room.specs.Agreeing.{IsOwn};
+ghost use Rattle.sysmem_room.specs.Agreeing.{IsAsKnown, IsOwn, book_log};
 ghost use Rattle.sysmem_room.specs.Counting.{actions_in, all_parts, nodes_by};
 ghost use Rattle.sysmem_room.specs.Lacking.{without_memory};
 ghost use Rattle.sysmem_room.specs.Log.{shown_by};
@@ -17,7 +17,7 @@ ghost use Rattle.sysmem_tree.specs.Nodes.{HasNode};
 ghost use Rattle.sysmem_tree.specs.Table.{makes_root};
 ghost use Rattle.sysmem_tree.specs.Tree.{applied};
 
-use crate::agreeing::has_placed;
+use crate::agreeing::{has_actions, has_placed};
 use crate::cell::{DomainCell, FreshCell, keep, publish_action, publish_decision};
 use crate::log::Log;
 use crate::outcome::{Outcome, Ruling};
@@ -192,13 +192,37 @@ impl<L: Ledger> Room<L> {
         ensures own { IfSome result (IsOwn self.now path.now log.now
             (option_map (λ o. o.now) known.entry)) }
         ensures there { IfSome result (HasNode self.now.state.tree.nodes) }
+        ensures none { result ≡ None → (node : ℕ) → IsOwn self.now path.now log.now
+            (option_map (λ o. o.now) known.entry) node → ⊥ }
     {
-        let tree = self.book.tree();
-        let node = tree.node_at(path)?;
-        let is_own = has_placed(&self.book, &self.places, node, log.actions())
-            && log.stands_as(tree, node)
-            && has_verdict(&self.book, node, known);
-        if is_own { Some(node) } else { None }
+        let node = self.book.tree().node_at(path)?;
+        if self.is_own(node, log, known) {
+            Some(node)
+        } else {
+            None
+        }
+    }
+
+    /// Whether a node was made as a log says, and the book has the log's actions on it and the
+    /// verdict that is known of its domain.
+    fn is_own(&self, node: NodeId, log: &Log, known: Option<&Outcome>) -> bool
+        requires { HasNode self.now.state.tree.nodes node }
+        ensures { IsTrue result ↔ IsAsKnown self.now log.now
+            (option_map (λ o. o.now) known.entry) node }
+    {
+        self.has_log(node, log.actions())
+            && log.stands_as(self.book.tree(), node)
+            && has_verdict(&self.book, node, known)
+    }
+
+    /// Whether the book has just these actions on a node. Where it has, its places tell so; else
+    /// the whole history is read.
+    fn has_log(&self, node: NodeId, actions: &[Action]) -> bool
+        requires { HasNode self.now.state.tree.nodes node }
+        ensures { IsTrue result ↔ (book_log self.now.history node ≡ map deed_of actions.now) }
+    {
+        has_placed(&self.book, &self.places, node, actions)
+            || has_actions(&self.book, node, actions)
     }
 
     /// Enters the action of a handle, by its path, its log and what it knows of its domain's
@@ -222,6 +246,9 @@ impl<L: Ledger> Room<L> {
             × (self.new ≡ entered self.old (Acted node (deed_of action)))) }
         ensures own { IfErr result (λ refusal. refusal ≢ Refusal.Strange → (node : ℕ)
             × IsOwn self.old path.now log.now (option_map (λ o. o.now) known.entry) node) }
+        ensures strange { IfErr result (λ refusal. refusal ≡ Refusal.Strange
+            → option_map (λ o. o.now) known.entry ≡ None → (node : ℕ)
+            → IsOwn self.old path.now log.now None node → ⊥) }
         ensures unchanged { OnErr result (self.new ≡ self.old) }
         ensures foreseen { OnOk result (due (option_map (λ o. o.now) known.entry) path.now
             (shown_by log.now).state (kind_of (deed_of action)) ≡ None) }
