@@ -1,6 +1,7 @@
 -- What a run on threads has done, by how it ended.
 use Rattle.std.specs.Prelude.{◌≡◌, ◌≢◌, ℕ, List, [], Option, Result, Ok, Err, IfSome, ⊤}
 use Rattle.std.specs.Io.KnownBytes.{Appends}
+use Rattle.byte_transfer.specs.Transfer.{WritesFront}
 use Rattle.serde_json.specs.Data.{Data}
 use Rattle.script_reading.specs.Apart.{script_apart}
 use Rattle.script_reading.specs.declared.fault.ParseFault.TheVariants as parsing
@@ -18,6 +19,7 @@ use Rattle.sysmem_participants.specs.declared.faults.AuditFault.{AuditFault}
 use Rattle.sysmem_participants.specs.declared.faults.AuditFault.TheVariants as audits
 use Rattle.script_threads.specs.declared.fault.PlayFault.{PlayFault}
 use Rattle.script_threads.specs.declared.fault.PlayFault.TheVariants as plays
+use Rattle.script_threads.specs.Text.{IsText}
 
 -- the fault of a run whose audit answers this
 abbrev pub fault_of_audit : AuditFault → RunFault
@@ -59,11 +61,26 @@ TellsOfValue value (Err (plays.Parse (parsing.Refused fault))) = script_apart va
 TellsOfValue value (Err (plays.Parse parsing.NoMemory)) = ⊤
 TellsOfValue value (Err (plays.Audit fault)) = IsScript value
 
+-- a text was written, and nothing else
+pub record Writes (before after : Option (List ℕ)) : Type 0 where
+  pub text : List ℕ
+  pub is_text : IsText text
+  pub written : Appends before after text
+
+-- a prefix of a text was written, and nothing else
+pub record WritesPart (before after : Option (List ℕ)) : Type 0 where
+  pub text : List ℕ
+  pub is_text : IsText text
+  pub front : WritesFront before after text
+
 -- what the reader had, where it tells it, and what the writer held before and after, where it tells that
 pub record Played (result : Result Ended RunFault) (had before after : Option (List ℕ)) : Type 0 where
   pub played : (ended : Ended) → result ≡ Ok ended → IfSome had IsPlayable
+  pub written : (ended : Ended) → result ≡ Ok ended → Writes before after
   pub unchecked : result ≢ Ok CheckedNo
   pub no_proof : result ≢ Err Proof
   pub refused : (fault : ScriptFault) → result ≡ Err (Script fault) → IfSome had (λ input. SpellsApart input (Err fault))
   pub audited : (found : Disagreement) → result ≡ Err (Audit found) → IfSome had IsPlayable
+  pub failed : result ≡ Err Write → IfSome had IsPlayable
+  pub front : result ≡ Err Write → WritesPart before after
   pub unwritten : (fault : RunFault) → result ≡ Err fault → fault ≢ Write → Appends before after []

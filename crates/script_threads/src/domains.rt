@@ -1,5 +1,9 @@
 //! What became of the domains of a collection, a line for each.
 
+ghost use Rattle.std.specs.Prelude.{IfOk, OnOk};
+ghost use Rattle.std.specs.String.{string_bytes};
+ghost use Rattle.script_threads.specs.Text.{AreLines};
+
 use script_run::{put_chosen, put_word};
 use std::alloc::{AllocError, Global};
 use sysmem_alloc::Book;
@@ -24,22 +28,22 @@ struct Rooted {
 }
 
 /// The lines of all domains, in pre-order of their roots.
-pub(crate) fn lines_of(alloc: Global, book: &Book) -> Result<Lines, AllocError> {
+pub(crate) fn lines_of(alloc: Global, book: &Book) -> Result<Lines, AllocError>
+    ensures { IfOk result (λ lines. AreLines (string_bytes lines.text)) }
+{
     let tree = book.tree();
     let roots = roots_of(alloc, tree)?;
-    let mut lines = Lines {
-        text: String::new(alloc),
-        is_starved: false,
-    };
+    let mut text = String::new(alloc);
+    let mut is_starved = false;
     for root in &roots {
         let Some(domain) = tree.domain_at(root.index) else {
             continue;
         };
         let verdict = book.verdict_of(domain);
-        lines.is_starved = lines.is_starved || matches!(verdict, Some(Verdict::NoMemory));
-        put_line(&mut lines.text, book.platform(), &root.path, verdict)?;
+        is_starved = is_starved || matches!(verdict, Some(Verdict::NoMemory));
+        put_line(&mut text, book.platform(), &root.path, verdict)?;
     }
-    Ok(lines)
+    Ok(Lines { text, is_starved })
 }
 
 /// The domains in pre-order of their roots.
@@ -61,7 +65,10 @@ fn put_line(
     platform: &Platform,
     path: &Path,
     verdict: Option<&Verdict>,
-) -> Result<(), AllocError> {
+) -> Result<(), AllocError>
+    ensures { OnOk result
+        (AreLines (string_bytes text.old) → AreLines (string_bytes text.new)) }
+{
     match verdict {
         None => put_word(text, path, "pending"),
         Some(Verdict::Chosen(chosen)) => put_choice(text, platform, path, chosen),
@@ -78,7 +85,10 @@ fn put_choice(
     platform: &Platform,
     path: &Path,
     chosen: &Chosen,
-) -> Result<(), AllocError> {
+) -> Result<(), AllocError>
+    ensures { OnOk result
+        (AreLines (string_bytes text.old) → AreLines (string_bytes text.new)) }
+{
     let settings = chosen.settings();
     match corner(&settings.bounds, &settings.offer) {
         Ok(corner) => put_chosen(text, platform, path, chosen, corner),

@@ -1,6 +1,9 @@
 //! A script played by its actors.
 
-ghost use Rattle.std.specs.Prelude.{◌≡◌};
+ghost use Rattle.std.specs.Prelude.{◌≡◌, IfOk};
+ghost use Rattle.std.specs.String.{string_bytes};
+ghost use Rattle.script_run.specs.Lines.{Puts};
+ghost use Rattle.script_threads.specs.Text.{AreLines, IsText, audit_line};
 ghost use Rattle.sysmem_room.specs.Counting.{all_parts};
 
 use crate::actor::act;
@@ -40,6 +43,7 @@ pub(crate) fn play<L: Ledger + Send + Sync, R: Threads + Wait + Sync>(
     requires name { blank.name ≡ L.name }
     requires ledger { blank.parts ≡ L.parts }
     requires parts { blank.parts ≡ all_parts }
+    ensures { IfOk result (λ told. IsText (string_bytes told.text)) }
 {
     let names = names_made(calls);
     let Ok(stubs) = Vec::with_capacity(alloc, names.saturating_add(1)) else {
@@ -62,7 +66,9 @@ fn play_on<L: Ledger + Send + Sync, R: Threads + Wait + Sync>(
     names: usize,
     stubs: Vec<Stub<L>>,
     calls: &[Call<'_>],
-) -> Result<Told, AuditFault> {
+) -> Result<Told, AuditFault>
+    ensures { IfOk result (λ told. IsText (string_bytes told.text)) }
+{
     let Ok(reader) = root.reader() else {
         let _stub = Handle::Token(root).close(rt);
         return Err(AuditFault::NoMemory);
@@ -116,7 +122,9 @@ fn lines_read<L: Ledger, R: Wait>(
     rt: &R,
     alloc: Global,
     reader: &Reader<L>,
-) -> Result<Lines, AllocError> {
+) -> Result<Lines, AllocError>
+    ensures { IfOk result (λ lines. AreLines (string_bytes lines.text)) }
+{
     let reading = reader.read(rt);
     lines_of(alloc, reading.book())
 }
@@ -126,22 +134,35 @@ fn tell<L: Ledger, R: Wait>(
     rt: &R,
     lines: Result<Lines, AllocError>,
     remains: Remains<L>,
-) -> Result<Told, AuditFault> {
-    let Ok(mut lines) = lines else {
+) -> Result<Told, AuditFault>
+    requires { IfOk lines (λ lines. AreLines (string_bytes lines.text)) }
+    ensures { IfOk result (λ told. IsText (string_bytes told.text)) }
+{
+    let Ok(lines) = lines else {
         return Err(AuditFault::NoMemory);
     };
     let audit = audit(rt, remains.stubs)?;
-    if put_audit(&mut lines.text, audit).is_err() {
-        return Err(AuditFault::NoMemory);
+    let is_starved = lines.is_starved || remains.is_starved;
+    match with_audit(lines, audit) {
+        Ok(text) => Ok(Told { text, is_starved }),
+        Err(_) => Err(AuditFault::NoMemory),
     }
-    Ok(Told {
-        text: lines.text,
-        is_starved: lines.is_starved || remains.is_starved,
-    })
+}
+
+/// The lines of domains, with that of an audit after them.
+fn with_audit(lines: Lines, audit: Audit) -> Result<String, AllocError>
+    requires { AreLines (string_bytes lines.text) }
+    ensures { IfOk result (λ text. IsText (string_bytes text)) }
+{
+    let mut text = lines.text;
+    put_audit(&mut text, audit)?;
+    Ok(text)
 }
 
 /// Puts the line of an audit behind the text.
-fn put_audit(text: &mut String, audit: Audit) -> Result<(), AllocError> {
+fn put_audit(text: &mut String, audit: Audit) -> Result<(), AllocError>
+    ensures { Puts result text.old text.new (audit_line audit) }
+{
     let Audit {
         nodes,
         actions,

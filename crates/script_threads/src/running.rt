@@ -1,9 +1,11 @@
 //! The run of a script on threads, from its bytes to what is told of it.
 
-ghost use Rattle.std.specs.Prelude.{◌≡◌, Err};
+ghost use Rattle.std.specs.Prelude.{◌≡◌, Err, IfOk};
+ghost use Rattle.std.specs.String.{string_bytes};
 ghost use Rattle.serde_json.specs.View.{view};
 ghost use Rattle.script_run.specs.Run.{IsCausedBy};
 ghost use Rattle.script_threads.specs.Run.{Played, TellsOf, TellsOfValue};
+ghost use Rattle.script_threads.specs.Text.{IsText};
 
 use crate::fault::PlayFault;
 use crate::planning::settle_waits;
@@ -27,7 +29,7 @@ const PARTS: u64 = 129;
 /// became of each domain, and what the audit counts.
 ///
 /// Any failure of the reader is the fault `Read`, and any of the writer the fault `Write`; what was
-/// written then is a prefix of the whole. No other fault is called so, and with another nothing is
+/// written then is a prefix of such a text. No other fault is called so, and with another nothing is
 /// written. A thread that can't be started is want of memory, and then no actor makes a call.
 pub fn run_threads<T: Threads + Wait + Sync, R: Source, W: Sink>(
     rt: &T,
@@ -57,7 +59,8 @@ fn play_bytes<T: Threads + Wait + Sync>(
     alloc: Global,
     bytes: &[u8],
 ) -> Result<Told, PlayFault>
-    ensures { TellsOf bytes.now result }
+    ensures tells { TellsOf bytes.now result }
+    ensures text { IfOk result (λ told. IsText (string_bytes told.text)) }
 {
     match parse_script(alloc, bytes) {
         Ok(value) => play_value(rt, alloc, &value),
@@ -71,7 +74,8 @@ fn play_value<T: Threads + Wait + Sync>(
     alloc: Global,
     value: &Value,
 ) -> Result<Told, PlayFault>
-    ensures { TellsOfValue (view value.now) result }
+    ensures tells { TellsOfValue (view value.now) result }
+    ensures text { IfOk result (λ told. IsText (string_bytes told.text)) }
 {
     let script = match read_script_apart(alloc, value) {
         Ok(script) => script,
@@ -88,7 +92,9 @@ fn play_script<T: Threads + Wait + Sync>(
     rt: &T,
     alloc: Global,
     script: Script<'_>,
-) -> Result<Told, AuditFault> {
+) -> Result<Told, AuditFault>
+    ensures { IfOk result (λ told. IsText (string_bytes told.text)) }
+{
     let Script {
         platform,
         mut calls,

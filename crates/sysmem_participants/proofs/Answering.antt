@@ -1,5 +1,5 @@
 -- What a handle's refusal says by what the handle knew, where it saw more.
-use Rattle.std.proofs.Common.{◌≡◌, ℕ, Bool, true, false, List, Option, Some, None, refl, sym, ◌∙◌, ap, subst, Bor}
+use Rattle.std.proofs.Common.{◌≡◌, ℕ, Bool, true, false, List, Option, Some, None, refl, sym, ap, subst, Bor}
 use Rattle.std.specs.Prelude.{IfSome, MatchOption, option_map, if◌then◌else◌}
 use Rattle.once_cell.specs.Once.{Agrees}
 use Rattle.sysmem_proof.specs.declared.verdict.Verdict.{Verdict}

@@ -1,5 +1,5 @@
 -- What audits that said yes say of their books' histories.
-use Rattle.std.proofs.Common.{◌≡◌, ◌<◌, ◌≤◌, ℕ, Bool, true, false, List, [], ◌∷◌, Option, Some, None, Result, Ok, Err, length, slice_get, get_or, refl, sym, ◌∙◌, ap, subst, arith}
+use Rattle.std.proofs.Common.{◌≡◌, ℕ, Bool, true, false, List, [], ◌∷◌, Option, Some, None, Result, Ok, Err, slice_get, get_or, refl, sym, ◌∙◌, ap, subst}
 use Rattle.std.specs.Prelude.{IfSome, map, option_map, option_and_then, unwrap_or, if◌then◌else◌}
 use Rattle.std.proofs.lemmas.Option.{same_Some}
 use Rattle.sysmem_proof.specs.declared.verdict.Verdict.{Verdict}
@@ -18,18 +18,17 @@ use Rattle.sysmem_tree.proofs.CallerLemmas.{node_within}
 use Rattle.sysmem_alloc.specs.Book.{BookFacts, IsBook}
 use Rattle.sysmem_alloc.specs.Decision.{Decision, decision_for}
 use Rattle.sysmem_alloc.specs.Entry.{BookEntry, Acted, Decided, tree_entry}
-use Rattle.sysmem_alloc.specs.History.{IsLegal, NoEarlyClose, SameCalls, after_answer, after_entry, replay, replay_from}
+use Rattle.sysmem_alloc.specs.History.{IsLegal, SameCalls, after_answer, after_entry, replay, replay_from}
 use Rattle.sysmem_alloc.specs.Laws.{AreConfluent, Confluence, LegalIsSound}
 use Rattle.sysmem_alloc.specs.Sound.{IsSoundState}
 use Rattle.sysmem_alloc.specs.State.{State, first_state, verdict_of}
-use Rattle.sysmem_room.specs.declared.outcome.Outcome.{Outcome}
 use Rattle.sysmem_room.specs.declared.outcome.Outcome.TheVariants as outcomes
-use Rattle.sysmem_room.specs.Agreeing.{book_log, verdict_at, IsKnown}
+use Rattle.sysmem_room.specs.Agreeing.{verdict_at, IsKnown}
 use Rattle.sysmem_room.specs.Ruling.{RulingFacts}
 use Rattle.sysmem_participants.specs.declared.faults.Audit.{Audit}
 use Rattle.sysmem_participants.specs.Audit.{IsAudited, IsOf}
 use Rattle.sysmem_participants.specs.Held.{Left}
-use Rattle.sysmem_participants.specs.Laws.{AreAmong, AuditsAgree, GotOneVerdict, HaveSameCalls, IsDecision, IsInitial, IsLike}
+use Rattle.sysmem_participants.specs.Laws.{AreAmong, AuditsAgree, HaveSameCalls, IsDecision, IsInitial, IsLike}
 
 -- the tree of a history's state is the one that its entries for the tree lead to
 tree_of_entry : (s : State) (e : BookEntry) → (after_entry s e).tree ≡ trees.after_entry s.tree (tree_entry e)

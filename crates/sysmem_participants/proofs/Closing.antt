@@ -1,6 +1,6 @@
 -- Where no stub was closed, no node of the book was.
-use Rattle.std.proofs.Common.{◌≡◌, ◌<◌, ◌≤◌, ℕ, ◌==◌, Bool, true, false, List, [], ◌∷◌, ◌++◌, Option, Some, None, Result, Ok, Err, length, slice_get, get_or, refl, sym, ◌∙◌, ap, subst, arith, rules, tests}
-use Rattle.std.specs.Prelude.{IsOk, map, if◌then◌else◌}
+use Rattle.std.proofs.Common.{◌≡◌, ◌<◌, ℕ, ◌==◌, true, false, List, [], ◌∷◌, ◌++◌, None, Result, Ok, Err, length, refl, sym, ◌∙◌, ap, subst, arith, rules, tests}
+use Rattle.std.specs.Prelude.{IsOk, if◌then◌else◌}
 use Rattle.std.specs.List.{AllByRecursion}
 use Rattle.std.proofs.lemmas.List.{append_assoc}
 use Rattle.std.proofs.lemmas.Option.{slice_get_within}
@@ -11,17 +11,14 @@ use Rattle.sysmem_tree.specs.Domain.{TreeFacts}
 use Rattle.sysmem_tree.specs.History.{is_close}
 use Rattle.sysmem_tree.specs.Tree.{Applied, applied}
 use Rattle.sysmem_tree.proofs.CallerLemmas.{accepted}
-use Rattle.sysmem_alloc.specs.Book.{BookFacts, IsBook}
 use Rattle.sysmem_alloc.specs.Entry.{BookEntry, Acted, Decided}
 use Rattle.sysmem_alloc.specs.History.{Allows, AreAllowed, IsLegal, NoEarlyClose, after_entry, replay, replay_from}
 use Rattle.sysmem_alloc.specs.Laws.{NumbersStay}
 use Rattle.sysmem_alloc.specs.State.{State, first_state}
 use Rattle.sysmem_room.specs.Agreeing.{book_log, own_deeds}
 use Rattle.sysmem_room.proofs.CallerLemmas.{log_cons}
-use Rattle.sysmem_participants.specs.declared.faults.Audit.{Audit}
-use Rattle.sysmem_participants.specs.Audit.{IsAudited, IsOf}
 use Rattle.sysmem_participants.specs.Held.{Left}
-use Rattle.sysmem_participants.specs.Laws.{IsOpen, NoneClosed}
+use Rattle.sysmem_participants.specs.Laws.{NoneClosed}
 
 abbrev IsKept : Deed → Type 0
 IsKept deed = is_close (kind_of deed) ≡ false

@@ -32,10 +32,10 @@ shown_at (Ok v) at r platform path asked right is_for same chosen own = record {
 shown_at (Err e) at r platform path asked right is_for same chosen own = tt
 
 -- how a ruling refuses a view, where it is for this platform
-pub refused_for : {V : Type 0} (shown : Result V Refusal) (r : RulingFacts) (platform : PlatformFacts) (path : List ℕ) → r.frozen.platform ≡ platform
-    → IfErr shown (IsRefusedBy r.frozen.platform path r) → IfErr shown (IsTold platform path (outcomes.Decided r))
-refused_for (Ok v) r platform path is_for told = tt
-refused_for (Err e) r platform path is_for told = subst (λ p. IsRefusedBy p path r e) is_for told
+pub refused_for : {V : Type 0} (shown : Result V Refusal) (r : RulingFacts) (platform : PlatformFacts) (path : List ℕ) (asked : Option Participant) → r.frozen.platform ≡ platform
+    → IfErr shown (IsRefusedBy r.frozen.platform path asked r) → IfErr shown (IsTold platform path asked (outcomes.Decided r))
+refused_for (Ok v) r platform path asked is_for told = tt
+refused_for (Err e) r platform path asked is_for told = subst (λ p. IsRefusedBy p path asked r e) is_for told
 
 -- a verdict that is optimal and what proves it are a true claim
 pub put_together : (p q : PlatformFacts) (t u : TreeFacts) (d e : ℕ) (a b : Option BaseFacts) (v : Verdict) (by : Proof) → p ≡ q → t ≡ u → d ≡ e → a ≡ b

@@ -1,6 +1,6 @@
 -- Stubs that were seen one after the other.
 use Rattle.std.proofs.Common.{◌≡◌, ◌<◌, ℕ, zero, suc, ◌+◌, Bool, true, false, List, [], ◌∷◌, Option, Some, None, length, replicate, get_or, map, slice_get, slice_set, refl, sym, ◌∙◌, ap, subst, arith, inl, inr}
-use Rattle.std.specs.Prelude.{IfSome}
+use Rattle.std.specs.Prelude.{◌↔◌, IfSome}
 use Rattle.std.proofs.lemmas.Bool.{cases_eq}
 use Rattle.std.proofs.lemmas.List.{get_or-set_same, get_or-set_other, length-set}
 use Rattle.std.proofs.lemmas.Option.{same_Some}
@@ -9,7 +9,7 @@ use Rattle.sysmem_room.specs.declared.outcome.Outcome.{Outcome}
 use Rattle.sysmem_room.specs.Agreeing.{IsKnown, book_log}
 use Rattle.sysmem_sanitise.specs.Platform.{PlatformFacts}
 use Rattle.sysmem_tree.specs.Path.{node_at}
-use Rattle.sysmem_participants.specs.Audit.{AreMatched, AreRead, HasAt, HaveCalls, IsAmong, IsAmongPaths, IsOf, IsRead}
+use Rattle.sysmem_participants.specs.Audit.{AreMatched, AreRead, HasAt, HaveCalls, HaveVerdicts, IsAmong, IsAmongPaths, IsOf, IsRead}
 use Rattle.sysmem_participants.specs.Held.{Left}
 use Rattle.sysmem_participants.proofs.Noted.{known_on}
 
@@ -26,20 +26,20 @@ IsMarked b marks s = HasAt b s (λ i. get_or marks i false ≡ true)
 pub record SeenTo (b : BookFacts) (stubs : List Left) (marks : List Bool) (same_calls same_verdicts : Bool) (index : ℕ) : Type 0 where
   pub each : (k : ℕ) (d : Left) → k < index → IsMarked b marks (get_or stubs k d)
   pub marked : (i : ℕ) → get_or marks i false ≡ true → IsAmongPaths b stubs index i
-  pub calls : same_calls ≡ true → (k : ℕ) (d : Left) → k < index → HasCalls b (get_or stubs k d)
-  pub verdicts : same_verdicts ≡ true → (k : ℕ) (d : Left) → k < index → HasVerdict b (get_or stubs k d)
+  pub calls : (same_calls ≡ true) ↔ ((k : ℕ) (d : Left) → k < index → HasCalls b (get_or stubs k d))
+  pub verdicts : (same_verdicts ≡ true) ↔ ((k : ℕ) (d : Left) → k < index → HasVerdict b (get_or stubs k d))
 
 none_marked : (many k : ℕ) → get_or (replicate many false) k false ≡ true → ⊥
 none_marked zero k is = absurd (cc)
 none_marked (suc many) zero is = absurd (cc)
 none_marked (suc many) (suc k) is = none_marked many k is
 
-pub seen_none : (b : BookFacts) (stubs : List Left) (calls verdicts : Bool) → SeenTo b stubs (replicate 128 false) calls verdicts 0
-seen_none b stubs calls verdicts = record {
+pub seen_none : (b : BookFacts) (stubs : List Left) → SeenTo b stubs (replicate 128 false) true true 0
+seen_none b stubs = record {
   each = λ k d less. absurd (omega (arith, less));
   marked = λ i is. absurd (none_marked 128 i is);
-  calls = λ is k d less. absurd (omega (arith, less));
-  verdicts = λ is k d less. absurd (omega (arith, less));
+  calls = (λ is k d less. absurd (omega (arith, less)), λ each. refl);
+  verdicts = (λ is k d less. absurd (omega (arith, less)), λ each. refl);
 }
 
 -- what is true of each stub before an index and of the one that is written there
@@ -50,6 +50,18 @@ push_each P stubs index s less own each k d below = elim (cases_eq k index) [
   | inr other ↦ subst P (sym (get_or-set_other stubs index k s d other)) (each k d (omega (arith, below, other)))
 ]
 
+-- and back
+each_back : (P : Left → Type 0) (stubs : List Left) (index : ℕ) (s : Left) → index < length stubs → ((k : ℕ) (d : Left) → k < index + 1 → P (get_or (slice_set stubs index s) k d))
+    → P s × ((k : ℕ) (d : Left) → k < index → P (get_or stubs k d))
+each_back P stubs index s less each = (
+  subst P (get_or-set_same stubs index s s less) (each index s (omega arith)),
+  λ k d below. subst P (get_or-set_other stubs index k s d (λ e. omega (arith, e, below))) (each k d (omega (arith, below))),
+)
+
+-- what is true of the node at a stub's path is true of the node that was found there
+found_at : (b : BookFacts) (s : Left) (node : ℕ) (P : ℕ → Type 0) → node_at b.state.tree.nodes s.path ≡ Some node → HasAt b s P → P node
+found_at b s node P at has = let (i, here, is) = has in subst P (same_Some i node (sym here ∙ at)) is
+
 -- a mark more leaves the others
 still_marked : (marks : List Bool) (node i : ℕ) → node < length marks → get_or marks i false ≡ true → get_or (slice_set marks node true) i false ≡ true
 still_marked marks node i less is = elim (cases_eq i node) [
@@ -58,7 +70,7 @@ still_marked marks node i less is = elim (cases_eq i node) [
 ]
 
 pub seen_more : (b : BookFacts) (stubs : List Left) (marks : List Bool) (calls verdicts calls' verdicts' : Bool) (index node : ℕ) (s : Left) → index < length stubs → node < length marks
-    → node_at b.state.tree.nodes s.path ≡ Some node → (calls' ≡ true → (calls ≡ true) × (book_log b.history node ≡ s.deeds)) → (verdicts' ≡ true → (verdicts ≡ true) × IsKnown b node s.known)
+    → node_at b.state.tree.nodes s.path ≡ Some node → ((calls' ≡ true) ↔ ((calls ≡ true) × (book_log b.history node ≡ s.deeds))) → ((verdicts' ≡ true) ↔ ((verdicts ≡ true) × IsKnown b node s.known))
     → SeenTo b stubs marks calls verdicts index → SeenTo b (slice_set stubs index s) (slice_set marks node true) calls' verdicts' (index + 1)
 seen_more b stubs marks calls verdicts calls' verdicts' index node s less there at has knows seen = record {
   each = push_each (IsMarked b (slice_set marks node true)) stubs index s less (node, at, get_or-set_same marks node true false there)
@@ -69,8 +81,14 @@ seen_more b stubs marks calls verdicts calls' verdicts' index node s less there 
         let (k, below, path) = seen.marked i (sym (get_or-set_other marks node i true false other) ∙ is) in
         (k, omega (arith, below), λ d. subst (λ (x : Left). node_at b.state.tree.nodes x.path ≡ Some i) (sym (get_or-set_other stubs index k s d (λ e. omega (arith, e, below)))) (path d))
   ];
-  calls = λ is. let (was, own) = has is in push_each (HasCalls b) stubs index s less (node, at, own) (seen.calls was);
-  verdicts = λ is. let (was, own) = knows is in push_each (HasVerdict b) stubs index s less (node, at, own) (seen.verdicts was);
+  calls = (
+    λ is. let (was, own) = has.0 is in push_each (HasCalls b) stubs index s less (node, at, own) (seen.calls.0 was),
+    λ each. let (own, before) = each_back (HasCalls b) stubs index s less each in has.1 (seen.calls.1 before, found_at b s node (λ i. book_log b.history i ≡ s.deeds) at own),
+  );
+  verdicts = (
+    λ is. let (was, own) = knows.0 is in push_each (HasVerdict b) stubs index s less (node, at, own) (seen.verdicts.0 was),
+    λ each. let (own, before) = each_back (HasVerdict b) stubs index s less each in knows.1 (seen.verdicts.1 before, found_at b s node (λ i. IsKnown b i s.known) at own),
+  );
 }
 
 -- the stubs of which all were seen, and all nodes are marked
@@ -94,7 +112,20 @@ marked_all b stubs marks calls verdicts index end seen matched i less =
 
 pub have_calls : (b : BookFacts) (stubs : List Left) (marks : List Bool) (calls verdicts : Bool) (index : ℕ) → index ≡ length stubs → calls ≡ true → SeenTo b stubs marks calls verdicts index
     → HaveCalls b stubs
-have_calls b stubs marks calls verdicts index end is seen k d below = seen.calls is k d (omega (arith, below, end))
+have_calls b stubs marks calls verdicts index end is seen k d below = seen.calls.0 is k d (omega (arith, below, end))
+
+-- where the calls of a stub differ, not all stubs have their calls, and so for the verdicts
+pub lack_calls : (b : BookFacts) (stubs : List Left) (marks : List Bool) (calls verdicts : Bool) (index : ℕ) → index ≡ length stubs → calls ≡ false → SeenTo b stubs marks calls verdicts index
+    → HaveCalls b stubs → ⊥
+lack_calls b stubs marks calls verdicts index end is seen have =
+    let all : calls ≡ true = seen.calls.1 (λ k d below. have k d (omega (arith, below, end))) in
+    absurd (cc (sym all ∙ is))
+
+pub lack_verdicts : (b : BookFacts) (stubs : List Left) (marks : List Bool) (calls verdicts : Bool) (index : ℕ) → index ≡ length stubs → verdicts ≡ false → SeenTo b stubs marks calls verdicts index
+    → HaveVerdicts b stubs → ⊥
+lack_verdicts b stubs marks calls verdicts index end is seen have =
+    let all : verdicts ≡ true = seen.verdicts.1 (λ k d below. have k d (omega (arith, below, end))) in
+    absurd (cc (sym all ∙ is))
 
 -- a stub that is at a node, with its calls and its verdict, is of that node
 is_of : (b : BookFacts) (s : Left) (i j k : ℕ) → node_at b.state.tree.nodes s.path ≡ Some i → node_at b.state.tree.nodes s.path ≡ Some j → node_at b.state.tree.nodes s.path ≡ Some k
@@ -110,8 +141,8 @@ pub each_of : (b : BookFacts) (stubs : List Left) (marks : List Bool) (calls ver
 each_of b stubs marks calls verdicts index end all_calls all_verdicts seen k d below =
     let less : k < index = omega (arith, below, end) in
     let (i, at, is) = seen.each k d less in
-    let (j, calls_at, has) = seen.calls all_calls k d less in
-    let (n, verdict_at, knows) = seen.verdicts all_verdicts k d less in
+    let (j, calls_at, has) = seen.calls.0 all_calls k d less in
+    let (n, verdict_at, knows) = seen.verdicts.0 all_verdicts k d less in
     (i, is_of b (get_or stubs k d) i j n at calls_at verdict_at has knows)
 
 -- each node has one of the stubs that were seen
@@ -122,8 +153,8 @@ all_of b stubs marks calls verdicts index end all_calls all_verdicts seen i is =
       k,
       omega (arith, less, end),
       λ d.
-          let (j, calls_at, has) = seen.calls all_calls k d less in
-          let (n, verdict_at, knows) = seen.verdicts all_verdicts k d less in
+          let (j, calls_at, has) = seen.calls.0 all_calls k d less in
+          let (n, verdict_at, knows) = seen.verdicts.0 all_verdicts k d less in
           is_of b (get_or stubs k d) i j n (path d) calls_at verdict_at has knows,
     )
 

@@ -1,5 +1,5 @@
 -- Two audits that said yes.
-use Rattle.std.proofs.Common.{◌≡◌, ◌<◌, ℕ, false, List, [], ◌∷◌, None, Some, length, slice_get, get_or, sym, ◌∙◌, ap, subst, arith}
+use Rattle.std.proofs.Common.{◌≡◌, ◌<◌, false, List, [], ◌∷◌, None, Some, length, slice_get, get_or, sym, ◌∙◌, ap, subst, arith}
 use Rattle.std.specs.Prelude.{IfSome, IsSomeAnd}
 use Rattle.std.specs.List.{AllByRecursion}
 use Rattle.sysmem_sanitise.specs.Platform.{PlatformFacts}
@@ -13,7 +13,7 @@ use Rattle.sysmem_room.specs.declared.outcome.Outcome.{Outcome}
 use Rattle.sysmem_participants.specs.declared.faults.Audit.{Audit}
 use Rattle.sysmem_participants.specs.Audit.{AgreesWith, AreFor, AreRead, IsRead}
 use Rattle.sysmem_participants.specs.Held.{Left}
-use Rattle.sysmem_participants.specs.Laws.{AreAmong, AreOpen, AuditsAgree, FoundOneVerdict, GotOneVerdict, IsInitial, IsLike, NoneClosed, TwoAuditsAgree}
+use Rattle.sysmem_participants.specs.Laws.{AreAmong, AreOpen, AuditsAgree, GotOneVerdict, IsInitial, IsLike, NoneClosed, TwoAuditsAgree}
 use Rattle.sysmem_participants.proofs.Audited.{is_sound, none_left}
 
 -- stubs that were read have the paths and the calls that they had

@@ -1,9 +1,9 @@
 -- What stubs and a book say of one another.
-use Rattle.std.specs.Prelude.{◌≡◌, ◌<◌, ◌+◌, ℕ, List, [], ◌∷◌, Option, None, Some, IfSome, codes, length, slice_index_or, sum_by}
+use Rattle.std.specs.Prelude.{◌≡◌, ◌<◌, ◌+◌, ◌⊎◌, ℕ, List, [], ◌∷◌, Some, IfSome, codes, length, slice_index_or, sum_by}
 use Rattle.sysmem_alloc.specs.Book.{BookFacts, IsBook}
 use Rattle.sysmem_alloc.specs.Entry.{BookEntry, Acted, Decided}
 use Rattle.sysmem_sanitise.specs.Platform.{PlatformFacts}
-use Rattle.sysmem_room.specs.Agreeing.{AgreesAt, book_log}
+use Rattle.sysmem_room.specs.Agreeing.{AgreesAt, IsKnown, book_log}
 use Rattle.sysmem_room.specs.Counting.{actions_in}
 use Rattle.sysmem_tree.specs.Path.{node_at}
 use Rattle.sysmem_participants.specs.declared.faults.Audit.{Audit}
@@ -55,11 +55,16 @@ abbrev pub HaveCalls : BookFacts → List Left → Type 0
 HaveCalls b stubs = (k : ℕ) (d : Left) → k < length stubs
     → HasAt b (slice_index_or stubs k d) (λ i. book_log b.history i ≡ (slice_index_or stubs k d).deeds)
 
--- a fault is told only where none that comes before it is there; the first, only where it is there itself
+-- each stub has the verdict of its node's domain, where its cell has one
+abbrev pub HaveVerdicts : BookFacts → List Left → Type 0
+HaveVerdicts b stubs = (k : ℕ) (d : Left) → k < length stubs
+    → HasAt b (slice_index_or stubs k d) (λ i. IsKnown b i (slice_index_or stubs k d).known)
+
+-- a fault is told exactly where it is there and none that comes before it is
 abbrev pub IsFirstFault : BookFacts → List Left → AuditFault → Type 0
 IsFirstFault b stubs faults.Stubs = AreMatched b stubs → ⊥
-IsFirstFault b stubs faults.Calls = AreMatched b stubs
-IsFirstFault b stubs faults.Verdicts = AreMatched b stubs × HaveCalls b stubs
+IsFirstFault b stubs faults.Calls = AreMatched b stubs × (HaveCalls b stubs → ⊥)
+IsFirstFault b stubs faults.Verdicts = AreMatched b stubs × HaveCalls b stubs × (HaveVerdicts b stubs → ⊥)
 IsFirstFault b stubs faults.NoMemory = ⊥
 
 -- a stub once its cell was read: what it knew it still knows
@@ -87,9 +92,19 @@ pub record AgreesWith (b : BookFacts) (stubs : List Left) (a : Audit) : Type 0 w
   pub counted : sum_by (λ (s : Left). length s.deeds) stubs ≡ actions_in b.history
   pub audited : (read : List Left) × AreRead stubs read × IsAudited b read a
 
+-- the first fault of a book and the stubs of its collection: the stubs are for another platform, or for the book's, and once
+-- their cells were read the fault is the first one
+abbrev pub IsFaultOf : BookFacts → List Left → AuditFault → Type 0
+IsFaultOf b stubs fault = ((fault ≡ faults.Stubs) × (AreFor b.platform stubs → ⊥))
+    ⊎ (AreFor b.platform stubs × ((read : List Left) × AreRead stubs read × IsFirstFault b read fault))
+
 -- a legal book and the stubs agree
 abbrev pub SomeBookAgrees : List Left → Audit → Type 0
 SomeBookAgrees stubs a = (b : BookFacts) × IsBook b × AgreesWith b stubs a
+
+-- the stubs have this fault by a legal book
+abbrev pub SomeBookRefuses : List Left → AuditFault → Type 0
+SomeBookRefuses stubs fault = (b : BookFacts) × IsBook b × IsFaultOf b stubs fault
 
 -- faults as the program prints them; a want of memory is told as that refusal
 abbrev pub fault_text : AuditFault → List ℕ

@@ -1,5 +1,5 @@
 -- What follows from audits that said yes.
-use Rattle.std.specs.Prelude.{◌≡◌, ◌<◌, ℕ, false, List, Option, Some, IfSome, length, slice_get, slice_index_or}
+use Rattle.std.specs.Prelude.{◌≡◌, ◌<◌, ℕ, false, List, Some, IfSome, length, slice_get, slice_index_or}
 use Rattle.std.specs.List.{AllByRecursion}
 use Rattle.sysmem_alloc.specs.Book.{BookFacts, IsBook}
 use Rattle.sysmem_alloc.specs.History.{NoEarlyClose}
@@ -7,7 +7,6 @@ use Rattle.sysmem_alloc.specs.State.{verdict_of}
 use Rattle.sysmem_proof.specs.declared.verdict.Verdict.{Verdict}
 use Rattle.sysmem_proof.specs.declared.verdict.Verdict.TheVariants as verdicts
 use Rattle.sysmem_proof.specs.Verdict.{IsSameAnswer}
-use Rattle.sysmem_room.specs.declared.outcome.Outcome.{Outcome}
 use Rattle.sysmem_room.specs.declared.outcome.Outcome.TheVariants as outcomes
 use Rattle.sysmem_room.specs.Ruling.{RulingFacts}
 use Rattle.sysmem_sanitise.specs.Platform.{PlatformFacts}

@@ -1,5 +1,5 @@
 -- What a handle is told of its domain's verdict.
-use Rattle.std.specs.Prelude.{◌≡◌, ◌≢◌, ℕ, false, true, List, Option, Some, IfSome}
+use Rattle.std.specs.Prelude.{◌≡◌, ◌≢◌, ◌⊎◌, ℕ, false, true, List, Option, Some, IfSome}
 use Rattle.sysmem_alloc.specs.Frozen.{FrozenFacts}
 use Rattle.sysmem_proof.specs.declared.verdict.Verdict.{Verdict}
 use Rattle.sysmem_proof.specs.declared.verdict.Verdict.TheVariants as verdicts
@@ -35,9 +35,13 @@ pub record IsShownAt (platform : PlatformFacts) (path : List ℕ) (asked : Optio
   pub chosen : IsChosenFor path r.frozen r.claim.verdict
   pub own : Asks r.frozen path asked
 
+-- the constraints that a handle set, if it set any
+abbrev pub asked_by : Held → Option Participant
+asked_by h = (shown_after_all h.begun h.deeds).constraints
+
 -- a handle may be shown a ruling
 abbrev pub IsShownTo : Held → RulingFacts → Type 0
-IsShownTo h r = IsShownAt h.platform h.path (shown_after_all h.begun h.deeds).constraints r
+IsShownTo h r = IsShownAt h.platform h.path (asked_by h) r
 
 -- a verdict chose this selection
 abbrev pub IsSelected : Verdict → List ℕ → Type 0
@@ -59,29 +63,36 @@ pub record IsRulingFor (platform : PlatformFacts) (r : RulingFacts) : Type 0 whe
   pub right : IsRuling r
   pub is_for : r.frozen.platform ≡ platform
 
--- how the handle of a path is refused a view of a ruling: by a true claim for its platform, or because the two disagree
-abbrev pub IsRefusedBy : PlatformFacts → List ℕ → RulingFacts → Refusal → Type 0
-IsRefusedBy platform path r refusals.ConstraintsIntersectionEmpty =
-    IsRulingFor platform r × (r.claim.verdict ≡ verdicts.IntersectionEmpty)
-IsRefusedBy platform path r refusals.TooManyGroupChildCombinations =
-    IsRulingFor platform r × (r.claim.verdict ≡ verdicts.TooMany)
-IsRefusedBy platform path r refusals.NotSelected =
-    IsRulingFor platform r × IsLeftOut path r.frozen r.claim.verdict
-IsRefusedBy platform path r refusals.Strange = Unit {0}
-IsRefusedBy platform path r _ = ⊥
+-- a ruling isn't what the handle of a path that asks for this can have: it is for another platform, or its node is a member
+-- over a tree without the constraints that it set
+abbrev pub Disagree : PlatformFacts → List ℕ → Option Participant → RulingFacts → Type 0
+Disagree platform path asked r =
+    (r.frozen.platform ≢ platform) ⊎ (IsChosenFor path r.frozen r.claim.verdict × (Asks r.frozen path asked → ⊥))
 
--- what the handle of a path is told by what became of its domain, where it is shown nothing
-abbrev pub IsTold : PlatformFacts → List ℕ → Outcome → Refusal → Type 0
-IsTold platform path (outcomes.Decided r) refusal = IsRefusedBy platform path r refusal
-IsTold platform path outcomes.Failed refusal = refusal ≡ refusals.DomainFailed
-IsTold platform path outcomes.NoMemory refusal = refusal ≡ refusals.NoMemory
+-- how the handle of a path that asks for this is refused a view of a ruling: by a true claim for its platform, or because
+-- the two disagree
+abbrev pub IsRefusedBy : PlatformFacts → List ℕ → Option Participant → RulingFacts → Refusal → Type 0
+IsRefusedBy platform path asked r refusals.ConstraintsIntersectionEmpty =
+    IsRulingFor platform r × (r.claim.verdict ≡ verdicts.IntersectionEmpty)
+IsRefusedBy platform path asked r refusals.TooManyGroupChildCombinations =
+    IsRulingFor platform r × (r.claim.verdict ≡ verdicts.TooMany)
+IsRefusedBy platform path asked r refusals.NotSelected =
+    IsRulingFor platform r × IsLeftOut path r.frozen r.claim.verdict
+IsRefusedBy platform path asked r refusals.Strange = Disagree platform path asked r
+IsRefusedBy platform path asked r _ = ⊥
+
+-- what the handle of a path that asks for this is told by what became of its domain, where it is shown nothing
+abbrev pub IsTold : PlatformFacts → List ℕ → Option Participant → Outcome → Refusal → Type 0
+IsTold platform path asked (outcomes.Decided r) refusal = IsRefusedBy platform path asked r refusal
+IsTold platform path asked outcomes.Failed refusal = refusal ≡ refusals.DomainFailed
+IsTold platform path asked outcomes.NoMemory refusal = refusal ≡ refusals.NoMemory
 
 -- a handle is told what it then knows became of its domain, or `Pending`
 abbrev pub IsToldBy : Held → Option Outcome → Refusal → Type 0
 IsToldBy h known refusal = refusal ≢ refusals.Pending
-    → (o : Outcome) × (known ≡ Some o) × IsTold h.platform h.path o refusal
+    → (o : Outcome) × (known ≡ Some o) × IsTold h.platform h.path (asked_by h) o refusal
 
 -- what a handle is told tells what became of its domain: what it knew of that, where it knew it
 abbrev pub Tells : Held → Refusal → Type 0
 Tells h refusal = refusal ≢ refusals.Pending
-    → (o : Outcome) × IfSome h.known (λ k. k ≡ o) × IsTold h.platform h.path o refusal
+    → (o : Outcome) × IfSome h.known (λ k. k ≡ o) × IsTold h.platform h.path (asked_by h) o refusal

@@ -1,6 +1,6 @@
 //! Whether stubs and a book say the same.
 
-ghost use Rattle.std.specs.Prelude.{◌≡◌, ◌<◌, ◌≤◌, ℕ, Some, false, true, get_or, length, IfErr, IfOk};
+ghost use Rattle.std.specs.Prelude.{◌≡◌, ◌<◌, ◌≤◌, ◌↔◌, ℕ, Some, false, true, get_or, length, IfErr, IfOk};
 ghost use Rattle.sysmem_participants.specs.Audit.{AreRead, IsAudited, IsFirstFault, IsRead, decisions_in};
 ghost use Rattle.sysmem_room.specs.Agreeing.{IsKnown, book_log};
 ghost use Rattle.sysmem_room.specs.Counting.{actions_in};
@@ -27,9 +27,9 @@ struct Agreement {
 impl Agreement {
     /// What both have in common.
     fn and(self, other: Agreement) -> Agreement
-        ensures calls { result.calls ≡ true → (self.calls ≡ true) × (other.calls ≡ true) }
-        ensures verdict { result.verdict ≡ true
-            → (self.verdict ≡ true) × (other.verdict ≡ true) }
+        ensures calls { (result.calls ≡ true) ↔ ((self.calls ≡ true) × (other.calls ≡ true)) }
+        ensures verdict { (result.verdict ≡ true)
+            ↔ ((self.verdict ≡ true) × (other.verdict ≡ true)) }
     {
         Agreement {
             calls: self.calls && other.calls,
@@ -43,8 +43,8 @@ fn agreement_of<L: Ledger>(book: &Book, node: NodeId, stub: &mut Stub<L>) -> Agr
     requires there { HasNode book.now.state.tree.nodes node }
     requires at { node_at book.now.state.tree.nodes stub.old.path ≡ Some node }
     ensures at { node_at book.now.state.tree.nodes stub.new.path ≡ Some node }
-    ensures calls { result.calls ≡ true → book_log book.now.history node ≡ stub.new.deeds }
-    ensures verdict { result.verdict ≡ true → IsKnown book.now node stub.new.known }
+    ensures calls { (result.calls ≡ true) ↔ (book_log book.now.history node ≡ stub.new.deeds) }
+    ensures verdict { (result.verdict ≡ true) ↔ IsKnown book.now node stub.new.known }
     ensures read { IsRead stub.old stub.new }
 {
     let calls = has_actions(book, node, &stub.actions);

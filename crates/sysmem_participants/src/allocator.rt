@@ -70,7 +70,7 @@ fn opened<L: Ledger, G: Gate + Drop + Sync>(
 
 impl<G: Gate + Drop + Sync> Allocator<G> {
     /// For this platform; each decision of its collections tells this gate of its search. Two
-    /// workers share a search of 1,024 selections or more, which can take longer than a thread
+    /// workers share a search of 2,048 selections or more, which can take longer than a thread
     /// costs; a shorter one is done by one. `AllocError` where memory is refused.
     pub fn new(alloc: Global, platform: Platform, gate: G) -> Result<Allocator<G>, AllocError>
         ensures { IfOk result (λ allocator. allocator ≡ platform) }

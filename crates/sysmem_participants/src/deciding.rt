@@ -14,7 +14,7 @@ use sysmem_proof::Claim;
 use sysmem_search::{Gate, prove, search_wide};
 
 /// From so many selections on, a search can take so long that a second worker is worth its thread.
-const MANY_SELECTIONS: u64 = 1024;
+const MANY_SELECTIONS: u64 = 2048;
 
 /// How many workers search what was frozen.
 fn workers_for<G: Gate + Drop>(rules: &Rules<G>, frozen: &Frozen) -> u32

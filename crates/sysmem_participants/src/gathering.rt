@@ -1,8 +1,8 @@
 //! The audit of a collection whose handles are all spent.
 
-ghost use Rattle.std.specs.Prelude.{◌≡◌, ◌+◌, length, sum_by, vec_len, IfOk, IsTrue};
+ghost use Rattle.std.specs.Prelude.{◌≡◌, ◌≢◌, ◌<◌, ◌+◌, ◌↔◌, Err, length, sum_by, vec_len, IfErr, IfOk, IsTrue};
 ghost use Rattle.sysmem_alloc.specs.Book.{IsBook};
-ghost use Rattle.sysmem_participants.specs.Audit.{AgreesWith, AreFor, SomeBookAgrees};
+ghost use Rattle.sysmem_participants.specs.Audit.{AgreesWith, AreFor, IsFaultOf, SomeBookAgrees, SomeBookRefuses};
 ghost use Rattle.sysmem_room.specs.Counting.{actions_in};
 
 use crate::agreeing::stubs_agree;
@@ -40,7 +40,7 @@ fn count<L: Ledger>(room: &mut Room<L>, stubs: Vec<Stub<L>>)
 
 /// Whether all stubs are of collections for this platform.
 fn are_for<L: Ledger>(platform: &Platform, stubs: &[Stub<L>]) -> bool
-    ensures { IsTrue result → AreFor platform.now stubs.now }
+    ensures { IsTrue result ↔ AreFor platform.now stubs.now }
 {
     for stub in stubs {
         if !stub.shared.platform.is_same(platform) {
@@ -57,6 +57,7 @@ fn audited<L: Ledger>(room: &mut Room<L>, stubs: Vec<Stub<L>>) -> Result<Audit, 
     ensures same { room.new ≡ room.old }
     ensures book { IsBook room.old }
     ensures agree { IfOk result (AgreesWith room.old stubs.items) }
+    ensures fault { IfErr result (IsFaultOf room.old stubs.items) }
     ensures sum { IfOk result (λ audit.
         audit.actions ≡ sum_by (λ s. length s.deeds) stubs.items) }
 {
@@ -71,7 +72,11 @@ fn audited<L: Ledger>(room: &mut Room<L>, stubs: Vec<Stub<L>>) -> Result<Audit, 
 }
 
 /// One more owner of the collection of the first stub.
-fn shared_of<L: Ledger>(stubs: &[Stub<L>]) -> Result<Arc<Shared<L>>, AuditFault> {
+fn shared_of<L: Ledger>(stubs: &[Stub<L>]) -> Result<Arc<Shared<L>>, AuditFault>
+    ensures empty { length stubs.now ≡ 0 → result ≡ Err AuditFault.Stubs }
+    ensures some { IfErr result (λ fault.
+        0 < length stubs.now → fault ≡ AuditFault.NoMemory) }
+{
     let Some(stub) = stubs.first() else {
         return Err(AuditFault::Stubs);
     };
@@ -86,6 +91,9 @@ fn shared_of<L: Ledger>(stubs: &[Stub<L>]) -> Result<Arc<Shared<L>>, AuditFault>
 /// it is for their platform. Of no stubs, and of some for another platform, it answers `Stubs`.
 pub fn audit<L: Ledger, R: Wait>(rt: &R, stubs: Vec<Stub<L>>) -> Result<Audit, AuditFault>
     ensures agree { IfOk result (SomeBookAgrees stubs.items) }
+    ensures empty { vec_len stubs ≡ 0 → result ≡ Err AuditFault.Stubs }
+    ensures fault { IfErr result (λ fault. 0 < vec_len stubs → fault ≢ AuditFault.NoMemory
+        → SomeBookRefuses stubs.items fault) }
     ensures sum { IfOk result (λ audit.
         audit.actions ≡ sum_by (λ s. length s.deeds) stubs.items) }
 {

@@ -1,5 +1,7 @@
 //! A look at the book of a collection.
 
+ghost use Rattle.sysmem_alloc.specs.Book.{IsBook};
+
 use crate::shared::Shared;
 use std::sync::ledger::Ledger;
 use std::sync::{Arc, MutexGuard, Wait};
@@ -33,8 +35,12 @@ impl<L: Ledger> Reader<L> {
 }
 
 impl<L: Ledger> Reading<'_, L> {
-    /// The book.
-    pub fn book(&self) -> &Book {
-        self.room.book()
+    /// The book: a legal one, that its history leads to.
+    pub fn book(&self) -> &Book
+        ensures { IsBook result.now }
+    {
+        let book = self.room.book();
+        book.platform();
+        book
     }
 }

@@ -1,6 +1,6 @@
 //! What a handle is told by what became of its domain.
 
-ghost use Rattle.std.specs.Prelude.{◌≡◌, ◌≢◌, IfErr, IfOk, IsTrue};
+ghost use Rattle.std.specs.Prelude.{◌≡◌, ◌≢◌, ◌↔◌, IfErr, IfOk, IsTrue};
 ghost use Rattle.sysmem_room.specs.Log.{shown_by};
 ghost use Rattle.sysmem_participants.specs.Told.{Asks, IsChosenFor, IsRefusedBy, IsShownAt, IsTold};
 
@@ -13,14 +13,14 @@ use sysmem_tree::Refusal;
 
 /// Whether a ruling is for this platform.
 fn is_for(ruling: &Ruling, platform: &Platform) -> bool
-    ensures { IsTrue result → ruling.now.frozen.platform ≡ platform.now }
+    ensures { IsTrue result ↔ (ruling.now.frozen.platform ≡ platform.now) }
 {
     ruling.frozen().platform().is_same(platform)
 }
 
 /// Whether the tree that was decided on has the log's constraints at the path.
 fn has_own(frozen: &Frozen, path: &[u32], log: &Log) -> bool
-    ensures { IsTrue result → Asks frozen.now path.now (shown_by log.now).constraints }
+    ensures { IsTrue result ↔ Asks frozen.now path.now (shown_by log.now).constraints }
 {
     let tree = frozen.tree();
     match tree.node_at(path) {
@@ -37,8 +37,8 @@ fn shown<'a>(ruling: &'a Ruling, path: &[u32], log: &Log) -> Result<View<'a>, Re
     ensures own { IfOk result (λ view.
         Asks view.ruling.now.frozen path.now (shown_by log.now).constraints) }
     ensures known { IfErr result (λ refusal. refusal ≢ Refusal.Pending) }
-    ensures told { IfErr result
-        (IsRefusedBy ruling.now.frozen.platform path.now ruling.now) }
+    ensures told { IfErr result (IsRefusedBy ruling.now.frozen.platform path.now
+        (shown_by log.now).constraints ruling.now) }
 {
     match &ruling.claim().verdict {
         Verdict::Chosen(chosen) => {
@@ -52,7 +52,7 @@ fn shown<'a>(ruling: &'a Ruling, path: &[u32], log: &Log) -> Result<View<'a>, Re
         }
         Verdict::IntersectionEmpty => Err(Refusal::ConstraintsIntersectionEmpty),
         Verdict::TooMany => Err(Refusal::TooManyGroupChildCombinations),
-        Verdict::Failed | Verdict::NoMemory => Err(Refusal::Strange),
+        Verdict::Failed | Verdict::NoMemory => unreachable!(),
     }
 }
 
@@ -67,7 +67,8 @@ pub(crate) fn told<'a>(
     ensures shown { IfOk result (λ view. IsShownAt platform.now path.now
         (shown_by log.now).constraints view.ruling.now) }
     ensures known { IfErr result (λ refusal. refusal ≢ Refusal.Pending) }
-    ensures told { IfErr result (IsTold platform.now path.now outcome.now) }
+    ensures told { IfErr result (IsTold platform.now path.now
+        (shown_by log.now).constraints outcome.now) }
 {
     let ruling = match outcome {
         Outcome::Decided(ruling) => ruling,

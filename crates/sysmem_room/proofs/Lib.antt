@@ -1,8 +1,10 @@
 mod Asking
 mod Counting
+mod Foreseeing
 mod Lacking
 mod Logs
 mod Owning
+mod Placing
 pub mod Reading
 mod Still
 pub mod CallerLemmas

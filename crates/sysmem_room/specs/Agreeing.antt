@@ -7,6 +7,7 @@ use Rattle.sysmem_proof.specs.declared.verdict.Verdict.{Verdict}
 use Rattle.sysmem_proof.specs.declared.verdict.Verdict.TheVariants as verdicts
 use Rattle.sysmem_tree.specs.ActionKind.{Deed}
 use Rattle.sysmem_tree.specs.History.{log}
+use Rattle.sysmem_tree.specs.Node.{NodeFacts}
 use Rattle.sysmem_tree.specs.Path.{node_at}
 use Rattle.sysmem_room.specs.declared.outcome.Outcome.{Outcome}
 use Rattle.sysmem_room.specs.declared.outcome.Outcome.TheVariants as outcomes
@@ -40,6 +41,18 @@ IsKnown b i known = IfSome known (λ o. verdict_at b i ≡ Some (verdict_by o))
 pub record AgreesAt (b : BookFacts) (path : List ℕ) (deeds : List Deed) (known : Option Outcome) (i : ℕ) : Type 0 where
   pub at : node_at b.state.tree.nodes path ≡ Some i
   pub log : book_log b.history i ≡ deeds
+  pub verdict : IsKnown b i known
+
+-- node i was made, and stands, as a log says
+pub record StandsAs (nodes : List NodeFacts) (log : LogFacts) (i : ℕ) : Type 0 where
+  pub state : IfSome (slice_get nodes i) (λ n. n.state ≡ (shown_by log).state)
+  pub root : IfSome (slice_get nodes i) (λ n. (n.domain == i) ≡ log.begun.is_domain_root)
+
+-- node i is as a handle knows its own: the history has the handle's actions on it, it was made, and stands, as the handle's
+-- log says, and its domain has the verdict that the handle knows, if it knows one
+pub record IsAsKnown (b : BookFacts) (log : LogFacts) (known : Option Outcome) (i : ℕ) : Type 0 where
+  pub actions : book_log b.history i ≡ log.deeds
+  pub stands : StandsAs b.state.tree.nodes log i
   pub verdict : IsKnown b i known
 
 -- node i is a handle's own: it agrees with what the handle knows, and it was made, and stands, as the handle's log says

@@ -2,5 +2,6 @@ pub mod Agreeing
 pub mod Counting
 pub mod Lacking
 pub mod Log
+pub mod Places
 pub mod Refusals
 pub mod Ruling

@@ -18,6 +18,7 @@ mod agreeing;
 mod cell;
 mod log;
 mod outcome;
+mod places;
 mod refusing;
 mod room;
 mod verdicts;

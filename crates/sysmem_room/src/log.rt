@@ -1,8 +1,9 @@
 //! What a handle knows of its node: how it was made, and the actions on it that were accepted.
 
-ghost use Rattle.std.specs.Prelude.{◌≡◌, ◌<◌, ◌≤◌, ◌+◌, ◌==◌, ◌++◌, [], ◌∷◌, true, length, map, option_map, slice_get, IfOk, IfSome, IsTrue, OnErr, OnOk};
+ghost use Rattle.std.specs.Prelude.{◌≡◌, ◌<◌, ◌≤◌, ◌+◌, ◌++◌, ◌↔◌, [], ◌∷◌, length, map, option_map, IfOk, IsTrue, OnErr, OnOk};
 ghost use Rattle.sysmem_proof.specs.Asked.{asks_at};
 ghost use Rattle.sysmem_tree.specs.Nodes.{HasNode};
+ghost use Rattle.sysmem_room.specs.Agreeing.{StandsAs};
 ghost use Rattle.sysmem_room.specs.Log.{begun_as, shown_by};
 ghost use Rattle.sysmem_tree.specs.ActionKind.{deed_of};
 
@@ -112,10 +113,7 @@ impl Log {
     /// Whether a node was made as this log's, and stands as the actions make it.
     pub(crate) fn stands_as(&self, tree: &Tree, node: NodeId) -> bool
         requires { HasNode tree.now.nodes node }
-        ensures state { result ≡ true → IfSome (slice_get tree.now.nodes node)
-            (λ n. n.state ≡ (shown_by self.now).state) }
-        ensures root { result ≡ true → IfSome (slice_get tree.now.nodes node)
-            (λ n. (n.domain == node) ≡ self.now.begun.is_domain_root) }
+        ensures { IsTrue result ↔ StandsAs tree.now.nodes self.now node }
     {
         if tree.state(node) != self.state {
             return false;
@@ -127,7 +125,7 @@ impl Log {
     /// Whether a node has the constraints that the actions set.
     pub fn asks_as(&self, tree: &Tree, node: NodeId) -> bool
         requires { HasNode tree.now.nodes node }
-        ensures { IsTrue result → asks_at tree.now.nodes node ≡ (shown_by self.now).constraints }
+        ensures { IsTrue result ↔ (asks_at tree.now.nodes node ≡ (shown_by self.now).constraints) }
     {
         has_set(tree, node, self.asked())
     }

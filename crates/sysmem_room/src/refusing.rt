@@ -2,7 +2,7 @@
 
 ghost use Rattle.std.specs.Prelude.{◌≡◌, ◌≢◌, None, option_map};
 ghost use Rattle.sysmem_room.specs.Log.{log_refusal};
-ghost use Rattle.sysmem_room.specs.Refusals.{IsAnswer, due, is_member, known_refusal, outcome_refusal};
+ghost use Rattle.sysmem_room.specs.Refusals.{IsAnswer, IsUnforeseen, due, is_member, known_refusal, outcome_refusal};
 
 use crate::outcome::Outcome;
 use sysmem_alloc::Frozen;
@@ -83,8 +83,10 @@ pub fn due(
 /// The book's refusal of an action of this kind as a handle answers it that foresaw none: what it
 /// can't foresee, or `Strange`, since the two disagree.
 pub(crate) fn unforeseen(known: Option<&Outcome>, kind: ActionKind, refusal: Refusal) -> Refusal
-    ensures { result ≢ Refusal.Strange
+    ensures answers { result ≢ Refusal.Strange
         → IsAnswer None (option_map (λ o. o.now) known.entry) kind result }
+    ensures same { IsUnforeseen (option_map (λ o. o.now) known.entry) kind refusal
+        → result ≡ refusal }
 {
     match (refusal, known) {
         (Refusal::TooManyNodes, _) if kind.makes().is_some() => Refusal::TooManyNodes,

@@ -1,13 +1,13 @@
 //! What lies under a collection's lock.
 
-ghost use Rattle.std.specs.Prelude.{◌≡◌, ◌≢◌, ◌<◌, ◌≤◌, ◌+◌, ◌++◌, ◌↔◌, ℕ, List, Ok, Err, Some, None, true, false, length, option_map, is_some, IfErr, IfOk, IfSome, IsTrue, OnErr, OnOk};
+ghost use Rattle.std.specs.Prelude.{◌≡◌, ◌≢◌, ◌<◌, ◌≤◌, ◌+◌, ◌++◌, ◌↔◌, ℕ, List, Ok, Err, Some, None, true, false, length, map, option_map, is_some, IfErr, IfOk, IfSome, IsTrue, OnErr, OnOk};
 ghost use Rattle.std.specs.Arc.{arc_value};
 ghost use Rattle.sysmem_alloc.specs.Book.{entered, new_book};
 ghost use Rattle.sysmem_alloc.specs.Entry.{Acted, Decided};
 ghost use Rattle.sysmem_alloc.specs.Frozen.{IsStill, frozen_of};
 ghost use Rattle.sysmem_alloc.specs.State.{next_ready};
 ghost use Rattle.sysmem_proof.specs.Claim.{IsTrueClaim};
-ghost use Rattle.sysmem_room.specs.Agreeing.{IsOwn};
+ghost use Rattle.sysmem_room.specs.Agreeing.{IsAsKnown, IsOwn, book_log};
 ghost use Rattle.sysmem_room.specs.Counting.{actions_in, all_parts, nodes_by};
 ghost use Rattle.sysmem_room.specs.Lacking.{without_memory};
 ghost use Rattle.sysmem_room.specs.Log.{shown_by};
@@ -17,10 +17,11 @@ ghost use Rattle.sysmem_tree.specs.Nodes.{HasNode};
 ghost use Rattle.sysmem_tree.specs.Table.{makes_root};
 ghost use Rattle.sysmem_tree.specs.Tree.{applied};
 
-use crate::agreeing::has_actions;
+use crate::agreeing::{has_actions, has_placed};
 use crate::cell::{DomainCell, FreshCell, keep, publish_action, publish_decision};
 use crate::log::Log;
 use crate::outcome::{Outcome, Ruling};
+use crate::places::Places;
 use crate::refusing::{due, unforeseen};
 use crate::verdicts::has_verdict;
 use once_cell::race::OnceBox;
@@ -39,6 +40,8 @@ use sysmem_tree::{Action, ActionKind, DomainId, Event, MOST_NODES, NodeId, Refus
 #[derive(Drop)]
 pub struct Room<L: Ledger> {
     book: Book,
+    /// Where in the book's history the actions on each node are.
+    places: Box<Places>,
     counted: Counted<L>,
     /// One part that stays here, and one for each node that can still be made.
     spare: Share<L>,
@@ -53,6 +56,7 @@ impl<L: Ledger> Model for Room<L> {
     ghost use Rattle.std.specs.Vec.{vec_capacity, vec_len};
     ghost use Rattle.sysmem_alloc.specs.Book.{BookFacts};
     ghost use Rattle.sysmem_room.specs.Counting.{actions_in, all_parts};
+    ghost use Rattle.sysmem_room.specs.Places.{ArePlaces};
 
     ghost Value = { BookFacts };
 
@@ -63,7 +67,8 @@ impl<L: Ledger> Model for Room<L> {
         × (r.spare.parts + length r.book.state.tree.nodes ≡ all_parts)
         × (L.parts ≡ all_parts)
         × (vec_len r.cells ≡ length r.book.state.tree.domains)
-        × (128 ≤ vec_capacity r.cells) };
+        × (128 ≤ vec_capacity r.cells)
+        × ArePlaces r.book.history r.places.value };
 }
 
 /// A new collection.
@@ -111,12 +116,14 @@ impl<L: Ledger> Room<L> {
         let fresh = FreshCell::new(alloc)?;
         let cell = fresh.shared()?;
         let mut cells = Vec::with_capacity(alloc, MOST_NODES)?;
+        let places = Box::new(alloc, Places::new())?;
         let book = Book::new(alloc, platform)?;
         cells.push_reserved(fresh.kept());
         let (counted, mut spare) = blank.open();
         let share = spare.split_off(1, 0);
         let room = Room {
             book,
+            places,
             counted,
             spare,
             cells,
@@ -159,12 +166,16 @@ impl<L: Ledger> Room<L> {
             ≡ nodes_by (kind_of (deed_of event.action))) }
         ensures empty { IfOk result (λ done. done.share.amount ≡ 0) }
     {
+        few_entries();
+        let acted = event.node;
         let kind = event.action.kind();
         let parts = parts_of(kind);
+        let entries = self.book.history().len();
         let done = self.book.apply(event)?;
         let tree = self.book.tree();
         tree.nodes();
         tree.domains();
+        self.places.add(tree.number_of(acted), entries);
         self.counted.add(mine, 1);
         let share = self.spare.split_off(parts, 0);
         keep(&mut self.cells, fresh);
@@ -181,13 +192,37 @@ impl<L: Ledger> Room<L> {
         ensures own { IfSome result (IsOwn self.now path.now log.now
             (option_map (λ o. o.now) known.entry)) }
         ensures there { IfSome result (HasNode self.now.state.tree.nodes) }
+        ensures none { result ≡ None → (node : ℕ) → IsOwn self.now path.now log.now
+            (option_map (λ o. o.now) known.entry) node → ⊥ }
     {
-        let tree = self.book.tree();
-        let node = tree.node_at(path)?;
-        let is_own = has_actions(&self.book, node, log.actions())
-            && log.stands_as(tree, node)
-            && has_verdict(&self.book, node, known);
-        if is_own { Some(node) } else { None }
+        let node = self.book.tree().node_at(path)?;
+        if self.is_own(node, log, known) {
+            Some(node)
+        } else {
+            None
+        }
+    }
+
+    /// Whether a node was made as a log says, and the book has the log's actions on it and the
+    /// verdict that is known of its domain.
+    fn is_own(&self, node: NodeId, log: &Log, known: Option<&Outcome>) -> bool
+        requires { HasNode self.now.state.tree.nodes node }
+        ensures { IsTrue result ↔ IsAsKnown self.now log.now
+            (option_map (λ o. o.now) known.entry) node }
+    {
+        self.has_log(node, log.actions())
+            && log.stands_as(self.book.tree(), node)
+            && has_verdict(&self.book, node, known)
+    }
+
+    /// Whether the book has just these actions on a node. Where it has, its places tell so; else
+    /// the whole history is read.
+    fn has_log(&self, node: NodeId, actions: &[Action]) -> bool
+        requires { HasNode self.now.state.tree.nodes node }
+        ensures { IsTrue result ↔ (book_log self.now.history node ≡ map deed_of actions.now) }
+    {
+        has_placed(&self.book, &self.places, node, actions)
+            || has_actions(&self.book, node, actions)
     }
 
     /// Enters the action of a handle, by its path, its log and what it knows of its domain's
@@ -211,6 +246,9 @@ impl<L: Ledger> Room<L> {
             × (self.new ≡ entered self.old (Acted node (deed_of action)))) }
         ensures own { IfErr result (λ refusal. refusal ≢ Refusal.Strange → (node : ℕ)
             × IsOwn self.old path.now log.now (option_map (λ o. o.now) known.entry) node) }
+        ensures strange { IfErr result (λ refusal. refusal ≡ Refusal.Strange
+            → option_map (λ o. o.now) known.entry ≡ None → (node : ℕ)
+            → IsOwn self.old path.now log.now None node → ⊥) }
         ensures unchanged { OnErr result (self.new ≡ self.old) }
         ensures foreseen { OnOk result (due (option_map (λ o. o.now) known.entry) path.now
             (shown_by log.now).state (kind_of (deed_of action)) ≡ None) }

@@ -1,6 +1,6 @@
 use Rattle.std.proofs.Common.{◌≡◌, ◌∙◌, ap, sym, arith, length}
 use Rattle.std.proofs.lemmas.List.{length-map}
-use Rattle.sysmem_alloc.specs.Entry.{BookEntry, entry_in}
+use Rattle.sysmem_alloc.specs.Entry.{entry_in}
 use Rattle.sysmem_participants.proofs.Entries.{all_counted}
 use Rattle.sysmem_participants.proofs.agreeing.counted.Goals as goal
 

@@ -1,5 +1,3 @@
-use Rattle.std.proofs.Common.{◌≡◌, ◌<◌, ℕ, get_or}
-use Rattle.sysmem_participants.specs.Held.{Left}
 use Rattle.sysmem_participants.proofs.Seeing.{ForFirst}
 use Rattle.sysmem_participants.proofs.gathering.are_for.Given as goal
 

@@ -16,5 +16,5 @@ pub returns-clause-told : goal.returns-clause-told
 returns-clause-told c =
     let same : c.in-Decided.ruling.frozen.platform ≡ c.args.platform.now = search (rules, tests) in
     let is : c.args.outcome.now ≡ outcomes.Decided c.in-Decided.ruling = search (rules, tests) in
-    subst (λ o. IfErr c.shown.result (IsTold c.args.platform.now c.args.path.now o)) (sym is)
-    (refused_for c.shown.result c.in-Decided.ruling c.args.platform.now c.args.path.now same c.shown.ensures.told)
+    subst (λ o. IfErr c.shown.result (IsTold c.args.platform.now c.args.path.now (shown_by c.args.log.now).constraints o)) (sym is)
+    (refused_for c.shown.result c.in-Decided.ruling c.args.platform.now c.args.path.now (shown_by c.args.log.now).constraints same c.shown.ensures.told)

@@ -1,11 +1,14 @@
 -- What is true of what was frozen is right for a book that still has that.
 use Rattle.std.proofs.Common.{◌∙◌, arith, ap, subst, sym, length}
 use Rattle.std.specs.Arc.{arc_value}
+use Rattle.sysmem_alloc.specs.Book.{BookFacts}
 use Rattle.sysmem_alloc.specs.Claims.{IsRightClaim}
 use Rattle.sysmem_alloc.specs.Frozen.{IsStill}
 use Rattle.sysmem_alloc.specs.State.{base_of}
 use Rattle.sysmem_tree.specs.Domain.{TreeFacts}
+use Rattle.sysmem_room.specs.Places.{ArePlaces}
 use Rattle.sysmem_room.proofs.Counting.{decides}
+use Rattle.sysmem_room.proofs.Placing.{decision_stays}
 use Rattle.sysmem_room.proofs.Still.{still_right}
 use Rattle.sysmem_room.proofs.room.Room.decide.Goals as goal
 
@@ -18,12 +21,19 @@ decide-requires-clause-right g c =
 
 pub publish_decision-requires : goal.publish_decision-requires
 publish_decision-requires g c =
-    let (_, _, _, _, cells, _) = c.self.invariant in
+    let (_, _, _, _, cells, _, _) = c.self.invariant in
     let (_, _, domains) = decides c.self.inside.book _ _ c.decide.ensures.entered in
     omega (arith, c.deref_mut.ensures.len, cells, domains, ap (λ (t : TreeFacts). length t.domains) c.tree.ensures)
 
 pub invariant_of-self : goal.invariant_of-self
 invariant_of-self g c =
-    let (actions, amount, parts, all, cells, room) = c.self.invariant in
-    let (same, many, domains) = decides c.self.inside.book _ _ c.decide.ensures.entered in
-    (same ∙ actions, amount, omega (arith, parts, many), all, cells ∙ sym domains, room)
+    let (actions, amount, parts, all, cells, room, places) = c.self.invariant in
+    let (same, many, domains) = decides c.self.inside.book _ _ c.decide.ensures.entered in (
+      same ∙ actions,
+      amount,
+      omega (arith, parts, many),
+      all,
+      cells ∙ sym domains,
+      room,
+      subst (λ (b : BookFacts). ArePlaces b.history c.self.inside.places.value) (sym c.decide.ensures.entered) (decision_stays c.self.inside.book.history _ c.self.inside.places.value places),
+    )

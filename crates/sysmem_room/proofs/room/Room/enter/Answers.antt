@@ -1,12 +1,14 @@
 -- What an action adds is counted, and a domain that it makes has a cell.
-use Rattle.std.proofs.Common.{◌∙◌, ap, sym, arith, Bool, ℕ, length}
+use Rattle.std.proofs.Common.{◌∙◌, [], ◌∷◌, ◌++◌, ap, refl, subst, sym, arith, Bool, ℕ, ◌<◌, length}
 use Rattle.std.specs.Prelude.{if◌then◌else◌}
 use Rattle.sysmem_tree.specs.ActionKind.{deed_of}
 use Rattle.sysmem_tree.specs.Domain.{TreeFacts}
 use Rattle.sysmem_alloc.specs.Book.{BookFacts}
 use Rattle.sysmem_alloc.specs.Entry.{Acted}
 use Rattle.sysmem_room.specs.Counting.{actions_in, nodes_by}
+use Rattle.sysmem_room.specs.Places.{ArePlaces}
 use Rattle.sysmem_room.proofs.Counting.{actions_push, grows, roots_grow}
+use Rattle.sysmem_room.proofs.Placing.{acted_there, action_stays, as_many}
 use Rattle.sysmem_room.proofs.room.Room.enter.Goals as goal
 
 abbrev one_if : Bool → ℕ
@@ -14,15 +16,26 @@ one_if b = if b then 1 else 0
 
 pub split_off-share-requires-clause-has_parts : goal.split_off-share-requires-clause-has_parts
 split_off-share-requires-clause-has_parts g c =
-    let (_, _, parts, _, _, _) = c.self.invariant in
+    let (_, _, parts, _, _, _, _) = c.self.invariant in
     let more = grows c.self.inside.book.state.tree c.args.event.node (deed_of c.args.event.action) _ c.in_ok-done.ensures.accepted in
     let few = c.nodes.ensures.few in
     let many = c.nodes.ensures.number ∙ ap (λ (t : TreeFacts). length t.nodes) c.tree-tree.ensures in
     omega (arith, parts, more, few, many, c.parts_of-parts.ensures, ap nodes_by c.kind-kind.ensures)
 
+pub number_of-requires : goal.number_of-requires
+number_of-requires g c =
+    subst (λ (t : TreeFacts). c.args.event.node < length t.nodes) (sym c.tree-tree.ensures)
+    (acted_there c.self.inside.book.state.tree c.args.event.node (deed_of c.args.event.action) _ c.in_ok-done.ensures.accepted)
+
+pub add-requires-clause-few : goal.add-requires-clause-few
+add-requires-clause-few g c =
+    let many = as_many _ c.history-entries.result.now c.self.inside.book.history (length c.history-entries.result.now) c.history-entries.ensures.entries refl in
+    let few = c.few_entries.ensures c.self.inside.book.platform c.self.inside.book.history c.history-entries.ensures.book.legal in
+    omega (arith, many, few)
+
 pub keep-requires : goal.keep-requires
 keep-requires g c = λ is_given.
-    let (_, _, _, _, cells, room) = c.self.invariant in
+    let (_, _, _, _, cells, room, _) = c.self.invariant in
     let more = roots_grow c.self.inside.book.state.tree c.args.event.node (deed_of c.args.event.action) _ c.in_ok-done.ensures.accepted in
     let one = ap one_if (sym c.requires.fresh ∙ is_given) in
     let many = c.domains.ensures.number ∙ ap (λ (t : TreeFacts). length t.domains) c.tree-tree.ensures in
@@ -30,14 +43,14 @@ keep-requires g c = λ is_given.
 
 pub publish_action-requires : goal.publish_action-requires
 publish_action-requires g c =
-    let (_, _, _, _, cells, _) = c.self.invariant in
+    let (_, _, _, _, cells, _, _) = c.self.invariant in
     let more = roots_grow c.self.inside.book.state.tree c.args.event.node (deed_of c.args.event.action) _ c.in_ok-done.ensures.accepted in
     let one = ap one_if c.requires.fresh in
-    omega (arith, cells, more, one, c.keep.ensures.number, c.deref_mut.ensures.len, ap (λ (t : TreeFacts). length t.domains) c.tree-tree.ensures)
+    omega (arith, cells, more, one, c.keep.ensures.number, c.deref_mut-2.ensures.len, ap (λ (t : TreeFacts). length t.domains) c.tree-tree.ensures)
 
 pub invariant_of-self : goal.invariant_of-self
 invariant_of-self g c =
-    let (actions, amount, parts, all, cells, room) = c.self.invariant in
+    let (actions, amount, parts, all, cells, room, places) = c.self.invariant in
     let same = c.in_err-done.ensures.unchanged in (
       ap (λ (b : BookFacts). actions_in b.history) same ∙ actions,
       amount,
@@ -45,19 +58,27 @@ invariant_of-self g c =
       all,
       cells ∙ sym (ap (λ (b : BookFacts). length b.state.tree.domains) same),
       room,
+      subst (λ (b : BookFacts). ArePlaces b.history c.self.inside.places.value) (sym same) places,
     )
 
 pub invariant_of-self-2 : goal.invariant_of-self-2
 invariant_of-self-2 g c =
-    let (actions, amount, parts, all, cells, room) = c.self.invariant in
+    let (actions, amount, parts, all, cells, room, places) = c.self.invariant in
     let more = grows c.self.inside.book.state.tree c.args.event.node (deed_of c.args.event.action) _ c.in_ok-done.ensures.accepted in
     let domains = roots_grow c.self.inside.book.state.tree c.args.event.node (deed_of c.args.event.action) _ c.in_ok-done.ensures.accepted in
     let push = actions_push c.self.inside.book.history (Acted c.args.event.node (deed_of c.args.event.action)) in
-    let history = ap (λ (b : BookFacts). actions_in b.history) c.in_ok-done.ensures.entered in (
-      history ∙ omega (arith, push, actions, c.add.ensures.total),
+    let many = as_many _ c.history-entries.result.now c.self.inside.book.history (length c.history-entries.result.now) c.history-entries.ensures.entries refl in
+    let few = c.few_entries.ensures c.self.inside.book.platform c.self.inside.book.history c.history-entries.ensures.book.legal in
+    let history = ap (λ (b : BookFacts). actions_in b.history) c.in_ok-done.ensures.entered in
+    let held = subst (λ p. ArePlaces c.self.inside.book.history p) (sym c.deref_mut.ensures.value) places in (
+      history ∙ omega (arith, push, actions, c.add-2.ensures.total),
       omega (arith, amount, c.split_off-share.ensures.amount_left),
       omega (arith, parts, more, c.split_off-share.ensures.parts_left, c.parts_of-parts.ensures, ap nodes_by c.kind-kind.ensures),
       all,
       omega (arith, cells, domains, ap one_if c.requires.fresh, c.keep.ensures.number),
       omega (arith, room, c.keep.ensures.room),
+      subst (λ (b : BookFacts). ArePlaces b.history c.add.new.self) (sym c.in_ok-done.ensures.entered)
+          (subst (λ i. ArePlaces (c.self.inside.book.history ++ Acted i (deed_of c.args.event.action) ∷ []) c.add.new.self) c.number_of.ensures.number
+          (action_stays c.self.inside.book.history c.deref_mut.result.now c.add.new.self c.number_of.result (length c.history-entries.result.now) (deed_of c.args.event.action) many c.number_of.ensures.few
+          (omega (arith, many, few)) c.add.ensures.last c.add.ensures.before held)),
     )
