@@ -10,6 +10,6 @@ pub returns : goal.returns
 returns c =
     let copied = c.in_ok-copy.copy.items in
     let at : slice_get copied c.args.place ≡ Some c.index_mut.result.now =
-    slice_get_read copied (length copied) c.args.place c.index_mut.result.now refl (omega arith) (search rules) in
+    slice_get_read copied (length copied) c.args.place c.index_mut.result.now refl (omega (arith, ap (λ xs. length xs) c.in_ok-copy.ensures.items)) (search rules) in
     stating_at copied c.args.place c.index_mut.result.now _ (view c.args.value.now) at refl
     ∙ ap (λ cs. stating (map call_seen cs) c.args.place (view c.args.value.now)) c.in_ok-copy.ensures.items
