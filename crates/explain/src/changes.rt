@@ -198,12 +198,13 @@ impl Trial<'_, '_> {
             };
             let outcome = self.outcome(alloc, &change.value)?;
             halving.learn(amount, outcome.is_some());
-            if let Some(line) = outcome {
-                best = Found {
-                    words: change.words,
-                    line,
-                };
-            }
+            let Some(line) = outcome else {
+                continue;
+            };
+            best = Found {
+                words: change.words,
+                line,
+            };
         }
         Ok(best)
     }
@@ -220,8 +221,9 @@ fn replaced<'a>(
         map call_seen made.items ≡ stating (map call_seen calls.now) place (view value.now)) }
 {
     let mut copy = Vec::from_slice(alloc, calls)?;
-    if place < copy.len() {
-        copy[place].act = Act::SetConstraints(Some(value));
+    if place >= calls.len() {
+        return Ok(copy);
     }
+    copy[place].act = Act::SetConstraints(Some(value));
     Ok(copy)
 }

@@ -4,6 +4,6 @@ use Rattle.script_reading.specs.Seen.{call_seen}
 use Rattle.explain.specs.Edited.{IsPromised}
 use Rattle.explain.proofs.changes.Trial.least.Given as goal
 
-abbrev pub invariant-loop-_halving : goal.invariant-loop-_halving
-invariant-loop-_halving l =
+abbrev pub invariant-loop-halving : goal.invariant-loop-halving
+invariant-loop-halving l =
     IsPromised l.self.setting.now.platform.now (map call_seen l.self.setting.now.calls.now) l.self.place l.self.path.now (string_bytes l.best.line)
