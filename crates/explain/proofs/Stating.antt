@@ -1,14 +1,12 @@
 -- Calls of which one states other constraints.
-use Rattle.std.proofs.Common.{◌≡◌, ◌≤◌, ◌∙◌, ℕ, List, Option, Some, None, length, map, option_map, set, slice_get, sym, ap}
+use Rattle.std.proofs.Common.{◌≡◌, ◌≤◌, ◌∙◌, ℕ, List, Some, length, map, option_map, set, slice_get, sym, ap}
 use Rattle.std.specs.Option.{option_map_or}
 use Rattle.std.proofs.lemmas.List.{map-set}
 use Rattle.std.proofs.lemmas.Option.{slice_get-map, slice_get_past}
 use Rattle.serde_json.specs.Data.{Data}
-use Rattle.serde_json.specs.View.{view}
 use Rattle.script_reading.specs.Call.{states}
 use Rattle.script_reading.specs.Script.{CallFacts}
 use Rattle.script_reading.specs.Seen.{call_seen}
-use Rattle.script_reading.specs.declared.call.Act.TheVariants.{SetConstraints}
 use Rattle.script_reading.specs.declared.call.Call.{Call}
 use Rattle.explain.specs.Edited.{stating}
 

@@ -1,5 +1,5 @@
 -- What is promised of a script's calls, of which one states other constraints.
-use Rattle.std.specs.Prelude.{◌≡◌, ℕ, List, Some, set, slice_get}
+use Rattle.std.specs.Prelude.{ℕ, List, Some, set, slice_get}
 use Rattle.std.specs.Option.{option_map_or}
 use Rattle.serde_json.specs.Data.{Data}
 use Rattle.sysmem_sanitise.specs.Platform.{PlatformFacts}

@@ -1,4 +1,4 @@
-use Rattle.std.proofs.Common.{◌≡◌, List, Some, IfSome, inr, length, slice_get, refl, rules, subst, arith}
+use Rattle.std.proofs.Common.{◌≡◌, Some, IfSome, inr, length, slice_get, refl, rules, subst, arith}
 use Rattle.std.specs.List.{Contains}
 use Rattle.std.proofs.lemmas.List.Elements.{All-set}
 use Rattle.std.proofs.lemmas.Option.{slice_get_read}
