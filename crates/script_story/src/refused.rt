@@ -49,10 +49,10 @@ fn is_told(story: &Story<'_>, call: &Made<'_>) -> bool {
 }
 
 /// Tells the calls that were refused, those with one cause in one row.
-pub fn tell_refused<'a>(
+pub fn tell_refused(
     items: &mut Items,
-    document: &Document<'a>,
-    story: &Story<'a>,
+    document: &Document<'_>,
+    story: &Story<'_>,
 ) -> Result<(), AllocError> {
     let alloc = items.alloc();
     let rows = rows_of(alloc, story)?;
@@ -132,10 +132,10 @@ fn fault_of(alloc: Global, call: &Made<'_>) -> Result<Option<Fault>, AllocError>
     }
 }
 
-fn tell_row<'a>(
+fn tell_row(
     items: &mut Items,
-    document: &Document<'a>,
-    story: &Story<'a>,
+    document: &Document<'_>,
+    story: &Story<'_>,
     row: &Row,
 ) -> Result<(), AllocError> {
     let alloc = items.alloc();
