@@ -1,47 +1,61 @@
 -- What is true of all participants for an offer is true of those whom its line names.
-use Rattle.std.proofs.Common.{◌≡◌, ◌≢◌, ◌⊎◌, inl, inr, Bool, true, false, List, [], ◌∷◌, refl, sym, ◌∙◌, ap, subst}
-use Rattle.std.specs.Prelude.{filter}
+use Rattle.std.proofs.Common.{◌≡◌, ◌≢◌, ◌⊎◌, inl, inr, Bool, true, false, List, [], ◌∷◌, length, option_map, refl, sym, ◌∙◌, ap, subst, arith}
+use Rattle.std.specs.Prelude.{◌==◌, not, filter}
+use Rattle.std.specs.List.{cons_option}
+use Rattle.std.proofs.lemmas.Bool.{ne_eqb}
 use Rattle.sysmem_counts.specs.declared.field.Field.{Field}
 use Rattle.sysmem_counts.specs.declared.field.Field.TheVariants.{PixelFormat, ColorSpaces, MaxSizeBytes}
 use Rattle.sysmem_formats.specs.declared.offer.Offer.{Offer}
+use Rattle.sysmem_image.specs.declared.entry.Entry.{Entry}
+use Rattle.sysmem_image.specs.Entries.{effective, first_match}
 use Rattle.sysmem_image.specs.Lines.{IsBoundsLine}
 use Rattle.sysmem_merge.specs.declared.fit.Fit.{Fit}
-use Rattle.sysmem_merge.specs.Demands.{offer_demand, offer_demands}
+use Rattle.sysmem_merge.specs.Demands.{OfferDemand, offer_demand, offer_demands}
 use Rattle.sysmem_merge.specs.Fit.{IsBestFit}
 use Rattle.sysmem_merge.specs.OfferRead.{IsRefusingLine}
-use Rattle.sysmem_merge.specs.Offers.{bounds_asked, is_named}
+use Rattle.sysmem_merge.specs.Offers.{bounds_asked, entry_bounds, is_named}
 use Rattle.sysmem_merge.specs.Reasons.{IsOfferLine, IsUnnamedLine}
 use Rattle.sysmem_sanitise.specs.Participant.{Participant}
 use Rattle.sysmem_tree.specs.Shape.{Member}
-use Rattle.sysmem_proof.specs.declared.whom.Whom.TheVariants.{All, WithEntry}
-use Rattle.sysmem_proof.specs.Finder.{has_entry}
+use Rattle.sysmem_proof.specs.declared.whom.Whom.TheVariants.{All, WithEntries}
 use Rattle.sysmem_proof.specs.Members.{participants}
 use Rattle.sysmem_proof.specs.Refusals.{StandFor, ShareOffer}
-use Rattle.sysmem_proof.specs.Whom.{names}
-use Rattle.sysmem_proof.proofs.Finding.{bounds_are_of_some}
+use Rattle.sysmem_proof.specs.Whom.{has_entries, names}
 use Rattle.sysmem_proof.proofs.NamedLines.{each_named}
 
-with_entry : (o : Offer) (ps : List Participant) → offer_demands (filter (names (WithEntry o)) ps) ≡ filter (has_entry o) (offer_demands ps)
-with_entry o [] = refl
-with_entry o (p ∷ ps) = by (has_entry o (offer_demand p)) refl (with_entry o ps) where
-  by : (t : Bool) → has_entry o (offer_demand p) ≡ t → offer_demands (filter (names (WithEntry o)) ps) ≡ filter (has_entry o) (offer_demands ps)
-      → offer_demands (filter (names (WithEntry o)) (p ∷ ps)) ≡ filter (has_entry o) (offer_demands (p ∷ ps))
+with_entries : (ps : List Participant) → offer_demands (filter (names WithEntries) ps) ≡ filter has_entries (offer_demands ps)
+with_entries [] = refl
+with_entries (p ∷ ps) = by (has_entries (offer_demand p)) refl (with_entries ps) where
+  by : (t : Bool) → has_entries (offer_demand p) ≡ t → offer_demands (filter (names WithEntries) ps) ≡ filter has_entries (offer_demands ps)
+      → offer_demands (filter (names WithEntries) (p ∷ ps)) ≡ filter has_entries (offer_demands (p ∷ ps))
   by true is rest = rw is (ap (λ ds. offer_demand p ∷ ds) rest)
   by false is rest = rw is rest
 
--- a line of bounds is true of those with an entry
-with_bounds : (field : Field) (o : Offer) (ps : List Participant) → IsBoundsLine field o (bounds_asked o (offer_demands ps)) → IsBoundsLine field o (bounds_asked o (offer_demands (filter (names (WithEntry o)) ps)))
-with_bounds field o ps line = subst (IsBoundsLine field o) (sym (ap (bounds_asked o) (with_entry o ps) ∙ bounds_are_of_some o (offer_demands ps))) line
+-- those without entries ask nothing of an offer
+no_entries : (es : List Entry) → not (length es == 0) ≡ false → es ≡ []
+no_entries [] no' = refl
+no_entries (e ∷ es) no' = absurd (cc (no', ap not (ne_eqb (length (e ∷ es)) 0 (λ same. omega (arith, same)))))
+
+with_entries_all : (o : Offer) (ds : List OfferDemand) → bounds_asked o (filter has_entries ds) ≡ bounds_asked o ds
+with_entries_all o [] = refl
+with_entries_all o (d ∷ ds) = at (has_entries d) refl (with_entries_all o ds) where
+  at : (t : Bool) → has_entries d ≡ t → bounds_asked o (filter has_entries ds) ≡ bounds_asked o ds → bounds_asked o (filter has_entries (d ∷ ds)) ≡ bounds_asked o (d ∷ ds)
+  at true is rest = rw is (ap (λ bs. cons_option (entry_bounds o d) bs) rest)
+  at false is rest = rw is (rest ∙ ap (λ es. cons_option (option_map (effective o) (first_match o es)) (bounds_asked o ds)) (sym (no_entries d.entries is)))
+
+-- a line of bounds is true of those with entries
+with_bounds : (field : Field) (o : Offer) (ps : List Participant) → IsBoundsLine field o (bounds_asked o (offer_demands ps)) → IsBoundsLine field o (bounds_asked o (offer_demands (filter (names WithEntries) ps)))
+with_bounds field o ps line = subst (IsBoundsLine field o) (sym (ap (bounds_asked o) (with_entries ps) ∙ with_entries_all o (offer_demands ps))) line
 
 bounds_line : (field : Field) (o : Offer) (ps : List Participant) → field ≢ PixelFormat → field ≢ ColorSpaces → field ≢ MaxSizeBytes → IsOfferLine field o (offer_demands ps)
-    → IsOfferLine field o (offer_demands (filter (names (WithEntry o)) ps))
+    → IsOfferLine field o (offer_demands (filter (names WithEntries) ps))
 bounds_line PixelFormat o ps a b c line = absurd (a refl)
 bounds_line ColorSpaces o ps a b c line = absurd (b refl)
 bounds_line MaxSizeBytes o ps a b c line = absurd (c refl)
 bounds_line field o ps a b c line = with_bounds field o ps line
 
 pub entries_refuse : (whole : Bool) (field : Field) (o : Offer) (ps : List Participant) → field ≢ PixelFormat → field ≢ ColorSpaces → field ≢ MaxSizeBytes → IsRefusingLine whole o (offer_demands ps) field
-    → IsOfferLine field o (offer_demands (filter (names (WithEntry o)) ps)) ⊎ ((whole ≡ true) × IsUnnamedLine field o (offer_demands ps))
+    → IsOfferLine field o (offer_demands (filter (names WithEntries) ps)) ⊎ ((whole ≡ true) × IsUnnamedLine field o (offer_demands ps))
 entries_refuse whole field o ps a b c (inl line) = inl (bounds_line field o ps a b c line)
 entries_refuse whole field o ps a b c (inr unnamed) = inr unnamed
 

@@ -63,11 +63,16 @@ impl Line {
     pub(crate) fn again(&self) -> Result<Line, AllocError>
         ensures { IfOk result (λ line. line ≡ self.now) }
     {
+        self.headed(self.field)
+    }
+
+    /// Its paths under this field. They are kept once for both.
+    pub(crate) fn headed(&self, field: Field) -> Result<Line, AllocError>
+        ensures { IfOk result (λ line. line
+            ≡ record { field = field; nodes = self.now.nodes }) }
+    {
         let nodes = Arc::try_clone(&self.nodes)?;
-        Ok(Line {
-            field: self.field,
-            nodes,
-        })
+        Ok(Line { field, nodes })
     }
 
     /// The field that heads the line.

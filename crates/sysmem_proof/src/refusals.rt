@@ -13,7 +13,7 @@ ghost use Rattle.sysmem_proof.specs.FirstConflict.{IsOfferLineGiven, IsPlaceLine
 ghost use Rattle.sysmem_proof.specs.Members.{members_at, participants};
 ghost use Rattle.sysmem_proof.specs.Reading.{TakesIn};
 ghost use Rattle.sysmem_proof.specs.Refusals.{AreRefusals, AreSoFar, Ends, GoOn, RefusesLast, ShareOffer, SharePlace, StandFor};
-ghost use Rattle.sysmem_proof.specs.Whom.{names};
+ghost use Rattle.sysmem_proof.specs.Whom.{NamesThose, names};
 ghost use Rattle.sysmem_sanitise.specs.Participant.{Participant};
 ghost use Rattle.sysmem_sanitise.specs.Platform.{offers_of};
 ghost use Rattle.sysmem_tree.specs.Nodes.{HasNode};
@@ -22,7 +22,7 @@ ghost use Rattle.sysmem_tree.specs.Shape.{Member};
 use crate::first_refusing::{Reading, first_lacking, first_refused, read_offer};
 use crate::line::{Line, Lines};
 use crate::pair_lines::is_shared;
-use crate::whom::{Whom, line_of};
+use crate::whom::{Named, Whom, line_of, next_line_of};
 use std::alloc::{AllocError, Global};
 use sysmem_counts::Field;
 use sysmem_formats::{Offer, offer_at};
@@ -50,18 +50,18 @@ impl Refusals {
     }
 }
 
-/// Whom the line of this field names, of participants of whom it is true for the offer.
-fn whom_for(field: Field, offer: &Offer) -> Whom
-    ensures { (whole : _) (ps : List Participant)
-        → IsRefusingLine whole offer.now (offer_demands ps) field
-        → IsOfferLine field offer.now (offer_demands (filter (names result) ps))
-        ⊎ ((whole ≡ true) × IsUnnamedLine field offer.now (offer_demands ps)) }
+/// Whom the line of this field names, of participants of whom it is true for an offer whose format all take.
+fn whom_for(field: Field) -> Whom
+    ensures { (whole : _) (o : Offered) (ps : List Participant)
+        → IsRefusingLine whole o (offer_demands ps) field
+        → IsOfferLine field o (offer_demands (filter (names result) ps))
+        ⊎ ((whole ≡ true) × IsUnnamedLine field o (offer_demands ps)) }
 {
     match field {
         Field::UnnamedPixelFormat | Field::UnnamedPixelFormatModifier | Field::UnnamedColorSpace =>
             Whom::Nobody,
         Field::PixelFormat | Field::ColorSpaces | Field::MaxSizeBytes => Whom::All,
-        _ => Whom::WithEntry(*offer),
+        _ => Whom::WithEntries,
     }
 }
 
@@ -114,8 +114,11 @@ fn offer_line(
     offer: &Offer,
     whole: bool,
     before: &[Line],
+    kept: &mut Option<Named>,
 ) -> Result<Option<Line>, AllocError>
-    requires { All (HasNode tree.now.nodes) nodes.now }
+    requires there { All (HasNode tree.now.nodes) nodes.now }
+    requires named { IfSome kept.old (NamesThose tree.now.nodes nodes.now) }
+    ensures named { IfSome kept.new (NamesThose tree.now.nodes nodes.now) }
     ensures line { (ms : List Member) → StandFor (members_at tree.now.nodes nodes.now) ms
         → IfOk result (λ line. IfSome line (IsOfferLineGiven whole ms offer.now)) }
     ensures share { (ms : List Member) → StandFor (members_at tree.now.nodes nodes.now) ms
@@ -130,7 +133,7 @@ fn offer_line(
             let Some(field) = read.first_line(whole) else {
                 return Ok(None);
             };
-            let line = line_of(alloc, tree, nodes, field, whom_for(field, offer), before)?;
+            let line = next_line_of(alloc, tree, nodes, field, whom_for(field), before, kept)?;
             Ok(Some(line))
         }
     }
@@ -145,10 +148,13 @@ fn next_line(
     offer: &Offer,
     whole: bool,
     before: &[Line],
+    kept: &mut Option<Named>,
 ) -> Result<Option<Line>, AllocError>
     requires there { All (HasNode tree.now.nodes) nodes.now }
+    requires named { IfSome kept.old (NamesThose tree.now.nodes nodes.now) }
     requires last { (ms : List Member) → StandFor (members_at tree.now.nodes nodes.now) ms
         → RefusesLast (IsOfferLineGiven whole ms) earlier.now before.now }
+    ensures named { IfSome kept.new (NamesThose tree.now.nodes nodes.now) }
     ensures line { (ms : List Member) → StandFor (members_at tree.now.nodes nodes.now) ms
         → IfOk result (λ line. IfSome line (IsOfferLineGiven whole ms offer.now)) }
     ensures share { (ms : List Member) → StandFor (members_at tree.now.nodes nodes.now) ms
@@ -158,7 +164,7 @@ fn next_line(
     if again.is_some() {
         return Ok(again);
     }
-    offer_line(alloc, tree, nodes, offer, whole, before)
+    offer_line(alloc, tree, nodes, offer, whole, before, kept)
 }
 
 /// Lines that refuse each offer of the platform to the participants at these nodes, or each before the first that they share; where it
@@ -178,11 +184,15 @@ pub(crate) fn refused_offers(
 {
     let mut lines = Vec::new(alloc);
     let mut earlier = Offer::NoImage;
+    let mut kept = None;
     while let Some(offer) = offer_at(platform.pairs(), platform.colours(), lines.len()) {
         if until == Some(offer) {
             return Ok(Refusals::UpTo(Lines::new(lines)));
         }
-        let Some(line) = next_line(alloc, tree, nodes, &earlier, &offer, whole, &lines)? else {
+        let Some(line) = next_line(
+            alloc, tree, nodes, &earlier, &offer, whole, &lines, &mut kept,
+        )?
+        else {
             return Ok(Refusals::UpTo(Lines::new(lines)));
         };
         lines.push(line)?;

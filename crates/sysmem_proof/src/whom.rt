@@ -1,31 +1,28 @@
 //! Whom a line names, and the line.
 
-ghost use Rattle.std.specs.Prelude.{◌≡◌, All, IfOk, option_map, false};
+ghost use Rattle.std.specs.Prelude.{◌≡◌, All, IfOk, IfSome, option_map, false};
 ghost use Rattle.std.specs.Option.{option_map_or};
 ghost use Rattle.sysmem_counts.specs.declared.constraints.CountConstraints.{CountConstraints as Counted};
-ghost use Rattle.sysmem_formats.specs.declared.offer.Offer.{Offer as Offered};
 ghost use Rattle.sysmem_proof.specs.Finder.{has_count};
-ghost use Rattle.sysmem_proof.specs.Whom.{line_on, names};
+ghost use Rattle.sysmem_proof.specs.Whom.{NamesThose, line_on, names};
 ghost use Rattle.sysmem_tree.specs.Nodes.{HasNode};
 
 use crate::line::Line;
 use crate::path_list::PathList;
 use std::alloc::{AllocError, Global};
 use sysmem_counts::{CountConstraints, Field};
-use sysmem_formats::Offer;
-use sysmem_image::entry_for;
 use sysmem_sanitise::Constraints;
 use sysmem_tree::{NodeId, Tree};
 
 /// Whom of some participants a line names.
-#[derive(Clone, Copy)]
+#[derive(Clone, Copy, PartialEq, Eq)]
 pub(crate) enum Whom {
     /// Each.
     All,
     /// Those with a count field that isn't its absent value.
     WithCount,
-    /// Those with an entry for this offer.
-    WithEntry(Offer),
+    /// Those with entries. Where each participant takes a pair, they are those with an entry for it.
+    WithEntries,
     /// None of them.
     Nobody,
 }
@@ -38,7 +35,7 @@ impl Whom {
         match self {
             Whom::All => true,
             Whom::WithCount => has_count(asked.counts()),
-            Whom::WithEntry(offer) => entry_for(asked.entries(), &offer).is_some(),
+            Whom::WithEntries => !asked.entries().is_empty(),
             Whom::Nobody => false,
         }
     }
@@ -84,4 +81,37 @@ pub(crate) fn line_of(
         }
     }
     Line::behind(alloc, before, field, paths)
+}
+
+/// The line that named several last, for which it made their paths.
+#[derive(Drop)]
+pub(crate) struct Named {
+    whom: Whom,
+    line: Line,
+}
+
+/// As `line_of`. Where the line that named several last names the same, it keeps their paths for both.
+pub(crate) fn next_line_of(
+    alloc: Global,
+    tree: &Tree,
+    nodes: &[NodeId],
+    field: Field,
+    whom: Whom,
+    before: &[Line],
+    kept: &mut Option<Named>,
+) -> Result<Line, AllocError>
+    requires there { All (HasNode tree.now.nodes) nodes.now }
+    requires named { IfSome kept.old (NamesThose tree.now.nodes nodes.now) }
+    ensures line { IfOk result (λ line. line ≡ line_on tree.now.nodes nodes.now field whom) }
+    ensures named { IfSome kept.new (NamesThose tree.now.nodes nodes.now) }
+{
+    if let Some(named) = kept {
+        if named.whom == whom {
+            return named.line.headed(field);
+        }
+    }
+    let line = line_of(alloc, tree, nodes, field, whom, before)?;
+    let again = line.again()?;
+    *kept = Some(Named { whom, line: again });
+    Ok(line)
 }

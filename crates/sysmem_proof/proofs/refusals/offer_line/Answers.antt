@@ -19,8 +19,8 @@ returns-in_ok-line-in-Refused-clause-line c = λ ms stand. subst (IsOfferLineGiv
 })
 
 pub returns-in_ok-line-in-Read-clause-line : goal.returns-in_ok-line-in-Read-clause-line
-returns-in_ok-line-in-Read-clause-line c = λ ms stand. subst (IsOfferLineGiven c.args.whole ms c.args.offer.now) (sym c.in_ok-line-in-Read.ensures) (let first = c.in-Some.ensures.first c.args.offer.now _ c.in-Read.ensures in record {
+returns-in_ok-line-in-Read-clause-line c = λ ms stand. subst (IsOfferLineGiven c.args.whole ms c.args.offer.now) (sym c.in_ok-line-in-Read.ensures.line) (let first = c.in-Some.ensures.first c.args.offer.now _ c.in-Read.ensures in record {
   refuses = these_refuse c.args.tree.now.nodes c.args.nodes.now ms stand c.args.whole c.args.offer.now c.in-Some.field c.whom_for.result
-      (c.whom_for.ensures c.args.whole (participants ms) (refusing (members_at c.args.tree.now.nodes c.args.nodes.now) ms stand c.args.whole c.args.offer.now c.in-Some.field first.holds));
+      (c.whom_for.ensures c.args.whole c.args.offer.now (participants ms) (refusing (members_at c.args.tree.now.nodes c.args.nodes.now) ms stand c.args.whole c.args.offer.now c.in-Some.field first.holds));
   first = first_for_all (members_at c.args.tree.now.nodes c.args.nodes.now) ms stand c.args.whole c.args.offer.now c.in-Some.field first;
 })
