@@ -13,7 +13,7 @@ ghost use Rattle.sysmem_proof.specs.FirstConflict.{IsOfferLineGiven, IsPlaceLine
 ghost use Rattle.sysmem_proof.specs.Members.{members_at, participants};
 ghost use Rattle.sysmem_proof.specs.Reading.{TakesIn};
 ghost use Rattle.sysmem_proof.specs.Refusals.{AreRefusals, AreSoFar, Ends, GoOn, RefusesLast, ShareOffer, SharePlace, StandFor};
-ghost use Rattle.sysmem_proof.specs.Whom.{NamesThose, names};
+ghost use Rattle.sysmem_proof.specs.Whom.{NamesOne, NamesThose, names};
 ghost use Rattle.sysmem_sanitise.specs.Participant.{Participant};
 ghost use Rattle.sysmem_sanitise.specs.Platform.{offers_of};
 ghost use Rattle.sysmem_tree.specs.Nodes.{HasNode};
@@ -22,7 +22,7 @@ ghost use Rattle.sysmem_tree.specs.Shape.{Member};
 use crate::first_refusing::{Reading, first_lacking, first_refused, read_offer};
 use crate::line::{Line, Lines};
 use crate::pair_lines::is_shared;
-use crate::whom::{Named, Whom, line_of, next_line_of};
+use crate::whom::{Alone, Named, Whom, line_alone, line_of, next_line_of};
 use std::alloc::{AllocError, Global};
 use sysmem_counts::Field;
 use sysmem_formats::{Offer, offer_at};
@@ -209,9 +209,11 @@ fn place_line(
     place: Place,
     heap: &HeapInfo,
     until: Option<Place>,
-    before: &[Line],
+    kept: &mut Vec<Alone>,
 ) -> Result<Option<Line>, AllocError>
-    requires { All (HasNode tree.now.nodes) nodes.now }
+    requires there { All (HasNode tree.now.nodes) nodes.now }
+    requires alone { All (NamesOne tree.now.nodes) kept.old.items }
+    ensures alone { All (NamesOne tree.now.nodes) kept.new.items }
     ensures line { (ms : List Member) → StandFor (members_at tree.now.nodes nodes.now) ms
         → IfOk result (λ line. IfSome line
         (IsPlaceLineGiven ms (record { place = place; heap = heap.now }))) }
@@ -225,7 +227,7 @@ fn place_line(
     let Some(first) = first_refused(tree, nodes, heap, place.coherency) else {
         return Ok(None);
     };
-    let line = line_of(alloc, tree, &[first.node], first.field, Whom::All, before)?;
+    let line = line_alone(alloc, tree, first.node, first.field, kept)?;
     Ok(Some(line))
 }
 
@@ -238,9 +240,12 @@ fn push_place(
     heap: &HeapInfo,
     until: Option<Place>,
     lines: &mut Vec<Line>,
+    kept: &mut Vec<Alone>,
 ) -> Result<bool, AllocError>
-    requires { All (HasNode tree.now.nodes) nodes.now }
-    ensures { (ms : List Member) → StandFor (members_at tree.now.nodes nodes.now) ms
+    requires there { All (HasNode tree.now.nodes) nodes.now }
+    requires alone { All (NamesOne tree.now.nodes) kept.old.items }
+    ensures alone { All (NamesOne tree.now.nodes) kept.new.items }
+    ensures lines { (ms : List Member) → StandFor (members_at tree.now.nodes nodes.now) ms
         → (xs left : List HeapPlace) → AreSoFar (IsPlaceLineGiven ms) xs lines.old.items
         (put_if (has_domain heap.now.domains place.coherency)
         (record { place = place; heap = heap.now }) left)
@@ -250,7 +255,7 @@ fn push_place(
     if !heap.domains.has(place.coherency) {
         return Ok(true);
     }
-    let Some(line) = place_line(alloc, tree, nodes, place, heap, until, lines)? else {
+    let Some(line) = place_line(alloc, tree, nodes, place, heap, until, kept)? else {
         return Ok(false);
     };
     lines.push(line)?;
@@ -266,9 +271,12 @@ fn push_heap(
     heap: &HeapInfo,
     until: Option<Place>,
     lines: &mut Vec<Line>,
+    kept: &mut Vec<Alone>,
 ) -> Result<bool, AllocError>
-    requires { All (HasNode tree.now.nodes) nodes.now }
-    ensures { (ms : List Member) → StandFor (members_at tree.now.nodes nodes.now) ms
+    requires there { All (HasNode tree.now.nodes) nodes.now }
+    requires alone { All (NamesOne tree.now.nodes) kept.old.items }
+    ensures alone { All (NamesOne tree.now.nodes) kept.new.items }
+    ensures lines { (ms : List Member) → StandFor (members_at tree.now.nodes nodes.now) ms
         → (xs : List HeapPlace) (heaps : List HeapFacts)
         → AreSoFar (IsPlaceLineGiven ms) xs lines.old.items
         (places_from index (heap.now ∷ heaps))
@@ -280,21 +288,21 @@ fn push_heap(
         heap: index,
         coherency: CoherencyDomain::Cpu,
     };
-    if !push_place(alloc, tree, nodes, cpu, heap, until, lines)? {
+    if !push_place(alloc, tree, nodes, cpu, heap, until, lines, kept)? {
         return Ok(false);
     }
     let ram = Place {
         heap: index,
         coherency: CoherencyDomain::Ram,
     };
-    if !push_place(alloc, tree, nodes, ram, heap, until, lines)? {
+    if !push_place(alloc, tree, nodes, ram, heap, until, lines, kept)? {
         return Ok(false);
     }
     let inaccessible = Place {
         heap: index,
         coherency: CoherencyDomain::Inaccessible,
     };
-    push_place(alloc, tree, nodes, inaccessible, heap, until, lines)
+    push_place(alloc, tree, nodes, inaccessible, heap, until, lines, kept)
 }
 
 /// Lines that refuse each place of the platform to the participants at these nodes, or each before the first that they share; where it
@@ -313,8 +321,11 @@ pub(crate) fn refused_places(
         (places_of platform.now.heaps)) }
 {
     let mut lines = Vec::new(alloc);
+    let mut kept = Vec::new(alloc);
     for (index, heap) in platform.heaps().iter().enumerate() {
-        if !push_heap(alloc, tree, nodes, index, heap, until, &mut lines)? {
+        if !push_heap(
+            alloc, tree, nodes, index, heap, until, &mut lines, &mut kept,
+        )? {
             return Ok(Refusals::UpTo(Lines::new(lines)));
         }
     }

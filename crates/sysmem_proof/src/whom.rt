@@ -1,10 +1,11 @@
 //! Whom a line names, and the line.
 
-ghost use Rattle.std.specs.Prelude.{◌≡◌, All, IfOk, IfSome, option_map, false};
+ghost use Rattle.std.specs.Prelude.{◌≡◌, ◌∷◌, [], List, All, IfOk, IfSome, option_map, false};
 ghost use Rattle.std.specs.Option.{option_map_or};
 ghost use Rattle.sysmem_counts.specs.declared.constraints.CountConstraints.{CountConstraints as Counted};
 ghost use Rattle.sysmem_proof.specs.Finder.{has_count};
-ghost use Rattle.sysmem_proof.specs.Whom.{NamesThose, line_on, names};
+ghost use Rattle.sysmem_proof.specs.Whom.{NamesOne, NamesThose, line_on, names};
+ghost use Rattle.sysmem_tree.specs.Node.{NodeFacts};
 ghost use Rattle.sysmem_tree.specs.Nodes.{HasNode};
 
 use crate::line::Line;
@@ -113,5 +114,49 @@ pub(crate) fn next_line_of(
     let line = line_of(alloc, tree, nodes, field, whom, before)?;
     let again = line.again()?;
     *kept = Some(Named { whom, line: again });
+    Ok(line)
+}
+
+/// A line that names the participant at one node.
+#[derive(Drop)]
+pub(crate) struct Alone {
+    node: NodeId,
+    line: Line,
+}
+
+/// A line kept that names the participant at this node.
+fn alone_at(kept: &[Alone], node: NodeId) -> Option<&Line>
+    ensures { (nodes : List NodeFacts) → All (NamesOne nodes) kept.now
+        → IfSome result (λ line. line.now
+        ≡ line_on nodes (node ∷ []) line.now.field Whom.All) }
+{
+    for alone in kept {
+        if alone.node == node {
+            return Some(&alone.line);
+        }
+    }
+    None
+}
+
+/// The line of this field that names the participant at a node of the tree. Where a line is kept that names him, it keeps his path for both.
+pub(crate) fn line_alone(
+    alloc: Global,
+    tree: &Tree,
+    node: NodeId,
+    field: Field,
+    kept: &mut Vec<Alone>,
+) -> Result<Line, AllocError>
+    requires there { HasNode tree.now.nodes node }
+    requires alone { All (NamesOne tree.now.nodes) kept.old.items }
+    ensures line { IfOk result (λ line.
+        line ≡ line_on tree.now.nodes (node ∷ []) field Whom.All) }
+    ensures alone { All (NamesOne tree.now.nodes) kept.new.items }
+{
+    if let Some(line) = alone_at(kept, node) {
+        return line.headed(field);
+    }
+    let line = line_of(alloc, tree, &[node], field, Whom::All, &[])?;
+    let again = line.again()?;
+    kept.push(Alone { node, line: again })?;
     Ok(line)
 }

@@ -10,7 +10,7 @@ use Rattle.sysmem_proof.proofs.NamedLines.{one_is_refused}
 use Rattle.sysmem_proof.proofs.refusals.place_line.Goals as goal
 
 pub returns-clause-line : goal.returns-clause-line
-returns-clause-line c = λ ms stand. subst (IsPlaceLineGiven ms (record { place = c.args.place; heap = c.args.heap.now })) (sym c.in_ok-line.ensures) (record {
+returns-clause-line c = λ ms stand. subst (IsPlaceLineGiven ms (record { place = c.args.place; heap = c.args.heap.now })) (sym c.in_ok-line.ensures.line) (record {
   refuses = one_is_refused c.args.tree.now.nodes c.args.nodes.now ms stand c.args.place c.args.heap.now c.in-Some.first.field c.in-Some.first.node c.in-Some.ensures.there c.in-Some.ensures.refused;
   path = path_of c.args.tree.now.nodes c.in-Some.first.node;
   alone = one_path c.args.tree.now.nodes c.in-Some.first.node (λ p. refuses_by c.in-Some.first.field p.memory p.usage c.args.heap.now c.args.place.coherency ≡ true) c.in-Some.ensures.refused;
