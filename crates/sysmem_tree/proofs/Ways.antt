@@ -60,6 +60,12 @@ child_found nodes k n b distinct here is =
           let same : j ≡ k = distinct j k (get_or nodes j n) n at here (birth ∙ sym is) in
           absurd (omega (arith, same, below))
 
+-- a node that was born as this child is the child
+pub found_at : (nodes : List NodeFacts) (i parent ordinal : ℕ) (n : NodeFacts) → IsTree nodes → slice_get nodes i ≡ Some n → is_born parent ordinal n.birth ≡ true
+    → child_of nodes parent ordinal ≡ Some i
+found_at nodes i parent ordinal n tree here is =
+    child_found nodes i n (record { parent = parent; ordinal = ordinal }) (distinct nodes tree) here (born_so parent ordinal n.birth is)
+
 -- a node that is nobody's child is the root
 pub root_alone : (nodes : List NodeFacts) (k : ℕ) (n : NodeFacts) → IsTree nodes → slice_get nodes k ≡ Some n → n.birth ≡ None → k ≡ 0
 root_alone nodes zero n tree here none = refl
