@@ -213,7 +213,9 @@ fn explain_command<'a>(alloc: Global) -> Result<Command<'a>, AllocError>
     ensures local { IfOk result (λ c. (fields_of c).has_globals ≡ false) }
 {
     Command::new(alloc, "explain")
-        .about("Says who is awaited or in the way, which field decided, or where the script is wrong")
+        .about(
+            "Says who is awaited or in the way, which field decided, or where the script is wrong",
+        )
         .arg(file_arg(alloc))
 }
 
