@@ -4,7 +4,7 @@ ghost use Rattle.std.specs.Prelude.{◌≡◌, ◌+◌, ◌*◌, ◌/◌, ◌≤
 ghost use Rattle.sysmem_formats.specs.Layout.{rows_of};
 ghost use Rattle.drm_images.specs.Planes.{bytes_of, first_plane, paired_plane, plane_end, planes_of, two_colours};
 
-use sysmem_formats::{ColourSpace, Modifier, Offer, Pair, PixelFormat};
+use sysmem_formats::{ColourSpace, Modifier, Offer, Pair, Sampling};
 
 /// A plane of an image: where its first row begins in the image, the bytes of a row, and how many rows it has, a
 /// tile's part included.
@@ -57,10 +57,10 @@ pub fn plane_at(pair: Pair, pitch: u32, height: u32, index: usize) -> Option<Pla
             rows,
         });
     }
-    match pair.format {
-        PixelFormat::NV12 | PixelFormat::P010 => paired_plane(pitch, rows, index),
-        PixelFormat::I420 | PixelFormat::YV12 => colour_plane(pitch, rows, index),
-        _ => None,
+    match pair.format.sampling() {
+        Sampling::Full | Sampling::HalfRow => None,
+        Sampling::TwoPlanes => paired_plane(pitch, rows, index),
+        Sampling::ThreePlanes => colour_plane(pitch, rows, index),
     }
 }
 
