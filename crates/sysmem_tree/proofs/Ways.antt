@@ -75,6 +75,12 @@ distinct nodes tree j k m n at_j at_k same = at m.birth refl where
       let (p, here) = slice_get_some nodes b.parent (omega (arith, up, slice_get_within nodes j m at_j)) in
       once b.parent nodes 0 p.state.children b.ordinal j k m n (tree.numbered b.parent p here) at_j at_k (under_parent b m.birth e) (under_parent b n.birth (sym same ∙ e))
 
+-- a node that was born as this child is the child
+pub found_at : (nodes : List NodeFacts) (i parent ordinal : ℕ) (n : NodeFacts) → IsTree nodes → slice_get nodes i ≡ Some n → is_born parent ordinal n.birth ≡ true
+    → child_of nodes parent ordinal ≡ Some i
+found_at nodes i parent ordinal n tree here is =
+    child_found nodes i n (record { parent = parent; ordinal = ordinal }) (distinct nodes tree) here (born_so parent ordinal n.birth is)
+
 -- the ordinals, the last one first, lead up from a node to the root
 abbrev Up : List NodeFacts → ℕ → List ℕ → Type 0
 Up nodes k [] = k ≡ 0

@@ -1,6 +1,6 @@
 //! Paths in a list of nodes.
 
-ghost use Rattle.std.specs.Prelude.{◌≡◌, ◌<◌, ℕ, List, Some, length, IfOk, IfSome};
+ghost use Rattle.std.specs.Prelude.{◌≡◌, ◌<◌, ℕ, List, Some, length, IfOk, IfSome, IsTrue};
 ghost use Rattle.sysmem_tree.specs.Path.{child_of, node_at, path_of};
 ghost use Rattle.sysmem_tree.specs.Nodes.{IsTree};
 
@@ -15,13 +15,30 @@ fn child_among(nodes: &[Node], parent: usize, ordinal: u32) -> Option<usize>
     nodes.iter().position(|node| node.is_child(parent, ordinal))
 }
 
-/// This child of this parent: one of the nodes behind it.
+/// Whether the node of this number is this child of this parent.
+fn is_child_at(nodes: &[Node], number: usize, parent: usize, ordinal: u32) -> bool
+    requires { IsTree nodes.now }
+    ensures child { IsTrue result → child_of nodes.now parent ordinal ≡ Some number }
+    ensures there { IsTrue result → number < length nodes.now }
+{
+    match nodes.get(number) {
+        Some(node) => node.is_child(parent, ordinal),
+        None => false,
+    }
+}
+
+/// This child of this parent: one of the nodes after it. Where a parent made its children one
+/// after the other, each is as far from it as its ordinal says.
 fn child_of(nodes: &[Node], parent: usize, ordinal: u32) -> Option<usize>
     requires tree { IsTree nodes.now }
     requires parent { parent < length nodes.now }
     ensures child { result ≡ child_of nodes.now parent ordinal }
     ensures there { IfSome result (λ number. number < length nodes.now) }
 {
+    let nearest = (parent + 1).saturating_add(ordinal as usize);
+    if is_child_at(nodes, nearest, parent, ordinal) {
+        return Some(nearest);
+    }
     let behind = child_among(&nodes[parent + 1..], parent, ordinal)?;
     Some(parent + 1 + behind)
 }
