@@ -6,7 +6,7 @@ use Rattle.sysmem_tree.specs.History.{IsDecidable}
 use Rattle.sysmem_tree.specs.Selection.{after, IsPrefix, IsSelection}
 use Rattle.sysmem_tree.specs.Shape.{by_number, forest_of}
 use Rattle.sysmem_tree.proofs.CallerLemmas.{is_selection, undecided_by_fate}
-use Rattle.tree_rows.proofs.choosing.decide.Goals as goal
+use Rattle.repeated_decisions.proofs.rows.choosing.decide.Goals as goal
 
 none_of : {A : Type 0} (o : Option A) → false ≡ is_some o → o ≡ None
 none_of None e = refl

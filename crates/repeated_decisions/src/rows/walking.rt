@@ -6,36 +6,34 @@ ghost use Rattle.sysmem_tree.specs.Forest.{Forest};
 ghost use Rattle.sysmem_tree.specs.Node.{NodeFacts};
 ghost use Rattle.sysmem_tree.specs.OpenGroups.{HasChild, HasLeft, HoldsNodes, IsChildPlace, IsFirstOpen};
 
-use crate::paths::push_path;
+use super::paths::push_path;
 use anyhow::{Result, bail};
-use std::alloc::Global;
 use sysmem_tree::{
     ChildPlace, DomainId, GroupPlace, Layout, MOST_NODES, Prefix, SettledNodes, Tree,
 };
 
 /// What no choice settles, and then what each choice of the prefix does, in pre-order; behind each the group that is open then.
-pub(crate) fn walk(alloc: Global, tree: &Tree, domain: DomainId, prefix: &Prefix) -> Result<String>
+pub(super) fn walk(text: &mut String, tree: &Tree, domain: DomainId, prefix: &Prefix) -> Result<()>
     requires { HasDomain tree.now.nodes domain }
 {
     let layout = tree.layout(domain);
-    let mut text = String::new(alloc);
     text.push_str("settled")?;
-    push_nodes(&mut text, tree, &layout, layout.settled_first())?;
+    push_nodes(text, tree, &layout, layout.settled_first())?;
     let mut open = layout.first_open();
     for choice in prefix.choices() {
         let Some(group) = open else {
             bail!("no group is left");
         };
-        push_group(&mut text, tree, &layout, group)?;
+        push_group(text, tree, &layout, group)?;
         let child = child(&layout, group, *choice)?;
-        push_nodes(&mut text, tree, &layout, layout.settled_with(child))?;
+        push_nodes(text, tree, &layout, layout.settled_with(child))?;
         open = layout.open_after(child);
     }
     match open {
-        Some(group) => push_group(&mut text, tree, &layout, group)?,
+        Some(group) => push_group(text, tree, &layout, group)?,
         None => text.push_str(" whole")?,
     }
-    Ok(text)
+    Ok(())
 }
 
 /// Writes the paths of the nodes that a walk gives.
@@ -62,8 +60,7 @@ fn push_group(text: &mut String, tree: &Tree, layout: &Layout, group: GroupPlace
     let (node, children) = layout.group_at(group);
     text.push_str(", group ")?;
     push_path(text, &tree.path_of(node)?)?;
-    let many = format!(in *text.allocator(); " of {children}:")?;
-    text.push_str(&many)?;
+    write!(text, " of {children}:")?;
     Ok(())
 }
 

@@ -5,7 +5,7 @@ use Rattle.sysmem_tree.specs.Forest.{first_group}
 use Rattle.sysmem_tree.specs.Selection.{after, IsPrefix}
 use Rattle.sysmem_tree.specs.Shape.{by_number, forest_of}
 use Rattle.sysmem_tree.proofs.CallerLemmas.{prefix_push}
-use Rattle.tree_rows.proofs.choosing.choose.Goals as goal
+use Rattle.repeated_decisions.proofs.rows.choosing.choose.Goals as goal
 
 pub returns : goal.returns
 returns c =

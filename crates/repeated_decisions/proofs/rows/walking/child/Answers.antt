@@ -2,7 +2,7 @@
 use Rattle.std.proofs.Common.{◌≡◌, ◌<◌, refl, sym, subst, arith}
 use Rattle.std.specs.Prelude.{IsSome}
 use Rattle.sysmem_tree.proofs.CallerLemmas.{prefix_push}
-use Rattle.tree_rows.proofs.walking.child.Goals as goal
+use Rattle.repeated_decisions.proofs.rows.walking.child.Goals as goal
 
 pub child_at-requires : goal.child_at-requires
 child_at-requires c =

@@ -27,7 +27,7 @@ fn choose(tree: &Tree, domain: DomainId, prefix: Prefix, choice: u8) -> Option<P
 }
 
 /// The prefix of a text such as `-` or `0.2`; `None` where the domain has no such prefix.
-pub(crate) fn prefix_of(tree: &Tree, domain: DomainId, text: &str) -> Result<Option<Prefix>>
+pub(super) fn prefix_of(tree: &Tree, domain: DomainId, text: &str) -> Result<Option<Prefix>>
     requires { HasDomain tree.now.nodes domain }
     ensures { IfOk result (λ found. IfSome found
         (λ prefix. IsPrefix (forest_of by_number tree.now.nodes domain []) prefix)) }
@@ -46,7 +46,7 @@ pub(crate) fn prefix_of(tree: &Tree, domain: DomainId, text: &str) -> Result<Opt
 }
 
 /// The choices of a text such as `-` or `0.2`, whether some domain has such a prefix or not.
-pub(crate) fn choices_of(text: &str) -> Result<Prefix> {
+pub(super) fn choices_of(text: &str) -> Result<Prefix> {
     let mut choices = Prefix::new();
     if text == "-" {
         return Ok(choices);
@@ -61,7 +61,7 @@ pub(crate) fn choices_of(text: &str) -> Result<Prefix> {
 }
 
 /// Decides a domain for a selection, or for none; says why not where it can't be decided so.
-pub(crate) fn decide(
+pub(super) fn decide(
     tree: &mut Tree,
     domain: DomainId,
     selection: Option<Prefix>,

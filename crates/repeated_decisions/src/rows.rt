@@ -17,7 +17,6 @@
 //!
 //! Domains are printed as one letter each, in the order in which their roots were made: `u` neither ready nor decided, `r` ready, `c` decided
 //! for a selection, `n` for none, `f` failed.
-#![tactic(auto)]
 
 mod actions;
 mod asking;
@@ -28,22 +27,35 @@ mod walking;
 
 use anyhow::Result;
 use lines::answer;
+use std::alloc::Global;
 use std::io::{self, BufRead, BufReader, BufWriter, Write};
 use sysmem_tree::Tree;
 
-fn main(rt: HostRuntime) -> Result<()> {
+/// Plays the lines of standard input.
+// What owns memory is made by one function and lent to another that may fail: else each `?` is proved to free it.
+pub(crate) fn play_rows(rt: &HostRuntime) -> Result<()> {
+    let mut out = BufWriter::new(rt.alloc(), io::writer(rt))?;
     let mut tree = Tree::new(rt.alloc())?;
-    let mut out = BufWriter::new(rt.alloc(), io::writer(&rt))?;
     for line in BufReader::new(rt.alloc(), rt.reader())?.lines(rt.alloc()) {
-        let line = line?;
-        if line.starts_with("tree ") {
-            tree = Tree::new(rt.alloc())?;
-            writeln!(out, "{line}")?;
-        } else {
-            let answer = answer(rt.alloc(), &mut tree, &line)?;
-            writeln!(out, "{answer}")?;
-        }
+        let text = play(rt.alloc(), &mut tree, &line?)?;
+        writeln!(out, "{text}")?;
     }
     out.flush()?;
     Ok(())
+}
+
+/// Plays a line and gives what is printed.
+fn play(alloc: Global, tree: &mut Tree, line: &str) -> Result<String> {
+    let mut text = String::new(alloc);
+    write_answer(alloc, &mut text, tree, line)?;
+    Ok(text)
+}
+
+fn write_answer(alloc: Global, text: &mut String, tree: &mut Tree, line: &str) -> Result<()> {
+    if line.starts_with("tree ") {
+        *tree = Tree::new(alloc)?;
+        text.push_str(line)?;
+        return Ok(());
+    }
+    answer(alloc, text, tree, line)
 }

@@ -8,7 +8,7 @@ use sysmem_sanitise::{Constraints, read_constraints};
 use sysmem_tree::{Action, Fate, Tree};
 
 /// The action of this word, if it is one. Constraints are those of a participant with the usage cpu; `set_none` sets none.
-pub(crate) fn action_of(alloc: Global, word: &str) -> Result<Option<Action>> {
+pub(super) fn action_of(alloc: Global, word: &str) -> Result<Option<Action>> {
     Ok(Some(match word {
         "duplicate" => Action::Duplicate,
         "create_group" => Action::CreateGroup,
@@ -33,7 +33,7 @@ fn cpu(alloc: Global) -> Result<Constraints> {
 }
 
 /// Writes behind a text how each domain stands.
-pub(crate) fn push_domains(text: &mut String, tree: &Tree) -> Result<()> {
+pub(super) fn push_domains(text: &mut String, tree: &Tree) -> Result<()> {
     text.push(' ')?;
     for index in 0..tree.domains() {
         let Some(domain) = tree.domain_at(index) else {

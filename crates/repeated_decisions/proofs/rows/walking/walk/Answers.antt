@@ -3,7 +3,7 @@ use Rattle.std.proofs.Common.{[], subst}
 use Rattle.sysmem_tree.specs.Forest.{settled}
 use Rattle.sysmem_tree.specs.OpenGroups.{IsFirstOpen}
 use Rattle.sysmem_tree.specs.Shape.{by_number, forest_of}
-use Rattle.tree_rows.proofs.walking.walk.Goals as goal
+use Rattle.repeated_decisions.proofs.rows.walking.walk.Goals as goal
 
 pub push_nodes-requires-clause-left : goal.push_nodes-requires-clause-left
 push_nodes-requires-clause-left c =
