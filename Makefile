@@ -16,7 +16,7 @@ proved:
 	cd $(PROGRAM) && rt run -- run $(abspath examples/one_participant.json)
 	cd crates/played_handles && rt run -- data/attached.json
 
-# The whole gate: every proof, the must-fail edits, the tests, the program. What it passed is kept on this machine: the next one proves only what changed.
+# The whole gate: every proof, the must-fail edits, the tests, the program. A kit that keeps what passed proves only what changed the next time.
 test:
 	RT_JOBS=$(JOBS) rt ci
 
