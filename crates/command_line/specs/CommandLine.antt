@@ -5,7 +5,7 @@ use Rattle.clap.specs.Words.{with_subcommand}
 use Rattle.clap.specs.Lexer.{strip_byte}
 use Rattle.clap.specs.Simple.{on_top}
 use Rattle.command_line.specs.declared.words.Job.{Job}
-use Rattle.command_line.specs.declared.words.Job.TheVariants.{Run, Threads, Check}
+use Rattle.command_line.specs.declared.words.Job.TheVariants.{Run, Threads, Explain, Check}
 use Rattle.command_line.specs.declared.words.Refusal.{Refusal}
 use Rattle.command_line.specs.declared.words.Refusal.TheVariants.{Parser, OneFile}
 
@@ -27,6 +27,10 @@ run_app = with_rule (with_rule (new_app (codes "run")) file_rule) proof_rule
 -- threads FILE
 abbrev pub threads_app : App
 threads_app = with_rule (new_app (codes "threads")) file_rule
+
+-- explain FILE
+abbrev pub explain_app : App
+explain_app = with_rule (new_app (codes "explain")) file_rule
 
 -- PROOF, which has to be there
 abbrev pub certificate_rule : Rule
@@ -56,9 +60,13 @@ runs_app = with_subcommand jobless_app run_app.top
 abbrev pub players_app : App
 players_app = with_subcommand runs_app threads_app.top
 
+-- sysmem_replay with every subcommand but `check`
+abbrev pub tellers_app : App
+tellers_app = with_subcommand players_app explain_app.top
+
 -- sysmem_replay, with a subcommand for each job
 abbrev pub replay_app : App
-replay_app = with_subcommand players_app check_app.top
+replay_app = with_subcommand tellers_app check_app.top
 
 -- a subcommand's name and entries are `run`, this FILE, and this OUT or none
 abbrev pub IsRunOf : Text × List Row → Text → Option Text → Type 0
@@ -70,6 +78,10 @@ IsRunOf entries file proof =
 abbrev pub IsThreadsOf : Text × List Row → Text → Type 0
 IsThreadsOf entries file = (entries.0 ≡ codes "threads") × (first_of (codes "FILE") entries.1 ≡ Some file)
 
+-- they are `explain` and this FILE
+abbrev pub IsExplainOf : Text × List Row → Text → Type 0
+IsExplainOf entries file = (entries.0 ≡ codes "explain") × (first_of (codes "FILE") entries.1 ≡ Some file)
+
 -- they are `check`, this FILE and this PROOF
 abbrev pub IsCheckOf : Text × List Row → Text → Text → Type 0
 IsCheckOf entries file proof =
@@ -80,12 +92,14 @@ IsCheckOf entries file proof =
 abbrev pub AsksForJob : Text × List Row → Job → Type 0
 AsksForJob entries (Run file proof) = IsRunOf entries file.now (option_map (λ s. s.now) proof)
 AsksForJob entries (Threads file) = IsThreadsOf entries file.now
+AsksForJob entries (Explain file) = IsExplainOf entries file.now
 AsksForJob entries (Check file proof) = IsCheckOf entries file.now proof.now
 
 -- they are no job's
 pub record AsksForNone (entries : Text × List Row) : Type 0 where
   pub run : (file : Text) (proof : Option Text) → ¬ IsRunOf entries file proof
   pub threads : (file : Text) → ¬ IsThreadsOf entries file
+  pub explain : (file : Text) → ¬ IsExplainOf entries file
   pub check : (file proof : Text) → ¬ IsCheckOf entries file proof
 
 -- they are `run`, and name one file as FILE and OUT
@@ -97,6 +111,7 @@ pub record EmptiesScript (entries : Text × List Row) : Type 0 where
 abbrev pub IsOneFile : Job → Type 0
 IsOneFile (Run file proof) = option_map (λ s. s.now) proof ≡ Some file.now
 IsOneFile (Threads file) = ⊥
+IsOneFile (Explain file) = ⊥
 IsOneFile (Check file proof) = ⊥
 
 -- the parser's error has one of these kinds, or is want of memory, and else there are none

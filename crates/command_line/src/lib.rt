@@ -4,6 +4,7 @@
 //! match read_words(rt.alloc(), &words) {
 //!     Ok(Job::Run { file, proof }) => println!(&rt; "run {file}, {proof:?}"),
 //!     Ok(Job::Threads { file }) => println!(&rt; "threads {file}"),
+//!     Ok(Job::Explain { file }) => println!(&rt; "explain {file}"),
 //!     Ok(Job::Check { file, proof }) => println!(&rt; "check {file}, {proof}"),
 //!     Err(Refusal::OneFile) => eprintln!(&rt; "FILE and OUT are the same file"),
 //!     Err(Refusal::Parser(error)) => error.print(&rt),

@@ -3,7 +3,7 @@ ghost use Rattle.std.specs.Prelude.{◌≡◌, Err, IfNone, IfOk, IfSome, IsSome
 ghost use Rattle.std.specs.Bool.{Decides};
 ghost use Rattle.clap.specs.Words.{FailsBy, app_of, fault_of, rule_of, subcommand_of, subcommand_rows_of};
 ghost use Rattle.clap.specs.declared.builder.command.Command.TheViews.{out-Command as fields_of};
-ghost use Rattle.command_line.specs.CommandLine.{AsksForJob, AsksForNone, EmptiesScript, IsOneFile, IsPlainRun, IsRefusedBy, certificate_rule, check_app, file_rule, jobless_app, players_app, proof_rule, replay_app, run_app, runs_app, threads_app};
+ghost use Rattle.command_line.specs.CommandLine.{AsksForJob, AsksForNone, EmptiesScript, IsOneFile, IsPlainRun, IsRefusedBy, certificate_rule, check_app, explain_app, file_rule, jobless_app, players_app, proof_rule, replay_app, run_app, runs_app, tellers_app, threads_app};
 
 use clap::{Arg, ArgMatches, Command, Error};
 use std::alloc::{AllocError, Global};
@@ -18,6 +18,10 @@ pub enum Job<'a> {
     },
     /// Replay a script with a thread for each of its actors.
     Threads {
+        file: &'a str,
+    },
+    /// Say in words what a script's report means, or where the script has a fault.
+    Explain {
         file: &'a str,
     },
     /// Test the certificate in `proof` against the script in `file`.
@@ -122,6 +126,10 @@ fn job_in<'a>(matches: &ArgMatches<'a>) -> Option<Job<'a>>
             let file = entries.get_str("FILE")?;
             Some(Job::Threads { file })
         }
+        "explain" => {
+            let file = entries.get_str("FILE")?;
+            Some(Job::Explain { file })
+        }
         "check" => {
             let file = entries.get_str("FILE")?;
             let proof = entries.get_str("PROOF")?;
@@ -135,9 +143,18 @@ fn job_in<'a>(matches: &ArgMatches<'a>) -> Option<Job<'a>>
 fn replay_command<'a>(alloc: Global) -> Result<Command<'a>, AllocError>
     ensures { IfOk result (λ c. app_of c ≡ replay_app) }
 {
-    let command = command_of_players(alloc)?;
+    let command = command_of_tellers(alloc)?;
     let check = check_command(alloc)?;
     command.subcommand(check)
+}
+
+/// The same without `check`.
+fn command_of_tellers<'a>(alloc: Global) -> Result<Command<'a>, AllocError>
+    ensures { IfOk result (λ c. app_of c ≡ tellers_app) }
+{
+    let command = command_of_players(alloc)?;
+    let explain = explain_command(alloc)?;
+    command.subcommand(explain)
 }
 
 /// The same with the subcommands `run` and `threads` alone.
@@ -188,6 +205,17 @@ fn threads_command<'a>(alloc: Global) -> Result<Command<'a>, AllocError>
 {
     Command::new(alloc, "threads")
         .about("Replays a script with a thread for each actor, and prints a line for each domain")
+        .arg(file_arg(alloc))
+}
+
+fn explain_command<'a>(alloc: Global) -> Result<Command<'a>, AllocError>
+    ensures app { IfOk result (λ c. app_of c ≡ explain_app) }
+    ensures local { IfOk result (λ c. (fields_of c).has_globals ≡ false) }
+{
+    Command::new(alloc, "explain")
+        .about(
+            "Says who is awaited or in the way, which field decided, or where the script is wrong",
+        )
         .arg(file_arg(alloc))
 }
 

@@ -2,6 +2,8 @@
 //! report; with `--proof OUT` it also writes the certificate of its decisions.
 //! `sysmem_replay threads FILE` replays it with a thread for each actor, and prints what became of
 //! each domain.
+//! `sysmem_replay explain FILE` says what a script means: where it has a fault, or what its report
+//! comes from.
 //! `sysmem_replay check FILE PROOF` tests such a certificate.
 #![tactic(auto)]
 
@@ -10,6 +12,7 @@ mod refusal;
 use byte_transfer::{Counted, Sink, Source};
 use clap::Error;
 pub use command_line::{Job, Refusal, read_words};
+pub use explain::{Outcome, explain_file};
 use refusal::refusal_ending;
 pub use script_run::{
     Ended, Ending, RunFault, check_file, ending_of, run, run_leaving, run_with_proof,
@@ -54,6 +57,7 @@ fn obey<T: Threads + Wait + Sync>(rt: &HostRuntime, threads: &T, words: &[String
     match read_words(rt.alloc(), words) {
         Ok(Job::Run { file, proof }) => ending_of(run_file(rt, file, proof)),
         Ok(Job::Threads { file }) => ending_of(play_file(rt, threads, file)),
+        Ok(Job::Explain { file }) => explain_script(rt, file),
         Ok(Job::Check { file, proof }) => ending_of(check_files(rt, file, proof)),
         Err(Refusal::Parser(error)) => tell(rt, &error),
         Err(Refusal::OneFile) => refuse(
@@ -116,6 +120,23 @@ fn play_file<T: Threads + Wait + Sync>(
     let mut reader = Counted::new(script);
     let mut writer = Counted::new(io::writer(rt));
     run_threads(threads, rt.alloc(), &mut reader, &mut writer)
+}
+
+/// Opens the script, and explains it; one that is refused is explained too, and ends with status 3.
+fn explain_script(rt: &HostRuntime, file: &str) -> Ending {
+    let Ok(script) = File::open(rt, file) else {
+        return ending_of(Err(RunFault::Read));
+    };
+    let mut reader = Counted::new(script);
+    let mut writer = Counted::new(io::writer(rt));
+    match explain_file(rt.alloc(), file, &mut reader, &mut writer) {
+        Ok(Outcome::Refused) => Ending {
+            status: 3,
+            fault: None,
+        },
+        Ok(_) => ending_of(Ok(Ended::Done)),
+        Err(fault) => ending_of(Err(fault)),
+    }
 }
 
 /// Opens the script and then the certificate, and tests that.
