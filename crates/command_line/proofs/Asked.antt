@@ -7,7 +7,7 @@ use Rattle.clap.specs.Simple.{Shape, built, built_leaf, entered, inherited, labe
 use Rattle.clap.specs.Takes.{is_given}
 use Rattle.clap.specs.Kinds.{check_kinds}
 use Rattle.clap.specs.Faults.{check_fault, entered_fault, fault_of, level_fault}
-use Rattle.command_line.specs.CommandLine.{AsksForNone, IsCheckOf, IsExplainOf, IsRunOf, IsThreadsOf, check_app, explain_app, replay_app, run_app, threads_app}
+use Rattle.command_line.specs.CommandLine.{AsksForNone, IsCheckOf, IsExplainOf, IsRunOf, IsThreadsOf, check_app, explain_app, flag_of, replay_app, run_app, threads_app}
 use Rattle.command_line.proofs.Filled.{each_has_value, faults, given_is_read, level_parts}
 
 -- the subcommands as clap builds them
@@ -24,13 +24,13 @@ check_shape : Shape
 check_shape = built_leaf (inherited (with_leaf_noted (marked_built replay_app.top)) check_app.top)
 
 abbrev IsAskedRun : Text × List Row → Type 0
-IsAskedRun e = (file : Text) × (proof : Option Text) × IsRunOf e file proof
+IsAskedRun e = (file : Text) × (is_json : Bool) × (proof : Option Text) × IsRunOf e file is_json proof
 
 abbrev IsAskedThreads : Text × List Row → Type 0
 IsAskedThreads e = (file : Text) × IsThreadsOf e file
 
 abbrev IsAskedExplain : Text × List Row → Type 0
-IsAskedExplain e = (file : Text) × IsExplainOf e file
+IsAskedExplain e = (file : Text) × (page : Option Text) × (is_strict : Bool) × IsExplainOf e file page is_strict
 
 abbrev IsAskedCheck : Text × List Row → Type 0
 IsAskedCheck e = (file : Text) × (proof : Text) × IsCheckOf e file proof
@@ -79,7 +79,8 @@ unfolding run_shape
 run_asked words none =
     let given = file_given (rows_after run_shape.rules [] words) (level_parts run_shape [] words false [] none).1 in
     let read = given_is_read (codes "FILE") (rows_after run_shape.rules [] words) (each_has_value run_shape words [] refl none) given in
-    (read.0, first_of (codes "proof") (rows_after run_shape.rules [] words), (refl, read.1, refl))
+    let rows = rows_after run_shape.rules [] words in
+    (read.0, flag_of (codes "json") rows, first_of (codes "proof") rows, (refl, read.1, refl, refl))
 
 -- the words after `threads` give FILE
 threads_asked : (words : List Text) → level_fault threads_shape [] nothing_held words false [] ≡ [] → IsAskedThreads (rows_at threads_shape words)
@@ -95,7 +96,8 @@ unfolding explain_shape
 explain_asked words none =
     let given = explain_file_given (rows_after explain_shape.rules [] words) (level_parts explain_shape [] words false [] none).1 in
     let read = given_is_read (codes "FILE") (rows_after explain_shape.rules [] words) (each_has_value explain_shape words [] refl none) given in
-    (read.0, (refl, read.1))
+    let rows = rows_after explain_shape.rules [] words in
+    (read.0, first_of (codes "page") rows, flag_of (codes "strict") rows, (refl, read.1, refl, refl))
 
 -- the words after `check` give FILE and PROOF
 check_asked : (words : List Text) → level_fault check_shape [] nothing_held words false [] ≡ [] → IsAskedCheck (rows_at check_shape words)
@@ -147,7 +149,7 @@ job_asked words none =
 -- entries that ask for no job are none of those
 pub none_asked : (o : Option (Text × List Row)) → IfSome o AsksForNone → IsSomeAnd o IsAsked → ⊥
 none_asked None h asked = asked
-none_asked (Some e) h (inl run) = h.run run.0 run.1 run.2
+none_asked (Some e) h (inl run) = h.run run.0 run.1 run.2 run.3
 none_asked (Some e) h (inr (inl threads)) = h.threads threads.0 threads.1
-none_asked (Some e) h (inr (inr (inl explain))) = h.explain explain.0 explain.1
+none_asked (Some e) h (inr (inr (inl explain))) = h.explain explain.0 explain.1 explain.2 explain.3
 none_asked (Some e) h (inr (inr (inr check))) = h.check check.0 check.1 check.2
