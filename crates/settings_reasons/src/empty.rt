@@ -5,6 +5,8 @@ ghost use Rattle.settings_reasons.specs.True.{AreInTheWay};
 ghost use Rattle.sysmem_merge.specs.Best.{IsUnmet};
 ghost use Rattle.value_sources.specs.Sources.{all_asked};
 
+use crate::contradicting::tell_contradictions;
+use crate::lacking::{tell_no_heaps, tell_no_images};
 use crate::offering::{are_refused, offers_of};
 use crate::placing::{has_no_place, places_of};
 use crate::refusing::{offer_rows, place_rows};
@@ -46,6 +48,7 @@ pub fn tell_conflict(
         places: &places,
         offers: &offers,
     };
+    tell_contradictions(items, depth, people)?;
     tell_in_the_way(items, depth, platform, people)?;
     tell_counts(items, depth, people)?;
     tell_places(items, depth, choices, people)?;
@@ -77,7 +80,8 @@ fn tell_places(
     let head = none_of(alloc, "place", choices.places.len())?;
     items.say(depth, "place", head)?;
     let rows = place_rows(alloc, choices.platform, choices.places, people, true)?;
-    tell_rows(items, depth.saturating_add(1), "", &rows)
+    tell_rows(items, depth.saturating_add(1), "", &rows)?;
+    tell_no_heaps(items, depth, choices.platform, people)
 }
 
 /// Tells who refuses each offer, where somebody does.
@@ -97,7 +101,8 @@ fn tell_offers(
     items.say(depth, "image", head)?;
     let colours = choices.platform.colours().len();
     let rows = offer_rows(alloc, offers, people, whole, true, colours)?;
-    tell_rows(items, depth.saturating_add(1), "", &rows)
+    tell_rows(items, depth.saturating_add(1), "", &rows)?;
+    tell_no_images(items, depth, choices.platform, people)
 }
 
 fn none_of(alloc: Global, what: &str, count: usize) -> Result<String, AllocError> {
@@ -129,8 +134,8 @@ pub fn is_unmet(
     Ok(asked.best_settings(false).is_err())
 }
 
-/// Those who leave no settings by themselves, each of whom is needed for that; none where all together leave some.
-fn in_the_way<'a>(
+/// Those who leave no settings by themselves, each of whom is needed for that; `None` where all together leave some.
+pub fn in_the_way<'a>(
     alloc: Global,
     platform: &Platform,
     people: &[Asked<'a>],

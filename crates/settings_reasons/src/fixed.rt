@@ -77,7 +77,7 @@ fn tell_misfit(
 }
 
 /// The fields in which settings fail a participant.
-fn failing(
+pub fn failing(
     alloc: Global,
     platform: &Platform,
     settings: &Settings,

@@ -9,8 +9,10 @@
 #![tactic(auto)]
 
 mod chosen;
+mod contradicting;
 mod empty;
 mod fixed;
+mod lacking;
 mod offer_words;
 mod offering;
 mod placing;
@@ -18,5 +20,5 @@ mod refusing;
 mod rows;
 
 pub use chosen::tell_settings;
-pub use empty::{is_unmet, tell_conflict};
-pub use fixed::tell_misfits;
+pub use empty::{in_the_way, is_unmet, tell_conflict};
+pub use fixed::{failing, tell_misfits};

@@ -33,6 +33,17 @@ pub(crate) fn offer_name(alloc: Global, offer: &Offer) -> Result<String, AllocEr
     }
 }
 
+/// The name of what an entry takes: `NV12 LINEAR`.
+pub(crate) fn pair_name(
+    alloc: Global,
+    format: Option<PixelFormat>,
+    modifier: Option<Modifier>,
+) -> Result<String, AllocError> {
+    let format = format.map_or("any format", PixelFormat::name);
+    let modifier = modifier.map_or("DO_NOT_CARE", Modifier::name);
+    format!(in alloc; "{format} {modifier}")
+}
+
 /// The sentence of a reason against an offer, with the numbers of all participants.
 pub(crate) fn offer_text(
     alloc: Global,

@@ -17,7 +17,7 @@ const MOST_NODES: usize = 128;
 const MOST_PARTS: usize = 5;
 
 /// A part of a count.
-#[derive(Clone, Copy, Debug, PartialEq, Eq)]
+#[derive(Clone, Copy)]
 enum Part {
     Camping,
     Dedicated,

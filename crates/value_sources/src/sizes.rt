@@ -2,7 +2,6 @@
 
 use crate::multiples::{Multiple, multiple_of, up};
 use crate::wishes::{Side, Wish, Wishes};
-use explanation_text::wording::put_count;
 use std::alloc::{AllocError, Global};
 use std::fmt::Write;
 use sysmem_formats::{
@@ -89,6 +88,11 @@ impl<'a> Wishes<'a, '_> {
             None => String::from_str(alloc, "nobody asks for more than 1")?,
         };
         self.round_side(alloc, side, base, first.is_some(), why)
+    }
+
+    /// The least width or height that anybody asks for, before it is rounded.
+    pub fn asked(&self, side: Side) -> u128 {
+        u128::from(self.side_asked(side).0)
     }
 
     /// The least width or height that somebody asks for, with who does and by which field, where it is above 1.
@@ -259,15 +263,9 @@ impl<'a> Wishes<'a, '_> {
 fn put_pixels(text: &mut String, width: u128, bytes: u128) -> Result<(), AllocError> {
     let pixels = if width == 1 { "pixel" } else { "pixels" };
     write!(text, "{width} {pixels} of ")?;
-    put_count(
+    write!(
         text,
-        if bytes == 1 { 1 } else { bytes_of(bytes) },
-        "byte",
-        "bytes",
+        "{bytes} {}",
+        if bytes == 1 { "byte" } else { "bytes" }
     )
-}
-
-/// A small number of bytes.
-fn bytes_of(bytes: u128) -> usize {
-    if bytes < 16 { bytes as usize } else { 16 }
 }

@@ -8,7 +8,7 @@ use sysmem_formats::Offer;
 use sysmem_image::{Entry, Size, entry_for};
 
 /// A side of an image.
-#[derive(Clone, Copy, Debug, PartialEq, Eq)]
+#[derive(Clone, Copy, PartialEq, Eq)]
 pub enum Side {
     Width,
     Height,
@@ -35,7 +35,7 @@ impl Side {
 }
 
 /// A number that an entry asks for.
-#[derive(Clone, Copy, Debug)]
+#[derive(Clone, Copy)]
 pub enum Wish {
     /// A side of `min_size`.
     Least(Side),

@@ -1,0 +1,19 @@
+-- How an explanation ends the program.
+use Rattle.std.specs.Prelude.{ℕ, Bool, true, false, Option, Some, None, Result, Ok, Err}
+use Rattle.explain.specs.declared.explaining.Outcome.{Outcome}
+use Rattle.explain.specs.declared.explaining.Outcome.TheVariants.{Faulty, Fine, Refused}
+use Rattle.script_run.specs.declared.fault.RunFault.{RunFault}
+use Rattle.script_run.specs.Endings.{run_code}
+
+-- the exit status of an explanation, which tells what was explained where it is to
+abbrev pub explained_code : Bool → Result Outcome RunFault → ℕ
+explained_code is_strict (Ok Fine) = 0
+explained_code true (Ok Faulty) = 6
+explained_code false (Ok Faulty) = 0
+explained_code is_strict (Ok Refused) = 3
+explained_code is_strict (Err fault) = run_code (Err fault)
+
+-- the fault that is told
+abbrev pub explained_said : Result Outcome RunFault → Option RunFault
+explained_said (Ok outcome) = None
+explained_said (Err fault) = Some fault
