@@ -2,6 +2,7 @@
 
 use crate::changes::tell_changes;
 use crate::pending::tell_pending;
+use crate::platforms::tell_platform;
 use crate::selecting::{Empty, MOST_TOLD, tell_empty, tell_left_out};
 use explanation_text::{Items, Kind};
 use script_reading::Act;
@@ -143,7 +144,8 @@ fn tell_none(
         items.say(1, "", text)?;
     }
     let people = asked_in(items.alloc(), story, index, false)?;
-    tell_changes(items, setting, story, story.path(domain.root), &people)
+    tell_changes(items, setting, story, story.path(domain.root), &people)?;
+    tell_platform(items, setting, story.path(domain.root), &people)
 }
 
 /// Tells why settings that were decided before don't suit those of an attached domain.

@@ -11,6 +11,7 @@ mod changes;
 mod domains;
 mod explaining;
 mod pending;
+mod platforms;
 mod selecting;
 mod written;
 

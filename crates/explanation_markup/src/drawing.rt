@@ -3,7 +3,7 @@
 use std::alloc::{AllocError, Global};
 
 /// What a joint of the tree is.
-#[derive(Clone, Copy, Debug, PartialEq, Eq)]
+#[derive(Clone, Copy, PartialEq, Eq)]
 pub enum Shape {
     Token,
     Collection,
@@ -11,7 +11,7 @@ pub enum Shape {
 }
 
 /// How a joint, or a call, stands with a decision.
-#[derive(Clone, Copy, Debug, PartialEq, Eq)]
+#[derive(Clone, Copy, PartialEq, Eq)]
 pub enum Standing {
     /// It has no part in one.
     Plain,
@@ -28,8 +28,10 @@ pub enum Standing {
 pub struct Joint<'a> {
     pub name: &'a str,
     pub path: &'a str,
-    /// The index of the joint above it, which is less than its own.
+    /// The index of the joint above it; `None` of the first.
     pub above: Option<usize>,
+    /// How many stand above it.
+    pub depth: usize,
     pub shape: Shape,
     /// Whether it was attached later.
     pub is_late: bool,
@@ -83,19 +85,6 @@ impl<'a> Drawing<'a> {
         let index = self.actors.len();
         self.actors.push(actor)?;
         Ok(index)
-    }
-
-    /// The index of a joint's own above it, from 0 at the top.
-    pub(crate) fn depths(&self, alloc: Global) -> Result<Vec<usize>, AllocError> {
-        let mut depths: Vec<usize> = Vec::new(alloc);
-        for joint in &self.joints {
-            let above = joint.above.and_then(|index| depths.get(index).copied());
-            depths.push(match above {
-                Some(depth) => depth.saturating_add(1),
-                None => 0,
-            })?;
-        }
-        Ok(depths)
     }
 }
 

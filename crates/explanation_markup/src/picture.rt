@@ -3,7 +3,6 @@
 use crate::drawing::{Drawing, Joint, Shape, Standing, class_of};
 use crate::page::Page;
 use explanation_text::wording::width_of;
-use std::alloc::{AllocError, Global};
 
 /// How high a row is, in pixels.
 const ROW: usize = 28;
@@ -25,19 +24,15 @@ struct Columns {
 }
 
 /// Puts the tree after the page.
-pub(crate) fn put_tree(
-    page: &mut Page,
-    alloc: Global,
-    drawing: &Drawing<'_>,
-) -> Result<(), AllocError> {
-    let depths = drawing.depths(alloc)?;
-    page.put("<h2>Tokens</h2>\n<div class=\"scroll\">\n")?;
-    put_picture(page, drawing, &depths)?;
-    page.put("</div>\n<details><summary>the same as a list</summary>\n")?;
-    put_list(page, drawing, &depths)?;
+pub(crate) fn put_tree(page: &mut Page, drawing: &Drawing<'_>) {
+    page.put("<h2>Tokens</h2>\n<div class=\"scroll\">\n");
+    put_picture(page, drawing);
+    page.put("</div>\n<details><summary>the same as a list</summary>\n");
+    put_list(page, drawing);
     page.put(
-        "</details>\n<p class=\"soft\">Circles are collections (dashed: tokens), diamonds are groups; a dashed line leads to a token that was attached later.</p>\n",
-    )
+        "</details>\n<p class=\"soft\">Circles are collections (dashed: tokens), diamonds are ",
+    );
+    page.put("groups; a dashed line leads to a token that was attached later.</p>\n");
 }
 
 /// How wide some characters are, in pixels.
@@ -45,12 +40,12 @@ fn pixels(characters: usize) -> usize {
     characters.saturating_mul(TEN) / 10
 }
 
-fn columns_of(drawing: &Drawing<'_>, depths: &[usize]) -> Columns {
+fn columns_of(drawing: &Drawing<'_>) -> Columns {
     let mut deep = 0usize;
     let mut names = 0usize;
     let mut states = 0usize;
-    for (joint, depth) in drawing.joints.iter().zip(depths) {
-        deep = deep.max(*depth);
+    for joint in &drawing.joints {
+        deep = deep.max(joint.depth);
         let name = width_of(joint.name).saturating_add(width_of(joint.path));
         names = names.max(name);
         states = states.max(width_of(&joint.state));
@@ -75,163 +70,149 @@ fn y_of(row: usize) -> usize {
     row.saturating_mul(ROW).saturating_add(18)
 }
 
-fn put_picture(page: &mut Page, drawing: &Drawing<'_>, depths: &[usize]) -> Result<(), AllocError> {
-    let columns = columns_of(drawing, depths);
+fn put_picture(page: &mut Page, drawing: &Drawing<'_>) {
+    let columns = columns_of(drawing);
     let height = y_of(drawing.joints.len());
-    page.put("<svg role=\"img\" aria-label=\"The tree of tokens; the list below says the same\"")?;
-    put_attribute(page, " width=\"", columns.end)?;
-    put_attribute(page, " height=\"", height)?;
-    page.put(" viewBox=\"0 0 ")?;
-    page.put_number(columns.end)?;
-    page.put(" ")?;
-    page.put_number(height)?;
-    page.put("\">\n")?;
+    page.put("<svg role=\"img\" aria-label=\"The tree of tokens; the list below says the same\"");
+    put_attribute(page, " width=\"", columns.end);
+    put_attribute(page, " height=\"", height);
+    page.put(" viewBox=\"0 0 ");
+    page.put_number(columns.end);
+    page.put(" ");
+    page.put_number(height);
+    page.put("\">\n");
     for (row, joint) in drawing.joints.iter().enumerate() {
-        put_branch(page, drawing, depths, row, joint)?;
+        put_branch(page, drawing, row, joint);
     }
     for (row, joint) in drawing.joints.iter().enumerate() {
-        let depth = depths.get(row).copied().unwrap_or(0);
-        put_joint(page, joint, x_of(depth), y_of(row))?;
-        put_words(page, joint, x_of(depth), y_of(row), columns)?;
+        put_joint(page, joint, y_of(row));
+        put_words(page, joint, y_of(row), columns);
     }
     page.put("</svg>\n")
 }
 
 /// Puts an attribute that is a number after the page.
-fn put_attribute(page: &mut Page, name: &'static str, value: usize) -> Result<(), AllocError> {
-    page.put(name)?;
-    page.put_number(value)?;
+fn put_attribute(page: &mut Page, name: &'static str, value: usize) {
+    page.put(name);
+    page.put_number(value);
     page.put("\"")
 }
 
 /// Puts the line from the joint above to a joint after the page: thick where both are chosen,
 /// dashed where it was attached later.
-fn put_branch(
-    page: &mut Page,
-    drawing: &Drawing<'_>,
-    depths: &[usize],
-    row: usize,
-    joint: &Joint<'_>,
-) -> Result<(), AllocError> {
+fn put_branch(page: &mut Page, drawing: &Drawing<'_>, row: usize, joint: &Joint<'_>) {
     let Some(above) = joint.above else {
-        return Ok(());
+        return;
     };
     let Some(other) = drawing.joints.get(above) else {
-        return Ok(());
+        return;
     };
     let are_chosen = joint.standing == Standing::Chosen && other.standing == Standing::Chosen;
     page.put(match (joint.is_late, are_chosen) {
         (true, _) => "<path class=\"late\" d=\"M",
         (false, true) => "<path class=\"way\" d=\"M",
         (false, false) => "<path d=\"M",
-    })?;
-    let depth = depths.get(row).copied().unwrap_or(0);
-    page.put_number(x_of(depth.saturating_sub(1)))?;
-    page.put(" ")?;
-    page.put_number(y_of(above).saturating_add(7))?;
-    page.put("V")?;
-    page.put_number(y_of(row))?;
-    page.put("H")?;
-    page.put_number(x_of(depth).saturating_sub(7))?;
+    });
+    page.put_number(x_of(other.depth));
+    page.put(" ");
+    page.put_number(y_of(above).saturating_add(7));
+    page.put("V");
+    page.put_number(y_of(row));
+    page.put("H");
+    page.put_number(x_of(joint.depth).saturating_sub(7));
     page.put("\"/>\n")
 }
 
 /// Puts a joint after the page: a circle, dashed of a token, or a diamond.
-fn put_joint(page: &mut Page, joint: &Joint<'_>, x: usize, y: usize) -> Result<(), AllocError> {
+fn put_joint(page: &mut Page, joint: &Joint<'_>, y: usize) {
     let class = class_of(joint.standing);
+    let x = x_of(joint.depth);
     if joint.shape == Shape::Group {
-        page.put("<path class=\"shape ")?;
-        page.put(class)?;
-        page.put("\" d=\"M")?;
-        page.put_number(x)?;
-        page.put(" ")?;
-        page.put_number(y.saturating_sub(7))?;
-        return page.put("l7 7l-7 7l-7 -7Z\"/>\n");
+        page.put("<path class=\"shape ");
+        page.put(class);
+        page.put("\" d=\"M");
+        page.put_number(x);
+        page.put(" ");
+        page.put_number(y.saturating_sub(7));
+        page.put("l7 7l-7 7l-7 -7Z\"/>\n");
+        return;
     }
     page.put(match joint.shape {
         Shape::Token => "<circle class=\"shape token ",
         _ => "<circle class=\"shape ",
-    })?;
-    page.put(class)?;
-    put_attribute(page, "\" cx=\"", x)?;
-    put_attribute(page, " cy=\"", y)?;
+    });
+    page.put(class);
+    put_attribute(page, "\" cx=\"", x);
+    put_attribute(page, " cy=\"", y);
     page.put(" r=\"6\"/>\n")
 }
 
 /// Puts a joint's name, what it is and how it stands after the page.
-fn put_words(
-    page: &mut Page,
-    joint: &Joint<'_>,
-    x: usize,
-    y: usize,
-    columns: Columns,
-) -> Result<(), AllocError> {
+fn put_words(page: &mut Page, joint: &Joint<'_>, y: usize, columns: Columns) {
     let base = y.saturating_add(4);
-    put_attribute(page, "<text x=\"", x.saturating_add(22))?;
-    put_attribute(page, " y=\"", base)?;
-    page.put("><tspan class=\"name\">")?;
-    page.say(joint.name)?;
-    page.put("</tspan> ")?;
-    page.say(joint.path)?;
-    put_attribute(page, " </text>\n<text class=\"soft\" x=\"", columns.states)?;
-    put_attribute(page, " y=\"", base)?;
-    page.put(">")?;
-    page.say(&joint.state)?;
-    page.put(" </text>\n")?;
+    put_attribute(page, "<text x=\"", x_of(joint.depth).saturating_add(22));
+    put_attribute(page, " y=\"", base);
+    page.put("><tspan class=\"name\">");
+    page.say(joint.name);
+    page.put("</tspan> ");
+    page.say(joint.path);
+    put_attribute(page, " </text>\n<text class=\"soft\" x=\"", columns.states);
+    put_attribute(page, " y=\"", base);
+    page.put(">");
+    page.say(&joint.state);
+    page.put(" </text>\n");
     if joint.word.is_empty() {
-        return Ok(());
+        return;
     }
-    page.put("<text class=\"")?;
+    page.put("<text class=\"");
     page.put(match joint.standing {
         Standing::Plain => "soft",
         standing => class_of(standing),
-    })?;
-    put_attribute(page, "\" x=\"", columns.words)?;
-    put_attribute(page, " y=\"", base)?;
-    page.put(">")?;
-    page.say(joint.word)?;
+    });
+    put_attribute(page, "\" x=\"", columns.words);
+    put_attribute(page, " y=\"", base);
+    page.put(">");
+    page.say(joint.word);
     page.put(" </text>\n")
 }
 
 /// Puts the joints as nested lists after the page.
-fn put_list(page: &mut Page, drawing: &Drawing<'_>, depths: &[usize]) -> Result<(), AllocError> {
+fn put_list(page: &mut Page, drawing: &Drawing<'_>) {
     let mut open = 0usize;
-    for (joint, depth) in drawing.joints.iter().zip(depths) {
-        let wanted = depth.saturating_add(1);
+    for joint in &drawing.joints {
+        let wanted = joint.depth.saturating_add(1);
         if open < wanted {
-            page.put("<ul>\n")?;
+            page.put("<ul>\n");
             open = open.saturating_add(1);
         } else {
-            close_lists(page, open, wanted)?;
-            page.put("</li>\n")?;
+            close_lists(page, open, wanted);
+            page.put("</li>\n");
             open = wanted;
         }
-        page.put("<li>")?;
-        put_entry(page, joint)?;
+        page.put("<li>");
+        put_entry(page, joint);
     }
     close_lists(page, open, 0)
 }
 
 /// Closes lists after the page until so many are open.
-fn close_lists(page: &mut Page, open: usize, wanted: usize) -> Result<(), AllocError> {
+fn close_lists(page: &mut Page, open: usize, wanted: usize) {
     for _list in wanted..open {
-        page.put("</li>\n</ul>\n")?;
+        page.put("</li>\n</ul>\n");
     }
-    Ok(())
 }
 
-fn put_entry(page: &mut Page, joint: &Joint<'_>) -> Result<(), AllocError> {
-    page.say(joint.name)?;
-    page.put(" ")?;
-    page.say(joint.path)?;
-    page.put(": ")?;
-    page.say(&joint.state)?;
+fn put_entry(page: &mut Page, joint: &Joint<'_>) {
+    page.say(joint.name);
+    page.put(" ");
+    page.say(joint.path);
+    page.put(": ");
+    page.say(&joint.state);
     if !joint.word.is_empty() {
-        page.put("; ")?;
-        page.say(joint.word)?;
+        page.put("; ");
+        page.say(joint.word);
     }
     if joint.is_late {
-        page.put("; attached")?;
+        page.put("; attached");
     }
-    Ok(())
 }

@@ -2,7 +2,7 @@
 
 use crate::page::Page;
 use explanation_text::{Item, Kind};
-use std::alloc::{AllocError, Global};
+use std::alloc::Global;
 
 /// A kind of list.
 #[derive(Clone, Copy, PartialEq, Eq)]
@@ -31,7 +31,7 @@ struct Sections<'b> {
 }
 
 /// Puts the items after the page, but for the answer.
-pub(crate) fn put_items(page: &mut Page, alloc: Global, items: &[Item]) -> Result<(), AllocError> {
+pub(crate) fn put_items(page: &mut Page, alloc: Global, items: &[Item]) {
     let mut sections = Sections {
         page,
         open: Vec::new(alloc),
@@ -39,15 +39,15 @@ pub(crate) fn put_items(page: &mut Page, alloc: Global, items: &[Item]) -> Resul
         is_in_decisions: false,
     };
     for item in items {
-        sections.put_item(item)?;
+        sections.put_item(item);
     }
     sections.close_article()
 }
 
 impl Sections<'_> {
-    fn put_item(&mut self, item: &Item) -> Result<(), AllocError> {
+    fn put_item(&mut self, item: &Item) {
         match item.kind {
-            Kind::Answer => Ok(()),
+            Kind::Answer => {}
             Kind::Title => self.put_title(&item.text),
             Kind::Source => self.put_source(item),
             Kind::Decision if item.label == "->" => self.put_promise(item),
@@ -56,48 +56,46 @@ impl Sections<'_> {
     }
 
     /// A new article: of a domain below the heading of all decisions, else below its own.
-    fn put_title(&mut self, title: &str) -> Result<(), AllocError> {
-        self.close_article()?;
+    fn put_title(&mut self, title: &str) {
+        self.close_article();
         let is_domain = title.starts_with("domain ");
         if is_domain && !self.is_in_decisions {
-            self.page.put("<h2>Decisions</h2>\n")?;
+            self.page.put("<h2>Decisions</h2>\n");
             self.is_in_decisions = true;
         }
         if !is_domain {
-            self.page.put("<h2>")?;
-            self.page.say(title)?;
-            self.page.put("</h2>\n")?;
+            self.page.put("<h2>");
+            self.page.say(title);
+            self.page.put("</h2>\n");
         }
-        self.page.put(article_of(title))?;
+        self.page.put(article_of(title));
         self.is_in_article = true;
         if is_domain {
-            self.page.put("<h3>")?;
-            self.page.say(title)?;
-            self.page.put("</h3>\n")?;
+            self.page.put("<h3>");
+            self.page.say(title);
+            self.page.put("</h3>\n");
         }
-        Ok(())
     }
 
     /// An article without a title, where none is open.
-    fn want_article(&mut self) -> Result<(), AllocError> {
+    fn want_article(&mut self) {
         if self.is_in_article {
-            return Ok(());
+            return;
         }
         self.is_in_article = true;
         self.page.put("<h2>Where</h2>\n<article class=\"bad\">\n")
     }
 
-    fn close_article(&mut self) -> Result<(), AllocError> {
-        self.close_lists(0)?;
+    fn close_article(&mut self) {
+        self.close_lists(0);
         if self.is_in_article {
-            self.page.put("</article>\n")?;
+            self.page.put("</article>\n");
         }
         self.is_in_article = false;
-        Ok(())
     }
 
     /// Closes the lists at this depth and below.
-    fn close_lists(&mut self, depth: usize) -> Result<(), AllocError> {
+    fn close_lists(&mut self, depth: usize) {
         for _list in 0..self.open.len() {
             let Some(last) = self.open.last().copied() else {
                 break;
@@ -109,78 +107,83 @@ impl Sections<'_> {
                 List::Terms => "</dd>\n</dl>\n",
                 List::Numbered => "</li>\n</ol>\n",
                 List::Plain => "</li>\n</ul>\n",
-            })?;
+            });
             let _closed = self.open.pop();
         }
-        Ok(())
     }
 
-    fn put_source(&mut self, item: &Item) -> Result<(), AllocError> {
-        self.want_article()?;
-        self.close_lists(item.depth)?;
-        self.page.put("<pre>")?;
-        self.page.say_lines(&item.text)?;
+    fn keep(&mut self, open: Open) {
+        if self.open.push(open).is_err() {
+            self.page.cut();
+        }
+    }
+
+    fn put_source(&mut self, item: &Item) {
+        self.want_article();
+        self.close_lists(item.depth);
+        self.page.put("<pre>");
+        self.page.say_lines(&item.text);
         self.page.put("</pre>\n")
     }
 
     /// A decision that a change gives.
-    fn put_promise(&mut self, item: &Item) -> Result<(), AllocError> {
-        self.want_article()?;
-        self.close_lists(item.depth)?;
-        self.page.put("<br>gives <code>")?;
-        self.page.say(&item.text)?;
+    fn put_promise(&mut self, item: &Item) {
+        self.want_article();
+        self.close_lists(item.depth);
+        self.page.put("<br>&rarr; <code>");
+        self.page.say(&item.text);
         self.page.put("</code>\n")
     }
 
     /// An entry of a list, which is open or a new one. What has no label is told of the term before
     /// it, unless it heads what stands below.
-    fn put_entry(&mut self, item: &Item) -> Result<(), AllocError> {
-        self.want_article()?;
+    fn put_entry(&mut self, item: &Item) {
+        self.want_article();
         let list = list_of(item.label);
-        self.close_lists(item.depth.saturating_add(1))?;
+        self.close_lists(item.depth.saturating_add(1));
         match self.open.last().copied() {
             Some(last) if last.depth == item.depth && last.list == list => {
-                self.begin_next(last, item.label)?;
+                self.begin_next(last, item.label);
             }
             Some(last) if last.depth == item.depth && joins(last.list, item) => {
-                self.page.put("</dd>\n<dd>")?;
+                self.page.put("</dd>\n<dd>");
             }
-            _ => self.begin_list(item, list)?,
+            _ => self.begin_list(item, list),
         }
         if item.kind != Kind::Decision {
             return self.page.say(&item.text);
         }
-        self.page.put("<code>")?;
-        self.page.say(&item.text)?;
+        self.page.put("<code>");
+        self.page.say(&item.text);
         self.page.put("</code>")
     }
 
     /// Closes an entry, and begins the next of its list.
-    fn begin_next(&mut self, last: Open, label: &'static str) -> Result<(), AllocError> {
+    fn begin_next(&mut self, last: Open, label: &'static str) {
         if last.list != List::Terms {
             return self.page.put("</li>\n<li>");
         }
-        self.page.put("</dd>\n")?;
+        self.page.put("</dd>\n");
         let _before = self.open.pop();
-        self.open.push(Open { label, ..last })?;
+        self.keep(Open { label, ..last });
         if last.label != label {
-            self.put_term(label)?;
+            self.put_term(label);
         }
         self.page.put("<dd>")
     }
 
     /// Begins a list, with its first entry.
-    fn begin_list(&mut self, item: &Item, list: List) -> Result<(), AllocError> {
-        self.close_lists(item.depth)?;
-        self.open.push(Open {
+    fn begin_list(&mut self, item: &Item, list: List) {
+        self.close_lists(item.depth);
+        self.keep(Open {
             depth: item.depth,
             list,
             label: item.label,
-        })?;
+        });
         match list {
             List::Terms => {
-                self.page.put("<dl>\n")?;
-                self.put_term(item.label)?;
+                self.page.put("<dl>\n");
+                self.put_term(item.label);
                 self.page.put("<dd>")
             }
             List::Numbered => self.page.put("<ol>\n<li>"),
@@ -188,9 +191,9 @@ impl Sections<'_> {
         }
     }
 
-    fn put_term(&mut self, label: &'static str) -> Result<(), AllocError> {
-        self.page.put("<dt>")?;
-        self.page.say(label)?;
+    fn put_term(&mut self, label: &'static str) {
+        self.page.put("<dt>");
+        self.page.say(label);
         self.page.put("</dt>\n")
     }
 }

@@ -21,26 +21,26 @@ pub fn page_of(
         None => "",
     };
     let mut page = Page::new(alloc);
-    put_head(&mut page, answer)?;
+    put_head(&mut page, answer);
     if let Some(drawing) = drawing {
-        put_tree(&mut page, alloc, drawing)?;
+        put_tree(&mut page, drawing);
     }
-    put_items(&mut page, alloc, items)?;
+    put_items(&mut page, alloc, items);
     if let Some(drawing) = drawing {
-        put_calls(&mut page, drawing)?;
-        put_proofs(&mut page, drawing)?;
+        put_calls(&mut page, drawing);
+        put_proofs(&mut page, drawing);
     }
-    page.put("</main>\n</body>\n</html>\n")?;
-    Ok(page.into_text())
+    page.put("</main>\n</body>\n</html>\n");
+    page.into_text()
 }
 
-fn put_head(page: &mut Page, answer: &str) -> Result<(), AllocError> {
-    page.put("<!DOCTYPE html>\n<html lang=\"en\">\n<head>\n<meta charset=\"utf-8\">\n")?;
-    page.put("<meta name=\"viewport\" content=\"width=device-width,initial-scale=1\">\n<title>")?;
-    page.say(answer)?;
-    page.put("</title>\n<style>")?;
-    page.put(STYLE)?;
-    page.put("</style>\n</head>\n<body>\n<header>\n<h1>")?;
-    page.say(answer)?;
+fn put_head(page: &mut Page, answer: &str) {
+    page.put("<!DOCTYPE html>\n<html lang=\"en\">\n<head>\n<meta charset=\"utf-8\">\n");
+    page.put("<meta name=\"viewport\" content=\"width=device-width,initial-scale=1\">\n<title>");
+    page.say(answer);
+    page.put("</title>\n<style>");
+    page.put(STYLE);
+    page.put("</style>\n</head>\n<body>\n<header>\n<h1>");
+    page.say(answer);
     page.put("</h1>\n</header>\n<main>\n")
 }

@@ -59,6 +59,7 @@ fn drawn_page<'a>(
 struct Left {
     node: usize,
     above: Option<usize>,
+    depth: usize,
 }
 
 /// Adds a joint for each node, each after the one above it and before what isn't below it.
@@ -73,6 +74,7 @@ fn add_joints<'a, 'b>(
     left.push(Left {
         node: 0,
         above: None,
+        depth: 0,
     })?;
     for _node in 0..story.nodes.len() {
         let Some(next) = left.pop() else {
@@ -82,7 +84,7 @@ fn add_joints<'a, 'b>(
         drawing
             .joints
             .push(joint_of(alloc, story, next, &in_the_way)?)?;
-        add_children(&mut left, story, next.node, row)?;
+        add_children(&mut left, story, next, row)?;
     }
     Ok(())
 }
@@ -91,14 +93,15 @@ fn add_joints<'a, 'b>(
 fn add_children(
     left: &mut Vec<Left>,
     story: &Story<'_>,
-    node: usize,
+    above: Left,
     row: usize,
 ) -> Result<(), AllocError> {
     for (number, known) in story.nodes.iter().enumerate().rev() {
-        if known.parent == Some(node) {
+        if known.parent == Some(above.node) {
             left.push(Left {
                 node: number,
                 above: Some(row),
+                depth: above.depth.saturating_add(1),
             })?;
         }
     }
@@ -122,6 +125,7 @@ fn joint_of<'b>(
         name: story.name(node),
         path: story.path(node),
         above: left.above,
+        depth: left.depth,
         shape: match kind {
             NodeKind::Token => Shape::Token,
             NodeKind::Collection => Shape::Collection,

@@ -1,7 +1,7 @@
 use Rattle.std.specs.Str.{chars}
 use Rattle.std.specs.String.{string_bytes}
 use Rattle.explanation_markup.proofs.Spelling.{inert}
-use Rattle.explanation_markup.proofs.page.Page.say.Goals as goal
+use Rattle.explanation_markup.proofs.page.put_words.Goals as goal
 
 pub returns : goal.returns
 returns c =
