@@ -11,7 +11,6 @@ mod changes;
 mod domains;
 mod explaining;
 mod pending;
-mod selecting;
 mod written;
 
 pub use explaining::{Explanation, Outcome, explain};
