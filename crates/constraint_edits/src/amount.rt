@@ -3,10 +3,10 @@
 use crate::edits::{Changed, ENTRIES, Edit, MEMORY, with};
 use serde_json::{Number, Value};
 use std::alloc::{AllocError, Global};
-use std::fmt::Write;
+use std::fmt;
 
 /// The value of a field: a number, or a width and a height.
-#[derive(Clone, Copy, Debug, PartialEq, Eq)]
+#[derive(Clone, Copy, PartialEq, Eq)]
 pub enum Amount {
     Number(u64),
     Sides(u64, u64),
@@ -77,13 +77,6 @@ impl Amount {
         }
     }
 
-    fn put(self, text: &mut String) -> Result<(), AllocError> {
-        match self {
-            Amount::Number(number) => write!(text, "{number}"),
-            Amount::Sides(width, height) => write!(text, "{width}x{height}"),
-        }
-    }
-
     /// The value as JSON.
     fn value(self, alloc: Global) -> Result<Value, AllocError> {
         match self {
@@ -92,6 +85,15 @@ impl Amount {
                 let sides = with(alloc, None, "width", number_value(width))?;
                 with(alloc, Some(&sides), "height", number_value(height))
             }
+        }
+    }
+}
+
+impl fmt::Display for Amount {
+    fn fmt<W: fmt::Write>(&self, f: &mut fmt::Formatter<W>) -> fmt::Result {
+        match self {
+            Amount::Number(number) => write!(f, "{number}"),
+            Amount::Sides(width, height) => write!(f, "{width}x{height}"),
         }
     }
 }
@@ -133,30 +135,25 @@ pub(crate) fn with_amount(
     edit: Edit,
     stated: Amount,
     amount: Amount,
-) -> Result<Option<Changed>, AllocError> {
-    let (field, changed) = match edit {
-        Edit::Supports(_) => return Ok(None),
-        Edit::NoCount(field) => {
-            let member = amount.value(alloc)?;
-            (field, with(alloc, Some(value), field.name(), member)?)
-        }
-        Edit::NoMemory(field) => {
-            let member = amount.value(alloc)?;
-            let memory = with(alloc, value.get(MEMORY), field.name(), member)?;
-            (field, with(alloc, Some(value), MEMORY, memory)?)
-        }
-        Edit::NoBound(field) => (field, with_bound(alloc, value, field.name(), amount)?),
-    };
-    let name = field.name();
-    let mut words = format!(in alloc; "{name} ")?;
-    amount.put(&mut words)?;
-    words.push_str(" (is ")?;
-    stated.put(&mut words)?;
-    words.push_str(")")?;
-    Ok(Some(Changed {
+) -> Result<Changed, AllocError> {
+    let name = edit.field().name();
+    let changed = stating(alloc, value, edit, amount)?;
+    Ok(Changed {
         value: changed,
-        words,
-    }))
+        words: format!(in alloc; "{name} {amount} (is {stated})")?,
+    })
+}
+
+fn stating(alloc: Global, value: &Value, edit: Edit, amount: Amount) -> Result<Value, AllocError> {
+    let key = edit.field().name();
+    match edit {
+        Edit::NoCount(_) => with(alloc, Some(value), key, amount.value(alloc)?),
+        Edit::NoBound(_) => with_bound(alloc, value, key, amount),
+        Edit::Supports(_) | Edit::NoMemory(_) => {
+            let memory = with(alloc, value.get(MEMORY), key, amount.value(alloc)?)?;
+            with(alloc, Some(value), MEMORY, memory)
+        }
+    }
 }
 
 fn with_bound(
@@ -168,13 +165,21 @@ fn with_bound(
     let mut copy = Vec::new(alloc);
     if let Some(entries) = value.get(ENTRIES).and_then(Value::as_array) {
         for entry in entries {
-            if entry.get(key).is_some() {
-                let member = amount.value(alloc)?;
-                copy.push(with(alloc, Some(entry), key, member)?)?;
-            } else {
-                copy.push(entry.clone()?)?;
-            }
+            copy.push(entry_with(alloc, entry, key, amount)?)?;
         }
     }
     with(alloc, Some(value), ENTRIES, Value::Array(copy))
+}
+
+/// An entry with another value of a bound, if it has that bound.
+fn entry_with(
+    alloc: Global,
+    entry: &Value,
+    key: &str,
+    amount: Amount,
+) -> Result<Value, AllocError> {
+    if entry.get(key).is_none() {
+        return entry.clone();
+    }
+    with(alloc, Some(entry), key, amount.value(alloc)?)
 }

@@ -10,7 +10,7 @@ pub(crate) const MEMORY: &str = "buffer_memory_constraints";
 pub(crate) const ENTRIES: &str = "image_format_constraints";
 
 /// A change of one field of one participant.
-#[derive(Clone, Copy, Debug, PartialEq, Eq)]
+#[derive(Clone, Copy)]
 pub enum Edit {
     /// A coherency domain is supported.
     Supports(Field),
@@ -20,6 +20,17 @@ pub enum Edit {
     NoMemory(Field),
     /// A bound is left out of all entries.
     NoBound(Field),
+}
+
+impl Edit {
+    pub(crate) fn field(self) -> Field {
+        match self {
+            Edit::Supports(field)
+            | Edit::NoCount(field)
+            | Edit::NoMemory(field)
+            | Edit::NoBound(field) => field,
+        }
+    }
 }
 
 /// The changes that are tried, those that are mostly meant first.
@@ -67,6 +78,16 @@ pub fn edited(alloc: Global, value: &Value, edit: Edit) -> Result<Option<Changed
     }
 }
 
+/// The members of an object; none where there is no object.
+fn members_of(alloc: Global, object: Option<&Value>) -> Result<Map<String, Value>, AllocError> {
+    if let Some(object) = object {
+        if let Value::Object(members) = object.clone()? {
+            return Ok(members);
+        }
+    }
+    Ok(Map::new(alloc))
+}
+
 /// An object with a member, in the place of one with that key.
 pub(crate) fn with(
     alloc: Global,
@@ -74,29 +95,17 @@ pub(crate) fn with(
     key: &str,
     member: Value,
 ) -> Result<Value, AllocError> {
-    let mut copy = Map::new(alloc);
-    if let Some(members) = object.and_then(Value::as_object) {
-        for (name, value) in members {
-            if name.as_str() != key {
-                copy.insert(name.clone()?, value.clone()?)?;
-            }
-        }
-    }
-    copy.insert(String::from_str(alloc, key)?, member)?;
-    Ok(Value::Object(copy))
+    let mut members = members_of(alloc, object)?;
+    let name = String::from_str(alloc, key)?;
+    let _before = members.insert(name, member)?;
+    Ok(Value::Object(members))
 }
 
 /// An object without a member.
 fn lacking(alloc: Global, object: &Value, key: &str) -> Result<Value, AllocError> {
-    let mut copy = Map::new(alloc);
-    if let Some(members) = object.as_object() {
-        for (name, value) in members {
-            if name.as_str() != key {
-                copy.insert(name.clone()?, value.clone()?)?;
-            }
-        }
-    }
-    Ok(Value::Object(copy))
+    let mut members = members_of(alloc, Some(object))?;
+    let _gone = members.remove(key);
+    Ok(Value::Object(members))
 }
 
 /// Puts a value in short after a text: a size as `1920x1080`.

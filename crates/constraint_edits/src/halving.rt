@@ -7,7 +7,7 @@ use std::alloc::{AllocError, Global};
 use sysmem_counts::Field;
 
 /// What a decision says of its buffers.
-#[derive(Clone, Copy, Debug)]
+#[derive(Clone, Copy)]
 struct Said {
     count: u64,
     size: u64,
@@ -80,17 +80,8 @@ fn is_lowered(field: Field) -> bool {
     )
 }
 
-fn field_of(edit: Edit) -> Field {
-    match edit {
-        Edit::Supports(field)
-        | Edit::NoCount(field)
-        | Edit::NoMemory(field)
-        | Edit::NoBound(field) => field,
-    }
-}
-
 /// Values of a field that are between the stated one and none, the next of which is to be tried.
-#[derive(Clone, Copy, Debug)]
+#[derive(Clone, Copy)]
 pub struct Halving {
     edit: Edit,
     stated: Amount,
@@ -103,7 +94,7 @@ pub struct Halving {
 impl Halving {
     /// The values that a change leaves between, where leaving the field out gives this line.
     pub fn of(value: &Value, edit: Edit, line: &str) -> Option<Halving> {
-        let field = field_of(edit);
+        let field = edit.field();
         let stated = amount_in(value, edit)?;
         if let Some(goal) = raised(field, line) {
             return Some(Halving {
@@ -157,7 +148,7 @@ impl Halving {
         alloc: Global,
         value: &Value,
         amount: Amount,
-    ) -> Result<Option<Changed>, AllocError> {
+    ) -> Result<Changed, AllocError> {
         with_amount(alloc, value, self.edit, self.stated, amount)
     }
 }

@@ -10,9 +10,10 @@ ghost use Rattle.explain.specs.Edited.{IsPromised, stating};
 use constraint_edits::{EDITS, Edit, Halving, edited};
 use explanation_text::{Items, Kind};
 use script_reading::{Act, Call};
-use script_story::{Deed, Setting, Story};
+use script_story::Setting;
 use serde_json::Value;
 use std::alloc::{AllocError, Global};
+use story_parts::{Deed, Story};
 use value_sources::Asked;
 
 /// How many changes are told.
@@ -193,9 +194,7 @@ impl Trial<'_, '_> {
             let Some(amount) = halving.next() else {
                 break;
             };
-            let Some(change) = halving.changed(alloc, value, amount)? else {
-                break;
-            };
+            let change = halving.changed(alloc, value, amount)?;
             let outcome = self.outcome(alloc, &change.value)?;
             halving.learn(amount, outcome.is_some());
             let Some(line) = outcome else {

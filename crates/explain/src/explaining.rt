@@ -2,21 +2,22 @@
 
 use crate::domains::tell_domains;
 use explanation_text::wording::put_count;
-use explanation_text::{Item, Items, Kind, Mark, show};
-use json_places::{column_of, line_of, repeated_keys};
+use explanation_text::{Item, Items, Kind};
+use json_places::{Span, column_of, line_of, repeated_keys};
 use record_faults::Document;
 use script_faults::{tell_fault, tell_no_json};
 use script_reading::{ParseFault, Script, ScriptFault, parse_script, read_script};
-use script_story::{Setting, Story, put_domain, refused_calls, story_of, tell_refused};
+use script_story::{Setting, story_of};
 use serde_json::Value;
 use std::alloc::{AllocError, Global};
 use std::fmt::Write;
+use story_parts::{Story, put_domain, refused_calls, tell_refused};
 
 /// How many keys that are given twice are shown.
 const MOST_KEYS: usize = 6;
 
 /// How a script's run ends, as far as its text says.
-#[derive(Clone, Copy, Debug, PartialEq, Eq)]
+#[derive(Clone, Copy, PartialEq, Eq)]
 pub enum Outcome {
     /// No call was refused, and each domain has settings.
     Fine,
@@ -27,7 +28,7 @@ pub enum Outcome {
 }
 
 /// What a script means, told.
-#[derive(Debug, Drop)]
+#[derive(Drop)]
 pub struct Explanation {
     pub outcome: Outcome,
     /// What is told, in order.
@@ -101,14 +102,24 @@ fn explain_script<'a>(
     }
     let story = story_of(alloc, document.value, &script.calls, &told)?;
     let mut items = Items::new(alloc);
-    put_answer(&mut items, &story)?;
-    tell_repeats(&mut items, document)?;
-    tell_refused(&mut items, document, &story)?;
-    tell_domains(&mut items, &setting, &story)?;
+    tell_story(&mut items, document, &setting, &story)?;
     Ok(Explanation {
         outcome: outcome_of(&story),
         items: items.into_list(),
     })
+}
+
+/// Tells what calls did.
+fn tell_story(
+    items: &mut Items,
+    document: &Document<'_>,
+    setting: &Setting<'_>,
+    story: &Story<'_>,
+) -> Result<(), AllocError> {
+    put_answer(items, story)?;
+    tell_repeats(items, document)?;
+    tell_refused(items, document, story)?;
+    tell_domains(items, setting, story)
 }
 
 fn outcome_of(story: &Story<'_>) -> Outcome {
@@ -131,11 +142,17 @@ fn put_answer(items: &mut Items, story: &Story<'_>) -> Result<(), AllocError> {
         0 => text.push_str(", none refused")?,
         count => write!(text, ", {count} refused")?,
     }
+    put_verdicts(&mut text, story)?;
+    items.push(Kind::Answer, 0, "", text)
+}
+
+/// Puts what became of each domain after a text.
+fn put_verdicts(text: &mut String, story: &Story<'_>) -> Result<(), AllocError> {
     let all = story.domains.len();
     let most = if all > 9 { 8 } else { all };
     for domain in story.domains.iter().take(most) {
         text.push_str("; ")?;
-        put_domain(&mut text, story, domain.root)?;
+        put_domain(text, story, domain.root)?;
         let verdict = domain.verdict();
         write!(text, " {verdict}")?;
     }
@@ -143,7 +160,7 @@ fn put_answer(items: &mut Items, story: &Story<'_>) -> Result<(), AllocError> {
     if more > 0 {
         write!(text, "; {more} more domains")?;
     }
-    items.push(Kind::Answer, 0, "", text)
+    Ok(())
 }
 
 /// Tells the keys that an object has twice.
@@ -156,18 +173,22 @@ fn tell_repeats(items: &mut Items, document: &Document<'_>) -> Result<(), AllocE
     let title = String::from_str(alloc, "note: keys that are given twice")?;
     items.push(Kind::Title, 0, "", title)?;
     for (first, again) in &repeats {
-        let at = first.start.min(document.bytes.len());
-        let line = line_of(document.bytes, at);
-        let column = column_of(document.bytes, at);
-        let note = format!(in alloc;
-            "given twice; the first (line {line}, column {column}) is ignored"
-        )?;
-        let mark = Mark {
-            span: *again,
-            said: "",
-            note: &note,
-        };
-        show(items, 1, document.file, document.bytes, mark, &[])?;
+        tell_repeat(items, document, *first, *again)?;
     }
     Ok(())
+}
+
+fn tell_repeat(
+    items: &mut Items,
+    document: &Document<'_>,
+    first: Span,
+    again: Span,
+) -> Result<(), AllocError> {
+    let at = first.start.min(document.bytes.len());
+    let line = line_of(document.bytes, at);
+    let column = column_of(document.bytes, at);
+    let note = format!(in items.alloc();
+        "given twice; the first (line {line}, column {column}) is ignored"
+    )?;
+    document.show(items, 1, again, "", &note, &[])
 }

@@ -12,7 +12,6 @@ mod domains;
 mod explaining;
 mod pending;
 mod platforms;
-mod selecting;
 mod written;
 
 pub use explaining::{Explanation, Outcome, explain};

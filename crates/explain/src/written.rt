@@ -26,7 +26,7 @@ pub fn explain_file<R: Source, W: Sink>(
 }
 
 /// An explanation's text.
-#[derive(Debug, Drop)]
+#[derive(Drop)]
 struct Printed {
     outcome: Outcome,
     text: String,

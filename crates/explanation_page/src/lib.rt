@@ -5,12 +5,9 @@
 //! ```
 #![tactic(auto)]
 
-mod drawn;
 mod ending;
-mod hindering;
+mod paged;
 mod proofs;
-mod states;
-mod timeline;
 mod written;
 
 pub use ending::explained_ending;

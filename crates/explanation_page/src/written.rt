@@ -1,6 +1,6 @@
 //! A script's explanation, from its bytes to the text and the page that are written.
 
-use crate::drawn::page_of_script;
+use crate::paged::page_of_script;
 use byte_transfer::{Sink, Source, read_up_to_limit, write_fully};
 use explain::{Outcome, explain, text_of};
 use script_reading::LONGEST;

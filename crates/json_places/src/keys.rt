@@ -6,7 +6,7 @@ use serde_json::Value;
 use std::alloc::{AllocError, Global};
 
 /// A part of a text: the bytes from `start`, up to `end`.
-#[derive(Clone, Copy, Debug, PartialEq, Eq)]
+#[derive(Clone, Copy, PartialEq, Eq)]
 pub struct Span {
     pub start: usize,
     pub end: usize,
@@ -20,7 +20,7 @@ impl Span {
 }
 
 /// A step from a value to a value in it.
-#[derive(Clone, Copy, Debug)]
+#[derive(Clone, Copy)]
 pub enum Step<'a> {
     /// To the member of an object with this key.
     Key(&'a str),
@@ -44,6 +44,9 @@ pub(crate) fn is_spelled(alloc: Global, key: &[u8], text: &str) -> Result<bool, 
 }
 
 /// What stands between the quotes.
-pub(crate) fn unquoted(key: &[u8]) -> Option<&[u8]> {
-    key.strip_prefix(b"\"")?.strip_suffix(b"\"")
+fn unquoted(key: &[u8]) -> Option<&[u8]> {
+    match key {
+        [b'"', text @ .., b'"'] => Some(text),
+        _ => None,
+    }
 }

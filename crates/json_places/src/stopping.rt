@@ -7,7 +7,7 @@ use serde_json::Value;
 use std::alloc::{AllocError, Global};
 
 /// Where a text stops being the beginning of JSON.
-#[derive(Debug, Drop)]
+#[derive(Drop)]
 pub struct Stop {
     /// The byte that can't stand there, or the length of the text.
     pub at: usize,

@@ -6,7 +6,7 @@ ghost use Rattle.json_places.specs.declared.taken.Halt.TheVariants.{NoMemory};
 use std::alloc::{AllocError, AllocFailed};
 
 /// What the grammar allows where a text stops being JSON.
-#[derive(Clone, Copy, Debug)]
+#[derive(Clone, Copy)]
 pub enum Expected {
     /// A value.
     Value,

@@ -74,6 +74,12 @@ impl Narrowing {
         Ok(found == self.fault)
     }
 
+    /// The same of the record in which the list at a path has its first items alone, as many as are said.
+    fn has_fault_within(&self, path: &[Step<'_>], most: usize) -> Result<bool, AllocError> {
+        let front = cut(self.alloc, &self.record, path, most)?;
+        self.has_fault(&front)
+    }
+
     /// How many items the list at a path has; 0 where there is none.
     fn len(&self, path: &[Step<'_>]) -> usize {
         match value_at(&self.record, path) {
@@ -96,8 +102,7 @@ impl Narrowing {
                 break;
             }
             let middle = low + (high - low) / 2;
-            let front = cut(self.alloc, &self.record, path, middle)?;
-            if self.has_fault(&front)? {
+            if self.has_fault_within(path, middle)? {
                 high = middle;
             } else {
                 low = middle + 1;

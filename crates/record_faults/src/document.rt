@@ -5,11 +5,22 @@ ghost use Rattle.serde_json.specs.View.{view};
 ghost use Rattle.json_places.specs.Places.{IsPlaceOf, value_on};
 ghost use Rattle.record_faults.specs.declared.document.Part.TheVariants.{Key};
 
-use crate::paths::{Path, put_path};
+use crate::paths::put_path;
 use explanation_text::{Items, Mark, show};
 use json_places::{Span, Step, key_span_of, span_of, value_at};
 use serde_json::Value;
 use std::alloc::{AllocError, Global};
+
+/// What of a place is marked: where something is missing its first byte alone.
+fn pointed(span: Span, part: Part) -> Span {
+    match part {
+        Part::Begin => Span {
+            start: span.start,
+            end: span.start.saturating_add(1),
+        },
+        _ => span,
+    }
+}
 
 /// A script's text.
 #[derive(Clone, Copy)]
@@ -22,7 +33,7 @@ pub struct Document<'a> {
 }
 
 /// What of a member is pointed at.
-#[derive(Clone, Copy, Debug, PartialEq, Eq)]
+#[derive(Clone, Copy, PartialEq, Eq)]
 pub enum Part {
     Value,
     Key,
@@ -68,7 +79,7 @@ impl<'a> Document<'a> {
         &self,
         items: &mut Items,
         depth: usize,
-        path: &Path<'_>,
+        path: &[Step<'_>],
         part: Part,
         note: &str,
         helps: &[String],
@@ -76,20 +87,27 @@ impl<'a> Document<'a> {
         let alloc = items.alloc();
         let mut said = String::from_str(alloc, ": ")?;
         put_path(&mut said, path)?;
-        let Some(found) = self.span(alloc, path, part)? else {
-            said.push_str(": ")?;
-            said.push_str(note)?;
-            return items.say(depth, "", said);
-        };
-        let span = if part == Part::Begin {
-            Span {
-                start: found.start,
-                end: found.start.saturating_add(1),
+        match self.span(alloc, path, part)? {
+            Some(span) => self.show(items, depth, pointed(span, part), &said, note, helps),
+            None => {
+                write!(said, ": {note}")?;
+                items.say(depth, "", said)
             }
-        } else {
-            found
-        };
-        self.show(items, depth, span, &said, note, helps)
+        }
+    }
+
+    /// The same with one sentence of what helps.
+    pub fn advise(
+        &self,
+        items: &mut Items,
+        depth: usize,
+        path: &[Step<'_>],
+        part: Part,
+        note: &str,
+        help: String,
+    ) -> Result<(), AllocError> {
+        let helps = vec![in items.alloc(); help]?;
+        self.point(items, depth, path, part, note, &helps)
     }
 
     /// The same of a part that is known, with what stands after its line and column.

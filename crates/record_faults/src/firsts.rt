@@ -95,17 +95,28 @@ fn put_first_pair(
     };
     for (i, entry) in entries.iter().enumerate() {
         let at = with(alloc, base, Step::Item(i))?;
-        if entry.get("pixel_format").is_some() && is_same_pair(entry, mine) {
-            let own = with(alloc, &at, Step::Key("pixel_format"))?;
-            put_path(text, &own)?;
-            return Ok(true);
-        }
-        let further = with(alloc, &at, Step::Key("pixel_format_and_modifiers"))?;
-        if put_first_further(text, entry, &further, mine)? {
+        if put_first_of(text, entry, &at, mine)? {
             return Ok(true);
         }
     }
     Ok(false)
+}
+
+/// The same in an entry.
+fn put_first_of(
+    text: &mut String,
+    entry: &Value,
+    path: &[Step<'_>],
+    mine: &Value,
+) -> Result<bool, AllocError> {
+    let alloc = *text.allocator();
+    if entry.get("pixel_format").is_some() && is_same_pair(entry, mine) {
+        let own = with(alloc, path, Step::Key("pixel_format"))?;
+        put_path(text, &own)?;
+        return Ok(true);
+    }
+    let further = with(alloc, path, Step::Key("pixel_format_and_modifiers"))?;
+    put_first_further(text, entry, &further, mine)
 }
 
 /// The same among an entry's further pairs.

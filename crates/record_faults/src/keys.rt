@@ -52,7 +52,7 @@ pub(crate) const PLATFORM: &[&str] = &["heaps", "pairs", "color_spaces"];
 pub(crate) const PLATFORM_HEAP: &[&str] = &["heap_type", "id", "contiguous", "secure", "domains"];
 
 /// What is wanted at a field.
-#[derive(Clone, Copy, Debug, PartialEq, Eq)]
+#[derive(Clone, Copy, PartialEq, Eq)]
 pub(crate) enum Due {
     Flag,
     Size,

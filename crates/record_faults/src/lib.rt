@@ -16,5 +16,5 @@ pub use document::{Document, Part};
 pub use keys::{CONSTRAINTS, is_one_of};
 pub use kinds::wrong_kind;
 pub use paths::{Path, with};
-pub use record_fault::{one, tell_record_fault};
+pub use record_fault::tell_record_fault;
 pub use unknown::{first_unknown, key_of};

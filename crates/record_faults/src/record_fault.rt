@@ -8,7 +8,7 @@ use crate::keys::{
 };
 use crate::kinds::{is_number_within, wrong_kind, wrong_number, wrong_value};
 use crate::names::hint_of_name;
-use crate::paths::{Path, joined, with};
+use crate::paths::{joined, with};
 use crate::record_place::place_of;
 use crate::unknown::{first_unknown, key_of};
 use explanation_text::wording::put_joined;
@@ -18,22 +18,14 @@ use serde_json::Value;
 use std::alloc::{AllocError, Global};
 use sysmem_sanitise::{Code, Fault};
 
-/// What is said of a fault, and where.
-#[derive(Drop)]
-pub(crate) struct Said<'a> {
-    pub(crate) path: Path<'a>,
-    pub(crate) part: Part,
-    pub(crate) note: String,
-    pub(crate) helps: Vec<String>,
-}
-
-/// A record of a script, with its first fault.
+/// The first fault of a script's record, and where it is.
 #[derive(Clone, Copy)]
 struct Faulty<'a, 'b> {
     document: &'b Document<'a>,
-    /// The record's path in the script.
-    base: &'b [Step<'a>],
-    record: &'a Value,
+    /// Below how many items it is told.
+    depth: usize,
+    /// Its path in the script.
+    path: &'b [Step<'a>],
     fault: Fault,
     is_platform: bool,
 }
@@ -50,47 +42,47 @@ pub fn tell_record_fault<'a>(
     let Some(record) = document.at(base) else {
         return Ok(());
     };
-    let alloc = items.alloc();
+    let place = place_of(items.alloc(), record, fault, is_platform)?;
+    let path = joined(items.alloc(), base, &place)?;
     let faulty = Faulty {
         document,
-        base,
-        record,
+        depth,
+        path: &path,
         fault,
         is_platform,
     };
-    let said = said_of(alloc, faulty)?;
-    document.point(items, depth, &said.path, said.part, &said.note, &said.helps)
-}
-
-/// What is said of a record's first fault.
-fn said_of<'a>(alloc: Global, faulty: Faulty<'a, '_>) -> Result<Said<'a>, AllocError> {
-    let place = place_of(alloc, faulty.record, faulty.fault, faulty.is_platform)?;
-    let at = faulty.fault.at.name();
-    let path = joined(alloc, faulty.base, &place)?;
-    let Some(value) = faulty.document.at(&path) else {
-        return missing(alloc, &path, at, faulty.is_platform);
-    };
-    let is_size = due_at(at) == Due::Size;
-    match faulty.fault.code {
-        Code::UnknownField => of_object(alloc, faulty, path, value),
-        Code::WrongKind if is_size && value.is_object() => of_object(alloc, faulty, path, value),
-        Code::UnknownName => of_name(alloc, faulty, path, value),
-        Code::WrongKind => of_kind(alloc, faulty, path, value),
-        Code::BadMultiple => of_multiple(alloc, faulty, path, value),
-        _ => of_list(alloc, faulty, path, value),
+    match document.at(&path) {
+        Some(value) => tell_value(items, faulty, value),
+        None => tell_missing(items, faulty),
     }
 }
 
-/// One sentence of what helps.
-pub fn one(alloc: Global, help: String) -> Result<Vec<String>, AllocError> {
-    let mut helps = Vec::new(alloc);
-    helps.push(help)?;
-    Ok(helps)
+/// Tells what is wrong with a value that is there.
+fn tell_value<'a>(
+    items: &mut Items,
+    faulty: Faulty<'a, '_>,
+    value: &'a Value,
+) -> Result<(), AllocError> {
+    let is_size = due_at(faulty.fault.at.name()) == Due::Size;
+    match faulty.fault.code {
+        Code::UnknownField => tell_object(items, faulty, value),
+        Code::WrongKind if is_size && value.is_object() => tell_object(items, faulty, value),
+        Code::UnknownName => tell_name(items, faulty, value),
+        Code::WrongKind => tell_kind(items, faulty, value),
+        Code::BadMultiple => tell_multiple(items, faulty, value),
+        _ => tell_list(items, faulty, value),
+    }
 }
 
-fn needed(alloc: Global, word: &str, what: &str) -> Result<Vec<String>, AllocError> {
-    let help = format!(in alloc; "{word}: {what}")?;
-    one(alloc, help)
+/// What is allowed at a field, after a word.
+fn help_allowed(
+    alloc: Global,
+    word: &str,
+    at: &str,
+    is_platform: bool,
+) -> Result<String, AllocError> {
+    let what = allowed(at, is_platform);
+    format!(in alloc; "{word}: {what}")
 }
 
 fn missing_note(alloc: Global, name: &str) -> Result<String, AllocError> {
@@ -98,20 +90,17 @@ fn missing_note(alloc: Global, name: &str) -> Result<String, AllocError> {
 }
 
 /// A field that isn't there: the object that lacks it is pointed at.
-fn missing<'a>(
-    alloc: Global,
-    path: &[Step<'a>],
-    at: &str,
-    is_platform: bool,
-) -> Result<Said<'a>, AllocError> {
-    let mut object = Vec::from_slice(alloc, path)?;
-    let _missing = object.pop();
-    Ok(Said {
-        path: object,
-        part: Part::Begin,
-        note: missing_note(alloc, at)?,
-        helps: needed(alloc, "needed", allowed(at, is_platform))?,
-    })
+fn tell_missing(items: &mut Items, faulty: Faulty<'_, '_>) -> Result<(), AllocError> {
+    let at = faulty.fault.at.name();
+    let object = match faulty.path.split_last() {
+        Some((_, object)) => object,
+        None => faulty.path,
+    };
+    let note = missing_note(items.alloc(), at)?;
+    let help = help_allowed(items.alloc(), "needed", at, faulty.is_platform)?;
+    faulty
+        .document
+        .advise(items, faulty.depth, object, Part::Begin, &note, help)
 }
 
 /// The keys that an object at a place may have.
@@ -140,139 +129,138 @@ fn keys_at(at: &str, path: &[Step<'_>], is_platform: bool) -> &'static [&'static
 }
 
 /// An object with an unknown key, or a size that isn't one.
-fn of_object<'a>(
-    alloc: Global,
+fn tell_object<'a>(
+    items: &mut Items,
     faulty: Faulty<'a, '_>,
-    path: Path<'a>,
     value: &'a Value,
-) -> Result<Said<'a>, AllocError> {
-    let at = faulty.fault.at.name();
-    let keys = keys_at(at, &path, faulty.is_platform);
-    if let Some(unknown) = first_unknown(alloc, faulty.document, &path, keys)? {
-        return Ok(Said {
-            helps: helps_of_key(alloc, key_of(&unknown), keys, faulty.is_platform)?,
-            path: unknown,
-            part: Part::Key,
-            note: String::from_str(alloc, "unknown key")?,
-        });
+) -> Result<(), AllocError> {
+    let keys = keys_at(faulty.fault.at.name(), faulty.path, faulty.is_platform);
+    match first_unknown(items.alloc(), faulty.document, faulty.path, keys)? {
+        Some(unknown) => tell_key(items, faulty, &unknown, keys),
+        None => tell_side(items, faulty, value),
     }
-    of_side(alloc, faulty, path, value)
+}
+
+fn tell_key(
+    items: &mut Items,
+    faulty: Faulty<'_, '_>,
+    path: &[Step<'_>],
+    keys: &'static [&'static str],
+) -> Result<(), AllocError> {
+    let document = faulty.document;
+    let note = "unknown key";
+    match help_of_key(items.alloc(), key_of(path), keys, faulty.is_platform)? {
+        Some(help) => document.advise(items, faulty.depth, path, Part::Key, note, help),
+        None => document.point(items, faulty.depth, path, Part::Key, note, &[]),
+    }
+}
+
+/// The side of a size that isn't within bounds: the height where the width is.
+fn wrong_side(size: &Value, least: u64, most: u64) -> &'static str {
+    match size.get("width") {
+        Some(width) if is_number_within(width, least, most) => "height",
+        _ => "width",
+    }
 }
 
 /// A width or a height that is missing or wrong.
-fn of_side<'a>(
-    alloc: Global,
-    faulty: Faulty<'a, '_>,
-    path: Path<'a>,
-    value: &'a Value,
-) -> Result<Said<'a>, AllocError> {
+fn tell_side(
+    items: &mut Items,
+    faulty: Faulty<'_, '_>,
+    value: &Value,
+) -> Result<(), AllocError> {
     let at = faulty.fault.at.name();
-    let width = value.get("width");
-    let side = if width.is_some_and(|width| is_number_within(width, 0, 4294967295)) {
-        "height"
-    } else {
-        "width"
-    };
-    let helps = needed(alloc, "allowed", allowed(at, faulty.is_platform))?;
-    let Some(number) = value.get(side) else {
-        return Ok(Said {
-            path,
-            part: Part::Begin,
-            note: missing_note(alloc, side)?,
-            helps,
-        });
-    };
-    let path = with(alloc, &path, Step::Key(side))?;
-    let written = faulty.document.written(alloc, &path)?;
-    Ok(Said {
-        note: wrong_number(alloc, number, written, 0, 4294967295)?,
-        path,
-        part: Part::Value,
-        helps,
-    })
+    let side = wrong_side(value, 0, 4294967295);
+    let help = help_allowed(items.alloc(), "allowed", at, faulty.is_platform)?;
+    match value.get(side) {
+        Some(number) => {
+            let path = with(items.alloc(), faulty.path, Step::Key(side))?;
+            tell_number(items, faulty, &path, number, (0, 4294967295), help)
+        }
+        None => {
+            let note = missing_note(items.alloc(), side)?;
+            faulty
+                .document
+                .advise(items, faulty.depth, faulty.path, Part::Begin, &note, help)
+        }
+    }
 }
 
-fn of_name<'a>(
-    alloc: Global,
-    faulty: Faulty<'a, '_>,
-    path: Path<'a>,
-    value: &'a Value,
-) -> Result<Said<'a>, AllocError> {
+/// A number at a path that isn't within its least and greatest value.
+fn tell_number(
+    items: &mut Items,
+    faulty: Faulty<'_, '_>,
+    path: &[Step<'_>],
+    number: &Value,
+    bounds: (u64, u64),
+    help: String,
+) -> Result<(), AllocError> {
+    let written = faulty.document.written(items.alloc(), path)?;
+    let note = wrong_number(items.alloc(), number, written, bounds.0, bounds.1)?;
+    faulty
+        .document
+        .advise(items, faulty.depth, path, Part::Value, &note, help)
+}
+
+fn tell_name(
+    items: &mut Items,
+    faulty: Faulty<'_, '_>,
+    value: &Value,
+) -> Result<(), AllocError> {
     let name = value.as_str().unwrap_or("");
-    let hint = hint_of_name(alloc, faulty.fault.at.name(), name, faulty.is_platform)?;
-    Ok(Said {
-        path,
-        part: Part::Value,
-        note: String::from_str(alloc, "unknown name")?,
-        helps: one(alloc, hint)?,
-    })
+    let at = faulty.fault.at.name();
+    let hint = hint_of_name(items.alloc(), at, name, faulty.is_platform)?;
+    faulty
+        .document
+        .advise(items, faulty.depth, faulty.path, Part::Value, "unknown name", hint)
 }
 
-fn of_kind<'a>(
-    alloc: Global,
-    faulty: Faulty<'a, '_>,
-    path: Path<'a>,
-    value: &'a Value,
-) -> Result<Said<'a>, AllocError> {
+fn tell_kind(
+    items: &mut Items,
+    faulty: Faulty<'_, '_>,
+    value: &Value,
+) -> Result<(), AllocError> {
     let at = faulty.fault.at.name();
-    let is_item = matches!(path.last(), Some(Step::Item(_)));
-    let written = faulty.document.written(alloc, &path)?;
-    Ok(Said {
-        note: wrong_value(alloc, at, value, written, is_item)?,
-        path,
-        part: Part::Value,
-        helps: needed(alloc, "allowed", allowed(at, faulty.is_platform))?,
-    })
+    let is_item = matches!(faulty.path.last(), Some(Step::Item(_)));
+    let written = faulty.document.written(items.alloc(), faulty.path)?;
+    let note = wrong_value(items.alloc(), at, value, written, is_item)?;
+    let help = help_allowed(items.alloc(), "allowed", at, faulty.is_platform)?;
+    faulty
+        .document
+        .advise(items, faulty.depth, faulty.path, Part::Value, &note, help)
 }
 
 /// An alignment or a divisor out of its range.
-fn of_multiple<'a>(
-    alloc: Global,
-    faulty: Faulty<'a, '_>,
-    path: Path<'a>,
-    value: &'a Value,
-) -> Result<Said<'a>, AllocError> {
-    let mut path = path;
-    let mut number = value;
-    if value.is_object() {
-        let width = value.get("width");
-        let side = if width.is_some_and(|width| is_number_within(width, 1, 65536)) {
-            "height"
-        } else {
-            "width"
-        };
-        path.push(Step::Key(side))?;
-        number = value.get(side).unwrap_or(value);
-    }
-    let written = faulty.document.written(alloc, &path)?;
+fn tell_multiple(
+    items: &mut Items,
+    faulty: Faulty<'_, '_>,
+    value: &Value,
+) -> Result<(), AllocError> {
     let help = String::from_str(
-        alloc,
+        items.alloc(),
         "an alignment or divisor is from 1 to 65536; 1 asks for nothing",
     )?;
-    Ok(Said {
-        note: wrong_number(alloc, number, written, 1, 65536)?,
-        path,
-        part: Part::Value,
-        helps: one(alloc, help)?,
-    })
+    if !value.is_object() {
+        return tell_number(items, faulty, faulty.path, value, (1, 65536), help);
+    }
+    let side = wrong_side(value, 1, 65536);
+    let path = with(items.alloc(), faulty.path, Step::Key(side))?;
+    let number = value.get(side).unwrap_or(value);
+    tell_number(items, faulty, &path, number, (1, 65536), help)
 }
 
 /// A list that is empty, too long or has an item twice, a value that is no object, or a tiled modifier that doesn't go with its format.
-fn of_list<'a>(
-    alloc: Global,
-    faulty: Faulty<'a, '_>,
-    path: Path<'a>,
-    value: &'a Value,
-) -> Result<Said<'a>, AllocError> {
+fn tell_list(
+    items: &mut Items,
+    faulty: Faulty<'_, '_>,
+    value: &Value,
+) -> Result<(), AllocError> {
     let is_empty = matches!(value.as_array(), Some(list) if list.is_empty());
-    let note = note_of_list(alloc, faulty.fault.code, value, is_empty)?;
-    let helps = helps_of_list(alloc, faulty, &path, is_empty)?;
-    Ok(Said {
-        path,
-        part: Part::Value,
-        note,
-        helps,
-    })
+    let note = note_of_list(items.alloc(), faulty.fault.code, value, is_empty)?;
+    let helps = helps_of_list(items.alloc(), faulty, is_empty)?;
+    faulty
+        .document
+        .point(items, faulty.depth, faulty.path, Part::Value, &note, &helps)
 }
 
 /// What is wrong with a list, with one of its items, or with what stands for an object.
@@ -297,34 +285,32 @@ fn note_of_list(
 fn helps_of_list(
     alloc: Global,
     faulty: Faulty<'_, '_>,
-    path: &[Step<'_>],
     is_empty: bool,
 ) -> Result<Vec<String>, AllocError> {
     let at = faulty.fault.at.name();
-    match faulty.fault.code {
-        Code::NotAnObject => Ok(Vec::new(alloc)),
-        Code::TooMany => needed(alloc, "allowed", "at most 64"),
-        Code::TiledMisfit => needed(
+    let help = match faulty.fault.code {
+        Code::NotAnObject => return Ok(Vec::new(alloc)),
+        Code::TooMany => String::from_str(alloc, "allowed: at most 64")?,
+        Code::TiledMisfit => String::from_str(
             alloc,
-            "tiles go with formats of 4 bytes",
-            "R8G8B8A8, B8G8R8A8, R8G8B8X8 and B8G8R8X8",
-        ),
-        Code::BadUsage => needed(alloc, "allowed", allowed("usage", false)),
-        _ if is_empty => needed(alloc, "needed", allowed(at, faulty.is_platform)),
-        code => first_like(alloc, faulty, path, code),
-    }
+            "tiles go with formats of 4 bytes: R8G8B8A8, B8G8R8A8, R8G8B8X8 and B8G8R8X8",
+        )?,
+        Code::BadUsage => help_allowed(alloc, "allowed", "usage", false)?,
+        _ if is_empty => help_allowed(alloc, "needed", at, faulty.is_platform)?,
+        code => return first_like(alloc, faulty, code),
+    };
+    Ok(vec![in alloc; help]?)
 }
 
 /// Where what is given twice stands first, and which names count as equal.
 fn first_like(
     alloc: Global,
     faulty: Faulty<'_, '_>,
-    path: &[Step<'_>],
     code: Code,
 ) -> Result<Vec<String>, AllocError> {
     let mut helps = Vec::new(alloc);
     let mut first = String::from_str(alloc, "first at ")?;
-    if put_first_like(&mut first, faulty.document.value, path, code)? {
+    if put_first_like(&mut first, faulty.document.value, faulty.path, code)? {
         helps.push(first)?;
     }
     if code == Code::RepeatedPair {
@@ -334,33 +320,40 @@ fn first_like(
 }
 
 /// What an unknown key may be: one of another object, or a known one that is misspelt.
-fn helps_of_key(
+fn help_of_key(
     alloc: Global,
     key: &str,
     keys: &'static [&'static str],
     is_platform: bool,
-) -> Result<Vec<String>, AllocError> {
-    if !is_platform {
-        if let Some(owner) = owner_of(key, keys) {
-            let help = format!(in alloc; "{key} belongs into {owner}")?;
-            return one(alloc, help);
-        }
+) -> Result<Option<String>, AllocError> {
+    let owner = if is_platform {
+        None
+    } else {
+        owner_of(key, keys)
+    };
+    if let Some(owner) = owner {
+        return Ok(Some(format!(in alloc; "{key} belongs into {owner}")?));
     }
     if let Some(near) = nearest(alloc, key, keys)? {
-        let help = format!(in alloc; "did you mean {near}?")?;
-        return one(alloc, help);
+        return Ok(Some(format!(in alloc; "did you mean {near}?")?));
     }
-    if !is_platform {
-        if let Some(help) = help_elsewhere(alloc, key, keys)? {
-            return one(alloc, help);
-        }
+    if is_platform {
+        return keys_here(alloc, keys);
     }
+    match help_elsewhere(alloc, key, keys)? {
+        Some(help) => Ok(Some(help)),
+        None => keys_here(alloc, keys),
+    }
+}
+
+/// The keys that an object can have, where they are few.
+fn keys_here(alloc: Global, keys: &[&str]) -> Result<Option<String>, AllocError> {
     if keys.len() > 5 {
-        return Ok(Vec::new(alloc));
+        return Ok(None);
     }
     let mut help = String::from_str(alloc, "keys here: ")?;
     put_joined(&mut help, keys, "and")?;
-    one(alloc, help)
+    Ok(Some(help))
 }
 
 /// The objects of constraints, with their keys.

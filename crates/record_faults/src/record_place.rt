@@ -20,39 +20,35 @@ pub(crate) fn place_of(
     if at == "whole" {
         return Ok(Vec::new(alloc));
     }
-    let cut = Narrowing::new(alloc, record, fault, is_platform)?;
+    let mut cut = Narrowing::new(alloc, record, fault, is_platform)?;
     if is_platform {
-        return place_in_platform(alloc, cut, at);
+        place_in_platform(alloc, &mut cut, at)
+    } else if at == "usage" {
+        in_member(alloc, &mut cut, at, &[])
+    } else if is_one_of(at, MEMORY) || is_one_of(at, HEAP_NAME) {
+        place_in_memory(alloc, &mut cut, at)
+    } else if is_one_of(at, ENTRY) || at == "image_format_constraints" {
+        place_in_entries(alloc, record, &mut cut, at)
+    } else {
+        Ok(vec![in alloc; Step::Key(at)]?)
     }
-    if at == "usage" {
-        return in_member(alloc, cut, at, &[]);
-    }
-    if is_one_of(at, MEMORY) || is_one_of(at, HEAP_NAME) {
-        return place_in_memory(alloc, cut, at);
-    }
-    if is_one_of(at, ENTRY) || at == "image_format_constraints" {
-        return place_in_entries(alloc, record, cut, at);
-    }
-    Ok(vec![in alloc; Step::Key(at)]?)
 }
 
 /// The faulty item of the list that is a member of the record, with the rest after it.
 fn in_member(
     alloc: Global,
-    cut: Narrowing,
+    cut: &mut Narrowing,
     key: &'static str,
     rest: &[Step<'static>],
 ) -> Result<Path<'static>, AllocError> {
-    let mut cut = cut;
     cut.in_list(vec![in alloc; Step::Key(key)]?, rest)
 }
 
 fn place_in_platform(
     alloc: Global,
-    cut: Narrowing,
+    cut: &mut Narrowing,
     at: &'static str,
 ) -> Result<Path<'static>, AllocError> {
-    let mut cut = cut;
     match at {
         "heap_type" | "id" | "contiguous" | "secure" => {
             in_member(alloc, cut, "heaps", &[Step::Key(at)])
@@ -71,10 +67,9 @@ fn place_in_platform(
 
 fn place_in_memory(
     alloc: Global,
-    cut: Narrowing,
+    cut: &mut Narrowing,
     at: &'static str,
 ) -> Result<Path<'static>, AllocError> {
-    let mut cut = cut;
     let memory = vec![in alloc; Step::Key("buffer_memory_constraints")]?;
     if at == "permitted_heaps" {
         return cut.in_list(with(alloc, &memory, Step::Key(at))?, &[]);
@@ -89,10 +84,9 @@ fn place_in_memory(
 fn place_in_entries(
     alloc: Global,
     record: &Value,
-    cut: Narrowing,
+    cut: &mut Narrowing,
     at: &'static str,
 ) -> Result<Path<'static>, AllocError> {
-    let mut cut = cut;
     let entries = vec![in alloc; Step::Key("image_format_constraints")]?;
     let path = cut.in_list(entries, &[])?;
     if at == "image_format_constraints" {
@@ -105,7 +99,7 @@ fn place_in_entries(
     if !is_one_of(at, PAIR) && at != "pixel_format_and_modifiers" {
         return Ok(own);
     }
-    match place_in_pairs(alloc, record, &mut cut, &path, at)? {
+    match place_in_pairs(alloc, record, cut, &path, at)? {
         Some(further) => Ok(further),
         None => Ok(own),
     }
@@ -123,22 +117,27 @@ fn place_in_pairs(
         return Ok(None);
     }
     let pairs = with(alloc, entry, Step::Key("pixel_format_and_modifiers"))?;
-    match value_at(record, &pairs) {
-        Some(Value::Array(list)) => if list.is_empty() {
-            return Ok(None);
-        },
-        _ => return Ok(None),
+    if !has_items(value_at(record, &pairs)) {
+        return Ok(None);
     }
-    let own = with(alloc, entry, Step::Key("pixel_format"))?;
-    let least = usize::from(value_at(record, &own).is_none());
-    let Some(index) = cut.item(&pairs, least)? else {
+    let own = value_at(record, entry).and_then(|entry| entry.get("pixel_format"));
+    let Some(index) = cut.item(&pairs, usize::from(own.is_none()))? else {
         return Ok(None);
     };
     let path = with(alloc, &pairs, Step::Item(index))?;
     if is_one_of(at, PAIR) {
-        return Ok(Some(with(alloc, &path, Step::Key(at))?));
+        Ok(Some(with(alloc, &path, Step::Key(at))?))
+    } else {
+        Ok(Some(path))
     }
-    Ok(Some(path))
+}
+
+/// Whether a value is a list that isn't empty.
+fn has_items(value: Option<&Value>) -> bool {
+    match value {
+        Some(Value::Array(list)) => !list.is_empty(),
+        _ => false,
+    }
 }
 
 /// Whether an entry's own modifier is none that is known.

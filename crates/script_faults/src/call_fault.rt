@@ -5,7 +5,7 @@ use explanation_text::wording::{put_few, put_joined};
 use explanation_text::{Items, nearest};
 use json_places::Step;
 use record_faults::{
-    CONSTRAINTS, Document, Part, Path, first_unknown, is_one_of, key_of, one, wrong_kind,
+    CONSTRAINTS, Document, Part, first_unknown, is_one_of, key_of, wrong_kind,
 };
 use script_reading::ScriptFault;
 use serde_json::Value;
@@ -50,8 +50,8 @@ pub(crate) fn tell_call_fault<'a>(
 }
 
 impl<'a> Faulty<'a, '_> {
-    fn path(&self, alloc: Global) -> Result<Path<'a>, AllocError> {
-        Ok(vec![in alloc; Step::Key("calls"), Step::Item(self.index)]?)
+    fn path(&self) -> [Step<'static>; 2] {
+        [Step::Key("calls"), Step::Item(self.index)]
     }
 
     /// Points at a member's value, or at the call where there is none.
@@ -62,36 +62,30 @@ impl<'a> Faulty<'a, '_> {
         note: &str,
         help: String,
     ) -> Result<(), AllocError> {
-        let alloc = items.alloc();
-        let mut path = self.path(alloc)?;
-        if self.call.get(key).is_some() {
-            path.push(Step::Key(key))?;
-        }
-        let helps = one(alloc, help)?;
+        let member = [Step::Key("calls"), Step::Item(self.index), Step::Key(key)];
+        let path = if self.call.get(key).is_some() {
+            &member[..]
+        } else {
+            &member[..2]
+        };
         self.document
-            .point(items, 1, &path, Part::Value, note, &helps)
+            .advise(items, 1, path, Part::Value, note, help)
     }
 
     /// Points at the call, which lacks a member; or at a key that it can't have, which is likely meant.
-    fn lacks(&self, items: &mut Items, key: &'static str, help: &str) -> Result<(), AllocError> {
+    fn lacks(&self, items: &mut Items, key: &'static str, help: String) -> Result<(), AllocError> {
         let alloc = items.alloc();
-        let path = self.path(alloc)?;
+        let path = self.path();
         let known = ["call", "on", "as", "actor", "constraints"];
         if let Some(other) = first_unknown(alloc, self.document, &path, &known)? {
             let meant = format!(in alloc; "did you mean {key}? It is missing")?;
-            let helps = one(alloc, meant)?;
             return self
                 .document
-                .point(items, 1, &other, Part::Key, "unknown key", &helps);
+                .advise(items, 1, &other, Part::Key, "unknown key", meant);
         }
         let note = format!(in alloc; "{key} is missing")?;
-        let mut words = String::from_str(alloc, help)?;
-        if key == "call" {
-            put_joined(&mut words, CALLS, "and")?;
-        }
-        let helps = one(alloc, words)?;
         self.document
-            .point(items, 1, &path, Part::Begin, &note, &helps)
+            .advise(items, 1, &path, Part::Begin, &note, help)
     }
 
     fn text(&self, key: &str) -> Option<&'a str> {
@@ -134,13 +128,13 @@ fn tell_shape(items: &mut Items, faulty: Faulty<'_, '_>) -> Result<(), AllocErro
     let alloc = items.alloc();
     if !faulty.call.is_object() {
         let note = wrong_kind(alloc, faulty.call, "a call is")?;
-        let path = faulty.path(alloc)?;
         return faulty
             .document
-            .point(items, 1, &path, Part::Value, &note, &[]);
+            .point(items, 1, &faulty.path(), Part::Value, &note, &[]);
     }
     let Some(value) = faulty.call.get("call") else {
-        return faulty.lacks(items, "call", "calls: ");
+        let help = calls_known(alloc)?;
+        return faulty.lacks(items, "call", help);
     };
     let Some(name) = value.as_str() else {
         return tell_kind(items, faulty, "call", value);
@@ -157,6 +151,10 @@ fn hint_of_call(alloc: Global, name: &str) -> Result<String, AllocError> {
     if let Some(near) = nearest(alloc, name, CALLS)? {
         return format!(in alloc; "did you mean {near}?");
     }
+    calls_known(alloc)
+}
+
+fn calls_known(alloc: Global) -> Result<String, AllocError> {
     let mut words = String::from_str(alloc, "calls: ")?;
     put_joined(&mut words, CALLS, "and")?;
     Ok(words)
@@ -176,36 +174,42 @@ fn tell_kind(
 
 /// Tells what is wrong with the members of a call that has a name.
 fn tell_members(items: &mut Items, faulty: Faulty<'_, '_>, name: &str) -> Result<(), AllocError> {
-    let alloc = items.alloc();
-    if is_maker(name) {
-        match faulty.call.get("as") {
-            None => {
-                let help = format!(in alloc; "{name} makes a node: as gives it its name")?;
-                return faulty.lacks(items, "as", &help);
-            }
-            Some(value) => if !value.is_string() {
-                return tell_kind(items, faulty, "as", value);
-            },
-        }
+    if is_maker(name) && faulty.call.get("as").is_none() {
+        let help = format!(in items.alloc(); "{name} makes a node: as gives it its name")?;
+        return faulty.lacks(items, "as", help);
+    }
+    if let Some((key, value)) = no_text(faulty, &["as"], is_maker(name)) {
+        return tell_kind(items, faulty, key, value);
     }
     if faulty.call.get("on").is_none() {
-        let help = "on names the node that the call is made on";
+        let help = String::from_str(items.alloc(), "on names the node that the call is made on")?;
         return faulty.lacks(items, "on", help);
     }
     let keys = keys_of(name);
-    let path = faulty.path(alloc)?;
-    if let Some(unknown) = first_unknown(alloc, faulty.document, &path, keys)? {
-        return tell_key(items, faulty, name, keys, unknown);
+    if let Some(unknown) = first_unknown(items.alloc(), faulty.document, &faulty.path(), keys)? {
+        return tell_key(items, faulty, name, keys, &unknown);
     }
-    for key in ["on", "actor"] {
-        match faulty.call.get(key) {
-            Some(value) if !value.is_string() => {
-                return tell_kind(items, faulty, key, value);
+    match no_text(faulty, &["on", "actor"], true) {
+        Some((key, value)) => tell_kind(items, faulty, key, value),
+        None => Ok(()),
+    }
+}
+
+/// The first of these members, if they are to be texts, that is none.
+fn no_text<'a>(
+    faulty: Faulty<'a, '_>,
+    keys: &[&'static str],
+    are_texts: bool,
+) -> Option<(&'static str, &'a Value)> {
+    for key in keys {
+        match faulty.call.get(*key) {
+            Some(value) if are_texts && !value.is_string() => {
+                return Some((*key, value));
             }
             _ => {}
         }
     }
-    Ok(())
+    None
 }
 
 /// The keys of a call of this name.
@@ -220,15 +224,15 @@ fn keys_of(name: &str) -> &'static [&'static str] {
 }
 
 /// Tells a key that the call can't have.
-fn tell_key<'a>(
+fn tell_key(
     items: &mut Items,
-    faulty: Faulty<'a, '_>,
+    faulty: Faulty<'_, '_>,
     name: &str,
     keys: &'static [&'static str],
-    path: Path<'a>,
+    path: &[Step<'_>],
 ) -> Result<(), AllocError> {
     let alloc = items.alloc();
-    let key = key_of(&path);
+    let key = key_of(path);
     let help = if is_one_of(key, CONSTRAINTS) {
         String::from_str(alloc, "it belongs into constraints")?
     } else if key == "as" {
@@ -238,10 +242,9 @@ fn tell_key<'a>(
     } else {
         hint_of_key(alloc, key, keys)?
     };
-    let helps = one(alloc, help)?;
     faulty
         .document
-        .point(items, 1, &path, Part::Key, "unknown key", &helps)
+        .advise(items, 1, path, Part::Key, "unknown key", help)
 }
 
 fn hint_of_key(alloc: Global, key: &str, keys: &[&'static str]) -> Result<String, AllocError> {

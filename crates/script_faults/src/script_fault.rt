@@ -4,8 +4,9 @@ use crate::call_fault::tell_call_fault;
 use crate::keys::SCRIPT;
 use explanation_text::{Items, Kind, Mark, nearest, show};
 use json_places::{Span, Step, stop_of};
-use record_faults::{Document, Part, first_unknown, key_of, one, tell_record_fault, wrong_kind};
+use record_faults::{Document, Part, first_unknown, key_of, tell_record_fault, wrong_kind};
 use script_reading::{LONGEST, ScriptFault};
+use serde_json::Value;
 use std::alloc::AllocError;
 
 /// Tells why a script is refused, and where.
@@ -96,16 +97,15 @@ fn tell_stop(
     if at >= bytes.len() {
         note.push_str(", found the end")?;
     }
-    let helps = if help.is_empty() {
-        Vec::new(alloc)
-    } else {
-        one(alloc, help)?
-    };
     let mark = Mark {
         span: byte_at(at),
         said: "",
         note: &note,
     };
+    if help.is_empty() {
+        return show(items, 1, file, bytes, mark, &[]);
+    }
+    let helps = vec![in alloc; help]?;
     show(items, 1, file, bytes, mark, &helps)
 }
 
@@ -131,37 +131,48 @@ fn tell_byte(items: &mut Items, file: &str, bytes: &[u8], at: usize) -> Result<(
 
 /// Tells a script that is no object with a platform and a list of calls.
 fn tell_misshapen(items: &mut Items, document: &Document<'_>) -> Result<(), AllocError> {
-    let alloc = items.alloc();
-    let root = Vec::new(alloc);
     if !document.value.is_object() {
-        let note = wrong_kind(
-            alloc,
-            document.value,
-            "an object with platform and calls is",
-        )?;
-        return document.point(items, 1, &root, Part::Value, &note, &[]);
+        let due = "an object with platform and calls is";
+        return tell_wrong(items, document, &[], document.value, due);
     }
-    if let Some(path) = first_unknown(alloc, document, &root, SCRIPT)? {
-        let key = key_of(&path);
-        let help = match nearest(alloc, key, SCRIPT)? {
-            Some(near) => format!(in alloc; "did you mean {near}?")?,
-            None => String::from_str(alloc, "a script has just platform and calls")?,
-        };
-        let helps = one(alloc, help)?;
-        return document.point(items, 1, &path, Part::Key, "unknown key", &helps);
+    if let Some(path) = first_unknown(items.alloc(), document, &[], SCRIPT)? {
+        return tell_key(items, document, &path);
     }
     for key in SCRIPT {
         if document.value.get(*key).is_none() {
-            let note = format!(in alloc; "{key} is missing")?;
-            return document.point(items, 1, &root, Part::Begin, &note, &[]);
+            let note = format!(in items.alloc(); "{key} is missing")?;
+            return document.point(items, 1, &[], Part::Begin, &note, &[]);
         }
     }
-    let path = vec![in alloc; Step::Key("calls")]?;
+    let path = [Step::Key("calls")];
     match document.at(&path) {
-        Some(calls) => {
-            let note = wrong_kind(alloc, calls, "a list is")?;
-            document.point(items, 1, &path, Part::Value, &note, &[])
-        }
+        Some(calls) => tell_wrong(items, document, &path, calls, "a list is"),
         None => Ok(()),
     }
+}
+
+/// Tells a value of a wrong kind.
+fn tell_wrong(
+    items: &mut Items,
+    document: &Document<'_>,
+    path: &[Step<'_>],
+    value: &Value,
+    due: &str,
+) -> Result<(), AllocError> {
+    let note = wrong_kind(items.alloc(), value, due)?;
+    document.point(items, 1, path, Part::Value, &note, &[])
+}
+
+/// Tells a key that a script can't have.
+fn tell_key(
+    items: &mut Items,
+    document: &Document<'_>,
+    path: &[Step<'_>],
+) -> Result<(), AllocError> {
+    let alloc = items.alloc();
+    let help = match nearest(alloc, key_of(path), SCRIPT)? {
+        Some(near) => format!(in alloc; "did you mean {near}?")?,
+        None => String::from_str(alloc, "a script has just platform and calls")?,
+    };
+    document.advise(items, 1, path, Part::Key, "unknown key", help)
 }

@@ -1,14 +1,13 @@
 -- What reports say of domains.
-use Rattle.std.specs.Prelude.{◌≡◌, ◌++◌, ◌⊎◌, ℕ, All, Contains, List, [], codes, false, slice_get}
-use Rattle.std.specs.Option.{option_map_or}
+use Rattle.std.specs.Prelude.{◌≡◌, ◌++◌, ◌⊎◌, ℕ, All, Contains, List, [], codes, false}
 use Rattle.std.specs.Str.Lines.{lines}
-use Rattle.std.specs.String.{string_bytes}
 use Rattle.sysmem_sanitise.specs.Platform.{PlatformFacts}
 use Rattle.script_reading.specs.Script.{CallFacts}
 use Rattle.script_run.specs.Report.{Certified, IsReport}
-use Rattle.script_story.specs.declared.story.Domain.{Domain}
-use Rattle.script_story.specs.declared.story.Node.{Node}
-use Rattle.script_story.specs.declared.story.Story.{Story}
+use Rattle.story_parts.specs.Paths.{path_at}
+use Rattle.story_parts.specs.declared.story.Domain.{Domain}
+use Rattle.story_parts.specs.declared.story.Node.{Node}
+use Rattle.story_parts.specs.declared.story.Story.{Story}
 
 -- the line, without its end, that says this of the domain at a path
 abbrev pub line_on : List ℕ → List ℕ → List ℕ
@@ -20,10 +19,6 @@ pub record IsReportedOn (platform : PlatformFacts) (rs : List CallFacts) (path w
   pub decisions : List Certified
   pub report : IsReport platform rs text decisions false
   pub line : Contains (lines text) (line_on path what)
-
--- the path of the node of a number, as a report has it
-abbrev pub path_at : List Node → ℕ → List ℕ
-path_at nodes number = option_map_or (λ node. string_bytes node.path) (slice_get nodes number) []
 
 -- a line says this of a domain
 abbrev pub IsOn : List Node → Domain → List ℕ → List ℕ → Type 0

@@ -7,14 +7,14 @@ ghost use Rattle.script_story.specs.Told.{AreTold, IsOn};
 ghost use Rattle.sysmem_tree.specs.Domain.{HasDomain};
 ghost use Rattle.sysmem_tree.specs.Nodes.{HasNode};
 
-use crate::story::{Deeds, Domain, Made, Node, Story};
-use crate::words::{first_word, is_domain_line, reply_in, said_on};
+use crate::words::{is_domain_line, reply_in, said_on};
 use certificate_text::push_path;
 use script_faults::actor_of;
 use script_reading::Call;
 use script_run::Replayed;
 use serde_json::Value;
 use std::alloc::{AllocError, Global};
+use story_parts::{Deeds, Domain, Made, Node, Story};
 use sysmem_alloc::Book;
 use sysmem_merge::Settings;
 use sysmem_proof::Verdict;
@@ -218,9 +218,10 @@ fn keep_line<'a>(story: &mut Story<'a>, line: &'a str, number: usize) -> Result<
     story.order.push(index)?;
     if index < story.domains.len() {
         let domain = story.domains[index];
-        let ended = match first_word(told) {
-            "pending" => domain.ended,
-            _ => Some(number),
+        let ended = if told == "pending" {
+            domain.ended
+        } else {
+            Some(number)
         };
         story.domains[index] = Domain {
             told,

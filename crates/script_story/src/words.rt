@@ -4,17 +4,10 @@ ghost use Rattle.std.specs.Prelude.{◌≡◌, IfSome};
 ghost use Rattle.script_story.specs.Told.{line_on};
 
 /// The text after the first word.
-pub(crate) fn after_word(text: &str) -> &str {
+fn after_word(text: &str) -> &str {
     match text.split_once(' ') {
         Some((_, more)) => more,
         None => "",
-    }
-}
-
-pub(crate) fn first_word(text: &str) -> &str {
-    match text.split_once(' ') {
-        Some((word, _)) => word,
-        None => text,
     }
 }
 

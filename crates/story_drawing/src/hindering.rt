@@ -1,8 +1,8 @@
 //! Who is in the way of the domains that are empty.
 
-use script_story::{Domain, Story, asked_in};
 use settings_reasons::{failing, in_the_way};
 use std::alloc::{AllocError, Global};
+use story_parts::{Domain, Story, asked_in};
 use sysmem_merge::Settings;
 use sysmem_sanitise::Platform;
 use sysmem_tree::NodeKind;

@@ -1,9 +1,8 @@
 //! What a script's calls did, call by call and node by node.
 
 ghost use Rattle.std.specs.Prelude.{◌≡◌};
-ghost use Rattle.script_story.specs.Told.{path_at};
+ghost use Rattle.story_parts.specs.Paths.{path_at};
 
-use crate::words::first_word;
 use script_reading::Act;
 use std::alloc::{AllocError, Global};
 use sysmem_merge::Settings;
@@ -67,7 +66,7 @@ fn name_of(act: &Act<'_>) -> &'static str {
 }
 
 /// What is done to a node once.
-#[derive(Clone, Copy, Debug, PartialEq, Eq)]
+#[derive(Clone, Copy, PartialEq, Eq)]
 pub enum Deed {
     Bind,
     SetConstraints,
@@ -89,7 +88,7 @@ fn deed_of(act: &Act<'_>) -> Option<Deed> {
 }
 
 /// The numbers of the first calls that did a node's deeds.
-#[derive(Clone, Copy, Debug, Default)]
+#[derive(Clone, Copy, Default)]
 pub struct Deeds {
     bind: Option<usize>,
     set_constraints: Option<usize>,
@@ -108,7 +107,7 @@ impl Deeds {
     }
 
     /// Keeps the number of a call that was made, where it is the first that does its deed.
-    pub(crate) fn note(&mut self, act: &Act<'_>, number: usize) {
+    pub fn note(&mut self, act: &Act<'_>, number: usize) {
         let Some(deed) = deed_of(act) else {
             return;
         };
@@ -161,7 +160,10 @@ pub struct Domain<'a> {
 impl<'a> Domain<'a> {
     /// The word of its verdict, or `pending`.
     pub fn verdict(&self) -> &'a str {
-        first_word(self.told)
+        match self.told.split_once(' ') {
+            Some((word, _)) => word,
+            None => self.told,
+        }
     }
 }
 
@@ -191,6 +193,14 @@ impl<'a> Story<'a> {
         match self.nodes.get(node) {
             Some(node) => &node.path,
             None => "",
+        }
+    }
+
+    /// Whether a node is a group.
+    pub fn is_group(&self, node: usize) -> bool {
+        match self.nodes.get(node) {
+            Some(known) => known.state.kind == NodeKind::Group,
+            None => false,
         }
     }
 

@@ -54,12 +54,20 @@ pub fn tell_refused(
     document: &Document<'_>,
     story: &Story<'_>,
 ) -> Result<(), AllocError> {
-    let alloc = items.alloc();
-    let rows = rows_of(alloc, story)?;
+    let rows = rows_of(items.alloc(), story)?;
     if rows.is_empty() {
         return Ok(());
     }
-    let title = String::from_str(alloc, "calls to look at")?;
+    tell_rows(items, document, story, &rows)
+}
+
+fn tell_rows(
+    items: &mut Items,
+    document: &Document<'_>,
+    story: &Story<'_>,
+    rows: &[Row],
+) -> Result<(), AllocError> {
+    let title = String::from_str(items.alloc(), "calls to look at")?;
     items.push(Kind::Title, 0, "", title)?;
     let most = if rows.len() <= MOST_ROWS.saturating_add(1) {
         rows.len()
@@ -71,7 +79,7 @@ pub fn tell_refused(
     }
     let more = rows.len().saturating_sub(most);
     if more > 0 {
-        let text = format!(in alloc; "and {more} more")?;
+        let text = format!(in items.alloc(); "and {more} more")?;
         items.say(1, "", text)?;
     }
     Ok(())
@@ -80,41 +88,55 @@ pub fn tell_refused(
 fn rows_of(alloc: Global, story: &Story<'_>) -> Result<Vec<Row>, AllocError> {
     let mut rows: Vec<Row> = Vec::new(alloc);
     for (index, call) in story.calls.iter().enumerate() {
-        if !is_told(story, call) {
-            continue;
+        if is_told(story, call) {
+            let row = row_of(alloc, story, call, index.saturating_add(1))?;
+            add_row(&mut rows, story, row)?;
         }
-        let number = index.saturating_add(1);
-        let fault = fault_of(alloc, call)?;
-        let cause = cause_of(alloc, story, call, number)?;
-        add_row(alloc, &mut rows, story, number, cause, fault)?;
     }
     Ok(rows)
 }
 
-/// Puts a call into the row of those with its reply and its cause.
-fn add_row(
+/// The row of one call.
+fn row_of(
     alloc: Global,
-    rows: &mut Vec<Row>,
     story: &Story<'_>,
+    call: &Made<'_>,
     number: usize,
-    cause: String,
-    fault: Option<Fault>,
-) -> Result<(), AllocError> {
-    let reply = story.call(number).map(|call| call.reply);
-    for row in rows.iter_mut() {
-        let first = row.numbers.first().copied().unwrap_or(0);
-        let is_like = story.call(first).map(|call| call.reply) == reply;
-        if is_like && fault.is_none() && row.fault.is_none() && row.cause == cause {
-            row.numbers.push(number)?;
-            return Ok(());
-        }
-    }
-    rows.push(Row {
+) -> Result<Row, AllocError> {
+    let fault = fault_of(alloc, call)?;
+    let cause = cause_of(alloc, story, call, number)?;
+    Ok(Row {
         numbers: vec![in alloc; number]?,
         cause,
         fault,
-    })?;
+    })
+}
+
+/// Adds a row, to one with its reply and its cause where there is one.
+fn add_row(rows: &mut Vec<Row>, story: &Story<'_>, row: Row) -> Result<(), AllocError> {
+    for other in rows.iter_mut() {
+        if is_like(story, other, &row) {
+            other.numbers.extend_from_slice(&row.numbers)?;
+            return Ok(());
+        }
+    }
+    rows.push(row)?;
     Ok(())
+}
+
+/// Whether the calls of two rows have one reply and one cause, and no fault, each of which has a place of its own.
+fn is_like(story: &Story<'_>, a: &Row, b: &Row) -> bool {
+    a.fault.is_none()
+        && b.fault.is_none()
+        && reply_of(story, a) == reply_of(story, b)
+        && a.cause == b.cause
+}
+
+fn reply_of<'a>(story: &Story<'a>, row: &Row) -> &'a str {
+    match row.numbers.first().and_then(|number| story.call(*number)) {
+        Some(call) => call.reply,
+        None => "",
+    }
 }
 
 /// The fault of the constraints that a call states, of one that was refused for it.
@@ -138,27 +160,34 @@ fn tell_row(
     story: &Story<'_>,
     row: &Row,
 ) -> Result<(), AllocError> {
-    let alloc = items.alloc();
     let number = row.numbers.first().copied().unwrap_or(0);
     let Some(call) = story.call(number) else {
         return Ok(());
     };
-    let mut text = String::new(alloc);
-    put_calls(&mut text, call, &row.numbers)?;
-    text.push_str(": ")?;
-    text.push_str(call.reply)?;
-    let Some(fault) = row.fault else {
-        text.push_str(": ")?;
-        text.push_str(&row.cause)?;
-        return items.say(1, "", text);
-    };
+    let mut text = String::new(items.alloc());
+    put_row(&mut text, call, row)?;
     items.say(1, "", text)?;
+    let Some(fault) = row.fault else {
+        return Ok(());
+    };
     let base = [
         Step::Key("calls"),
         Step::Item(number.saturating_sub(1)),
         Step::Key("constraints"),
     ];
     tell_record_fault(items, 2, document, &base, fault, false)
+}
+
+/// Puts calls, their reply and its cause after a text; a fault is told below it.
+fn put_row(text: &mut String, call: &Made<'_>, row: &Row) -> Result<(), AllocError> {
+    put_calls(text, call, &row.numbers)?;
+    text.push_str(": ")?;
+    text.push_str(call.reply)?;
+    if row.fault.is_none() {
+        text.push_str(": ")?;
+        text.push_str(&row.cause)?;
+    }
+    Ok(())
 }
 
 /// Puts which calls they are after a text: `call 3, bind a`, or `calls 3, 4 and 5`.
@@ -306,21 +335,34 @@ fn too_early(
         Some(node) => node.domain,
         None => 0,
     };
-    let awaited = story.awaited(alloc, index, number)?;
-    let names = story.names(alloc, &awaited)?;
     let mut text = String::from_str(alloc, "asked too early, ")?;
-    if names.is_empty() {
-        text.push_str("the domain that it was attached to is")?;
-    } else {
-        put_few(&mut text, &names, MOST_NAMES)?;
-        text.push_str(if names.len() == 1 { " is" } else { " are" })?;
-    }
-    text.push_str(" still awaited")?;
+    put_awaited(&mut text, story, index, number)?;
     if let Some(domain) = story.domain_of(node) {
         let last = domain.ended.unwrap_or(0);
         write!(text, ": move it after call {last}")?;
     }
     Ok(text)
+}
+
+/// Puts for whom the domain of an index waits before the call of a number after a text.
+fn put_awaited(
+    text: &mut String,
+    story: &Story<'_>,
+    index: usize,
+    number: usize,
+) -> Result<(), AllocError> {
+    let alloc = *text.allocator();
+    let awaited = story.awaited(alloc, index, number)?;
+    if awaited.is_empty() {
+        return text.push_str("the domain that it was attached to is still awaited");
+    }
+    let names = story.names(alloc, &awaited)?;
+    put_few(text, &names, MOST_NAMES)?;
+    text.push_str(if names.len() == 1 {
+        " is still awaited"
+    } else {
+        " are still awaited"
+    })
 }
 
 /// Which state of a node doesn't allow a call.

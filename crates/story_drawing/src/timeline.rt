@@ -1,36 +1,52 @@
 //! The calls by actor, and the decisions where they came.
 
+use crate::joints::add_joints;
 use explanation_markup::{Drawing, Line, Standing};
-use script_story::{Domain, Made, Story};
 use std::alloc::{AllocError, Global};
 use std::fmt::Write;
+use story_parts::{Domain, Made, Story};
+use sysmem_sanitise::Platform;
 
-/// Adds a line for each call, behind it one for each decision that it brought, and at the end those
-/// of domains that have none.
-pub(crate) fn add_lines<'b>(
+/// What a page shows of a story, but for what proves its decisions.
+pub fn drawing_of<'b>(
     alloc: Global,
-    drawing: &mut Drawing<'b>,
+    platform: &Platform,
     story: &'b Story<'_>,
-) -> Result<(), AllocError> {
+) -> Result<Drawing<'b>, AllocError> {
+    let mut drawing = Drawing::new(alloc);
+    add_joints(alloc, &mut drawing, platform, story)?;
     for (index, call) in story.calls.iter().enumerate() {
         let number = index.saturating_add(1);
-        let actor = drawing.column(call.actor)?;
-        drawing.lines.push(Line {
-            number: Some(number),
-            actor,
-            words: words_of(alloc, call)?,
-            standing: if call.is_accepted() || call.asks() {
-                Standing::Plain
-            } else {
-                Standing::Bad
-            },
-        })?;
-        add_decisions(alloc, drawing, story, Some(number))?;
+        add_call(alloc, &mut drawing, call, number)?;
+        add_decisions(alloc, &mut drawing, story, Some(number))?;
     }
-    add_decisions(alloc, drawing, story, None)
+    add_decisions(alloc, &mut drawing, story, None)?;
+    Ok(drawing)
 }
 
-/// Adds the domains that ended after this call, in the order of the report.
+/// Adds a line for a call.
+fn add_call<'b>(
+    alloc: Global,
+    drawing: &mut Drawing<'b>,
+    call: &Made<'b>,
+    number: usize,
+) -> Result<(), AllocError> {
+    let actor = drawing.column(call.actor)?;
+    drawing.lines.push(Line {
+        number: Some(number),
+        actor,
+        words: words_of(alloc, call)?,
+        standing: if call.is_accepted() || call.asks() {
+            Standing::Plain
+        } else {
+            Standing::Bad
+        },
+    })?;
+    Ok(())
+}
+
+/// Adds the domains that ended after this call, or those that have no verdict, in the order of the
+/// report.
 fn add_decisions(
     alloc: Global,
     drawing: &mut Drawing<'_>,

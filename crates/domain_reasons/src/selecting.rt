@@ -2,20 +2,19 @@
 
 use explanation_text::wording::put_joined;
 use explanation_text::{Items, are_same};
-use script_story::{Story, asked_by};
+use story_parts::{Story, asked_by};
 use settings_reasons::{is_unmet, tell_conflict};
 use std::alloc::{AllocError, Global};
 use sysmem_sanitise::Platform;
-use sysmem_tree::NodeKind;
 
 /// How many failing selections are told.
 pub(crate) const MOST_TOLD: usize = 12;
 
 /// A group, and the child that is chosen of it.
-#[derive(Clone, Copy, Debug)]
+#[derive(Clone, Copy)]
 pub(crate) struct Choice {
-    pub(crate) group: usize,
-    pub(crate) child: usize,
+    group: usize,
+    child: usize,
 }
 
 /// What choices settle.
@@ -36,40 +35,52 @@ fn walk(
 ) -> Result<Settled, AllocError> {
     let mut nodes = Vec::new(alloc);
     let mut open = None;
-    let mut left: Vec<usize> = Vec::new(alloc);
-    left.push(root)?;
+    let mut left: Vec<usize> = vec![in alloc; root]?;
     for _node in 0..story.nodes.len() {
         let Some(node) = left.pop() else {
             break;
         };
         nodes.push(node)?;
-        let children = story.children(alloc, node)?;
-        if !is_group(story, node) {
-            put_reversed(&mut left, &children)?;
-            continue;
-        }
-        match choices.iter().find(|choice| choice.group == node) {
-            Some(choice) => left.push(choice.child)?,
-            None => if open.is_none() {
-                open = Some(node);
-            },
+        if !put_below(&mut left, story, node, choices)? && open.is_none() {
+            open = Some(node);
         }
     }
     Ok(Settled { nodes, open })
 }
 
-fn put_reversed(left: &mut Vec<usize>, nodes: &[usize]) -> Result<(), AllocError> {
-    for node in nodes.iter().rev() {
-        left.push(*node)?;
+/// Puts the nodes below a node that are selected, the last first, and says whether that is settled: of a group a child is chosen.
+fn put_below(
+    left: &mut Vec<usize>,
+    story: &Story<'_>,
+    node: usize,
+    choices: &[Choice],
+) -> Result<bool, AllocError> {
+    if story.is_group(node) {
+        return match choices.iter().find(|choice| choice.group == node) {
+            Some(choice) => {
+                left.push(choice.child)?;
+                Ok(true)
+            }
+            None => Ok(false),
+        };
     }
-    Ok(())
+    let children = story.children(*left.allocator(), node)?;
+    for child in children.iter().rev() {
+        left.push(*child)?;
+    }
+    Ok(true)
 }
 
-fn is_group(story: &Story<'_>, node: usize) -> bool {
-    match story.nodes.get(node) {
-        Some(known) => known.state.kind == NodeKind::Group,
-        None => false,
-    }
+/// Choices, and that of one more group's child.
+fn with_choice(
+    alloc: Global,
+    choices: &[Choice],
+    group: usize,
+    child: usize,
+) -> Result<Vec<Choice>, AllocError> {
+    let mut longer = Vec::from_slice(alloc, choices)?;
+    longer.push(Choice { group, child })?;
+    Ok(longer)
 }
 
 /// A domain whose selections have no settings.
@@ -117,29 +128,58 @@ fn tell_group(
     group: usize,
 ) -> Result<(), AllocError> {
     let alloc = items.alloc();
-    let mut last: Option<Items> = None;
-    let mut names: Vec<&str> = Vec::new(alloc);
+    let mut cases: Vec<Case<'_>> = Vec::new(alloc);
     for child in empty.story.children(alloc, group)? {
         if *told >= MOST_TOLD {
             break;
         }
-        let mut longer = Vec::from_slice(alloc, choices)?;
-        longer.push(Choice { group, child })?;
+        let longer = with_choice(alloc, choices, group, child)?;
         let mut below = Items::new(alloc);
-        let deeper = depth.saturating_add(1);
-        tell_empty(&mut below, deeper, empty, &longer, told, levels)?;
-        let is_same = match &last {
-            Some(before) => are_same(before, &below),
-            None => false,
-        };
-        if !is_same {
-            put_case(items, depth, empty.story, group, &names, last)?;
-            names.clear();
-            last = Some(below);
-        }
-        names.push(empty.story.name(child))?;
+        tell_empty(&mut below, depth.saturating_add(1), empty, &longer, told, levels)?;
+        add_case(&mut cases, empty.story.name(child), below)?;
     }
-    put_case(items, depth, empty.story, group, &names, last)
+    for case in cases {
+        put_case(items, depth, empty.story.name(group), case)?;
+    }
+    Ok(())
+}
+
+/// Children of a group of which the same is told.
+#[derive(Drop)]
+struct Case<'a> {
+    names: Vec<&'a str>,
+    below: Items,
+}
+
+/// Adds what is told of a child, to the last case where it is the same.
+fn add_case<'a>(
+    cases: &mut Vec<Case<'a>>,
+    name: &'a str,
+    below: Items,
+) -> Result<(), AllocError> {
+    if let Some(last) = cases.last_mut() {
+        if are_same(&last.below, &below) {
+            last.names.push(name)?;
+            return Ok(());
+        }
+    }
+    let names = vec![in below.alloc(); name]?;
+    cases.push(Case { names, below })?;
+    Ok(())
+}
+
+/// Puts what holds for some children of a group after the items.
+fn put_case(
+    items: &mut Items,
+    depth: usize,
+    group: &str,
+    case: Case<'_>,
+) -> Result<(), AllocError> {
+    let mut text = format!(in items.alloc(); "{group} as ")?;
+    put_joined(&mut text, &case.names, "or")?;
+    text.push_str(":")?;
+    items.say(depth, "", text)?;
+    items.append(case.below)
 }
 
 /// Tells of each group in a chosen selection why its children before the chosen one aren't chosen.
@@ -167,39 +207,28 @@ fn tell_before(
     told: &mut usize,
     group: usize,
 ) -> Result<Option<usize>, AllocError> {
-    let alloc = items.alloc();
-    for child in empty.story.children(alloc, group)? {
+    for child in empty.story.children(items.alloc(), group)? {
         if empty.story.is_selected(child) {
             return Ok(Some(child));
         }
         if *told < MOST_TOLD {
-            let name = empty.story.name(child);
-            let text = format!(in alloc; "not {name}:")?;
-            items.say(2, "", text)?;
-            let mut longer = Vec::from_slice(alloc, choices)?;
-            longer.push(Choice { group, child })?;
-            tell_empty(items, 3, empty, &longer, told, empty.story.nodes.len())?;
+            let longer = with_choice(items.alloc(), choices, group, child)?;
+            tell_not(items, empty, &longer, told, child)?;
         }
     }
     Ok(None)
 }
 
-/// Puts what holds for some children of a group after the items.
-fn put_case(
+/// Tells why the child of the last choice isn't chosen.
+fn tell_not(
     items: &mut Items,
-    depth: usize,
-    story: &Story<'_>,
-    group: usize,
-    names: &[&str],
-    below: Option<Items>,
+    empty: Empty<'_, '_>,
+    choices: &[Choice],
+    told: &mut usize,
+    child: usize,
 ) -> Result<(), AllocError> {
-    let Some(below) = below else {
-        return Ok(());
-    };
-    let mut text = String::from_str(items.alloc(), story.name(group))?;
-    text.push_str(" as ")?;
-    put_joined(&mut text, names, "or")?;
-    text.push_str(":")?;
-    items.say(depth, "", text)?;
-    items.append(below)
+    let name = empty.story.name(child);
+    let text = format!(in items.alloc(); "not {name}:")?;
+    items.say(2, "", text)?;
+    tell_empty(items, 3, empty, choices, told, empty.story.nodes.len())
 }
