@@ -1,6 +1,7 @@
 //! What a script's text means.
 
 use crate::domains::tell_domains;
+use crate::lines::with_lines;
 use explanation_text::wording::put_count;
 use explanation_text::{Item, Items, Kind};
 use json_places::{Span, column_of, line_of, repeated_keys};
@@ -8,10 +9,10 @@ use record_faults::Document;
 use script_faults::{tell_fault, tell_no_json};
 use script_reading::{ParseFault, Script, ScriptFault, parse_script, read_script};
 use script_story::{Setting, story_of};
-use story_parts::{Story, put_domain, refused_calls, tell_refused};
 use serde_json::Value;
 use std::alloc::{AllocError, Global};
 use std::fmt::Write;
+use story_parts::{Story, put_domain, refused_calls, tell_refused};
 
 /// How many keys that are given twice are shown.
 const MOST_KEYS: usize = 6;
@@ -105,7 +106,7 @@ fn explain_script<'a>(
     tell_story(&mut items, document, &setting, &story)?;
     Ok(Explanation {
         outcome: outcome_of(&story),
-        items: items.into_list(),
+        items: with_lines(alloc, document, &story, items.into_list())?,
     })
 }
 

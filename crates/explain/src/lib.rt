@@ -10,6 +10,7 @@
 mod changes;
 mod domains;
 mod explaining;
+mod lines;
 mod pending;
 mod platforms;
 mod written;

@@ -1,7 +1,7 @@
 //! A page that grows: markup of this crate's own, numbers, and words of others, whose characters
 //! never become markup.
 
-ghost use Rattle.std.specs.Prelude.{◌≡◌, ◌++◌, OnOk, false};
+ghost use Rattle.std.specs.Prelude.{◌≡◌, ◌++◌, OnOk, false, true};
 ghost use Rattle.std.specs.Str.{chars};
 ghost use Rattle.std.specs.String.{string_bytes};
 ghost use Rattle.explanation_markup.specs.Spelled.{Says, spelled, spelling};
@@ -34,7 +34,9 @@ impl Page {
     }
 
     /// Memory was refused to something of the page.
-    pub(crate) fn cut(&mut self) {
+    pub(crate) fn cut(&mut self)
+        ensures { self.new.is_cut ≡ true }
+    {
         self.is_cut = true;
     }
 
