@@ -1,5 +1,5 @@
 -- A job whose files are apart doesn't empty its script.
-use Rattle.std.proofs.Common.{◌≡◌, ◌∙◌, ◌⊎◌, inl, inr, sym, ap, arith, slice_index, codes, List, Option, Some, None, IsSomeAnd}
+use Rattle.std.proofs.Common.{◌≡◌, ◌∙◌, ◌⊎◌, ℕ, inl, inr, refl, sym, ap, arith, slice_index, codes, List, Option, Some, None, IsSomeAnd}
 use Rattle.clap.specs.Words.{Row, Text}
 use Rattle.command_line.specs.CommandLine.{AsksForJob, EmptiesScript, IsOneFile}
 use Rattle.command_line.specs.declared.words.Job.{Job}
@@ -14,10 +14,12 @@ run_or_threads e = absurd (cc)
 run_or_check : codes "run" ≡ codes "check" → ⊥
 run_or_check e = absurd (cc)
 
+-- an e is no t
+apart : (a b : ℕ) → a ≡ 101 → b ≡ 116 → a ≡ b → ⊥
+apart a b e t same = absurd (omega (arith, e, t, same))
+
 explain_or_threads : codes "explain" ≡ codes "threads" → ⊥
-explain_or_threads e =
-    let bad : 101 ≡ 116 = ap (λ t. slice_index t 0) e in
-    absurd (omega arith)
+explain_or_threads e = apart (slice_index (codes "explain") 0) (slice_index (codes "threads") 0) refl refl (ap (λ t. slice_index t 0) e)
 
 explain_or_check : codes "explain" ≡ codes "check" → ⊥
 explain_or_check e = absurd (cc)
