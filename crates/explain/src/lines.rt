@@ -51,14 +51,15 @@ struct Section {
 }
 
 /// The items, and at the end of the section of each empty domain in which line of the text the
-/// fields stand that it names.
+/// fields stand that it names; where the text has several lines, and isn't long.
 pub(crate) fn with_lines(
     alloc: Global,
     document: &Document<'_>,
     story: &Story<'_>,
     items: Vec<Item>,
 ) -> Result<Vec<Item>, AllocError> {
-    if document.bytes.len() > LONGEST {
+    let lines = line_of(document.bytes, document.bytes.len().saturating_sub(1));
+    if document.bytes.len() > LONGEST || lines < 2 {
         return Ok(items);
     }
     let mut lined: Vec<Item> = Vec::new(alloc);

@@ -24,11 +24,12 @@ ok_map (Err e) f h = tt
 -- the characters of a text in ASCII are its bytes
 ascii : (cs : List ℕ) → list_all (λ c. nat_lt c 128) cs ≡ true → encode_utf8_all cs ≡ cs
 ascii [] each = refl
-ascii (c ∷ cs) each = go (nat_lt c 128) refl each
+ascii (c ∷ cs) each = go (nat_lt c 128) refl each (λ rest. ascii cs rest)
   where
-    go : (b : Bool) → nat_lt c 128 ≡ b → (b && list_all (λ x. nat_lt x 128) cs) ≡ true → encode_utf8_all (c ∷ cs) ≡ c ∷ cs
-    go true small rest = ap₂ (λ x y. x ++ y) (encode_ascii c (ltb-true c 128 small)) (ascii cs rest)
-    go false small rest = absurd (true≢false (sym rest))
+    go : (b : Bool) → nat_lt c 128 ≡ b → (b && list_all (λ x. nat_lt x 128) cs) ≡ true
+        → (list_all (λ x. nat_lt x 128) cs ≡ true → encode_utf8_all cs ≡ cs) → encode_utf8_all (c ∷ cs) ≡ c ∷ cs
+    go true small rest below = ap₂ (λ x y. x ++ y) (encode_ascii c (ltb-true c 128 small)) (below rest)
+    go false small rest below = absurd (true≢false (sym rest))
 
 -- a character that is left as it is
 plain : (c : ℕ) → (c == 60) ≡ false → (c == 62) ≡ false → (c == 34) ≡ false → (c == 39) ≡ false → NoCharPasses is_markup (encode_utf8 c)

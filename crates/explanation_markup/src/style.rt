@@ -13,6 +13,7 @@ header{padding-top:1.5rem}
 main{padding-bottom:3rem}
 h1{font-size:1.5rem;line-height:1.25;margin:0 0 .25rem;overflow-wrap:anywhere}
 h2{font-size:1.15rem;margin:2.25rem 0 .6rem;border-bottom:1px solid var(--line);padding-bottom:.25rem}
+h2::first-letter{text-transform:uppercase}
 h3{font-size:1.02rem;margin:0 0 .6rem;overflow-wrap:anywhere}
 p{margin:.4rem 0}
 .soft{color:var(--soft)}
