@@ -1,5 +1,5 @@
 -- How an explanation ends the program.
-use Rattle.std.specs.Prelude.{ℕ, Bool, true, false, Option, Some, None, Result, Ok, Err}
+use Rattle.std.specs.Prelude.{ℕ, Bool, if◌then◌else◌, Option, Some, None, Result, Ok, Err}
 use Rattle.explain.specs.declared.explaining.Outcome.{Outcome}
 use Rattle.explain.specs.declared.explaining.Outcome.TheVariants.{Faulty, Fine, Refused}
 use Rattle.script_run.specs.declared.fault.RunFault.{RunFault}
@@ -8,8 +8,7 @@ use Rattle.script_run.specs.Endings.{run_code}
 -- the exit status of an explanation, which tells what was explained where it is to
 abbrev pub explained_code : Bool → Result Outcome RunFault → ℕ
 explained_code is_strict (Ok Fine) = 0
-explained_code true (Ok Faulty) = 6
-explained_code false (Ok Faulty) = 0
+explained_code is_strict (Ok Faulty) = if is_strict then 6 else 0
 explained_code is_strict (Ok Refused) = 3
 explained_code is_strict (Err fault) = run_code (Err fault)
 

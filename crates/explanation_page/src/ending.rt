@@ -14,7 +14,8 @@ pub fn explained_ending(ended: Result<Outcome, RunFault>, is_strict: bool) -> En
 {
     match ended {
         Ok(Outcome::Fine) => told(0),
-        Ok(Outcome::Faulty) => told(if is_strict { 6 } else { 0 }),
+        Ok(Outcome::Faulty) if is_strict => told(6),
+        Ok(Outcome::Faulty) => told(0),
         Ok(Outcome::Refused) => told(3),
         Err(fault) => ending_of(Err(fault)),
     }
