@@ -39,6 +39,7 @@ built-test:
 	tests/want_of_memory
 	tests/handles
 	tests/threads
+	tests/explanations
 	@$(MAKE) --no-print-directory lib-test
 
 # The library for C, C++ and Python, proved, as an archive and as a shared object, in out/. It needs a C compiler and binutils.

@@ -2,6 +2,9 @@
 //! report; with `--proof OUT` it also writes the certificate of its decisions.
 //! `sysmem_replay threads FILE` replays it with a thread for each actor, and prints what became of
 //! each domain.
+//! `sysmem_replay explain FILE` says what a script means: where it has a fault, or what its report
+//! comes from; with `--page OUT` it also writes that as a page of HTML, and with `--strict` the
+//! exit status tells whether all went well.
 //! `sysmem_replay check FILE PROOF` tests such a certificate.
 #![tactic(auto)]
 
@@ -10,6 +13,8 @@ mod refusal;
 use byte_transfer::{Counted, Sink, Source};
 use clap::Error;
 pub use command_line::{Job, Refusal, read_words};
+pub use explain::{Outcome, explain_file};
+pub use explanation_page::{explain_to_page, explained_ending};
 use refusal::refusal_ending;
 pub use script_run::{
     Ended, Ending, RunFault, check_file, ending_of, run, run_leaving, run_with_proof,
@@ -52,8 +57,22 @@ fn given_words(rt: &HostRuntime) -> Result<Vec<String>, Ending> {
 /// Does what the words ask for; only `threads` starts any.
 fn obey<T: Threads + Wait + Sync>(rt: &HostRuntime, threads: &T, words: &[String]) -> Ending {
     match read_words(rt.alloc(), words) {
-        Ok(Job::Run { file, proof }) => ending_of(run_file(rt, file, proof)),
+        Ok(
+            Job::Run {
+                file,
+                is_json: false,
+                proof,
+            },
+        ) => ending_of(run_file(rt, file, proof)),
+        Ok(Job::Run { is_json: true, .. }) => refuse(rt, "reports aren't printed as JSON yet"),
         Ok(Job::Threads { file }) => ending_of(play_file(rt, threads, file)),
+        Ok(
+            Job::Explain {
+                file,
+                page,
+                is_strict,
+            },
+        ) => explained_ending(explain_script(rt, file, page), is_strict),
         Ok(Job::Check { file, proof }) => ending_of(check_files(rt, file, proof)),
         Err(Refusal::Parser(error)) => tell(rt, &error),
         Err(Refusal::OneFile) => refuse(
@@ -116,6 +135,23 @@ fn play_file<T: Threads + Wait + Sync>(
     let mut reader = Counted::new(script);
     let mut writer = Counted::new(io::writer(rt));
     run_threads(threads, rt.alloc(), &mut reader, &mut writer)
+}
+
+/// Opens the script, then empties the page's file where one is asked for, and explains it.
+fn explain_script(rt: &HostRuntime, file: &str, page: Option<&str>) -> Result<Outcome, RunFault> {
+    let Ok(script) = File::open(rt, file) else {
+        return Err(RunFault::Read);
+    };
+    let mut reader = Counted::new(script);
+    let mut writer = Counted::new(io::writer(rt));
+    let Some(out) = page else {
+        return explain_file(rt.alloc(), file, &mut reader, &mut writer);
+    };
+    let Ok(page) = File::create(rt, out) else {
+        return Err(RunFault::Write);
+    };
+    let mut page = Counted::new(page);
+    explain_to_page(rt.alloc(), file, &mut reader, &mut writer, &mut page)
 }
 
 /// Opens the script and then the certificate, and tests that.

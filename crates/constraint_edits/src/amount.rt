@@ -1,0 +1,185 @@
+//! The value of a field of constraints, and values between two.
+
+use crate::edits::{Changed, ENTRIES, Edit, MEMORY, with};
+use serde_json::{Number, Value};
+use std::alloc::{AllocError, Global};
+use std::fmt;
+
+/// The value of a field: a number, or a width and a height.
+#[derive(Clone, Copy, PartialEq, Eq)]
+pub enum Amount {
+    Number(u64),
+    Sides(u64, u64),
+}
+
+/// The middle between a value that does and a greater one that doesn't, above the first; `None` where there is none between.
+fn between(good: u64, bad: u64) -> Option<u64> {
+    let gap = bad.saturating_sub(good);
+    if gap < 2 {
+        return None;
+    }
+    Some(good.saturating_add(gap / 2))
+}
+
+impl Amount {
+    /// The same with zeros.
+    pub(crate) fn none(self) -> Amount {
+        match self {
+            Amount::Number(_) => Amount::Number(0),
+            Amount::Sides(_, _) => Amount::Sides(0, 0),
+        }
+    }
+
+    /// What is known not to do, where this doesn't: the number itself, but of two sides maybe only one is too great.
+    pub(crate) fn above(self) -> Amount {
+        match self {
+            Amount::Number(number) => Amount::Number(number),
+            Amount::Sides(width, height) => {
+                Amount::Sides(width.saturating_add(1), height.saturating_add(1))
+            }
+        }
+    }
+
+    /// The greater in each side.
+    pub(crate) fn greatest(self, other: Amount) -> Amount {
+        match (self, other) {
+            (Amount::Number(a), Amount::Number(b)) => Amount::Number(a.max(b)),
+            (Amount::Sides(a, b), Amount::Sides(c, d)) => Amount::Sides(a.max(c), b.max(d)),
+            _ => self,
+        }
+    }
+
+    /// What lies between this and a greater value: in the width, and where nothing is left there in the height.
+    pub(crate) fn middle(self, bad: Amount) -> Option<Amount> {
+        match (self, bad) {
+            (Amount::Number(low), Amount::Number(high)) => {
+                Some(Amount::Number(between(low, high)?))
+            }
+            (Amount::Sides(w, h), Amount::Sides(width, height)) => match between(w, width) {
+                Some(middle) => Some(Amount::Sides(middle, h)),
+                None => Some(Amount::Sides(w, between(h, height)?)),
+            },
+            _ => None,
+        }
+    }
+
+    /// What is known not to do, after this value between a good one and a bad one didn't.
+    pub(crate) fn ceiling(self, good: Amount, bad: Amount) -> Amount {
+        match (self, good, bad) {
+            (Amount::Sides(w, h), Amount::Sides(width, _), Amount::Sides(x, y)) => {
+                if w == width {
+                    Amount::Sides(x, h)
+                } else {
+                    Amount::Sides(w, y)
+                }
+            }
+            _ => self,
+        }
+    }
+
+    /// The value as JSON.
+    fn value(self, alloc: Global) -> Result<Value, AllocError> {
+        match self {
+            Amount::Number(number) => Ok(number_value(number)),
+            Amount::Sides(width, height) => {
+                let sides = with(alloc, None, "width", number_value(width))?;
+                with(alloc, Some(&sides), "height", number_value(height))
+            }
+        }
+    }
+}
+
+impl fmt::Display for Amount {
+    fn fmt<W: fmt::Write>(&self, f: &mut fmt::Formatter<W>) -> fmt::Result {
+        match self {
+            Amount::Number(number) => write!(f, "{number}"),
+            Amount::Sides(width, height) => write!(f, "{width}x{height}"),
+        }
+    }
+}
+
+fn number_value(number: u64) -> Value {
+    match Number::from_u128(u128::from(number)) {
+        Some(number) => Value::Number(number),
+        None => Value::Null,
+    }
+}
+
+fn amount_of(value: &Value) -> Option<Amount> {
+    if let Some(number) = value.as_u64() {
+        return Some(Amount::Number(number));
+    }
+    let width = value.get("width")?.as_u64()?;
+    let height = value.get("height")?.as_u64()?;
+    Some(Amount::Sides(width, height))
+}
+
+/// The value of the field that a change leaves out: of a bound that of the first entry that has it.
+pub(crate) fn amount_in(value: &Value, edit: Edit) -> Option<Amount> {
+    match edit {
+        Edit::Supports(_) => None,
+        Edit::NoCount(field) => amount_of(value.get(field.name())?),
+        Edit::NoMemory(field) => amount_of(value.get(MEMORY)?.get(field.name())?),
+        Edit::NoBound(field) => {
+            let entries = value.get(ENTRIES)?.as_array()?;
+            let member = entries.iter().find_map(|entry| entry.get(field.name()))?;
+            amount_of(member)
+        }
+    }
+}
+
+/// The constraints with another value of that field, of a bound in each entry that has it.
+pub(crate) fn with_amount(
+    alloc: Global,
+    value: &Value,
+    edit: Edit,
+    stated: Amount,
+    amount: Amount,
+) -> Result<Changed, AllocError> {
+    let name = edit.field().name();
+    let changed = stating(alloc, value, edit, amount)?;
+    Ok(Changed {
+        value: changed,
+        words: format!(in alloc; "{name} {amount} (is {stated})")?,
+    })
+}
+
+fn stating(alloc: Global, value: &Value, edit: Edit, amount: Amount) -> Result<Value, AllocError> {
+    let key = edit.field().name();
+    match edit {
+        Edit::NoCount(_) => with(alloc, Some(value), key, amount.value(alloc)?),
+        Edit::NoBound(_) => with_bound(alloc, value, key, amount),
+        Edit::Supports(_) | Edit::NoMemory(_) => {
+            let memory = with(alloc, value.get(MEMORY), key, amount.value(alloc)?)?;
+            with(alloc, Some(value), MEMORY, memory)
+        }
+    }
+}
+
+fn with_bound(
+    alloc: Global,
+    value: &Value,
+    key: &str,
+    amount: Amount,
+) -> Result<Value, AllocError> {
+    let mut copy = Vec::new(alloc);
+    if let Some(entries) = value.get(ENTRIES).and_then(Value::as_array) {
+        for entry in entries {
+            copy.push(entry_with(alloc, entry, key, amount)?)?;
+        }
+    }
+    with(alloc, Some(value), ENTRIES, Value::Array(copy))
+}
+
+/// An entry with another value of a bound, if it has that bound.
+fn entry_with(
+    alloc: Global,
+    entry: &Value,
+    key: &str,
+    amount: Amount,
+) -> Result<Value, AllocError> {
+    if entry.get(key).is_none() {
+        return entry.clone();
+    }
+    with(alloc, Some(entry), key, amount.value(alloc)?)
+}

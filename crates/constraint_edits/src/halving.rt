@@ -1,0 +1,154 @@
+//! The least change of a field that makes a decision possible, once leaving the field out does.
+
+use crate::amount::{Amount, amount_in, with_amount};
+use crate::edits::{Changed, Edit};
+use serde_json::Value;
+use std::alloc::{AllocError, Global};
+use sysmem_counts::Field;
+
+/// What a decision says of its buffers.
+#[derive(Clone, Copy)]
+struct Said {
+    count: u64,
+    size: u64,
+    width: u64,
+    height: u64,
+    row: u64,
+}
+
+/// Reads what a report's line says of a decision that chose.
+fn said_by(line: &str) -> Said {
+    let mut said = Said {
+        count: 0,
+        size: 0,
+        width: 0,
+        height: 0,
+        row: 0,
+    };
+    let mut last = "";
+    let mut before = "";
+    for word in line.split(' ') {
+        match last {
+            "count" => said.count = number_of(word),
+            "size" => said.size = number_of(word),
+            "row" => {
+                said.row = number_of(word);
+                if let Some((width, height)) = before.split_once('x') {
+                    said.width = number_of(width);
+                    said.height = number_of(height);
+                }
+            }
+            _ => {}
+        }
+        before = last;
+        last = word;
+    }
+    said
+}
+
+fn number_of(word: &str) -> u64 {
+    match word.parse::<u64>() {
+        Ok(number) => number,
+        Err(_) => 0,
+    }
+}
+
+/// What a greatest value has to be for a decision.
+fn raised(field: Field, line: &str) -> Option<Amount> {
+    let said = said_by(line);
+    match field {
+        Field::MaxBufferCount => Some(Amount::Number(said.count)),
+        Field::MaxSizeBytes => Some(Amount::Number(said.size)),
+        Field::MaxBytesPerRow => Some(Amount::Number(said.row)),
+        Field::MaxSize => Some(Amount::Sides(said.width, said.height)),
+        Field::MaxWidthTimesHeight => Some(Amount::Number(said.width.saturating_mul(said.height))),
+        _ => None,
+    }
+}
+
+fn is_lowered(field: Field) -> bool {
+    matches!(
+        field,
+        Field::MinBufferCount
+            | Field::MinBufferCountForCamping
+            | Field::MinBufferCountForDedicatedSlack
+            | Field::MinBufferCountForSharedSlack
+            | Field::MinSizeBytes
+            | Field::MinBytesPerRow
+            | Field::MinSize
+            | Field::RequiredMaxSize
+    )
+}
+
+/// Values of a field that are between the stated one and none, the next of which is to be tried.
+#[derive(Clone, Copy)]
+pub struct Halving {
+    edit: Edit,
+    stated: Amount,
+    /// What is known to do, and what is known not to.
+    good: Amount,
+    bad: Amount,
+    is_raised: bool,
+}
+
+impl Halving {
+    /// The values that a change leaves between, where leaving the field out gives this line.
+    pub fn of(value: &Value, edit: Edit, line: &str) -> Option<Halving> {
+        let field = edit.field();
+        let stated = amount_in(value, edit)?;
+        if let Some(goal) = raised(field, line) {
+            return Some(Halving {
+                edit,
+                stated,
+                good: stated.greatest(goal),
+                bad: stated,
+                is_raised: true,
+            });
+        }
+        if !is_lowered(field) {
+            return None;
+        }
+        Some(Halving {
+            edit,
+            stated,
+            good: stated.none(),
+            bad: stated.above(),
+            is_raised: false,
+        })
+    }
+
+    /// The value that is to be tried next; `None` where none is left.
+    pub fn next(&self) -> Option<Amount> {
+        if self.is_raised {
+            return if self.good == self.bad {
+                None
+            } else {
+                Some(self.good)
+            };
+        }
+        self.good.middle(self.bad)
+    }
+
+    /// A value was tried, and does or doesn't.
+    pub fn learn(&mut self, amount: Amount, does: bool) {
+        if self.is_raised {
+            self.bad = self.good;
+            return;
+        }
+        if does {
+            self.good = amount;
+        } else {
+            self.bad = amount.ceiling(self.good, self.bad);
+        }
+    }
+
+    /// The constraints with a value.
+    pub fn changed(
+        &self,
+        alloc: Global,
+        value: &Value,
+        amount: Amount,
+    ) -> Result<Changed, AllocError> {
+        with_amount(alloc, value, self.edit, self.stated, amount)
+    }
+}

@@ -1,0 +1,82 @@
+//! What was chosen in a domain, and what decided it.
+
+use crate::selecting::{Empty, tell_left_out};
+use explanation_text::Items;
+use settings_reasons::tell_settings;
+use std::alloc::{AllocError, Global};
+use story_parts::{Domain, Story, asked_in, put_domain};
+use sysmem_sanitise::Platform;
+use value_sources::put_texts;
+
+/// How many choices are named.
+const MOST_CHOICES: usize = 6;
+
+/// Tells what was chosen in a domain, and why: of the initial one.
+pub(crate) fn tell_choice(
+    items: &mut Items,
+    platform: &Platform,
+    story: &Story<'_>,
+    index: usize,
+    domain: &Domain<'_>,
+) -> Result<(), AllocError> {
+    tell_children(items, story, index)?;
+    if let Some(host) = domain.host {
+        return tell_from(items, story, host);
+    }
+    let selections = Empty {
+        platform,
+        story,
+        root: domain.root,
+    };
+    tell_left_out(items, selections)?;
+    let people = asked_in(items.alloc(), story, index, true)?;
+    match &domain.settings {
+        Some(settings) => tell_settings(items, platform, &people, settings),
+        None => Ok(()),
+    }
+}
+
+/// Tells from which domain an attached one has its settings.
+fn tell_from(items: &mut Items, story: &Story<'_>, host: usize) -> Result<(), AllocError> {
+    let mut text = String::new(items.alloc());
+    if let Some(above) = story.domain_of(host) {
+        put_domain(&mut text, story, above.root)?;
+    }
+    text.push_str(", unchanged: these accept its settings")?;
+    items.say(1, "from", text)
+}
+
+/// Tells which child was chosen of each group that is selected.
+fn tell_children(items: &mut Items, story: &Story<'_>, index: usize) -> Result<(), AllocError> {
+    let alloc = items.alloc();
+    let mut texts: Vec<String> = Vec::new(alloc);
+    for (number, node) in story.nodes.iter().enumerate() {
+        if node.domain != index || !node.is_selected {
+            continue;
+        }
+        if let Some(text) = choice_of(alloc, story, number)? {
+            texts.push(text)?;
+        }
+    }
+    if texts.is_empty() {
+        return Ok(());
+    }
+    let mut text = String::new(alloc);
+    put_texts(&mut text, &texts, MOST_CHOICES)?;
+    items.say(1, "choice", text)
+}
+
+/// The child that was chosen of a node, if it is a group: `layouts: tiled`.
+fn choice_of(alloc: Global, story: &Story<'_>, node: usize) -> Result<Option<String>, AllocError> {
+    if !story.is_group(node) {
+        return Ok(None);
+    }
+    for child in story.children(alloc, node)? {
+        if story.is_selected(child) {
+            let group = story.name(node);
+            let name = story.name(child);
+            return Ok(Some(format!(in alloc; "{group}: {name}")?));
+        }
+    }
+    Ok(None)
+}

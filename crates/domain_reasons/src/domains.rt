@@ -1,0 +1,157 @@
+//! What became of each domain, and why.
+
+use crate::awaiting::tell_pending;
+use crate::choosing::tell_choice;
+use crate::failing::{tell_failed, tell_none, tell_too_many};
+use explanation_text::{Items, Kind};
+use script_reading::Act;
+use serde_json::Value;
+use std::alloc::{AllocError, Global};
+use std::fmt::Write;
+use story_parts::{Deed, Domain, Story, put_domain};
+use sysmem_sanitise::Platform;
+use value_sources::put_texts;
+
+/// How many participants are named.
+const MOST_WHO: usize = 8;
+
+/// Tells what became of the domain of an index, and why.
+pub fn tell_domain(
+    items: &mut Items,
+    platform: &Platform,
+    story: &Story<'_>,
+    index: usize,
+) -> Result<(), AllocError> {
+    let Some(domain) = story.domains.get(index) else {
+        return Ok(());
+    };
+    put_title(items, story, domain)?;
+    match domain.verdict() {
+        "pending" => tell_pending(items, story, index, domain),
+        "failed" => tell_failed(items, story, domain),
+        "too_many" => tell_too_many(items, story, index),
+        "chosen" => tell_chosen(items, platform, story, index, domain),
+        _ => {
+            tell_who(items, story, index, false)?;
+            tell_none(items, platform, story, index, domain)
+        }
+    }
+}
+
+fn tell_chosen(
+    items: &mut Items,
+    platform: &Platform,
+    story: &Story<'_>,
+    index: usize,
+    domain: &Domain<'_>,
+) -> Result<(), AllocError> {
+    tell_who(items, story, index, true)?;
+    let line = String::from_str(items.alloc(), domain.told)?;
+    items.push(Kind::Decision, 1, "told", line)?;
+    tell_choice(items, platform, story, index, domain)
+}
+
+/// The title of a domain's section: `domain / (root): chosen, after call 7 (set_constraints encoder)`.
+fn put_title(items: &mut Items, story: &Story<'_>, domain: &Domain<'_>) -> Result<(), AllocError> {
+    let mut title = String::new(items.alloc());
+    put_domain(&mut title, story, domain.root)?;
+    let verdict = domain.verdict();
+    write!(title, ": {verdict}")?;
+    if let Some(number) = domain.ended {
+        put_ended(&mut title, story, number)?;
+    }
+    items.push(Kind::Title, 0, "", title)
+}
+
+/// Puts after which call a verdict came after a text.
+fn put_ended(text: &mut String, story: &Story<'_>, number: usize) -> Result<(), AllocError> {
+    match story.call(number) {
+        Some(call) => {
+            let name = call.name();
+            let on = call.on;
+            write!(text, ", after call {number} ({name} {on})")
+        }
+        None => write!(text, ", after call {number}"),
+    }
+}
+
+/// Tells who has constraints in a domain, of one that is chosen those who are selected.
+fn tell_who(
+    items: &mut Items,
+    story: &Story<'_>,
+    index: usize,
+    are_selected: bool,
+) -> Result<(), AllocError> {
+    let mut text = String::new(items.alloc());
+    put_who(&mut text, story, index, are_selected)?;
+    items.say(1, "who", text)
+}
+
+fn put_who(
+    text: &mut String,
+    story: &Story<'_>,
+    index: usize,
+    are_selected: bool,
+) -> Result<(), AllocError> {
+    let alloc = *text.allocator();
+    let mut names: Vec<String> = Vec::new(alloc);
+    for (number, node) in story.nodes.iter().enumerate() {
+        let is_in = node.domain == index && (node.is_selected || !are_selected);
+        if is_in && node.constraints.is_some() {
+            names.push(who(alloc, story, number)?)?;
+        }
+    }
+    if names.is_empty() {
+        return text.push_str("nobody has constraints");
+    }
+    put_texts(text, &names, MOST_WHO)
+}
+
+/// A participant with its path, its actor and what it uses the buffers for: `camera /0 (actor camera, usage video)`.
+fn who(alloc: Global, story: &Story<'_>, node: usize) -> Result<String, AllocError> {
+    let name = story.name(node);
+    let path = story.path(node);
+    let mut text = format!(in alloc; "{name} {path}")?;
+    if let Some(number) = story.deed(node, Deed::SetConstraints) {
+        put_setter(&mut text, story, node, number)?;
+        put_usage(&mut text, story, number)?;
+        text.push_str(")")?;
+    }
+    Ok(text)
+}
+
+/// Puts who set a node's constraints after a text, and who bound it where that is somebody else.
+fn put_setter(
+    text: &mut String,
+    story: &Story<'_>,
+    node: usize,
+    number: usize,
+) -> Result<(), AllocError> {
+    let setter = story.actor(number);
+    match story.deed(node, Deed::Bind) {
+        Some(bound) if story.actor(bound) != setter => {
+            let binder = story.actor(bound);
+            write!(text, " (bound by {binder}, set by {setter}")
+        }
+        _ => write!(text, " (actor {setter}"),
+    }
+}
+
+/// Puts the usage that a call states after a text.
+fn put_usage(text: &mut String, story: &Story<'_>, number: usize) -> Result<(), AllocError> {
+    let Some(call) = story.call(number) else {
+        return Ok(());
+    };
+    let Act::SetConstraints(Some(value)) = call.act else {
+        return Ok(());
+    };
+    let Some(usages) = value.get("usage").and_then(Value::as_array) else {
+        return Ok(());
+    };
+    text.push_str(", usage")?;
+    for usage in usages.iter().take(5) {
+        text.push_str(" ")?;
+        text.push_str(usage.as_str().unwrap_or(""))?;
+    }
+    Ok(())
+}

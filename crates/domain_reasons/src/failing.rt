@@ -1,0 +1,134 @@
+//! Why a domain has no decision that chooses: it failed, has too many selections, or has no settings.
+
+use crate::selecting::{Empty, MOST_TOLD, tell_empty};
+use explanation_text::Items;
+use script_reading::Act;
+use settings_reasons::tell_misfits;
+use std::alloc::{AllocError, Global};
+use story_parts::{Domain, Made, Story, asked_in, left_out};
+use sysmem_sanitise::Platform;
+use value_sources::put_texts;
+
+/// Tells why a domain failed.
+pub(crate) fn tell_failed(
+    items: &mut Items,
+    story: &Story<'_>,
+    domain: &Domain<'_>,
+) -> Result<(), AllocError> {
+    if let Some(call) = closing(story, domain) {
+        let actor = call.actor;
+        let on = call.on;
+        let text = format!(in items.alloc();
+            "{actor} closed {on} before all were there: a close fails its domain, a release doesn't"
+        )?;
+        return items.say(1, "why", text);
+    }
+    let Some(host) = domain.host else {
+        return Ok(());
+    };
+    let text = why_of_host(items.alloc(), story, host)?;
+    items.say(1, "why", text)
+}
+
+/// The call after which a domain failed, if it closes one of its nodes.
+fn closing<'b, 'a>(story: &'b Story<'a>, domain: &Domain<'_>) -> Option<&'b Made<'a>> {
+    let call = story.call(domain.ended?)?;
+    let closed = story.domain_of(call.node?)?;
+    if matches!(call.act, Act::Close) && closed.root == domain.root {
+        Some(call)
+    } else {
+        None
+    }
+}
+
+/// Why a domain failed that was attached to a node.
+fn why_of_host(alloc: Global, story: &Story<'_>, host: usize) -> Result<String, AllocError> {
+    let name = story.name(host);
+    let verdict = match story.domain_of(host) {
+        Some(above) => above.verdict(),
+        None => "",
+    };
+    match verdict {
+        "failed" => format!(in alloc; "it was attached to {name}, whose domain failed"),
+        "chosen" => {
+            let which = left_out(alloc, story, host)?;
+            format!(in alloc; "it was attached to {name}: {which}")
+        }
+        _ => format!(in alloc; "it was attached to {name}, whose domain is {verdict}"),
+    }
+}
+
+/// Tells how many selections there are, and the groups' children that make them.
+pub(crate) fn tell_too_many(items: &mut Items, story: &Story<'_>, index: usize) -> Result<(), AllocError> {
+    let alloc = items.alloc();
+    let why = String::from_str(
+        alloc,
+        "the groups' children make more selections than the 4096 that are tried",
+    )?;
+    items.say(1, "why", why)?;
+    let mut text = String::from_str(alloc, "children: ")?;
+    put_groups(&mut text, story, index)?;
+    items.say(1, "groups", text)
+}
+
+/// Puts a domain's groups and how many children each has after a text.
+fn put_groups(text: &mut String, story: &Story<'_>, index: usize) -> Result<(), AllocError> {
+    let alloc = *text.allocator();
+    let mut parts: Vec<String> = Vec::new(alloc);
+    for (number, node) in story.nodes.iter().enumerate() {
+        if node.domain == index && story.is_group(number) {
+            parts.push(children_of(alloc, story, number)?)?;
+        }
+    }
+    put_texts(text, &parts, 12)
+}
+
+/// How many children a group has: `layouts 2`.
+fn children_of(alloc: Global, story: &Story<'_>, group: usize) -> Result<String, AllocError> {
+    let count = story.children(alloc, group)?.len();
+    let name = story.name(group);
+    format!(in alloc; "{name} {count}")
+}
+
+/// Tells why a domain has no settings.
+pub(crate) fn tell_none(
+    items: &mut Items,
+    platform: &Platform,
+    story: &Story<'_>,
+    index: usize,
+    domain: &Domain<'_>,
+) -> Result<(), AllocError> {
+    if domain.host.is_some() {
+        return tell_late(items, platform, story, index, domain);
+    }
+    let empty = Empty {
+        platform,
+        story,
+        root: domain.root,
+    };
+    let mut told = 0usize;
+    tell_empty(items, 1, empty, &[], &mut told, story.nodes.len())?;
+    if told >= MOST_TOLD {
+        let text = String::from_str(items.alloc(), "further selections fail too")?;
+        items.say(1, "", text)?;
+    }
+    Ok(())
+}
+
+/// Tells why settings that were decided before don't suit those of an attached domain.
+fn tell_late(
+    items: &mut Items,
+    platform: &Platform,
+    story: &Story<'_>,
+    index: usize,
+    domain: &Domain<'_>,
+) -> Result<(), AllocError> {
+    let Some(above) = domain.host.and_then(|host| story.domain_of(host)) else {
+        return Ok(());
+    };
+    let Some(settings) = &above.settings else {
+        return Ok(());
+    };
+    let people = asked_in(items.alloc(), story, index, false)?;
+    tell_misfits(items, platform, &people, settings)
+}

@@ -1,0 +1,17 @@
+//! What became of each domain of a script, and why: who is awaited and what helps, what decided each value of a choice, and who is in the way
+//! where nothing is chosen.
+//!
+//! ```
+//! tell_domain(&mut items, &script.platform, &story, 0)?;
+//! print!(rt; "{}", text_of(rt.alloc(), &items.into_list())?)?;
+//! ```
+#![tactic(auto)]
+
+mod awaiting;
+mod choosing;
+mod domains;
+mod failing;
+mod selecting;
+
+pub use awaiting::who_holds_up;
+pub use domains::tell_domain;

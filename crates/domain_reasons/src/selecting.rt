@@ -1,0 +1,234 @@
+//! Why no selection of groups' children has settings.
+
+use explanation_text::wording::put_joined;
+use explanation_text::{Items, are_same};
+use story_parts::{Story, asked_by};
+use settings_reasons::{is_unmet, tell_conflict};
+use std::alloc::{AllocError, Global};
+use sysmem_sanitise::Platform;
+
+/// How many failing selections are told.
+pub(crate) const MOST_TOLD: usize = 12;
+
+/// A group, and the child that is chosen of it.
+#[derive(Clone, Copy)]
+pub(crate) struct Choice {
+    group: usize,
+    child: usize,
+}
+
+/// What choices settle.
+#[derive(Drop)]
+struct Settled {
+    /// The nodes, in pre-order.
+    nodes: Vec<usize>,
+    /// The first group of which no child is chosen.
+    open: Option<usize>,
+}
+
+/// What choices settle in a domain.
+fn walk(
+    alloc: Global,
+    story: &Story<'_>,
+    root: usize,
+    choices: &[Choice],
+) -> Result<Settled, AllocError> {
+    let mut nodes = Vec::new(alloc);
+    let mut open = None;
+    let mut left: Vec<usize> = vec![in alloc; root]?;
+    for _node in 0..story.nodes.len() {
+        let Some(node) = left.pop() else {
+            break;
+        };
+        nodes.push(node)?;
+        if !put_below(&mut left, story, node, choices)? && open.is_none() {
+            open = Some(node);
+        }
+    }
+    Ok(Settled { nodes, open })
+}
+
+/// Puts the nodes below a node that are selected, the last first, and says whether that is settled: of a group a child is chosen.
+fn put_below(
+    left: &mut Vec<usize>,
+    story: &Story<'_>,
+    node: usize,
+    choices: &[Choice],
+) -> Result<bool, AllocError> {
+    if story.is_group(node) {
+        return match choices.iter().find(|choice| choice.group == node) {
+            Some(choice) => {
+                left.push(choice.child)?;
+                Ok(true)
+            }
+            None => Ok(false),
+        };
+    }
+    let children = story.children(*left.allocator(), node)?;
+    for child in children.iter().rev() {
+        left.push(*child)?;
+    }
+    Ok(true)
+}
+
+/// Choices, and that of one more group's child.
+fn with_choice(
+    alloc: Global,
+    choices: &[Choice],
+    group: usize,
+    child: usize,
+) -> Result<Vec<Choice>, AllocError> {
+    let mut longer = Vec::from_slice(alloc, choices)?;
+    longer.push(Choice { group, child })?;
+    Ok(longer)
+}
+
+/// A domain whose selections have no settings.
+#[derive(Clone, Copy)]
+pub(crate) struct Empty<'a, 'b> {
+    pub(crate) platform: &'b Platform,
+    pub(crate) story: &'b Story<'a>,
+    pub(crate) root: usize,
+}
+
+/// Tells why no selection that goes on from these choices has settings; `levels` is more than the groups that may be left, and `told` counts
+/// the failing selections.
+#[cycle(tell_empty)]
+pub(crate) fn tell_empty(
+    items: &mut Items,
+    depth: usize,
+    empty: Empty<'_, '_>,
+    choices: &[Choice],
+    told: &mut usize,
+    levels: usize,
+) -> Result<(), AllocError> {
+    let alloc = items.alloc();
+    let settled = walk(alloc, empty.story, empty.root, choices)?;
+    let people = asked_by(alloc, empty.story, &settled.nodes)?;
+    let whole = settled.open.is_none();
+    if whole || is_unmet(alloc, empty.platform, &people)? {
+        *told = told.saturating_add(1);
+        return tell_conflict(items, depth, empty.platform, &people, whole);
+    }
+    let (Some(group), Some(fewer)) = (settled.open, levels.checked_sub(1)) else {
+        return Ok(());
+    };
+    tell_group(items, depth, empty, choices, told, fewer, group)
+}
+
+/// Tells the same for each child of the next group, those with the same reasons together.
+#[cycle(tell_empty)]
+fn tell_group(
+    items: &mut Items,
+    depth: usize,
+    empty: Empty<'_, '_>,
+    choices: &[Choice],
+    told: &mut usize,
+    levels: usize,
+    group: usize,
+) -> Result<(), AllocError> {
+    let alloc = items.alloc();
+    let mut cases: Vec<Case<'_>> = Vec::new(alloc);
+    for child in empty.story.children(alloc, group)? {
+        if *told >= MOST_TOLD {
+            break;
+        }
+        let longer = with_choice(alloc, choices, group, child)?;
+        let mut below = Items::new(alloc);
+        tell_empty(&mut below, depth.saturating_add(1), empty, &longer, told, levels)?;
+        add_case(&mut cases, empty.story.name(child), below)?;
+    }
+    for case in cases {
+        put_case(items, depth, empty.story.name(group), case)?;
+    }
+    Ok(())
+}
+
+/// Children of a group of which the same is told.
+#[derive(Drop)]
+struct Case<'a> {
+    names: Vec<&'a str>,
+    below: Items,
+}
+
+/// Adds what is told of a child, to the last case where it is the same.
+fn add_case<'a>(
+    cases: &mut Vec<Case<'a>>,
+    name: &'a str,
+    below: Items,
+) -> Result<(), AllocError> {
+    if let Some(last) = cases.last_mut() {
+        if are_same(&last.below, &below) {
+            last.names.push(name)?;
+            return Ok(());
+        }
+    }
+    let names = vec![in below.alloc(); name]?;
+    cases.push(Case { names, below })?;
+    Ok(())
+}
+
+/// Puts what holds for some children of a group after the items.
+fn put_case(
+    items: &mut Items,
+    depth: usize,
+    group: &str,
+    case: Case<'_>,
+) -> Result<(), AllocError> {
+    let mut text = format!(in items.alloc(); "{group} as ")?;
+    put_joined(&mut text, &case.names, "or")?;
+    text.push_str(":")?;
+    items.say(depth, "", text)?;
+    items.append(case.below)
+}
+
+/// Tells of each group in a chosen selection why its children before the chosen one aren't chosen.
+pub(crate) fn tell_left_out(items: &mut Items, empty: Empty<'_, '_>) -> Result<(), AllocError> {
+    let alloc = items.alloc();
+    let mut choices: Vec<Choice> = Vec::new(alloc);
+    let mut told = 0usize;
+    for _group in 0..empty.story.nodes.len() {
+        let Some(group) = walk(alloc, empty.story, empty.root, &choices)?.open else {
+            break;
+        };
+        let Some(child) = tell_before(items, empty, &choices, &mut told, group)? else {
+            break;
+        };
+        choices.push(Choice { group, child })?;
+    }
+    Ok(())
+}
+
+/// Tells why the children of a group before the chosen one aren't, and says which that is.
+fn tell_before(
+    items: &mut Items,
+    empty: Empty<'_, '_>,
+    choices: &[Choice],
+    told: &mut usize,
+    group: usize,
+) -> Result<Option<usize>, AllocError> {
+    for child in empty.story.children(items.alloc(), group)? {
+        if empty.story.is_selected(child) {
+            return Ok(Some(child));
+        }
+        if *told < MOST_TOLD {
+            let longer = with_choice(items.alloc(), choices, group, child)?;
+            tell_not(items, empty, &longer, told, child)?;
+        }
+    }
+    Ok(None)
+}
+
+/// Tells why the child of the last choice isn't chosen.
+fn tell_not(
+    items: &mut Items,
+    empty: Empty<'_, '_>,
+    choices: &[Choice],
+    told: &mut usize,
+    child: usize,
+) -> Result<(), AllocError> {
+    let name = empty.story.name(child);
+    let text = format!(in items.alloc(); "not {name}:")?;
+    items.say(2, "", text)?;
+    tell_empty(items, 3, empty, choices, told, empty.story.nodes.len())
+}

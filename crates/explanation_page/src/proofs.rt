@@ -1,0 +1,145 @@
+//! What proves each decision, counted in the certificate that a run of the script writes.
+
+use byte_transfer::Counted;
+use explanation_text::wording::put_count;
+use script_run::{Ended, run_with_proof};
+use serde_json::Value;
+use std::alloc::{AllocError, Global};
+use story_parts::{Story, put_domain};
+
+/// How many conflicts there are, and lines in them.
+#[derive(Clone, Copy, Default)]
+struct Tally {
+    conflicts: usize,
+    lines: usize,
+}
+
+impl Tally {
+    /// Counts the items of a list, the splits left out.
+    fn add(&mut self, items: &[Value]) {
+        for item in items {
+            if item.get("split").is_some() {
+                continue;
+            }
+            let lines = length_of(item, "places").saturating_add(length_of(item, "offers"));
+            self.conflicts = self.conflicts.saturating_add(1);
+            self.lines = self.lines.saturating_add(lines.max(1));
+        }
+    }
+}
+
+/// How long the list at a key is; 0 where there is none.
+fn length_of(value: &Value, key: &str) -> usize {
+    list_at(value, key).len()
+}
+
+/// The list at a key; an empty one where there is none.
+fn list_at<'b>(value: &'b Value, key: &str) -> &'b [Value] {
+    match value.get(key).and_then(Value::as_array) {
+        Some(list) => list.as_slice(),
+        None => &[],
+    }
+}
+
+/// A sentence for each decision of a script. `AllocError` also where memory was refused to one.
+pub(crate) fn proofs_of(
+    alloc: Global,
+    bytes: &[u8],
+    story: &Story<'_>,
+) -> Result<Vec<String>, AllocError> {
+    let mut proofs = Vec::new(alloc);
+    let certificate = certificate_of(alloc, bytes)?;
+    let Ok(decisions) = Value::from_slice(alloc, &certificate) else {
+        return Err(AllocError);
+    };
+    for decision in decisions.as_array().map_or(&[][..], |list| list.as_slice()) {
+        proofs.push(proof_of(alloc, story, decision)?)?;
+    }
+    Ok(proofs)
+}
+
+/// The certificate of a script.
+fn certificate_of(alloc: Global, bytes: &[u8]) -> Result<Vec<u8>, AllocError> {
+    let mut reader = Counted::new(bytes);
+    let mut report = Counted::new(Vec::new(alloc));
+    let mut certificate = Counted::new(Vec::new(alloc));
+    match run_with_proof(alloc, &mut reader, &mut report, &mut certificate) {
+        Ok(Ended::Done) => Ok(certificate.inner),
+        _ => Err(AllocError),
+    }
+}
+
+/// What proves a decision, in words.
+fn proof_of(alloc: Global, story: &Story<'_>, decision: &Value) -> Result<String, AllocError> {
+    let path = decision.get("domain").and_then(Value::as_str).unwrap_or("");
+    let mut text = String::new(alloc);
+    put_domain_at(&mut text, story, path)?;
+    match decision.get("verdict").and_then(Value::as_str) {
+        Some("empty") => put_empty(&mut text, decision)?,
+        Some("chosen") => put_chosen(&mut text, story, path, decision)?,
+        _ => text.push_str("more than 4096 selections, which nothing has to prove")?,
+    }
+    Ok(text)
+}
+
+/// Puts which domain it is after a text.
+fn put_domain_at(text: &mut String, story: &Story<'_>, path: &str) -> Result<(), AllocError> {
+    for domain in &story.domains {
+        if story.path(domain.root) == path {
+            put_domain(text, story, domain.root)?;
+        }
+    }
+    text.push_str(": ")
+}
+
+fn put_empty(text: &mut String, decision: &Value) -> Result<(), AllocError> {
+    let mut tally = Tally::default();
+    tally.add(list_at(decision, "refutation"));
+    put_tally(text, tally)?;
+    text.push_str(" leave no settings to any selection")
+}
+
+fn put_tally(text: &mut String, tally: Tally) -> Result<(), AllocError> {
+    put_count(text, tally.conflicts, "conflict", "conflicts")?;
+    text.push_str(" of ")?;
+    put_count(text, tally.lines, "line", "lines")
+}
+
+/// Puts what proves settings after a text: of an attached domain they were decided before.
+fn put_chosen(
+    text: &mut String,
+    story: &Story<'_>,
+    path: &str,
+    decision: &Value,
+) -> Result<(), AllocError> {
+    let is_late = story.domains.iter().any(|domain| domain.host.is_some()
+        && story.path(domain.root) == path);
+    if is_late {
+        text.push_str("the settings decided before suit all")?;
+    } else {
+        put_count(text, length_of(decision, "offers"), "line", "lines")?;
+        text.push_str(" for the offers and ")?;
+        put_count(text, length_of(decision, "places"), "line", "lines")?;
+        text.push_str(" for the places before the chosen ones")?;
+    }
+    put_earlier(text, decision)
+}
+
+/// Puts what refutes the children before the chosen ones after a text.
+fn put_earlier(text: &mut String, decision: &Value) -> Result<(), AllocError> {
+    let mut tally = Tally::default();
+    let mut children = 0usize;
+    for group in list_at(decision, "earlier") {
+        for child in group.as_array().map_or(&[][..], |list| list.as_slice()) {
+            children = children.saturating_add(1);
+            tally.add(child.as_array().map_or(&[][..], |list| list.as_slice()));
+        }
+    }
+    if children == 0 {
+        return Ok(());
+    }
+    text.push_str("; ")?;
+    put_tally(text, tally)?;
+    text.push_str(" for ")?;
+    put_count(text, children, "earlier child", "earlier children")
+}

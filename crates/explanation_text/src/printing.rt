@@ -1,0 +1,128 @@
+//! What is told, as text: lines of at most 100 columns, but for source lines and decisions.
+
+use crate::items::{Item, Kind};
+use crate::wording::{put_repeated, width_of};
+use std::alloc::{AllocError, Global};
+
+/// How wide a line is.
+const WIDTH: usize = 100;
+/// How wide the labels are that stand in a column.
+const LABEL: usize = 6;
+
+/// The text of items. Each line ends with a newline.
+pub fn text_of(alloc: Global, items: &[Item]) -> Result<String, AllocError> {
+    let mut text = String::new(alloc);
+    let mut indents = Vec::new(alloc);
+    for item in items {
+        put_item(&mut text, &mut indents, item)?;
+    }
+    Ok(text)
+}
+
+/// Puts an item after the text, and keeps how far what stands below it is indented.
+fn put_item(text: &mut String, indents: &mut Vec<usize>, item: &Item) -> Result<(), AllocError> {
+    let indent = match item.depth.checked_sub(1) {
+        Some(above) => indents.get(above).copied().unwrap_or(2),
+        None => 0,
+    };
+    let label = label_width(item);
+    indents.truncate(item.depth);
+    for _missing in indents.len()..item.depth {
+        indents.push(indent)?;
+    }
+    indents.push(indent.saturating_add(below(item, label)))?;
+    if item.kind == Kind::Title {
+        text.push_str("\n")?;
+    }
+    if item.kind == Kind::Source {
+        return put_source(text, indent, &item.text);
+    }
+    put_repeated(text, ' ', indent)?;
+    put_label(text, item, label)?;
+    if item.kind == Kind::Words {
+        put_words(text, indent, label, &item.text)
+    } else {
+        text.push_str(&item.text)?;
+        text.push_str("\n")
+    }
+}
+
+/// How many columns an item's label takes, with the space after it.
+fn label_width(item: &Item) -> usize {
+    if item.label.is_empty() {
+        return 0;
+    }
+    let width = width_of(item.label);
+    let is_word = item
+        .label
+        .as_bytes()
+        .iter()
+        .all(|b| b.is_ascii_alphabetic());
+    let column = if is_word { width.max(LABEL) } else { width };
+    column.saturating_add(1)
+}
+
+/// How much further what stands below an item is indented.
+fn below(item: &Item, label: usize) -> usize {
+    if item.label.is_empty() || item.label == "change" {
+        2
+    } else {
+        label
+    }
+}
+
+fn put_label(text: &mut String, item: &Item, label: usize) -> Result<(), AllocError> {
+    text.push_str(item.label)?;
+    put_repeated(text, ' ', label.saturating_sub(width_of(item.label)))
+}
+
+/// Puts lines after the text, each after some spaces.
+fn put_source(text: &mut String, indent: usize, source: &str) -> Result<(), AllocError> {
+    for line in source.lines() {
+        put_repeated(text, ' ', indent)?;
+        text.push_str(line)?;
+        text.push_str("\n")?;
+    }
+    Ok(())
+}
+
+/// Puts words after the text, broken at spaces; a name stays with its path.
+fn put_words(
+    text: &mut String,
+    indent: usize,
+    label: usize,
+    words: &str,
+) -> Result<(), AllocError> {
+    let inner = indent.saturating_add(label.max(2));
+    let most = WIDTH
+        .saturating_sub(indent)
+        .saturating_sub(label)
+        .saturating_sub(2);
+    let parts: Vec<&str> = words.split(' ').collect(*text.allocator())?;
+    let mut used = 0usize;
+    for (k, word) in parts.iter().enumerate() {
+        let width = width_of(word);
+        let path = path_width(parts.get(k.saturating_add(1)));
+        let needed = used.saturating_add(width).saturating_add(path);
+        if 0 < k && needed >= most && !word.starts_with('/') {
+            text.push_str("\n")?;
+            put_repeated(text, ' ', inner)?;
+            used = width;
+        } else if 0 < k {
+            text.push_str(" ")?;
+            used = used.saturating_add(width).saturating_add(1);
+        } else {
+            used = width;
+        }
+        text.push_str(word)?;
+    }
+    text.push_str("\n")
+}
+
+/// How wide the path is that stays with the word before it, with a space; 0 where the word is none.
+fn path_width(word: Option<&&str>) -> usize {
+    match word {
+        Some(path) if path.starts_with('/') => width_of(path).saturating_add(1),
+        _ => 0,
+    }
+}

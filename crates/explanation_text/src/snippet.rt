@@ -1,0 +1,187 @@
+//! A line of a text with carets below a part of it.
+
+use crate::items::{Items, Kind};
+use crate::wording::{put_repeated, put_visible, width_of};
+use json_places::{
+    Span, begins_character, characters, column_of, end_of_line, line_of, start_of_line,
+};
+use std::alloc::{AllocError, Global};
+
+/// How many characters of a line are shown.
+const ROOM: usize = 84;
+/// How many stand before the part, where the line is cut.
+const BEFORE: usize = 24;
+/// How wide what helps may be.
+const HELP: usize = 88;
+
+/// A part of a text, what stands after its line and column, and what is said of it.
+#[derive(Clone, Copy)]
+pub struct Mark<'a> {
+    pub span: Span,
+    pub said: &'a str,
+    pub note: &'a str,
+}
+
+/// What is shown of a line: its text, and where the carets stand below it.
+#[derive(Drop)]
+struct Window {
+    line: String,
+    column: usize,
+    carets: usize,
+}
+
+/// Puts a part of a text with carets below it after the items.
+pub fn show(
+    items: &mut Items,
+    depth: usize,
+    file: &str,
+    bytes: &[u8],
+    mark: Mark<'_>,
+    helps: &[String],
+) -> Result<(), AllocError> {
+    let mut text = String::new(items.alloc());
+    put_snippet(&mut text, file, bytes, mark, helps)?;
+    items.push(Kind::Source, depth, "", text)
+}
+
+/// Puts where a part stands, its line, carets with a note below it, and what helps after a text.
+fn put_snippet(
+    text: &mut String,
+    file: &str,
+    bytes: &[u8],
+    mark: Mark<'_>,
+    helps: &[String],
+) -> Result<(), AllocError> {
+    let alloc = *text.allocator();
+    let at = mark.span.start.min(bytes.len());
+    let line = line_of(bytes, at);
+    let number = format!(in alloc; "{line}")?;
+    let window = window_of(alloc, bytes, mark)?;
+    put_repeated(text, ' ', number.len())?;
+    text.push_str("--> ")?;
+    put_visible(text, file)?;
+    let column = column_of(bytes, at);
+    write!(text, ":{line}:{column}")?;
+    text.push_str(mark.said)?;
+    put_bar(text, number.len(), " |")?;
+    write!(text, "\n{number} | ")?;
+    text.push_str(window.line.trim_end())?;
+    put_bar(text, number.len(), " | ")?;
+    put_repeated(text, ' ', window.column)?;
+    put_repeated(text, '^', window.carets)?;
+    text.push_str(" ")?;
+    text.push_str(mark.note)?;
+    put_helps(text, number.len(), helps)
+}
+
+fn put_bar(text: &mut String, width: usize, bar: &str) -> Result<(), AllocError> {
+    text.push_str("\n")?;
+    put_repeated(text, ' ', width)?;
+    text.push_str(bar)
+}
+
+fn put_helps(text: &mut String, width: usize, helps: &[String]) -> Result<(), AllocError> {
+    for help in helps {
+        put_bar(text, width, " = ")?;
+        put_help(text, width, help)?;
+    }
+    Ok(())
+}
+
+/// Puts what helps after a text, broken at spaces.
+fn put_help(text: &mut String, width: usize, help: &str) -> Result<(), AllocError> {
+    let mut used = 0usize;
+    for word in help.split(' ') {
+        let more = width_of(word).saturating_add(1);
+        if 0 < used && used.saturating_add(more) > HELP {
+            put_bar(text, width, "  ")?;
+            used = 0;
+        }
+        if 0 < used || text.ends_with("  ") {
+            text.push_str(" ")?;
+        }
+        text.push_str(word)?;
+        used = used.saturating_add(more);
+    }
+    Ok(())
+}
+
+/// What is shown of the line of a part, a stretch of it where it is long.
+fn window_of(alloc: Global, bytes: &[u8], mark: Mark<'_>) -> Result<Window, AllocError> {
+    let start = mark.span.start;
+    let begin = start_of_line(bytes, start);
+    let whole = bytes.get(begin..end_of_line(bytes, start)).unwrap_or(&[]);
+    let line = whole.strip_suffix(b"\r").unwrap_or(whole);
+    let column = characters(bytes.get(begin..start).unwrap_or(&[]));
+    let stop = mark.span.end.min(begin.saturating_add(line.len()));
+    let carets = characters(bytes.get(start..stop).unwrap_or(&[])).max(1);
+    let all = characters(line);
+    let needed = column
+        .saturating_add(carets)
+        .saturating_add(width_of(mark.note));
+    if all <= ROOM && needed <= ROOM {
+        let mut shown = String::new(alloc);
+        put_part(&mut shown, line)?;
+        return Ok(Window {
+            line: shown,
+            column,
+            carets,
+        });
+    }
+    cut(alloc, line, all, column, carets)
+}
+
+/// A stretch of a long line.
+fn cut(
+    alloc: Global,
+    line: &[u8],
+    all: usize,
+    column: usize,
+    carets: usize,
+) -> Result<Window, AllocError> {
+    let left = column.saturating_sub(BEFORE);
+    let right = left.saturating_add(ROOM);
+    let mut shown = String::new(alloc);
+    let mut before = column.saturating_sub(left);
+    if 0 < left {
+        shown.push_str("...")?;
+        before = before.saturating_add(3);
+    }
+    let from = place_of(line, left);
+    let to = place_of(line, right);
+    put_part(&mut shown, line.get(from..to).unwrap_or(&[]))?;
+    let width = width_of(&shown);
+    if right < all {
+        shown.push_str("...")?;
+    }
+    let most = width
+        .saturating_sub(before)
+        .min(ROOM.saturating_sub(before))
+        .max(1);
+    Ok(Window {
+        line: shown,
+        column: before,
+        carets: carets.min(most),
+    })
+}
+
+/// Puts bytes after a text, as characters that can be seen.
+fn put_part(text: &mut String, bytes: &[u8]) -> Result<(), AllocError> {
+    let lossy = String::from_utf8_lossy(*text.allocator(), bytes)?;
+    put_visible(text, &lossy)
+}
+
+/// Where the character of this number stands, or the end.
+fn place_of(line: &[u8], number: usize) -> usize {
+    let mut seen = 0usize;
+    for (k, byte) in line.iter().enumerate() {
+        if !begins_character(*byte) {
+            continue;
+        }
+        if seen == number {
+            return k;
+        }
+        seen = seen.saturating_add(1);
+    }
+    line.len()
+}

@@ -1,0 +1,89 @@
+//! Lists of names and counts, in words.
+
+use std::alloc::AllocError;
+
+/// How many names one list has; one more is shown rather than counted.
+pub const MOST_NAMES: usize = 4;
+
+/// Puts the names after the text, as `a, b and c`.
+pub fn put_joined(text: &mut String, names: &[&str], word: &str) -> Result<(), AllocError> {
+    let last = names.len().saturating_sub(1);
+    for (k, name) in names.iter().enumerate() {
+        if 0 < k && k < last {
+            text.push_str(", ")?;
+        }
+        if 0 < k && k == last {
+            text.push_str(" ")?;
+            text.push_str(word)?;
+            text.push_str(" ")?;
+        }
+        text.push_str(name)?;
+    }
+    Ok(())
+}
+
+/// Puts at most so many of the names after the text, and counts the others: `a, b and 3 more`.
+pub fn put_few(text: &mut String, names: &[&str], most: usize) -> Result<(), AllocError> {
+    if names.len() <= most.saturating_add(1) {
+        return put_joined(text, names, "and");
+    }
+    for (k, name) in names.iter().take(most).enumerate() {
+        if 0 < k {
+            text.push_str(", ")?;
+        }
+        text.push_str(name)?;
+    }
+    let more = names.len().saturating_sub(most);
+    write!(text, " and {more} more")
+}
+
+/// Puts a count with its word after the text: `1 call`, `2 calls`.
+pub fn put_count(text: &mut String, count: usize, one: &str, many: &str) -> Result<(), AllocError> {
+    let word = if count == 1 { one } else { many };
+    write!(text, "{count} {word}")
+}
+
+/// Whether a character can't be seen, or steers a terminal or the direction of writing.
+fn is_unseen(c: char) -> bool {
+    matches!(
+        u32::from(c),
+        0..=0x1F
+            | 0x7F..=0x9F
+            | 0xAD
+            | 0x61C
+            | 0x180E
+            | 0x200B..=0x200F
+            | 0x2028..=0x202E
+            | 0x2060..=0x206F
+            | 0xFEFF
+            | 0xFFF9..=0xFFFB
+            | 0xE0000..=0xE007F
+    )
+}
+
+/// Puts a text after another, each of its characters as one that can be seen: a tab as a space, and others as U+FFFD.
+pub fn put_visible(text: &mut String, source: &str) -> Result<(), AllocError> {
+    for c in source.chars() {
+        if c == '\t' {
+            text.push(' ')?;
+        } else if is_unseen(c) {
+            text.push('\u{FFFD}')?;
+        } else {
+            text.push(c)?;
+        }
+    }
+    Ok(())
+}
+
+/// Puts so many of a character after the text.
+pub fn put_repeated(text: &mut String, c: char, times: usize) -> Result<(), AllocError> {
+    for _i in 0..times {
+        text.push(c)?;
+    }
+    Ok(())
+}
+
+/// How many characters a text has.
+pub fn width_of(text: &str) -> usize {
+    text.chars().count()
+}

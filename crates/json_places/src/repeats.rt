@@ -1,0 +1,81 @@
+//! Keys that an object has twice.
+
+use crate::keys::Span;
+use crate::machine::Machine;
+use crate::taken::{Halt, Mark};
+use std::alloc::{AllocError, Global};
+
+/// How many keys of one object are compared with the next.
+const MOST_KEYS: usize = 64;
+
+/// A key of an object that is open.
+#[derive(Clone, Copy)]
+struct Key {
+    /// How many lists and objects are open around its value.
+    depth: usize,
+    span: Span,
+}
+
+/// The first keys, up to a number, that stand in their object before, each as it is written first and again: of these values the last
+/// counts. Of one object the first 64 keys are compared with those that follow.
+pub fn repeated_keys(
+    alloc: Global,
+    bytes: &[u8],
+    most: usize,
+) -> Result<Vec<(Span, Span)>, AllocError> {
+    let mut machine = Machine::new(alloc);
+    let mut keys = Vec::new(alloc);
+    let mut repeats = Vec::new(alloc);
+    for (at, byte) in bytes.iter().enumerate() {
+        let _ended = machine.end_number(at, *byte);
+        match machine.take(at, *byte) {
+            Ok(mark) => match mark {
+                Mark::KeyEnds => note(&machine, bytes, &mut keys, &mut repeats)?,
+                Mark::Ends => leave(&machine, &mut keys),
+                _ => {}
+            },
+            Err(Halt::NoMemory) => return Err(AllocError),
+            Err(Halt::Wrong(_)) => return Ok(repeats),
+        }
+        if repeats.len() >= most {
+            return Ok(repeats);
+        }
+    }
+    Ok(repeats)
+}
+
+/// Forgets the keys of objects that are complete.
+fn leave(machine: &Machine, keys: &mut Vec<Key>) {
+    let depth = machine.open().len();
+    keys.retain(|key| key.depth <= depth);
+}
+
+/// Keeps the key that ended, or where it stood before.
+fn note(
+    machine: &Machine,
+    bytes: &[u8],
+    keys: &mut Vec<Key>,
+    repeats: &mut Vec<(Span, Span)>,
+) -> Result<(), AllocError> {
+    let depth = machine.open().len();
+    let Some(open) = machine.open().last() else {
+        return Ok(());
+    };
+    let span = open.key;
+    let text = span.within(bytes);
+    let mut others = 0usize;
+    for key in keys.iter() {
+        if key.depth != depth {
+            continue;
+        }
+        if key.span.within(bytes) == text {
+            repeats.push((key.span, span))?;
+            return Ok(());
+        }
+        others = others.saturating_add(1);
+    }
+    if others < MOST_KEYS {
+        keys.push(Key { depth, span })?;
+    }
+    Ok(())
+}

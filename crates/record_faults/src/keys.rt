@@ -1,0 +1,173 @@
+//! The keys of a script's records, and what may stand at them.
+
+pub(crate) const SIZE: &[&str] = &["width", "height"];
+
+pub(crate) const PAIR: &[&str] = &["pixel_format", "pixel_format_modifier"];
+
+pub(crate) const HEAP_NAME: &[&str] = &["heap_type", "id"];
+
+pub(crate) const MEMORY: &[&str] = &[
+    "min_size_bytes",
+    "max_size_bytes",
+    "physically_contiguous_required",
+    "secure_required",
+    "cpu_domain_supported",
+    "ram_domain_supported",
+    "inaccessible_domain_supported",
+    "permitted_heaps",
+];
+
+pub(crate) const ENTRY: &[&str] = &[
+    "pixel_format",
+    "pixel_format_modifier",
+    "pixel_format_and_modifiers",
+    "color_spaces",
+    "min_size",
+    "max_size",
+    "size_alignment",
+    "min_bytes_per_row",
+    "max_bytes_per_row",
+    "bytes_per_row_divisor",
+    "start_offset_divisor",
+    "display_rect_alignment",
+    "required_min_size",
+    "required_max_size",
+    "max_width_times_height",
+    "require_bytes_per_row_at_pixel_boundary",
+];
+
+pub const CONSTRAINTS: &[&str] = &[
+    "usage",
+    "min_buffer_count_for_camping",
+    "min_buffer_count_for_dedicated_slack",
+    "min_buffer_count_for_shared_slack",
+    "min_buffer_count",
+    "max_buffer_count",
+    "buffer_memory_constraints",
+    "image_format_constraints",
+];
+
+pub(crate) const PLATFORM: &[&str] = &["heaps", "pairs", "color_spaces"];
+
+pub(crate) const PLATFORM_HEAP: &[&str] = &["heap_type", "id", "contiguous", "secure", "domains"];
+
+/// What is wanted at a field.
+#[derive(Clone, Copy, PartialEq, Eq)]
+pub(crate) enum Due {
+    Flag,
+    Size,
+    Number,
+    Name,
+    List,
+    Object,
+}
+
+/// Whether a name is one of these.
+pub fn is_one_of(name: &str, names: &[&str]) -> bool {
+    names.iter().any(|other| *other == name)
+}
+
+/// What is wanted at a field, or, of a list of names or objects, at its items.
+pub(crate) fn due_at(field: &str) -> Due {
+    match field {
+        "physically_contiguous_required"
+        | "secure_required"
+        | "cpu_domain_supported"
+        | "ram_domain_supported"
+        | "inaccessible_domain_supported"
+        | "require_bytes_per_row_at_pixel_boundary"
+        | "contiguous"
+        | "secure" => Due::Flag,
+        "min_size"
+        | "max_size"
+        | "size_alignment"
+        | "display_rect_alignment"
+        | "required_min_size"
+        | "required_max_size" => Due::Size,
+        "usage"
+        | "color_spaces"
+        | "domains"
+        | "pixel_format_and_modifiers"
+        | "permitted_heaps"
+        | "image_format_constraints"
+        | "heaps"
+        | "pairs" => Due::List,
+        "pixel_format" | "pixel_format_modifier" | "heap_type" => Due::Name,
+        "buffer_memory_constraints" => Due::Object,
+        _ => Due::Number,
+    }
+}
+
+/// The least and the greatest number that a field takes, where it takes one.
+pub(crate) fn range_of(field: &str) -> (u64, u64) {
+    match field {
+        "min_size_bytes" | "max_size_bytes" | "id" => (0, u64::MAX),
+        "max_width_times_height" => (1, u64::MAX),
+        "bytes_per_row_divisor" | "start_offset_divisor" => (1, 65536),
+        _ => (0, 4294967295),
+    }
+}
+
+/// What may stand at a field, in words.
+pub(crate) fn allowed(field: &str, is_platform: bool) -> &'static str {
+    match due_at(field) {
+        Due::Flag => "true or false",
+        Due::Size => allowed_size(field),
+        Due::Number => allowed_number(field),
+        Due::Name => allowed_name(field, is_platform),
+        Due::List => allowed_list(field, is_platform),
+        Due::Object => "an object",
+    }
+}
+
+fn allowed_size(field: &str) -> &'static str {
+    if field == "size_alignment" || field == "display_rect_alignment" {
+        return "an object with just width and height, whole numbers of pixels from 1 to 65536";
+    }
+    "an object with just width and height, whole numbers of pixels from 0 to 4294967295"
+}
+
+fn allowed_number(field: &str) -> &'static str {
+    match field {
+        "min_size_bytes" | "max_size_bytes" => "a whole number of bytes, 0 to 18446744073709551615",
+        "bytes_per_row_divisor" | "start_offset_divisor" => "a whole number of bytes, 1 to 65536",
+        "min_bytes_per_row" | "max_bytes_per_row" => "a whole number of bytes, 0 to 4294967295",
+        "max_width_times_height" => "a whole number of pixels, 1 to 18446744073709551615",
+        "id" => "a whole number, 0 to 18446744073709551615",
+        _ => "a whole number of buffers, 0 to 4294967295",
+    }
+}
+
+fn allowed_name(field: &str, is_platform: bool) -> &'static str {
+    match field {
+        "pixel_format" if is_platform => "the name of a format",
+        "pixel_format" => "the name of a format, or DO_NOT_CARE",
+        "pixel_format_modifier" if is_platform => {
+            "LINEAR, INTEL_I915_X_TILED or INTEL_I915_Y_TILED"
+        }
+        "pixel_format_modifier" => {
+            "LINEAR, INTEL_I915_X_TILED, INTEL_I915_Y_TILED or DO_NOT_CARE"
+        }
+        _ => "1 to 128 ASCII letters, digits, '.', '_' or '-'",
+    }
+}
+
+fn allowed_list(field: &str, is_platform: bool) -> &'static str {
+    match field {
+        "usage" => {
+            "a list of none, cpu, vulkan, display or video; one at least, and none stands alone"
+        }
+        "color_spaces" if is_platform => "a list of names, one at least, none twice",
+        "color_spaces" => "a list of names, one at least; DO_NOT_CARE takes any",
+        "domains" => "a list of cpu, ram or inaccessible; one at least, none twice",
+        "permitted_heaps" => {
+            "a list of at most 64 heaps, each an object with heap_type and id, none twice"
+        }
+        "image_format_constraints" => "a list of entries",
+        "heaps" => "a list of 1 to 64 heaps, no two of one heap_type and id",
+        "pairs" => {
+            "a list of objects with pixel_format and pixel_format_modifier, one at least, none twice"
+        }
+        _ => "a list of objects with pixel_format and pixel_format_modifier",
+    }
+}

@@ -1,0 +1,20 @@
+//! Where the first fault of a script's record stands in its text, and what would be right, in words.
+#![tactic(auto)]
+
+mod cutting;
+mod document;
+mod firsts;
+mod keys;
+mod kinds;
+mod names;
+mod paths;
+mod record_fault;
+mod record_place;
+mod unknown;
+
+pub use document::{Document, Part};
+pub use keys::{CONSTRAINTS, is_one_of};
+pub use kinds::wrong_kind;
+pub use paths::{Path, with};
+pub use record_fault::tell_record_fault;
+pub use unknown::{first_unknown, key_of};

@@ -1,0 +1,61 @@
+//! Paths to values in a script.
+
+use explanation_text::wording::put_visible;
+use json_places::Step;
+use std::alloc::{AllocError, Global};
+
+/// How many characters of a key are shown.
+const MOST: usize = 60;
+
+/// A path from the script to a value in it.
+pub type Path<'a> = Vec<Step<'a>>;
+
+/// A path with a further step.
+pub fn with<'a>(alloc: Global, path: &[Step<'a>], step: Step<'a>) -> Result<Path<'a>, AllocError> {
+    let mut longer = Vec::from_slice(alloc, path)?;
+    longer.push(step)?;
+    Ok(longer)
+}
+
+/// A path with further steps after it.
+pub(crate) fn joined<'a>(
+    alloc: Global,
+    path: &[Step<'a>],
+    others: &[Step<'a>],
+) -> Result<Path<'a>, AllocError> {
+    let mut longer = Vec::from_slice(alloc, path)?;
+    longer.extend_from_slice(others)?;
+    Ok(longer)
+}
+
+/// Puts a path after a text: `calls[4].constraints.usage[0]`, or `the script`.
+pub(crate) fn put_path(text: &mut String, path: &[Step<'_>]) -> Result<(), AllocError> {
+    if path.is_empty() {
+        return text.push_str("the script");
+    }
+    for (k, step) in path.iter().enumerate() {
+        match *step {
+            Step::Key(key) => {
+                if 0 < k {
+                    text.push_str(".")?;
+                }
+                put_key(text, key)?;
+            }
+            Step::Item(index) => write!(text, "[{index}]")?,
+        }
+    }
+    Ok(())
+}
+
+/// Puts a key after a text, the front of it where it is long.
+fn put_key(text: &mut String, key: &str) -> Result<(), AllocError> {
+    let mut front = String::new(*text.allocator());
+    for c in key.chars().take(MOST) {
+        front.push(c)?;
+    }
+    put_visible(text, &front)?;
+    if front.len() < key.len() {
+        text.push_str("...")?;
+    }
+    Ok(())
+}

@@ -1,0 +1,152 @@
+//! Where in a record its first fault stands.
+
+use crate::cutting::Narrowing;
+use crate::keys::{ENTRY, HEAP_NAME, MEMORY, PAIR, is_one_of};
+use crate::names::MODIFIERS_OR_ANY;
+use crate::paths::{Path, with};
+use json_places::{Step, value_at};
+use serde_json::Value;
+use std::alloc::{AllocError, Global};
+use sysmem_sanitise::Fault;
+
+/// The path from a record to the value that its first fault is about, or to where it would stand.
+pub(crate) fn place_of(
+    alloc: Global,
+    record: &Value,
+    fault: Fault,
+    is_platform: bool,
+) -> Result<Path<'static>, AllocError> {
+    let at = fault.at.name();
+    if at == "whole" {
+        return Ok(Vec::new(alloc));
+    }
+    let mut cut = Narrowing::new(alloc, record, fault, is_platform)?;
+    if is_platform {
+        place_in_platform(alloc, &mut cut, at)
+    } else if at == "usage" {
+        in_member(alloc, &mut cut, at, &[])
+    } else if is_one_of(at, MEMORY) || is_one_of(at, HEAP_NAME) {
+        place_in_memory(alloc, &mut cut, at)
+    } else if is_one_of(at, ENTRY) || at == "image_format_constraints" {
+        place_in_entries(alloc, record, &mut cut, at)
+    } else {
+        Ok(vec![in alloc; Step::Key(at)]?)
+    }
+}
+
+/// The faulty item of the list that is a member of the record, with the rest after it.
+fn in_member(
+    alloc: Global,
+    cut: &mut Narrowing,
+    key: &'static str,
+    rest: &[Step<'static>],
+) -> Result<Path<'static>, AllocError> {
+    cut.in_list(vec![in alloc; Step::Key(key)]?, rest)
+}
+
+fn place_in_platform(
+    alloc: Global,
+    cut: &mut Narrowing,
+    at: &'static str,
+) -> Result<Path<'static>, AllocError> {
+    match at {
+        "heap_type" | "id" | "contiguous" | "secure" => {
+            in_member(alloc, cut, "heaps", &[Step::Key(at)])
+        }
+        "domains" => {
+            let heaps = vec![in alloc; Step::Key("heaps")]?;
+            let path = cut.in_list(heaps, &[Step::Key(at)])?;
+            cut.in_list(path, &[])
+        }
+        "pixel_format" | "pixel_format_modifier" => {
+            in_member(alloc, cut, "pairs", &[Step::Key(at)])
+        }
+        _ => in_member(alloc, cut, at, &[]),
+    }
+}
+
+fn place_in_memory(
+    alloc: Global,
+    cut: &mut Narrowing,
+    at: &'static str,
+) -> Result<Path<'static>, AllocError> {
+    let memory = vec![in alloc; Step::Key("buffer_memory_constraints")]?;
+    if at == "permitted_heaps" {
+        return cut.in_list(with(alloc, &memory, Step::Key(at))?, &[]);
+    }
+    if is_one_of(at, HEAP_NAME) {
+        let heaps = with(alloc, &memory, Step::Key("permitted_heaps"))?;
+        return cut.in_list(heaps, &[Step::Key(at)]);
+    }
+    with(alloc, &memory, Step::Key(at))
+}
+
+fn place_in_entries(
+    alloc: Global,
+    record: &Value,
+    cut: &mut Narrowing,
+    at: &'static str,
+) -> Result<Path<'static>, AllocError> {
+    let entries = vec![in alloc; Step::Key("image_format_constraints")]?;
+    let path = cut.in_list(entries, &[])?;
+    if at == "image_format_constraints" {
+        return Ok(path);
+    }
+    let own = with(alloc, &path, Step::Key(at))?;
+    if at == "color_spaces" {
+        return cut.in_list(own, &[]);
+    }
+    if !is_one_of(at, PAIR) && at != "pixel_format_and_modifiers" {
+        return Ok(own);
+    }
+    match place_in_pairs(alloc, record, cut, &path, at)? {
+        Some(further) => Ok(further),
+        None => Ok(own),
+    }
+}
+
+/// The faulty one of an entry's further pairs, if it is one of these.
+fn place_in_pairs(
+    alloc: Global,
+    record: &Value,
+    cut: &mut Narrowing,
+    entry: &[Step<'static>],
+    at: &'static str,
+) -> Result<Option<Path<'static>>, AllocError> {
+    if at == "pixel_format_modifier" && has_wrong_modifier(value_at(record, entry)) {
+        return Ok(None);
+    }
+    let pairs = with(alloc, entry, Step::Key("pixel_format_and_modifiers"))?;
+    if !has_items(value_at(record, &pairs)) {
+        return Ok(None);
+    }
+    let own = value_at(record, entry).and_then(|entry| entry.get("pixel_format"));
+    let Some(index) = cut.item(&pairs, usize::from(own.is_none()))? else {
+        return Ok(None);
+    };
+    let path = with(alloc, &pairs, Step::Item(index))?;
+    if is_one_of(at, PAIR) {
+        Ok(Some(with(alloc, &path, Step::Key(at))?))
+    } else {
+        Ok(Some(path))
+    }
+}
+
+/// Whether a value is a list that isn't empty.
+fn has_items(value: Option<&Value>) -> bool {
+    match value {
+        Some(Value::Array(list)) => !list.is_empty(),
+        _ => false,
+    }
+}
+
+/// Whether an entry's own modifier is none that is known.
+fn has_wrong_modifier(entry: Option<&Value>) -> bool {
+    match entry.and_then(|entry| entry.get("pixel_format_modifier")) {
+        None => false,
+        Some(modifier) => match modifier.as_str() {
+            Some(name) => !is_one_of(name, MODIFIERS_OR_ANY),
+            None => true,
+        },
+    }
+}

@@ -1,0 +1,372 @@
+//! The faults of a script's calls, in words.
+
+use crate::keys::CALLS;
+use explanation_text::wording::{put_few, put_joined};
+use explanation_text::{Items, nearest};
+use json_places::Step;
+use record_faults::{
+    CONSTRAINTS, Document, Part, first_unknown, is_one_of, key_of, wrong_kind,
+};
+use script_reading::ScriptFault;
+use serde_json::Value;
+use std::alloc::{AllocError, Global};
+
+/// A call with a fault.
+#[derive(Clone, Copy)]
+struct Faulty<'a, 'b> {
+    document: &'b Document<'a>,
+    calls: &'a [Value],
+    /// From 0.
+    index: usize,
+    call: &'a Value,
+}
+
+/// Tells the fault of the call of this number.
+pub(crate) fn tell_call_fault<'a>(
+    items: &mut Items,
+    document: &Document<'a>,
+    fault: ScriptFault,
+    number: usize,
+) -> Result<(), AllocError> {
+    let index = number.saturating_sub(1);
+    let Some(calls) = document.at(&[Step::Key("calls")]).and_then(Value::as_array) else {
+        return Ok(());
+    };
+    let Some(call) = calls.get(index) else {
+        return Ok(());
+    };
+    let faulty = Faulty {
+        document,
+        calls,
+        index,
+        call,
+    };
+    match fault {
+        ScriptFault::TooManyActors(_) => tell_actors(items, faulty),
+        ScriptFault::BadName(_) => tell_name(items, faulty),
+        ScriptFault::SharedName(_) => tell_shared(items, faulty),
+        _ => tell_shape(items, faulty),
+    }
+}
+
+impl<'a> Faulty<'a, '_> {
+    fn path(&self) -> [Step<'static>; 2] {
+        [Step::Key("calls"), Step::Item(self.index)]
+    }
+
+    /// Points at a member's value, or at the call where there is none.
+    fn point(
+        &self,
+        items: &mut Items,
+        key: &'static str,
+        note: &str,
+        help: String,
+    ) -> Result<(), AllocError> {
+        let member = [Step::Key("calls"), Step::Item(self.index), Step::Key(key)];
+        let path = if self.call.get(key).is_some() {
+            &member[..]
+        } else {
+            &member[..2]
+        };
+        self.document
+            .advise(items, 1, path, Part::Value, note, help)
+    }
+
+    /// Points at the call, which lacks a member; or at a key that it can't have, which is likely meant.
+    fn lacks(&self, items: &mut Items, key: &'static str, help: String) -> Result<(), AllocError> {
+        let alloc = items.alloc();
+        let path = self.path();
+        let known = ["call", "on", "as", "actor", "constraints"];
+        if let Some(other) = first_unknown(alloc, self.document, &path, &known)? {
+            let meant = format!(in alloc; "did you mean {key}? It is missing")?;
+            return self
+                .document
+                .advise(items, 1, &other, Part::Key, "unknown key", meant);
+        }
+        let note = format!(in alloc; "{key} is missing")?;
+        self.document
+            .advise(items, 1, &path, Part::Begin, &note, help)
+    }
+
+    fn text(&self, key: &str) -> Option<&'a str> {
+        self.call.get(key).and_then(Value::as_str)
+    }
+}
+
+/// The actor of a call, as it is named.
+pub fn actor_of(call: &Value) -> &str {
+    match call.get("actor") {
+        Some(actor) => actor.as_str().unwrap_or("main"),
+        None => "main",
+    }
+}
+
+fn tell_actors(items: &mut Items, faulty: Faulty<'_, '_>) -> Result<(), AllocError> {
+    let alloc = items.alloc();
+    let mut actors: Vec<&str> = Vec::new(alloc);
+    for call in faulty.calls.iter().take(faulty.index) {
+        let actor = actor_of(call);
+        if actors.len() < 16 && !is_one_of(actor, &actors) {
+            actors.push(actor)?;
+        }
+    }
+    let mut help = String::from_str(alloc, "at most 16 may call: ")?;
+    put_joined(&mut help, &actors, "and")?;
+    faulty.point(items, "actor", "the 17th actor", help)
+}
+
+/// Whether a call makes a name.
+fn is_maker(name: &str) -> bool {
+    matches!(
+        name,
+        "duplicate" | "create_group" | "create_child" | "attach_token"
+    )
+}
+
+/// Tells a wrong kind, an unknown or missing key, or an unknown name of a call.
+fn tell_shape(items: &mut Items, faulty: Faulty<'_, '_>) -> Result<(), AllocError> {
+    let alloc = items.alloc();
+    if !faulty.call.is_object() {
+        let note = wrong_kind(alloc, faulty.call, "a call is")?;
+        return faulty
+            .document
+            .point(items, 1, &faulty.path(), Part::Value, &note, &[]);
+    }
+    let Some(value) = faulty.call.get("call") else {
+        let help = calls_known(alloc)?;
+        return faulty.lacks(items, "call", help);
+    };
+    let Some(name) = value.as_str() else {
+        return tell_kind(items, faulty, "call", value);
+    };
+    if !is_one_of(name, CALLS) {
+        let help = hint_of_call(alloc, name)?;
+        return faulty.point(items, "call", "unknown call", help);
+    }
+    tell_members(items, faulty, name)
+}
+
+/// What an unknown call may mean.
+fn hint_of_call(alloc: Global, name: &str) -> Result<String, AllocError> {
+    if let Some(near) = nearest(alloc, name, CALLS)? {
+        return format!(in alloc; "did you mean {near}?");
+    }
+    calls_known(alloc)
+}
+
+fn calls_known(alloc: Global) -> Result<String, AllocError> {
+    let mut words = String::from_str(alloc, "calls: ")?;
+    put_joined(&mut words, CALLS, "and")?;
+    Ok(words)
+}
+
+fn tell_kind(
+    items: &mut Items,
+    faulty: Faulty<'_, '_>,
+    key: &'static str,
+    value: &Value,
+) -> Result<(), AllocError> {
+    let alloc = items.alloc();
+    let note = wrong_kind(alloc, value, "a name is")?;
+    let help = String::from_str(alloc, "names stand in double quotes")?;
+    faulty.point(items, key, &note, help)
+}
+
+/// Tells what is wrong with the members of a call that has a name.
+fn tell_members(items: &mut Items, faulty: Faulty<'_, '_>, name: &str) -> Result<(), AllocError> {
+    if is_maker(name) && faulty.call.get("as").is_none() {
+        let help = format!(in items.alloc(); "{name} makes a node: as gives it its name")?;
+        return faulty.lacks(items, "as", help);
+    }
+    if let Some((key, value)) = no_text(faulty, &["as"], is_maker(name)) {
+        return tell_kind(items, faulty, key, value);
+    }
+    if faulty.call.get("on").is_none() {
+        let help = String::from_str(items.alloc(), "on names the node that the call is made on")?;
+        return faulty.lacks(items, "on", help);
+    }
+    let keys = keys_of(name);
+    if let Some(unknown) = first_unknown(items.alloc(), faulty.document, &faulty.path(), keys)? {
+        return tell_key(items, faulty, name, keys, &unknown);
+    }
+    match no_text(faulty, &["on", "actor"], true) {
+        Some((key, value)) => tell_kind(items, faulty, key, value),
+        None => Ok(()),
+    }
+}
+
+/// The first of these members, if they are to be texts, that is none.
+fn no_text<'a>(
+    faulty: Faulty<'a, '_>,
+    keys: &[&'static str],
+    are_texts: bool,
+) -> Option<(&'static str, &'a Value)> {
+    for key in keys {
+        match faulty.call.get(*key) {
+            Some(value) if are_texts && !value.is_string() => {
+                return Some((*key, value));
+            }
+            _ => {}
+        }
+    }
+    None
+}
+
+/// The keys of a call of this name.
+fn keys_of(name: &str) -> &'static [&'static str] {
+    if is_maker(name) {
+        &["call", "on", "actor", "as"]
+    } else if name == "set_constraints" {
+        &["call", "on", "actor", "constraints"]
+    } else {
+        &["call", "on", "actor"]
+    }
+}
+
+/// Tells a key that the call can't have.
+fn tell_key(
+    items: &mut Items,
+    faulty: Faulty<'_, '_>,
+    name: &str,
+    keys: &'static [&'static str],
+    path: &[Step<'_>],
+) -> Result<(), AllocError> {
+    let alloc = items.alloc();
+    let key = key_of(path);
+    let help = if is_one_of(key, CONSTRAINTS) {
+        String::from_str(alloc, "it belongs into constraints")?
+    } else if key == "as" {
+        format!(in alloc; "{name} makes no node")?
+    } else if key == "constraints" {
+        String::from_str(alloc, "only set_constraints has constraints")?
+    } else {
+        hint_of_key(alloc, key, keys)?
+    };
+    faulty
+        .document
+        .advise(items, 1, path, Part::Key, "unknown key", help)
+}
+
+fn hint_of_key(alloc: Global, key: &str, keys: &[&'static str]) -> Result<String, AllocError> {
+    if let Some(near) = nearest(alloc, key, keys)? {
+        return format!(in alloc; "did you mean {near}?");
+    }
+    let mut words = String::from_str(alloc, "keys of this call: ")?;
+    put_joined(&mut words, keys, "and")?;
+    Ok(words)
+}
+
+/// Whether a text is 1 to 32 ASCII letters, digits, `_` and `-`.
+fn is_name(text: &str) -> bool {
+    !text.is_empty()
+        && text.len() <= 32
+        && text
+            .as_bytes()
+            .iter()
+            .all(|b| b.is_ascii_alphanumeric() || *b == b'_' || *b == b'-')
+}
+
+/// Tells a bad name, a name that no earlier call made, or one that is made again.
+fn tell_name(items: &mut Items, faulty: Faulty<'_, '_>) -> Result<(), AllocError> {
+    let alloc = items.alloc();
+    for key in ["on", "as", "actor"] {
+        match faulty.text(key) {
+            Some(text) if !is_name(text) => {
+                let help = String::from_str(
+                    alloc,
+                    "a name is 1 to 32 ASCII letters, digits, _ or -",
+                )?;
+                return faulty.point(items, key, "a bad name", help);
+            }
+            _ => {}
+        }
+    }
+    let on = faulty.text("on").unwrap_or("");
+    if on != "root" && maker_of(faulty, on).is_none() {
+        return tell_unmade(items, faulty, on);
+    }
+    let made = faulty.text("as").unwrap_or("");
+    let help = match maker_of(faulty, made) {
+        Some(index) => {
+            let number = index.saturating_add(1);
+            format!(in alloc; "call {number} makes it")?
+        }
+        None => String::from_str(alloc, "the program makes root")?,
+    };
+    faulty.point(items, "as", "made before", help)
+}
+
+/// Tells a name on which another actor made a call.
+fn tell_shared(items: &mut Items, faulty: Faulty<'_, '_>) -> Result<(), AllocError> {
+    let alloc = items.alloc();
+    let on = faulty.text("on").unwrap_or("");
+    let actor = actor_of(faulty.call);
+    let earlier = faulty
+        .calls
+        .iter()
+        .take(faulty.index)
+        .position(|call| is_by_another(call, on, actor));
+    let help = match earlier {
+        Some(index) => {
+            let number = index.saturating_add(1);
+            format!(in alloc; "call {number} is made on it by another actor")?
+        }
+        None => String::from_str(alloc, "an earlier call on it is another actor's")?,
+    };
+    faulty.point(items, "on", "another actor's name", help)
+}
+
+/// Whether a call is made on a name, and not by this actor.
+fn is_by_another(call: &Value, on: &str, actor: &str) -> bool {
+    call.get("on").and_then(Value::as_str) == Some(on) && actor_of(call) != actor
+}
+
+/// The index of the earlier call that makes a name.
+fn maker_of(faulty: Faulty<'_, '_>, name: &str) -> Option<usize> {
+    faulty
+        .calls
+        .iter()
+        .take(faulty.index)
+        .position(|call| makes(call, name))
+}
+
+fn makes(call: &Value, name: &str) -> bool {
+    call.get("as").and_then(Value::as_str) == Some(name)
+}
+
+/// Tells a name that no earlier call made.
+fn tell_unmade(items: &mut Items, faulty: Faulty<'_, '_>, on: &str) -> Result<(), AllocError> {
+    let alloc = items.alloc();
+    let note = "no earlier call makes this name";
+    let later = faulty
+        .calls
+        .iter()
+        .skip(faulty.index)
+        .position(|call| makes(call, on));
+    let help = match later {
+        Some(0) => String::from_str(alloc, "this call itself makes it")?,
+        Some(more) => {
+            let number = faulty.index.saturating_add(more).saturating_add(1);
+            format!(in alloc; "call {number} makes it, and that comes later")?
+        }
+        None => hint_of_made(alloc, faulty, on)?,
+    };
+    faulty.point(items, "on", note, help)
+}
+
+/// The name that was made and is near, or the names that were.
+fn hint_of_made(alloc: Global, faulty: Faulty<'_, '_>, on: &str) -> Result<String, AllocError> {
+    let mut made: Vec<&str> = Vec::new(alloc);
+    made.push("root")?;
+    for call in faulty.calls.iter().take(faulty.index) {
+        if let Some(name) = call.get("as").and_then(Value::as_str) {
+            made.push(name)?;
+        }
+    }
+    if let Some(near) = nearest(alloc, on, &made)? {
+        return format!(in alloc; "did you mean {near}?");
+    }
+    let mut words = String::from_str(alloc, "names so far: ")?;
+    put_few(&mut words, &made, 8)?;
+    Ok(words)
+}

@@ -1,0 +1,178 @@
+//! The faults of a script, in words.
+
+use crate::call_fault::tell_call_fault;
+use crate::keys::SCRIPT;
+use explanation_text::{Items, Kind, Mark, nearest, show};
+use json_places::{Span, Step, stop_of};
+use record_faults::{Document, Part, first_unknown, key_of, tell_record_fault, wrong_kind};
+use script_reading::{LONGEST, ScriptFault};
+use serde_json::Value;
+use std::alloc::AllocError;
+
+/// Tells why a script is refused, and where.
+pub fn tell_fault<'a>(
+    items: &mut Items,
+    document: &Document<'a>,
+    fault: ScriptFault,
+) -> Result<(), AllocError> {
+    put_answer(items, fault)?;
+    match fault {
+        ScriptFault::TooLong => tell_length(items),
+        ScriptFault::NotJson => Ok(()),
+        ScriptFault::Misshapen => tell_misshapen(items, document),
+        ScriptFault::CallMisshapen(number)
+        | ScriptFault::BadName(number)
+        | ScriptFault::TooManyActors(number)
+        | ScriptFault::SharedName(number) => { tell_call_fault(items, document, fault, number) }
+        ScriptFault::Platform(record) => {
+            let base = [Step::Key("platform")];
+            tell_record_fault(items, 1, document, &base, record, true)
+        }
+        ScriptFault::TooManyCalls => tell_calls(items, document),
+    }
+}
+
+/// The answer of a script that is refused.
+fn put_answer(items: &mut Items, fault: ScriptFault) -> Result<(), AllocError> {
+    let alloc = items.alloc();
+    let mut text = format!(in alloc; "script refused: {fault}")?;
+    match fault {
+        ScriptFault::NotJson => text.push_str(", no JSON")?,
+        ScriptFault::Platform(_) => text.push_str(", the platform")?,
+        _ => {}
+    }
+    items.push(Kind::Answer, 0, "", text)
+}
+
+fn tell_length(items: &mut Items) -> Result<(), AllocError> {
+    let alloc = items.alloc();
+    let text = format!(in alloc; "the script has more than {LONGEST} bytes; no more are read")?;
+    items.say(1, "", text)
+}
+
+fn tell_calls(items: &mut Items, document: &Document<'_>) -> Result<(), AllocError> {
+    let alloc = items.alloc();
+    let count = match document.at(&[Step::Key("calls")]) {
+        Some(calls) => calls.as_array().map_or(0, |list| list.len()),
+        None => 0,
+    };
+    let text = format!(in alloc; "the script has {count} calls, at most 4096 are made")?;
+    items.say(1, "", text)
+}
+
+/// Tells where a text stops being JSON.
+pub fn tell_no_json(items: &mut Items, file: &str, bytes: &[u8]) -> Result<(), AllocError> {
+    let alloc = items.alloc();
+    put_answer(items, ScriptFault::NotJson)?;
+    let valid = match std::str::from_utf8(bytes) {
+        Ok(_) => bytes.len(),
+        Err(error) => error.valid_up_to(),
+    };
+    let front = bytes.get(..valid).unwrap_or(bytes);
+    match stop_of(alloc, front)? {
+        Some(stop) if stop.at < valid || valid == bytes.len() => {
+            tell_stop(
+                items,
+                file,
+                bytes,
+                stop.at,
+                stop.expected.words(),
+                stop.help,
+            )
+        }
+        _ => tell_byte(items, file, bytes, valid),
+    }
+}
+
+fn tell_stop(
+    items: &mut Items,
+    file: &str,
+    bytes: &[u8],
+    at: usize,
+    expected: &str,
+    help: String,
+) -> Result<(), AllocError> {
+    let alloc = items.alloc();
+    let mut note = format!(in alloc; "expected {expected}")?;
+    if at >= bytes.len() {
+        note.push_str(", found the end")?;
+    }
+    let mark = Mark {
+        span: byte_at(at),
+        said: "",
+        note: &note,
+    };
+    if help.is_empty() {
+        return show(items, 1, file, bytes, mark, &[]);
+    }
+    let helps = vec![in alloc; help]?;
+    show(items, 1, file, bytes, mark, &helps)
+}
+
+fn byte_at(at: usize) -> Span {
+    Span {
+        start: at,
+        end: at.saturating_add(1),
+    }
+}
+
+/// Tells a byte that isn't UTF-8.
+fn tell_byte(items: &mut Items, file: &str, bytes: &[u8], at: usize) -> Result<(), AllocError> {
+    let alloc = items.alloc();
+    let byte = bytes.get(at).copied().unwrap_or(0);
+    let note = format!(in alloc; "the byte 0x{byte:02x} isn't UTF-8")?;
+    let mark = Mark {
+        span: byte_at(at),
+        said: "",
+        note: &note,
+    };
+    show(items, 1, file, bytes, mark, &[])
+}
+
+/// Tells a script that is no object with a platform and a list of calls.
+fn tell_misshapen(items: &mut Items, document: &Document<'_>) -> Result<(), AllocError> {
+    if !document.value.is_object() {
+        let due = "an object with platform and calls is";
+        return tell_wrong(items, document, &[], document.value, due);
+    }
+    if let Some(path) = first_unknown(items.alloc(), document, &[], SCRIPT)? {
+        return tell_key(items, document, &path);
+    }
+    for key in SCRIPT {
+        if document.value.get(*key).is_none() {
+            let note = format!(in items.alloc(); "{key} is missing")?;
+            return document.point(items, 1, &[], Part::Begin, &note, &[]);
+        }
+    }
+    let path = [Step::Key("calls")];
+    match document.at(&path) {
+        Some(calls) => tell_wrong(items, document, &path, calls, "a list is"),
+        None => Ok(()),
+    }
+}
+
+/// Tells a value of a wrong kind.
+fn tell_wrong(
+    items: &mut Items,
+    document: &Document<'_>,
+    path: &[Step<'_>],
+    value: &Value,
+    due: &str,
+) -> Result<(), AllocError> {
+    let note = wrong_kind(items.alloc(), value, due)?;
+    document.point(items, 1, path, Part::Value, &note, &[])
+}
+
+/// Tells a key that a script can't have.
+fn tell_key(
+    items: &mut Items,
+    document: &Document<'_>,
+    path: &[Step<'_>],
+) -> Result<(), AllocError> {
+    let alloc = items.alloc();
+    let help = match nearest(alloc, key_of(path), SCRIPT)? {
+        Some(near) => format!(in alloc; "did you mean {near}?")?,
+        None => String::from_str(alloc, "a script has just platform and calls")?,
+    };
+    document.advise(items, 1, path, Part::Key, "unknown key", help)
+}

@@ -1,0 +1,6 @@
+use Rattle.std.proofs.Common.{◌≡◌, []}
+use Rattle.std.specs.List.{All}
+use Rattle.script_story.proofs.telling.domains_of.Given as goal
+
+abbrev pub invariant-loop-index : goal.invariant-loop-index
+invariant-loop-index l = All (λ domain. domain.told.now ≡ []) l.domains.items

@@ -1,0 +1,6 @@
+-- Those who are kept leave no settings.
+use Rattle.settings_reasons.specs.True.{AreInTheWay}
+use Rattle.settings_reasons.proofs.empty.in_the_way.Given as goal
+
+abbrev pub invariant-loop-one : goal.invariant-loop-one
+invariant-loop-one l = AreInTheWay l.platform l.people l.kept.items

@@ -1,0 +1,11 @@
+-- What those so far ask.
+use Rattle.std.proofs.Common.{◌≤◌, take}
+use Rattle.sysmem_merge.specs.Aggregate.{StandsFor}
+use Rattle.value_sources.specs.Sources.{all_asked}
+use Rattle.settings_reasons.proofs.empty.is_unmet.Given as goal
+
+abbrev pub invariant-loop-one : goal.invariant-loop-one
+invariant-loop-one l = record {
+  stands : StandsFor l.asked l.platform (all_asked (take l.one-index l.people));
+  few : l.asked.added ≤ l.one-index;
+}

@@ -1,0 +1,9 @@
+-- What those so far ask.
+use Rattle.std.proofs.Common.{take}
+use Rattle.sysmem_merge.specs.Demands.{offer_demands}
+use Rattle.sysmem_merge.specs.OfferRead.{IsOfferRead}
+use Rattle.value_sources.specs.Sources.{all_asked}
+use Rattle.settings_reasons.proofs.offering.read_of.Given as goal
+
+abbrev pub invariant-loop-one : goal.invariant-loop-one
+invariant-loop-one l = IsOfferRead l.offer (offer_demands (all_asked (take l.one-index l.people))) l.read

@@ -1,0 +1,9 @@
+-- What those so far leave.
+use Rattle.std.proofs.Common.{take}
+use Rattle.sysmem_memory.specs.Place.{AreDomainsLeft}
+use Rattle.sysmem_merge.specs.Demands.{place_demands}
+use Rattle.value_sources.specs.Sources.{all_asked}
+use Rattle.settings_reasons.proofs.placing.has_no_place.Given as goal
+
+abbrev pub invariant-loop-one : goal.invariant-loop-one
+invariant-loop-one l = AreDomainsLeft l.bounds l.heaps (place_demands (all_asked (take l.one-index l.people)))

@@ -1,0 +1,7 @@
+-- Each of those so far refuses it.
+use Rattle.std.proofs.Common.{All}
+use Rattle.settings_reasons.specs.True.{Refuses}
+use Rattle.settings_reasons.proofs.placing.refusing.Given as goal
+
+abbrev pub invariant-loop-one : goal.invariant-loop-one
+invariant-loop-one l = All (Refuses l.field l.heap l.place.coherency) l.those.items

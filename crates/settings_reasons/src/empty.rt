@@ -1,0 +1,197 @@
+//! Why no settings meet participants.
+
+ghost use Rattle.std.specs.Prelude.{◌≡◌, ◌==◌, false, not, filter, IfOk, IfSome, IsTrue};
+ghost use Rattle.settings_reasons.specs.True.{AreInTheWay};
+ghost use Rattle.sysmem_merge.specs.Best.{IsUnmet};
+ghost use Rattle.value_sources.specs.Sources.{all_asked};
+
+use crate::contradicting::tell_contradictions;
+use crate::lacking::{tell_no_heaps, tell_no_images};
+use crate::offering::{are_refused, offers_of};
+use crate::placing::{has_no_place, places_of};
+use crate::refusing::{offer_rows, place_rows};
+use crate::rows::tell_rows;
+use explanation_text::Items;
+use std::alloc::{AllocError, Global};
+use std::fmt::Write;
+use sysmem_counts::Field;
+use sysmem_formats::Offer;
+use sysmem_memory::Place;
+use sysmem_merge::Aggregate;
+use sysmem_sanitise::Platform;
+use value_sources::{Asked, count_text, is_count_line, put_people};
+
+/// A platform with its places and its offers.
+#[derive(Clone, Copy)]
+struct Choices<'b> {
+    platform: &'b Platform,
+    places: &'b [Place],
+    offers: &'b [Offer],
+}
+
+/// The two lines on a count.
+const COUNTS: [Field; 2] = [Field::MaxBufferCount, Field::BufferCountLimit];
+
+/// Tells why no settings meet participants, who are all that a decision has if `whole` says so.
+pub fn tell_conflict(
+    items: &mut Items,
+    depth: usize,
+    platform: &Platform,
+    people: &[Asked<'_>],
+    whole: bool,
+) -> Result<(), AllocError> {
+    let alloc = items.alloc();
+    let places = places_of(alloc, platform)?;
+    let offers = offers_of(alloc, platform)?;
+    let choices = Choices {
+        platform,
+        places: &places,
+        offers: &offers,
+    };
+    tell_contradictions(items, depth, people)?;
+    tell_in_the_way(items, depth, platform, people)?;
+    tell_counts(items, depth, people)?;
+    tell_places(items, depth, choices, people)?;
+    tell_offers(items, depth, choices, people, whole)
+}
+
+/// Tells why no count suits participants, where none does.
+fn tell_counts(items: &mut Items, depth: usize, people: &[Asked<'_>]) -> Result<(), AllocError> {
+    for field in COUNTS {
+        if is_count_line(field, people) {
+            let text = count_text(items.alloc(), field, people)?;
+            items.say(depth, "count", text)?;
+        }
+    }
+    Ok(())
+}
+
+/// Tells who refuses each place, where somebody does.
+fn tell_places(
+    items: &mut Items,
+    depth: usize,
+    choices: Choices<'_>,
+    people: &[Asked<'_>],
+) -> Result<(), AllocError> {
+    let alloc = items.alloc();
+    if !has_no_place(choices.platform, people) {
+        return Ok(());
+    }
+    let head = none_of(alloc, "place", choices.places.len())?;
+    items.say(depth, "place", head)?;
+    let rows = place_rows(alloc, choices.platform, choices.places, people, true)?;
+    tell_rows(items, depth.saturating_add(1), "", &rows)?;
+    tell_no_heaps(items, depth, choices.platform, people)
+}
+
+/// Tells who refuses each offer, where somebody does.
+fn tell_offers(
+    items: &mut Items,
+    depth: usize,
+    choices: Choices<'_>,
+    people: &[Asked<'_>],
+    whole: bool,
+) -> Result<(), AllocError> {
+    let alloc = items.alloc();
+    let offers = choices.offers;
+    if !are_refused(offers, people, whole) {
+        return Ok(());
+    }
+    let head = none_of(alloc, "offer", offers.len())?;
+    items.say(depth, "image", head)?;
+    let colours = choices.platform.colours().len();
+    let rows = offer_rows(alloc, offers, people, whole, true, colours)?;
+    tell_rows(items, depth.saturating_add(1), "", &rows)?;
+    tell_no_images(items, depth, choices.platform, people)
+}
+
+fn none_of(alloc: Global, what: &str, count: usize) -> Result<String, AllocError> {
+    if count == 1 {
+        return format!(in alloc; "the only {what} fails:");
+    }
+    format!(in alloc; "each of the {count} {what}s fails; the nearest first:")
+}
+
+/// How many participants may be asked together; a tree has at most 128.
+const MOST_ASKED: usize = 1024;
+
+/// Whether these participants leave no settings, whatever others ask. False of more than 1,024.
+pub fn is_unmet(
+    alloc: Global,
+    platform: &Platform,
+    people: &[Asked<'_>],
+) -> Result<bool, AllocError>
+    ensures { IfOk result
+        (λ unmet. IsTrue unmet → IsUnmet false platform.now (all_asked people.now)) }
+{
+    if people.len() > MOST_ASKED {
+        return Ok(false);
+    }
+    let mut asked = Aggregate::new(alloc, platform)?;
+    for one in people {
+        asked.add(one.asked)?;
+    }
+    Ok(asked.best_settings(false).is_err())
+}
+
+/// Those who leave no settings by themselves, each of whom is needed for that; `None` where all together leave some.
+pub fn in_the_way<'a>(
+    alloc: Global,
+    platform: &Platform,
+    people: &[Asked<'a>],
+) -> Result<Option<Vec<Asked<'a>>>, AllocError>
+    ensures { IfOk result (λ found. IfSome found
+        (λ some. AreInTheWay platform.now people.now some.items)) }
+{
+    if !is_unmet(alloc, platform, people)? {
+        return Ok(None);
+    }
+    let mut kept = Vec::from_slice(alloc, people)?;
+    for one in people {
+        let rest = all_but(alloc, &kept, one.node)?;
+        if is_unmet(alloc, platform, &rest)? {
+            kept = rest;
+        }
+    }
+    Ok(Some(kept))
+}
+
+/// Tells those who leave no settings by themselves; or who can't be met even alone.
+fn tell_in_the_way(
+    items: &mut Items,
+    depth: usize,
+    platform: &Platform,
+    people: &[Asked<'_>],
+) -> Result<(), AllocError> {
+    let alloc = items.alloc();
+    let Some(kept) = in_the_way(alloc, platform, people)? else {
+        return Ok(());
+    };
+    let mut text = String::from_str(alloc, "in the way: ")?;
+    put_people(&mut text, &kept)?;
+    let others = people.len().saturating_sub(kept.len());
+    if kept.len() == 1 {
+        text.push_str(" can't be met even by itself")?;
+    } else if others == 1 {
+        text.push_str(", whatever the other asks")?;
+    } else if others > 1 {
+        write!(text, ", whatever the other {others} ask")?;
+    }
+    items.say(depth, "", text)
+}
+
+/// The participants without the one of this number.
+fn all_but<'a>(
+    alloc: Global,
+    people: &[Asked<'a>],
+    node: usize,
+) -> Result<Vec<Asked<'a>>, AllocError>
+    ensures { IfOk result
+        (λ rest. rest.items ≡ filter (λ one. not (one.node == node)) people.now) }
+{
+    people
+        .iter()
+        .copied()
+        .filter(|one| one.node != node)
+        .collect(alloc)
+}

@@ -1,0 +1,158 @@
+//! What participants name that the platform lacks.
+
+use crate::offer_words::pair_name;
+use crate::rows::{Row, add, tell_rows};
+use explanation_text::Items;
+use std::alloc::{AllocError, Global};
+use sysmem_formats::{Modifier, PixelFormat};
+use sysmem_image::{ColourSet, Entry};
+use sysmem_memory::Heap;
+use sysmem_sanitise::Platform;
+use value_sources::{Asked, put_has};
+
+/// Something that a participant names.
+#[derive(Drop)]
+struct Named<'a> {
+    name: String,
+    people: Vec<Asked<'a>>,
+}
+
+/// Tells which formats, modifiers and colour spaces participants take and the platform lacks, those
+/// that most take first.
+pub(crate) fn tell_no_images(
+    items: &mut Items,
+    depth: usize,
+    platform: &Platform,
+    people: &[Asked<'_>],
+) -> Result<(), AllocError> {
+    let alloc = items.alloc();
+    let mut lacked: Vec<Named<'_>> = Vec::new(alloc);
+    for one in people {
+        for entry in one.asked.entries() {
+            if !has_pair(platform, entry) {
+                let name = pair_name(alloc, entry.format, entry.modifier)?;
+                add_named(&mut lacked, name, one)?;
+            } else if !has_colour(platform, entry.colours) {
+                let mut name = pair_name(alloc, entry.format, entry.modifier)?;
+                name.push_str(" in any of its colour spaces")?;
+                add_named(&mut lacked, name, one)?;
+            }
+        }
+    }
+    tell_lacked(items, depth, &lacked, people.len(), "takes it", "take it")
+}
+
+/// Tells which heaps participants permit and the platform lacks, those that most permit first.
+pub(crate) fn tell_no_heaps(
+    items: &mut Items,
+    depth: usize,
+    platform: &Platform,
+    people: &[Asked<'_>],
+) -> Result<(), AllocError> {
+    let alloc = items.alloc();
+    let mut lacked: Vec<Named<'_>> = Vec::new(alloc);
+    for one in people {
+        for heap in &one.asked.memory().permitted_heaps {
+            if !has_heap(platform, heap) {
+                let heap_type = heap.heap_type.as_str();
+                let id = heap.id;
+                let name = format!(in alloc; "{heap_type}#{id}")?;
+                add_named(&mut lacked, name, one)?;
+            }
+        }
+    }
+    tell_lacked(
+        items,
+        depth,
+        &lacked,
+        people.len(),
+        "permits it",
+        "permit it",
+    )
+}
+
+/// Whether the platform has a pair that an entry takes.
+fn has_pair(platform: &Platform, entry: &Entry) -> bool {
+    platform.pairs().iter().any(|pair| {
+        is_or_any(entry.format, pair.format) && is_like(entry.modifier, pair.modifier)
+    })
+}
+
+fn is_or_any(named: Option<PixelFormat>, format: PixelFormat) -> bool {
+    match named {
+        Some(name) => name == format,
+        None => true,
+    }
+}
+
+fn is_like(named: Option<Modifier>, modifier: Modifier) -> bool {
+    match named {
+        Some(name) => name == modifier,
+        None => true,
+    }
+}
+
+/// Whether the platform has one of some colour spaces.
+fn has_colour(platform: &Platform, colours: ColourSet) -> bool {
+    colours.lists_any()
+        || platform
+            .colours()
+            .iter()
+            .any(|colour| colours.lists(*colour))
+}
+
+fn has_heap(platform: &Platform, heap: &Heap) -> bool {
+    platform.heaps().iter().any(|info| info.heap.id == heap.id
+        && info.heap.heap_type == heap.heap_type)
+}
+
+/// Adds that a participant names something.
+fn add_named<'a>(
+    lacked: &mut Vec<Named<'a>>,
+    name: String,
+    one: &Asked<'a>,
+) -> Result<(), AllocError> {
+    let alloc = *name.allocator();
+    for known in lacked.iter_mut() {
+        if known.name == name {
+            known.people.push(*one)?;
+            return Ok(());
+        }
+    }
+    let mut people = Vec::new(alloc);
+    people.push(*one)?;
+    lacked.push(Named { name, people })?;
+    Ok(())
+}
+
+/// Tells what is named and isn't there, by whom, those first that most of so many name.
+fn tell_lacked(
+    items: &mut Items,
+    depth: usize,
+    lacked: &[Named<'_>],
+    people: usize,
+    one: &str,
+    many: &str,
+) -> Result<(), AllocError> {
+    let alloc = items.alloc();
+    let mut rows: Vec<Row> = Vec::new(alloc);
+    for named in lacked {
+        let mut text = String::new(alloc);
+        put_has(&mut text, &named.people, one, many)?;
+        let mut texts = Vec::new(alloc);
+        texts.push(text)?;
+        let name = String::from_str(alloc, &named.name)?;
+        add(
+            &mut rows,
+            name,
+            texts,
+            people.saturating_sub(named.people.len()),
+        )?;
+    }
+    if rows.is_empty() {
+        return Ok(());
+    }
+    let head = String::from_str(alloc, "the platform doesn't have these:")?;
+    items.say(depth, "lacks", head)?;
+    tell_rows(items, depth.saturating_add(1), "", &rows)
+}

@@ -1,0 +1,24 @@
+//! Why participants got the settings that they got, or none: which places and offers of a platform they refuse and by which field, where each
+//! value comes from, who alone is in the way, and in which fields given settings fail one.
+//!
+//! ```
+//! let mut items = Items::new(rt.alloc());
+//! tell_settings(&mut items, &platform, &people, &settings)?;
+//! tell_conflict(&mut items, 1, &platform, &people, true)?;
+//! ```
+#![tactic(auto)]
+
+mod chosen;
+mod contradicting;
+mod empty;
+mod fixed;
+mod lacking;
+mod offer_words;
+mod offering;
+mod placing;
+mod refusing;
+mod rows;
+
+pub use chosen::tell_settings;
+pub use empty::{in_the_way, is_unmet, tell_conflict};
+pub use fixed::{failing, tell_misfits};

@@ -1,0 +1,234 @@
+//! Which places of a platform participants refuse, and by which field.
+
+ghost use Rattle.std.specs.Prelude.{All, IfOk, OnOk, IsTrue};
+ghost use Rattle.settings_reasons.specs.True.{IsPlaceReason, Refuses};
+ghost use Rattle.sysmem_memory.specs.Place.{HasNoPlace};
+ghost use Rattle.sysmem_merge.specs.Demands.{place_demands};
+ghost use Rattle.value_sources.specs.Sources.{all_asked};
+
+use crate::rows::Reason;
+use explanation_text::wording::put_visible;
+use std::alloc::{AllocError, Global};
+use std::fmt::Write;
+use sysmem_counts::Field;
+use sysmem_memory::{CoherencyDomain, HeapInfo, MemoryBounds, Place, refuses_in};
+use sysmem_sanitise::Platform;
+use value_sources::{Asked, put_has};
+
+/// The fields by which a place is refused, in the order of the place table.
+const FIELDS: [Field; 7] = [
+    Field::PermittedHeaps,
+    Field::PhysicallyContiguousRequired,
+    Field::SecureRequired,
+    Field::CpuDomainSupported,
+    Field::RamDomainSupported,
+    Field::InaccessibleDomainSupported,
+    Field::Usage,
+];
+
+const DOMAINS: [CoherencyDomain; 3] = [
+    CoherencyDomain::Cpu,
+    CoherencyDomain::Ram,
+    CoherencyDomain::Inaccessible,
+];
+
+/// The places of a platform, in its order.
+pub(crate) fn places_of(alloc: Global, platform: &Platform) -> Result<Vec<Place>, AllocError> {
+    let mut places = Vec::new(alloc);
+    for (heap, info) in platform.heaps().iter().enumerate() {
+        add_places(&mut places, heap, info)?;
+    }
+    Ok(places)
+}
+
+/// Adds the places of a heap.
+fn add_places(places: &mut Vec<Place>, heap: usize, info: &HeapInfo) -> Result<(), AllocError> {
+    for coherency in DOMAINS {
+        if info.domains.has(coherency) {
+            places.push(Place { heap, coherency })?;
+        }
+    }
+    Ok(())
+}
+
+/// Those who refuse a place by a field.
+fn refusing<'a>(
+    alloc: Global,
+    heap: &HeapInfo,
+    place: Place,
+    field: Field,
+    people: &[Asked<'a>],
+) -> Result<Vec<Asked<'a>>, AllocError>
+    ensures { IfOk result (λ those. All (Refuses field heap.now place.coherency) those.items) }
+{
+    let mut those = Vec::new(alloc);
+    for one in people {
+        let memory = one.asked.memory();
+        if refuses_in(field, memory, one.asked.usage(), heap, place.coherency) {
+            those.push(*one)?;
+        }
+    }
+    Ok(those)
+}
+
+/// Each field by which a place is refused, with all who refuse it so.
+pub(crate) fn place_reasons<'a>(
+    alloc: Global,
+    platform: &Platform,
+    place: Place,
+    people: &[Asked<'a>],
+) -> Result<Vec<Reason<'a>>, AllocError> {
+    match platform.heaps().get(place.heap) {
+        Some(heap) => reasons_in(alloc, heap, place, people),
+        None => Ok(Vec::new(alloc)),
+    }
+}
+
+/// The same of a place in this heap.
+fn reasons_in<'a>(
+    alloc: Global,
+    heap: &HeapInfo,
+    place: Place,
+    people: &[Asked<'a>],
+) -> Result<Vec<Reason<'a>>, AllocError>
+    ensures { IfOk result
+        (λ reasons. All (IsPlaceReason heap.now place.coherency) reasons.items) }
+{
+    let mut reasons = Vec::new(alloc);
+    for field in FIELDS {
+        let those = refusing(alloc, heap, place, field, people)?;
+        add_reason(&mut reasons, heap, place, field, those)?;
+    }
+    Ok(reasons)
+}
+
+/// Adds a field by which these refuse a place in a heap, if they are some.
+fn add_reason<'a>(
+    reasons: &mut Vec<Reason<'a>>,
+    heap: &HeapInfo,
+    place: Place,
+    field: Field,
+    people: Vec<Asked<'a>>,
+) -> Result<(), AllocError>
+    requires { All (Refuses field heap.now place.coherency) people.items }
+    ensures { OnOk result (All (IsPlaceReason heap.now place.coherency) reasons.old.items
+        → All (IsPlaceReason heap.now place.coherency) reasons.new.items) }
+{
+    if people.is_empty() {
+        return Ok(());
+    }
+    reasons.push(Reason { field, people })?;
+    Ok(())
+}
+
+/// Whether each place of the platform is refused by somebody.
+pub(crate) fn has_no_place(platform: &Platform, people: &[Asked<'_>]) -> bool
+    ensures { IsTrue result → HasNoPlace platform.now.heaps (place_demands (all_asked people.now)) }
+{
+    let heaps = platform.heaps();
+    let mut bounds = MemoryBounds::new(heaps);
+    for one in people {
+        bounds.add(heaps, one.asked.memory(), one.asked.usage());
+    }
+    bounds.first_place(heaps).is_none()
+}
+
+/// Puts the name of a place after a text: `cma#0 ram`.
+pub(crate) fn put_place(
+    text: &mut String,
+    platform: &Platform,
+    place: Place,
+) -> Result<(), AllocError> {
+    if let Some(info) = platform.heaps().get(place.heap) {
+        put_visible(text, &info.heap.heap_type)?;
+        let id = info.heap.id;
+        write!(text, "#{id} ")?;
+    }
+    text.push_str(place.coherency.name())
+}
+
+/// Puts why participants refuse a place by a field after a text.
+pub(crate) fn put_place_reason(text: &mut String, reason: &Reason<'_>) -> Result<(), AllocError> {
+    let people = &reason.people;
+    let name = reason.field.name();
+    match reason.field {
+        Field::PermittedHeaps => put_permits(text, people),
+        Field::PhysicallyContiguousRequired => {
+            put_has(text, people, "needs", "need")?;
+            write!(text, " contiguous memory ({name})")
+        }
+        Field::SecureRequired => {
+            put_has(text, people, "needs", "need")?;
+            write!(text, " secure memory ({name})")
+        }
+        Field::Usage => {
+            put_has(text, people, "uses", "use")?;
+            text.push_str(" the CPU (usage cpu), which doesn't reach it")
+        }
+        _ => put_unsupported(text, people, name),
+    }
+}
+
+/// Puts which heaps participants permit after a text; of several with other lists only that it isn't this one.
+fn put_permits(text: &mut String, people: &[Asked<'_>]) -> Result<(), AllocError> {
+    let [one] = people else {
+        return put_has(
+            text,
+            people,
+            "doesn't permit this heap",
+            "don't permit this heap",
+        );
+    };
+    put_has(text, people, "permits only", "permit only")?;
+    for (k, heap) in one
+        .asked
+        .memory()
+        .permitted_heaps
+        .iter()
+        .take(4)
+        .enumerate()
+    {
+        text.push_str(if k == 0 { " " } else { ", " })?;
+        text.push_str(&heap.heap_type)?;
+        let id = heap.id;
+        write!(text, "#{id}")?;
+    }
+    Ok(())
+}
+
+/// Whether a participant states a field of its memory.
+fn states(one: &Asked<'_>, field: &str) -> bool {
+    match one.stated {
+        Some(value) => match value.get("buffer_memory_constraints") {
+            Some(memory) => memory.get(field).is_some(),
+            None => false,
+        },
+        None => false,
+    }
+}
+
+/// Puts who says that it doesn't take a coherency domain after a text, and who doesn't say that it does.
+fn put_unsupported(text: &mut String, people: &[Asked<'_>], field: &str) -> Result<(), AllocError> {
+    let alloc = *text.allocator();
+    let mut said = Vec::new(alloc);
+    let mut absent = Vec::new(alloc);
+    for one in people {
+        if states(one, field) {
+            said.push(*one)?;
+        } else {
+            absent.push(*one)?;
+        }
+    }
+    if !said.is_empty() {
+        put_has(text, &said, "says", "say")?;
+        write!(text, " {field} false")?;
+    }
+    if !said.is_empty() && !absent.is_empty() {
+        text.push_str("; ")?;
+    }
+    if !absent.is_empty() {
+        put_has(text, &absent, "doesn't say", "don't say")?;
+        write!(text, " {field}, so it's false")?;
+    }
+    Ok(())
+}

@@ -1,0 +1,68 @@
+//! Who is in the way of the domains that are empty.
+
+use settings_reasons::{failing, in_the_way};
+use std::alloc::{AllocError, Global};
+use story_parts::{Domain, Story, asked_in};
+use sysmem_merge::Settings;
+use sysmem_sanitise::Platform;
+use sysmem_tree::NodeKind;
+use value_sources::Asked;
+
+/// The numbers of those who are in the way of an empty domain; of one with groups, where each
+/// selection has others, of none.
+pub(crate) fn in_the_way_of(
+    alloc: Global,
+    platform: &Platform,
+    story: &Story<'_>,
+) -> Result<Vec<usize>, AllocError> {
+    let mut nodes = Vec::new(alloc);
+    for (index, domain) in story.domains.iter().enumerate() {
+        if domain.verdict() != "empty" || has_groups(story, index) {
+            continue;
+        }
+        let people = asked_in(alloc, story, index, false)?;
+        match settings_above(story, domain) {
+            Some(settings) => add_misfits(&mut nodes, platform, &people, &settings)?,
+            None => add_unmet(&mut nodes, platform, &people)?,
+        }
+    }
+    Ok(nodes)
+}
+
+fn has_groups(story: &Story<'_>, index: usize) -> bool {
+    story.nodes.iter().any(|node| node.domain == index && node.state.kind == NodeKind::Group)
+}
+
+/// The settings that were decided before, of a domain that was attached.
+fn settings_above(story: &Story<'_>, domain: &Domain<'_>) -> Option<Settings> {
+    story.domain_of(domain.host?)?.settings
+}
+
+fn add_misfits(
+    nodes: &mut Vec<usize>,
+    platform: &Platform,
+    people: &[Asked<'_>],
+    settings: &Settings,
+) -> Result<(), AllocError> {
+    let alloc = *nodes.allocator();
+    for one in people {
+        if !failing(alloc, platform, settings, one.asked)?.is_empty() {
+            nodes.push(one.node)?;
+        }
+    }
+    Ok(())
+}
+
+fn add_unmet(
+    nodes: &mut Vec<usize>,
+    platform: &Platform,
+    people: &[Asked<'_>],
+) -> Result<(), AllocError> {
+    let alloc = *nodes.allocator();
+    if let Some(some) = in_the_way(alloc, platform, people)? {
+        for one in &some {
+            nodes.push(one.node)?;
+        }
+    }
+    Ok(())
+}

@@ -1,0 +1,97 @@
+//! The calls by actor, and the decisions where they came.
+
+use crate::joints::add_joints;
+use explanation_markup::{Drawing, Line, Standing};
+use std::alloc::{AllocError, Global};
+use std::fmt::Write;
+use story_parts::{Domain, Made, Story};
+use sysmem_sanitise::Platform;
+
+/// What a page shows of a story, but for what proves its decisions.
+pub fn drawing_of<'b>(
+    alloc: Global,
+    platform: &Platform,
+    story: &'b Story<'_>,
+) -> Result<Drawing<'b>, AllocError> {
+    let mut drawing = Drawing::new(alloc);
+    add_joints(alloc, &mut drawing, platform, story)?;
+    for (index, call) in story.calls.iter().enumerate() {
+        let number = index.saturating_add(1);
+        add_call(alloc, &mut drawing, call, number)?;
+        add_decisions(alloc, &mut drawing, story, Some(number))?;
+    }
+    add_decisions(alloc, &mut drawing, story, None)?;
+    Ok(drawing)
+}
+
+/// Adds a line for a call.
+fn add_call<'b>(
+    alloc: Global,
+    drawing: &mut Drawing<'b>,
+    call: &Made<'b>,
+    number: usize,
+) -> Result<(), AllocError> {
+    let actor = drawing.column(call.actor)?;
+    drawing.lines.push(Line {
+        number: Some(number),
+        actor,
+        words: words_of(alloc, call)?,
+        standing: if call.is_accepted() || call.asks() {
+            Standing::Plain
+        } else {
+            Standing::Bad
+        },
+    })?;
+    Ok(())
+}
+
+/// Adds the domains that ended after this call, or those that have no verdict, in the order of the
+/// report.
+fn add_decisions(
+    alloc: Global,
+    drawing: &mut Drawing<'_>,
+    story: &Story<'_>,
+    after: Option<usize>,
+) -> Result<(), AllocError> {
+    for (k, index) in story.order.iter().enumerate() {
+        let is_again = story.order.iter().take(k).any(|before| before == index);
+        let Some(domain) = story.domains.get(*index) else {
+            continue;
+        };
+        if domain.ended == after && !is_again {
+            drawing.lines.push(line_of(alloc, story, domain)?)?;
+        }
+    }
+    Ok(())
+}
+
+/// The report's line on a domain.
+fn line_of(alloc: Global, story: &Story<'_>, domain: &Domain<'_>) -> Result<Line, AllocError> {
+    let path = story.path(domain.root);
+    let told = domain.told;
+    Ok(Line {
+        number: None,
+        actor: 0,
+        words: format!(in alloc; "domain {path} {told}")?,
+        standing: match domain.verdict() {
+            "chosen" => Standing::Chosen,
+            "pending" => Standing::Open,
+            _ => Standing::Bad,
+        },
+    })
+}
+
+/// A call in words, with its reply where that isn't `ok`.
+fn words_of(alloc: Global, call: &Made<'_>) -> Result<String, AllocError> {
+    let name = call.name();
+    let on = call.on;
+    let mut text = format!(in alloc; "{name} {on}")?;
+    if let Some(made) = call.act.name_made() {
+        write!(text, " {made}")?;
+    }
+    if !call.is_accepted() {
+        let reply = call.reply;
+        write!(text, ": {reply}")?;
+    }
+    Ok(text)
+}

@@ -1,0 +1,207 @@
+//! How many buffers participants need, and where the number comes from.
+
+ghost use Rattle.std.specs.Prelude.{◌≡◌, ◌↔◌, ◌≤◌, ◌<◌, All, IfSome, IfNone, IsTrue, length};
+ghost use Rattle.sysmem_counts.specs.Bounds.{IsTallyOf};
+ghost use Rattle.sysmem_counts.specs.Counts.{IsCountLine};
+ghost use Rattle.value_sources.specs.Sources.{IsNumberOf, counts_of, part_of};
+
+use crate::asked::{Asked, put_has, put_texts};
+use std::alloc::{AllocError, Global};
+use std::fmt::Write;
+use sysmem_counts::{BUFFER_COUNT_LIMIT, CountBounds, Field};
+
+/// How many nodes a tree has at most.
+const MOST_NODES: usize = 128;
+
+/// How many parts of a sum are shown.
+const MOST_PARTS: usize = 5;
+
+/// A part of a count.
+#[derive(Clone, Copy)]
+enum Part {
+    Camping,
+    Dedicated,
+    Shared,
+    Minimum,
+}
+
+fn value_of(one: &Asked<'_>, part: Part) -> u32
+    ensures { result ≡ part_of part one.now }
+{
+    let counts = one.asked.counts();
+    match part {
+        Part::Camping => counts.min_buffer_count_for_camping,
+        Part::Dedicated => counts.min_buffer_count_for_dedicated_slack,
+        Part::Shared => counts.min_buffer_count_for_shared_slack,
+        Part::Minimum => counts.min_buffer_count,
+    }
+}
+
+/// The bounds of the counts of participants, of the first 128 where there are more.
+fn bounds_of(people: &[Asked<'_>]) -> CountBounds
+    ensures { length people.now ≤ 128 → IsTallyOf result (counts_of people.now) }
+{
+    let mut bounds = CountBounds::new();
+    let some = &people[..people.len().min(MOST_NODES)];
+    for one in some {
+        bounds.add(one.asked.counts());
+    }
+    bounds
+}
+
+fn total(people: &[Asked<'_>], part: Part) -> u64 {
+    let mut sum = 0u64;
+    for one in people {
+        sum = sum.saturating_add(u64::from(value_of(one, part)));
+    }
+    sum
+}
+
+/// The first who asks for the most, with that, if anybody asks for some.
+fn greatest<'a>(people: &[Asked<'a>], part: Part) -> Option<(&'a str, u32)>
+    ensures from { IfSome result (λ r. IsNumberOf (part_of part) people.now r.0.now r.1) }
+    ensures most { IfSome result (λ r. All (λ one. part_of part one ≤ r.1) people.now) }
+    ensures some { IfSome result (λ r. 0 < r.1) }
+    ensures none { IfNone result (All (λ one. part_of part one ≡ 0) people.now) }
+{
+    let one = people.iter().rev().max_by_key(|one| value_of(one, part))?;
+    let most = value_of(one, part);
+    if most == 0 {
+        return None;
+    }
+    Some((one.name, most))
+}
+
+/// What participants hold together.
+fn held(people: &[Asked<'_>]) -> u64 {
+    let shared = match greatest(people, Part::Shared) {
+        Some((_, value)) => u64::from(value),
+        None => 0,
+    };
+    total(people, Part::Camping)
+        .saturating_add(total(people, Part::Dedicated))
+        .saturating_add(shared)
+}
+
+/// Puts what participants hold together after a text, as a sum of named parts.
+fn put_held(text: &mut String, people: &[Asked<'_>]) -> Result<(), AllocError> {
+    let start = text.len();
+    put_part(text, start, people, Part::Camping, "camping")?;
+    put_part(text, start, people, Part::Dedicated, "dedicated slack")?;
+    if let Some((name, value)) = greatest(people, Part::Shared) {
+        if text.len() > start {
+            text.push_str(" + ")?;
+        }
+        write!(text, "{name} {value} (shared slack, the greatest)")?;
+    }
+    Ok(())
+}
+
+fn put_part(
+    text: &mut String,
+    start: usize,
+    people: &[Asked<'_>],
+    part: Part,
+    word: &str,
+) -> Result<(), AllocError> {
+    let alloc = *text.allocator();
+    let mut parts: Vec<String> = Vec::new(alloc);
+    for one in people {
+        let value = value_of(one, part);
+        let name = one.name;
+        if value > 0 {
+            parts.push(format!(in alloc; "{name} {value}")?)?;
+        }
+    }
+    if parts.is_empty() {
+        return Ok(());
+    }
+    if text.len() > start {
+        text.push_str(" + ")?;
+    }
+    let count = parts.len();
+    if count > MOST_PARTS {
+        let sum = total(people, part);
+        write!(text, "{sum} ({word} of {count}: ")?;
+        put_texts(text, &parts, MOST_PARTS.saturating_sub(1))?;
+        return text.push_str(")");
+    }
+    put_sum(text, &parts)?;
+    write!(text, " ({word})")
+}
+
+fn put_sum(text: &mut String, parts: &[String]) -> Result<(), AllocError> {
+    for (k, one) in parts.iter().enumerate() {
+        if 0 < k {
+            text.push_str(" + ")?;
+        }
+        text.push_str(one)?;
+    }
+    Ok(())
+}
+
+/// The least count that the participants need.
+fn needed(people: &[Asked<'_>]) -> u64 {
+    let least = match greatest(people, Part::Minimum) {
+        Some((_, value)) => u64::from(value),
+        None => 0,
+    };
+    held(people).max(least).max(1)
+}
+
+/// Where that count comes from.
+pub fn why_needed(alloc: Global, people: &[Asked<'_>]) -> Result<String, AllocError> {
+    let mut text = String::new(alloc);
+    let sum = held(people);
+    let most = greatest(people, Part::Minimum);
+    if sum >= needed(people) {
+        put_held(&mut text, people)?;
+        return Ok(text);
+    }
+    let Some((name, _)) = most else {
+        return String::from_str(alloc, "nobody asks for more than one");
+    };
+    write!(text, "{name} min_buffer_count")?;
+    if sum > 0 {
+        write!(text, "; held are {sum}: ")?;
+        put_held(&mut text, people)?;
+    }
+    Ok(text)
+}
+
+/// Whether a line on the count is true of participants; of more than 128 only the first are asked.
+pub fn is_count_line(field: Field, people: &[Asked<'_>]) -> bool
+    ensures { length people.now ≤ 128 → IsTrue result ↔ IsCountLine field (counts_of people.now) }
+{
+    bounds_of(people).is_line(field)
+}
+
+/// The sentence of a line on the count that is true of participants.
+pub fn count_text(alloc: Global, field: Field, people: &[Asked<'_>]) -> Result<String, AllocError> {
+    let mut text = String::new(alloc);
+    put_has(&mut text, people, "needs", "need")?;
+    let count = needed(people);
+    let why = why_needed(alloc, people)?;
+    write!(text, " {count} buffers: {why}")?;
+    if field == Field::BufferCountLimit {
+        write!(text, "; there are at most {BUFFER_COUNT_LIMIT}")?;
+        return Ok(text);
+    }
+    if let Some((name, most)) = least_maximum(people) {
+        write!(text, "; {name} takes at most {most} (max_buffer_count)")?;
+    }
+    Ok(text)
+}
+
+/// The first who takes the fewest buffers at most, with that.
+fn least_maximum<'a>(people: &[Asked<'a>]) -> Option<(&'a str, u32)>
+    ensures from { IfSome result (λ r. IsNumberOf (λ one. one.asked.now.counts.max_buffer_count)
+        people.now r.0.now r.1) }
+    ensures least { IfSome result (λ r.
+        All (λ one. r.1 ≤ one.asked.now.counts.max_buffer_count) people.now) }
+{
+    let one = people
+        .iter()
+        .min_by_key(|one| one.asked.counts().max_buffer_count)?;
+    Some((one.name, one.asked.counts().max_buffer_count))
+}

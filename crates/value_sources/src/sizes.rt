@@ -1,0 +1,271 @@
+//! The sizes of the smallest image, each with where it comes from.
+
+use crate::multiples::{Multiple, multiple_of, up};
+use crate::wishes::{Side, Wish, Wishes};
+use std::alloc::{AllocError, Global};
+use std::fmt::Write;
+use sysmem_formats::{
+    Modifier, Offer, PixelFormat, bytes_per_pixel, own_alignment, own_row_divisor,
+};
+use sysmem_image::entry_for;
+
+/// A number, and where it comes from.
+#[derive(Drop)]
+pub struct Derived {
+    pub value: u128,
+    pub why: String,
+}
+
+/// The name of an offer's format.
+pub fn format_of(offer: &Offer) -> &'static str {
+    match offer {
+        Offer::NoImage => "none",
+        Offer::Image(pair, _) => pair.format.name(),
+    }
+}
+
+fn modifier_of(offer: &Offer) -> Modifier {
+    match offer {
+        Offer::NoImage => Modifier::Linear,
+        Offer::Image(pair, _) => pair.modifier,
+    }
+}
+
+/// Whether a format has half a plane of colours below its first plane.
+fn has_half_plane(offer: &Offer) -> bool {
+    match offer {
+        Offer::NoImage => false,
+        Offer::Image(pair, _) => matches!(
+            pair.format,
+            PixelFormat::I420 | PixelFormat::YV12 | PixelFormat::NV12 | PixelFormat::P010
+        ),
+    }
+}
+
+/// How many rows a tile has.
+fn tile_rows(offer: &Offer) -> u128 {
+    match modifier_of(offer) {
+        Modifier::Linear => 1,
+        Modifier::IntelXTiled => 8,
+        Modifier::IntelYTiled => 32,
+    }
+}
+
+/// How many bytes a row of a tile has.
+fn tile_bytes(offer: &Offer) -> u128 {
+    match modifier_of(offer) {
+        Modifier::Linear => 1,
+        Modifier::IntelXTiled => 512,
+        Modifier::IntelYTiled => 128,
+    }
+}
+
+impl<'a> Wishes<'a, '_> {
+    /// Puts a multiple that each participant with an entry for the offer asks for after those that are given.
+    fn add_multiples(
+        &self,
+        parts: &mut Vec<Multiple>,
+        field: &str,
+        wish: Wish,
+    ) -> Result<(), AllocError> {
+        let alloc = *parts.allocator();
+        for one in self.people {
+            if let Some(entry) = entry_for(one.asked.entries(), &self.offer) {
+                let value = u128::from(wish.of(entry));
+                let name = one.name;
+                let who = format!(in alloc; "{name} {field}")?;
+                parts.push(Multiple { value, who })?;
+            }
+        }
+        Ok(())
+    }
+
+    /// The least width or height.
+    pub fn side(&self, alloc: Global, side: Side) -> Result<Derived, AllocError> {
+        let (base, first) = self.side_asked(side);
+        let why = match first {
+            Some((name, field)) => format!(in alloc; "{name} {field}")?,
+            None => String::from_str(alloc, "nobody asks for more than 1")?,
+        };
+        self.round_side(alloc, side, base, first.is_some(), why)
+    }
+
+    /// The least width or height that anybody asks for, before it is rounded.
+    pub fn asked(&self, side: Side) -> u128 {
+        u128::from(self.side_asked(side).0)
+    }
+
+    /// The least width or height that somebody asks for, with who does and by which field, where it is above 1.
+    fn side_asked(&self, side: Side) -> (u64, Option<(&'a str, &'static str)>) {
+        let wish = self.greatest(Wish::RequiredMost(side));
+        match self.greatest(Wish::Least(side)) {
+            Some((name, least)) if least > 1 => match wish {
+                Some((other, most)) if most > least => (most, Some((other, "required_max_size"))),
+                _ => (least, Some((name, "min_size"))),
+            },
+            _ => match wish {
+                Some((other, most)) if most > 1 => (most, Some((other, "required_max_size"))),
+                _ => (1, None),
+            },
+        }
+    }
+
+    /// A side, rounded up to what it has to be a multiple of.
+    fn round_side(
+        &self,
+        alloc: Global,
+        side: Side,
+        base: u64,
+        is_asked: bool,
+        why: String,
+    ) -> Result<Derived, AllocError> {
+        let mut why = why;
+        let (width, height) = own_alignment(&self.offer);
+        let own = if side == Side::Width { width } else { height };
+        let format = format_of(&self.offer);
+        let mut parts: Vec<Multiple> = Vec::new(alloc);
+        parts.push(Multiple {
+            value: u128::from(own),
+            who: format!(in alloc; "{format} itself")?,
+        })?;
+        self.add_multiples(&mut parts, "size_alignment", Wish::Alignment(side))?;
+        let align = multiple_of(alloc, parts)?;
+        let value = up(u128::from(base), align.value);
+        if value != u128::from(base) {
+            if is_asked {
+                write!(why, " {base}")?;
+            }
+            let multiple = align.value;
+            let who = align.why.as_str();
+            write!(why, ", up to a multiple of {multiple} ({who})")?;
+        }
+        Ok(Derived { value, why })
+    }
+
+    /// Where the least width and height come from.
+    pub fn why_size(&self, alloc: Global) -> Result<String, AllocError> {
+        let width = self.side(alloc, Side::Width)?.why;
+        let height = self.side(alloc, Side::Height)?.why;
+        if width == height {
+            return Ok(width);
+        }
+        format!(in alloc; "the width {width}; the height {height}")
+    }
+
+    /// The least row in bytes; where the width comes from is said too if that is asked for.
+    pub fn row(&self, alloc: Global, is_alone: bool) -> Result<Derived, AllocError> {
+        let width = self.side(alloc, Side::Width)?;
+        let pixel = u128::from(bytes_per_pixel(&self.offer));
+        let packed = width.value.saturating_mul(pixel);
+        let tile = tile_bytes(&self.offer);
+        let plain = up(packed, tile);
+        let mut why = String::new(alloc);
+        let mut base = plain;
+        match self.greatest(Wish::LeastRow) {
+            Some((name, least)) if u128::from(least) > plain => {
+                base = u128::from(least);
+                write!(why, "{name} min_bytes_per_row")?;
+            }
+            _ => {
+                put_pixels(&mut why, width.value, pixel)?;
+                if is_alone {
+                    let from = width.why.as_str();
+                    write!(why, " ({from})")?;
+                }
+                if plain != packed {
+                    write!(why, ", up to tiles of {tile} bytes")?;
+                }
+            }
+        }
+        self.round_row(alloc, base, why)
+    }
+
+    /// A row, rounded up to what it has to be a multiple of.
+    fn round_row(&self, alloc: Global, base: u128, why: String) -> Result<Derived, AllocError> {
+        let mut why = why;
+        let mut parts: Vec<Multiple> = Vec::new(alloc);
+        let format = format_of(&self.offer);
+        let who = if modifier_of(&self.offer) == Modifier::Linear {
+            format!(in alloc; "{format} itself")?
+        } else {
+            String::from_str(alloc, "tiles")?
+        };
+        parts.push(Multiple {
+            value: u128::from(own_row_divisor(&self.offer)),
+            who,
+        })?;
+        self.add_multiples(&mut parts, "bytes_per_row_divisor", Wish::RowDivisor)?;
+        let whole = Wish::WholePixels(bytes_per_pixel(&self.offer));
+        self.add_multiples(&mut parts, "whole pixels in a row", whole)?;
+        let divisor = multiple_of(alloc, parts)?;
+        let value = up(base, divisor.value);
+        if value != base {
+            let multiple = divisor.value;
+            let who = divisor.why.as_str();
+            write!(why, " = {base}, up to a multiple of {multiple} ({who})")?;
+        }
+        Ok(Derived { value, why })
+    }
+
+    /// The least size of a buffer in bytes; where the image's sides come from is said too if that is asked for.
+    pub fn size(&self, alloc: Global, is_alone: bool) -> Result<Derived, AllocError> {
+        let least = self.least_size();
+        let stated = match least {
+            Some((_, value)) => u128::from(value),
+            None => 1,
+        };
+        if let Offer::Image(_, _) = self.offer {
+            let image = self.image(alloc, is_alone)?;
+            if image.value >= stated {
+                return Ok(image);
+            }
+        }
+        match least {
+            Some((name, value)) => {
+                Ok(Derived {
+                    value: u128::from(value),
+                    why: format!(in alloc; "{name} min_size_bytes")?,
+                })
+            }
+            None => Ok(Derived {
+                value: 1,
+                why: String::from_str(alloc, "nobody asks for more")?,
+            }),
+        }
+    }
+
+    /// The bytes of the smallest image.
+    fn image(&self, alloc: Global, is_alone: bool) -> Result<Derived, AllocError> {
+        let width = self.side(alloc, Side::Width)?.value;
+        let height = self.side(alloc, Side::Height)?.value;
+        let row = self.row(alloc, false)?.value;
+        let rows = up(height, tile_rows(&self.offer));
+        let mut why = format!(in alloc; "row {row} x ")?;
+        write!(why, "{rows} {}", if rows == 1 { "row" } else { "rows" })?;
+        if rows != height {
+            write!(why, " ({height}, up to whole tiles)")?;
+        }
+        let mut value = row.saturating_mul(rows);
+        if has_half_plane(&self.offer) {
+            value = value.saturating_mul(3).saturating_add(1) / 2;
+            let format = format_of(&self.offer);
+            write!(why, " x 3/2 ({format})")?;
+        }
+        if is_alone {
+            let from = self.why_size(alloc)?;
+            write!(why, ", for {width}x{height} ({from})")?;
+        }
+        Ok(Derived { value, why })
+    }
+}
+
+/// Puts how many pixels of how many bytes after a text.
+fn put_pixels(text: &mut String, width: u128, bytes: u128) -> Result<(), AllocError> {
+    let pixels = if width == 1 { "pixel" } else { "pixels" };
+    write!(text, "{width} {pixels} of ")?;
+    write!(
+        text,
+        "{bytes} {}",
+        if bytes == 1 { "byte" } else { "bytes" }
+    )
+}
