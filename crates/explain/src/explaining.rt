@@ -8,10 +8,10 @@ use record_faults::Document;
 use script_faults::{tell_fault, tell_no_json};
 use script_reading::{ParseFault, Script, ScriptFault, parse_script, read_script};
 use script_story::{Setting, story_of};
-use story_parts::{Story, put_domain, refused_calls, tell_refused};
 use serde_json::Value;
 use std::alloc::{AllocError, Global};
 use std::fmt::Write;
+use story_parts::{Story, put_domain, refused_calls, tell_refused};
 
 /// How many keys that are given twice are shown.
 const MOST_KEYS: usize = 6;
