@@ -73,7 +73,11 @@ pub fn who_holds_up(
         Some(domain) => awaited_host(story, domain).is_some(),
         None => true,
     };
-    if waits_for_host || awaited.iter().any(|node| refused_on(story, *node).is_some()) {
+    if waits_for_host
+        || awaited
+            .iter()
+            .any(|node| refused_on(story, *node).is_some())
+    {
         return Ok(Vec::new(alloc));
     }
     Ok(awaited)

@@ -59,7 +59,11 @@ fn why_of_host(alloc: Global, story: &Story<'_>, host: usize) -> Result<String, 
 }
 
 /// Tells how many selections there are, and the groups' children that make them.
-pub(crate) fn tell_too_many(items: &mut Items, story: &Story<'_>, index: usize) -> Result<(), AllocError> {
+pub(crate) fn tell_too_many(
+    items: &mut Items,
+    story: &Story<'_>,
+    index: usize,
+) -> Result<(), AllocError> {
     let alloc = items.alloc();
     let why = String::from_str(
         alloc,

@@ -2,9 +2,9 @@
 
 use explanation_text::wording::put_joined;
 use explanation_text::{Items, are_same};
-use story_parts::{Story, asked_by};
 use settings_reasons::{is_unmet, tell_conflict};
 use std::alloc::{AllocError, Global};
+use story_parts::{Story, asked_by};
 use sysmem_sanitise::Platform;
 
 /// How many failing selections are told.
@@ -135,7 +135,14 @@ fn tell_group(
         }
         let longer = with_choice(alloc, choices, group, child)?;
         let mut below = Items::new(alloc);
-        tell_empty(&mut below, depth.saturating_add(1), empty, &longer, told, levels)?;
+        tell_empty(
+            &mut below,
+            depth.saturating_add(1),
+            empty,
+            &longer,
+            told,
+            levels,
+        )?;
         add_case(&mut cases, empty.story.name(child), below)?;
     }
     for case in cases {
@@ -152,11 +159,7 @@ struct Case<'a> {
 }
 
 /// Adds what is told of a child, to the last case where it is the same.
-fn add_case<'a>(
-    cases: &mut Vec<Case<'a>>,
-    name: &'a str,
-    below: Items,
-) -> Result<(), AllocError> {
+fn add_case<'a>(cases: &mut Vec<Case<'a>>, name: &'a str, below: Items) -> Result<(), AllocError> {
     if let Some(last) = cases.last_mut() {
         if are_same(&last.below, &below) {
             last.names.push(name)?;

@@ -11,9 +11,9 @@ use constraint_edits::{EDITS, Edit, Halving, edited};
 use explanation_text::{Items, Kind};
 use script_reading::{Act, Call};
 use script_story::Setting;
-use story_parts::{Deed, Story};
 use serde_json::Value;
 use std::alloc::{AllocError, Global};
+use story_parts::{Deed, Story};
 use value_sources::Asked;
 
 /// How many changes are told.

@@ -25,7 +25,7 @@ pub(crate) fn tell_domains(
     Ok(())
 }
 
-/// Tells what would help a domain, where it is pending or the initial one and empty.
+/// Tells what would help a domain that is pending or empty.
 fn tell_help(
     items: &mut Items,
     setting: &Setting<'_>,
@@ -38,7 +38,7 @@ fn tell_help(
     let path = story.path(domain.root);
     match domain.verdict() {
         "pending" => tell_without(items, setting, story, index, path),
-        "empty" if domain.host.is_none() => {
+        "empty" => {
             let people = asked_in(items.alloc(), story, index, false)?;
             tell_changes(items, setting, story, path, &people)?;
             tell_platform(items, setting, path, &people)

@@ -67,34 +67,53 @@ pub fn is_one_of(name: &str, names: &[&str]) -> bool {
     names.iter().any(|other| *other == name)
 }
 
+const FLAGS: &[&str] = &[
+    "physically_contiguous_required",
+    "secure_required",
+    "cpu_domain_supported",
+    "ram_domain_supported",
+    "inaccessible_domain_supported",
+    "require_bytes_per_row_at_pixel_boundary",
+    "contiguous",
+    "secure",
+];
+
+const SIZES: &[&str] = &[
+    "min_size",
+    "max_size",
+    "size_alignment",
+    "display_rect_alignment",
+    "required_min_size",
+    "required_max_size",
+];
+
+const LISTS: &[&str] = &[
+    "usage",
+    "color_spaces",
+    "domains",
+    "pixel_format_and_modifiers",
+    "permitted_heaps",
+    "image_format_constraints",
+    "heaps",
+    "pairs",
+];
+
+const NAMES: &[&str] = &["pixel_format", "pixel_format_modifier", "heap_type"];
+
 /// What is wanted at a field, or, of a list of names or objects, at its items.
 pub(crate) fn due_at(field: &str) -> Due {
-    match field {
-        "physically_contiguous_required"
-        | "secure_required"
-        | "cpu_domain_supported"
-        | "ram_domain_supported"
-        | "inaccessible_domain_supported"
-        | "require_bytes_per_row_at_pixel_boundary"
-        | "contiguous"
-        | "secure" => Due::Flag,
-        "min_size"
-        | "max_size"
-        | "size_alignment"
-        | "display_rect_alignment"
-        | "required_min_size"
-        | "required_max_size" => Due::Size,
-        "usage"
-        | "color_spaces"
-        | "domains"
-        | "pixel_format_and_modifiers"
-        | "permitted_heaps"
-        | "image_format_constraints"
-        | "heaps"
-        | "pairs" => Due::List,
-        "pixel_format" | "pixel_format_modifier" | "heap_type" => Due::Name,
-        "buffer_memory_constraints" => Due::Object,
-        _ => Due::Number,
+    if is_one_of(field, FLAGS) {
+        Due::Flag
+    } else if is_one_of(field, SIZES) {
+        Due::Size
+    } else if is_one_of(field, LISTS) {
+        Due::List
+    } else if is_one_of(field, NAMES) {
+        Due::Name
+    } else if field == "buffer_memory_constraints" {
+        Due::Object
+    } else {
+        Due::Number
     }
 }
 

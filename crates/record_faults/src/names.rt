@@ -1,5 +1,6 @@
 //! The names of the profile, and other people's names for what it has.
 
+use crate::keys::is_one_of;
 use explanation_text::nearest;
 use explanation_text::wording::put_joined;
 use std::alloc::{AllocError, Global};
@@ -80,68 +81,103 @@ pub(crate) fn names_for(field: &str, is_platform: bool) -> &'static [&'static st
     }
 }
 
-/// The format that DRM names so, without its prefix.
-fn format_of_drm(name: &str) -> Option<&'static str> {
-    match name {
-        "ABGR8888" | "AB24" => Some("R8G8B8A8"),
-        "ARGB8888" | "AR24" => Some("B8G8R8A8"),
-        "XBGR8888" | "XB24" => Some("R8G8B8X8"),
-        "XRGB8888" | "XR24" => Some("B8G8R8X8"),
-        "BGR888" | "BG24" => Some("R8G8B8"),
-        "RGB888" | "RG24" => Some("B8G8R8"),
-        "RGB565" | "RG16" => Some("R5G6B5"),
-        "GR88" => Some("R8G8"),
-        "YUYV" => Some("YUY2"),
-        "YUV420" | "YU12" => Some("I420"),
-        "YVU420" => Some("YV12"),
-        _ => None,
+/// Other people's names, each with the name of the profile.
+type Others = &'static [(&'static str, &'static str)];
+
+/// Formats as DRM names them, without its prefix.
+const FORMATS_OF_DRM: Others = &[
+    ("ABGR8888", "R8G8B8A8"),
+    ("AB24", "R8G8B8A8"),
+    ("ARGB8888", "B8G8R8A8"),
+    ("AR24", "B8G8R8A8"),
+    ("XBGR8888", "R8G8B8X8"),
+    ("XB24", "R8G8B8X8"),
+    ("XRGB8888", "B8G8R8X8"),
+    ("XR24", "B8G8R8X8"),
+    ("BGR888", "R8G8B8"),
+    ("BG24", "R8G8B8"),
+    ("RGB888", "B8G8R8"),
+    ("RG24", "B8G8R8"),
+    ("RGB565", "R5G6B5"),
+    ("RG16", "R5G6B5"),
+    ("GR88", "R8G8"),
+    ("YUYV", "YUY2"),
+    ("YUV420", "I420"),
+    ("YU12", "I420"),
+    ("YVU420", "YV12"),
+];
+
+const MODIFIERS_OF_DRM: Others = &[
+    ("DRM_FORMAT_MOD_LINEAR", "LINEAR"),
+    ("MOD_LINEAR", "LINEAR"),
+    ("I915_FORMAT_MOD_X_TILED", "INTEL_I915_X_TILED"),
+    ("I915_X_TILED", "INTEL_I915_X_TILED"),
+    ("X_TILED", "INTEL_I915_X_TILED"),
+    ("I915_FORMAT_MOD_Y_TILED", "INTEL_I915_Y_TILED"),
+    ("I915_Y_TILED", "INTEL_I915_Y_TILED"),
+    ("Y_TILED", "INTEL_I915_Y_TILED"),
+];
+
+const USAGES_OF_WORDS: Others = &[
+    ("gpu", "vulkan"),
+    ("render", "vulkan"),
+    ("opengl", "vulkan"),
+    ("GPU", "vulkan"),
+    ("camera", "video"),
+    ("isp", "video"),
+    ("codec", "video"),
+    ("encoder", "video"),
+    ("decoder", "video"),
+    ("scaler", "video"),
+    ("scanout", "display"),
+    ("software", "cpu"),
+    ("host", "cpu"),
+    ("CPU", "cpu"),
+];
+
+const COLOURS_OF_WORDS: Others = &[
+    ("BT709", "REC709"),
+    ("bt709", "REC709"),
+    ("BT.709", "REC709"),
+    ("BT2020", "REC2020"),
+    ("bt2020", "REC2020"),
+    ("BT.2020", "REC2020"),
+    ("BT2100", "REC2100"),
+    ("bt2100", "REC2100"),
+    ("BT.2100", "REC2100"),
+    ("BT601", "REC601_NTSC or REC601_PAL"),
+    ("bt601", "REC601_NTSC or REC601_PAL"),
+    ("BT.601", "REC601_NTSC or REC601_PAL"),
+];
+
+/// The name of the profile for another one, if it is among these.
+fn known_as(others: Others, name: &str) -> Option<&'static str> {
+    for (other, known) in others {
+        if *other == name {
+            return Some(*known);
+        }
     }
+    None
 }
 
-fn modifier_of_drm(name: &str) -> Option<&'static str> {
-    match name {
-        "DRM_FORMAT_MOD_LINEAR" | "MOD_LINEAR" => Some("LINEAR"),
-        "I915_FORMAT_MOD_X_TILED" | "I915_X_TILED" | "X_TILED" => Some("INTEL_I915_X_TILED"),
-        "I915_FORMAT_MOD_Y_TILED" | "I915_Y_TILED" | "Y_TILED" => Some("INTEL_I915_Y_TILED"),
-        _ => None,
-    }
-}
-
-fn usage_of_word(word: &str) -> Option<&'static str> {
-    match word {
-        "gpu" | "render" | "opengl" | "GPU" => Some("vulkan"),
-        "camera" | "isp" | "codec" | "encoder" | "decoder" | "scaler" => Some("video"),
-        "scanout" => Some("display"),
-        "software" | "host" | "CPU" => Some("cpu"),
-        _ => None,
-    }
-}
-
-fn colour_of_word(word: &str) -> Option<&'static str> {
-    match word {
-        "BT709" | "bt709" | "BT.709" => Some("REC709"),
-        "BT2020" | "bt2020" | "BT.2020" => Some("REC2020"),
-        "BT2100" | "bt2100" | "BT.2100" => Some("REC2100"),
-        "BT601" | "bt601" | "BT.601" => Some("REC601_NTSC or REC601_PAL"),
-        _ => None,
-    }
-}
-
-/// Whether Fuchsia has a name that this profile leaves out.
-fn is_left_out(name: &str) -> bool {
-    matches!(
-        name,
-        "MJPEG" | "M420" | "R3G3B2" | "R2G2B2X2" | "A2R10G10B10" | "A2B10G10R10" | "PASSTHROUGH"
-    )
-}
+/// Names that Fuchsia has and this profile leaves out.
+const LEFT_OUT: &[&str] = &[
+    "MJPEG",
+    "M420",
+    "R3G3B2",
+    "R2G2B2X2",
+    "A2R10G10B10",
+    "A2B10G10R10",
+    "PASSTHROUGH",
+];
 
 /// What an unknown name of a format may mean, in words; empty where nothing is known.
 fn hint_of_format(alloc: Global, name: &str) -> Result<String, AllocError> {
     let drm = name.strip_prefix("DRM_FORMAT_").unwrap_or(name);
-    if let Some(format) = format_of_drm(drm) {
+    if let Some(format) = known_as(FORMATS_OF_DRM, drm) {
         return format!(in alloc; "DRM's {drm} is {format} here");
     }
-    if FORMATS.iter().any(|format| *format == drm) {
+    if is_one_of(drm, FORMATS) {
         return format!(in alloc; "it is written {drm}");
     }
     Ok(String::new(alloc))
@@ -151,9 +187,9 @@ fn hint_of_format(alloc: Global, name: &str) -> Result<String, AllocError> {
 fn hint_of_other(alloc: Global, field: &str, name: &str) -> Result<String, AllocError> {
     let known = match field {
         "pixel_format" => return hint_of_format(alloc, name),
-        "pixel_format_modifier" => modifier_of_drm(name),
-        "usage" => usage_of_word(name),
-        "color_spaces" => colour_of_word(name),
+        "pixel_format_modifier" => known_as(MODIFIERS_OF_DRM, name),
+        "usage" => known_as(USAGES_OF_WORDS, name),
+        "color_spaces" => known_as(COLOURS_OF_WORDS, name),
         _ => None,
     };
     match known {
@@ -173,7 +209,7 @@ pub(crate) fn hint_of_name(
     if !hint.is_empty() {
         return Ok(hint);
     }
-    if is_left_out(name) {
+    if is_one_of(name, LEFT_OUT) {
         return String::from_str(alloc, "Fuchsia has it, this profile doesn't");
     }
     let known = names_for(field, is_platform);

@@ -92,10 +92,8 @@ fn missing_note(alloc: Global, name: &str) -> Result<String, AllocError> {
 /// A field that isn't there: the object that lacks it is pointed at.
 fn tell_missing(items: &mut Items, faulty: Faulty<'_, '_>) -> Result<(), AllocError> {
     let at = faulty.fault.at.name();
-    let object = match faulty.path.split_last() {
-        Some((_, object)) => object,
-        None => faulty.path,
-    };
+    let last = faulty.path.len().saturating_sub(1);
+    let object = faulty.path.get(..last).unwrap_or(&[]);
     let note = missing_note(items.alloc(), at)?;
     let help = help_allowed(items.alloc(), "needed", at, faulty.is_platform)?;
     faulty
@@ -164,11 +162,7 @@ fn wrong_side(size: &Value, least: u64, most: u64) -> &'static str {
 }
 
 /// A width or a height that is missing or wrong.
-fn tell_side(
-    items: &mut Items,
-    faulty: Faulty<'_, '_>,
-    value: &Value,
-) -> Result<(), AllocError> {
+fn tell_side(items: &mut Items, faulty: Faulty<'_, '_>, value: &Value) -> Result<(), AllocError> {
     let at = faulty.fault.at.name();
     let side = wrong_side(value, 0, 4294967295);
     let help = help_allowed(items.alloc(), "allowed", at, faulty.is_platform)?;
@@ -202,24 +196,21 @@ fn tell_number(
         .advise(items, faulty.depth, path, Part::Value, &note, help)
 }
 
-fn tell_name(
-    items: &mut Items,
-    faulty: Faulty<'_, '_>,
-    value: &Value,
-) -> Result<(), AllocError> {
+fn tell_name(items: &mut Items, faulty: Faulty<'_, '_>, value: &Value) -> Result<(), AllocError> {
     let name = value.as_str().unwrap_or("");
     let at = faulty.fault.at.name();
     let hint = hint_of_name(items.alloc(), at, name, faulty.is_platform)?;
-    faulty
-        .document
-        .advise(items, faulty.depth, faulty.path, Part::Value, "unknown name", hint)
+    faulty.document.advise(
+        items,
+        faulty.depth,
+        faulty.path,
+        Part::Value,
+        "unknown name",
+        hint,
+    )
 }
 
-fn tell_kind(
-    items: &mut Items,
-    faulty: Faulty<'_, '_>,
-    value: &Value,
-) -> Result<(), AllocError> {
+fn tell_kind(items: &mut Items, faulty: Faulty<'_, '_>, value: &Value) -> Result<(), AllocError> {
     let at = faulty.fault.at.name();
     let is_item = matches!(faulty.path.last(), Some(Step::Item(_)));
     let written = faulty.document.written(items.alloc(), faulty.path)?;
@@ -250,17 +241,11 @@ fn tell_multiple(
 }
 
 /// A list that is empty, too long or has an item twice, a value that is no object, or a tiled modifier that doesn't go with its format.
-fn tell_list(
-    items: &mut Items,
-    faulty: Faulty<'_, '_>,
-    value: &Value,
-) -> Result<(), AllocError> {
+fn tell_list(items: &mut Items, faulty: Faulty<'_, '_>, value: &Value) -> Result<(), AllocError> {
     let is_empty = matches!(value.as_array(), Some(list) if list.is_empty());
     let note = note_of_list(items.alloc(), faulty.fault.code, value, is_empty)?;
     let helps = helps_of_list(items.alloc(), faulty, is_empty)?;
-    faulty
-        .document
-        .point(items, faulty.depth, faulty.path, Part::Value, &note, &helps)
+    faulty.document.point(items, faulty.depth, faulty.path, Part::Value, &note, &helps)
 }
 
 /// What is wrong with a list, with one of its items, or with what stands for an object.

@@ -4,9 +4,7 @@ use crate::keys::CALLS;
 use explanation_text::wording::{put_few, put_joined};
 use explanation_text::{Items, nearest};
 use json_places::Step;
-use record_faults::{
-    CONSTRAINTS, Document, Part, first_unknown, is_one_of, key_of, wrong_kind,
-};
+use record_faults::{CONSTRAINTS, Document, Part, first_unknown, is_one_of, key_of, wrong_kind};
 use script_reading::ScriptFault;
 use serde_json::Value;
 use std::alloc::{AllocError, Global};
@@ -63,11 +61,8 @@ impl<'a> Faulty<'a, '_> {
         help: String,
     ) -> Result<(), AllocError> {
         let member = [Step::Key("calls"), Step::Item(self.index), Step::Key(key)];
-        let path = if self.call.get(key).is_some() {
-            &member[..]
-        } else {
-            &member[..2]
-        };
+        let steps = if self.call.get(key).is_some() { 3 } else { 2 };
+        let path = member.get(..steps).unwrap_or(&member);
         self.document
             .advise(items, 1, path, Part::Value, note, help)
     }

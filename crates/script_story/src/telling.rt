@@ -14,7 +14,7 @@ use script_reading::Call;
 use script_run::Replayed;
 use serde_json::Value;
 use std::alloc::{AllocError, Global};
-use story_parts::{Deeds, Domain, Made, Node, Story};
+use story_parts::{Deeds, Domain, Made, Node, Story, first_word};
 use sysmem_alloc::Book;
 use sysmem_merge::Settings;
 use sysmem_proof::Verdict;
@@ -218,10 +218,9 @@ fn keep_line<'a>(story: &mut Story<'a>, line: &'a str, number: usize) -> Result<
     story.order.push(index)?;
     if index < story.domains.len() {
         let domain = story.domains[index];
-        let ended = if told == "pending" {
-            domain.ended
-        } else {
-            Some(number)
+        let ended = match first_word(told) {
+            "pending" => domain.ended,
+            _ => Some(number),
         };
         story.domains[index] = Domain {
             told,

@@ -11,4 +11,4 @@ mod story;
 
 pub use asked::{asked_by, asked_in};
 pub use refused::{left_out, put_domain, refused_calls, tell_refused};
-pub use story::{Deed, Deeds, Domain, Made, Node, Story};
+pub use story::{Deed, Deeds, Domain, Made, Node, Story, first_word};

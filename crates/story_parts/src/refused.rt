@@ -133,7 +133,7 @@ fn is_like(story: &Story<'_>, a: &Row, b: &Row) -> bool {
 }
 
 fn reply_of<'a>(story: &Story<'a>, row: &Row) -> &'a str {
-    match row.numbers.first().and_then(|number| story.call(*number)) {
+    match story.call(row.numbers.first().copied().unwrap_or(0)) {
         Some(call) => call.reply,
         None => "",
     }

@@ -142,6 +142,14 @@ pub struct Node<'a> {
     pub deeds: Deeds,
 }
 
+/// The front of a text up to its first space.
+pub fn first_word(text: &str) -> &str {
+    match text.split_once(' ') {
+        Some((word, _)) => word,
+        None => text,
+    }
+}
+
 /// A domain, as the last call left it.
 #[derive(Clone, Copy)]
 pub struct Domain<'a> {
@@ -160,10 +168,7 @@ pub struct Domain<'a> {
 impl<'a> Domain<'a> {
     /// The word of its verdict, or `pending`.
     pub fn verdict(&self) -> &'a str {
-        match self.told.split_once(' ') {
-            Some((word, _)) => word,
-            None => self.told,
-        }
+        first_word(self.told)
     }
 }
 
