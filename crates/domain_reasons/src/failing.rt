@@ -19,7 +19,7 @@ pub(crate) fn tell_failed(
         let actor = call.actor;
         let on = call.on;
         let text = format!(in items.alloc();
-            "{actor} closed {on} before all were there: a close fails its domain, a release doesn't"
+            "{actor} closed {on} while somebody was still awaited: a close then fails its domain, a release doesn't"
         )?;
         return items.say(1, "why", text);
     }

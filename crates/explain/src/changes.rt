@@ -112,7 +112,9 @@ fn try_change(
 fn put_head(items: &mut Items, count: usize, tried: usize) -> Result<(), AllocError> {
     let alloc = items.alloc();
     let text = match count {
-        0 => format!(in alloc; "none of {tried} single changes that were tried helps")?,
+        0 => format!(in alloc;
+            "no single change was found that helps, of {tried} that were tried"
+        )?,
         1 => String::from_str(alloc, "one change that suffices (maybe not the only one):")?,
         _ => String::from_str(alloc, "each of these alone suffices:")?,
     };

@@ -93,7 +93,7 @@ fn before(bytes: &[u8], at: usize) -> Option<u8> {
 
 fn help_of_value(bytes: &[u8], at: usize, byte: u8) -> &'static str {
     match byte {
-        b']' | b'}' if before(bytes, at) == Some(b',') => "no comma may stand before it",
+        b']' | b'}' if before(bytes, at) == Some(b',') => "delete the comma before it",
         b'\'' => "strings stand in double quotes: \"",
         b'/' | b'#' => "JSON has no comments",
         b'+' | b'.' => "numbers begin with a digit or -",
@@ -125,7 +125,7 @@ fn begins_word(text: &[u8], word: &[u8]) -> bool {
 
 fn help_of_key(bytes: &[u8], at: usize, byte: u8) -> &'static str {
     match byte {
-        b'}' if before(bytes, at) == Some(b',') => "no comma may stand before it",
+        b'}' if before(bytes, at) == Some(b',') => "delete the comma before it",
         b'/' | b'#' => "JSON has no comments",
         b'\'' | b'_' | b'a'..=b'z' | b'A'..=b'Z' => "keys stand in double quotes: \"",
         _ => "",

@@ -317,7 +317,7 @@ fn help_of_key(
         owner_of(key, keys)
     };
     if let Some(owner) = owner {
-        return Ok(Some(format!(in alloc; "{key} belongs into {owner}")?));
+        return Ok(Some(format!(in alloc; "{key} belongs in {owner}")?));
     }
     if let Some(near) = nearest(alloc, key, keys)? {
         return Ok(Some(format!(in alloc; "did you mean {near}?")?));
@@ -368,7 +368,7 @@ fn help_elsewhere(alloc: Global, key: &str, keys: &[&str]) -> Result<Option<Stri
             continue;
         }
         if let Some(near) = nearest(alloc, key, others)? {
-            let help = format!(in alloc; "did you mean {near}? It belongs into {name}")?;
+            let help = format!(in alloc; "did you mean {near}? It belongs in {name}")?;
             return Ok(Some(help));
         }
     }

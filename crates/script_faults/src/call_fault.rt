@@ -229,7 +229,7 @@ fn tell_key(
     let alloc = items.alloc();
     let key = key_of(path);
     let help = if is_one_of(key, CONSTRAINTS) {
-        String::from_str(alloc, "it belongs into constraints")?
+        String::from_str(alloc, "it belongs in constraints")?
     } else if key == "as" {
         format!(in alloc; "{name} makes no node")?
     } else if key == "constraints" {

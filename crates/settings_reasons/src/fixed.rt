@@ -55,7 +55,7 @@ pub fn tell_misfits(
     if items.len() == before {
         let count = settings.count;
         let text = format!(in items.alloc();
-            "{count} buffers were decided: no more are there for those who come late, or these take no so many"
+            "{count} buffers were decided: too few for these beside all who came before, or more than one of these takes"
         )?;
         return items.say(1, "count", text);
     }

@@ -403,7 +403,7 @@ fn unbound(
     match story.deed(node, Deed::Bind) {
         Some(later) if later > number => {
             format!(in alloc;
-                "{on} is a token until call {later} binds it: move it after that call"
+                "{on} is a token until call {later} binds it: this call stands too early, or means another name"
             )
         }
         _ => format!(in alloc; "{on} is a token: bind makes it a collection"),
