@@ -98,13 +98,14 @@ fn tell_place(
     let mut text = String::new(alloc);
     put_place(&mut text, platform, settings.place)?;
     items.say(1, "place", text)?;
-    let places = places_of(alloc, platform)?;
-    let before = places
-        .iter()
-        .position(|place| *place == settings.place)
-        .unwrap_or(0);
-    let earlier = places.get(..before).unwrap_or(&[]);
-    let rows = place_rows(alloc, platform, earlier, people, false)?;
+    let mut earlier = Vec::new(alloc);
+    for place in places_of(alloc, platform)? {
+        if place == settings.place {
+            break;
+        }
+        earlier.push(place)?;
+    }
+    let rows = place_rows(alloc, platform, &earlier, people, false)?;
     tell_rows(items, 2, "not ", &rows)
 }
 
@@ -121,20 +122,15 @@ fn tell_offer(
         offer => offer_name(alloc, &offer)?,
     };
     items.say(1, "image", text)?;
-    let offers = offers_of(alloc, platform)?;
-    let before = offers
-        .iter()
-        .position(|offer| *offer == settings.offer)
-        .unwrap_or(0);
-    let earlier = offers.get(..before).unwrap_or(&[]);
-    let rows = offer_rows(
-        alloc,
-        earlier,
-        people,
-        true,
-        false,
-        platform.colours().len(),
-    )?;
+    let mut earlier = Vec::new(alloc);
+    for offer in offers_of(alloc, platform)? {
+        if offer == settings.offer {
+            break;
+        }
+        earlier.push(offer)?;
+    }
+    let colours = platform.colours().len();
+    let rows = offer_rows(alloc, &earlier, people, true, false, colours)?;
     tell_rows(items, 2, "not ", &rows)
 }
 

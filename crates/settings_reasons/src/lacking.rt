@@ -4,7 +4,6 @@ use crate::offer_words::pair_name;
 use crate::rows::{Row, add, tell_rows};
 use explanation_text::Items;
 use std::alloc::{AllocError, Global};
-use sysmem_formats::{Modifier, PixelFormat};
 use sysmem_image::{ColourSet, Entry};
 use sysmem_memory::Heap;
 use sysmem_sanitise::Platform;
@@ -73,37 +72,33 @@ pub(crate) fn tell_no_heaps(
 
 /// Whether the platform has a pair that an entry takes.
 fn has_pair(platform: &Platform, entry: &Entry) -> bool {
-    platform.pairs().iter().any(|pair| {
-        is_or_any(entry.format, pair.format) && is_like(entry.modifier, pair.modifier)
-    })
-}
-
-fn is_or_any(named: Option<PixelFormat>, format: PixelFormat) -> bool {
-    match named {
-        Some(name) => name == format,
-        None => true,
+    for pair in platform.pairs() {
+        let has_format = entry.format.is_none() || entry.format == Some(pair.format);
+        let has_modifier = entry.modifier.is_none() || entry.modifier == Some(pair.modifier);
+        if has_format && has_modifier {
+            return true;
+        }
     }
-}
-
-fn is_like(named: Option<Modifier>, modifier: Modifier) -> bool {
-    match named {
-        Some(name) => name == modifier,
-        None => true,
-    }
+    false
 }
 
 /// Whether the platform has one of some colour spaces.
 fn has_colour(platform: &Platform, colours: ColourSet) -> bool {
+    for colour in platform.colours() {
+        if colours.lists(*colour) {
+            return true;
+        }
+    }
     colours.lists_any()
-        || platform
-            .colours()
-            .iter()
-            .any(|colour| colours.lists(*colour))
 }
 
 fn has_heap(platform: &Platform, heap: &Heap) -> bool {
-    platform.heaps().iter().any(|info| info.heap.id == heap.id
-        && info.heap.heap_type == heap.heap_type)
+    for info in platform.heaps() {
+        if info.heap.id == heap.id && info.heap.heap_type == heap.heap_type {
+            return true;
+        }
+    }
+    false
 }
 
 /// Adds that a participant names something.
