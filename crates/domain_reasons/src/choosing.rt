@@ -50,11 +50,8 @@ fn tell_from(items: &mut Items, story: &Story<'_>, host: usize) -> Result<(), Al
 fn tell_children(items: &mut Items, story: &Story<'_>, index: usize) -> Result<(), AllocError> {
     let alloc = items.alloc();
     let mut texts: Vec<String> = Vec::new(alloc);
-    for (number, node) in story.nodes.iter().enumerate() {
-        if node.domain != index || !node.is_selected {
-            continue;
-        }
-        if let Some(text) = choice_of(alloc, story, number)? {
+    for group in groups_in(alloc, story, index)? {
+        if let Some(text) = choice_of(alloc, story, group)? {
             texts.push(text)?;
         }
     }
@@ -66,14 +63,29 @@ fn tell_children(items: &mut Items, story: &Story<'_>, index: usize) -> Result<(
     items.say(1, "choice", text)
 }
 
-/// The child that was chosen of a node, if it is a group: `layouts: tiled`.
-fn choice_of(alloc: Global, story: &Story<'_>, node: usize) -> Result<Option<String>, AllocError> {
-    if !story.is_group(node) {
+/// The groups of a domain.
+pub(crate) fn groups_in(
+    alloc: Global,
+    story: &Story<'_>,
+    index: usize,
+) -> Result<Vec<usize>, AllocError> {
+    let mut groups = Vec::new(alloc);
+    for (number, node) in story.nodes.iter().enumerate() {
+        if node.domain == index && story.is_group(number) {
+            groups.push(number)?;
+        }
+    }
+    Ok(groups)
+}
+
+/// The child that was chosen of a group, if the group is selected: `layouts: tiled`.
+fn choice_of(alloc: Global, story: &Story<'_>, group: usize) -> Result<Option<String>, AllocError> {
+    if !story.is_selected(group) {
         return Ok(None);
     }
-    for child in story.children(alloc, node)? {
+    for child in story.children(alloc, group)? {
         if story.is_selected(child) {
-            let group = story.name(node);
+            let group = story.name(group);
             let name = story.name(child);
             return Ok(Some(format!(in alloc; "{group}: {name}")?));
         }

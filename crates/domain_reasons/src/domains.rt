@@ -8,7 +8,7 @@ use script_reading::Act;
 use serde_json::Value;
 use std::alloc::{AllocError, Global};
 use std::fmt::Write;
-use story_parts::{Deed, Domain, Story, put_domain};
+use story_parts::{Deed, Domain, Story, asked_in, put_domain};
 use sysmem_sanitise::Platform;
 use value_sources::put_texts;
 
@@ -94,12 +94,10 @@ fn put_who(
     are_selected: bool,
 ) -> Result<(), AllocError> {
     let alloc = *text.allocator();
+    let people = asked_in(alloc, story, index, are_selected)?;
     let mut names: Vec<String> = Vec::new(alloc);
-    for (number, node) in story.nodes.iter().enumerate() {
-        let is_in = node.domain == index && (node.is_selected || !are_selected);
-        if is_in && node.constraints.is_some() {
-            names.push(who(alloc, story, number)?)?;
-        }
+    for one in &people {
+        names.push(who(alloc, story, one.node)?)?;
     }
     if names.is_empty() {
         return text.push_str("nobody has constraints");

@@ -1,5 +1,6 @@
 //! Why a domain has no decision that chooses: it failed, has too many selections, or has no settings.
 
+use crate::choosing::groups_in;
 use crate::selecting::{Empty, MOST_TOLD, tell_empty};
 use explanation_text::Items;
 use script_reading::Act;
@@ -79,10 +80,8 @@ pub(crate) fn tell_too_many(
 fn put_groups(text: &mut String, story: &Story<'_>, index: usize) -> Result<(), AllocError> {
     let alloc = *text.allocator();
     let mut parts: Vec<String> = Vec::new(alloc);
-    for (number, node) in story.nodes.iter().enumerate() {
-        if node.domain == index && story.is_group(number) {
-            parts.push(children_of(alloc, story, number)?)?;
-        }
+    for group in groups_in(alloc, story, index)? {
+        parts.push(children_of(alloc, story, group)?)?;
     }
     put_texts(text, &parts, 12)
 }

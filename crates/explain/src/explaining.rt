@@ -151,17 +151,24 @@ fn put_answer(items: &mut Items, story: &Story<'_>) -> Result<(), AllocError> {
 fn put_verdicts(text: &mut String, story: &Story<'_>) -> Result<(), AllocError> {
     let all = story.domains.len();
     let most = if all > 9 { 8 } else { all };
-    for domain in story.domains.iter().take(most) {
-        text.push_str("; ")?;
-        put_domain(text, story, domain.root)?;
-        let verdict = domain.verdict();
-        write!(text, " {verdict}")?;
+    for index in 0..most {
+        put_verdict(text, story, index)?;
     }
     let more = all.saturating_sub(most);
     if more > 0 {
         write!(text, "; {more} more domains")?;
     }
     Ok(())
+}
+
+fn put_verdict(text: &mut String, story: &Story<'_>, index: usize) -> Result<(), AllocError> {
+    let Some(domain) = story.domains.get(index) else {
+        return Ok(());
+    };
+    text.push_str("; ")?;
+    put_domain(text, story, domain.root)?;
+    let verdict = domain.verdict();
+    write!(text, " {verdict}")
 }
 
 /// Tells the keys that an object has twice.
