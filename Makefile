@@ -16,7 +16,7 @@ proved:
 	cd $(PROGRAM) && rt run -- run $(abspath examples/one_participant.json)
 	cd crates/played_handles && rt run -- data/attached.json
 
-# The whole gate: every proof, the must-fail edits, the tests, the program. What it passed is kept on this machine: the next one proves only what changed.
+# The whole gate: every proof, the must-fail edits, the tests, the program. A kit that keeps what passed proves only what changed the next time.
 test:
 	RT_JOBS=$(JOBS) rt ci
 
@@ -60,8 +60,6 @@ wrong-bodies:
 
 # Times the proved program beside the reading of the same bytes as a JSON value, and calls on small and large trees.
 bench: proved
-	cd crates/value_reader && rt run -- data/one_participant.json
-	cd crates/repeated_decisions && rt run -- data/groups_share_nv12.json search,together,add,settle,prove,check,write,serialise 3
+	cd crates/repeated_decisions && rt run -- data/groups_share_nv12.json read,search,together,add,settle,prove,check,write,serialise 3
 	bench/run
-	cd crates/tree_rows && rt run < /dev/null
 	bench/trees

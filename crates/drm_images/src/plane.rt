@@ -4,10 +4,10 @@ ghost use Rattle.std.specs.Prelude.{◌≡◌, ◌+◌, ◌*◌, ◌/◌, ◌≤
 ghost use Rattle.sysmem_formats.specs.Layout.{rows_of};
 ghost use Rattle.drm_images.specs.Planes.{bytes_of, first_plane, paired_plane, plane_end, planes_of, two_colours};
 
-use sysmem_formats::{ColourSpace, Modifier, Offer, Pair, PixelFormat};
+use sysmem_formats::{ColourSpace, Modifier, Offer, Pair, Sampling};
 
-/// A plane of an image: where its first row begins in the image, the bytes of a row, and how many rows it has, a
-/// tile's part included.
+/// A plane of an image: where its first row begins in the image, the bytes of a row, and how many
+/// rows it has, a tile's part included.
 #[derive(Clone, Copy, Debug, PartialEq, Eq)]
 pub struct Plane {
     pub offset: u64,
@@ -26,8 +26,8 @@ fn tiled_rows(modifier: Modifier, height: u32) -> u64
     }
 }
 
-/// The bytes of an image with rows of `pitch` bytes, its height in pixels: all planes, a tile's part included. `None`
-/// where these don't fit 64 bits.
+/// The bytes of an image with rows of `pitch` bytes, its height in pixels: all planes, a tile's
+/// part included. `None` where these don't fit 64 bits.
 pub fn image_bytes(pair: Pair, pitch: u32, height: u32) -> Option<u64>
     ensures bytes { IfSome result (λ bytes. bytes ≡ bytes_of pair pitch height) }
     ensures large { IfNone result (2 ^ 64 ≤ bytes_of pair pitch height) }
@@ -42,8 +42,9 @@ pub fn image_bytes(pair: Pair, pitch: u32, height: u32) -> Option<u64>
     }
 }
 
-/// The plane of this index, from 0, of an image with rows of `pitch` bytes, its height in pixels, or `None` where it
-/// has fewer. The planes are in the order of DRM; no plane ends after the image does.
+/// The plane of this index, from 0, of an image with rows of `pitch` bytes, its height in pixels,
+/// or `None` where it has fewer. The planes are in the order of DRM; no plane ends after the image
+/// does.
 pub fn plane_at(pair: Pair, pitch: u32, height: u32, index: usize) -> Option<Plane>
     requires { bytes_of pair pitch height < 2 ^ 64 }
     ensures plane { result ≡ slice_get (planes_of pair pitch height) index }
@@ -57,10 +58,10 @@ pub fn plane_at(pair: Pair, pitch: u32, height: u32, index: usize) -> Option<Pla
             rows,
         });
     }
-    match pair.format {
-        PixelFormat::NV12 | PixelFormat::P010 => paired_plane(pitch, rows, index),
-        PixelFormat::I420 | PixelFormat::YV12 => colour_plane(pitch, rows, index),
-        _ => None,
+    match pair.format.sampling() {
+        Sampling::Full | Sampling::HalfRow => None,
+        Sampling::TwoPlanes => paired_plane(pitch, rows, index),
+        Sampling::ThreePlanes => colour_plane(pitch, rows, index),
     }
 }
 

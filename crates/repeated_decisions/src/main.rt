@@ -1,9 +1,10 @@
-//! A measure of the bench: does a job for the initial domain of a script as often as the last word says, or several, one after the other.
+//! The measure of the bench: does a job for the initial domain of a script as often as the last word says, or several, one after the other.
 //!
 //! `repeated_decisions FILE search 100`, `repeated_decisions FILE add,settle 100`
 //!
 //! | Job | What is repeated |
 //! |---|---|
+//! | `read` | reading the bytes of the file as a JSON value. As the only job it reads nothing else, so the file needn't be a script |
 //! | `search` | the search for the verdict |
 //! | `together` | the same search by two workers |
 //! | `add` | adding the participants of the selection that is found to a fresh aggregate; where none is, those of the first selection |
@@ -12,6 +13,7 @@
 //! | `check` | checking the verdict with its proof |
 //! | `write` | writing the certificate of both |
 //! | `serialise` | making the text of a `serde_json::Value` of the same, which is made once |
+//! | `rows` | nothing: plays the lines of standard input once (`rows.rt`). As the only job it reads no file |
 //!
 //! Calls that the tree refuses, checks and waits are passed over.
 #![tactic(auto)]
@@ -19,13 +21,16 @@
 mod adding;
 mod deciding;
 mod playing;
+mod rows;
 mod writing;
 
 use adding::{add_again, settle_again};
 use anyhow::{Result, bail};
 use deciding::{check_again, prove_again, search_again, search_together_again};
 use playing::play;
+use rows::play_rows;
 use script_reading::{parse_script, read_script};
+use serde_json::Value;
 use std::alloc::Global;
 use std::thread::Threads;
 use std::{env, fs};
@@ -38,20 +43,57 @@ fn main(rt: HostRuntime) -> Result<()> {
     let _program = words.next();
     let (Some(file), Some(jobs), Some(times)) = (words.next(), words.next(), words.next()) else {
         bail!(
-            "usage: repeated_decisions FILE search|together|add|settle|prove|check|write|serialise[,..] TIMES"
+            "usage: repeated_decisions FILE read|search|together|add|settle|prove|check|write|serialise|rows[,..] TIMES"
         );
     };
     let times = times.parse::<u32>()?;
+    if jobs.as_str() == "rows" {
+        return play_rows(&rt);
+    }
     let bytes = fs::read(&rt, &file)?;
-    let Ok(value) = parse_script(rt.alloc(), &bytes) else {
+    if jobs.as_str() == "read" {
+        return read_again(rt.alloc(), &bytes, times);
+    }
+    repeat_of(&rt, &bytes, &jobs, times)
+}
+
+/// Does each of these jobs for the script of these bytes.
+fn repeat_of(rt: &HostRuntime, bytes: &[u8], jobs: &str, times: u32) -> Result<()> {
+    let Ok(value) = parse_script(rt.alloc(), bytes) else {
         bail!("the script is refused");
     };
     let Ok(script) = read_script(rt.alloc(), &value) else {
         bail!("the script is refused");
     };
     let tree = play(rt.alloc(), &script.calls)?;
+    repeat_each(rt, bytes, jobs, &script.platform, &tree, times)
+}
+
+fn repeat_each(
+    rt: &HostRuntime,
+    bytes: &[u8],
+    jobs: &str,
+    platform: &Platform,
+    tree: &Tree,
+    times: u32,
+) -> Result<()> {
     for job in jobs.split(',') {
-        repeat(&rt, rt.alloc(), job, &script.platform, &tree, times)?;
+        match job {
+            "read" => read_again(rt.alloc(), bytes, times)?,
+            "rows" => play_rows(rt)?,
+            _ => repeat(rt, rt.alloc(), job, platform, tree, times)?,
+        }
+    }
+    Ok(())
+}
+
+/// Reads the bytes as a JSON value so many times.
+fn read_again(alloc: Global, bytes: &[u8], times: u32) -> Result<()> {
+    for _ in 0..times {
+        match Value::from_slice(alloc, bytes) {
+            Ok(_) => {}
+            Err(_) => bail!("the file is no JSON value"),
+        }
     }
     Ok(())
 }

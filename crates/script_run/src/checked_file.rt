@@ -24,7 +24,7 @@ use sysmem_proof::No;
 use sysmem_tree::Path;
 
 /// What a check of a certificate says.
-#[derive(Debug, Drop)]
+#[derive(Drop)]
 pub(crate) enum CheckAnswer {
     /// Each object is accepted, and there is one for each decision.
     Yes,
@@ -33,7 +33,7 @@ pub(crate) enum CheckAnswer {
 }
 
 /// An answer, and its text.
-#[derive(Debug, Drop)]
+#[derive(Drop)]
 struct Answered {
     answer: CheckAnswer,
     text: String,

@@ -31,7 +31,7 @@ pub(crate) struct Checking<'a> {
 }
 
 /// Why a claim isn't taken.
-#[derive(Clone, Copy, Debug, PartialEq, Eq)]
+#[derive(Clone, Copy)]
 pub(crate) enum ClaimFault {
     /// A growth was refused.
     NoMemory,

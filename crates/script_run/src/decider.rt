@@ -21,7 +21,7 @@ use sysmem_proof::{Claim, No};
 use sysmem_tree::{DomainId, Path};
 
 /// What fails of the certificate of a decision.
-#[derive(Debug, Drop)]
+#[derive(Drop)]
 pub(crate) struct Objection {
     /// The first test that it fails.
     pub(crate) no: No,
@@ -30,7 +30,7 @@ pub(crate) struct Objection {
 }
 
 /// Why a decision is not taken.
-#[derive(Debug, Drop)]
+#[derive(Drop)]
 pub(crate) enum Stop {
     /// A growth was refused.
     NoMemory,

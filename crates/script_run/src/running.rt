@@ -108,7 +108,7 @@ pub fn run_with_proof<R: Source, W: Sink, P: Sink>(
 }
 
 /// A report, and the certificate of its decisions.
-#[derive(Debug, Drop)]
+#[derive(Drop)]
 struct CertifiedReport {
     report: Report,
     certificate: Vec<u8>,

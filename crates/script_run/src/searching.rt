@@ -11,7 +11,7 @@ use sysmem_proof::Claim;
 use sysmem_tree::DomainId;
 
 /// Searches for each verdict, and asks for no proof. Where memory is refused to a search, that is the decision.
-#[derive(Debug, Drop)]
+#[derive(Drop)]
 pub(crate) struct Searching;
 
 impl Decider for Searching {

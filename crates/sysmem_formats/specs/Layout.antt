@@ -1,30 +1,14 @@
 -- Where the bytes of an image lie.
 use Rattle.std.specs.Prelude.{◌≢◌, ℕ, ◌+◌, ◌-◌, ◌*◌, ◌/◌}
 use Rattle.sysmem_formats.specs.declared.pixel_format.PixelFormat.{PixelFormat}
-use Rattle.sysmem_formats.specs.declared.pixel_format.PixelFormat.TheVariants.{R8G8B8A8, B8G8R8A8, R8G8B8X8, B8G8R8X8, R8G8B8, B8G8R8, R5G6B5, R8G8, YUY2, R8, L8, I420, YV12, NV12, P010}
+use Rattle.sysmem_formats.specs.declared.pixel_format.Sampling.{Sampling}
+use Rattle.sysmem_formats.specs.declared.pixel_format.Sampling.TheVariants.{Full, HalfRow, TwoPlanes, ThreePlanes}
+pub use Rattle.sysmem_formats.specs.Formats.{pixel_bytes, sampling_of}
 use Rattle.sysmem_formats.specs.declared.modifier.Modifier.{Modifier}
 use Rattle.sysmem_formats.specs.declared.modifier.Modifier.TheVariants.{Linear, IntelXTiled, IntelYTiled}
 use Rattle.sysmem_formats.specs.declared.offer.Pair.{Pair}
 use Rattle.sysmem_formats.specs.declared.offer.Offer.{Offer}
 use Rattle.sysmem_formats.specs.declared.offer.Offer.TheVariants.{NoImage, Image}
-
--- bytes of one pixel in a row; for the formats with subsampled colour, in a row of the luma plane
-abbrev pub pixel_bytes : PixelFormat → ℕ
-pixel_bytes R8G8B8A8 = 4
-pixel_bytes B8G8R8A8 = 4
-pixel_bytes R8G8B8X8 = 4
-pixel_bytes B8G8R8X8 = 4
-pixel_bytes R8G8B8 = 3
-pixel_bytes B8G8R8 = 3
-pixel_bytes R5G6B5 = 2
-pixel_bytes R8G8 = 2
-pixel_bytes YUY2 = 2
-pixel_bytes P010 = 2
-pixel_bytes R8 = 1
-pixel_bytes L8 = 1
-pixel_bytes I420 = 1
-pixel_bytes YV12 = 1
-pixel_bytes NV12 = 1
 
 -- bytes of one pixel in a row of the offer
 abbrev pub bytes_per_pixel_of : Offer → ℕ
@@ -53,34 +37,42 @@ rows_of IntelXTiled height = up_to 8 height
 rows_of IntelYTiled height = up_to 32 height
 
 -- the bytes of all planes, where the first or only one has n: planes of subsampled colour add a half
+abbrev pub sampled_bytes : Sampling → ℕ → ℕ
+sampled_bytes Full n = n
+sampled_bytes HalfRow n = n
+sampled_bytes TwoPlanes n = (3 * n + 1) / 2
+sampled_bytes ThreePlanes n = (3 * n + 1) / 2
+
+-- the same of a format
 abbrev pub plane_bytes : PixelFormat → ℕ → ℕ
-plane_bytes I420 n = (3 * n + 1) / 2
-plane_bytes YV12 n = (3 * n + 1) / 2
-plane_bytes NV12 n = (3 * n + 1) / 2
-plane_bytes P010 n = (3 * n + 1) / 2
-plane_bytes _ n = n
+plane_bytes format n = sampled_bytes (sampling_of format) n
 
 -- image bytes of a row in bytes and a height in pixels
 abbrev pub image_bytes_of : Offer → ℕ → ℕ → ℕ
 image_bytes_of NoImage row height = 0
 image_bytes_of (Image pair _) row height = plane_bytes pair.format (row * rows_of pair.modifier height)
 
+-- how many pixels of a row share their colours
+abbrev pub pixels_sharing : Sampling → ℕ
+pixels_sharing Full = 1
+pixels_sharing HalfRow = 2
+pixels_sharing TwoPlanes = 2
+pixels_sharing ThreePlanes = 2
+
+-- how many rows share their colours
+abbrev pub rows_sharing : Sampling → ℕ
+rows_sharing Full = 1
+rows_sharing HalfRow = 1
+rows_sharing TwoPlanes = 2
+rows_sharing ThreePlanes = 2
+
 -- own alignment of the width of a format
 abbrev pub format_width_alignment : PixelFormat → ℕ
-format_width_alignment I420 = 2
-format_width_alignment YV12 = 2
-format_width_alignment NV12 = 2
-format_width_alignment P010 = 2
-format_width_alignment YUY2 = 2
-format_width_alignment _ = 1
+format_width_alignment format = pixels_sharing (sampling_of format)
 
 -- own alignment of the height of a format, and own divisor of its rows where they aren't tiled
 abbrev pub format_height_alignment : PixelFormat → ℕ
-format_height_alignment I420 = 2
-format_height_alignment YV12 = 2
-format_height_alignment NV12 = 2
-format_height_alignment P010 = 2
-format_height_alignment _ = 1
+format_height_alignment format = rows_sharing (sampling_of format)
 
 -- own alignment of the width
 abbrev pub width_alignment_of : Offer → ℕ

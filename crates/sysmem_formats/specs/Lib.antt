@@ -1,3 +1,4 @@
+pub mod Formats
 pub mod Names
 pub mod Layout
 pub mod Offers

@@ -8,7 +8,6 @@ ghost use Rattle.sysmem_formats.specs.Layout.{
   width_alignment_of,
   height_alignment_of,
   row_divisor_of,
-  pixel_bytes,
   plane_bytes,
   rows_of,
   row_up_to,
@@ -19,7 +18,7 @@ ghost use Rattle.sysmem_formats.specs.Layout.{
 
 use crate::modifier::Modifier;
 use crate::offer::{Offer, Pair};
-use crate::pixel_format::PixelFormat;
+use crate::pixel_format::{PixelFormat, Sampling};
 
 /// Bytes of one pixel in a row, 1 to 4; for subsampled colour, of the first plane's row; 1 for no image.
 pub fn bytes_per_pixel(offer: &Offer) -> u32
@@ -29,7 +28,7 @@ pub fn bytes_per_pixel(offer: &Offer) -> u32
 {
     match offer {
         Offer::NoImage => 1,
-        Offer::Image(pair, _) => format_pixel_bytes(pair.format),
+        Offer::Image(pair, _) => pair.format.pixel_bytes(),
     }
 }
 
@@ -50,7 +49,7 @@ pub fn wide_row_bytes(offer: &Offer, width: u64) -> u64
     match offer {
         Offer::NoImage => 0,
         Offer::Image(pair, _) => {
-            let bytes = width * u64::from(format_pixel_bytes(pair.format));
+            let bytes = width * u64::from(pair.format.pixel_bytes());
             match pair.modifier {
                 Modifier::Linear => bytes,
                 Modifier::IntelXTiled => (bytes + 511) / 512 * 512,
@@ -116,28 +115,7 @@ pub fn own_row_divisor(offer: &Offer) -> u32
 pub fn is_tiled_misfit(pair: Pair) -> bool
     ensures { IsTrue result ↔ IsTiledMisfit pair }
 {
-    pair.modifier != Modifier::Linear && format_pixel_bytes(pair.format) != 4
-}
-
-/// Bytes of one pixel in a row of the format.
-fn format_pixel_bytes(format: PixelFormat) -> u32
-    ensures value { result ≡ pixel_bytes format }
-    ensures some { 1 ≤ result }
-    ensures small { result ≤ 4 }
-{
-    match format {
-        PixelFormat::R8G8B8A8
-        | PixelFormat::B8G8R8A8
-        | PixelFormat::R8G8B8X8
-        | PixelFormat::B8G8R8X8 => 4,
-        PixelFormat::R8G8B8 | PixelFormat::B8G8R8 => 3,
-        PixelFormat::R5G6B5 | PixelFormat::R8G8 | PixelFormat::YUY2 | PixelFormat::P010 => 2,
-        PixelFormat::R8
-        | PixelFormat::L8
-        | PixelFormat::I420
-        | PixelFormat::YV12
-        | PixelFormat::NV12 => 1,
-    }
+    pair.modifier != Modifier::Linear && pair.format.pixel_bytes() != 4
 }
 
 /// The width's and the height's own alignment of the format.
@@ -147,10 +125,10 @@ fn format_alignment(format: PixelFormat) -> (u32, u32)
     ensures some_width { 1 ≤ result.0 }
     ensures some_height { 1 ≤ result.1 }
 {
-    match format {
-        PixelFormat::I420 | PixelFormat::YV12 | PixelFormat::NV12 | PixelFormat::P010 => (2, 2),
-        PixelFormat::YUY2 => (2, 1),
-        _ => (1, 1),
+    match format.sampling() {
+        Sampling::Full => (1, 1),
+        Sampling::HalfRow => (2, 1),
+        Sampling::TwoPlanes | Sampling::ThreePlanes => (2, 2),
     }
 }
 
@@ -172,10 +150,8 @@ fn all_planes(format: PixelFormat, first: u128) -> u128
     requires { first < 2 ^ 80 }
     ensures { result ≡ plane_bytes format first }
 {
-    match format {
-        PixelFormat::I420 | PixelFormat::YV12 | PixelFormat::NV12 | PixelFormat::P010 => {
-            (3 * first + 1) / 2
-        }
-        _ => first,
+    match format.sampling() {
+        Sampling::Full | Sampling::HalfRow => first,
+        Sampling::TwoPlanes | Sampling::ThreePlanes => (3 * first + 1) / 2,
     }
 }

@@ -20,7 +20,7 @@ pub use layout::{
     bytes_per_pixel, image_bytes, is_tiled_misfit, own_alignment, own_row_divisor, row_bytes,
     wide_image_bytes, wide_row_bytes,
 };
-pub use modifier::Modifier;
+pub use modifier::{MODIFIERS, Modifier};
 pub use offer::{Offer, Pair};
 pub use order::offer_at;
-pub use pixel_format::PixelFormat;
+pub use pixel_format::{FORMATS, PixelFormat, Sampling};

@@ -1,6 +1,7 @@
 //! Modifiers, which say how pixels are laid out, and their names.
 
-ghost use Rattle.std.specs.Prelude.{◌≡◌, ◌↔◌};
+ghost use Rattle.std.specs.Prelude.{◌≡◌, ◌↔◌, ◌<◌};
+ghost use Rattle.sysmem_formats.specs.declared.modifier.TheConstants.{MODIFIERS};
 
 /// How the rows of an image lie in memory: one after another, or in tiles.
 #[derive(Clone, Copy, Debug, PartialEq, Eq)]
@@ -10,8 +11,12 @@ pub enum Modifier {
     IntelYTiled,
 }
 
+/// How many modifiers there are.
+pub const MODIFIERS: usize = 3;
+
 impl Modifier {
     ghost use Rattle.sysmem_formats.specs.declared.modifier.Modifier.{Modifier};
+    ghost use Rattle.sysmem_formats.specs.Codes.{modifier_code};
     ghost use Rattle.sysmem_formats.specs.Names.{modifier_name};
 
     /// The modifier's name in constraints, platforms and reports.
@@ -36,5 +41,13 @@ impl Modifier {
             "INTEL_I915_Y_TILED" => Some(Modifier::IntelYTiled),
             _ => None,
         }
+    }
+
+    /// The modifier's place in the list of all, from 0.
+    pub fn index(self) -> usize
+        ensures is { result ≡ modifier_code self }
+        ensures below { result < MODIFIERS }
+    {
+        self as usize
     }
 }

@@ -1,6 +1,7 @@
-//! Pixel formats and their names.
+//! Pixel formats: their names, the bytes of their pixels, and where their colours lie.
 
-ghost use Rattle.std.specs.Prelude.{◌≡◌, ◌↔◌};
+ghost use Rattle.std.specs.Prelude.{◌≡◌, ◌↔◌, ◌<◌, ◌≤◌};
+ghost use Rattle.sysmem_formats.specs.declared.pixel_format.TheConstants.{FORMATS};
 
 /// How the pixels of an image are stored.
 #[derive(Clone, Copy, Debug, PartialEq, Eq)]
@@ -22,9 +23,25 @@ pub enum PixelFormat {
     P010,
 }
 
+/// How many pixel formats there are.
+pub const FORMATS: usize = 15;
+
+/// Which pixels of a format share their colours, and where these lie.
+#[derive(Clone, Copy, Debug, PartialEq, Eq)]
+pub enum Sampling {
+    /// Each pixel has its own.
+    Full,
+    /// Two pixels of a row share theirs, which lie between them.
+    HalfRow,
+    /// Two by two pixels share theirs, which lie in a plane after the first, in turn.
+    TwoPlanes,
+    /// Two by two pixels share theirs, which lie in two planes after the first.
+    ThreePlanes,
+}
+
 impl PixelFormat {
     ghost use Rattle.sysmem_formats.specs.declared.pixel_format.PixelFormat.{PixelFormat};
-    ghost use Rattle.sysmem_formats.specs.Names.{format_name};
+    ghost use Rattle.sysmem_formats.specs.Formats.{format_name, format_code, pixel_bytes, sampling_of};
 
     /// The format's name in constraints, platforms and reports.
     pub fn name(self) -> &'static str
@@ -71,6 +88,56 @@ impl PixelFormat {
             "NV12" => Some(PixelFormat::NV12),
             "P010" => Some(PixelFormat::P010),
             _ => None,
+        }
+    }
+
+    /// The format's place in the list of all, from 0.
+    pub fn index(self) -> usize
+        ensures is { result ≡ format_code self }
+        ensures below { result < FORMATS }
+    {
+        self as usize
+    }
+
+    /// Bytes of one pixel in a row, 1 to 4; for subsampled colour, of the first plane's row.
+    pub fn pixel_bytes(self) -> u32
+        ensures value { result ≡ pixel_bytes self }
+        ensures some { 1 ≤ result }
+        ensures small { result ≤ 4 }
+    {
+        match self {
+            PixelFormat::R8G8B8A8
+            | PixelFormat::B8G8R8A8
+            | PixelFormat::R8G8B8X8
+            | PixelFormat::B8G8R8X8 => 4,
+            PixelFormat::R8G8B8 | PixelFormat::B8G8R8 => 3,
+            PixelFormat::R5G6B5 | PixelFormat::R8G8 | PixelFormat::YUY2 | PixelFormat::P010 => 2,
+            PixelFormat::R8
+            | PixelFormat::L8
+            | PixelFormat::I420
+            | PixelFormat::YV12
+            | PixelFormat::NV12 => 1,
+        }
+    }
+
+    /// Which pixels of the format share their colours, and where these lie.
+    pub fn sampling(self) -> Sampling
+        ensures { result ≡ sampling_of self }
+    {
+        match self {
+            PixelFormat::R8G8B8A8
+            | PixelFormat::B8G8R8A8
+            | PixelFormat::R8G8B8X8
+            | PixelFormat::B8G8R8X8
+            | PixelFormat::R8G8B8
+            | PixelFormat::B8G8R8
+            | PixelFormat::R5G6B5
+            | PixelFormat::R8G8
+            | PixelFormat::R8
+            | PixelFormat::L8 => Sampling::Full,
+            PixelFormat::YUY2 => Sampling::HalfRow,
+            PixelFormat::NV12 | PixelFormat::P010 => Sampling::TwoPlanes,
+            PixelFormat::I420 | PixelFormat::YV12 => Sampling::ThreePlanes,
         }
     }
 }

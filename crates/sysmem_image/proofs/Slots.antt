@@ -5,7 +5,6 @@ use Rattle.std.specs.Option.{option_copied}
 use Rattle.std.specs.Slice.{IsItemAt}
 use Rattle.std.proofs.lemmas.List.Folds.{find_at}
 use Rattle.std.proofs.lemmas.List.Sums.{position_or_len_is}
-use Rattle.std.proofs.Math.Bool.{or-false, and-true}
 use Rattle.std.proofs.lemmas.Bool.{eq-eqb, cases_lt}
 use Rattle.std.proofs.lemmas.Bool.Decides.{nat_tests, eqb_tells}
 use Rattle.std.proofs.lemmas.List.{get_or-replicate, get_or-set_same, get_or-set_other}
@@ -16,11 +15,12 @@ use Rattle.sysmem_formats.specs.declared.modifier.Modifier.TheVariants.{Linear, 
 use Rattle.sysmem_formats.specs.declared.offer.Offer.TheVariants.{NoImage, Image}
 use Rattle.sysmem_formats.specs.declared.offer.Pair.{Pair}
 use Rattle.sysmem_formats.specs.declared.pixel_format.PixelFormat.{PixelFormat}
-use Rattle.sysmem_formats.specs.declared.pixel_format.PixelFormat.TheVariants.{R8G8B8A8, B8G8R8A8, R8G8B8X8, B8G8R8X8, R8G8B8, B8G8R8, R5G6B5, R8G8, YUY2, R8, L8, I420, YV12, NV12, P010}
 use Rattle.sysmem_formats.specs.Codes.{format_code, modifier_code}
 use Rattle.sysmem_image.specs.declared.entry.Entry.{Entry}
 use Rattle.sysmem_image.specs.Entries.{matches, first_match, agrees_format, agrees_modifier}
-use Rattle.sysmem_image.specs.Slots.{slot, has_slot, AreFirst}
+use Rattle.sysmem_image.specs.Slots.{format_row, modifier_column, slot, has_slot, AreFirst}
+use Rattle.sysmem_image.specs.declared.first_matches.TheConstants.{COLUMNS, SLOTS}
+use Rattle.sysmem_formats.specs.declared.modifier.TheConstants.{MODIFIERS}
 
 -- the first that passes one of two tests is the first of the firsts
 position_or : {X : Type 0} (p q : X → Bool) (xs : List X) → position_or_len (λ x. p x || q x) xs ≡ min (position_or_len p xs) (position_or_len q xs)
@@ -37,28 +37,9 @@ position_same : {X : Type 0} (p q : X → Bool) (xs : List X) → ((x : X) → p
 position_same p q [] same = refl
 position_same p q (x ∷ xs) same = ap (λ b. cond (not b) (1 + position_or_len p xs) 0) (same x) ∙ ap (λ n. cond (not (q x)) (1 + n) 0) (position_same p q xs same)
 
--- the codes of names are small
-format_below : (format : PixelFormat) → format_code format < 15
-format_below format = elim format as (λ f. format_code f < 15) [
-  | R8G8B8A8 ↦ omega arith
-  | B8G8R8A8 ↦ omega arith
-  | R8G8B8X8 ↦ omega arith
-  | B8G8R8X8 ↦ omega arith
-  | R8G8B8 ↦ omega arith
-  | B8G8R8 ↦ omega arith
-  | R5G6B5 ↦ omega arith
-  | R8G8 ↦ omega arith
-  | YUY2 ↦ omega arith
-  | R8 ↦ omega arith
-  | L8 ↦ omega arith
-  | I420 ↦ omega arith
-  | YV12 ↦ omega arith
-  | NV12 ↦ omega arith
-  | P010 ↦ omega arith
-]
-
-modifier_below : (modifier : Modifier) → modifier_code modifier < 3
-modifier_below modifier = elim modifier as (λ m. modifier_code m < 3) [
+-- the codes of modifiers are small
+modifier_below : (modifier : Modifier) → modifier_code modifier < MODIFIERS
+modifier_below modifier = elim modifier as (λ m. modifier_code m < MODIFIERS) [
   | Linear ↦ omega arith
   | IntelXTiled ↦ omega arith
   | IntelYTiled ↦ omega arith
@@ -69,42 +50,40 @@ pub none_for_no_image : (es : List Entry) → None ≡ first_match NoImage es
 none_for_no_image [] = refl
 none_for_no_image (e ∷ es) = none_for_no_image es
 
--- two places in a table of rows of four are one where row and column are
-same_place : (a b c d : ℕ) → b < 4 → d < 4 → (a * 4 + b == c * 4 + d) ≡ (a == c && b == d)
+-- two places in a table are one where row and column are
+same_place : (a b c d : ℕ) → b < COLUMNS → d < COLUMNS → (a * COLUMNS + b == c * COLUMNS + d) ≡ (a == c && b == d)
 same_place a b c d first second = grind (arith, nat_tests)
 
 -- numbers that differ aren't one
 differ : (a b : ℕ) → a ≢ b → (a == b) ≡ false
 differ a b other = grind (arith, nat_tests)
 
--- of an entry with both names
-both_named : (a b c d : ℕ) → a < 15 → b < 3 → c < 15 → d < 3
-    → (a == c && b == d) ≡ ((a * 4 + b == c * 4 + d || a * 4 + b == c * 4 + 3) || (a * 4 + b == 60 + d || a * 4 + b == 63))
-both_named a b c d la lb lc ld =
-    rw (same_place a b c d (omega arith) (omega arith), differ (a * 4 + b) (c * 4 + 3) (omega arith), differ (a * 4 + b) (60 + d) (omega arith), differ (a * 4 + b) 63 (omega arith))
-    (sym (or-false ((a == c && b == d) || false) ∙ or-false (a == c && b == d)))
+-- two places after the first are one where those before them are
+both_after : (m n : ℕ) → (m + 1 == n + 1) ≡ (m == n)
+both_after m n = grind (arith, nat_tests)
 
--- of an entry with a format and no modifier
-format_named : (a c d : ℕ) → a < 15 → c < 15 → d < 3
-    → (a == c) ≡ ((a * 4 + 3 == c * 4 + d || a * 4 + 3 == c * 4 + 3) || (a * 4 + 3 == 60 + d || a * 4 + 3 == 63))
-format_named a c d la lc ld =
-    rw (differ (a * 4 + 3) (c * 4 + d) (omega arith), same_place a 3 c 3 (omega arith) (omega arith), differ (a * 4 + 3) (60 + d) (omega arith), differ (a * 4 + 3) 63 (omega arith))
-    (grind arith)
+-- the column of a modifier is one of the table's
+column_below : (m : Option Modifier) → modifier_column m < COLUMNS
+column_below None = omega arith
+column_below (Some m) = omega (arith, modifier_below m)
 
--- of an entry with a modifier and no format
-modifier_named : (b c d : ℕ) → b < 3 → c < 15 → d < 3
-    → (b == d) ≡ ((60 + b == c * 4 + d || 60 + b == c * 4 + 3) || (60 + b == 60 + d || 60 + b == 63))
-modifier_named b c d lb lc ld =
-    rw (differ (60 + b) (c * 4 + d) (omega arith), differ (60 + b) (c * 4 + 3) (omega arith), same_place 15 b 15 d (omega arith) (omega arith), differ (60 + b) 63 (omega arith))
-    (grind arith)
+-- two pairs of names have one slot where both names are the same
+same_slot : (f g : Option PixelFormat) (m n : Option Modifier) → (slot f m == slot g n) ≡ (format_row f == format_row g && modifier_column m == modifier_column n)
+same_slot f g m n = same_place (format_row f) (modifier_column m) (format_row g) (modifier_column n) (column_below m) (column_below n)
 
 -- an entry matches where it has one of four pairs of names
 by_names : (format : PixelFormat) (modifier : Modifier) (f : Option PixelFormat) (m : Option Modifier) → (agrees_format format f && agrees_modifier modifier m)
     ≡ ((slot f m == slot (Some format) (Some modifier) || slot f m == slot (Some format) None) || (slot f m == slot None (Some modifier) || slot f m == slot None None))
-by_names format modifier (Some f) (Some m) = both_named (format_code f) (modifier_code m) (format_code format) (modifier_code modifier) (format_below f) (modifier_below m) (format_below format) (modifier_below modifier)
-by_names format modifier (Some f) None = and-true (format_code f == format_code format) ∙ format_named (format_code f) (format_code format) (modifier_code modifier) (format_below f) (format_below format) (modifier_below modifier)
-by_names format modifier None (Some m) = modifier_named (modifier_code m) (format_code format) (modifier_code modifier) (modifier_below m) (format_below format) (modifier_below modifier)
-by_names format modifier None None = grind (arith, nat_tests)
+by_names format modifier f m =
+    rw (same_slot f (Some format) m (Some modifier), same_slot f (Some format) m None, same_slot f None m (Some modifier), same_slot f None m None)
+    (by_places f m) where
+      by_places : (f : Option PixelFormat) (m : Option Modifier) → (agrees_format format f && agrees_modifier modifier m)
+          ≡ (((format_row f == format_code format + 1 && modifier_column m == modifier_code modifier + 1) || (format_row f == format_code format + 1 && modifier_column m == 0))
+          || ((format_row f == 0 && modifier_column m == modifier_code modifier + 1) || (format_row f == 0 && modifier_column m == 0)))
+      by_places (Some f) (Some m) = grind (arith, nat_tests)
+      by_places (Some f) None = grind (arith, nat_tests)
+      by_places None (Some m) = grind (arith, nat_tests)
+      by_places None None = grind (arith, nat_tests)
 
 -- the least of four places is that of the entry for images of the pair
 pub first_of_four : (es : List Entry) (pair : Pair) (colour : ColourSpace) (a b c d : ℕ)
@@ -136,11 +115,11 @@ pub record IsFirstUpTo (es : List Entry) (i : ℕ) (p : Entry → Bool) (n : ℕ
 
 -- each slot has the first of the first i entries
 abbrev pub AreFirstUpTo : List Entry → ℕ → List ℕ → Type 0
-AreFirstUpTo es i first = (s : ℕ) → s < 64 → IsFirstUpTo es i (has_slot s) (slice_index first s)
+AreFirstUpTo es i first = (s : ℕ) → s < SLOTS → IsFirstUpTo es i (has_slot s) (slice_index first s)
 
 -- before the first entry each slot has the number of entries
-pub first_of_none : (es : List Entry) → AreFirstUpTo es 0 (replicate 64 (length es))
-first_of_none es s below = rw (get_or-replicate 64 s (length es) 0 below) (record {
+pub first_of_none : (es : List Entry) → AreFirstUpTo es 0 (replicate SLOTS (length es))
+first_of_none es s below = rw (get_or-replicate SLOTS s (length es) 0 below) (record {
   within = omega arith;
   before = λ k e none. absurd (omega (arith, none));
   here = λ e at. absurd (omega (arith, slice_get_within es (length es) e at));
@@ -170,7 +149,7 @@ first_other es i s n e read other old = record {
 }
 
 -- one more entry
-pub first_more : (es : List Entry) (i t : ℕ) (first : List ℕ) (e : Entry) → length first ≡ 64 → i < length es → slice_get es i ≡ Some e → t < 64 → t ≡ slot e.format e.modifier
+pub first_more : (es : List Entry) (i t : ℕ) (first : List ℕ) (e : Entry) → length first ≡ SLOTS → i < length es → slice_get es i ≡ Some e → t < SLOTS → t ≡ slot e.format e.modifier
     → AreFirstUpTo es i first → AreFirstUpTo es (i + 1) (slice_set first t (min (slice_index first t) i))
 first_more es i t first e long within read room is old s below = elim (eqb_tells s t) [
   | inl same ↦ rw (same.1, get_or-set_same first t (min (slice_index first t) i) 0 (omega (arith, long, room)))

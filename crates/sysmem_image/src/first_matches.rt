@@ -1,16 +1,25 @@
 //! Which entry of a participant is the first with each pair of names.
 
-ghost use Rattle.std.specs.Prelude.{◌≡◌, ◌<◌, ◌==◌, [], length};
+ghost use Rattle.std.specs.Prelude.{◌≡◌, ◌<◌, ◌≤◌, ◌==◌, [], length};
 ghost use Rattle.std.specs.List.{position_or_len, slice_get};
 ghost use Rattle.std.specs.Option.{option_copied};
 ghost use Rattle.sysmem_formats.specs.declared.colour_space.ColourSpace.{ColourSpace};
 ghost use Rattle.sysmem_formats.specs.declared.offer.Offer.TheVariants.{Image};
+ghost use Rattle.sysmem_formats.specs.declared.pixel_format.TheConstants.{FORMATS};
+ghost use Rattle.sysmem_formats.specs.declared.modifier.TheConstants.{MODIFIERS};
+ghost use Rattle.sysmem_image.specs.declared.first_matches.TheConstants.{SLOTS};
 ghost use Rattle.sysmem_image.specs.Entries.{first_match};
 ghost use Rattle.sysmem_image.specs.Slots.{format_row, modifier_column, slot, has_slot};
 
 use crate::entry::Entry;
 use std::marker::Model;
-use sysmem_formats::{Modifier, Offer, Pair, PixelFormat};
+use sysmem_formats::{FORMATS, MODIFIERS, Modifier, Offer, Pair, PixelFormat};
+
+/// The columns of the table: one for entries of any modifier, and one for each modifier.
+const COLUMNS: usize = MODIFIERS + 1;
+
+/// The places of the table. It has a row for entries of any format, and one for each format.
+const SLOTS: usize = (FORMATS + 1) * COLUMNS;
 
 /// The first entry of a participant for each pair of a format and a modifier.
 ///
@@ -18,7 +27,7 @@ use sysmem_formats::{Modifier, Offer, Pair, PixelFormat};
 #[derive(Drop)]
 pub struct FirstMatches<'a> {
     entries: &'a [Entry],
-    first: [usize; 64],
+    first: [usize; SLOTS],
 }
 
 impl<'a> Model for FirstMatches<'a> {
@@ -49,7 +58,7 @@ impl<'a> FirstMatches<'a> {
     {
         FirstMatches {
             entries: &[],
-            first: [0; 64],
+            first: [0; SLOTS],
         }
     }
 
@@ -58,7 +67,7 @@ impl<'a> FirstMatches<'a> {
         ensures { self.new ≡ entries.now }
     {
         self.entries = entries;
-        self.first = [entries.len(); 64];
+        self.first = [entries.len(); SLOTS];
         for (index, entry) in entries.iter().enumerate() {
             let slot = slot(entry.format, entry.modifier);
             self.first[slot] = self.first[slot].min(index);
@@ -109,29 +118,29 @@ impl<'a> FirstMatches<'a> {
 /// The place in the table of a format and a modifier, `None` being `DO_NOT_CARE`.
 fn slot(format: Option<PixelFormat>, modifier: Option<Modifier>) -> usize
     ensures is { result ≡ slot format modifier }
-    ensures below { result < 64 }
+    ensures below { result < SLOTS }
 {
-    row(format) * 4 + column(modifier)
+    row(format) * COLUMNS + column(modifier)
 }
 
-/// The row of a format, below 16.
+/// The row of a format.
 fn row(format: Option<PixelFormat>) -> usize
     ensures is { result ≡ format_row format }
-    ensures below { result < 16 }
+    ensures below { result ≤ FORMATS }
 {
     match format {
-        None => 15,
-        Some(format) => format as usize,
+        None => 0,
+        Some(format) => format.index() + 1,
     }
 }
 
-/// The column of a modifier, below 4.
+/// The column of a modifier.
 fn column(modifier: Option<Modifier>) -> usize
     ensures is { result ≡ modifier_column modifier }
-    ensures below { result < 4 }
+    ensures below { result ≤ MODIFIERS }
 {
     match modifier {
-        None => 3,
-        Some(modifier) => modifier as usize,
+        None => 0,
+        Some(modifier) => modifier.index() + 1,
     }
 }

@@ -58,3 +58,4 @@ pub mod Provable
 pub mod FirstWithout
 pub mod FirstLines
 pub mod FirstKinds
+pub mod KeptLines

@@ -19,6 +19,7 @@ pub mod EachLine
 pub mod Whom
 pub mod Refusals
 pub mod Reading
+pub mod OpenPairs
 pub mod Fault
 pub mod Matter
 pub mod Walk

@@ -31,6 +31,7 @@ mod no;
 mod offer_faults;
 mod offer_lines;
 mod offers_before;
+mod open_pairs;
 mod pair_lines;
 mod path_list;
 mod place_lines;

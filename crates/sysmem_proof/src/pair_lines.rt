@@ -30,7 +30,8 @@ pub(crate) fn is_shared(field: Field, one: &Offer, other: &Offer) -> bool
     is_same_pair(pair, own)
 }
 
-fn is_same_pair(one: &Pair, other: &Pair) -> bool
+/// Whether both pairs are the same.
+pub(crate) fn is_same_pair(one: &Pair, other: &Pair) -> bool
     ensures { IsTrue result → one.now ≡ other.now }
 {
     one == other

@@ -1,6 +1,6 @@
 //! Lines that refuse the offers of a platform, or its places, one after another.
 
-ghost use Rattle.std.specs.Prelude.{◌≡◌, ◌⊎◌, ◌+◌, true, List, ◌∷◌, All, Some, IfOk, IfSome, IfNone, IsTrue, filter, option_map, slice_get};
+ghost use Rattle.std.specs.Prelude.{◌≡◌, ◌⊎◌, ◌+◌, true, List, ◌∷◌, All, Some, IfOk, IfSome, IfNone, IsTrue, OnOk, filter, option_map, slice_get};
 ghost use Rattle.sysmem_counts.specs.declared.field.Field.TheVariants.{ColorSpaces, PixelFormat};
 ghost use Rattle.sysmem_formats.specs.declared.offer.Offer.{Offer as Offered};
 ghost use Rattle.sysmem_memory.specs.Domain.{has_domain};
@@ -11,18 +11,20 @@ ghost use Rattle.sysmem_merge.specs.OfferRead.{IsRefusingLine};
 ghost use Rattle.sysmem_merge.specs.Reasons.{IsOfferLine, IsUnnamedLine};
 ghost use Rattle.sysmem_proof.specs.FirstConflict.{IsOfferLineGiven, IsPlaceLineGiven};
 ghost use Rattle.sysmem_proof.specs.Members.{members_at, participants};
+ghost use Rattle.sysmem_proof.specs.OpenPairs.{IsOpenFor};
 ghost use Rattle.sysmem_proof.specs.Reading.{TakesIn};
 ghost use Rattle.sysmem_proof.specs.Refusals.{AreRefusals, AreSoFar, Ends, GoOn, RefusesLast, ShareOffer, SharePlace, StandFor};
-ghost use Rattle.sysmem_proof.specs.Whom.{NamesThose, names};
+ghost use Rattle.sysmem_proof.specs.Whom.{NamesOne, NamesThose, names};
 ghost use Rattle.sysmem_sanitise.specs.Participant.{Participant};
 ghost use Rattle.sysmem_sanitise.specs.Platform.{offers_of};
 ghost use Rattle.sysmem_tree.specs.Nodes.{HasNode};
 ghost use Rattle.sysmem_tree.specs.Shape.{Member};
 
-use crate::first_refusing::{Reading, first_lacking, first_refused, read_offer};
+use crate::first_refusing::{Reading, first_refused, read_offer};
 use crate::line::{Line, Lines};
+use crate::open_pairs::{OpenPair, all_take_colour};
 use crate::pair_lines::is_shared;
-use crate::whom::{Named, Whom, line_of, next_line_of};
+use crate::whom::{Alone, Named, Whom, line_alone, line_of, next_line_of};
 use std::alloc::{AllocError, Global};
 use sysmem_counts::Field;
 use sysmem_formats::{Offer, offer_at};
@@ -73,9 +75,14 @@ fn line_again(
     earlier: &Offer,
     offer: &Offer,
     before: &[Line],
+    known: &mut Option<OpenPair>,
 ) -> Result<Option<Line>, AllocError>
-    requires { All (HasNode tree.now.nodes) nodes.now }
-    ensures { (whole : _) (ms : List Member) → StandFor (members_at tree.now.nodes nodes.now) ms
+    requires there { All (HasNode tree.now.nodes) nodes.now }
+    requires known { IfSome known.old
+        (IsOpenFor (participants (members_at tree.now.nodes nodes.now))) }
+    ensures known { IfSome known.new
+        (IsOpenFor (participants (members_at tree.now.nodes nodes.now))) }
+    ensures again { (whole : _) (ms : List Member) → StandFor (members_at tree.now.nodes nodes.now) ms
         → RefusesLast (IsOfferLineGiven whole ms) earlier.now before.now
         → IfOk result (λ line. IfSome line (IsOfferLineGiven whole ms offer.now)) }
 {
@@ -86,7 +93,7 @@ fn line_again(
     if !is_shared(field, earlier, offer) {
         return Ok(None);
     }
-    if !is_before_colour(tree, nodes, field, offer) {
+    if !is_before_colour(tree, nodes, field, offer, known) {
         return Ok(None);
     }
     let line = last.again()?;
@@ -94,15 +101,25 @@ fn line_again(
 }
 
 /// Whether no line of the colour space comes before one with this field: it is that of the format, or all take the offer's colour space.
-fn is_before_colour(tree: &Tree, nodes: &[NodeId], field: Field, offer: &Offer) -> bool
-    requires { All (HasNode tree.now.nodes) nodes.now }
-    ensures { IsTrue result → (field ≡ PixelFormat)
+fn is_before_colour(
+    tree: &Tree,
+    nodes: &[NodeId],
+    field: Field,
+    offer: &Offer,
+    known: &mut Option<OpenPair>,
+) -> bool
+    requires there { All (HasNode tree.now.nodes) nodes.now }
+    requires known { IfSome known.old
+        (IsOpenFor (participants (members_at tree.now.nodes nodes.now))) }
+    ensures known { IfSome known.new
+        (IsOpenFor (participants (members_at tree.now.nodes nodes.now))) }
+    ensures before { IsTrue result → (field ≡ PixelFormat)
         ⊎ All (λ p. TakesIn ColorSpaces offer.now (offer_demand p))
         (participants (members_at tree.now.nodes nodes.now)) }
 {
     match field {
         Field::PixelFormat => true,
-        _ => first_lacking(tree, nodes, Field::ColorSpaces, offer).is_none(),
+        _ => all_take_colour(tree, nodes, offer, known),
     }
 }
 
@@ -149,18 +166,23 @@ fn next_line(
     whole: bool,
     before: &[Line],
     kept: &mut Option<Named>,
+    known: &mut Option<OpenPair>,
 ) -> Result<Option<Line>, AllocError>
     requires there { All (HasNode tree.now.nodes) nodes.now }
     requires named { IfSome kept.old (NamesThose tree.now.nodes nodes.now) }
+    requires known { IfSome known.old
+        (IsOpenFor (participants (members_at tree.now.nodes nodes.now))) }
     requires last { (ms : List Member) → StandFor (members_at tree.now.nodes nodes.now) ms
         → RefusesLast (IsOfferLineGiven whole ms) earlier.now before.now }
     ensures named { IfSome kept.new (NamesThose tree.now.nodes nodes.now) }
+    ensures known { IfSome known.new
+        (IsOpenFor (participants (members_at tree.now.nodes nodes.now))) }
     ensures line { (ms : List Member) → StandFor (members_at tree.now.nodes nodes.now) ms
         → IfOk result (λ line. IfSome line (IsOfferLineGiven whole ms offer.now)) }
     ensures share { (ms : List Member) → StandFor (members_at tree.now.nodes nodes.now) ms
         → IfOk result (λ line. IfNone line (ShareOffer whole ms offer.now)) }
 {
-    let again = line_again(tree, nodes, earlier, offer, before)?;
+    let again = line_again(tree, nodes, earlier, offer, before, known)?;
     if again.is_some() {
         return Ok(again);
     }
@@ -185,12 +207,13 @@ pub(crate) fn refused_offers(
     let mut lines = Vec::new(alloc);
     let mut earlier = Offer::NoImage;
     let mut kept = None;
+    let mut known = None;
     while let Some(offer) = offer_at(platform.pairs(), platform.colours(), lines.len()) {
         if until == Some(offer) {
             return Ok(Refusals::UpTo(Lines::new(lines)));
         }
         let Some(line) = next_line(
-            alloc, tree, nodes, &earlier, &offer, whole, &lines, &mut kept,
+            alloc, tree, nodes, &earlier, &offer, whole, &lines, &mut kept, &mut known,
         )?
         else {
             return Ok(Refusals::UpTo(Lines::new(lines)));
@@ -209,9 +232,11 @@ fn place_line(
     place: Place,
     heap: &HeapInfo,
     until: Option<Place>,
-    before: &[Line],
+    kept: &mut Vec<Alone>,
 ) -> Result<Option<Line>, AllocError>
-    requires { All (HasNode tree.now.nodes) nodes.now }
+    requires there { All (HasNode tree.now.nodes) nodes.now }
+    requires alone { All (NamesOne tree.now.nodes) kept.old.items }
+    ensures alone { OnOk result (All (NamesOne tree.now.nodes) kept.new.items) }
     ensures line { (ms : List Member) → StandFor (members_at tree.now.nodes nodes.now) ms
         → IfOk result (λ line. IfSome line
         (IsPlaceLineGiven ms (record { place = place; heap = heap.now }))) }
@@ -225,7 +250,7 @@ fn place_line(
     let Some(first) = first_refused(tree, nodes, heap, place.coherency) else {
         return Ok(None);
     };
-    let line = line_of(alloc, tree, &[first.node], first.field, Whom::All, before)?;
+    let line = line_alone(alloc, tree, first.node, first.field, kept)?;
     Ok(Some(line))
 }
 
@@ -238,9 +263,12 @@ fn push_place(
     heap: &HeapInfo,
     until: Option<Place>,
     lines: &mut Vec<Line>,
+    kept: &mut Vec<Alone>,
 ) -> Result<bool, AllocError>
-    requires { All (HasNode tree.now.nodes) nodes.now }
-    ensures { (ms : List Member) → StandFor (members_at tree.now.nodes nodes.now) ms
+    requires there { All (HasNode tree.now.nodes) nodes.now }
+    requires alone { All (NamesOne tree.now.nodes) kept.old.items }
+    ensures alone { OnOk result (All (NamesOne tree.now.nodes) kept.new.items) }
+    ensures lines { (ms : List Member) → StandFor (members_at tree.now.nodes nodes.now) ms
         → (xs left : List HeapPlace) → AreSoFar (IsPlaceLineGiven ms) xs lines.old.items
         (put_if (has_domain heap.now.domains place.coherency)
         (record { place = place; heap = heap.now }) left)
@@ -250,7 +278,7 @@ fn push_place(
     if !heap.domains.has(place.coherency) {
         return Ok(true);
     }
-    let Some(line) = place_line(alloc, tree, nodes, place, heap, until, lines)? else {
+    let Some(line) = place_line(alloc, tree, nodes, place, heap, until, kept)? else {
         return Ok(false);
     };
     lines.push(line)?;
@@ -266,9 +294,12 @@ fn push_heap(
     heap: &HeapInfo,
     until: Option<Place>,
     lines: &mut Vec<Line>,
+    kept: &mut Vec<Alone>,
 ) -> Result<bool, AllocError>
-    requires { All (HasNode tree.now.nodes) nodes.now }
-    ensures { (ms : List Member) → StandFor (members_at tree.now.nodes nodes.now) ms
+    requires there { All (HasNode tree.now.nodes) nodes.now }
+    requires alone { All (NamesOne tree.now.nodes) kept.old.items }
+    ensures alone { OnOk result (All (NamesOne tree.now.nodes) kept.new.items) }
+    ensures lines { (ms : List Member) → StandFor (members_at tree.now.nodes nodes.now) ms
         → (xs : List HeapPlace) (heaps : List HeapFacts)
         → AreSoFar (IsPlaceLineGiven ms) xs lines.old.items
         (places_from index (heap.now ∷ heaps))
@@ -280,21 +311,21 @@ fn push_heap(
         heap: index,
         coherency: CoherencyDomain::Cpu,
     };
-    if !push_place(alloc, tree, nodes, cpu, heap, until, lines)? {
+    if !push_place(alloc, tree, nodes, cpu, heap, until, lines, kept)? {
         return Ok(false);
     }
     let ram = Place {
         heap: index,
         coherency: CoherencyDomain::Ram,
     };
-    if !push_place(alloc, tree, nodes, ram, heap, until, lines)? {
+    if !push_place(alloc, tree, nodes, ram, heap, until, lines, kept)? {
         return Ok(false);
     }
     let inaccessible = Place {
         heap: index,
         coherency: CoherencyDomain::Inaccessible,
     };
-    push_place(alloc, tree, nodes, inaccessible, heap, until, lines)
+    push_place(alloc, tree, nodes, inaccessible, heap, until, lines, kept)
 }
 
 /// Lines that refuse each place of the platform to the participants at these nodes, or each before the first that they share; where it
@@ -313,8 +344,11 @@ pub(crate) fn refused_places(
         (places_of platform.now.heaps)) }
 {
     let mut lines = Vec::new(alloc);
+    let mut kept = Vec::new(alloc);
     for (index, heap) in platform.heaps().iter().enumerate() {
-        if !push_heap(alloc, tree, nodes, index, heap, until, &mut lines)? {
+        if !push_heap(
+            alloc, tree, nodes, index, heap, until, &mut lines, &mut kept,
+        )? {
             return Ok(Refusals::UpTo(Lines::new(lines)));
         }
     }

@@ -1,10 +1,10 @@
 //! Whom a line names, and the line.
 
-ghost use Rattle.std.specs.Prelude.{◌≡◌, All, IfOk, IfSome, option_map, false};
+ghost use Rattle.std.specs.Prelude.{◌≡◌, ◌∷◌, [], All, IfOk, IfSome, IsTrue, OnOk, option_map, false};
 ghost use Rattle.std.specs.Option.{option_map_or};
 ghost use Rattle.sysmem_counts.specs.declared.constraints.CountConstraints.{CountConstraints as Counted};
 ghost use Rattle.sysmem_proof.specs.Finder.{has_count};
-ghost use Rattle.sysmem_proof.specs.Whom.{NamesThose, line_on, names};
+ghost use Rattle.sysmem_proof.specs.Whom.{NamesOne, NamesThose, line_on, names};
 ghost use Rattle.sysmem_tree.specs.Nodes.{HasNode};
 
 use crate::line::Line;
@@ -113,5 +113,63 @@ pub(crate) fn next_line_of(
     let line = line_of(alloc, tree, nodes, field, whom, before)?;
     let again = line.again()?;
     *kept = Some(Named { whom, line: again });
+    Ok(line)
+}
+
+/// A line that names the participant at the node of this number.
+#[derive(Drop)]
+pub(crate) struct Alone {
+    number: u32,
+    line: Line,
+}
+
+/// Whether the line that is kept names the participant at this node.
+fn is_of(tree: &Tree, alone: &Alone, node: NodeId) -> bool
+    requires { HasNode tree.now.nodes node }
+    ensures { IsTrue result → alone.now.number ≡ node }
+{
+    alone.number == tree.number_of(node)
+}
+
+/// A line kept that names the participant at this node.
+fn alone_at<'a>(tree: &Tree, kept: &'a [Alone], node: NodeId) -> Option<&'a Line>
+    requires there { HasNode tree.now.nodes node }
+    requires alone { All (NamesOne tree.now.nodes) kept.now }
+    ensures { IfSome result (λ line. line.now
+        ≡ line_on tree.now.nodes (node ∷ []) line.now.field Whom.All) }
+{
+    for alone in kept {
+        if is_of(tree, alone, node) {
+            return Some(&alone.line);
+        }
+    }
+    None
+}
+
+/// The line of this field that names the participant at a node of the tree. Where a line is kept that names him, both have one path.
+pub(crate) fn line_alone(
+    alloc: Global,
+    tree: &Tree,
+    node: NodeId,
+    field: Field,
+    kept: &mut Vec<Alone>,
+) -> Result<Line, AllocError>
+    requires there { HasNode tree.now.nodes node }
+    requires alone { All (NamesOne tree.now.nodes) kept.old.items }
+    ensures line { IfOk result (λ line.
+        line ≡ line_on tree.now.nodes (node ∷ []) field Whom.All) }
+    ensures alone { OnOk result (All (NamesOne tree.now.nodes) kept.new.items) }
+{
+    if let Some(before) = alone_at(tree, kept, node) {
+        let shared = before.headed(field)?;
+        return Ok(shared);
+    }
+    let line = line_of(alloc, tree, &[node], field, Whom::All, &[])?;
+    let again = line.again()?;
+    let number = tree.number_of(node);
+    kept.push(Alone {
+        number,
+        line: again,
+    })?;
     Ok(line)
 }

@@ -15,9 +15,10 @@ use sysmem_counts::{CountConstraints, Field, Usage};
 use sysmem_image::Entry;
 use sysmem_memory::MemoryConstraints;
 
-/// The constraints of one participant. Its usage is `none` alone or some other families. It permits at most 64 heaps
-/// and has at most 64 entries, none of them twice. In an entry alignments and divisors are 1 to 65,536, what is least
-/// is 1 or more, there is some colour space, and no tiled modifier goes with a format that isn't of 4 bytes.
+/// The constraints of one participant. Its usage is `none` alone or some other families. It permits
+/// at most 64 heaps and has at most 64 entries, none of them twice. In an entry alignments and
+/// divisors are 1 to 65,536, what is least is 1 or more, there is some colour space, and no tiled
+/// modifier goes with a format that isn't of 4 bytes.
 #[derive(Debug, Drop)]
 pub struct Constraints {
     usage: Usage,
@@ -73,8 +74,8 @@ impl Constraints {
         }
     }
 
-    /// The constraints of these parts. It fails with a field in which no participant is so, where they are the parts of
-    /// none; where an entry is amiss, with the field in which it is.
+    /// The constraints of these parts. It fails with a field in which no participant is so, where
+    /// they are the parts of none; where an entry is amiss, with the field in which it is.
     pub fn of(
         usage: Usage,
         counts: CountConstraints,
@@ -93,7 +94,8 @@ impl Constraints {
         }
     }
 
-    /// What the participant does with the buffers: nothing, which is `none` alone, or some other families.
+    /// What the participant does with the buffers: nothing, which is `none` alone, or some other
+    /// families.
     pub fn usage(&self) -> Usage
         ensures usage { result ≡ self.now.usage }
         ensures families { IsUsage result }
@@ -108,7 +110,8 @@ impl Constraints {
         &self.counts
     }
 
-    /// The sizes and the places that it takes, its permitted heaps among them: at most 64, no two of one type and id.
+    /// The sizes and the places that it takes, its permitted heaps among them: at most 64, no two
+    /// of one type and id.
     pub fn memory(&self) -> &MemoryConstraints
         ensures memory { result.now ≡ self.now.memory }
         ensures few { length result.now.permitted_heaps ≤ 64 }
@@ -118,8 +121,8 @@ impl Constraints {
         &self.memory
     }
 
-    /// The image formats that it takes, in its order, each with its bounds on such images: at most 64, no two of one
-    /// format and modifier. A participant without entries takes every offer.
+    /// The image formats that it takes, in its order, each with its bounds on such images: at most
+    /// 64, no two of one format and modifier. A participant without entries takes every offer.
     pub fn entries(&self) -> &[Entry]
         ensures entries { result.now ≡ self.now.entries }
         ensures few { length result.now ≤ 64 }

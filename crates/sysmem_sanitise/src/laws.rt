@@ -2,8 +2,8 @@
 
 ghost use Rattle.sysmem_sanitise.specs.Laws.{SameParticipantIsEqual, SamePlatformIsEqual};
 
-/// What `==` calls equal is equal, and the other way round: of `Constraints` all that a participant asks, and of
-/// `Platform` all that a platform has.
+/// What `==` calls equal is equal, and the other way round: of `Constraints` all that a participant
+/// asks, and of `Platform` all that a platform has.
 pub fn equal_is_same()
     ensures constraints { SameParticipantIsEqual }
     ensures platforms { SamePlatformIsEqual }

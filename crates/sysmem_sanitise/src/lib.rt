@@ -1,4 +1,5 @@
-//! What participants and platforms state in their records: exactly the profile's, or the first fault.
+//! What participants and platforms state in their records: exactly the profile's, or the first
+//! fault.
 //!
 //! ```
 //! let platform = read_platform(rt.alloc(), &value["platform"])?;

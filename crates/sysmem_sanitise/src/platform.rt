@@ -17,9 +17,9 @@ use sysmem_counts::Field;
 use sysmem_formats::{ColourSpace, Pair};
 use sysmem_memory::HeapInfo;
 
-/// A platform: its heaps, 1 to 64 and no two of one type and id; its pairs of a format and a modifier, no tiled
-/// modifier with a format that isn't of 4 bytes; and its colour spaces. Each list is in the platform's order, isn't
-/// empty and has no item twice.
+/// A platform: its heaps, 1 to 64 and no two of one type and id; its pairs of a format and a
+/// modifier, no tiled modifier with a format that isn't of 4 bytes; and its colour spaces. Each
+/// list is in the platform's order, isn't empty and has no item twice.
 #[derive(Debug, Drop)]
 pub struct Platform {
     heaps: Vec<HeapInfo>,
@@ -66,7 +66,8 @@ impl Platform {
         }
     }
 
-    /// The platform of these parts. It fails with a field in which no platform is so, where they are the parts of none.
+    /// The platform of these parts. It fails with a field in which no platform is so, where they
+    /// are the parts of none.
     pub fn of(
         heaps: Vec<HeapInfo>,
         pairs: Vec<Pair>,
@@ -85,7 +86,8 @@ impl Platform {
         }
     }
 
-    /// The heaps in the platform's order: 1 to 64, no two of one type and id, each with some coherency domain.
+    /// The heaps in the platform's order: 1 to 64, no two of one type and id, each with some
+    /// coherency domain.
     pub fn heaps(&self) -> &[HeapInfo]
         ensures heaps { result.now ≡ self.now.heaps }
         ensures some { 1 ≤ length result.now }
@@ -96,8 +98,8 @@ impl Platform {
         &self.heaps
     }
 
-    /// The pairs of a format and a modifier that it has, in its order: some, none of them twice, no tiled modifier with a
-    /// format that isn't of 4 bytes.
+    /// The pairs of a format and a modifier that it has, in its order: some, none of them twice, no
+    /// tiled modifier with a format that isn't of 4 bytes.
     pub fn pairs(&self) -> &[Pair]
         ensures pairs { result.now ≡ self.now.pairs }
         ensures some { 1 ≤ length result.now }
@@ -116,7 +118,8 @@ impl Platform {
         &self.colours
     }
 
-    /// A platform that is equal to this one, in memory of its own. It fails where memory is refused.
+    /// A platform that is equal to this one, in memory of its own. It fails where memory is
+    /// refused.
     pub fn copy(&self) -> Result<Platform, AllocError>
         ensures { IfOk result (λ copy. copy ≡ self.now) }
     {

@@ -16,13 +16,17 @@ use crate::tree::Tree;
 fn ends_wait(kind: ActionKind) -> bool
     ensures { result ≡ ends_wait kind }
 {
-    matches!(
-        kind,
+    match kind {
         ActionKind::AllChildrenPresent
-            | ActionKind::SetConstraints
-            | ActionKind::Release
-            | ActionKind::Close
-    )
+        | ActionKind::SetConstraints
+        | ActionKind::Release
+        | ActionKind::Close => true,
+        ActionKind::Duplicate
+        | ActionKind::CreateGroup
+        | ActionKind::Bind
+        | ActionKind::CreateChild
+        | ActionKind::AttachToken => false,
+    }
 }
 
 /// The root of the domain of this node, unless it is ready.

@@ -1,5 +1,5 @@
-//! Searches of small trees, and books step by step, beside what was worked out by hand. It is a crate of tests alone, so that
-//! neither the search nor the book is proved again with its tests, and searches and books meet in it.
+//! Searches of small trees, and books step by step, beside what was worked out by hand, and values of the crates below. It is a
+//! crate of tests alone, so that none of those crates is proved again with its tests, and searches and books meet in it.
 #![tactic(auto)]
 
 #[cfg(test)]
@@ -17,10 +17,14 @@ mod orders;
 #[cfg(test)]
 mod playing;
 #[cfg(test)]
+mod records;
+#[cfg(test)]
 mod searches;
 #[cfg(test)]
 mod small_trees;
 #[cfg(test)]
 mod steps;
+#[cfg(test)]
+mod values;
 #[cfg(test)]
 mod workers;

@@ -1,10 +1,10 @@
 //! The words of scripts, and what they do: actions on a node, and constraints to set.
 
-use serde_json::Value;
+use crate::records::{asked, had};
 use std::alloc::Global;
 use std::sync::Arc;
 use std::test::Fail;
-use sysmem_sanitise::{Constraints, Platform, read_constraints, read_platform};
+use sysmem_sanitise::{Constraints, Platform};
 use sysmem_tree::{Action, Path};
 
 const PLATFORM: &str =
@@ -74,8 +74,7 @@ const ASKED: [(&str, &str); 16] = [
 
 /// The platform of all scripts: three heaps, five pairs, two colour spaces.
 pub(crate) fn platform(alloc: Global) -> Result<Platform, Fail> {
-    let record: Value = serde_json::from_str(alloc, PLATFORM)?;
-    Ok(read_platform(alloc, &record)?)
+    had(alloc, PLATFORM)
 }
 
 fn read_ordinals(ordinals: &mut Vec<u32>, text: &str) -> Result<(), Fail> {
@@ -108,8 +107,7 @@ fn constraints(alloc: Global, word: &str) -> Result<Constraints, Fail> {
     let Some(text) = record_for(word) else {
         return Err(Fail::new("no such word"));
     };
-    let record: Value = serde_json::from_str(alloc, text)?;
-    Ok(read_constraints(alloc, &record)?)
+    asked(alloc, text)
 }
 
 // Sets the constraints for which the word stands.

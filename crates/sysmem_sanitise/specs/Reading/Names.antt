@@ -5,7 +5,7 @@ use Rattle.sysmem_formats.specs.declared.colour_space.ColourSpace.TheVariants.{S
 use Rattle.sysmem_formats.specs.declared.modifier.Modifier.{Modifier}
 use Rattle.sysmem_formats.specs.declared.modifier.Modifier.TheVariants.{Linear, IntelXTiled, IntelYTiled}
 use Rattle.sysmem_formats.specs.declared.pixel_format.PixelFormat.{PixelFormat}
-use Rattle.sysmem_formats.specs.declared.pixel_format.PixelFormat.TheVariants.{R8G8B8A8, B8G8R8A8, R8G8B8X8, B8G8R8X8, R8G8B8, B8G8R8, R5G6B5, R8G8, YUY2, R8, L8, I420, YV12, NV12, P010}
+pub use Rattle.sysmem_formats.specs.Formats.{formats}
 use Rattle.sysmem_formats.specs.Names.{format_name, modifier_name, colour_name}
 use Rattle.sysmem_memory.specs.declared.domain.CoherencyDomain.{CoherencyDomain}
 use Rattle.sysmem_memory.specs.declared.domain.CoherencyDomain.TheVariants.{Cpu, Ram, Inaccessible}
@@ -14,10 +14,6 @@ use Rattle.sysmem_memory.specs.Domain.{domain_name}
 -- the one of these that has the name
 abbrev pub find_named : {X : Type 0} → (X → List ℕ) → List X → List ℕ → Option X
 find_named name_of xs name = find (λ x. bytes_eq (name_of x) name) xs
-
--- every pixel format
-abbrev pub formats : List PixelFormat
-formats = R8G8B8A8 ∷ B8G8R8A8 ∷ R8G8B8X8 ∷ B8G8R8X8 ∷ R8G8B8 ∷ B8G8R8 ∷ R5G6B5 ∷ R8G8 ∷ YUY2 ∷ R8 ∷ L8 ∷ I420 ∷ YV12 ∷ NV12 ∷ P010 ∷ []
 
 -- every modifier
 abbrev pub modifiers : List Modifier

@@ -197,8 +197,8 @@ fn further_of(
     )
 }
 
-/// The pairs that an entry asks for: its own, then its further ones. None of them, and none of the entries before,
-/// asks for what another does.
+/// The pairs that an entry asks for: its own, then its further ones. None of them, and none of the
+/// entries before, asks for what another does.
 pub(super) fn asked_pairs(
     alloc: Global,
     entries: &[Entry],

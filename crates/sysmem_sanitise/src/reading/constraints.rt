@@ -58,11 +58,12 @@ fn participant_of(alloc: Global, object: &Value) -> Result<Constraints, Fault>
     Ok(Constraints::new(usage, counts, memory, entries))
 }
 
-/// Reads a participant's record: its usage, the five counts, its memory constraints and its image entries. One
-/// with further pairs stands for several entries. At most 64 permitted heaps and 64 entries are read.
+/// Reads a participant's record: its usage, the five counts, its memory constraints and its image
+/// entries. One with further pairs stands for several entries. At most 64 permitted heaps and 64
+/// entries are read.
 ///
-/// Refuses with the record's first fault in the order of its fields. Memory that a field takes and is
-/// refused is a fault of this field, where it takes it.
+/// Refuses with the record's first fault in the order of its fields. Memory that a field takes and
+/// is refused is a fault of this field, where it takes it.
 pub fn read_constraints(alloc: Global, value: &Value) -> Result<Constraints, Fault>
     ensures taken { IfOk result (λ constraints. participant_of (view value.now) ≡ Ok constraints) }
     ensures refused { IfErr result

@@ -79,7 +79,8 @@ impl Listed for Pair {
     }
 }
 
-/// A list of pairs that isn't empty, no two alike and none a tiled modifier with a format that isn't of 4 bytes.
+/// A list of pairs that isn't empty, no two alike and none a tiled modifier with a format that
+/// isn't of 4 bytes.
 pub(super) fn pairs_of(alloc: Global, value: &Value) -> Result<Vec<Pair>, Fault>
     ensures { Reads (λ lack. pairs_of lack (view value.now))
         (seen_by (λ pairs. pairs.items) result) }

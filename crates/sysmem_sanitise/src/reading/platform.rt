@@ -56,11 +56,11 @@ fn platform_of(alloc: Global, object: &Value) -> Result<Platform, Fault>
     Ok(Platform::new(heaps, pairs, colours))
 }
 
-/// Reads a platform's record: its heaps, its pairs of a format and a modifier, and its colour spaces, each a list
-/// that isn't empty and has no item twice. At most 64 heaps are read.
+/// Reads a platform's record: its heaps, its pairs of a format and a modifier, and its colour
+/// spaces, each a list that isn't empty and has no item twice. At most 64 heaps are read.
 ///
-/// Refuses with the record's first fault in the order of its fields. Memory that a field takes and is
-/// refused is a fault of this field, where it takes it.
+/// Refuses with the record's first fault in the order of its fields. Memory that a field takes and
+/// is refused is a fault of this field, where it takes it.
 pub fn read_platform(alloc: Global, value: &Value) -> Result<Platform, Fault>
     ensures taken { IfOk result (λ platform. platform_of (view value.now) ≡ Ok platform) }
     ensures refused { IfErr result

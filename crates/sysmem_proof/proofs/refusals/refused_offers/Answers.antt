@@ -45,6 +45,7 @@ loop-offer-preserved c = record {
       one_offer (IsOfferLineGiven c.args.whole ms) (offers_of c.args.platform.now) c.loop-offer.lines.items _ c.in-Some.offer c.in-Some-2.line (sym here) c.in_ok-push.ensures.items (c.loop-offer.invariant.so_far ms stand)
       (of_some (IsOfferLineGiven c.args.whole ms c.in-Some.offer) c.in_ok-line.field-0 c.in-Some-2.line c.in-Some-2.is (c.in_ok-line.ensures.line ms stand));
   named = c.in_ok-line.ensures.named;
+  known = c.in_ok-line.ensures.known;
   last = λ ms stand image last at.
       subst (IsOfferLineGiven c.args.whole ms c.in-Some.offer) (last_pushed c.loop-offer.lines.items _ c.in-Some-2.line last c.in_ok-push.ensures.items at)
       (of_some (IsOfferLineGiven c.args.whole ms c.in-Some.offer) c.in_ok-line.field-0 c.in-Some-2.line c.in-Some-2.is (c.in_ok-line.ensures.line ms stand));

@@ -1,0 +1,51 @@
+//! Actions as words, and how the domains stand.
+
+use anyhow::{Result, bail};
+use serde_json::Value;
+use std::alloc::Global;
+use std::sync::Arc;
+use sysmem_sanitise::{Constraints, read_constraints};
+use sysmem_tree::{Action, Fate, Tree};
+
+/// The action of this word, if it is one. Constraints are those of a participant with the usage cpu; `set_none` sets none.
+pub(super) fn action_of(alloc: Global, word: &str) -> Result<Option<Action>> {
+    Ok(Some(match word {
+        "duplicate" => Action::Duplicate,
+        "create_group" => Action::CreateGroup,
+        "bind" => Action::Bind,
+        "create_child" => Action::CreateChild,
+        "all_children_present" => Action::AllChildrenPresent,
+        "attach_token" => Action::AttachToken,
+        "set_constraints" => Action::SetConstraints(Some(Arc::new(alloc, cpu(alloc)?)?)),
+        "set_none" => Action::SetConstraints(None),
+        "release" => Action::Release,
+        "close" => Action::Close,
+        _ => return Ok(None),
+    }))
+}
+
+fn cpu(alloc: Global) -> Result<Constraints> {
+    let record: Value = serde_json::from_str(alloc, r#"{"usage":["cpu"]}"#)?;
+    match read_constraints(alloc, &record) {
+        Ok(constraints) => Ok(constraints),
+        Err(fault) => bail!("the constraints are refused: {fault:?}"),
+    }
+}
+
+/// Writes behind a text how each domain stands.
+pub(super) fn push_domains(text: &mut String, tree: &Tree) -> Result<()> {
+    text.push(' ')?;
+    for index in 0..tree.domains() {
+        let Some(domain) = tree.domain_at(index) else {
+            continue;
+        };
+        text.push(match tree.fate(domain) {
+            Fate::Undecided if tree.ready(domain) => 'r',
+            Fate::Undecided => 'u',
+            Fate::Failed => 'f',
+            Fate::Chosen => 'c',
+            Fate::NoneChosen => 'n',
+        })?;
+    }
+    Ok(())
+}

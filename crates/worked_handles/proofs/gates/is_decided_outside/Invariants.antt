@@ -1,4 +1,0 @@
-use Rattle.worked_handles.proofs.gates.is_decided_outside.Given as goal
-
-abbrev pub ghosts-hold : goal.ghosts-hold
-ghosts-hold g a = record { name = a.blank.name; parts = a.blank.parts }

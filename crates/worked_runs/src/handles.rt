@@ -1,0 +1,8 @@
+//! Collections through their handles, beside what was worked out by hand. These tests start threads and wait.
+
+mod actors;
+mod asking;
+mod equal;
+mod gates;
+mod handling;
+mod slack;
