@@ -54,11 +54,17 @@ fn main(rt: HostRuntime) -> Result<()> {
     if jobs.as_str() == "read" {
         return read_again(rt.alloc(), &bytes, times);
     }
-    repeat_of(&rt, &bytes, &jobs, times)
+    repeat_of(&rt, &rt, &bytes, &jobs, times)
 }
 
 /// Does each of these jobs for the script of these bytes.
-fn repeat_of(rt: &HostRuntime, bytes: &[u8], jobs: &str, times: u32) -> Result<()> {
+fn repeat_of<T: Threads + Sync>(
+    rt: &HostRuntime,
+    threads: &T,
+    bytes: &[u8],
+    jobs: &str,
+    times: u32,
+) -> Result<()> {
     let Ok(value) = parse_script(rt.alloc(), bytes) else {
         bail!("the script is refused");
     };
@@ -66,11 +72,12 @@ fn repeat_of(rt: &HostRuntime, bytes: &[u8], jobs: &str, times: u32) -> Result<(
         bail!("the script is refused");
     };
     let tree = play(rt.alloc(), &script.calls)?;
-    repeat_each(rt, bytes, jobs, &script.platform, &tree, times)
+    repeat_each(rt, threads, bytes, jobs, &script.platform, &tree, times)
 }
 
-fn repeat_each(
+fn repeat_each<T: Threads + Sync>(
     rt: &HostRuntime,
+    threads: &T,
     bytes: &[u8],
     jobs: &str,
     platform: &Platform,
@@ -81,7 +88,7 @@ fn repeat_each(
         match job {
             "read" => read_again(rt.alloc(), bytes, times)?,
             "rows" => play_rows(rt)?,
-            _ => repeat(rt, rt.alloc(), job, platform, tree, times)?,
+            _ => repeat(threads, rt.alloc(), job, platform, tree, times)?,
         }
     }
     Ok(())
