@@ -1,5 +1,5 @@
 -- A job whose files are apart doesn't empty its script.
-use Rattle.std.proofs.Common.{◌≡◌, ◌∙◌, ℕ, inl, inr, refl, sym, ap, arith, slice_index, codes, List, Option, Some, None, IsSomeAnd}
+use Rattle.std.proofs.Common.{◌≡◌, ◌∙◌, ◌⊎◌, ℕ, inl, inr, refl, sym, ap, arith, slice_index, codes, List, Option, Some, None, IsSomeAnd}
 use Rattle.clap.specs.Words.{Row, Text}
 use Rattle.command_line.specs.CommandLine.{AsksForJob, EmptiesScript, IsOneFile}
 use Rattle.command_line.specs.declared.words.Job.{Job}

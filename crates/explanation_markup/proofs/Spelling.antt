@@ -1,5 +1,5 @@
 -- Words as HTML spells them have no character that is markup.
-use Rattle.std.proofs.Common.{◌&&◌, nat_lt, true≢false, ◌≡◌, ◌∙◌, ◌==◌, ◌++◌, ℕ, Bool, true, false, refl, sym, ap, ap₂, cond, List, [], ◌∷◌, codes, encode_utf8, encode_utf8_all, map, Result, Ok, Err}
+use Rattle.std.proofs.Common.{◌&&◌, nat_lt, true≢false, ◌≡◌, ◌∙◌, ◌==◌, ◌||◌, ◌++◌, ℕ, Bool, true, false, refl, sym, ap, ap₂, cond, List, [], ◌∷◌, codes, encode_utf8, encode_utf8_all, map, Result, Ok, Err}
 use Rattle.std.specs.Prelude.{OnOk}
 use Rattle.std.proofs.lemmas.List.{append_assoc, append-nil}
 use Rattle.std.proofs.lemmas.Bool.{ltb-true}
