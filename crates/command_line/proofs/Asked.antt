@@ -24,7 +24,7 @@ check_shape : Shape
 check_shape = built_leaf (inherited (with_leaf_noted (marked_built replay_app.top)) check_app.top)
 
 abbrev IsAskedRun : Text × List Row → Type 0
-IsAskedRun e = (file : Text) × (is_json : Bool) × (proof : Option Text) × IsRunOf e file is_json proof
+IsAskedRun e = (file : Text) × (proof : Option Text) × IsRunOf e file proof
 
 abbrev IsAskedThreads : Text × List Row → Type 0
 IsAskedThreads e = (file : Text) × IsThreadsOf e file
@@ -79,8 +79,7 @@ unfolding run_shape
 run_asked words none =
     let given = file_given (rows_after run_shape.rules [] words) (level_parts run_shape [] words false [] none).1 in
     let read = given_is_read (codes "FILE") (rows_after run_shape.rules [] words) (each_has_value run_shape words [] refl none) given in
-    let rows = rows_after run_shape.rules [] words in
-    (read.0, flag_of (codes "json") rows, first_of (codes "proof") rows, (refl, read.1, refl, refl))
+    (read.0, first_of (codes "proof") (rows_after run_shape.rules [] words), (refl, read.1, refl))
 
 -- the words after `threads` give FILE
 threads_asked : (words : List Text) → level_fault threads_shape [] nothing_held words false [] ≡ [] → IsAskedThreads (rows_at threads_shape words)

@@ -57,14 +57,7 @@ fn given_words(rt: &HostRuntime) -> Result<Vec<String>, Ending> {
 /// Does what the words ask for; only `threads` starts any.
 fn obey<T: Threads + Wait + Sync>(rt: &HostRuntime, threads: &T, words: &[String]) -> Ending {
     match read_words(rt.alloc(), words) {
-        Ok(
-            Job::Run {
-                file,
-                is_json: false,
-                proof,
-            },
-        ) => ending_of(run_file(rt, file, proof)),
-        Ok(Job::Run { is_json: true, .. }) => refuse(rt, "reports aren't printed as JSON yet"),
+        Ok(Job::Run { file, proof }) => ending_of(run_file(rt, file, proof)),
         Ok(Job::Threads { file }) => ending_of(play_file(rt, threads, file)),
         Ok(
             Job::Explain {
