@@ -148,7 +148,7 @@ job_asked words none =
 -- entries that ask for no job are none of those
 pub none_asked : (o : Option (Text × List Row)) → IfSome o AsksForNone → IsSomeAnd o IsAsked → ⊥
 none_asked None h asked = asked
-none_asked (Some e) h (inl run) = h.run run.0 run.1 run.2 run.3
+none_asked (Some e) h (inl run) = h.run run.0 run.1 run.2
 none_asked (Some e) h (inr (inl threads)) = h.threads threads.0 threads.1
 none_asked (Some e) h (inr (inr (inl explain))) = h.explain explain.0 explain.1 explain.2 explain.3
 none_asked (Some e) h (inr (inr (inr check))) = h.check check.0 check.1 check.2

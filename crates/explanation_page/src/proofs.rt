@@ -35,9 +35,25 @@ fn length_of(value: &Value, key: &str) -> usize {
 
 /// The list at a key; an empty one where there is none.
 fn list_at<'b>(value: &'b Value, key: &str) -> &'b [Value] {
-    match value.get(key).and_then(Value::as_array) {
+    match value.get(key) {
+        Some(found) => items_of(found),
+        None => &[],
+    }
+}
+
+/// The items of a list; none of what is no list.
+fn items_of(value: &Value) -> &[Value] {
+    match value.as_array() {
         Some(list) => list.as_slice(),
         None => &[],
+    }
+}
+
+/// The text at a key; an empty one where there is none.
+fn text_at<'b>(value: &'b Value, key: &str) -> &'b str {
+    match value.get(key) {
+        Some(found) => found.as_str().unwrap_or(""),
+        None => "",
     }
 }
 
@@ -52,7 +68,7 @@ pub(crate) fn proofs_of(
     let Ok(decisions) = Value::from_slice(alloc, &certificate) else {
         return Err(AllocError);
     };
-    for decision in decisions.as_array().map_or(&[][..], |list| list.as_slice()) {
+    for decision in items_of(&decisions) {
         proofs.push(proof_of(alloc, story, decision)?)?;
     }
     Ok(proofs)
@@ -71,12 +87,12 @@ fn certificate_of(alloc: Global, bytes: &[u8]) -> Result<Vec<u8>, AllocError> {
 
 /// What proves a decision, in words.
 fn proof_of(alloc: Global, story: &Story<'_>, decision: &Value) -> Result<String, AllocError> {
-    let path = decision.get("domain").and_then(Value::as_str).unwrap_or("");
+    let path = text_at(decision, "domain");
     let mut text = String::new(alloc);
     put_domain_at(&mut text, story, path)?;
-    match decision.get("verdict").and_then(Value::as_str) {
-        Some("empty") => put_empty(&mut text, decision)?,
-        Some("chosen") => put_chosen(&mut text, story, path, decision)?,
+    match text_at(decision, "verdict") {
+        "empty" => put_empty(&mut text, decision)?,
+        "chosen" => put_chosen(&mut text, story, path, decision)?,
         _ => text.push_str("more than 4096 selections, which nothing has to prove")?,
     }
     Ok(text)
@@ -130,9 +146,9 @@ fn put_earlier(text: &mut String, decision: &Value) -> Result<(), AllocError> {
     let mut tally = Tally::default();
     let mut children = 0usize;
     for group in list_at(decision, "earlier") {
-        for child in group.as_array().map_or(&[][..], |list| list.as_slice()) {
+        for child in items_of(group) {
             children = children.saturating_add(1);
-            tally.add(child.as_array().map_or(&[][..], |list| list.as_slice()));
+            tally.add(items_of(child));
         }
     }
     if children == 0 {
