@@ -8,6 +8,8 @@ use script_story::{Setting, story_of};
 use serde_json::Value;
 use std::alloc::{AllocError, Global};
 use story_drawing::drawing_of;
+use story_parts::Story;
+use sysmem_sanitise::Platform;
 
 /// The page of a script's items; of one that is refused without the tree and the calls.
 pub(crate) fn page_of_script(
@@ -44,7 +46,18 @@ fn drawn_page<'a>(
         return Err(AllocError);
     }
     let story = story_of(alloc, value, &script.calls, &told)?;
-    let mut drawing = drawing_of(alloc, setting.platform, &story)?;
-    drawing.proofs = proofs_of(alloc, bytes, &story)?;
+    page_of_story(alloc, bytes, &script.platform, &story, items)
+}
+
+/// The page of a script's items, with the tree and the calls of its story.
+fn page_of_story(
+    alloc: Global,
+    bytes: &[u8],
+    platform: &Platform,
+    story: &Story<'_>,
+    items: &[Item],
+) -> Result<String, AllocError> {
+    let mut drawing = drawing_of(alloc, platform, story)?;
+    drawing.proofs = proofs_of(alloc, bytes, story)?;
     page_of(alloc, items, Some(&drawing))
 }

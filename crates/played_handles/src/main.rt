@@ -10,8 +10,7 @@
 //!
 //! | Job | What is repeated |
 //! |---|---|
-//! | `handles` | playing the calls through the handles of a new collection, and closing all handles |
-//! | `audits` | the same, and auditing the collection |
+//! | `handles` | playing the calls through the handles of a new collection |
 //! | `book` | applying them to a new book, without a decision |
 //! | `alone` | 126 participants of one collection, each of whom binds, states what the script's first asks for, and releases, on one thread |
 //! | `crowd` | the same on 16 threads |
@@ -28,7 +27,7 @@ mod showing;
 
 use anyhow::{Result, bail};
 use crowding::crowd_again;
-use repeating::{repeat_audits, repeat_book, repeat_handles};
+use repeating::{repeat_book, repeat_handles};
 use script::{Asked, Played, all_stated};
 use script_reading::{Script, parse_script, read_script};
 use std::alloc::Global;
@@ -41,7 +40,7 @@ fn main(rt: HostRuntime) -> Result<()> {
     let mut words = env::args(&rt)?;
     let _program = words.next();
     let Some(file) = words.next() else {
-        bail!("usage: played_handles FILE [handles|audits|book|alone|crowd TIMES]");
+        bail!("usage: played_handles FILE [handles|book|alone|crowd TIMES]");
     };
     let bytes = fs::read(&rt, &file)?;
     let Ok(value) = parse_script(rt.alloc(), &bytes) else {
@@ -72,7 +71,6 @@ fn repeat<R: Threads + Wait + Sync>(
     let asked = all_stated(alloc, &calls)?;
     match job {
         "handles" => repeat_handles(rt, alloc, platform, &calls, &asked, times),
-        "audits" => repeat_audits(rt, alloc, platform, &calls, &asked, times),
         "book" => repeat_book(alloc, &platform, &calls, &asked, times),
         "alone" => crowd_again(rt, alloc, platform, first_of(&asked)?, 1, times),
         "crowd" => crowd_again(rt, alloc, platform, first_of(&asked)?, 16, times),

@@ -15,12 +15,12 @@ use std::sync::ledger::{Blank, Ledger};
 use std::sync::{Arc, Wait};
 use std::thread::Threads;
 use sysmem_alloc::Book;
-use sysmem_participants::{Allocator, Stub, audit};
+use sysmem_participants::{Allocator, audit};
 use sysmem_sanitise::Platform;
 use sysmem_search::NoGate;
 use sysmem_tree::{Action, Event, NodeId};
 
-/// Plays the calls through the handles of so many collections, one after the other.
+/// Plays the calls through the handles of so many collections, one after the other, and audits each.
 pub(crate) fn repeat_handles<R: Threads + Wait + Sync>(
     rt: &R,
     alloc: Global,
@@ -31,28 +31,12 @@ pub(crate) fn repeat_handles<R: Threads + Wait + Sync>(
 ) -> Result<()> {
     let allocator = Allocator::new(alloc, platform, NoGate)?;
     for _ in 0..times {
-        let _stubs = play_once::<Brand, R>(rt, alloc, &allocator, Blank::new(129), calls, asked)?;
+        play_once::<Brand, R>(rt, alloc, &allocator, Blank::new(129), calls, asked)?;
     }
     Ok(())
 }
 
-/// The same, and audits each.
-pub(crate) fn repeat_audits<R: Threads + Wait + Sync>(
-    rt: &R,
-    alloc: Global,
-    platform: Platform,
-    calls: &[Call<'_>],
-    asked: &[Asked],
-    times: u32,
-) -> Result<()> {
-    let allocator = Allocator::new(alloc, platform, NoGate)?;
-    for _ in 0..times {
-        audit_once::<Brand, R>(rt, alloc, &allocator, Blank::new(129), calls, asked)?;
-    }
-    Ok(())
-}
-
-/// Plays the calls through the handles of one collection, and closes them all.
+/// Plays the calls through the handles of one collection, and audits it.
 fn play_once<L: Ledger, R: Threads + Wait + Sync>(
     rt: &R,
     alloc: Global,
@@ -60,7 +44,7 @@ fn play_once<L: Ledger, R: Threads + Wait + Sync>(
     blank: Blank,
     calls: &[Call<'_>],
     asked: &[Asked],
-) -> Result<Vec<Stub<L>>>
+) -> Result<()>
     requires name { blank.name ≡ L.name }
     requires ledger { blank.parts ≡ L.parts }
     requires parts { blank.parts ≡ all_parts }
@@ -74,24 +58,7 @@ fn play_once<L: Ledger, R: Threads + Wait + Sync>(
     for (call, asked) in calls.iter().zip(asked) {
         let _reply = make(rt, &mut hands, call, asked);
     }
-    Ok(end(rt, hands, stubs))
-}
-
-/// Plays the calls through the handles of one collection, and audits it.
-fn audit_once<L: Ledger, R: Threads + Wait + Sync>(
-    rt: &R,
-    alloc: Global,
-    allocator: &Allocator<NoGate>,
-    blank: Blank,
-    calls: &[Call<'_>],
-    asked: &[Asked],
-) -> Result<()>
-    requires name { blank.name ≡ L.name }
-    requires ledger { blank.parts ≡ L.parts }
-    requires parts { blank.parts ≡ all_parts }
-{
-    let stubs = play_once::<L, R>(rt, alloc, allocator, blank, calls, asked)?;
-    match audit(rt, stubs) {
+    match audit(rt, end(rt, hands, stubs)) {
         Ok(_found) => Ok(()),
         Err(fault) => bail!("the audit says {}", fault.name()),
     }
