@@ -42,11 +42,15 @@ fn stop_of(
     ensures { IfOk result (IsStop platform.now asked.now) }
 {
     let mut aggregate = Aggregate::new(alloc, platform)?;
-    let mut shared = aggregate.best_settings(false).ok();
+    // Nobody is in the way of nobody, so there are some.
+    let mut shared = match aggregate.best_settings(false) {
+        Ok(settings) => settings,
+        Err(_) => return Err(AllocError),
+    };
     for who in 0..asked.len() {
         aggregate.add(&asked[who])?;
         match aggregate.best_settings(false) {
-            Ok(settings) => shared = Some(settings),
+            Ok(settings) => shared = settings,
             Err(reason) => {
                 return Ok(Stop {
                     who,
@@ -90,11 +94,12 @@ fn refused(alloc: Global, platform: &Platform, asked: &[Constraints], reason: Re
     requires reason { IsFirstReason true platform.now asked.now reason }
     ensures { AreUnmet platform.now asked.now result }
 {
-    match stop_of(alloc, platform, asked, reason) {
-        Ok(stop) => Unsettled::Unmet(Refusal {
-            stop,
-            field: blamed_field(platform, asked, &stop),
-        }),
-        Err(_) => Unsettled::NoMemory,
+    let Ok(stop) = stop_of(alloc, platform, asked, reason) else {
+        return Unsettled::NoMemory;
+    };
+    // By the reason some field is in the way.
+    match blamed_field(platform, asked, &stop) {
+        Some(field) => Unsettled::Unmet(Refusal { stop, field }),
+        None => Unsettled::NoMemory,
     }
 }

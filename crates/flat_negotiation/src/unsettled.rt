@@ -17,14 +17,14 @@ pub struct Stop {
     /// Why there are none.
     pub reason: Reason,
     /// The best settings for those before.
-    pub shared: Option<Settings>,
+    pub shared: Settings,
 }
 
 /// Why a list has no settings: where it stops, and the field of that participant.
 #[derive(Clone, Copy, Debug)]
 pub struct Refusal {
     pub stop: Stop,
-    pub field: Option<Field>,
+    pub field: Field,
 }
 
 /// Why there are no settings.
