@@ -2,3 +2,4 @@ mod Asked
 mod Entries
 mod Filled
 mod Plain
+mod Emptied

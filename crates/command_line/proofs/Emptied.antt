@@ -1,0 +1,47 @@
+-- A job whose files are apart doesn't empty its script.
+use Rattle.std.proofs.Common.{◌≡◌, ◌∙◌, ◌⊎◌, inl, inr, sym, ap, arith, slice_index, codes, List, Option, Some, None, IsSomeAnd}
+use Rattle.clap.specs.Words.{Row, Text}
+use Rattle.command_line.specs.CommandLine.{AsksForJob, EmptiesScript, IsOneFile}
+use Rattle.command_line.specs.declared.words.Job.{Job}
+use Rattle.command_line.specs.declared.words.Job.TheVariants.{Run, Threads, Explain, Check}
+
+run_or_explain : codes "run" ≡ codes "explain" → ⊥
+run_or_explain e = absurd (cc)
+
+run_or_threads : codes "run" ≡ codes "threads" → ⊥
+run_or_threads e = absurd (cc)
+
+run_or_check : codes "run" ≡ codes "check" → ⊥
+run_or_check e = absurd (cc)
+
+explain_or_threads : codes "explain" ≡ codes "threads" → ⊥
+explain_or_threads e =
+    let bad : 101 ≡ 116 = ap (λ t. slice_index t 0) e in
+    absurd (omega arith)
+
+explain_or_check : codes "explain" ≡ codes "check" → ⊥
+explain_or_check e = absurd (cc)
+
+not_emptied : (entries : Text × List Row) (job : Job) → AsksForJob entries job → ¬ IsOneFile job → ¬ EmptiesScript entries
+not_emptied entries (Run file is_json proof) asks apart h = elim h.writes [
+  | inl run ↦ apart (sym asks.3 ∙ run.1 ∙ sym h.reads ∙ asks.1)
+  | inr explain ↦ run_or_explain (sym asks.0 ∙ explain.0)
+]
+not_emptied entries (Threads file) asks apart h = elim h.writes [
+  | inl run ↦ run_or_threads (sym run.0 ∙ asks.0)
+  | inr explain ↦ explain_or_threads (sym explain.0 ∙ asks.0)
+]
+not_emptied entries (Explain file page is_strict) asks apart h = elim h.writes [
+  | inl run ↦ run_or_explain (sym run.0 ∙ asks.0)
+  | inr explain ↦ apart (sym asks.2 ∙ explain.1 ∙ sym h.reads ∙ asks.1)
+]
+not_emptied entries (Check file proof) asks apart h = elim h.writes [
+  | inl run ↦ run_or_check (sym run.0 ∙ asks.0)
+  | inr explain ↦ explain_or_check (sym explain.0 ∙ asks.0)
+]
+
+-- entries that ask for such a job don't empty a script
+pub kept_apart : (o : Option (Text × List Row)) (job : Job) → IsSomeAnd o (λ e. AsksForJob e job) → ¬ IsOneFile job
+    → IsSomeAnd o (λ e. AsksForJob e job × ¬ EmptiesScript e)
+kept_apart None job h apart = h
+kept_apart (Some e) job h apart = (h, not_emptied e job h apart)

@@ -1,0 +1,3 @@
+mod RunLemmas
+mod Spelling
+mod Texts

@@ -1,0 +1,20 @@
+//! A script's report for programs: an object of JSON for each of its lines.
+//!
+//! ```
+//! let mut reader = Counted::new(file);
+//! let mut writer = Counted::new(io::writer(&rt));
+//! let ended = run_as_json(rt.alloc(), &mut reader, &mut writer)?;
+//! ```
+#![tactic(auto)]
+
+mod call_object;
+mod domain_object;
+mod image_object;
+mod named;
+mod put;
+mod reasons;
+mod refuted;
+mod running;
+mod telling;
+
+pub use running::run_as_json;

@@ -1,0 +1,302 @@
+//! The objects of a report, line by line.
+
+ghost use Rattle.std.specs.Prelude.{◌≡◌, ◌<◌, ◌+◌, ◌++◌, ◌∷◌, [], ℕ, List, codes, length, map, slice_get, true, IfOk, IfSome, OnOk};
+ghost use Rattle.std.specs.Fmt.{decimal};
+ghost use Rattle.std.specs.String.{string_bytes};
+ghost use Rattle.report_json.specs.Objects.{call_head, call_object, end_object};
+ghost use Rattle.report_json.specs.Tells.{AreAllObjects, AreObjectsOf, IsWord, SaysIn, Tells, decisions_in, domain_head};
+ghost use Rattle.report_json.specs.Text.{Puts};
+ghost use Rattle.script_reading.specs.Seen.{act_seen, call_seen};
+ghost use Rattle.script_run.specs.Lines.{new_name};
+ghost use Rattle.script_run.specs.Replayed.{end_of};
+ghost use Rattle.serde_json.specs.Data.{Data};
+ghost use Rattle.serde_json.specs.View.{view};
+ghost use Rattle.std.specs.Str.Lines.{lines};
+ghost use Rattle.sysmem_alloc.specs.Entry.{entry_in};
+ghost use Rattle.sysmem_tree.specs.Node.{NodeFacts};
+
+use crate::call_object::{act_name, put_call};
+use crate::domain_object::{put_chosen, put_empty, put_word};
+use crate::named::{Named, names_of};
+use crate::refuted::{certificate_of, refutation_at};
+use certificate_text::push_path;
+use script_reading::{Act, Call};
+use script_run::{self, Replayed};
+use serde_json::Value;
+use std::alloc::{AllocError, Global};
+use std::fmt::Write;
+use sysmem_alloc::{Book, Entry};
+use sysmem_image::corner;
+use sysmem_proof::{Chosen, Verdict};
+use sysmem_tree::Path;
+
+/// The objects of the report of a script's calls, and one that ends them. It fails where memory is refused, and where a line isn't one of this
+/// collection, as each is.
+pub(crate) fn objects_of(
+    alloc: Global,
+    bytes: &[u8],
+    calls: &[Call<'_>],
+    replayed: &Replayed,
+) -> Result<String, AllocError>
+    ensures { IfOk result (λ text. AreObjectsOf bytes.now (map call_seen calls.now)
+        (end_of replayed.now) (string_bytes replayed.now.report.text) (string_bytes text)) }
+{
+    let names = names_of(alloc, calls, replayed)?;
+    let text = &replayed.report.text;
+    if !text.contains(" empty\n") {
+        return all_objects(alloc, &names, calls, replayed.book(), &[], text);
+    }
+    let certificate = certificate_of(alloc, bytes)?;
+    let Some(objects) = certificate.as_array() else {
+        return Err(AllocError);
+    };
+    all_objects(alloc, &names, calls, replayed.book(), objects, text)
+}
+
+/// The objects of a report's lines, where these are the objects of the certificate, and one that ends them.
+fn all_objects(
+    alloc: Global,
+    names: &[Named<'_>],
+    calls: &[Call<'_>],
+    book: &Book,
+    objects: &[Value],
+    text: &str,
+) -> Result<String, AllocError>
+    ensures { IfOk result (λ out. AreAllObjects names.now (map call_seen calls.now) book.now
+        (map view objects.now) (lines text.now) (string_bytes out)) }
+{
+    let mut out = String::new(alloc);
+    let mut told = 0;
+    for line in text.lines() {
+        told = put_line(&mut out, names, calls, book, objects, told, line)?;
+    }
+    put_end(&mut out, calls.len(), decisions_in(book.history()))?;
+    Ok(out)
+}
+
+/// Puts the object of a line behind those of so many calls, and counts it where it is a call's.
+fn put_line(
+    out: &mut String,
+    names: &[Named<'_>],
+    calls: &[Call<'_>],
+    book: &Book,
+    objects: &[Value],
+    told: usize,
+    line: &str,
+) -> Result<usize, AllocError>
+    ensures { IfOk result (λ count. (ls : List (List ℕ)) → Tells names.now
+        (map call_seen calls.now) book.now (map view objects.now) told ls (string_bytes out.old)
+        → Tells names.now (map call_seen calls.now) book.now (map view objects.now) count
+        (ls ++ line.now ∷ []) (string_bytes out.new)) }
+{
+    if line.starts_with("domain ") {
+        put_domain(out, names, book, objects, line)?;
+        return Ok(told);
+    }
+    put_called(out, calls, told, line)?;
+    Ok(told + 1)
+}
+
+/// Puts the object of the line of the call behind so many.
+fn put_called(
+    out: &mut String,
+    calls: &[Call<'_>],
+    told: usize,
+    line: &str,
+) -> Result<(), AllocError>
+    ensures less { OnOk result (told < length calls.now) }
+    ensures put { OnOk result (IfSome (slice_get (map call_seen calls.now) told) (λ r.
+        (reply : List ℕ) × (line.now ≡ call_head (told + 1) r ++ reply)
+        × (string_bytes out.new ≡ string_bytes out.old ++ call_object (told + 1) r reply))) }
+{
+    let Some(call) = calls.get(told) else {
+        return Err(AllocError);
+    };
+    let head = head_of(*out.allocator(), told + 1, call)?;
+    match line.strip_prefix(head.as_str()) {
+        Some(reply) => put_call(out, told + 1, call, reply),
+        None => Err(AllocError),
+    }
+}
+
+/// The line of a call up to its reply.
+#[tactic(auto, using(crate::proofs::Texts::three))]
+fn head_of(alloc: Global, number: usize, call: &Call<'_>) -> Result<String, AllocError>
+    ensures { IfOk result (λ head. string_bytes head ≡ call_head number (call_seen call.now)) }
+{
+    let mut head = String::new(alloc);
+    put_words(&mut head, number, act_name(&call.act), call.on)?;
+    put_new_name(&mut head, &call.act)?;
+    head.push_str(" ")?;
+    Ok(head)
+}
+
+fn put_words(head: &mut String, number: usize, act: &str, on: &str) -> Result<(), AllocError>
+    ensures { Puts result head.old head.new
+        (decimal number ++ codes " " ++ act.now ++ codes " " ++ on.now) }
+{
+    write!(head, "{number} {act} {on}")
+}
+
+fn put_new_name(head: &mut String, act: &Act<'_>) -> Result<(), AllocError>
+    ensures { Puts result head.old head.new (new_name (act_seen act.now)) }
+{
+    match act.name_made() {
+        Some(name) => put_spaced(head, name),
+        None => Ok(()),
+    }
+}
+
+fn put_spaced(head: &mut String, name: &str) -> Result<(), AllocError>
+    ensures { Puts result head.old head.new (codes " " ++ name.now) }
+{
+    write!(head, " {name}")
+}
+
+/// Puts the object of a domain's line.
+fn put_domain(
+    out: &mut String,
+    names: &[Named<'_>],
+    book: &Book,
+    objects: &[Value],
+    line: &str,
+) -> Result<(), AllocError>
+    ensures { OnOk result (SaysIn names.now book.now (map view objects.now) line.now
+        (string_bytes out.old) (string_bytes out.new)) }
+{
+    let tree = book.tree();
+    for index in 0..tree.domains() {
+        let Some(domain) = tree.domain_at(index) else {
+            continue;
+        };
+        let path = tree.path_of(tree.root_of(domain))?;
+        let head = domain_head(*out.allocator(), &path)?;
+        if let Some(what) = line.strip_prefix(head.as_str()) {
+            return put_said(out, names, book, objects, &path, line, what);
+        }
+    }
+    Err(AllocError)
+}
+
+/// The line of a domain up to what it says.
+#[tactic(auto, using(crate::proofs::Texts::three))]
+fn domain_head(alloc: Global, path: &Path) -> Result<String, AllocError>
+    ensures { IfOk result (λ head. string_bytes head ≡ domain_head path.now) }
+{
+    let mut head = String::new(alloc);
+    head.push_str("domain ")?;
+    push_path(&mut head, path.ordinals())?;
+    head.push_str(" ")?;
+    Ok(head)
+}
+
+/// Puts the object of what a line says of the domain at a path.
+fn put_said(
+    out: &mut String,
+    names: &[Named<'_>],
+    book: &Book,
+    objects: &[Value],
+    path: &Path,
+    line: &str,
+    what: &str,
+) -> Result<(), AllocError>
+    requires line { line.now ≡ domain_head path.now ++ what.now }
+    ensures { OnOk result (SaysIn names.now book.now (map view objects.now) line.now
+        (string_bytes out.old) (string_bytes out.new)) }
+{
+    if is_word(what) {
+        return put_word(out, names, path, what);
+    }
+    if what == "empty" {
+        let refutation = refutation_at(*out.allocator(), book.platform(), objects, path)?;
+        return put_empty(out, names, path, &refutation);
+    }
+    put_settings(out, names, book, path, line)
+}
+
+/// Puts the object of settings, of which the line of the domain at a path tells.
+fn put_settings(
+    out: &mut String,
+    names: &[Named<'_>],
+    book: &Book,
+    path: &Path,
+    line: &str,
+) -> Result<(), AllocError>
+    ensures { OnOk result ((objects : List Data) → SaysIn names.now book.now objects line.now
+        (string_bytes out.old) (string_bytes out.new)) }
+{
+    let tree = book.tree();
+    let Some(node) = tree.node_at(path.ordinals()) else {
+        return Err(AllocError);
+    };
+    match book.verdict_of(tree.domain_of(node)) {
+        Some(Verdict::Chosen(chosen)) => put_settled(out, names, book, path, chosen, line),
+        _ => Err(AllocError),
+    }
+}
+
+/// Whether a line says no more of a domain than this word, which isn't `empty`.
+fn is_word(what: &str) -> bool
+    ensures { result ≡ true → IsWord what.now }
+{
+    what == "failed" || what == "pending" || what == "too_many" || what == "no_memory"
+}
+
+/// Puts the object of settings, of which the line tells.
+fn put_settled(
+    out: &mut String,
+    names: &[Named<'_>],
+    book: &Book,
+    path: &Path,
+    chosen: &Chosen,
+    line: &str,
+) -> Result<(), AllocError>
+    ensures { OnOk result ((objects : List Data) → SaysIn names.now book.now objects line.now
+        (string_bytes out.old) (string_bytes out.new)) }
+{
+    let platform = book.platform();
+    let settings = chosen.settings();
+    let Ok(corner) = corner(&settings.bounds, &settings.offer) else {
+        return Err(AllocError);
+    };
+    let mut told = String::new(*out.allocator());
+    script_run::put_chosen(&mut told, platform, path, chosen, corner)?;
+    if told.as_str() != with_end(*out.allocator(), line)?.as_str() {
+        return Err(AllocError);
+    }
+    put_chosen(out, names, platform, path, chosen, corner)
+}
+
+/// A line with its end.
+fn with_end(alloc: Global, line: &str) -> Result<String, AllocError>
+    ensures { IfOk result (λ text. string_bytes text ≡ line.now ++ codes "\n") }
+{
+    let mut text = String::new(alloc);
+    text.push_str(line)?;
+    text.push_str("\n")?;
+    Ok(text)
+}
+
+/// How many domains were decided.
+fn decisions_in(history: &[Entry]) -> usize
+    ensures { (nodes : List NodeFacts)
+        → result ≡ decisions_in (map (entry_in nodes) history.now) }
+{
+    let mut count = 0;
+    for entry in history {
+        if let Entry::Decided(_, _) = entry {
+            count += 1;
+        }
+    }
+    count
+}
+
+/// Puts the last object, by which a reader knows that it has all.
+fn put_end(out: &mut String, calls: usize, decisions: usize) -> Result<(), AllocError>
+    ensures { Puts result out.old out.new (end_object calls decisions) }
+{
+    writeln!(
+        out,
+        "{{\"calls\":{calls},\"decisions\":{decisions},\"end\":true}}"
+    )
+}
