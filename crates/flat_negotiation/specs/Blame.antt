@@ -1,5 +1,5 @@
 -- Where a list of participants has no settings any more, and why.
-use Rattle.std.specs.Prelude.{◌≡◌, ℕ, ◌+◌, ◌<◌, Bool, true, false, List, length, take, Some, IsSomeAnd, slice_get}
+use Rattle.std.specs.Prelude.{◌≡◌, ℕ, ◌+◌, ◌<◌, Bool, true, false, List, length, take, Some, IfSome, IsSomeAnd, slice_get}
 use Rattle.sysmem_counts.specs.declared.field.Field.{Field}
 use Rattle.sysmem_memory.specs.Heap.{HeapFacts}
 use Rattle.sysmem_memory.specs.PlaceTable.{refuses_by}
@@ -28,7 +28,7 @@ IsWho false many who = who < many
 -- the participants before can share settings, for the first reason not with this one too
 pub record IsStop (platform : PlatformFacts) (ps : List Participant) (stop : Stop) : Type 0 where
   pub who : IsWho stop.whole (length ps) stop.who
-  pub shared : IsBest false platform (take stop.who ps) stop.shared
+  pub shared : IfSome stop.shared (IsBest false platform (take stop.who ps))
   pub unmet : IsUnmet stop.whole platform (up_to stop.who ps)
   pub reason : IsFirstReason stop.whole platform (up_to stop.who ps) stop.reason
 
@@ -46,8 +46,8 @@ IsOfferField whole ps s field = IsFirstOf (IsRefusingLine whole s.offer (offer_d
 -- before share; or it heads the first line that is true of the offer that they share
 abbrev pub IsFieldOf : PlatformFacts → List Participant → Stop → Reason → Field → Type 0
 IsFieldOf platform ps stop (Count own) field = field ≡ own
-IsFieldOf platform ps stop NoPlace field = IsSomeAnd (slice_get ps stop.who) (λ p. IsPlaceField platform p stop.shared field)
-IsFieldOf platform ps stop NoOffer field = IsOfferField stop.whole (up_to stop.who ps) stop.shared field
+IsFieldOf platform ps stop NoPlace field = IsSomeAnd (slice_get ps stop.who) (λ p. IsSomeAnd stop.shared (λ s. IsPlaceField platform p s field))
+IsFieldOf platform ps stop NoOffer field = IsSomeAnd stop.shared (λ s. IsOfferField stop.whole (up_to stop.who ps) s field)
 
 -- no settings meet them; where they stop having some, and the field
 pub record IsBlamed (platform : PlatformFacts) (ps : List Participant) (refusal : Refusal) : Type 0 where

@@ -1,5 +1,5 @@
 -- Refusals as a C program is told them.
-use Rattle.std.specs.Prelude.{ℕ, ◌^◌, ◌-◌, if◌then◌else◌}
+use Rattle.std.specs.Prelude.{ℕ, ◌^◌, ◌-◌, Option, Some, None, if◌then◌else◌}
 use Rattle.std.specs.Option.{unwrap_or}
 use Rattle.drm_images.specs.Codes.{fourcc, modifier_bits}
 use Rattle.sysmem_counts.specs.declared.field.Field.{Field}
@@ -94,8 +94,9 @@ with_offer offer.NoImage r = r
 with_offer (offer.Image pair colour) r = record r { modifier = modifier_bits pair.modifier; format = unwrap_or (fourcc pair.format) 0; colour = colour_bit colour }
 
 -- what is told of settings that others share
-abbrev pub with_shared : Settings → FlatRefusal → FlatRefusal
-with_shared s r = with_offer s.offer (record r { heap = s.place.heap; coherency = domain_code s.place.coherency })
+abbrev pub with_shared : Option Settings → FlatRefusal → FlatRefusal
+with_shared None r = r
+with_shared (Some s) r = with_offer s.offer (record r { heap = s.place.heap; coherency = domain_code s.place.coherency })
 
 -- what is told where no settings meet them
 abbrev pub unmet_refusal : ℕ → Refusal → FlatRefusal

@@ -53,9 +53,13 @@ pub(crate) fn blamed_field(platform: &Platform, asked: &[Constraints], stop: &St
 {
     match stop.reason {
         Reason::Count(field) => Some(field),
-        Reason::NoPlace => place_field(platform, asked.get(stop.who)?, &stop.shared),
+        Reason::NoPlace => {
+            let shared = stop.shared?;
+            place_field(platform, asked.get(stop.who)?, &shared)
+        }
         Reason::NoOffer => {
-            read_up_to(&stop.shared.offer, asked, stop.who).first_line(stop.whole)
+            let shared = stop.shared?;
+            read_up_to(&shared.offer, asked, stop.who).first_line(stop.whole)
         }
     }
 }

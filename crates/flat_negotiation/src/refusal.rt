@@ -74,17 +74,20 @@ fn with_offer(offer: Offer, refusal: FlatRefusal) -> FlatRefusal
     }
 }
 
-fn with_shared(shared: Settings, refusal: FlatRefusal) -> FlatRefusal
+fn with_shared(shared: Option<Settings>, refusal: FlatRefusal) -> FlatRefusal
     ensures { result ≡ with_shared shared refusal }
 {
-    with_offer(
-        shared.offer,
-        FlatRefusal {
-            heap: shared.place.heap,
-            coherency: domain_code(shared.place.coherency),
-            ..refusal
-        },
-    )
+    match shared {
+        None => refusal,
+        Some(settings) => with_offer(
+            settings.offer,
+            FlatRefusal {
+                heap: settings.place.heap,
+                coherency: domain_code(settings.place.coherency),
+                ..refusal
+            },
+        ),
+    }
 }
 
 fn unmet_refusal(struct_size: usize, refusal: &Refusal) -> FlatRefusal

@@ -42,15 +42,11 @@ fn stop_of(
     ensures { IfOk result (IsStop platform.now asked.now) }
 {
     let mut aggregate = Aggregate::new(alloc, platform)?;
-    // Nobody is in the way of nobody, so there are some.
-    let mut shared = match aggregate.best_settings(false) {
-        Ok(settings) => settings,
-        Err(_) => return Err(AllocError),
-    };
+    let mut shared = aggregate.best_settings(false).ok();
     for who in 0..asked.len() {
         aggregate.add(&asked[who])?;
         match aggregate.best_settings(false) {
-            Ok(settings) => shared = settings,
+            Ok(settings) => shared = Some(settings),
             Err(reason) => {
                 return Ok(Stop {
                     who,

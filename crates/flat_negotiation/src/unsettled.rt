@@ -17,7 +17,7 @@ pub struct Stop {
     /// Why there are none.
     pub reason: Reason,
     /// The best settings for those before.
-    pub shared: Settings,
+    pub shared: Option<Settings>,
 }
 
 /// Why a list has no settings: where it stops, and the field of that participant.
