@@ -1,3 +1,5 @@
 mod RunLemmas
 mod Spelling
+mod Stripping
+mod Telling
 mod Texts

@@ -39,14 +39,14 @@ struct Certified {
 fn certificate_text(alloc: Global, bytes: &[u8]) -> Result<Vec<u8>, AllocError>
     ensures { IfOk result (λ text. IsTextOf bytes.now text.items) }
 {
-    let certified = certified(alloc, bytes);
+    let certified = certified_run(alloc, bytes);
     match certified.ended {
         Ok(Ended::Done) => Ok(certified.certificate),
         _ => Err(AllocError),
     }
 }
 
-fn certified(alloc: Global, bytes: &[u8]) -> Certified
+fn certified_run(alloc: Global, bytes: &[u8]) -> Certified
     ensures { RanWithProof result.ended (Some bytes.now) (Some []) (Some result.text.items)
         (Some []) (Some result.certificate.items) }
 {

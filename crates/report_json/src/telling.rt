@@ -113,10 +113,17 @@ fn put_called(
         return Err(AllocError);
     };
     let head = head_of(*out.allocator(), told + 1, call)?;
-    match line.strip_prefix(head.as_str()) {
+    match rest_of(line, &head) {
         Some(reply) => put_call(out, told + 1, call, reply),
         None => Err(AllocError),
     }
+}
+
+/// What is left of a line that begins so.
+fn rest_of<'a>(line: &'a str, head: &str) -> Option<&'a str>
+    ensures { IfSome result (λ rest. line.now ≡ head.now ++ rest.now) }
+{
+    line.strip_prefix(head)
 }
 
 /// The line of a call up to its reply.
@@ -171,7 +178,7 @@ fn put_domain(
         };
         let path = tree.path_of(tree.root_of(domain))?;
         let head = domain_head(*out.allocator(), &path)?;
-        if let Some(what) = line.strip_prefix(head.as_str()) {
+        if let Some(what) = rest_of(line, &head) {
             return put_said(out, names, book, objects, &path, line, what);
         }
     }
