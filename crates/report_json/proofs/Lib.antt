@@ -1,5 +1,1 @@
-mod RunLemmas
-mod Spelling
-mod Stripping
-mod Telling
 mod Texts

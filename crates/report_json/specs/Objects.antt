@@ -4,7 +4,7 @@ use Rattle.std.specs.Str.{bytes_eq}
 use Rattle.std.specs.Fmt.{decimal}
 use Rattle.script_reading.specs.Call.{ActFacts, name_made}
 use Rattle.script_reading.specs.Script.{CallFacts}
-use Rattle.script_run.specs.Lines.{act_name, new_name}
+use Rattle.script_run.specs.Lines.{act_name}
 use Rattle.sysmem_image.specs.declared.size.Corner.{Corner}
 use Rattle.sysmem_memory.specs.Domain.{domain_name}
 use Rattle.sysmem_memory.specs.Heap.{HeapFacts}
@@ -35,10 +35,6 @@ reply_text on reply =
 -- `{"as":"camera","call":1,"does":"duplicate","ok":true,"on":"root"}`
 abbrev pub call_object : ℕ → CallFacts → List ℕ → List ℕ
 call_object number r reply = codes "{" ++ as_text (name_made r.act) ++ act_text number (act_name r.act) ++ reply_text r.on reply
-
--- the line of a call up to its reply
-abbrev pub call_head : ℕ → CallFacts → List ℕ
-call_head number r = (decimal number ++ codes " " ++ act_name r.act ++ codes " " ++ r.on) ++ new_name r.act ++ codes " "
 
 -- `"domain":"/0","name":"camera"`
 abbrev pub root_text : List Named → List ℕ → List ℕ

@@ -84,10 +84,10 @@ fn put_planes(out: &mut String, pair: Pair, corner: Corner) -> Result<(), AllocE
     ensures { Puts result out.old out.new
         (planes_text (planes_of pair corner.bytes_per_row corner.height)) }
 {
-    if image_bytes(pair, corner.bytes_per_row, corner.height).is_none() {
-        return Err(AllocError);
+    match image_bytes(pair, corner.bytes_per_row, corner.height) {
+        Some(_) => put_three_planes(out, pair, corner.bytes_per_row, corner.height),
+        None => Err(AllocError),
     }
-    put_three_planes(out, pair, corner.bytes_per_row, corner.height)
 }
 
 #[tactic(auto, using(crate::proofs::Texts::three))]

@@ -1,11 +1,5 @@
 //! The names that a script has for nodes.
 
-ghost use Rattle.std.specs.Prelude.{◌≡◌, All, List, Some, map, IfOk, OnOk, slice_get};
-ghost use Rattle.script_reading.specs.Script.{CallFacts};
-ghost use Rattle.report_json.specs.Names.{IsNamed, names_made};
-ghost use Rattle.script_reading.specs.Seen.{call_seen};
-ghost use Rattle.script_run.specs.Replayed.{end_of};
-
 use script_reading::Call;
 use script_run::Replayed;
 use std::alloc::{AllocError, Global};
@@ -23,10 +17,7 @@ pub(crate) fn names_of<'a>(
     alloc: Global,
     calls: &[Call<'a>],
     replayed: &Replayed,
-) -> Result<Vec<Named<'a>>, AllocError>
-    ensures { IfOk result (λ names.
-        All (IsNamed (map call_seen calls.now) (end_of replayed.now)) names.items) }
-{
+) -> Result<Vec<Named<'a>>, AllocError> {
     let made = made_names(alloc, calls)?;
     let mut names = Vec::new(alloc);
     for place in 0..made.len() {
@@ -36,10 +27,7 @@ pub(crate) fn names_of<'a>(
 }
 
 /// The names that a script makes, the root's first.
-fn made_names<'a>(alloc: Global, calls: &[Call<'a>]) -> Result<Vec<&'a str>, AllocError>
-    ensures { IfOk result (λ made.
-        map (λ name. name.now) made.items ≡ names_made (map call_seen calls.now)) }
-{
+fn made_names<'a>(alloc: Global, calls: &[Call<'a>]) -> Result<Vec<&'a str>, AllocError> {
     let mut made = vec![in alloc; "root"]?;
     for call in calls {
         if let Some(name) = call.act.name_made() {
@@ -55,12 +43,7 @@ fn add_name<'a>(
     replayed: &Replayed,
     place: usize,
     name: &'a str,
-) -> Result<(), AllocError>
-    ensures { OnOk result ((rs : List CallFacts)
-        → slice_get (names_made rs) place ≡ Some name.now
-        → All (IsNamed rs (end_of replayed.now)) names.old.items
-        → All (IsNamed rs (end_of replayed.now)) names.new.items) }
-{
+) -> Result<(), AllocError> {
     let tree = replayed.book().tree();
     let Some(number) = replayed.node_named(place) else {
         return Ok(());

@@ -1,12 +1,5 @@
 //! What refutes domains that no settings meet, by the certificate of the same script.
 
-ghost use Rattle.std.specs.Prelude.{◌≡◌, [], Contains, Some, map, IfOk, IfSome};
-ghost use Rattle.certificate_text.specs.Said.{claim_said};
-ghost use Rattle.report_json.specs.Refuted.{IsCertifiedOf, IsTextOf, refuted};
-ghost use Rattle.script_run.specs.Run.{RanWithProof};
-ghost use Rattle.serde_json.specs.Data.{Data};
-ghost use Rattle.serde_json.specs.View.{view};
-
 use byte_transfer::Counted;
 use certificate_text::read_proof;
 use script_run::{Ended, RunFault, run_with_proof};
@@ -17,9 +10,7 @@ use sysmem_sanitise::Platform;
 use sysmem_tree::Path;
 
 /// The certificate of a script's bytes, as a value. It fails where memory is refused, in the run too.
-pub(crate) fn certificate_of(alloc: Global, bytes: &[u8]) -> Result<Value, AllocError>
-    ensures { IfOk result (λ value. IsCertifiedOf bytes.now (view value)) }
-{
+pub(crate) fn certificate_of(alloc: Global, bytes: &[u8]) -> Result<Value, AllocError> {
     let text = certificate_text(alloc, bytes)?;
     match Value::from_slice(alloc, &text) {
         Ok(value) => Ok(value),
@@ -36,9 +27,7 @@ struct Certified {
 }
 
 /// The text of a script's certificate.
-fn certificate_text(alloc: Global, bytes: &[u8]) -> Result<Vec<u8>, AllocError>
-    ensures { IfOk result (λ text. IsTextOf bytes.now text.items) }
-{
+fn certificate_text(alloc: Global, bytes: &[u8]) -> Result<Vec<u8>, AllocError> {
     let certified = certified_run(alloc, bytes);
     match certified.ended {
         Ok(Ended::Done) => Ok(certified.certificate),
@@ -46,10 +35,7 @@ fn certificate_text(alloc: Global, bytes: &[u8]) -> Result<Vec<u8>, AllocError>
     }
 }
 
-fn certified_run(alloc: Global, bytes: &[u8]) -> Certified
-    ensures { RanWithProof result.ended (Some bytes.now) (Some []) (Some result.text.items)
-        (Some []) (Some result.certificate.items) }
-{
+fn certified_run(alloc: Global, bytes: &[u8]) -> Certified {
     let mut reader = Counted::new(bytes);
     let mut writer = Counted::new(Vec::new(alloc));
     let mut proof = Counted::new(Vec::new(alloc));
@@ -67,10 +53,7 @@ pub(crate) fn refutation_at(
     platform: &Platform,
     objects: &[Value],
     path: &Path,
-) -> Result<Refutation, AllocError>
-    ensures { IfOk result (λ refutation. (object : Data) × Contains (map view objects.now) object
-        × (claim_said platform.now object ≡ Some (path.now, refuted refutation))) }
-{
+) -> Result<Refutation, AllocError> {
     for object in objects {
         if let Some(refutation) = refutation_in(alloc, platform, object, path)? {
             return Ok(refutation);
@@ -85,10 +68,7 @@ fn refutation_in(
     platform: &Platform,
     object: &Value,
     path: &Path,
-) -> Result<Option<Refutation>, AllocError>
-    ensures { IfOk result (λ found. IfSome found (λ refutation.
-        claim_said platform.now (view object.now) ≡ Some (path.now, refuted refutation))) }
-{
+) -> Result<Option<Refutation>, AllocError> {
     let Ok((about, claim)) = read_proof(alloc, platform, object) else {
         return Err(AllocError);
     };
@@ -99,9 +79,7 @@ fn refutation_in(
 }
 
 /// What refutes a domain, where that is what a claim says.
-fn refutation_of(claim: Claim) -> Option<Refutation>
-    ensures { IfSome result (λ refutation. claim ≡ refuted refutation) }
-{
+fn refutation_of(claim: Claim) -> Option<Refutation> {
     let Claim { verdict, proof } = claim;
     match (verdict, proof) {
         (Verdict::IntersectionEmpty, Proof::Empty(refutation)) => Some(refutation),

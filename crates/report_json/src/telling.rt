@@ -1,20 +1,5 @@
 //! The objects of a report, line by line.
 
-ghost use Rattle.std.specs.Prelude.{◌≡◌, ◌<◌, ◌+◌, ◌++◌, ◌∷◌, [], ℕ, List, codes, length, map, slice_get, true, IfOk, IfSome, OnOk};
-ghost use Rattle.std.specs.Fmt.{decimal};
-ghost use Rattle.std.specs.String.{string_bytes};
-ghost use Rattle.report_json.specs.Objects.{call_head, call_object, end_object};
-ghost use Rattle.report_json.specs.Tells.{AreAllObjects, AreObjectsOf, IsWord, SaysIn, Tells, decisions_in, domain_head};
-ghost use Rattle.report_json.specs.Text.{Puts};
-ghost use Rattle.script_reading.specs.Seen.{act_seen, call_seen};
-ghost use Rattle.script_run.specs.Lines.{new_name};
-ghost use Rattle.script_run.specs.Replayed.{end_of};
-ghost use Rattle.serde_json.specs.Data.{Data};
-ghost use Rattle.serde_json.specs.View.{view};
-ghost use Rattle.std.specs.Str.Lines.{lines};
-ghost use Rattle.sysmem_alloc.specs.Entry.{entry_in};
-ghost use Rattle.sysmem_tree.specs.Node.{NodeFacts};
-
 use crate::call_object::{act_name, put_call};
 use crate::domain_object::{put_chosen, put_empty, put_word};
 use crate::named::{Named, names_of};
@@ -37,10 +22,7 @@ pub(crate) fn objects_of(
     bytes: &[u8],
     calls: &[Call<'_>],
     replayed: &Replayed,
-) -> Result<String, AllocError>
-    ensures { IfOk result (λ text. AreObjectsOf bytes.now (map call_seen calls.now)
-        (end_of replayed.now) (string_bytes replayed.now.report.text) (string_bytes text)) }
-{
+) -> Result<String, AllocError> {
     let names = names_of(alloc, calls, replayed)?;
     let text = &replayed.report.text;
     if !text.contains(" empty\n") {
@@ -61,10 +43,7 @@ fn all_objects(
     book: &Book,
     objects: &[Value],
     text: &str,
-) -> Result<String, AllocError>
-    ensures { IfOk result (λ out. AreAllObjects names.now (map call_seen calls.now) book.now
-        (map view objects.now) (lines text.now) (string_bytes out)) }
-{
+) -> Result<String, AllocError> {
     let mut out = String::new(alloc);
     let mut told = 0;
     for line in text.lines() {
@@ -83,18 +62,13 @@ fn put_line(
     objects: &[Value],
     told: usize,
     line: &str,
-) -> Result<usize, AllocError>
-    ensures { IfOk result (λ count. (ls : List (List ℕ)) → Tells names.now
-        (map call_seen calls.now) book.now (map view objects.now) told ls (string_bytes out.old)
-        → Tells names.now (map call_seen calls.now) book.now (map view objects.now) count
-        (ls ++ line.now ∷ []) (string_bytes out.new)) }
-{
+) -> Result<usize, AllocError> {
     if line.starts_with("domain ") {
         put_domain(out, names, book, objects, line)?;
         return Ok(told);
     }
     put_called(out, calls, told, line)?;
-    Ok(told + 1)
+    Ok(told.saturating_add(1))
 }
 
 /// Puts the object of the line of the call behind so many.
@@ -103,34 +77,25 @@ fn put_called(
     calls: &[Call<'_>],
     told: usize,
     line: &str,
-) -> Result<(), AllocError>
-    ensures less { OnOk result (told < length calls.now) }
-    ensures put { OnOk result (IfSome (slice_get (map call_seen calls.now) told) (λ r.
-        (reply : List ℕ) × (line.now ≡ call_head (told + 1) r ++ reply)
-        × (string_bytes out.new ≡ string_bytes out.old ++ call_object (told + 1) r reply))) }
-{
+) -> Result<(), AllocError> {
     let Some(call) = calls.get(told) else {
         return Err(AllocError);
     };
-    let head = head_of(*out.allocator(), told + 1, call)?;
+    let number = told.saturating_add(1);
+    let head = head_of(*out.allocator(), number, call)?;
     match rest_of(line, &head) {
-        Some(reply) => put_call(out, told + 1, call, reply),
+        Some(reply) => put_call(out, number, call, reply),
         None => Err(AllocError),
     }
 }
 
 /// What is left of a line that begins so.
-fn rest_of<'a>(line: &'a str, head: &str) -> Option<&'a str>
-    ensures { IfSome result (λ rest. line.now ≡ head.now ++ rest.now) }
-{
+fn rest_of<'a>(line: &'a str, head: &str) -> Option<&'a str> {
     line.strip_prefix(head)
 }
 
 /// The line of a call up to its reply.
-#[tactic(auto, using(crate::proofs::Texts::three))]
-fn head_of(alloc: Global, number: usize, call: &Call<'_>) -> Result<String, AllocError>
-    ensures { IfOk result (λ head. string_bytes head ≡ call_head number (call_seen call.now)) }
-{
+fn head_of(alloc: Global, number: usize, call: &Call<'_>) -> Result<String, AllocError> {
     let mut head = String::new(alloc);
     put_words(&mut head, number, act_name(&call.act), call.on)?;
     put_new_name(&mut head, &call.act)?;
@@ -138,25 +103,18 @@ fn head_of(alloc: Global, number: usize, call: &Call<'_>) -> Result<String, Allo
     Ok(head)
 }
 
-fn put_words(head: &mut String, number: usize, act: &str, on: &str) -> Result<(), AllocError>
-    ensures { Puts result head.old head.new
-        (decimal number ++ codes " " ++ act.now ++ codes " " ++ on.now) }
-{
+fn put_words(head: &mut String, number: usize, act: &str, on: &str) -> Result<(), AllocError> {
     write!(head, "{number} {act} {on}")
 }
 
-fn put_new_name(head: &mut String, act: &Act<'_>) -> Result<(), AllocError>
-    ensures { Puts result head.old head.new (new_name (act_seen act.now)) }
-{
+fn put_new_name(head: &mut String, act: &Act<'_>) -> Result<(), AllocError> {
     match act.name_made() {
         Some(name) => put_spaced(head, name),
         None => Ok(()),
     }
 }
 
-fn put_spaced(head: &mut String, name: &str) -> Result<(), AllocError>
-    ensures { Puts result head.old head.new (codes " " ++ name.now) }
-{
+fn put_spaced(head: &mut String, name: &str) -> Result<(), AllocError> {
     write!(head, " {name}")
 }
 
@@ -167,10 +125,7 @@ fn put_domain(
     book: &Book,
     objects: &[Value],
     line: &str,
-) -> Result<(), AllocError>
-    ensures { OnOk result (SaysIn names.now book.now (map view objects.now) line.now
-        (string_bytes out.old) (string_bytes out.new)) }
-{
+) -> Result<(), AllocError> {
     let tree = book.tree();
     for index in 0..tree.domains() {
         let Some(domain) = tree.domain_at(index) else {
@@ -186,10 +141,7 @@ fn put_domain(
 }
 
 /// The line of a domain up to what it says.
-#[tactic(auto, using(crate::proofs::Texts::three))]
-fn domain_head(alloc: Global, path: &Path) -> Result<String, AllocError>
-    ensures { IfOk result (λ head. string_bytes head ≡ domain_head path.now) }
-{
+fn domain_head(alloc: Global, path: &Path) -> Result<String, AllocError> {
     let mut head = String::new(alloc);
     head.push_str("domain ")?;
     push_path(&mut head, path.ordinals())?;
@@ -206,11 +158,7 @@ fn put_said(
     path: &Path,
     line: &str,
     what: &str,
-) -> Result<(), AllocError>
-    requires line { line.now ≡ domain_head path.now ++ what.now }
-    ensures { OnOk result (SaysIn names.now book.now (map view objects.now) line.now
-        (string_bytes out.old) (string_bytes out.new)) }
-{
+) -> Result<(), AllocError> {
     if is_word(what) {
         return put_word(out, names, path, what);
     }
@@ -228,10 +176,7 @@ fn put_settings(
     book: &Book,
     path: &Path,
     line: &str,
-) -> Result<(), AllocError>
-    ensures { OnOk result ((objects : List Data) → SaysIn names.now book.now objects line.now
-        (string_bytes out.old) (string_bytes out.new)) }
-{
+) -> Result<(), AllocError> {
     let tree = book.tree();
     let Some(node) = tree.node_at(path.ordinals()) else {
         return Err(AllocError);
@@ -243,9 +188,7 @@ fn put_settings(
 }
 
 /// Whether a line says no more of a domain than this word, which isn't `empty`.
-fn is_word(what: &str) -> bool
-    ensures { result ≡ true → IsWord what.now }
-{
+fn is_word(what: &str) -> bool {
     what == "failed" || what == "pending" || what == "too_many" || what == "no_memory"
 }
 
@@ -257,10 +200,7 @@ fn put_settled(
     path: &Path,
     chosen: &Chosen,
     line: &str,
-) -> Result<(), AllocError>
-    ensures { OnOk result ((objects : List Data) → SaysIn names.now book.now objects line.now
-        (string_bytes out.old) (string_bytes out.new)) }
-{
+) -> Result<(), AllocError> {
     let platform = book.platform();
     let settings = chosen.settings();
     let Ok(corner) = corner(&settings.bounds, &settings.offer) else {
@@ -275,9 +215,7 @@ fn put_settled(
 }
 
 /// A line with its end.
-fn with_end(alloc: Global, line: &str) -> Result<String, AllocError>
-    ensures { IfOk result (λ text. string_bytes text ≡ line.now ++ codes "\n") }
-{
+fn with_end(alloc: Global, line: &str) -> Result<String, AllocError> {
     let mut text = String::new(alloc);
     text.push_str(line)?;
     text.push_str("\n")?;
@@ -285,23 +223,18 @@ fn with_end(alloc: Global, line: &str) -> Result<String, AllocError>
 }
 
 /// How many domains were decided.
-fn decisions_in(history: &[Entry]) -> usize
-    ensures { (nodes : List NodeFacts)
-        → result ≡ decisions_in (map (entry_in nodes) history.now) }
-{
-    let mut count = 0;
+fn decisions_in(history: &[Entry]) -> usize {
+    let mut count = 0usize;
     for entry in history {
         if let Entry::Decided(_, _) = entry {
-            count += 1;
+            count = count.saturating_add(1);
         }
     }
     count
 }
 
 /// Puts the last object, by which a reader knows that it has all.
-fn put_end(out: &mut String, calls: usize, decisions: usize) -> Result<(), AllocError>
-    ensures { Puts result out.old out.new (end_object calls decisions) }
-{
+fn put_end(out: &mut String, calls: usize, decisions: usize) -> Result<(), AllocError> {
     writeln!(
         out,
         "{{\"calls\":{calls},\"decisions\":{decisions},\"end\":true}}"
