@@ -20,7 +20,7 @@ proved:
 test:
 	RT_JOBS=$(JOBS) rt ci
 
-# Tests of the proved program as a whole (they need a C compiler and Python): reports, in lines and in objects, refusals, records, worked values, small trees beside each of their selections, certificates and their checks, files that fail, each allocation refused in turn, scripts played through handles, scripts on threads, and explanations.
+# Tests of the proved program as a whole (they need a C compiler and Python): reports, refusals, records, worked values, small trees beside each of their selections, certificates and their checks, files that fail, each allocation refused in turn, scripts played through handles, scripts on threads, and explanations.
 program-test: proved
 	@$(MAKE) --no-print-directory built-test
 
@@ -28,7 +28,6 @@ program-test: proved
 built-test:
 	docs/definitions --check
 	tests/reports
-	tests/json_reports
 	tests/refusals
 	tests/records
 	tests/values

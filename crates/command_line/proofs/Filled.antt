@@ -13,7 +13,7 @@ use Rattle.clap.specs.Takes.{is_given}
 use Rattle.clap.specs.Kinds.{Kinds, or_else, range_kinds}
 use Rattle.clap.specs.Faults.{bundle_fault, bundle_step_fault, check_fault, flag_word_fault, flags_fault, level_fault, long_fault, option_fault, other_fault, positional_fault, react_fault, settle_fault, short_fault, step_fault, stray_fault, turn_fault, use_fault, walk_fault, word_fault}
 use Rattle.clap.specs.declared.builder.action.ArgAction.{ArgAction}
-use Rattle.clap.specs.declared.builder.action.ArgAction.TheVariants.{Set, SetTrue, Help}
+use Rattle.clap.specs.declared.builder.action.ArgAction.TheVariants.{Set, Help}
 use Rattle.clap.specs.declared.error.kind.ErrorKind.TheVariants.{TooManyValues}
 use Rattle.clap.specs.declared.parser.matches.ValueSource.{ValueSource}
 use Rattle.clap.specs.declared.parser.matches.ValueSource.TheVariants.{CommandLine}
@@ -28,16 +28,14 @@ abbrev pub EachHasValue : List Row → Type 0
 EachHasValue [] = Unit {0}
 EachHasValue (r ∷ rs) = HasValue r × EachHasValue rs
 
--- the argument takes values and at least one, is a flag that stands for one, or asks for help
-abbrev wants_as : ArgAction → Bool → List Text → Bool
-wants_as Set some missing = some
-wants_as SetTrue some [] = false
-wants_as SetTrue some (v ∷ vs) = true
-wants_as Help some missing = true
-wants_as _ some missing = false
+-- the argument takes values and at least one, or asks for help
+abbrev wants_as : ArgAction → Bool → Bool
+wants_as Set some = some
+wants_as Help some = true
+wants_as _ some = false
 
 abbrev pub wants_value : Rule → Bool
-wants_value a = wants_as (action_of a) (nat_lt 0 (unwrap_or_range a.range).start_inclusive) a.missing
+wants_value a = wants_as (action_of a) (nat_lt 0 (unwrap_or_range a.range).start_inclusive)
 
 abbrev Wants : Option Rule → Type 0
 Wants None = Unit {0}
@@ -103,17 +101,9 @@ use_kept again a values rows wants none h = by_action (action_of a) wants
     set least most [] some range = absurd (faults _ (rw some refl) range)
     set least most (v ∷ vs) some range = values_kept a.id (reading_by a) CommandLine v vs (without a.id rows) (without_kept a.id rows h)
 
-    -- a flag's use has the value that stands for it
-    flag : (given missing : List Text) → wants_as SetTrue true missing ≡ true
-        → EachHasValue (with_values a.id (reading_by a) CommandLine (values_or_missing (record a { missing = missing }) given) (without a.id rows))
-    flag (v ∷ vs) missing some = values_kept a.id (reading_by a) CommandLine v vs (without a.id rows) (without_kept a.id rows h)
-    flag [] (v ∷ vs) some = values_kept a.id (reading_by a) CommandLine v vs (without a.id rows) (without_kept a.id rows h)
-    flag [] [] some = absurd (true≢false (sym some))
-
-    by_action : (x : ArgAction) → wants_as x (nat_lt 0 (unwrap_or_range a.range).start_inclusive) a.missing ≡ true
+    by_action : (x : ArgAction) → wants_as x (nat_lt 0 (unwrap_or_range a.range).start_inclusive) ≡ true
         → EachHasValue (used_as x a.id (reading_by a) (values_or_missing a values) rows)
     by_action Set some = set _ (most_values a) values some (each_step _ _ none).0
-    by_action SetTrue some = flag values a.missing some
     by_action Help some = h
     by_action _ some = absurd (true≢false (sym some))
 

@@ -2,4 +2,3 @@ mod Asked
 mod Entries
 mod Filled
 mod Plain
-mod Emptied

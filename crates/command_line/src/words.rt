@@ -1,34 +1,24 @@
 //! The command line: the job that the words behind the program's name ask for.
 ghost use Rattle.std.specs.Prelude.{◌≡◌, Err, IfNone, IfOk, IfSome, IsSomeAnd, false, map, string_bytes};
 ghost use Rattle.std.specs.Bool.{Decides};
-ghost use Rattle.clap.specs.Words.{FailsBy, app_of, fault_of, found_of, rows_of, rule_of, subcommand_of, subcommand_rows_of};
+ghost use Rattle.clap.specs.Words.{FailsBy, app_of, fault_of, rule_of, subcommand_of, subcommand_rows_of};
 ghost use Rattle.clap.specs.declared.builder.command.Command.TheViews.{out-Command as fields_of};
-ghost use Rattle.command_line.specs.CommandLine.{AsksForJob, AsksForNone, EmptiesScript, IsOneFile, IsPlainRun, IsRefusedBy, certificate_rule, check_app, explain_app, file_rule, flag_of, jobless_app, json_rule, page_rule, players_app, proof_rule, replay_app, run_app, runs_app, strict_rule, tellers_app, threads_app};
+ghost use Rattle.command_line.specs.CommandLine.{AsksForJob, AsksForNone, EmptiesScript, IsOneFile, IsPlainRun, IsRefusedBy, certificate_rule, check_app, file_rule, jobless_app, players_app, proof_rule, replay_app, run_app, runs_app, threads_app};
 
-use clap::{Arg, ArgAction, ArgMatches, Command, Error};
+use clap::{Arg, ArgMatches, Command, Error};
 use std::alloc::{AllocError, Global};
 
 /// What a command line asks for, with the files that it names.
-#[derive(Clone, Copy)]
+#[derive(Clone, Copy, Debug, PartialEq, Eq)]
 pub enum Job<'a> {
-    /// Replay a script and print its report, with `is_json` as JSON; with `proof` also write its
-    /// certificate there.
+    /// Replay a script and print its report; with `proof` also write its certificate there.
     Run {
         file: &'a str,
-        is_json: bool,
         proof: Option<&'a str>,
     },
     /// Replay a script with a thread for each of its actors.
     Threads {
         file: &'a str,
-    },
-    /// Say in words what a script's report means, or where the script has a fault; with `page` also
-    /// write it there as a page, and with `is_strict` tell by the exit status whether all went
-    /// well.
-    Explain {
-        file: &'a str,
-        page: Option<&'a str>,
-        is_strict: bool,
     },
     /// Test the certificate in `proof` against the script in `file`.
     Check {
@@ -38,16 +28,16 @@ pub enum Job<'a> {
 }
 
 /// Why words ask for no job.
-#[derive(Drop)]
+#[derive(Debug, Drop)]
 pub enum Refusal {
     /// The parser refuses them, by an error that has its text for the user, or they ask for help.
     Parser(Error),
-    /// FILE and OUT are one word: the script would be emptied.
+    /// FILE and OUT of a run are one word: the script would be emptied before it is read.
     OneFile,
 }
 
 /// Reads the words behind the program's name. It answers a request for help by an error of the kind
-/// `DisplayHelp`, and want of memory by one of the kind `OutOfMemory`. A job whose FILE and OUT are
+/// `DisplayHelp`, and want of memory by one of the kind `OutOfMemory`. A run whose FILE and OUT are
 /// one word is refused; whether two words name one file isn't looked at.
 pub fn read_words<'a>(alloc: Global, words: &'a [String]) -> Result<Job<'a>, Refusal>
     ensures entries { IfOk result (λ job. IsSomeAnd (subcommand_of replay_app
@@ -72,12 +62,6 @@ fn is_one_file(job: &Job<'_>) -> bool
         Job::Run {
             file,
             proof: Some(out),
-            ..
-        }
-        | Job::Explain {
-            file,
-            page: Some(out),
-            ..
         } => file == out,
         _ => false,
     }
@@ -90,17 +74,12 @@ fn job_asked<'a>(alloc: Global, words: &'a [String]) -> Result<Job<'a>, Error>
     ensures kinds { FailsBy (fault_of replay_app (map string_bytes words.entry.now)) result }
 {
     if let Some(file) = plain_run(words) {
-        return Ok(Job::Run {
-            file,
-            is_json: false,
-            proof: None,
-        });
+        return Ok(Job::Run { file, proof: None });
     }
     parse_words(alloc, words)
 }
 
-/// The file of the words `run FILE`, where it doesn't begin as an option does: what these ask for
-/// is told without the parser.
+/// The file of the words `run FILE`, where it doesn't begin as an option does: what these ask for is told without the parser.
 fn plain_run<'a>(words: &'a [String]) -> Option<&'a str>
     ensures { IfSome result (λ file. IsPlainRun (map string_bytes words.entry.now) file.now) }
 {
@@ -137,26 +116,11 @@ fn job_in<'a>(matches: &ArgMatches<'a>) -> Option<Job<'a>>
         "run" => {
             let file = entries.get_str("FILE")?;
             let proof = entries.get_str("proof");
-            let is_json = is_set(entries, "json");
-            Some(Job::Run {
-                file,
-                is_json,
-                proof,
-            })
+            Some(Job::Run { file, proof })
         }
         "threads" => {
             let file = entries.get_str("FILE")?;
             Some(Job::Threads { file })
-        }
-        "explain" => {
-            let file = entries.get_str("FILE")?;
-            let page = entries.get_str("page");
-            let is_strict = is_set(entries, "strict");
-            Some(Job::Explain {
-                file,
-                page,
-                is_strict,
-            })
         }
         "check" => {
             let file = entries.get_str("FILE")?;
@@ -167,32 +131,13 @@ fn job_in<'a>(matches: &ArgMatches<'a>) -> Option<Job<'a>>
     }
 }
 
-/// Whether a flag was given: the parser enters the text `true` for it, and else `false`.
-fn is_set(entries: &ArgMatches<'_>, flag: &str) -> bool
-    ensures { result ≡ flag_of flag.now (rows_of (found_of entries.now)) }
-{
-    match entries.get_str(flag) {
-        Some(value) => value == "true",
-        None => false,
-    }
-}
-
 /// The program's command line, with a subcommand for each job.
 fn replay_command<'a>(alloc: Global) -> Result<Command<'a>, AllocError>
     ensures { IfOk result (λ c. app_of c ≡ replay_app) }
 {
-    let command = command_of_tellers(alloc)?;
+    let command = command_of_players(alloc)?;
     let check = check_command(alloc)?;
     command.subcommand(check)
-}
-
-/// The same without `check`.
-fn command_of_tellers<'a>(alloc: Global) -> Result<Command<'a>, AllocError>
-    ensures { IfOk result (λ c. app_of c ≡ tellers_app) }
-{
-    let command = command_of_players(alloc)?;
-    let explain = explain_command(alloc)?;
-    command.subcommand(explain)
 }
 
 /// The same with the subcommands `run` and `threads` alone.
@@ -234,7 +179,6 @@ fn run_command<'a>(alloc: Global) -> Result<Command<'a>, AllocError>
     Command::new(alloc, "run")
         .about("Replays a script, and prints a line for each call and each decision")
         .arg(file_arg(alloc))?
-        .arg(json_arg(alloc))?
         .arg(out_arg(alloc))
 }
 
@@ -245,19 +189,6 @@ fn threads_command<'a>(alloc: Global) -> Result<Command<'a>, AllocError>
     Command::new(alloc, "threads")
         .about("Replays a script with a thread for each actor, and prints a line for each domain")
         .arg(file_arg(alloc))
-}
-
-fn explain_command<'a>(alloc: Global) -> Result<Command<'a>, AllocError>
-    ensures app { IfOk result (λ c. app_of c ≡ explain_app) }
-    ensures local { IfOk result (λ c. (fields_of c).has_globals ≡ false) }
-{
-    Command::new(alloc, "explain")
-        .about(
-            "Says who is awaited or in the way, which field decided, or where the script is wrong",
-        )
-        .arg(file_arg(alloc))?
-        .arg(strict_arg(alloc))?
-        .arg(page_arg(alloc))
 }
 
 fn check_command<'a>(alloc: Global) -> Result<Command<'a>, AllocError>
@@ -290,38 +221,6 @@ fn out_arg<'a>(alloc: Global) -> Arg<'a>
         .long("proof")
         .value_name("OUT")
         .help("Also writes the certificate of the decisions to OUT, which is emptied first")
-}
-
-/// The flag `--json`.
-fn json_arg<'a>(alloc: Global) -> Arg<'a>
-    ensures rule { rule_of result ≡ json_rule }
-    ensures local { result.global ≡ false }
-{
-    Arg::new(alloc, "json")
-        .long("json")
-        .action(ArgAction::SetTrue)
-        .help("Prints the report as JSON")
-}
-
-/// The flag `--strict`.
-fn strict_arg<'a>(alloc: Global) -> Arg<'a>
-    ensures rule { rule_of result ≡ strict_rule }
-    ensures local { result.global ≡ false }
-{
-    Arg::new(alloc, "strict")
-        .long("strict")
-        .action(ArgAction::SetTrue)
-        .help("Ends with status 6 where a call was refused or a domain isn't chosen")
-}
-
-/// The option `--page`.
-fn page_arg<'a>(alloc: Global) -> Arg<'a>
-    ensures rule { rule_of result ≡ page_rule }
-    ensures local { result.global ≡ false }
-{
-    Arg::new(alloc, "page").long("page").value_name("OUT").help(
-        "Also writes the explanation as a page of HTML to OUT, which is emptied first",
-    )
 }
 
 fn certificate_arg<'a>(alloc: Global) -> Arg<'a>

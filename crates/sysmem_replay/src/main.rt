@@ -1,6 +1,5 @@
 //! `sysmem_replay run FILE` replays a script of calls on shared buffer collections and prints its
-//! report, with `--json` as an object of JSON for each line; with `--proof OUT` it also writes the
-//! certificate of its decisions.
+//! report; with `--proof OUT` it also writes the certificate of its decisions.
 //! `sysmem_replay threads FILE` replays it with a thread for each actor, and prints what became of
 //! each domain.
 //! `sysmem_replay check FILE PROOF` tests such a certificate.
@@ -8,12 +7,10 @@
 
 mod refusal;
 
-use byte_transfer::{Counted, Sink, Source, read_up_to_limit};
+use byte_transfer::{Counted, Sink, Source};
 use clap::Error;
 pub use command_line::{Job, Refusal, read_words};
 use refusal::refusal_ending;
-pub use report_json::run_as_json;
-use script_reading::LONGEST;
 pub use script_run::{
     Ended, Ending, RunFault, check_file, ending_of, run, run_leaving, run_with_proof,
 };
@@ -55,15 +52,7 @@ fn given_words(rt: &HostRuntime) -> Result<Vec<String>, Ending> {
 /// Does what the words ask for; only `threads` starts any.
 fn obey<T: Threads + Wait + Sync>(rt: &HostRuntime, threads: &T, words: &[String]) -> Ending {
     match read_words(rt.alloc(), words) {
-        Ok(
-            Job::Run {
-                file,
-                is_json: true,
-                proof,
-            },
-        ) => ending_of(tell_file(rt, file, proof)),
-        Ok(Job::Run { file, proof, .. }) => ending_of(run_file(rt, file, proof)),
-        Ok(Job::Explain { .. }) => refuse(rt, "scripts aren't explained yet"),
+        Ok(Job::Run { file, proof }) => ending_of(run_file(rt, file, proof)),
         Ok(Job::Threads { file }) => ending_of(play_file(rt, threads, file)),
         Ok(Job::Check { file, proof }) => ending_of(check_files(rt, file, proof)),
         Err(Refusal::Parser(error)) => tell(rt, &error),
@@ -113,32 +102,6 @@ fn run_last<R: Source, W: Sink>(
     let ended = run_leaving(alloc, reader, writer, &mut left);
     mem::forget(left);
     ended
-}
-
-/// Opens the script, then empties the certificate's file where one is asked for, replays, and writes the report's objects, and then the
-/// certificate.
-fn tell_file(rt: &HostRuntime, file: &str, proof: Option<&str>) -> Result<Ended, RunFault> {
-    let Ok(script) = File::open(rt, file) else {
-        return Err(RunFault::Read);
-    };
-    let mut reader = Counted::new(script);
-    let mut writer = Counted::new(io::writer(rt));
-    let Some(out) = proof else {
-        return run_as_json(rt.alloc(), &mut reader, &mut writer);
-    };
-    let Ok(certificate) = File::create(rt, out) else {
-        return Err(RunFault::Write);
-    };
-    let mut certificate = Counted::new(certificate);
-    let bytes = read_up_to_limit(rt.alloc(), &mut reader, LONGEST)?;
-    run_as_json(rt.alloc(), &mut Counted::new(bytes.as_slice()), &mut writer)?;
-    let mut unsaid = Counted::new(Vec::new(rt.alloc()));
-    run_with_proof(
-        rt.alloc(),
-        &mut Counted::new(bytes.as_slice()),
-        &mut unsaid,
-        &mut certificate,
-    )
 }
 
 /// Opens the script, and replays it with a thread for each actor.

@@ -1,7 +1,7 @@
 use Rattle.std.proofs.Common.{◌≡◌, ◌∙◌, ap, sym, codes, option_map, Some, None}
 use Rattle.clap.specs.Words.{first_of, found_of, rows_of}
 use Rattle.clap.proofs.WalkLemmas.{first_value-rows}
-use Rattle.command_line.specs.CommandLine.{AsksForNone, IsCheckOf, IsExplainOf, IsRunOf, IsThreadsOf}
+use Rattle.command_line.specs.CommandLine.{AsksForNone, IsCheckOf, IsRunOf, IsThreadsOf}
 use Rattle.command_line.proofs.Entries.{entered_is, none_entered, some_entered, some≢none}
 use Rattle.command_line.proofs.words.job_in.Goals as goal
 
@@ -11,9 +11,6 @@ check_or_run e = absurd (cc)
 check_or_threads : codes "check" ≡ codes "threads" → ⊥
 check_or_threads e = absurd (cc)
 
-check_or_explain : codes "check" ≡ codes "explain" → ⊥
-check_or_explain e = absurd (cc)
-
 pub returns-in_err-file-in-run-clause-none : goal.returns-in_err-file-in-run-clause-none
 returns-in_err-file-in-run-clause-none c =
     let rows = rows_of (found_of c.in_ok-name.entries.now) in
@@ -21,7 +18,7 @@ returns-in_err-file-in-run-clause-none c =
     sym (first_value-rows (found_of c.in_ok-name.entries.now) (codes "FILE")) ∙ sym c.get_str.ensures ∙ ap (option_map (λ s. s.now)) (c.in_err-file-in-run.was) in
     none_entered _ c.args.matches.now (c.in_ok-name.name.now, rows) AsksForNone
     (entered_is c.args.matches.now c.in_ok-name.name.now rows c.in_ok-name.ensures.name c.in_ok-name.ensures.rows)
-    (record { run = λ file json proof h. some≢none file (sym h.1 ∙ unread); threads = λ file h. some≢none file (sym h.1 ∙ unread); explain = λ file page strict h. some≢none file (sym h.1 ∙ unread); check = λ file proof h. some≢none file (sym h.1 ∙ unread) })
+    (record { run = λ file proof h. some≢none file (sym h.1 ∙ unread); threads = λ file h. some≢none file (sym h.1 ∙ unread); check = λ file proof h. some≢none file (sym h.1 ∙ unread) })
 
 pub returns-in_ok-file-in-run-clause-some : goal.returns-in_ok-file-in-run-clause-some
 returns-in_ok-file-in-run-clause-some c =
@@ -32,8 +29,8 @@ returns-in_ok-file-in-run-clause-some c =
     sym (first_value-rows (found_of c.in_ok-name.entries.now) (codes "FILE")) ∙ sym c.get_str.ensures ∙ ap (option_map (λ s. s.now)) (c.in_ok-file-in-run.was) in
     let kept : first_of (codes "proof") rows ≡ out =
     sym (first_value-rows (found_of c.in_ok-name.entries.now) (codes "proof")) ∙ sym c.get_str-proof.ensures in
-    some_entered c.args.matches.now (c.in_ok-name.name.now, rows) (λ e. IsRunOf e file c.is_set-is_json.result out)
-    (entered_is c.args.matches.now c.in_ok-name.name.now rows c.in_ok-name.ensures.name c.in_ok-name.ensures.rows) (c.in-run.is, read, sym c.is_set-is_json.ensures, kept)
+    some_entered c.args.matches.now (c.in_ok-name.name.now, rows) (λ e. IsRunOf e file out)
+    (entered_is c.args.matches.now c.in_ok-name.name.now rows c.in_ok-name.ensures.name c.in_ok-name.ensures.rows) (c.in-run.is, read, kept)
 
 pub returns-in_err-file-in-threads-clause-none : goal.returns-in_err-file-in-threads-clause-none
 returns-in_err-file-in-threads-clause-none c =
@@ -42,7 +39,7 @@ returns-in_err-file-in-threads-clause-none c =
     sym (first_value-rows (found_of c.in_ok-name.entries.now) (codes "FILE")) ∙ sym c.get_str-in-threads.ensures ∙ ap (option_map (λ s. s.now)) (c.in_err-file-in-threads.was) in
     none_entered _ c.args.matches.now (c.in_ok-name.name.now, rows) AsksForNone
     (entered_is c.args.matches.now c.in_ok-name.name.now rows c.in_ok-name.ensures.name c.in_ok-name.ensures.rows)
-    (record { run = λ file json proof h. some≢none file (sym h.1 ∙ unread); threads = λ file h. some≢none file (sym h.1 ∙ unread); explain = λ file page strict h. some≢none file (sym h.1 ∙ unread); check = λ file proof h. some≢none file (sym h.1 ∙ unread) })
+    (record { run = λ file proof h. some≢none file (sym h.1 ∙ unread); threads = λ file h. some≢none file (sym h.1 ∙ unread); check = λ file proof h. some≢none file (sym h.1 ∙ unread) })
 
 pub returns-in_ok-file-in-threads-clause-some : goal.returns-in_ok-file-in-threads-clause-some
 returns-in_ok-file-in-threads-clause-some c =
@@ -53,27 +50,6 @@ returns-in_ok-file-in-threads-clause-some c =
     some_entered c.args.matches.now (c.in_ok-name.name.now, rows) (λ e. IsThreadsOf e file)
     (entered_is c.args.matches.now c.in_ok-name.name.now rows c.in_ok-name.ensures.name c.in_ok-name.ensures.rows) (c.in-threads.is, read)
 
-pub returns-in_err-file-in-explain-clause-none : goal.returns-in_err-file-in-explain-clause-none
-returns-in_err-file-in-explain-clause-none c =
-    let rows = rows_of (found_of c.in_ok-name.entries.now) in
-    let unread : first_of (codes "FILE") rows ≡ None =
-    sym (first_value-rows (found_of c.in_ok-name.entries.now) (codes "FILE")) ∙ sym c.get_str-in-explain.ensures ∙ ap (option_map (λ s. s.now)) (c.in_err-file-in-explain.was) in
-    none_entered _ c.args.matches.now (c.in_ok-name.name.now, rows) AsksForNone
-    (entered_is c.args.matches.now c.in_ok-name.name.now rows c.in_ok-name.ensures.name c.in_ok-name.ensures.rows)
-    (record { run = λ file json proof h. some≢none file (sym h.1 ∙ unread); threads = λ file h. some≢none file (sym h.1 ∙ unread); explain = λ file page strict h. some≢none file (sym h.1 ∙ unread); check = λ file proof h. some≢none file (sym h.1 ∙ unread) })
-
-pub returns-in_ok-file-in-explain-clause-some : goal.returns-in_ok-file-in-explain-clause-some
-returns-in_ok-file-in-explain-clause-some c =
-    let rows = rows_of (found_of c.in_ok-name.entries.now) in
-    let file = c.in_ok-file-in-explain.file.now in
-    let read : first_of (codes "FILE") rows ≡ Some file =
-    sym (first_value-rows (found_of c.in_ok-name.entries.now) (codes "FILE")) ∙ sym c.get_str-in-explain.ensures ∙ ap (option_map (λ s. s.now)) (c.in_ok-file-in-explain.was) in
-    let page = option_map (λ s. s.now) c.get_str-page.result in
-    let kept : first_of (codes "page") rows ≡ page =
-    sym (first_value-rows (found_of c.in_ok-name.entries.now) (codes "page")) ∙ sym c.get_str-page.ensures in
-    some_entered c.args.matches.now (c.in_ok-name.name.now, rows) (λ e. IsExplainOf e file page c.is_set-is_strict.result)
-    (entered_is c.args.matches.now c.in_ok-name.name.now rows c.in_ok-name.ensures.name c.in_ok-name.ensures.rows) (c.in-explain.is, read, kept, sym c.is_set-is_strict.ensures)
-
 pub returns-in_err-file-in-check-clause-none : goal.returns-in_err-file-in-check-clause-none
 returns-in_err-file-in-check-clause-none c =
     let rows = rows_of (found_of c.in_ok-name.entries.now) in
@@ -81,7 +57,7 @@ returns-in_err-file-in-check-clause-none c =
     sym (first_value-rows (found_of c.in_ok-name.entries.now) (codes "FILE")) ∙ sym c.get_str-in-check.ensures ∙ ap (option_map (λ s. s.now)) (c.in_err-file-in-check.was) in
     none_entered _ c.args.matches.now (c.in_ok-name.name.now, rows) AsksForNone
     (entered_is c.args.matches.now c.in_ok-name.name.now rows c.in_ok-name.ensures.name c.in_ok-name.ensures.rows)
-    (record { run = λ file json proof h. some≢none file (sym h.1 ∙ unread); threads = λ file h. some≢none file (sym h.1 ∙ unread); explain = λ file page strict h. some≢none file (sym h.1 ∙ unread); check = λ file proof h. some≢none file (sym h.1 ∙ unread) })
+    (record { run = λ file proof h. some≢none file (sym h.1 ∙ unread); threads = λ file h. some≢none file (sym h.1 ∙ unread); check = λ file proof h. some≢none file (sym h.1 ∙ unread) })
 
 pub returns-in_err-proof-in-check-clause-none : goal.returns-in_err-proof-in-check-clause-none
 returns-in_err-proof-in-check-clause-none c =
@@ -90,7 +66,7 @@ returns-in_err-proof-in-check-clause-none c =
     sym (first_value-rows (found_of c.in_ok-name.entries.now) (codes "PROOF")) ∙ sym c.get_str-in-check-2.ensures ∙ ap (option_map (λ s. s.now)) (c.in_err-proof-in-check.was) in
     none_entered _ c.args.matches.now (c.in_ok-name.name.now, rows) AsksForNone
     (entered_is c.args.matches.now c.in_ok-name.name.now rows c.in_ok-name.ensures.name c.in_ok-name.ensures.rows)
-    (record { run = λ file json proof h. check_or_run (sym c.in-check.is ∙ h.0); threads = λ file h. check_or_threads (sym c.in-check.is ∙ h.0); explain = λ file page strict h. check_or_explain (sym c.in-check.is ∙ h.0); check = λ file proof h. some≢none proof (sym h.2 ∙ unread) })
+    (record { run = λ file proof h. check_or_run (sym c.in-check.is ∙ h.0); threads = λ file h. check_or_threads (sym c.in-check.is ∙ h.0); check = λ file proof h. some≢none proof (sym h.2 ∙ unread) })
 
 pub returns-in_ok-proof-in-check-clause-some : goal.returns-in_ok-proof-in-check-clause-some
 returns-in_ok-proof-in-check-clause-some c =

@@ -1,4 +1,0 @@
-pub mod Images
-pub mod Objects
-pub mod Reasons
-pub mod Text
