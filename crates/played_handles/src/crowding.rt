@@ -1,4 +1,4 @@
-//! A measure of the bench: many participants of one collection, on so many threads.
+//! A measure of the bench: so many participants of one collection, on so many threads.
 
 ghost use Rattle.std.specs.Prelude.{◌≡◌};
 ghost use Rattle.sysmem_room.specs.Counting.{all_parts};
@@ -14,20 +14,30 @@ use sysmem_participants::{Allocator, Token};
 use sysmem_sanitise::{Constraints, Platform};
 use sysmem_search::NoGate;
 
-const PARTICIPANTS: usize = 126;
+/// The most participants of one collection, beside its root.
+pub(crate) const MOST_PARTICIPANTS: usize = 126;
 
-/// So many collections, one after the other, of 126 participants who ask for the same on so many threads.
+/// So many collections, one after the other, each of so many participants who ask for the same on so many threads.
 pub(crate) fn crowd_again<R: Threads + Wait + Sync>(
     rt: &R,
     alloc: Global,
     platform: Platform,
     asked: &Arc<Constraints>,
+    participants: usize,
     threads: usize,
     times: u32,
 ) -> Result<()> {
     let allocator = Allocator::new(alloc, platform, NoGate)?;
     for _ in 0..times {
-        crowd::<Brand, R>(rt, alloc, &allocator, Blank::new(129), asked, threads)?;
+        crowd::<Brand, R>(
+            rt,
+            alloc,
+            &allocator,
+            Blank::new(129),
+            asked,
+            participants,
+            threads,
+        )?;
     }
     Ok(())
 }
@@ -38,6 +48,7 @@ fn crowd<L: Ledger + Send + Sync, R: Threads + Wait + Sync>(
     allocator: &Allocator<NoGate>,
     blank: Blank,
     asked: &Arc<Constraints>,
+    participants: usize,
     threads: usize,
 ) -> Result<()>
     requires name { blank.name ≡ L.name }
@@ -48,7 +59,7 @@ fn crowd<L: Ledger + Send + Sync, R: Threads + Wait + Sync>(
         bail!("memory is refused to a collection");
     };
     let mut tokens = Vec::new(alloc);
-    for _ in 0..PARTICIPANTS {
+    for _ in 0..participants {
         if let Ok(token) = root.duplicate(rt) {
             keep(rt, &mut tokens, token);
         }
@@ -84,7 +95,7 @@ fn take_parts<L: Ledger, R: Threads + Wait + Sync>(
     pile: &Mutex<Vec<Token<L, NoGate>>>,
     asked: &Arc<Constraints>,
 ) {
-    for _ in 0..PARTICIPANTS {
+    for _ in 0..MOST_PARTICIPANTS {
         let next = pile.lock(rt).pop();
         let Some(token) = next else {
             break;

@@ -15,6 +15,7 @@
 //! | `book` | applying them to a new book, without a decision |
 //! | `alone` | 126 participants of one collection, each of whom binds, states what the script's first asks for, and releases, on one thread |
 //! | `crowd` | the same on 16 threads |
+//! | `starts` | 16 threads on a collection without participants |
 #![tactic(auto)]
 
 mod crowding;
@@ -27,7 +28,7 @@ mod script;
 mod showing;
 
 use anyhow::{Result, bail};
-use crowding::crowd_again;
+use crowding::{MOST_PARTICIPANTS, crowd_again};
 use repeating::{repeat_audits, repeat_book, repeat_handles};
 use script::{Asked, Played, all_stated};
 use script_reading::{Script, parse_script, read_script};
@@ -41,7 +42,7 @@ fn main(rt: HostRuntime) -> Result<()> {
     let mut words = env::args(&rt)?;
     let _program = words.next();
     let Some(file) = words.next() else {
-        bail!("usage: played_handles FILE [handles|audits|book|alone|crowd TIMES]");
+        bail!("usage: played_handles FILE [handles|audits|book|alone|crowd|starts TIMES]");
     };
     let bytes = fs::read(&rt, &file)?;
     let Ok(value) = parse_script(rt.alloc(), &bytes) else {
@@ -74,9 +75,23 @@ fn repeat<R: Threads + Wait + Sync>(
         "handles" => repeat_handles(rt, alloc, platform, &calls, &asked, times),
         "audits" => repeat_audits(rt, alloc, platform, &calls, &asked, times),
         "book" => repeat_book(alloc, &platform, &calls, &asked, times),
-        "alone" => crowd_again(rt, alloc, platform, first_of(&asked)?, 1, times),
-        "crowd" => crowd_again(rt, alloc, platform, first_of(&asked)?, 16, times),
-        _ => bail!("{job:?} is no job"),
+        _ => {
+            let Some((participants, threads)) = crowd_of(job) else {
+                bail!("{job:?} is no job");
+            };
+            let first = first_of(&asked)?;
+            crowd_again(rt, alloc, platform, first, participants, threads, times)
+        }
+    }
+}
+
+/// How many participants and threads there are in the job of this name, if it is one of a crowd.
+fn crowd_of(job: &str) -> Option<(usize, usize)> {
+    match job {
+        "alone" => Some((MOST_PARTICIPANTS, 1)),
+        "crowd" => Some((MOST_PARTICIPANTS, 16)),
+        "starts" => Some((0, 16)),
+        _ => None,
     }
 }
 

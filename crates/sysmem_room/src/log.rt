@@ -1,6 +1,6 @@
 //! What a handle knows of its node: how it was made, and the actions on it that were accepted.
 
-ghost use Rattle.std.specs.Prelude.{◌≡◌, ◌<◌, ◌≤◌, ◌+◌, ◌++◌, ◌↔◌, [], ◌∷◌, length, map, option_map, IfOk, IsTrue, OnErr, OnOk};
+ghost use Rattle.std.specs.Prelude.{◌≡◌, ◌<◌, ◌≤◌, ◌+◌, ◌++◌, ◌↔◌, [], ◌∷◌, length, map, option_map, IfOk, IsTrue, OnOk};
 ghost use Rattle.sysmem_proof.specs.Asked.{asks_at};
 ghost use Rattle.sysmem_tree.specs.Nodes.{HasNode};
 ghost use Rattle.sysmem_room.specs.Agreeing.{StandsAs};

@@ -1,6 +1,6 @@
 //! What lies under a collection's lock.
 
-ghost use Rattle.std.specs.Prelude.{◌≡◌, ◌≢◌, ◌<◌, ◌≤◌, ◌+◌, ◌++◌, ◌↔◌, ℕ, List, Ok, Err, Some, None, true, false, length, map, option_map, is_some, IfErr, IfOk, IfSome, IsTrue, OnErr, OnOk};
+ghost use Rattle.std.specs.Prelude.{◌≡◌, ◌≢◌, ◌<◌, ◌≤◌, ◌+◌, ◌↔◌, ℕ, List, Ok, Err, Some, None, true, false, length, map, option_map, is_some, IfErr, IfOk, IfSome, IsTrue, OnErr, OnOk};
 ghost use Rattle.std.specs.Arc.{arc_value};
 ghost use Rattle.sysmem_alloc.specs.Book.{entered, new_book};
 ghost use Rattle.sysmem_alloc.specs.Entry.{Acted, Decided};
@@ -17,7 +17,7 @@ ghost use Rattle.sysmem_tree.specs.Nodes.{HasNode};
 ghost use Rattle.sysmem_tree.specs.Table.{makes_root};
 ghost use Rattle.sysmem_tree.specs.Tree.{applied};
 
-use crate::agreeing::{has_actions, has_placed};
+use crate::agreeing::{has_actions, has_placed, is_plain_at};
 use crate::cell::{DomainCell, FreshCell, keep, publish_action, publish_decision};
 use crate::log::Log;
 use crate::outcome::{Outcome, Ruling};
@@ -175,7 +175,9 @@ impl<L: Ledger> Room<L> {
         let tree = self.book.tree();
         tree.nodes();
         tree.domains();
-        self.places.add(tree.number_of(acted), entries);
+        let number = tree.number_of(acted);
+        let is_again = is_plain_at(&self.book, acted, kind, self.places.last(number));
+        self.places.add(number, entries, is_again);
         self.counted.add(mine, 1);
         let share = self.spare.split_off(parts, 0);
         keep(&mut self.cells, fresh);

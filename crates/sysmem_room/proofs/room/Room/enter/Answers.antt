@@ -1,12 +1,13 @@
 -- What an action adds is counted, and a domain that it makes has a cell.
-use Rattle.std.proofs.Common.{◌∙◌, [], ◌∷◌, ◌++◌, ap, refl, subst, sym, arith, Bool, ℕ, ◌<◌, length}
+use Rattle.std.proofs.Common.{◌≡◌, ◌∙◌, [], ◌∷◌, ◌++◌, ap, refl, subst, sym, arith, Bool, true, ℕ, ◌<◌, get_or, length}
 use Rattle.std.specs.Prelude.{if◌then◌else◌}
-use Rattle.sysmem_tree.specs.ActionKind.{deed_of}
+use Rattle.sysmem_tree.specs.ActionKind.{deed_of, kind_of}
 use Rattle.sysmem_tree.specs.Domain.{TreeFacts}
 use Rattle.sysmem_alloc.specs.Book.{BookFacts}
 use Rattle.sysmem_alloc.specs.Entry.{Acted}
 use Rattle.sysmem_room.specs.Counting.{actions_in, nodes_by}
-use Rattle.sysmem_room.specs.Places.{ArePlaces}
+use Rattle.sysmem_room.specs.declared.places.Places.{Places}
+use Rattle.sysmem_room.specs.Places.{ArePlaces, IsPlainAt}
 use Rattle.sysmem_room.proofs.Counting.{actions_push, grows, roots_grow}
 use Rattle.sysmem_room.proofs.Placing.{acted_there, action_stays, as_many}
 use Rattle.sysmem_room.proofs.room.Room.enter.Goals as goal
@@ -22,8 +23,8 @@ split_off-share-requires-clause-has_parts g c =
     let many = c.nodes.ensures.number ∙ ap (λ (t : TreeFacts). length t.nodes) c.tree-tree.ensures in
     omega (arith, parts, more, few, many, c.parts_of-parts.ensures, ap nodes_by c.kind-kind.ensures)
 
-pub number_of-requires : goal.number_of-requires
-number_of-requires g c =
+pub number_of-number-requires : goal.number_of-number-requires
+number_of-number-requires g c =
     subst (λ (t : TreeFacts). c.args.event.node < length t.nodes) (sym c.tree-tree.ensures)
     (acted_there c.self.inside.book.state.tree c.args.event.node (deed_of c.args.event.action) _ c.in_ok-done.ensures.accepted)
 
@@ -70,7 +71,15 @@ invariant_of-self-2 g c =
     let many = as_many _ c.history-entries.result.now c.self.inside.book.history (length c.history-entries.result.now) c.history-entries.ensures.entries refl in
     let few = c.few_entries.ensures c.self.inside.book.platform c.self.inside.book.history c.history-entries.ensures.book.legal in
     let history = ap (λ (b : BookFacts). actions_in b.history) c.in_ok-done.ensures.entered in
-    let held = subst (λ p. ArePlaces c.self.inside.book.history p) (sym c.deref_mut.ensures.value) places in (
+    let held = subst (λ p. ArePlaces c.self.inside.book.history p) (sym c.deref_mut.ensures.value) places in
+    let deed = deed_of c.args.event.action in
+    let place : c.last.result ≡ get_or c.deref_mut.result.now.last c.number_of-number.result 0 = c.last.ensures ∙ ap (λ (p : Places). get_or p.last c.number_of-number.result 0) (c.deref.ensures ∙ sym c.deref_mut.ensures.value) in
+    let again : c.is_plain_at-is_again.result ≡ true → IsPlainAt (c.self.inside.book.history ++ Acted c.number_of-number.result deed ∷ []) c.number_of-number.result (kind_of deed) (get_or c.deref_mut.result.now.last c.number_of-number.result 0) =
+    λ is.
+    subst (λ i. IsPlainAt (c.self.inside.book.history ++ Acted i deed ∷ []) i (kind_of deed) (get_or c.deref_mut.result.now.last c.number_of-number.result 0)) (sym c.number_of-number.ensures.number)
+    (subst (λ p. IsPlainAt (c.self.inside.book.history ++ Acted c.args.event.node deed ∷ []) c.args.event.node (kind_of deed) p) place
+    (subst (λ k. IsPlainAt (c.self.inside.book.history ++ Acted c.args.event.node deed ∷ []) c.args.event.node k c.last.result) c.kind-kind.ensures
+    (subst (λ (b : BookFacts). IsPlainAt b.history c.args.event.node c.kind-kind.result c.last.result) c.in_ok-done.ensures.entered (c.is_plain_at-is_again.ensures is)))) in (
       history ∙ omega (arith, push, actions, c.add-2.ensures.total),
       omega (arith, amount, c.split_off-share.ensures.amount_left),
       omega (arith, parts, more, c.split_off-share.ensures.parts_left, c.parts_of-parts.ensures, ap nodes_by c.kind-kind.ensures),
@@ -78,7 +87,7 @@ invariant_of-self-2 g c =
       omega (arith, cells, domains, ap one_if c.requires.fresh, c.keep.ensures.number),
       omega (arith, room, c.keep.ensures.room),
       subst (λ (b : BookFacts). ArePlaces b.history c.add.new.self) (sym c.in_ok-done.ensures.entered)
-          (subst (λ i. ArePlaces (c.self.inside.book.history ++ Acted i (deed_of c.args.event.action) ∷ []) c.add.new.self) c.number_of.ensures.number
-          (action_stays c.self.inside.book.history c.deref_mut.result.now c.add.new.self c.number_of.result (length c.history-entries.result.now) (deed_of c.args.event.action) many c.number_of.ensures.few
-          (omega (arith, many, few)) c.add.ensures.last c.add.ensures.before held)),
+          (subst (λ i. ArePlaces (c.self.inside.book.history ++ Acted i (deed_of c.args.event.action) ∷ []) c.add.new.self) c.number_of-number.ensures.number
+          (action_stays c.self.inside.book.history c.deref_mut.result.now c.add.new.self c.number_of-number.result (length c.history-entries.result.now) (deed_of c.args.event.action) c.is_plain_at-is_again.result many c.number_of-number.ensures.few
+          (omega (arith, many, few)) c.add.ensures.last c.add.ensures.noted again held)),
     )
