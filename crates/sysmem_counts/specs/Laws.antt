@@ -7,11 +7,13 @@ use Rattle.sysmem_counts.specs.declared.field.Field.{Field}
 
 -- what suits participants suits some of them, whatever their order
 abbrev pub CountSuitsSome : Type 0
-CountSuitsSome = (some all : List CountConstraints) (count : ℕ) → AreSomeOf some all → IsCounted all count → IsCounted some count
+CountSuitsSome =
+    (some all : List CountConstraints) (count : ℕ) → AreSomeOf some all → IsCounted all count → IsCounted some count
 
 -- a count line that is true of some of the participants leaves no count for all of them, whatever their order
 abbrev pub CountLineLeavesNoCount : Type 0
-CountLineLeavesNoCount = (field : Field) (some all : List CountConstraints) → AreSomeOf some all → IsCountLine field some → HasNoCount all
+CountLineLeavesNoCount =
+    (field : Field) (some all : List CountConstraints) → AreSomeOf some all → IsCountLine field some → HasNoCount all
 
 -- participants have at most one least count
 abbrev pub OneLeastCount : Type 0

@@ -26,7 +26,7 @@ slice_get-images_some ps cs i p c some within =
     let right = slice_get-get_or cs (i % length cs) c (mod-lt i some) in
     sym (slice_get-images ps cs i some ∙ simp (left, right))
 
--- behind the last pair there is no offer
+-- after the last pair there is no offer
 pub slice_get-images_none : (ps : List Pair) (cs : List ColourSpace) (i : ℕ) → 0 < length cs → length ps ≤ i / length cs → slice_get (images ps cs) i ≡ None
 slice_get-images_none ps cs i some past = slice_get-images ps cs i some ∙ simp (slice_get_past ps (i / length cs) past)
 

@@ -7,7 +7,8 @@ use Rattle.sysmem_formats.specs.declared.pixel_format.Sampling.TheVariants.{Full
 
 -- every pixel format
 abbrev pub formats : List PixelFormat
-formats = R8G8B8A8 ∷ B8G8R8A8 ∷ R8G8B8X8 ∷ B8G8R8X8 ∷ R8G8B8 ∷ B8G8R8 ∷ R5G6B5 ∷ R8G8 ∷ YUY2 ∷ R8 ∷ L8 ∷ I420 ∷ YV12 ∷ NV12 ∷ P010 ∷ []
+formats = R8G8B8A8 ∷ B8G8R8A8 ∷ R8G8B8X8 ∷ B8G8R8X8 ∷ R8G8B8 ∷ B8G8R8 ∷ R5G6B5 ∷ R8G8
+    ∷ YUY2 ∷ R8 ∷ L8 ∷ I420 ∷ YV12 ∷ NV12 ∷ P010 ∷ []
 
 -- the name of a pixel format
 abbrev pub format_name : PixelFormat → List ℕ

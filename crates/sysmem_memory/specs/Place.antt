@@ -40,4 +40,5 @@ is_left h ps d = has_domain h.domains d && list_all (λ p. is_none (first_refusi
 -- what is kept of each heap is the domains that nobody of the list refuses
 pub record AreDomainsLeft (kept : List CoherencyDomains) (heaps : List HeapFacts) (ps : List PlaceDemand) : Type 0 where
   pub limit : length heaps ≤ 64
-  pub exactly : (k : ℕ) (h : HeapFacts) (s : CoherencyDomains) (d : CoherencyDomain) → slice_get heaps k ≡ Some h → slice_get kept k ≡ Some s → has_domain s d ≡ is_left h ps d
+  pub exactly : (k : ℕ) (h : HeapFacts) (s : CoherencyDomains) (d : CoherencyDomain)
+      → slice_get heaps k ≡ Some h → slice_get kept k ≡ Some s → has_domain s d ≡ is_left h ps d
