@@ -59,8 +59,9 @@ lib-test:
 wrong-bodies:
 	tests/wrong_bodies
 
-# Times the proved program beside the reading of the same bytes as a JSON value, and calls on small and large trees.
+# Times the proved program beside the reading of the same bytes as a JSON value, and calls on small and large trees; counts instructions of runs, certificates and checks.
 bench: proved
 	cd crates/repeated_decisions && rt run -- data/groups_share_nv12.json read,search,together,add,settle,prove,check,write,serialise 3
 	bench/run
 	bench/trees
+	bench/certificates
