@@ -59,3 +59,4 @@ pub mod FirstWithout
 pub mod FirstLines
 pub mod FirstKinds
 pub mod KeptLines
+pub mod AskedOnce

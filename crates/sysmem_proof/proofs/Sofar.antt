@@ -125,3 +125,7 @@ pub next_heap : (R : HeapPlace → LineFacts → Type 0) (xs : List HeapPlace) (
     → AreSoFar R xs lines (places_from k (drop k heaps)) → AreSoFar R xs lines (places_from k (h ∷ drop (k + 1) heaps))
 next_heap R xs heaps given lines k h same inside here so =
     subst (AreSoFar R xs lines) (heap_first heaps k h (subst (λ hs. k < length hs) same inside) (subst (λ hs. h ≡ get_or hs k h) same here)) so
+
+-- the heap at an index of a list that is the platform's
+pub heap_at : (heaps given : List HeapFacts) (k : ℕ) (h : HeapFacts) → given ≡ heaps → k < length given → h ≡ get_or given k h → slice_get heaps k ≡ Some h
+heap_at heaps given k h same inside here = subst (λ hs. slice_get hs k ≡ Some h) same (slice_get-get_or given k h inside ∙ ap (λ x. Some x) (sym here))

@@ -25,5 +25,6 @@ pub mod Matter
 pub mod Walk
 pub mod Asked
 pub mod PlacesBefore
+pub mod PlacesAsked
 pub mod Choice
 pub mod FirstConflict

@@ -8,6 +8,7 @@ ghost use Rattle.sysmem_proof.specs.Conflict.{IsConflict, IsConflictFor, IsFixed
 ghost use Rattle.sysmem_proof.specs.FirstConflict.{IsFirstConflict, IsFirstConflictFor, IsFirstFixedConflict};
 ghost use Rattle.sysmem_proof.specs.Found.{AreSettledAt, IsBestChoice};
 ghost use Rattle.sysmem_proof.specs.Members.{members_at};
+ghost use Rattle.sysmem_proof.specs.PlacesAsked.{AreAsked};
 ghost use Rattle.sysmem_proof.specs.Refusals.{StandFor};
 ghost use Rattle.sysmem_proof.specs.Verdict.{MeetsFixed, MeetsSettled};
 ghost use Rattle.sysmem_proof.specs.declared.refutation.Item.{Item};
@@ -24,6 +25,7 @@ use crate::conflict::Conflict;
 use crate::count_lines::{counts_at, fixed_line};
 use crate::first_refusing::first_failing;
 use crate::line::Lines;
+use crate::places_asked::PlacesAsked;
 use crate::refusals::{Refusals, refused_offers, refused_places};
 use crate::whom::{Whom, line_of};
 use std::alloc::{AllocError, Global};
@@ -89,9 +91,12 @@ fn find_initial(
     tree: &Tree,
     nodes: &[NodeId],
     whole: bool,
+    asked: &mut PlacesAsked,
 ) -> Result<Option<Conflict>, AllocError>
     requires there { All (HasNode tree.now.nodes) nodes.now }
     requires few { length nodes.now ≤ 128 }
+    requires asked { AreAsked tree.now.nodes platform.now.heaps asked.old }
+    ensures asked { AreAsked tree.now.nodes platform.now.heaps asked.new }
     ensures conflict { (d : Forest Member)
         → StandFor (members_at tree.now.nodes nodes.now) (settled d)
         → whole ≡ is_none (choices d)
@@ -109,7 +114,8 @@ fn find_initial(
         let line = line_of(alloc, tree, nodes, field, Whom::WithCount, &[])?;
         return Ok(Some(Conflict::Count(line)));
     }
-    if let Refusals::Whole(lines) = refused_places(alloc, platform, tree, nodes, None)? {
+    asked.begin(platform)?;
+    if let Refusals::Whole(lines) = refused_places(alloc, platform, tree, nodes, None, asked)? {
         return Ok(Some(Conflict::Places(lines)));
     }
     match refused_offers(alloc, platform, tree, nodes, whole, None)? {
@@ -197,11 +203,14 @@ pub fn find_conflict(
     choices_leave_one_forest();
     let whole = tree.next_group(domain, prefix).is_none();
     let layout = tree.layout(domain);
-    find_conflict_as(alloc, platform, tree, domain, &layout, base, prefix, whole)
+    let mut asked = PlacesAsked::new(alloc);
+    find_conflict_as(
+        alloc, platform, tree, domain, &layout, base, prefix, whole, &mut asked,
+    )
 }
 
-/// As `find_conflict`, for a caller who has the domain's layout and knows whether the choices are a selection, so that no group is left:
-/// `whole`.
+/// As `find_conflict`, for a caller who has the domain's layout, knows whether the choices are a selection, so that no group is left
+/// (`whole`), and keeps what participants were asked about places.
 pub fn find_conflict_as(
     alloc: Global,
     platform: &Platform,
@@ -211,6 +220,7 @@ pub fn find_conflict_as(
     base: Option<&Base>,
     prefix: &Prefix,
     whole: bool,
+    asked: &mut PlacesAsked,
 ) -> Result<Option<Conflict>, AllocError>
     requires domain { HasDomain tree.now.nodes domain }
     requires lays { IsLayout layout.now (forest_of by_number tree.now.nodes domain []) }
@@ -221,6 +231,8 @@ pub fn find_conflict_as(
     requires whole { (d : Forest Member)
         → after (shape_of tree.now.nodes domain) prefix.now ≡ Some d
         → whole ≡ is_none (choices d) }
+    requires asked { AreAsked tree.now.nodes platform.now.heaps asked.old }
+    ensures asked { AreAsked tree.now.nodes platform.now.heaps asked.new }
     ensures conflict { (d : Forest Member)
         → after (shape_of tree.now.nodes domain) prefix.now ≡ Some d
         → IfOk result (λ found. IfSome found (IsConflictFor platform.now
@@ -237,7 +249,7 @@ pub fn find_conflict_as(
     let nodes = settled_at(tree, domain, layout, prefix)?;
     match base {
         Some(base) => find_on_base(alloc, platform, tree, base, &nodes),
-        None => find_initial(alloc, platform, tree, &nodes, whole),
+        None => find_initial(alloc, platform, tree, &nodes, whole, asked),
     }
 }
 
@@ -277,7 +289,8 @@ pub fn lines_before(
     let nodes = settled_at(tree, domain, &layout, selection)?;
     let (offer, place) = (settings.offer, settings.place);
     let offers = refused_offers(alloc, platform, tree, &nodes, true, Some(offer))?;
-    let places = refused_places(alloc, platform, tree, &nodes, Some(place))?;
+    let mut asked = PlacesAsked::new(alloc);
+    let places = refused_places(alloc, platform, tree, &nodes, Some(place), &mut asked)?;
     Ok(LinesBefore {
         offers: offers.into_lines(),
         places: places.into_lines(),

@@ -1,6 +1,6 @@
 //! The first of some participants who refuses an offer, a place, or settings that are given.
 
-ghost use Rattle.std.specs.Prelude.{◌≡◌, ◌<◌, true, false, List, [], ◌∷◌, Some, All, Any, Contains, IfSome, IfNone, IsSomeAnd, IsTrue, length, option_map};
+ghost use Rattle.std.specs.Prelude.{◌≡◌, ◌<◌, true, false, List, [], ◌∷◌, Some, All, Any, Contains, IfSome, IfNone, IsSomeAnd, IsTrue, length, option_map, slice_get};
 ghost use Rattle.std.specs.List.{cons_option};
 ghost use Rattle.sysmem_memory.specs.PlaceTable.{AllowsPlace, first_refusing, refuses_by};
 ghost use Rattle.sysmem_merge.specs.Demands.{OfferDemand, offer_demand, offer_demands};
@@ -11,15 +11,17 @@ ghost use Rattle.sysmem_merge.specs.Reasons.{IsOfferLine};
 ghost use Rattle.sysmem_merge.specs.Settings.{CoversOn};
 ghost use Rattle.sysmem_proof.specs.FirstConflict.{IsFirstWithout};
 ghost use Rattle.sysmem_proof.specs.Members.{members_at, participants};
+ghost use Rattle.sysmem_proof.specs.PlacesAsked.{AreAsked};
 ghost use Rattle.sysmem_proof.specs.Reading.{IsReading, TakesIn};
 ghost use Rattle.sysmem_tree.specs.Nodes.{HasNode};
 ghost use Rattle.sysmem_tree.specs.Path.{path_of};
 
 use crate::asked::add_read;
+use crate::places_asked::PlacesAsked;
 use sysmem_counts::Field;
 use sysmem_formats::Offer;
 use sysmem_image::{Entry, entry_for, takes_colour};
-use sysmem_memory::{CoherencyDomain, HeapInfo, refuses};
+use sysmem_memory::{HeapInfo, Place};
 use sysmem_merge::{OfferRead, Settings, first_uncovered};
 use sysmem_sanitise::{Constraints, Platform};
 use sysmem_tree::{NodeId, Tree};
@@ -125,46 +127,33 @@ pub(crate) fn read_offer(tree: &Tree, nodes: &[NodeId], offer: &Offer) -> Readin
     Reading::Read(read_all(tree, nodes, offer))
 }
 
-/// The first field that refuses a participant, if there is one, the coherency domain of the heap.
-fn refused_place(
-    asked: Option<&Constraints>,
-    heap: &HeapInfo,
-    domain: CoherencyDomain,
-) -> Option<Field>
-    ensures refused { IfSome result (λ field.
-        Any (λ p. refuses_by field p.memory p.usage heap.now domain ≡ true)
-        (cons_option (option_map (λ one. one.now) asked.entry) [])) }
-    ensures allowed { IfNone result (All (λ p. AllowsPlace p.memory p.usage heap.now domain)
-        (cons_option (option_map (λ one. one.now) asked.entry) [])) }
-    ensures first { IfSome result (λ field.
-        IsSomeAnd (option_map (λ one. one.now) asked.entry)
-        (λ p. first_refusing p.memory p.usage heap.now domain ≡ Some field)) }
-{
-    let one = asked?;
-    refuses(one.memory(), one.usage(), heap, domain)
-}
-
-/// The first of the participants at these nodes to whom the coherency domain of the heap is refused, with the first field that does it.
+/// The first of the participants at these nodes to whom the place is refused, with the first field that does it.
 pub(crate) fn first_refused(
+    platform: &Platform,
     tree: &Tree,
     nodes: &[NodeId],
+    place: Place,
     heap: &HeapInfo,
-    domain: CoherencyDomain,
+    asked: &mut PlacesAsked,
 ) -> Option<Refuser>
-    requires { All (HasNode tree.now.nodes) nodes.now }
+    requires there { All (HasNode tree.now.nodes) nodes.now }
+    requires heap { slice_get platform.now.heaps place.heap ≡ Some heap.now }
+    requires asked { AreAsked tree.now.nodes platform.now.heaps asked.old }
+    ensures asked { AreAsked tree.now.nodes platform.now.heaps asked.new }
     ensures there { IfSome result (λ first. Contains nodes.now first.node) }
     ensures refused { IfSome result (λ first.
-        Any (λ p. refuses_by first.field p.memory p.usage heap.now domain ≡ true)
+        Any (λ p. refuses_by first.field p.memory p.usage heap.now place.coherency ≡ true)
         (participants (members_at tree.now.nodes (first.node ∷ [])))) }
-    ensures allowed { IfNone result (All (λ p. AllowsPlace p.memory p.usage heap.now domain)
+    ensures allowed { IfNone result (All (λ p. AllowsPlace p.memory p.usage heap.now place.coherency)
         (participants (members_at tree.now.nodes nodes.now))) }
     ensures first { IfSome result (λ first. IsFirstWithout
-        (λ p. AllowsPlace p.memory p.usage heap.now domain)
-        (λ p. first_refusing p.memory p.usage heap.now domain ≡ Some first.field)
+        (λ p. AllowsPlace p.memory p.usage heap.now place.coherency)
+        (λ p. first_refusing p.memory p.usage heap.now place.coherency ≡ Some first.field)
         (members_at tree.now.nodes nodes.now) (path_of tree.now.nodes first.node)) }
 {
     for node in nodes {
-        if let Some(field) = refused_place(tree.constraints_of(*node), heap, domain) {
+        let constraints = tree.constraints_of(*node);
+        if let Some(field) = asked.answer(platform, tree, *node, constraints, place, heap) {
             let node = *node;
             return Some(Refuser { field, node });
         }

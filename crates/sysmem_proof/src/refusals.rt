@@ -12,6 +12,7 @@ ghost use Rattle.sysmem_merge.specs.Reasons.{IsOfferLine, IsUnnamedLine};
 ghost use Rattle.sysmem_proof.specs.FirstConflict.{IsOfferLineGiven, IsPlaceLineGiven};
 ghost use Rattle.sysmem_proof.specs.Members.{members_at, participants};
 ghost use Rattle.sysmem_proof.specs.OpenPairs.{IsOpenFor};
+ghost use Rattle.sysmem_proof.specs.PlacesAsked.{AreAsked};
 ghost use Rattle.sysmem_proof.specs.Reading.{TakesIn};
 ghost use Rattle.sysmem_proof.specs.Refusals.{AreRefusals, AreSoFar, Ends, GoOn, RefusesLast, ShareOffer, SharePlace, StandFor};
 ghost use Rattle.sysmem_proof.specs.Whom.{NamesOne, NamesThose, names};
@@ -24,6 +25,7 @@ use crate::first_refusing::{Reading, first_refused, read_offer};
 use crate::line::{Line, Lines};
 use crate::open_pairs::{OpenPair, all_take_colour};
 use crate::pair_lines::is_shared;
+use crate::places_asked::PlacesAsked;
 use crate::whom::{Alone, Named, Whom, line_alone, line_of, next_line_of};
 use std::alloc::{AllocError, Global};
 use sysmem_counts::Field;
@@ -227,15 +229,20 @@ pub(crate) fn refused_offers(
 /// The line of the first of the participants at these nodes to whom the place is refused, `None` where they share it or it is `until`.
 fn place_line(
     alloc: Global,
+    platform: &Platform,
     tree: &Tree,
     nodes: &[NodeId],
     place: Place,
     heap: &HeapInfo,
     until: Option<Place>,
+    asked: &mut PlacesAsked,
     kept: &mut Vec<Alone>,
 ) -> Result<Option<Line>, AllocError>
     requires there { All (HasNode tree.now.nodes) nodes.now }
+    requires heap { slice_get platform.now.heaps place.heap ≡ Some heap.now }
+    requires asked { AreAsked tree.now.nodes platform.now.heaps asked.old }
     requires alone { All (NamesOne tree.now.nodes) kept.old.items }
+    ensures asked { AreAsked tree.now.nodes platform.now.heaps asked.new }
     ensures alone { OnOk result (All (NamesOne tree.now.nodes) kept.new.items) }
     ensures line { (ms : List Member) → StandFor (members_at tree.now.nodes nodes.now) ms
         → IfOk result (λ line. IfSome line
@@ -247,7 +254,7 @@ fn place_line(
     if until == Some(place) {
         return Ok(None);
     }
-    let Some(first) = first_refused(tree, nodes, heap, place.coherency) else {
+    let Some(first) = first_refused(platform, tree, nodes, place, heap, asked) else {
         return Ok(None);
     };
     let line = line_alone(alloc, tree, first.node, first.field, kept)?;
@@ -257,16 +264,21 @@ fn place_line(
 /// Puts the line for a place behind the lines so far, if the heap has it; false where they end at it.
 fn push_place(
     alloc: Global,
+    platform: &Platform,
     tree: &Tree,
     nodes: &[NodeId],
     place: Place,
     heap: &HeapInfo,
     until: Option<Place>,
     lines: &mut Vec<Line>,
+    asked: &mut PlacesAsked,
     kept: &mut Vec<Alone>,
 ) -> Result<bool, AllocError>
     requires there { All (HasNode tree.now.nodes) nodes.now }
+    requires heap { slice_get platform.now.heaps place.heap ≡ Some heap.now }
+    requires asked { AreAsked tree.now.nodes platform.now.heaps asked.old }
     requires alone { All (NamesOne tree.now.nodes) kept.old.items }
+    ensures asked { AreAsked tree.now.nodes platform.now.heaps asked.new }
     ensures alone { OnOk result (All (NamesOne tree.now.nodes) kept.new.items) }
     ensures lines { (ms : List Member) → StandFor (members_at tree.now.nodes nodes.now) ms
         → (xs left : List HeapPlace) → AreSoFar (IsPlaceLineGiven ms) xs lines.old.items
@@ -278,7 +290,10 @@ fn push_place(
     if !heap.domains.has(place.coherency) {
         return Ok(true);
     }
-    let Some(line) = place_line(alloc, tree, nodes, place, heap, until, kept)? else {
+    let Some(line) = place_line(
+        alloc, platform, tree, nodes, place, heap, until, asked, kept,
+    )?
+    else {
         return Ok(false);
     };
     lines.push(line)?;
@@ -288,16 +303,21 @@ fn push_place(
 /// Puts the lines for the places of a heap behind the lines so far; false where they end at one of them.
 fn push_heap(
     alloc: Global,
+    platform: &Platform,
     tree: &Tree,
     nodes: &[NodeId],
     index: usize,
     heap: &HeapInfo,
     until: Option<Place>,
     lines: &mut Vec<Line>,
+    asked: &mut PlacesAsked,
     kept: &mut Vec<Alone>,
 ) -> Result<bool, AllocError>
     requires there { All (HasNode tree.now.nodes) nodes.now }
+    requires heap { slice_get platform.now.heaps index ≡ Some heap.now }
+    requires asked { AreAsked tree.now.nodes platform.now.heaps asked.old }
     requires alone { All (NamesOne tree.now.nodes) kept.old.items }
+    ensures asked { AreAsked tree.now.nodes platform.now.heaps asked.new }
     ensures alone { OnOk result (All (NamesOne tree.now.nodes) kept.new.items) }
     ensures lines { (ms : List Member) → StandFor (members_at tree.now.nodes nodes.now) ms
         → (xs : List HeapPlace) (heaps : List HeapFacts)
@@ -311,21 +331,36 @@ fn push_heap(
         heap: index,
         coherency: CoherencyDomain::Cpu,
     };
-    if !push_place(alloc, tree, nodes, cpu, heap, until, lines, kept)? {
+    if !push_place(
+        alloc, platform, tree, nodes, cpu, heap, until, lines, asked, kept,
+    )? {
         return Ok(false);
     }
     let ram = Place {
         heap: index,
         coherency: CoherencyDomain::Ram,
     };
-    if !push_place(alloc, tree, nodes, ram, heap, until, lines, kept)? {
+    if !push_place(
+        alloc, platform, tree, nodes, ram, heap, until, lines, asked, kept,
+    )? {
         return Ok(false);
     }
     let inaccessible = Place {
         heap: index,
         coherency: CoherencyDomain::Inaccessible,
     };
-    push_place(alloc, tree, nodes, inaccessible, heap, until, lines, kept)
+    push_place(
+        alloc,
+        platform,
+        tree,
+        nodes,
+        inaccessible,
+        heap,
+        until,
+        lines,
+        asked,
+        kept,
+    )
 }
 
 /// Lines that refuse each place of the platform to the participants at these nodes, or each before the first that they share; where it
@@ -336,9 +371,12 @@ pub(crate) fn refused_places(
     tree: &Tree,
     nodes: &[NodeId],
     until: Option<Place>,
+    asked: &mut PlacesAsked,
 ) -> Result<Refusals, AllocError>
-    requires { All (HasNode tree.now.nodes) nodes.now }
-    ensures { (ms : List Member) → StandFor (members_at tree.now.nodes nodes.now) ms
+    requires there { All (HasNode tree.now.nodes) nodes.now }
+    requires asked { AreAsked tree.now.nodes platform.now.heaps asked.old }
+    ensures asked { AreAsked tree.now.nodes platform.now.heaps asked.new }
+    ensures lines { (ms : List Member) → StandFor (members_at tree.now.nodes nodes.now) ms
         → IfOk result (AreRefusals (IsPlaceLineGiven ms)
         (Ends until (λ (p : HeapPlace). p.place) (SharePlace ms))
         (places_of platform.now.heaps)) }
@@ -347,7 +385,7 @@ pub(crate) fn refused_places(
     let mut kept = Vec::new(alloc);
     for (index, heap) in platform.heaps().iter().enumerate() {
         if !push_heap(
-            alloc, tree, nodes, index, heap, until, &mut lines, &mut kept,
+            alloc, platform, tree, nodes, index, heap, until, &mut lines, asked, &mut kept,
         )? {
             return Ok(Refusals::UpTo(Lines::new(lines)));
         }

@@ -17,7 +17,7 @@ use std::alloc::{AllocError, Global};
 use std::marker::Model;
 use sysmem_merge::Settings;
 use sysmem_merge::laws::sums_in_any_order;
-use sysmem_proof::{Base, Conflict, find_conflict_as};
+use sysmem_proof::{Base, Conflict, PlacesAsked, find_conflict_as};
 use sysmem_sanitise::Platform;
 use sysmem_tree::layout_laws::{choice_settles_share, none_open_is_selection};
 use sysmem_tree::{DomainId, Layout, Prefix, Tree};
@@ -37,10 +37,13 @@ pub(crate) struct Question<'a> {
     parts: Vec<Option<Part>>,
     /// By the number of choices.
     levels: Vec<Level>,
+    /// What participants said of places where a conflict was looked for.
+    asked: PlacesAsked,
 }
 
 impl<'a> Model for Question<'a> {
     ghost use Rattle.std.specs.Prelude.{option_map};
+    ghost use Rattle.sysmem_proof.specs.PlacesAsked.{AreAsked};
     ghost use Rattle.sysmem_search.specs.Standing.{Standing, StandsAt};
     ghost use Rattle.sysmem_tree.specs.Domain.{HasDomain, IsSoundTree};
 
@@ -62,7 +65,8 @@ impl<'a> Model for Question<'a> {
           nodes = q.tree.now.nodes;
           domain = q.domain;
           base = option_map (λ b. b.now) q.base;
-        }) q.layout q.parts.items q.levels.items q.prefix };
+        }) q.layout q.parts.items q.levels.items q.prefix
+        × AreAsked q.tree.now.nodes q.platform.now.heaps q.asked };
 }
 
 impl<'a> Question<'a> {
@@ -104,6 +108,7 @@ impl<'a> Question<'a> {
             prefix: Prefix::new(),
             parts: Vec::new(alloc),
             levels,
+            asked: PlacesAsked::new(alloc),
         })
     }
 
@@ -167,16 +172,17 @@ impl<'a> Question<'a> {
     }
 
     /// The conflict of the participants that the choices settle which comes first, where no settings meet them.
-    pub(crate) fn conflict(&self) -> Result<Conflict, AllocError>
-        requires prefix { IsPrefix (forest self.now.matter) self.now.choices }
-        requires unmet { IfSome (after (forest self.now.matter) self.now.choices)
-            (λ d. (t : Settled) → ¬ (MeetsHere self.now.matter d t)) }
+    pub(crate) fn conflict(&mut self) -> Result<Conflict, AllocError>
+        requires prefix { IsPrefix (forest self.old.matter) self.old.choices }
+        requires unmet { IfSome (after (forest self.old.matter) self.old.choices)
+            (λ d. (t : Settled) → ¬ (MeetsHere self.old.matter d t)) }
+        ensures same { self.new ≡ self.old }
         ensures conflict { IfOk result (λ conflict.
-            IfSome (after (forest self.now.matter) self.now.choices)
-            (λ d. IsConflictFor self.now.matter.platform (terms self.now.matter) d conflict)) }
+            IfSome (after (forest self.old.matter) self.old.choices)
+            (λ d. IsConflictFor self.old.matter.platform (terms self.old.matter) d conflict)) }
         ensures first { IfOk result (λ conflict.
-            IfSome (after (forest self.now.matter) self.now.choices)
-            (λ d. IsFirstConflictFor self.now.matter.platform (terms self.now.matter) d conflict)) }
+            IfSome (after (forest self.old.matter) self.old.choices)
+            (λ d. IsFirstConflictFor self.old.matter.platform (terms self.old.matter) d conflict)) }
     {
         let whole = self.children().is_none();
         let found = find_conflict_as(
@@ -188,6 +194,7 @@ impl<'a> Question<'a> {
             self.base,
             &self.prefix,
             whole,
+            &mut self.asked,
         )?;
         match found {
             Some(conflict) => Ok(conflict),

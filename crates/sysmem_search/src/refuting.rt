@@ -17,12 +17,14 @@ use sysmem_proof::{EarlierChoices, Item, Refutation};
 use sysmem_tree::Prefix;
 
 /// Adds a conflict of what the question's choices settle, where no settings meet it: it refutes all that goes on from there.
-fn refute_here(question: &Question<'_>, items: &mut Vec<Item>) -> Result<(), AllocError>
-    requires prefix { IsPrefix (forest question.now.matter) question.now.choices }
-    requires unmet { IfSome (after (forest question.now.matter) question.now.choices)
-        (λ d. (t : Settled) → ¬ (MeetsHere question.now.matter d t)) }
-    ensures { OnOk result (IfSome (after (forest question.now.matter) question.now.choices)
-        (λ d. AddsRefutation question.now.matter d items.old.items items.new.items)) }
+fn refute_here(question: &mut Question<'_>, items: &mut Vec<Item>) -> Result<(), AllocError>
+    requires prefix { IsPrefix (forest question.old.matter) question.old.choices }
+    requires unmet { IfSome (after (forest question.old.matter) question.old.choices)
+        (λ d. (t : Settled) → ¬ (MeetsHere question.old.matter d t)) }
+    ensures same { question.new ≡ question.old }
+    ensures refuted { OnOk result
+        (IfSome (after (forest question.old.matter) question.old.choices)
+        (λ d. AddsRefutation question.old.matter d items.old.items items.new.items)) }
 {
     items.push(Item::Leaf(question.conflict()?))?;
     Ok(())

@@ -7,11 +7,14 @@ use Rattle.sysmem_memory.specs.Listed.{HeapPlace, places_of}
 use Rattle.sysmem_proof.specs.FirstConflict.{IsPlaceLineGiven}
 use Rattle.sysmem_proof.specs.Refusals.{AreSoFar, Ends, EndsAt, SharePlace}
 use Rattle.sysmem_proof.specs.Whom.{NamesOne}
-use Rattle.sysmem_proof.proofs.Sofar.{all_done, next_heap, no_heap, none_yet, they_end, they_go_on}
+use Rattle.sysmem_proof.proofs.Sofar.{all_done, heap_at, next_heap, no_heap, none_yet, they_end, they_go_on}
 use Rattle.sysmem_proof.proofs.refusals.refused_places.Goals as goal
 
-pub returns-then-not-branch : goal.returns-then-not-branch
-returns-then-not-branch c = λ ms stand.
+pub push_heap-requires-clause-heap : goal.push_heap-requires-clause-heap
+push_heap-requires-clause-heap c = heap_at c.args.platform.now.heaps c.heaps-heap-items.result.now c.loop-index.index _ c.heaps-heap-items.ensures.heaps c.loop-index-test.true c.heap-item.is
+
+pub returns-then-not-branch-clause-lines : goal.returns-then-not-branch-clause-lines
+returns-then-not-branch-clause-lines c = λ ms stand.
     subst (EndsAt (IsPlaceLineGiven ms) (Ends c.args.until (λ (p : HeapPlace). p.place) (SharePlace ms)) (places_of c.args.platform.now.heaps)) (sym c.new.ensures)
     (they_end (IsPlaceLineGiven ms) (Ends c.args.until (λ (p : HeapPlace). p.place) (SharePlace ms)) c.in_ok-push_heap.field-0 (places_of c.args.platform.now.heaps) _ _ c.if-not-branch.true
     (c.in_ok-push_heap.ensures.lines ms stand (places_of c.args.platform.now.heaps) (drop (c.loop-index.index + 1) c.args.platform.now.heaps)
@@ -20,6 +23,7 @@ returns-then-not-branch c = λ ms stand.
 
 pub loop-index-init : goal.loop-index-init
 loop-index-init c = record {
+  asked = c.requires.asked;
   alone = subst (All (NamesOne c.args.tree.now.nodes)) (sym c.new-kept.ensures.items) (All-nil (NamesOne c.args.tree.now.nodes));
   places = λ ms stand. subst (λ lines. AreSoFar (IsPlaceLineGiven ms) (places_of c.args.platform.now.heaps) lines (places_of c.args.platform.now.heaps)) (sym c.new-lines.ensures.items)
       (none_yet (IsPlaceLineGiven ms) (places_of c.args.platform.now.heaps));
@@ -27,6 +31,7 @@ loop-index-init c = record {
 
 pub loop-index-preserved : goal.loop-index-preserved
 loop-index-preserved c = record {
+  asked = c.push_heap.ensures.asked;
   alone = c.in_ok-push_heap.ensures.alone;
   places = λ ms stand.
       they_go_on (IsPlaceLineGiven ms) (Ends c.args.until (λ (p : HeapPlace). p.place) (SharePlace ms)) c.in_ok-push_heap.field-0 (places_of c.args.platform.now.heaps) _ _ c.if-not-branch.false
@@ -35,8 +40,8 @@ loop-index-preserved c = record {
       (c.loop-index.invariant.places ms stand)));
 }
 
-pub returns : goal.returns
-returns c = λ ms stand.
+pub returns-clause-lines : goal.returns-clause-lines
+returns-clause-lines c = λ ms stand.
     subst (AllZip (IsPlaceLineGiven ms) (places_of c.args.platform.now.heaps)) (sym c.in_ok-fitted.ensures)
     (all_done (IsPlaceLineGiven ms) (places_of c.args.platform.now.heaps) c.loop-index.lines.items
     (subst (AreSoFar (IsPlaceLineGiven ms) (places_of c.args.platform.now.heaps) c.loop-index.lines.items)

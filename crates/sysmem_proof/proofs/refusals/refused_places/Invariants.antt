@@ -5,12 +5,14 @@ use Rattle.sysmem_memory.specs.Listed.{places_from, places_of}
 use Rattle.sysmem_tree.specs.Shape.{Member}
 use Rattle.sysmem_proof.specs.FirstConflict.{IsPlaceLineGiven}
 use Rattle.sysmem_proof.specs.Members.{members_at}
+use Rattle.sysmem_proof.specs.PlacesAsked.{AreAsked}
 use Rattle.sysmem_proof.specs.Refusals.{AreSoFar, StandFor}
 use Rattle.sysmem_proof.specs.Whom.{NamesOne}
 use Rattle.sysmem_proof.proofs.refusals.refused_places.Given as goal
 
 abbrev pub invariant-loop-index : goal.invariant-loop-index
 invariant-loop-index l = record {
+  asked : AreAsked l.tree.nodes l.platform.heaps l.asked;
   alone : All (NamesOne l.tree.nodes) l.kept.items;
   places : (ms : List Member) → StandFor (members_at l.tree.nodes l.nodes) ms
       → AreSoFar (IsPlaceLineGiven ms) (places_of l.platform.heaps) l.lines.items (places_from l.index (drop l.index l.platform.heaps));

@@ -57,6 +57,7 @@ invariant_of-self c =
       c.self.invariant.1,
       more_kept m c.self.inside.layout c.self.inside.parts.items c.keep_part.new.parts.items c.self.inside.levels.items c.self.inside.levels.items c.choices-depth.result.now c.self.inside.prefix c.choices-depth.ensures
           keeps (c.keep_part.ensures.parts keeps.shares) (λ k within. refl) keeps.made,
+      c.self.invariant.3,
     )
 
 pub reserve_level-requires-clause-there : goal.reserve_level-requires-clause-there
@@ -72,6 +73,7 @@ invariant_of-self-in_err-reserve_level c =
       c.self.invariant.1,
       more_kept m c.self.inside.layout c.self.inside.parts.items c.keep_part.new.parts.items c.self.inside.levels.items c.reserve_level.new.levels.items c.choices-depth.result.now c.self.inside.prefix c.choices-depth.ensures
           keeps (c.keep_part.ensures.parts keeps.shares) c.reserve_level.ensures.kept (c.reserve_level.ensures.made keeps.made),
+      c.self.invariant.3,
     )
 
 pub invariant_of-self-in_default-index : goal.invariant_of-self-in_default-index
@@ -82,6 +84,7 @@ invariant_of-self-in_default-index c =
       c.self.invariant.1,
       more_kept m c.self.inside.layout c.self.inside.parts.items c.keep_part.new.parts.items c.self.inside.levels.items c.reserve_level.new.levels.items c.choices-depth.result.now c.self.inside.prefix c.choices-depth.ensures
           keeps (c.keep_part.ensures.parts keeps.shares) c.reserve_level.ensures.kept (c.reserve_level.ensures.made keeps.made),
+      c.self.invariant.3,
     )
 
 pub index-requires-2 : goal.index-requires-2
@@ -154,4 +157,5 @@ invariant_of-self-2 c =
           (c.keep_part.ensures.parts keeps.shares) c.reserve_level.ensures.kept (c.reserve_level.ensures.made keeps.made) c.in_ok-reserve_level.ensures.there c.join_level.ensures.same
           c.join_level.ensures.joined c.slot_of.ensures (kept_is ∙ ap Some (same ∙ c.in-Some-index.is)) c.sums_in_any_order.ensures c.choice_settles_share.ensures child here shape_prefix
           (c.open_after-next.ensures (numbers m) cs c.args.choice child),
+      c.self.invariant.3,
     )

@@ -49,4 +49,5 @@ invariant_of-result c = (
     made = one_made _ c.layout-layout.result c.in_ok-first.first c.in_ok-first.ensures c.in_ok-levels.levels.items c.in_ok-levels.ensures.items;
     fronts = one_front _ c.layout-layout.result c.in_ok-first.first c.in_ok-first.ensures c.in_ok-levels.levels.items _ c.in_ok-levels.ensures.items c.new.ensures;
   },
+  c.new-3.ensures c.args.tree.now.nodes c.args.platform.now.heaps,
 )
