@@ -144,7 +144,8 @@ pub(crate) fn first_refused(
     ensures refused { IfSome result (λ first.
         Any (λ p. refuses_by first.field p.memory p.usage heap.now place.coherency ≡ true)
         (participants (members_at tree.now.nodes (first.node ∷ [])))) }
-    ensures allowed { IfNone result (All (λ p. AllowsPlace p.memory p.usage heap.now place.coherency)
+    ensures allowed { IfNone result
+        (All (λ p. AllowsPlace p.memory p.usage heap.now place.coherency)
         (participants (members_at tree.now.nodes nodes.now))) }
     ensures first { IfSome result (λ first. IsFirstWithout
         (λ p. AllowsPlace p.memory p.usage heap.now place.coherency)
