@@ -1,4 +1,4 @@
-//! A measure of the bench: many participants of one collection, on so many threads.
+//! A measure of the bench: many participants of one collection, who act again and again, on so many threads.
 
 ghost use Rattle.std.specs.Prelude.{◌≡◌};
 ghost use Rattle.sysmem_room.specs.Counting.{all_parts};
@@ -16,8 +16,10 @@ use sysmem_search::NoGate;
 
 const PARTICIPANTS: usize = 126;
 
-/// So many collections, one after the other, of 126 participants who ask for the same on so many threads.
-pub(crate) fn crowd_again<R: Threads + Wait + Sync>(
+/// A collection of 126 participants, shared out among so many threads. Each binds, states what it asks for, then so many times that
+/// it asks for nothing, and releases. It is set by then, so these are refused, under the lock: a collection takes no more than 639 calls
+/// that aren't.
+pub(crate) fn crowd_on<R: Threads + Wait + Sync>(
     rt: &R,
     alloc: Global,
     platform: Platform,
@@ -26,10 +28,15 @@ pub(crate) fn crowd_again<R: Threads + Wait + Sync>(
     times: u32,
 ) -> Result<()> {
     let allocator = Allocator::new(alloc, platform, NoGate)?;
-    for _ in 0..times {
-        crowd::<Brand, R>(rt, alloc, &allocator, Blank::new(129), asked, threads)?;
-    }
-    Ok(())
+    crowd::<Brand, R>(
+        rt,
+        alloc,
+        &allocator,
+        Blank::new(129),
+        asked,
+        threads,
+        times,
+    )
 }
 
 fn crowd<L: Ledger + Send + Sync, R: Threads + Wait + Sync>(
@@ -39,6 +46,7 @@ fn crowd<L: Ledger + Send + Sync, R: Threads + Wait + Sync>(
     blank: Blank,
     asked: &Arc<Constraints>,
     threads: usize,
+    times: u32,
 ) -> Result<()>
     requires name { blank.name ≡ L.name }
     requires ledger { blank.parts ≡ L.parts }
@@ -55,7 +63,7 @@ fn crowd<L: Ledger + Send + Sync, R: Threads + Wait + Sync>(
     }
     release(rt, root);
     let pile = Mutex::new(tokens);
-    let done = thread::map_indices(rt, alloc, threads, &|_| take_parts(rt, &pile, asked));
+    let done = thread::map_indices(rt, alloc, threads, &|_| take_parts(rt, &pile, asked, times));
     close_all(rt, pile.into_inner());
     done?;
     Ok(())
@@ -78,11 +86,13 @@ fn keep<L: Ledger, R: Threads + Wait + Sync>(
     }
 }
 
-/// Takes tokens of the pile until none is left, binds each, states what it asks for, and releases it.
+/// Takes tokens of the pile until none is left, binds each, states what it asks for, then so many times that it asks for nothing, and
+/// releases it.
 fn take_parts<L: Ledger, R: Threads + Wait + Sync>(
     rt: &R,
     pile: &Mutex<Vec<Token<L, NoGate>>>,
     asked: &Arc<Constraints>,
+    times: u32,
 ) {
     for _ in 0..PARTICIPANTS {
         let next = pile.lock(rt).pop();
@@ -92,6 +102,9 @@ fn take_parts<L: Ledger, R: Threads + Wait + Sync>(
         match token.bind(rt) {
             Ok(mut collection) => {
                 let _set = collection.set_constraints(rt, Arc::try_clone(asked).ok());
+                for _ in 0..times {
+                    let _refused = collection.set_constraints(rt, None);
+                }
                 if let Err((collection, _refusal)) = collection.release(rt) {
                     let _stub = collection.close(rt);
                 }

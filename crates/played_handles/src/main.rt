@@ -10,9 +10,10 @@
 //!
 //! | Job | What is repeated |
 //! |---|---|
-//! | `handles` | playing the calls through the handles of a new collection |
-//! | `book` | applying them to a new book, without a decision |
-//! | `alone` | 126 participants of one collection, each of whom binds, states what the script's first asks for, and releases, on one thread |
+//! | `handles` | playing the calls through the handles of a new collection, and closing these |
+//! | `audited` | the same, and an audit of what is left |
+//! | `book` | applying the calls to a new book, without a decision |
+//! | `alone` | on one thread each of 126 participants of one collection, which are set, makes a call that is refused, since it is set |
 //! | `crowd` | the same on 16 threads |
 #![tactic(auto)]
 
@@ -26,7 +27,7 @@ mod script;
 mod showing;
 
 use anyhow::{Result, bail};
-use crowding::crowd_again;
+use crowding::crowd_on;
 use repeating::{repeat_book, repeat_handles};
 use script::{Asked, Played, all_stated};
 use script_reading::{Script, parse_script, read_script};
@@ -40,7 +41,7 @@ fn main(rt: HostRuntime) -> Result<()> {
     let mut words = env::args(&rt)?;
     let _program = words.next();
     let Some(file) = words.next() else {
-        bail!("usage: played_handles FILE [handles|book|alone|crowd TIMES]");
+        bail!("usage: played_handles FILE [handles|audited|book|alone|crowd TIMES]");
     };
     let bytes = fs::read(&rt, &file)?;
     let Ok(value) = parse_script(rt.alloc(), &bytes) else {
@@ -70,10 +71,11 @@ fn repeat<R: Threads + Wait + Sync>(
     let Script { platform, calls } = script;
     let asked = all_stated(alloc, &calls)?;
     match job {
-        "handles" => repeat_handles(rt, alloc, platform, &calls, &asked, times),
+        "handles" => repeat_handles(rt, alloc, platform, &calls, &asked, false, times),
+        "audited" => repeat_handles(rt, alloc, platform, &calls, &asked, true, times),
         "book" => repeat_book(alloc, &platform, &calls, &asked, times),
-        "alone" => crowd_again(rt, alloc, platform, first_of(&asked)?, 1, times),
-        "crowd" => crowd_again(rt, alloc, platform, first_of(&asked)?, 16, times),
+        "alone" => crowd_on(rt, alloc, platform, first_of(&asked)?, 1, times),
+        "crowd" => crowd_on(rt, alloc, platform, first_of(&asked)?, 16, times),
         _ => bail!("{job:?} is no job"),
     }
 }

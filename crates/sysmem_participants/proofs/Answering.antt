@@ -13,7 +13,7 @@ use Rattle.sysmem_tree.specs.ActionKind.{ends_node}
 use Rattle.sysmem_room.specs.declared.outcome.Outcome.{Outcome}
 use Rattle.sysmem_room.specs.declared.outcome.Outcome.TheVariants as outcomes
 use Rattle.sysmem_room.specs.Log.{log_refusal}
-use Rattle.sysmem_room.specs.Refusals.{due, first_of, is_member, refusal_by, outcome_refusal, IsUnforeseen, IsAnswer, MayAnswer}
+use Rattle.sysmem_room.specs.Refusals.{due, first_of, is_member, known_refusal, refusal_by, outcome_refusal, IsUnforeseen, IsAnswer, MayAnswer}
 
 -- a verdict's refusal is one of two, of an action that doesn't end its node
 abbrev IsOfVerdict : ActionKind → Option Refusal → Type 0
@@ -118,3 +118,18 @@ by_known known noted o p q s t kind r nk pq st saw answers =
     let two : MayAnswer (due known p s kind) known kind r = subst (λ x. MayAnswer (due x p s kind) x kind r) nk one in
     let three : MayAnswer (due known q s kind) known kind r = subst (λ x. MayAnswer (due known x s kind) known kind r) pq two in
     subst (λ x. MayAnswer (due known q x kind) known kind r) st three
+
+first_none : (a b : Option Refusal) → first_of a b ≡ None → b ≡ None
+first_none None b is = is
+first_none (Some q) b is = absurd (cc)
+
+-- where nothing is due by what was seen in the cell, nothing is by what the handle knew
+unknowing_none : (known seen : Option Outcome) (path : List ℕ) (s : NodeState) (kind : ActionKind) → IfSome known (λ k. seen ≡ Some k) → due seen path s kind ≡ None → due known path s kind ≡ None
+unknowing_none (Some k) seen path s kind agrees is = subst (λ x. due x path s kind ≡ None) agrees is
+unknowing_none None seen path s kind agrees is = first_none (known_refusal seen path kind) (log_refusal s kind) is
+
+pub none_by_known : (known noted : Option Outcome) (o : Option (Bor Outcome)) (p q : List ℕ) (s t : NodeState) (kind : ActionKind) → noted ≡ known → p ≡ q → s ≡ t
+    → IfSome noted (λ x. option_map (λ (b : Bor Outcome). b.now) o ≡ Some x) → due (option_map (λ (b : Bor Outcome). b.now) o) p s kind ≡ None → due known q t kind ≡ None
+none_by_known known noted o p q s t kind nk pq st saw none =
+    let one : due noted p s kind ≡ None = unknowing_none noted (option_map (λ (b : Bor Outcome). b.now) o) p s kind saw none in
+    subst (λ x. due known q x kind ≡ None) st (subst (λ x. due known x s kind ≡ None) pq (subst (λ x. due x p s kind ≡ None) nk one))

@@ -2,6 +2,7 @@
 
 ghost use Rattle.std.specs.Prelude.{◌≡◌, ◌≢◌, ◌<◌, ◌≤◌, ◌+◌, ◌++◌, [], ◌∷◌, None, false, true, is_some, length, option_map, IfErr, IfOk, OnErr, OnOk};
 ghost use Rattle.std.specs.Arc.{arc_value};
+ghost use Rattle.once_cell.specs.Once.{cell_name};
 ghost use Rattle.sysmem_participants.specs.Held.{Answers, MayEnter, acted, child_of};
 ghost use Rattle.sysmem_room.specs.Counting.{nodes_by};
 ghost use Rattle.sysmem_room.specs.Log.{shown_by};
@@ -115,7 +116,82 @@ pub(crate) fn fresh_cell(alloc: Global) -> Result<(FreshCell, Arc<OnceBox<Outcom
     Ok((fresh, cell))
 }
 
+impl<L: Ledger, G: Gate + Drop> Prepared<L, G> {
+    /// What the handle of the further node holds, with its share.
+    fn seated(self, share: Share<L>) -> Seat<L, G>
+        requires part { share.parts ≡ 1 }
+        requires uncounted { share.amount ≡ 0 }
+        requires empty { self.log.deeds ≡ [] }
+        ensures { result ≡ record {
+          path = self.path.items;
+          begun = self.log.begun;
+          deeds = [];
+          cell = cell_name (arc_value self.cell);
+          known = None;
+          platform = (arc_value self.shared).platform;
+        } }
+    {
+        let Prepared {
+            shared,
+            rules,
+            path,
+            log,
+            cell,
+        } = self;
+        let note = cell.note();
+        Seat {
+            shared,
+            rules,
+            path,
+            log,
+            share,
+            cell,
+            note,
+        }
+    }
+}
+
 impl<L: Ledger, G: Gate + Drop + Sync> Seat<L, G> {
+    /// Enters an action that leaves the handle there: what the node gets of the count that it makes.
+    /// `copy` is the same action, for the log.
+    fn step<R: Threads + Wait + Sync>(
+        &mut self,
+        rt: &R,
+        action: Action,
+        copy: Action,
+        fresh: Option<FreshCell>,
+    ) -> Result<Share<L>, Refusal>
+        requires same { deed_of copy ≡ deed_of action }
+        requires fresh { is_some fresh ≡ makes_root (kind_of (deed_of action)) }
+        ensures entered { OnOk result (self.new ≡ acted self.old (deed_of action)) }
+        ensures unchanged { OnErr result (self.new ≡ self.old) }
+        ensures foreseen { OnOk result (MayEnter self.old (deed_of action)) }
+        ensures answers { IfErr result (Answers self.old (deed_of action)) }
+        ensures given { IfOk result (λ share. share.parts ≡ nodes_by (kind_of (deed_of action))) }
+        ensures empty { IfOk result (λ share. share.amount ≡ 0) }
+    {
+        if self.log.reserve().is_err() {
+            return Err(Refusal::NoMemory);
+        }
+        let mut seen = self.note.again();
+        let known = self.cell.get_as(&mut seen);
+        match enter(
+            rt,
+            &self.shared,
+            &self.rules,
+            &self.path,
+            &mut self.log,
+            known,
+            action,
+            copy,
+            fresh,
+            &mut self.share,
+        ) {
+            Ok(share) => Ok(share),
+            Err(refusal) => Err(refusal),
+        }
+    }
+
     /// A further token, the last child of a token.
     pub(crate) fn duplicate<R: Threads + Wait + Sync>(
         &mut self,
@@ -131,43 +207,10 @@ impl<L: Ledger, G: Gate + Drop + Sync> Seat<L, G> {
         let Ok(child) = self.prepared(NodeKind::Token, false) else {
             return Err(Refusal::NoMemory);
         };
-        let Prepared {
-            shared,
-            rules,
-            path,
-            log,
-            cell,
-        } = child;
-        if self.log.reserve().is_err() {
-            return Err(Refusal::NoMemory);
+        match self.step(rt, Action::Duplicate, Action::Duplicate, None) {
+            Ok(share) => Ok(child.seated(share)),
+            Err(refusal) => Err(refusal),
         }
-        let mut seen = self.note.again();
-        let known = self.cell.get_as(&mut seen);
-        let share = match enter(
-            rt,
-            &self.shared,
-            &self.rules,
-            &self.path,
-            &mut self.log,
-            known,
-            Action::Duplicate,
-            Action::Duplicate,
-            None,
-            &mut self.share,
-        ) {
-            Ok(share) => share,
-            Err(refusal) => return Err(refusal),
-        };
-        let note = cell.note();
-        Ok(Seat {
-            shared,
-            rules,
-            path,
-            log,
-            share,
-            cell,
-            note,
-        })
     }
 
     /// A group, the last child of a token.
@@ -185,43 +228,10 @@ impl<L: Ledger, G: Gate + Drop + Sync> Seat<L, G> {
         let Ok(child) = self.prepared(NodeKind::Group, false) else {
             return Err(Refusal::NoMemory);
         };
-        let Prepared {
-            shared,
-            rules,
-            path,
-            log,
-            cell,
-        } = child;
-        if self.log.reserve().is_err() {
-            return Err(Refusal::NoMemory);
+        match self.step(rt, Action::CreateGroup, Action::CreateGroup, None) {
+            Ok(share) => Ok(child.seated(share)),
+            Err(refusal) => Err(refusal),
         }
-        let mut seen = self.note.again();
-        let known = self.cell.get_as(&mut seen);
-        let share = match enter(
-            rt,
-            &self.shared,
-            &self.rules,
-            &self.path,
-            &mut self.log,
-            known,
-            Action::CreateGroup,
-            Action::CreateGroup,
-            None,
-            &mut self.share,
-        ) {
-            Ok(share) => share,
-            Err(refusal) => return Err(refusal),
-        };
-        let note = cell.note();
-        Ok(Seat {
-            shared,
-            rules,
-            path,
-            log,
-            share,
-            cell,
-            note,
-        })
     }
 
     /// A token, the last child of a group.
@@ -239,43 +249,10 @@ impl<L: Ledger, G: Gate + Drop + Sync> Seat<L, G> {
         let Ok(child) = self.prepared(NodeKind::Token, false) else {
             return Err(Refusal::NoMemory);
         };
-        let Prepared {
-            shared,
-            rules,
-            path,
-            log,
-            cell,
-        } = child;
-        if self.log.reserve().is_err() {
-            return Err(Refusal::NoMemory);
+        match self.step(rt, Action::CreateChild, Action::CreateChild, None) {
+            Ok(share) => Ok(child.seated(share)),
+            Err(refusal) => Err(refusal),
         }
-        let mut seen = self.note.again();
-        let known = self.cell.get_as(&mut seen);
-        let share = match enter(
-            rt,
-            &self.shared,
-            &self.rules,
-            &self.path,
-            &mut self.log,
-            known,
-            Action::CreateChild,
-            Action::CreateChild,
-            None,
-            &mut self.share,
-        ) {
-            Ok(share) => share,
-            Err(refusal) => return Err(refusal),
-        };
-        let note = cell.note();
-        Ok(Seat {
-            shared,
-            rules,
-            path,
-            log,
-            share,
-            cell,
-            note,
-        })
     }
 
     /// A token, the last child of a collection, that is the root of a domain of its own.
@@ -290,49 +267,17 @@ impl<L: Ledger, G: Gate + Drop + Sync> Seat<L, G> {
         ensures foreseen { OnOk result (MayEnter self.old attaches_token) }
         ensures answers { IfErr result (Answers self.old attaches_token) }
     {
-        let Ok(child) = self.prepared(NodeKind::Token, true) else {
+        let Ok(mut child) = self.prepared(NodeKind::Token, true) else {
             return Err(Refusal::NoMemory);
         };
-        let Prepared {
-            shared,
-            rules,
-            path,
-            log,
-            cell: _host,
-        } = child;
         let Ok((fresh, cell)) = fresh_cell(self.rules.alloc) else {
             return Err(Refusal::NoMemory);
         };
-        if self.log.reserve().is_err() {
-            return Err(Refusal::NoMemory);
+        child.cell = cell;
+        match self.step(rt, Action::AttachToken, Action::AttachToken, Some(fresh)) {
+            Ok(share) => Ok(child.seated(share)),
+            Err(refusal) => Err(refusal),
         }
-        let mut seen = self.note.again();
-        let known = self.cell.get_as(&mut seen);
-        let share = match enter(
-            rt,
-            &self.shared,
-            &self.rules,
-            &self.path,
-            &mut self.log,
-            known,
-            Action::AttachToken,
-            Action::AttachToken,
-            Some(fresh),
-            &mut self.share,
-        ) {
-            Ok(share) => share,
-            Err(refusal) => return Err(refusal),
-        };
-        let note = cell.note();
-        Ok(Seat {
-            shared,
-            rules,
-            path,
-            log,
-            share,
-            cell,
-            note,
-        })
     }
 
     /// The token becomes a collection.
@@ -342,23 +287,7 @@ impl<L: Ledger, G: Gate + Drop + Sync> Seat<L, G> {
         ensures foreseen { OnOk result (MayEnter self.old binds) }
         ensures answers { IfErr result (Answers self.old binds) }
     {
-        if self.log.reserve().is_err() {
-            return Err(Refusal::NoMemory);
-        }
-        let mut seen = self.note.again();
-        let known = self.cell.get_as(&mut seen);
-        match enter(
-            rt,
-            &self.shared,
-            &self.rules,
-            &self.path,
-            &mut self.log,
-            known,
-            Action::Bind,
-            Action::Bind,
-            None,
-            &mut self.share,
-        ) {
+        match self.step(rt, Action::Bind, Action::Bind, None) {
             Ok(_share) => Ok(()),
             Err(refusal) => Err(refusal),
         }
@@ -374,22 +303,11 @@ impl<L: Ledger, G: Gate + Drop + Sync> Seat<L, G> {
         ensures foreseen { OnOk result (MayEnter self.old has_all_children) }
         ensures answers { IfErr result (Answers self.old has_all_children) }
     {
-        if self.log.reserve().is_err() {
-            return Err(Refusal::NoMemory);
-        }
-        let mut seen = self.note.again();
-        let known = self.cell.get_as(&mut seen);
-        match enter(
+        match self.step(
             rt,
-            &self.shared,
-            &self.rules,
-            &self.path,
-            &mut self.log,
-            known,
             Action::AllChildrenPresent,
             Action::AllChildrenPresent,
             None,
-            &mut self.share,
         ) {
             Ok(_share) => Ok(()),
             Err(refusal) => Err(refusal),
@@ -408,25 +326,14 @@ impl<L: Ledger, G: Gate + Drop + Sync> Seat<L, G> {
         ensures foreseen { OnOk result (MayEnter self.old (sets None)) }
         ensures answers { IfErr result (Answers self.old (sets None)) }
     {
-        if self.log.reserve().is_err() {
-            return Err(Refusal::NoMemory);
-        }
         let Ok(own) = shared_again(&asked) else {
             return Err(Refusal::NoMemory);
         };
-        let mut seen = self.note.again();
-        let known = self.cell.get_as(&mut seen);
-        match enter(
+        match self.step(
             rt,
-            &self.shared,
-            &self.rules,
-            &self.path,
-            &mut self.log,
-            known,
             Action::SetConstraints(asked),
             Action::SetConstraints(own),
             None,
-            &mut self.share,
         ) {
             Ok(_share) => Ok(()),
             Err(refusal) => Err(refusal),

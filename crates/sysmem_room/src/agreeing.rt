@@ -128,14 +128,21 @@ fn step_back(
     }
 }
 
-/// Whether a book's history has just these actions on a node, by the places of the actions in it:
-/// it reads no more entries than there are actions.
-pub(crate) fn has_placed(book: &Book, places: &Places, node: NodeId, actions: &[Action]) -> bool
+/// Whether a book's history has just these actions on a node up to the place of one of them, by the
+/// places of those before it: it reads no more entries than there are actions.
+pub(crate) fn has_placed(
+    book: &Book,
+    places: &Places,
+    node: NodeId,
+    last: usize,
+    actions: &[Action],
+) -> bool
     requires there { HasNode book.now.state.tree.nodes node }
     requires places { ArePlaces book.now.history places.now }
-    ensures { IsTrue result → book_log book.now.history node ≡ map deed_of actions.now }
+    ensures { IsTrue result
+        → book_log (take last book.now.history) node ≡ map deed_of actions.now }
 {
-    let mut place = places.last(book.tree().number_of(node));
+    let mut place = last;
     for index in (0..actions.len()).rev() {
         if place == 0 {
             return false;

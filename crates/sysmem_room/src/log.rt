@@ -1,17 +1,17 @@
 //! What a handle knows of its node: how it was made, and the actions on it that were accepted.
 
-ghost use Rattle.std.specs.Prelude.{◌≡◌, ◌<◌, ◌≤◌, ◌+◌, ◌++◌, ◌↔◌, [], ◌∷◌, length, map, option_map, IfOk, IsTrue, OnErr, OnOk};
+ghost use Rattle.std.specs.Prelude.{◌≡◌, ◌≢◌, ◌<◌, ◌≤◌, ◌+◌, ◌++◌, ◌↔◌, [], ◌∷◌, length, map, option_map, replicate, IfOk, IfSome, IsTrue, OnOk};
 ghost use Rattle.sysmem_proof.specs.Asked.{asks_at};
 ghost use Rattle.sysmem_tree.specs.Nodes.{HasNode};
 ghost use Rattle.sysmem_room.specs.Agreeing.{StandsAs};
 ghost use Rattle.sysmem_room.specs.Log.{begun_as, shown_by};
-ghost use Rattle.sysmem_tree.specs.ActionKind.{deed_of};
+ghost use Rattle.sysmem_tree.specs.ActionKind.{deed_of, duplicates};
 
 use crate::agreeing::{has_set, lent};
 use std::alloc::{AllocError, Global};
 use std::marker::Model;
 use sysmem_sanitise::Constraints;
-use sysmem_tree::{Action, NodeId, NodeKind, NodeState, Tree};
+use sysmem_tree::{Action, ActionKind, NodeId, NodeKind, NodeState, Tree};
 
 /// How a node was made, and the accepted actions on it, with room for one more.
 #[derive(Drop)]
@@ -21,12 +21,14 @@ pub struct Log {
     /// What the actions make of the node.
     state: NodeState,
     actions: Vec<Action>,
+    /// How many of the actions come before the `Duplicate`s at the end.
+    others: usize,
 }
 
 impl Model for Log {
     ghost use Rattle.std.specs.Prelude.{◌≡◌, ◌<◌, map};
     ghost use Rattle.std.specs.Vec.{vec_capacity, vec_len};
-    ghost use Rattle.sysmem_room.specs.Log.{LogFacts, begun_as, shown_by};
+    ghost use Rattle.sysmem_room.specs.Log.{HasBeforeDuplicates, LogFacts, begun_as, shown_by};
     ghost use Rattle.sysmem_tree.specs.ActionKind.{deed_of};
 
     ghost Value = { LogFacts };
@@ -42,7 +44,21 @@ impl Model for Log {
           begun = begun_as l.begun l.is_domain_root;
           deeds = map deed_of l.actions.items;
           places = vec_capacity l.actions;
-        })).state) };
+        })).state)
+        × HasBeforeDuplicates (map deed_of l.actions.items) l.others };
+}
+
+/// How many of so many actions come before the `Duplicate`s at the end, where the last action is of
+/// this kind and so many came before those at the end of the others.
+fn others_after(others: usize, kind: ActionKind, many: usize) -> usize
+    ensures again { kind ≡ ActionKind.Duplicate → result ≡ others }
+    ensures other { kind ≢ ActionKind.Duplicate → result ≡ many }
+{
+    if kind == ActionKind::Duplicate {
+        others
+    } else {
+        many
+    }
 }
 
 impl Log {
@@ -57,6 +73,7 @@ impl Log {
             is_domain_root,
             state: NodeState::fresh(begun),
             actions,
+            others: 0,
         })
     }
 
@@ -90,8 +107,24 @@ impl Log {
         ensures begun { self.new.begun ≡ self.old.begun }
         ensures entered { self.new.deeds ≡ self.old.deeds ++ deed_of action ∷ [] }
     {
-        self.state.act(action.kind());
+        let kind = action.kind();
+        self.state.act(kind);
         self.actions.push_reserved(action);
+        let others = others_after(self.others, kind, self.actions.len());
+        self.others = others;
+    }
+
+    /// The actions before the `Duplicate`s at the end, if there are so many of these.
+    #[tactic(auto, using(crate::proofs::Logs::before_end))]
+    pub(crate) fn before(&self, many: usize) -> Option<&[Action]>
+        ensures { IfSome result (λ others. self.now.deeds
+            ≡ map deed_of others.now ++ replicate many duplicates) }
+    {
+        if self.actions.len() - self.others == many {
+            Some(&self.actions[..self.others])
+        } else {
+            None
+        }
     }
 
     /// All actions, the last one included. It takes no memory.

@@ -1,6 +1,6 @@
 //! What lies under a collection's lock.
 
-ghost use Rattle.std.specs.Prelude.{◌≡◌, ◌≢◌, ◌<◌, ◌≤◌, ◌+◌, ◌++◌, ◌↔◌, ℕ, List, Ok, Err, Some, None, true, false, length, map, option_map, is_some, IfErr, IfOk, IfSome, IsTrue, OnErr, OnOk};
+ghost use Rattle.std.specs.Prelude.{◌≡◌, ◌≢◌, ◌<◌, ◌≤◌, ◌+◌, ◌↔◌, ℕ, List, Ok, Err, Some, None, true, false, length, map, option_map, is_some, IfErr, IfOk, IfSome, IsTrue, OnErr, OnOk};
 ghost use Rattle.std.specs.Arc.{arc_value};
 ghost use Rattle.sysmem_alloc.specs.Book.{entered, new_book};
 ghost use Rattle.sysmem_alloc.specs.Entry.{Acted, Decided};
@@ -175,7 +175,7 @@ impl<L: Ledger> Room<L> {
         let tree = self.book.tree();
         tree.nodes();
         tree.domains();
-        self.places.add(tree.number_of(acted), entries);
+        self.places.add(tree.number_of(acted), entries, kind);
         self.counted.add(mine, 1);
         let share = self.spare.split_off(parts, 0);
         keep(&mut self.cells, fresh);
@@ -210,19 +210,37 @@ impl<L: Ledger> Room<L> {
         ensures { IsTrue result ↔ IsAsKnown self.now log.now
             (option_map (λ o. o.now) known.entry) node }
     {
-        self.has_log(node, log.actions())
+        self.has_log(node, log)
             && log.stands_as(self.book.tree(), node)
             && has_verdict(&self.book, node, known)
     }
 
-    /// Whether the book has just these actions on a node. Where it has, its places tell so; else
-    /// the whole history is read.
-    fn has_log(&self, node: NodeId, actions: &[Action]) -> bool
+    /// Whether the book has just the actions of a log on a node. Where it has, its places tell so;
+    /// else the whole history is read.
+    fn has_log(&self, node: NodeId, log: &Log) -> bool
         requires { HasNode self.now.state.tree.nodes node }
-        ensures { IsTrue result ↔ (book_log self.now.history node ≡ map deed_of actions.now) }
+        ensures { IsTrue result ↔ (book_log self.now.history node ≡ log.now.deeds) }
     {
-        has_placed(&self.book, &self.places, node, actions)
-            || has_actions(&self.book, node, actions)
+        self.places_tell(node, log) || has_actions(&self.book, node, log.actions())
+    }
+
+    /// Whether the book has just the actions of a log on a node, by its places: the `Duplicate`s at
+    /// the end are counted, and the actions before them compared.
+    fn places_tell(&self, node: NodeId, log: &Log) -> bool
+        requires { HasNode self.now.state.tree.nodes node }
+        ensures { IsTrue result → book_log self.now.history node ≡ log.now.deeds }
+    {
+        let number = self.book.tree().number_of(node);
+        let Some(others) = log.before(self.places.duplicates(number)) else {
+            return false;
+        };
+        has_placed(
+            &self.book,
+            &self.places,
+            node,
+            self.places.other(number),
+            others,
+        )
     }
 
     /// Enters the action of a handle, by its path, its log and what it knows of its domain's

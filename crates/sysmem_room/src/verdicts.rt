@@ -1,6 +1,6 @@
 //! Whether a book has the verdict that a handle knows.
 
-ghost use Rattle.std.specs.Prelude.{◌≡◌, ◌↔◌, IfSome, IsTrue, Some, option_map};
+ghost use Rattle.std.specs.Prelude.{◌≡◌, ◌↔◌, IsTrue, Some, option_map};
 ghost use Rattle.sysmem_room.specs.Agreeing.{IsKnown, verdict_by};
 ghost use Rattle.sysmem_tree.specs.Nodes.{HasNode};
 

@@ -5,4 +5,6 @@ use Rattle.sysmem_room.proofs.Placing.{none_placed, none_yet}
 use Rattle.sysmem_room.proofs.places.Places.new.Goals as goal
 
 pub returns : goal.returns
-returns c = none_placed _ (length-replicate {A = ℕ} 128 0) (length-replicate {A = ℕ} 1024 0) (none_yet 128)
+returns c =
+    let nodes = length-replicate {A = ℕ} 128 0 in
+    none_placed _ nodes (length-replicate {A = ℕ} 640 0) nodes nodes (none_yet 128) (none_yet 128) (none_yet 128)

@@ -33,6 +33,13 @@ add-requires-clause-few g c =
     let few = c.few_entries.ensures c.self.inside.book.platform c.self.inside.book.history c.history-entries.ensures.book.legal in
     omega (arith, many, few)
 
+pub add-requires-clause-duplicates : goal.add-requires-clause-duplicates
+add-requires-clause-duplicates g c =
+    let (_, _, _, _, _, _, places) = c.self.invariant in
+    let many = as_many _ c.history-entries.result.now c.self.inside.book.history (length c.history-entries.result.now) c.history-entries.ensures.entries refl in
+    let held : ArePlaces c.self.inside.book.history c.deref_mut.result.now = subst (λ p. ArePlaces c.self.inside.book.history p) (sym c.deref_mut.ensures.value) places in
+    omega (arith, (held.end c.number_of.result c.number_of.ensures.few).few, many)
+
 pub keep-requires : goal.keep-requires
 keep-requires g c = λ is_given.
     let (_, _, _, _, cells, room, _) = c.self.invariant in
@@ -80,5 +87,6 @@ invariant_of-self-2 g c =
       subst (λ (b : BookFacts). ArePlaces b.history c.add.new.self) (sym c.in_ok-done.ensures.entered)
           (subst (λ i. ArePlaces (c.self.inside.book.history ++ Acted i (deed_of c.args.event.action) ∷ []) c.add.new.self) c.number_of.ensures.number
           (action_stays c.self.inside.book.history c.deref_mut.result.now c.add.new.self c.number_of.result (length c.history-entries.result.now) (deed_of c.args.event.action) many c.number_of.ensures.few
-          (omega (arith, many, few)) c.add.ensures.last c.add.ensures.before held)),
+          (omega (arith, many, few)) c.add.ensures.last c.add.ensures.before (λ is. c.add.ensures.again (c.kind-kind.ensures ∙ is))
+          (λ is. c.add.ensures.other (λ same. is (sym c.kind-kind.ensures ∙ same))) held)),
     )
