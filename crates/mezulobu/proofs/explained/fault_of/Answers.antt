@@ -1,0 +1,10 @@
+-- Bytes that spell a value, and bytes that don't.
+use Rattle.serde_json.specs.View.{view}
+use Rattle.mezulobu.proofs.Explanations.{fault_spelled, fault_unspelled}
+use Rattle.mezulobu.proofs.explained.fault_of.Goals as goal
+
+pub returns-in-Ok : goal.returns-in-Ok
+returns-in-Ok c = fault_spelled c.args.script.now (view c.in-Ok.value) c.fault_in.result c.in-Ok.ensures c.fault_in.ensures
+
+pub returns-in-Err-Refused : goal.returns-in-Err-Refused
+returns-in-Err-Refused c = fault_unspelled c.args.script.now c.in-Err-Refused.fault c.in-Err-Refused.ensures
