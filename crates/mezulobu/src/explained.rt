@@ -63,7 +63,7 @@ fn fault_in(alloc: Global, value: &Value) -> Result<Option<ScriptFault>, AllocEr
 
 fn explained_of(alloc: Global, script: &[u8], file: &[u8]) -> Result<Explained, AllocError> {
     let file = String::from_utf8_lossy(alloc, file)?;
-    let explanation = explain(alloc, &file, script)?;
+    let explanation = explain(alloc, file.as_str(), script)?;
     let text = text_of(alloc, &explanation.items)?;
     Ok(Explained {
         is_faulty: explanation.outcome == Outcome::Faulty,
@@ -77,13 +77,13 @@ fn told_explained(fault: Option<ScriptFault>, explained: Explained, is_strict: b
     ensures { (script : List ℕ) → HasFault script fault
         → ExplanationSays script is_strict result.status result.text.items }
 {
-    let text = explained.text;
+    let Explained { is_faulty, text } = explained;
     match fault {
         Some(_) => Told {
             status: REFUSED,
             text,
         },
-        None if is_strict && explained.is_faulty => Told { status: NO, text },
+        None if is_strict && is_faulty => Told { status: NO, text },
         None => Told { status: DONE, text },
     }
 }

@@ -9,9 +9,13 @@ use sysmem_sanitise::Platform;
 
 // Where the words stand in the line of settings: `/ chosen - count 8 size 2402304 place cma#0 ram image NV12 LINEAR REC709 1440x1088 row 1472`.
 const SELECTION: usize = 2;
+
 const COUNT: usize = 4;
+
 const SIZE: usize = 6;
+
 const HEAP: usize = 8;
+
 const COHERENCY: usize = 9;
 
 /// Puts the object of a domain of which a word is said: `{"domain":"/0","name":"camera","verdict":"failed"}`.

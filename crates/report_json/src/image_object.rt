@@ -12,9 +12,13 @@ use sysmem_formats::{Modifier, Pair, PixelFormat};
 
 // Where the words stand in the line of settings: `/ chosen - count 8 size 2402304 place cma#0 ram image NV12 LINEAR REC709 1440x1088 row 1472`.
 const FORMAT: usize = 11;
+
 const MODIFIER: usize = 12;
+
 const COLOUR: usize = 13;
+
 const SIDES: usize = 14;
+
 const ROW: usize = 16;
 
 /// Puts the image that the words of a line tell, or null where buffers hold none.

@@ -78,7 +78,7 @@ pub fn run_as_json_with_proof<R: Source, W: Sink, P: Sink>(
 fn told_of(alloc: Global, bytes: &[u8]) -> Result<Told, RunFault>
     ensures refused { (fault : FaultOfScript) → result ≡ Err (RunFault.Script fault)
         → RunsTo bytes.now (Err fault) }
-    ensures silent { result ≢ Err RunFault.Read × result ≢ Err RunFault.Write }
+    ensures silent { (result ≢ Err RunFault.Read) × (result ≢ Err RunFault.Write) }
 {
     let made = made_of(alloc, bytes);
     match made.ended {
