@@ -103,10 +103,13 @@ fn put_selection(out: &mut String, selection: &str) -> Result<(), AllocError> {
     if selection == "-" {
         return Ok(());
     }
-    let mut before = "";
+    let mut is_first = true;
     for choice in selection.split('.') {
-        write!(out, "{before}{choice}")?;
-        before = ",";
+        if !is_first {
+            out.push_str(",")?;
+        }
+        out.push_str(choice)?;
+        is_first = false;
     }
     Ok(())
 }
