@@ -17,7 +17,7 @@
 enum { RENDERER, DISPLAY, RECORDER, EVERYBODY };
 static const char *const names[EVERYBODY] = {"renderer", "display", "recorder"};
 
-// A way to show the output: what the display reads, and how large the images are at least.
+// A way to show the output: what the buffers are to hold, the greatest pitch that the display reads, and how large the images are at least.
 struct way {
     const char *name;
     uint64_t modifier;
@@ -34,16 +34,16 @@ static const struct way ways[] = {
 static int negotiate(const struct way *way, struct mezulobu_settings *settings, struct mezulobu_refusal *refusal)
 {
     const struct mezulobu_heap heaps[] = {{.cpu = true, .ram = true}, {.contiguous = true, .cpu = true, .ram = true}};
-    const struct mezulobu_pair pairs[] = {{.format = XRGB8888, .modifier = X_TILED}, {.format = XRGB8888, .modifier = LINEAR}};
+    const struct mezulobu_pair pairs[] = {{.format = XRGB8888, .modifier = way->modifier}};
     const uint32_t colors[] = {MEZULOBU_SRGB};
     const struct mezulobu_platform platform = {
-        .struct_size = sizeof platform, .heaps = heaps, .n_heaps = 2, .pairs = pairs, .n_pairs = 2, .colors = colors, .n_colors = 1,
+        .struct_size = sizeof platform, .heaps = heaps, .n_heaps = 2, .pairs = pairs, .n_pairs = 1, .colors = colors, .n_colors = 1,
     };
     const struct mezulobu_entry drawn = {
         .struct_size = sizeof drawn, .format = XRGB8888, .any_modifier = true, .colors = MEZULOBU_SRGB, .min_size = way->output, .pitch_divisor = 64,
     };
     const struct mezulobu_entry shown = {
-        .struct_size = sizeof shown, .format = XRGB8888, .modifier = way->modifier, .colors = MEZULOBU_SRGB, .max_pitch = way->max_pitch,
+        .struct_size = sizeof shown, .format = XRGB8888, .any_modifier = true, .colors = MEZULOBU_SRGB, .max_pitch = way->max_pitch,
     };
     const struct mezulobu_entry read = {.struct_size = sizeof read, .format = XRGB8888, .modifier = LINEAR, .colors = MEZULOBU_SRGB};
     struct mezulobu_participant asked[EVERYBODY] = {

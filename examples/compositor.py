@@ -52,7 +52,7 @@ Refusal = record(
     ("color", c_uint32), ("coherency", c_uint32), ("kind", c_uint32), ("field", c_uint32), ("reserved", c_uint32),
 )  # fmt: skip
 
-# Ways to show the output: what the display reads, the greatest pitch that it takes (0: any), and how large the images are at least.
+# Ways to show the output: what the buffers are to hold, the greatest pitch that the display reads (0: any), and how large the images are at least.
 WAYS = {
     "tiles in full size": (X_TILED, 0, (2560, 1440)),
     "rows in full size": (LINEAR, 8192, (2560, 1440)),
@@ -80,11 +80,11 @@ def loaded(path):
 def negotiated(library, modifier, max_pitch, output):
     """The status, the settings and the refusal of one way to show the output."""
     heaps = listed(Heap, Heap(cpu=True, ram=True), Heap(contiguous=True, cpu=True, ram=True))
-    pairs = listed(Pair, Pair(format=XRGB8888, modifier=X_TILED), Pair(format=XRGB8888, modifier=LINEAR))
-    platform = made(Platform, heaps=heaps, n_heaps=2, pairs=pairs, n_pairs=2, colors=listed(c_uint32, SRGB), n_colors=1)
+    pairs = listed(Pair, Pair(format=XRGB8888, modifier=modifier))
+    platform = made(Platform, heaps=heaps, n_heaps=2, pairs=pairs, n_pairs=1, colors=listed(c_uint32, SRGB), n_colors=1)
     image = {"format": XRGB8888, "colors": SRGB}
     drawn = made(Entry, any_modifier=True, pitch_divisor=64, min_size=Size(*output), **image)
-    shown = made(Entry, modifier=modifier, max_pitch=max_pitch, **image)
+    shown = made(Entry, any_modifier=True, max_pitch=max_pitch, **image)
     read = made(Entry, modifier=LINEAR, **image)
     asked = {
         "renderer": made(Participant, usage=VULKAN, ram=True, camping=2, entries=ctypes.pointer(drawn), n_entries=1),

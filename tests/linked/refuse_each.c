@@ -1,5 +1,6 @@
 // refuse_each NAME ..: runs each NAME.json with its certificate, checks that, negotiates two lists, and explains the first scripts, while one allocation after
-// the other is refused: the status is NO_MEMORY, no text and no settings are written, and nothing stays allocated. The last line is 'N passed, M failed'.
+// the other is refused: the status is NO_MEMORY, no text and no settings are written, and nothing stays allocated. An explanation can do without some room: then
+// its text is whole. The last line is 'N passed, M failed'.
 #include "mezulobu.h"
 #include <stdio.h>
 #include <stdlib.h>
@@ -41,7 +42,8 @@ void free(void *at)
 // How many of the scripts are explained: such a call takes some thousands of allocations.
 enum { RUNS, CHECKS, EXPLAINS, KINDS, EXPLAINED = 4 };
 
-static char script[1 << 22], proof[1 << 20], text[1 << 16], other[1 << 20];
+static char script[1 << 22], proof[1 << 20], text[1 << 16], other[1 << 20], whole[1 << 16];
+static size_t whole_size;
 
 static size_t content(char *at, size_t room, const char *name, const char *ending)
 {
@@ -79,6 +81,8 @@ static int call(int kind, size_t n, size_t m)
         return -1;
     if (met < refused)
         return status == MEZULOBU_DONE ? 0 : -1;
+    if (kind == EXPLAINS && status == MEZULOBU_DONE)
+        return size == whole_size && !memcmp(text, whole, size) ? 1 : -1;
     return status == MEZULOBU_NO_MEMORY && !size && (kind != RUNS || !other_size) && is_empty(text, 512) && is_empty(other, 512) ? 1 : -1;
 }
 
@@ -125,6 +129,8 @@ int main(int count, char **names)
         size_t n = content(script, sizeof script, names[i], ".json"), m = content(proof, sizeof proof, names[i], ".proof");
         for (int kind = RUNS; kind < (i <= EXPLAINED ? KINDS : EXPLAINS); kind++) {
             int came = 1;
+            whole_size = sizeof whole;
+            mezulobu_explain(script, n, "a.json", false, whole, &whole_size);
             for (refused = 1; came == 1; refused++)
                 came = call(kind, n, m);
             if (came) {

@@ -1,28 +1,18 @@
 -- What the reading of a script gives is what is told of it.
-use Rattle.std.proofs.Common.{◌≡◌, ℕ, List, Bool, true, Option, Some, None, Result, Ok, Err, refl, subst}
+use Rattle.std.proofs.Common.{◌≡◌, ℕ, List, Bool, true, Option, Some, None, Result, Ok, Err, refl}
 use Rattle.std.specs.Prelude.{IfOk}
 use Rattle.std.specs.declared.alloc.AllocError.{AllocError}
 use Rattle.serde_json.specs.Data.{Data}
-use Rattle.serde_json.specs.View.{view}
-use Rattle.serde_json.specs.declared.value.Value.{Value}
-use Rattle.script_reading.specs.Faults.{GivesOneOf}
-use Rattle.script_reading.specs.declared.fault.ParseFault.{ParseFault}
-use Rattle.script_reading.specs.declared.fault.ParseFault.TheVariants.{Refused}
 use Rattle.script_reading.specs.declared.fault.ScriptFault.{ScriptFault}
 use Rattle.script_reading.specs.Text.{Outcome, too_long, not_json, spelled, IsValue}
 use Rattle.script_run.specs.Outcome.{refused}
 use Rattle.mezulobu.specs.Explains.{ExplanationSays, explains, warns, shows_fault, HasFault, IsFaultOf}
 
-no_value : (bytes : List ℕ) (fault : ScriptFault) → Outcome IsValue bytes (Err fault) → HasFault bytes (Some fault)
-no_value bytes _ (too_long long) = too_long long
-no_value bytes _ (not_json short none) = not_json short none
-no_value bytes fault (spelled value short json _ said) = absurd (cc)
-
 -- bytes that spell no value
-pub fault_unspelled : (bytes : List ℕ) (field : ParseFault) (fault : ScriptFault) → GivesOneOf {X = Value} {A = Data} view (Err field) (Outcome IsValue bytes) → field ≡ Refused fault
-    → HasFault bytes (Some fault)
-fault_unspelled bytes field fault gives is =
-    no_value bytes fault (subst (λ (f : ParseFault). GivesOneOf {X = Value} {A = Data} view (Err f) (Outcome IsValue bytes)) is gives)
+pub fault_unspelled : (bytes : List ℕ) (fault : ScriptFault) → Outcome IsValue bytes (Err fault) → HasFault bytes (Some fault)
+fault_unspelled bytes _ (too_long long) = too_long long
+fault_unspelled bytes _ (not_json short none) = not_json short none
+fault_unspelled bytes fault (spelled value short json _ said) = absurd (cc)
 
 of_value : (bytes : List ℕ) (d : Data) (read : Result Data ScriptFault) (fault : Option ScriptFault) → read ≡ Ok d → Outcome IsValue bytes read → IsFaultOf d fault → HasFault bytes fault
 of_value bytes d _ fault e (too_long long) said = absurd (cc)

@@ -40,6 +40,7 @@ pub(crate) fn explanation_told(
 }
 
 /// The first fault of a script, if it has one. It fails where memory is refused.
+#[tactic(auto, using(crate::proofs::Explanations::fault_unspelled))]
 fn fault_of(alloc: Global, script: &[u8]) -> Result<Option<ScriptFault>, AllocError>
     ensures { IfOk result (HasFault script.now) }
 {
