@@ -20,7 +20,7 @@ proved:
 test:
 	RT_JOBS=$(JOBS) rt ci
 
-# Tests of the proved program as a whole (they need a C compiler and Python): reports, refusals, records, worked values, small trees beside each of their selections, certificates and their checks, files that fail, each allocation refused in turn, scripts played through handles, scripts on threads, and explanations.
+# Tests of the proved program as a whole (they need a C compiler and Python): reports, in lines and as objects, refusals, records, worked values, small trees beside each of their selections, certificates and their checks, files that fail, each allocation refused in turn, scripts played through handles, scripts on threads, and explanations.
 program-test: proved
 	@$(MAKE) --no-print-directory built-test
 
@@ -28,6 +28,7 @@ program-test: proved
 built-test:
 	docs/definitions --check
 	tests/reports
+	tests/json_reports
 	tests/refusals
 	tests/records
 	tests/values
@@ -63,5 +64,6 @@ wrong-bodies:
 bench: proved
 	cd crates/repeated_decisions && rt run -- data/groups_share_nv12.json read,search,together,add,settle,prove,check,write,serialise 3
 	bench/run
+	bench/library
 	bench/trees
 	bench/certificates

@@ -7,6 +7,7 @@ uint32_t mezulobu_rt_run(const uint8_t *, size_t, uint8_t *, size_t, size_t *);
 uint32_t mezulobu_rt_run_with_proof(const uint8_t *, size_t, uint8_t *, size_t, size_t *, uint8_t *, size_t, size_t *);
 uint32_t mezulobu_rt_check(const uint8_t *, size_t, const uint8_t *, size_t, uint8_t *, size_t, size_t *);
 uint32_t mezulobu_rt_check_status(const uint8_t *, size_t, const uint8_t *, size_t);
+uint32_t mezulobu_rt_explain(const uint8_t *, size_t, const uint8_t *, size_t, bool, uint8_t *, size_t, size_t *);
 uint32_t mezulobu_rt_planes(uint32_t, uint64_t, uint32_t, uint32_t, struct mezulobu_layout *);
 uint32_t mezulobu_rt_negotiate(const struct mezulobu_platform *, const struct mezulobu_participant *, size_t,
                                struct mezulobu_settings *, struct mezulobu_refusal *);
@@ -45,6 +46,17 @@ int mezulobu_check(const void *script, size_t script_size, const void *certifica
     if (!text_size)
         return (int)mezulobu_rt_check_status(in, script_size, proof, certificate_size);
     return (int)mezulobu_rt_check(in, script_size, proof, certificate_size, out, *text_size, text_size);
+}
+
+int mezulobu_explain(const void *script, size_t script_size, const char *file, bool is_strict, char *text, size_t *text_size)
+{
+    uint8_t none[2];
+    if (lacks(script, script_size) || !text_size || lacks_room(text, text_size))
+        return MEZULOBU_MISUSED;
+    const uint8_t *in = script ? script : &none[0];
+    uint8_t *out = text ? (uint8_t *)text : &none[1];
+    const char *name = file ? file : "script";
+    return (int)mezulobu_rt_explain(in, script_size, (const uint8_t *)name, strlen(name), is_strict, out, *text_size, text_size);
 }
 
 int mezulobu_planes(uint32_t format, uint64_t modifier, uint32_t pitch, uint32_t height, struct mezulobu_layout *layout)

@@ -17,7 +17,7 @@
 extern "C" {
 #endif
 
-#define MEZULOBU_VERSION 0x00010000u /* major 16 bits, minor 16 bits */
+#define MEZULOBU_VERSION 0x00010001u /* major 16 bits, minor 16 bits */
 
 /* What a call answers: the exit status that the program has of the same, and 2 and 5 for what only a caller can get wrong. */
 enum mezulobu_status {
@@ -26,7 +26,7 @@ enum mezulobu_status {
     MEZULOBU_REFUSED = 3,   /* the script or the certificate is refused, or a struct */
     MEZULOBU_NO_MEMORY = 4, /* memory was refused, to all of it or to a decision */
     MEZULOBU_TOO_SMALL = 5, /* a buffer is too small; each size says what is needed */
-    MEZULOBU_NO = 6         /* a check: no; a negotiation: no settings meet everybody */
+    MEZULOBU_NO = 6         /* a check: no; a strict explanation: not all went well; a negotiation: no settings meet everybody */
 };
 
 /* ---- Bytes in, bytes out ------------------------------------------------------------------------------------------
@@ -51,6 +51,13 @@ int mezulobu_run(const void *script, size_t script_size,
 int mezulobu_check(const void *script, size_t script_size,
                    const void *certificate, size_t certificate_size,
                    char *text, size_t *text_size);
+
+/* Explains a script: where it has a fault, why calls were refused, who is awaited, what decided each value of a choice, and who
+ * is in the way. At DONE text says what it means, and at REFUSED what its first fault is and where. Where is_strict is true the
+ * status is NO, with the same text, where a call was refused or a domain isn't chosen. file is a name that ends with a 0, which
+ * stands before lines and columns; where it is null that is "script", and what of it is no UTF-8 is replaced. */
+int mezulobu_explain(const void *script, size_t script_size, const char *file, bool is_strict,
+                     char *text, size_t *text_size);
 
 /* ---- A list of participants, without a script -----------------------------------------------------------------------
  *

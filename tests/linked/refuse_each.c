@@ -1,5 +1,6 @@
-// refuse_each NAME ..: runs each NAME.json with its certificate, checks that, and negotiates two lists, while one allocation after the other
-// is refused: the status is NO_MEMORY, no text and no settings are written, and nothing stays allocated. The last line is 'N passed, M failed'.
+// refuse_each NAME ..: runs each NAME.json with its certificate, checks that, negotiates two lists, and explains the first scripts, while one allocation after
+// the other is refused: the status is NO_MEMORY, no text and no settings are written, and nothing stays allocated. An explanation can do without some room: then
+// its text is whole. The last line is 'N passed, M failed'.
 #include "mezulobu.h"
 #include <stdio.h>
 #include <stdlib.h>
@@ -38,7 +39,11 @@ void free(void *at)
     __libc_free(at);
 }
 
-static char script[1 << 22], proof[1 << 20], text[1 << 16], other[1 << 20];
+// How many of the scripts are explained: such a call takes some thousands of allocations.
+enum { RUNS, CHECKS, EXPLAINS, KINDS, EXPLAINED = 4 };
+
+static char script[1 << 22], proof[1 << 20], text[1 << 16], other[1 << 20], whole[1 << 16];
+static size_t whole_size;
 
 static size_t content(char *at, size_t room, const char *name, const char *ending)
 {
@@ -61,20 +66,24 @@ static int is_empty(const char *at, size_t room)
 }
 
 // One call while an allocation is refused, if the call comes to it; -1 where something is wrong, else whether it came to it.
-static int call(int checks, size_t n, size_t m)
+static int call(int kind, size_t n, size_t m)
 {
     size_t size = sizeof text, other_size = sizeof other;
     memset(text, 0, 512);
     memset(other, 0, 512);
     met = held = 0;
     counts = 1;
-    int status = checks ? mezulobu_check(script, n, proof, m, text, &size) : mezulobu_run(script, n, text, &size, other, &other_size);
+    int status = kind == CHECKS ? mezulobu_check(script, n, proof, m, text, &size)
+        : kind == EXPLAINS ? mezulobu_explain(script, n, "a.json", false, text, &size)
+        : mezulobu_run(script, n, text, &size, other, &other_size);
     counts = 0;
     if (held)
         return -1;
     if (met < refused)
         return status == MEZULOBU_DONE ? 0 : -1;
-    return status == MEZULOBU_NO_MEMORY && !size && (checks || !other_size) && is_empty(text, 512) && is_empty(other, 512) ? 1 : -1;
+    if (kind == EXPLAINS && status == MEZULOBU_DONE)
+        return size == whole_size && !memcmp(text, whole, size) ? 1 : -1;
+    return status == MEZULOBU_NO_MEMORY && !size && (kind != RUNS || !other_size) && is_empty(text, 512) && is_empty(other, 512) ? 1 : -1;
 }
 
 static const struct mezulobu_heap heaps[] = {{.cpu = true}, {.contiguous = true, .cpu = true, .ram = true}};
@@ -118,10 +127,12 @@ int main(int count, char **names)
     }
     for (int i = 1; i < count; i++) {
         size_t n = content(script, sizeof script, names[i], ".json"), m = content(proof, sizeof proof, names[i], ".proof");
-        for (int checks = 0; checks < 2; checks++) {
+        for (int kind = RUNS; kind < (i <= EXPLAINED ? KINDS : EXPLAINS); kind++) {
             int came = 1;
+            whole_size = sizeof whole;
+            mezulobu_explain(script, n, "a.json", false, whole, &whole_size);
             for (refused = 1; came == 1; refused++)
-                came = call(checks, n, m);
+                came = call(kind, n, m);
             if (came) {
                 failed++;
                 printf("library: another answer: %s: allocation %ld refused\n", names[i], refused - 1);

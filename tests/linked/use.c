@@ -1,4 +1,4 @@
-// use NAME ..: runs and checks each NAME.json through the library: its report and certificate are NAME.out and NAME.proof, in
+// use NAME ..: runs, checks and explains each NAME.json through the library: its report and certificate are NAME.out and NAME.proof, in
 // buffers of every length. Then four threads with 200 calls each. The last line is 'N passed, M failed'.
 #include "mezulobu.h"
 #include <pthread.h>
@@ -145,6 +145,36 @@ static void try_script(const char *name, struct job *j)
         expect(answers(j, "[]", 2, MEZULOBU_DONE, "yes 0\n", 64), name, "no decision");
 }
 
+// An explanation in a buffer of this room is this text, with this status.
+static int explains(const struct job *j, struct bytes wanted, int wanted_status, size_t room)
+{
+    char *text = marked(room);
+    size_t size = room;
+    int status = mezulobu_explain(j->script.at, j->script.size, "a.json", true, text, &size);
+    int fits = room >= wanted.size;
+    int good = size == wanted.size && status == (fits ? wanted_status : MEZULOBU_TOO_SMALL);
+    good = good && (!fits || !memcmp(text, wanted.at, size)) && is_marked(text, fits ? size : 0, room + MORE);
+    free(text);
+    return good;
+}
+
+// What explain.py compares with the program's text, in buffers of other lengths: each of the ends and some between.
+static void try_explanation(const char *name, const struct job *j)
+{
+    struct bytes wanted = {NULL, 0};
+    int good = mezulobu_explain(j->script.at, j->script.size, "a.json", true, NULL, &wanted.size) == MEZULOBU_TOO_SMALL;
+    wanted.at = marked(wanted.size);
+    int status = mezulobu_explain(j->script.at, j->script.size, "a.json", true, wanted.at, &wanted.size);
+    good = good && (status == MEZULOBU_DONE || status == MEZULOBU_NO);
+    for (size_t room = 0; room <= wanted.size + 1; room += room < 4 || room + 4 > wanted.size ? 1 : wanted.size / 12)
+        good = good && explains(j, wanted, status, room);
+    for (size_t less = 1; less <= 3; less++)
+        good = good && explains(j, wanted, status, wanted.size - less);
+    good = good && explains(j, wanted, status, wanted.size) && explains(j, wanted, status, wanted.size + 1);
+    expect(good, name, "an explanation in buffers of many lengths");
+    free(wanted.at);
+}
+
 static void *call_again(void *at)
 {
     struct job *j = at;
@@ -172,6 +202,17 @@ static void try_threads(const char *name, const struct job *j)
     expect(!wrong, name, "four threads with 200 calls each");
 }
 
+// What is explained where a script is refused: it begins so, and has a line of the file of this name.
+static int shows(const char *script, const char *file, const char *first, const char *line)
+{
+    char text[4096];
+    size_t size = sizeof text - 1;
+    if (mezulobu_explain(script, strlen(script), file, false, text, &size) != MEZULOBU_REFUSED)
+        return 0;
+    text[size] = 0;
+    return !strncmp(text, first, strlen(first)) && strstr(text, line);
+}
+
 // What is refused, and what is misused.
 static void try_refusals(const struct job *j)
 {
@@ -189,7 +230,12 @@ static void try_refusals(const struct job *j)
     expect(status == MEZULOBU_REFUSED && size == strlen(refused) && !proof_size, "no bytes", "are no script");
     status = mezulobu_check("{", 1, "[]", 2, text, (size = sizeof text, &size));
     expect(status == MEZULOBU_REFUSED && size == strlen(refused) && !memcmp(text, refused, size), "{", "words of a refusal in a check");
-    int good = mezulobu_run(NULL, 1, text, &size, NULL, NULL) == MEZULOBU_MISUSED;
+    int good = shows("{", NULL, "script refused: Q2", "script:1:") && shows("{", "dir/a b.json", "script refused: Q2", "dir/a b.json:1:");
+    expect(good && shows("{", "\xff.json", "script refused: Q2", "\xef\xbf\xbd.json:1:"), "{", "an explanation of a refusal");
+    good = mezulobu_run(NULL, 1, text, &size, NULL, NULL) == MEZULOBU_MISUSED;
+    good = good && mezulobu_explain(NULL, 1, "a", false, text, &size) == MEZULOBU_MISUSED;
+    good = good && mezulobu_explain("{", 1, "a", false, text, NULL) == MEZULOBU_MISUSED;
+    good = good && mezulobu_explain("{", 1, "a", false, NULL, (size = 1, &size)) == MEZULOBU_MISUSED;
     good = good && mezulobu_run(j->script.at, j->script.size, text, NULL, NULL, NULL) == MEZULOBU_MISUSED;
     good = good && mezulobu_run(j->script.at, j->script.size, NULL, (size = 1, &size), NULL, NULL) == MEZULOBU_MISUSED;
     good = good && mezulobu_run(j->script.at, j->script.size, text, &size, text, NULL) == MEZULOBU_MISUSED;
@@ -211,6 +257,7 @@ int main(int count, char **names)
     for (int i = 1; i < count; i++) {
         struct job j = {content(names[i], ".json"), content(names[i], ".out"), content(names[i], ".proof"), 0};
         try_script(names[i], &j);
+        try_explanation(names[i], &j);
         if (i == 1)
             first = j;
         else {

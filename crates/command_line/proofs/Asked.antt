@@ -24,7 +24,7 @@ check_shape : Shape
 check_shape = built_leaf (inherited (with_leaf_noted (marked_built replay_app.top)) check_app.top)
 
 abbrev IsAskedRun : Text × List Row → Type 0
-IsAskedRun e = (file : Text) × (proof : Option Text) × IsRunOf e file proof
+IsAskedRun e = (file : Text) × (is_json : Bool) × (proof : Option Text) × IsRunOf e file is_json proof
 
 abbrev IsAskedThreads : Text × List Row → Type 0
 IsAskedThreads e = (file : Text) × IsThreadsOf e file
@@ -79,7 +79,8 @@ unfolding run_shape
 run_asked words none =
     let given = file_given (rows_after run_shape.rules [] words) (level_parts run_shape [] words false [] none).1 in
     let read = given_is_read (codes "FILE") (rows_after run_shape.rules [] words) (each_has_value run_shape words [] refl none) given in
-    (read.0, first_of (codes "proof") (rows_after run_shape.rules [] words), (refl, read.1, refl))
+    let rows = rows_after run_shape.rules [] words in
+    (read.0, flag_of (codes "json") rows, first_of (codes "proof") rows, (refl, read.1, refl, refl))
 
 -- the words after `threads` give FILE
 threads_asked : (words : List Text) → level_fault threads_shape [] nothing_held words false [] ≡ [] → IsAskedThreads (rows_at threads_shape words)
@@ -148,7 +149,7 @@ job_asked words none =
 -- entries that ask for no job are none of those
 pub none_asked : (o : Option (Text × List Row)) → IfSome o AsksForNone → IsSomeAnd o IsAsked → ⊥
 none_asked None h asked = asked
-none_asked (Some e) h (inl run) = h.run run.0 run.1 run.2
+none_asked (Some e) h (inl run) = h.run run.0 run.1 run.2 run.3
 none_asked (Some e) h (inr (inl threads)) = h.threads threads.0 threads.1
 none_asked (Some e) h (inr (inr (inl explain))) = h.explain explain.0 explain.1 explain.2 explain.3
 none_asked (Some e) h (inr (inr (inr check))) = h.check check.0 check.1 check.2

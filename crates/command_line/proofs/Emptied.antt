@@ -25,8 +25,8 @@ explain_or_check : codes "explain" ≡ codes "check" → ⊥
 explain_or_check e = absurd (cc)
 
 not_emptied : (entries : Text × List Row) (job : Job) → AsksForJob entries job → ¬ IsOneFile job → ¬ EmptiesScript entries
-not_emptied entries (Run file proof) asks apart h = elim h.writes [
-  | inl run ↦ apart (sym asks.2 ∙ run.1 ∙ sym h.reads ∙ asks.1)
+not_emptied entries (Run file is_json proof) asks apart h = elim h.writes [
+  | inl run ↦ apart (sym asks.3 ∙ run.1 ∙ sym h.reads ∙ asks.1)
   | inr explain ↦ run_or_explain (sym asks.0 ∙ explain.0)
 ]
 not_emptied entries (Threads file) asks apart h = elim h.writes [

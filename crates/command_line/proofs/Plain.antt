@@ -95,12 +95,12 @@ no_level_fault file plain =
     ap (λ faults. level faults (walked run_shape.rules [] (walk_from nothing_held) file)) (no_turn_fault file plain)
     ∙ (ap (level []) (walked_plain file plain) ∙ no_fault_after file)
 
--- the words have no fault, and ask for a run of this file without a certificate
+-- the words have no fault, and ask for a run of this file without a certificate, in lines
 pub plain_fault : (file : Text) → strip_byte 45 file ≡ None → fault_of replay_app (codes "run" ∷ file ∷ []) ≡ []
 unfolding run_shape walked walk_fault defaults_fault
 plain_fault file plain = ap (λ faults. or_else faults []) (no_level_fault file plain)
 
-pub plain_asked : (file : Text) → strip_byte 45 file ≡ None → IsSomeAnd (subcommand_of replay_app (codes "run" ∷ file ∷ [])) (λ e. IsRunOf e file None)
+pub plain_asked : (file : Text) → strip_byte 45 file ≡ None → IsSomeAnd (subcommand_of replay_app (codes "run" ∷ file ∷ [])) (λ e. IsRunOf e file false None)
 unfolding run_shape walked
 plain_asked file plain =
-    subst (λ w. IsRunOf (codes "run", finished run_shape.rules w.held) file None) (sym (walked_plain file plain)) (refl, refl, refl)
+    subst (λ w. IsRunOf (codes "run", finished run_shape.rules w.held) file false None) (sym (walked_plain file plain)) (refl, refl, refl, refl)

@@ -27,9 +27,13 @@ proof_rule = record (new_rule (codes "proof")) {
 abbrev pub new_flag : Text → Rule
 new_flag name = record (new_rule name) { long = Some name; action = Some SetTrue }
 
--- run FILE [--proof OUT]
+-- --json, which may be left out
+abbrev pub json_rule : Rule
+json_rule = new_flag (codes "json")
+
+-- run FILE [--json] [--proof OUT]
 abbrev pub run_app : App
-run_app = with_rule (with_rule (new_app (codes "run")) file_rule) proof_rule
+run_app = with_rule (with_rule (with_rule (new_app (codes "run")) file_rule) json_rule) proof_rule
 
 -- threads FILE
 abbrev pub threads_app : App
@@ -88,10 +92,11 @@ replay_app = with_subcommand tellers_app check_app.top
 abbrev pub flag_of : Text → List Row → Bool
 flag_of name rows = option_map_or (λ t. bytes_eq t (codes "true")) (first_of name rows) false
 
--- a subcommand's name and entries are `run`, this FILE, and this OUT or none
-abbrev pub IsRunOf : Text × List Row → Text → Option Text → Type 0
-IsRunOf entries file proof =
+-- a subcommand's name and entries are `run`, this FILE, whether JSON is asked for, and this OUT or none
+abbrev pub IsRunOf : Text × List Row → Text → Bool → Option Text → Type 0
+IsRunOf entries file is_json proof =
     (entries.0 ≡ codes "run") × (first_of (codes "FILE") entries.1 ≡ Some file)
+    × (flag_of (codes "json") entries.1 ≡ is_json)
     × (first_of (codes "proof") entries.1 ≡ proof)
 
 -- they are `threads` and this FILE
@@ -113,14 +118,14 @@ IsCheckOf entries file proof =
 
 -- they are this job, its files and its flags
 abbrev pub AsksForJob : Text × List Row → Job → Type 0
-AsksForJob entries (Run file proof) = IsRunOf entries file.now (option_map (λ s. s.now) proof)
+AsksForJob entries (Run file is_json proof) = IsRunOf entries file.now is_json (option_map (λ s. s.now) proof)
 AsksForJob entries (Threads file) = IsThreadsOf entries file.now
 AsksForJob entries (Explain file page is_strict) = IsExplainOf entries file.now (option_map (λ s. s.now) page) is_strict
 AsksForJob entries (Check file proof) = IsCheckOf entries file.now proof.now
 
 -- they are no job's
 pub record AsksForNone (entries : Text × List Row) : Type 0 where
-  pub run : (file : Text) (proof : Option Text) → ¬ IsRunOf entries file proof
+  pub run : (file : Text) (is_json : Bool) (proof : Option Text) → ¬ IsRunOf entries file is_json proof
   pub threads : (file : Text) → ¬ IsThreadsOf entries file
   pub explain : (file : Text) (page : Option Text) (is_strict : Bool) → ¬ IsExplainOf entries file page is_strict
   pub check : (file proof : Text) → ¬ IsCheckOf entries file proof
@@ -139,7 +144,7 @@ pub record EmptiesScript (entries : Text × List Row) : Type 0 where
 
 -- a job's certificate or page is to be written where its script stands
 abbrev pub IsOneFile : Job → Type 0
-IsOneFile (Run file proof) = option_map (λ s. s.now) proof ≡ Some file.now
+IsOneFile (Run file is_json proof) = option_map (λ s. s.now) proof ≡ Some file.now
 IsOneFile (Threads file) = ⊥
 IsOneFile (Explain file page is_strict) = option_map (λ s. s.now) page ≡ Some file.now
 IsOneFile (Check file proof) = ⊥

@@ -3,7 +3,7 @@ ghost use Rattle.std.specs.Prelude.{◌≡◌, Err, IfNone, IfOk, IfSome, IsSome
 ghost use Rattle.std.specs.Bool.{Decides};
 ghost use Rattle.clap.specs.Words.{FailsBy, app_of, fault_of, found_of, rows_of, rule_of, subcommand_of, subcommand_rows_of};
 ghost use Rattle.clap.specs.declared.builder.command.Command.TheViews.{out-Command as fields_of};
-ghost use Rattle.command_line.specs.CommandLine.{AsksForJob, AsksForNone, EmptiesScript, IsOneFile, IsPlainRun, IsRefusedBy, certificate_rule, check_app, explain_app, file_rule, flag_of, jobless_app, page_rule, players_app, proof_rule, replay_app, run_app, runs_app, strict_rule, tellers_app, threads_app};
+ghost use Rattle.command_line.specs.CommandLine.{AsksForJob, AsksForNone, EmptiesScript, IsOneFile, IsPlainRun, IsRefusedBy, certificate_rule, check_app, explain_app, file_rule, flag_of, jobless_app, json_rule, page_rule, players_app, proof_rule, replay_app, run_app, runs_app, strict_rule, tellers_app, threads_app};
 
 use clap::{Arg, ArgAction, ArgMatches, Command, Error};
 use std::alloc::{AllocError, Global};
@@ -11,9 +11,11 @@ use std::alloc::{AllocError, Global};
 /// What a command line asks for, with the files that it names.
 #[derive(Clone, Copy)]
 pub enum Job<'a> {
-    /// Replay a script and print its report; with `proof` also write its certificate there.
+    /// Replay a script and print its report, with `is_json` as JSON; with `proof` also write its
+    /// certificate there.
     Run {
         file: &'a str,
+        is_json: bool,
         proof: Option<&'a str>,
     },
     /// Replay a script with a thread for each of its actors.
@@ -88,7 +90,11 @@ fn job_asked<'a>(alloc: Global, words: &'a [String]) -> Result<Job<'a>, Error>
     ensures kinds { FailsBy (fault_of replay_app (map string_bytes words.entry.now)) result }
 {
     if let Some(file) = plain_run(words) {
-        return Ok(Job::Run { file, proof: None });
+        return Ok(Job::Run {
+            file,
+            is_json: false,
+            proof: None,
+        });
     }
     parse_words(alloc, words)
 }
@@ -131,7 +137,12 @@ fn job_in<'a>(matches: &ArgMatches<'a>) -> Option<Job<'a>>
         "run" => {
             let file = entries.get_str("FILE")?;
             let proof = entries.get_str("proof");
-            Some(Job::Run { file, proof })
+            let is_json = is_set(entries, "json");
+            Some(Job::Run {
+                file,
+                is_json,
+                proof,
+            })
         }
         "threads" => {
             let file = entries.get_str("FILE")?;
@@ -223,6 +234,7 @@ fn run_command<'a>(alloc: Global) -> Result<Command<'a>, AllocError>
     Command::new(alloc, "run")
         .about("Replays a script, and prints a line for each call and each decision")
         .arg(file_arg(alloc))?
+        .arg(json_arg(alloc))?
         .arg(out_arg(alloc))
 }
 
@@ -278,6 +290,17 @@ fn out_arg<'a>(alloc: Global) -> Arg<'a>
         .long("proof")
         .value_name("OUT")
         .help("Also writes the certificate of the decisions to OUT, which is emptied first")
+}
+
+/// The flag `--json`.
+fn json_arg<'a>(alloc: Global) -> Arg<'a>
+    ensures rule { rule_of result ≡ json_rule }
+    ensures local { result.global ≡ false }
+{
+    Arg::new(alloc, "json")
+        .long("json")
+        .action(ArgAction::SetTrue)
+        .help("Prints the report as JSON")
 }
 
 /// The flag `--strict`.

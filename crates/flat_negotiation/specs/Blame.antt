@@ -53,4 +53,4 @@ IsFieldOf platform ps stop NoOffer field = IsSomeAnd stop.shared (λ s. IsOfferF
 pub record IsBlamed (platform : PlatformFacts) (ps : List Participant) (refusal : Refusal) : Type 0 where
   pub unmet : IsUnmet true platform ps
   pub stop : IsStop platform ps refusal.stop
-  pub field : IfSome refusal.field (IsFieldOf platform ps refusal.stop refusal.stop.reason)
+  pub field : IsFieldOf platform ps refusal.stop refusal.stop.reason refusal.field

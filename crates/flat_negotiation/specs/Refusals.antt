@@ -98,14 +98,9 @@ abbrev pub with_shared : Option Settings → FlatRefusal → FlatRefusal
 with_shared None r = r
 with_shared (Some s) r = with_offer s.offer (record r { heap = s.place.heap; coherency = domain_code s.place.coherency })
 
--- the number of a field, or 0
-abbrev pub number_of : Option Field → ℕ
-number_of None = 0
-number_of (Some f) = field_number f
-
 -- what is told where no settings meet them
 abbrev pub unmet_refusal : ℕ → Refusal → FlatRefusal
-unmet_refusal size r = with_shared r.stop.shared (refusal_with size (kind_of r.stop.reason) (if r.stop.whole then nobody else r.stop.who) 0 (number_of r.field))
+unmet_refusal size r = with_shared r.stop.shared (refusal_with size (kind_of r.stop.reason) (if r.stop.whole then nobody else r.stop.who) 0 (field_number r.field))
 
 -- what is told of why there are no settings
 abbrev pub flat_refusal : ℕ → Unsettled → FlatRefusal

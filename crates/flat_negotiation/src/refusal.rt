@@ -3,7 +3,7 @@
 ghost use Rattle.std.specs.Option.{unwrap_or};
 ghost use Rattle.std.specs.Prelude.{◌≡◌};
 ghost use Rattle.drm_images.specs.Codes.{fourcc};
-ghost use Rattle.flat_negotiation.specs.Refusals.{field_number, flat_refusal, kind_of, number_of, refusal_with, unmet_refusal, with_offer, with_shared};
+ghost use Rattle.flat_negotiation.specs.Refusals.{field_number, flat_refusal, kind_of, refusal_with, unmet_refusal, with_offer, with_shared};
 
 use crate::flat::FlatRefusal;
 use crate::unsettled::{Refusal, Unsettled};
@@ -20,15 +20,6 @@ fn field_number(field: Field) -> u32
     ensures { result ≡ field_number field }
 {
     field as u32 + 1
-}
-
-fn number_of(field: Option<Field>) -> u32
-    ensures { result ≡ number_of field }
-{
-    match field {
-        Some(field) => field_number(field),
-        None => 0,
-    }
 }
 
 fn refusal_with(struct_size: usize, kind: u32, who: usize, index: usize, field: u32) -> FlatRefusal
@@ -105,7 +96,7 @@ fn unmet_refusal(struct_size: usize, refusal: &Refusal) -> FlatRefusal
     let stop = refusal.stop;
     let who = if stop.whole { NOBODY } else { stop.who };
     let kind = kind_of(stop.reason);
-    let field = number_of(refusal.field);
+    let field = field_number(refusal.field);
     with_shared(stop.shared, refusal_with(struct_size, kind, who, 0, field))
 }
 

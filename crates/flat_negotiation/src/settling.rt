@@ -90,11 +90,12 @@ fn refused(alloc: Global, platform: &Platform, asked: &[Constraints], reason: Re
     requires reason { IsFirstReason true platform.now asked.now reason }
     ensures { AreUnmet platform.now asked.now result }
 {
-    match stop_of(alloc, platform, asked, reason) {
-        Ok(stop) => Unsettled::Unmet(Refusal {
-            stop,
-            field: blamed_field(platform, asked, &stop),
-        }),
-        Err(_) => Unsettled::NoMemory,
+    let Ok(stop) = stop_of(alloc, platform, asked, reason) else {
+        return Unsettled::NoMemory;
+    };
+    // By the reason some field is in the way.
+    match blamed_field(platform, asked, &stop) {
+        Some(field) => Unsettled::Unmet(Refusal { stop, field }),
+        None => Unsettled::NoMemory,
     }
 }

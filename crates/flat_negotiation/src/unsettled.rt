@@ -24,7 +24,7 @@ pub struct Stop {
 #[derive(Clone, Copy, Debug)]
 pub struct Refusal {
     pub stop: Stop,
-    pub field: Option<Field>,
+    pub field: Field,
 }
 
 /// Why there are no settings.

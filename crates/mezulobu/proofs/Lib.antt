@@ -1,2 +1,3 @@
 mod Endings
+mod Explanations
 mod Sayings

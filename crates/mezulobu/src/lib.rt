@@ -1,20 +1,23 @@
-//! The negotiator for C: the bytes of a script in, the bytes of its report and of its certificate out; and a list of participants
-//! as structs in, their settings as a struct out.
+//! The negotiator for C: the bytes of a script in, the bytes of its report and of its certificate out, or of what it means in words;
+//! and a list of participants as structs in, their settings as a struct out.
 //!
 //! `c/mezulobu.c` is what a program calls: it turns null pointers into what these functions take.
 #![tactic(auto)]
 
 mod buffer;
+mod explained;
 mod told;
 mod words;
 
 ghost use Rattle.std.specs.Prelude.{◌≡◌, ◌⊎◌, ℕ, List};
 ghost use Rattle.mezulobu.specs.Ends.{Ends, EndsBoth};
 ghost use Rattle.flat_parts.specs.Layout.{IsLayout, IsNoLayout};
+ghost use Rattle.mezulobu.specs.Explains.{ExplanationSays};
 ghost use Rattle.mezulobu.specs.Negotiated.{Negotiates, status_of};
 ghost use Rattle.mezulobu.specs.Says.{CheckSays, ProvedRunSays, RunSays};
 
 use crate::buffer::{hand_out, hand_out_both};
+use crate::explained::explanation_told;
 use crate::told::{check_told, proved_run_told, run_told};
 use flat_negotiation::{FlatRefusal, FlatSettings, Unsettled, negotiate, refusal_of, settings_of};
 use flat_parts::{FlatLayout, FlatParticipant, FlatPlatform, layout_of};
@@ -111,6 +114,31 @@ pub extern "C" fn mezulobu_rt_check_status(alloc: Global, script: &[u8], certifi
     match check_told(alloc, script, certificate) {
         Ok(told) => told.status,
         Err(_) => NO_MEMORY,
+    }
+}
+
+/// Explains a script: the text says what it means, or where its first fault stands. The name of its file, in which bytes that are no UTF-8 are
+/// replaced, stands before lines and columns.
+#[unsafe(no_mangle)]
+pub extern "C" fn mezulobu_rt_explain(
+    alloc: Global,
+    script: &[u8],
+    file: &[u8],
+    is_strict: bool,
+    text: &mut [u8],
+    size: &mut usize,
+) -> u32
+    ensures { Ends (ExplanationSays script.now is_strict) text.old text.new size.new result }
+{
+    let Ok(told) = explanation_told(alloc, script, file, is_strict) else {
+        *size = 0;
+        return NO_MEMORY;
+    };
+    *size = told.text.len();
+    if hand_out(&told.text, text) {
+        told.status
+    } else {
+        TOO_SMALL
     }
 }
 

@@ -1,5 +1,6 @@
 //! `sysmem_replay run FILE` replays a script of calls on shared buffer collections and prints its
-//! report; with `--proof OUT` it also writes the certificate of its decisions.
+//! report, with `--json` as an object of JSON for each line; with `--proof OUT` it also writes the
+//! certificate of its decisions.
 //! `sysmem_replay threads FILE` replays it with a thread for each actor, and prints what became of
 //! each domain.
 //! `sysmem_replay explain FILE` says what a script means: where it has a fault, or what its report
@@ -16,6 +17,7 @@ pub use command_line::{Job, Refusal, read_words};
 pub use explain::{Outcome, explain_file};
 pub use explanation_page::{explain_to_page, explained_ending};
 use refusal::refusal_ending;
+pub use report_json::{run_as_json, run_as_json_with_proof};
 pub use script_run::{
     Ended, Ending, RunFault, check_file, ending_of, run, run_leaving, run_with_proof,
 };
@@ -57,7 +59,14 @@ fn given_words(rt: &HostRuntime) -> Result<Vec<String>, Ending> {
 /// Does what the words ask for; only `threads` starts any.
 fn obey<T: Threads + Wait + Sync>(rt: &HostRuntime, threads: &T, words: &[String]) -> Ending {
     match read_words(rt.alloc(), words) {
-        Ok(Job::Run { file, proof }) => ending_of(run_file(rt, file, proof)),
+        Ok(
+            Job::Run {
+                file,
+                is_json: true,
+                proof,
+            },
+        ) => ending_of(tell_file(rt, file, proof)),
+        Ok(Job::Run { file, proof, .. }) => ending_of(run_file(rt, file, proof)),
         Ok(Job::Threads { file }) => ending_of(play_file(rt, threads, file)),
         Ok(
             Job::Explain {
@@ -114,6 +123,24 @@ fn run_last<R: Source, W: Sink>(
     let ended = run_leaving(alloc, reader, writer, &mut left);
     mem::forget(left);
     ended
+}
+
+/// Opens the script, then empties the certificate's file where one is asked for, replays, and writes
+/// the objects of the report.
+fn tell_file(rt: &HostRuntime, file: &str, proof: Option<&str>) -> Result<Ended, RunFault> {
+    let Ok(script) = File::open(rt, file) else {
+        return Err(RunFault::Read);
+    };
+    let mut reader = Counted::new(script);
+    let mut writer = Counted::new(io::writer(rt));
+    let Some(out) = proof else {
+        return run_as_json(rt.alloc(), &mut reader, &mut writer);
+    };
+    let Ok(certificate) = File::create(rt, out) else {
+        return Err(RunFault::Write);
+    };
+    let mut certificate = Counted::new(certificate);
+    run_as_json_with_proof(rt.alloc(), &mut reader, &mut writer, &mut certificate)
 }
 
 /// Opens the script, and replays it with a thread for each actor.

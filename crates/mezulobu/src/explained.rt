@@ -1,0 +1,90 @@
+//! What the bytes of a script mean, in words.
+
+ghost use Rattle.std.specs.Prelude.{ℕ, List, IfOk};
+ghost use Rattle.serde_json.specs.View.{view};
+ghost use Rattle.mezulobu.specs.Explains.{ExplanationSays, HasFault, IsFaultOf};
+
+use crate::told::Told;
+use explain::{Outcome, explain, text_of};
+use script_reading::{ParseFault, ScriptFault, parse_script, read_script};
+use serde_json::Value;
+use std::alloc::{AllocError, Global};
+
+const DONE: u32 = 0;
+
+const REFUSED: u32 = 3;
+
+const NO: u32 = 6;
+
+/// An explanation's text, and whether it tells of a call that was refused or of a domain that isn't chosen.
+#[derive(Drop)]
+struct Explained {
+    is_faulty: bool,
+    text: Vec<u8>,
+}
+
+/// What an explanation says; where it is strict, its status tells whether all went well. The file's name stands before lines and columns.
+/// It fails where memory is refused.
+pub(crate) fn explanation_told(
+    alloc: Global,
+    script: &[u8],
+    file: &[u8],
+    is_strict: bool,
+) -> Result<Told, AllocError>
+    ensures { IfOk result (λ told.
+        ExplanationSays script.now is_strict told.status told.text.items) }
+{
+    let fault = fault_of(alloc, script)?;
+    let explained = explained_of(alloc, script, file)?;
+    Ok(told_explained(fault, explained, is_strict))
+}
+
+/// The first fault of a script, if it has one. It fails where memory is refused.
+#[tactic(auto, using(crate::proofs::Explanations::fault_unspelled))]
+fn fault_of(alloc: Global, script: &[u8]) -> Result<Option<ScriptFault>, AllocError>
+    ensures { IfOk result (HasFault script.now) }
+{
+    match parse_script(alloc, script) {
+        Ok(value) => fault_in(alloc, &value),
+        Err(ParseFault::Refused(fault)) => Ok(Some(fault)),
+        Err(ParseFault::NoMemory) => Err(AllocError),
+    }
+}
+
+/// The first fault of a script's value, if it has one. It fails where memory is refused.
+fn fault_in(alloc: Global, value: &Value) -> Result<Option<ScriptFault>, AllocError>
+    ensures { IfOk result (IsFaultOf (view value.now)) }
+{
+    match read_script(alloc, value) {
+        Ok(_) => Ok(None),
+        Err(ParseFault::Refused(fault)) => Ok(Some(fault)),
+        Err(ParseFault::NoMemory) => Err(AllocError),
+    }
+}
+
+fn explained_of(alloc: Global, script: &[u8], file: &[u8]) -> Result<Explained, AllocError> {
+    let file = String::from_utf8_lossy(alloc, file)?;
+    let explanation = explain(alloc, file.as_str(), script)?;
+    let text = text_of(alloc, &explanation.items)?;
+    Ok(Explained {
+        is_faulty: explanation.outcome == Outcome::Faulty,
+        text: text.into_bytes(),
+    })
+}
+
+/// What is told of a script that has this fault, or none.
+#[tactic(auto, using(crate::proofs::Explanations::says_fault, crate::proofs::Explanations::says_no, crate::proofs::Explanations::says_done))]
+fn told_explained(fault: Option<ScriptFault>, explained: Explained, is_strict: bool) -> Told
+    ensures { (script : List ℕ) → HasFault script fault
+        → ExplanationSays script is_strict result.status result.text.items }
+{
+    let Explained { is_faulty, text } = explained;
+    match fault {
+        Some(_) => Told {
+            status: REFUSED,
+            text,
+        },
+        None if is_strict && is_faulty => Told { status: NO, text },
+        None => Told { status: DONE, text },
+    }
+}
