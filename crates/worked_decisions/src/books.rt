@@ -3,7 +3,7 @@
 use crate::attached::RELEASED;
 use crate::equal::is_equal;
 use crate::playing::{play, played, refusal, standings};
-use std::alloc::Global;
+use std::alloc::{AllocError, Global};
 use std::process::Abort;
 use std::test::Fail;
 use sysmem_alloc::{Book, Entry, Frozen};
@@ -36,7 +36,7 @@ fn stand(
     book: &Book,
     after: &str,
     wanted: &str,
-) -> Result<(), Fail> {
+) -> Result<(), AllocError> {
     let text = standings(alloc, book)?;
     is_equal(rt, after, &text.as_str(), &wanted);
     Ok(())
@@ -93,7 +93,8 @@ fn answers(rt: &impl Abort, alloc: Global, book: &mut Book) -> Result<(), Fail> 
     for (path, word, wanted) in ANSWERS {
         is_equal(rt, word, &refusal(alloc, book, path, word)?, &wanted);
     }
-    stand(rt, alloc, book, "all answers", "4: failed")
+    stand(rt, alloc, book, "all answers", "4: failed")?;
+    Ok(())
 }
 
 fn is_entered(rt: &impl Abort, book: &Book) {
@@ -130,7 +131,7 @@ fn decides_without_memory(rt: &impl Abort, book: &mut Book) {
 }
 
 // The root's release makes the initial domain ready, and it alone.
-fn is_decided_once(rt: &impl Abort, alloc: Global, book: &mut Book) -> Result<(), Fail> {
+fn is_decided_once(rt: &impl Abort, alloc: Global, book: &mut Book) -> Result<(), AllocError> {
     is_equal(rt, "ready before", &book.next_ready().is_none(), &true);
     is_equal(rt, "release", &release_root(book), &Some((true, true)));
     decides_without_memory(rt, book);
@@ -146,7 +147,8 @@ fn is_decided_once(rt: &impl Abort, alloc: Global, book: &mut Book) -> Result<()
 #[test]
 fn a_domain_without_memory_is_decided_once(rt: HostRuntime) -> Result<(), Fail> {
     let mut book = played(rt.alloc(), ATTACHED)?;
-    is_decided_once(&rt, rt.alloc(), &mut book)
+    is_decided_once(&rt, rt.alloc(), &mut book)?;
+    Ok(())
 }
 
 // How many nodes and heaps are frozen, whether of the initial domain, and whether with a base.

@@ -5,7 +5,7 @@ ghost use Rattle.std.specs.Prelude.{◌≤◌};
 use crate::equal::is_equal;
 use crate::finding::{search_frozen, tell_verdict};
 use crate::searches::{ROWS, Row, frozen};
-use std::alloc::Global;
+use std::alloc::{AllocError, Global};
 use std::process::Abort;
 use std::sync::atomic::{AtomicU64, Ordering};
 use std::test::Fail;
@@ -31,7 +31,7 @@ fn found_by<R: Threads + Sync, G: Gate + Sync>(
     frozen: &Frozen,
     gate: &G,
     workers: u32,
-) -> Result<Found, Fail>
+) -> Result<Found, AllocError>
     requires some { 1 ≤ workers }
     requires few { workers ≤ 64 }
 {
@@ -39,8 +39,7 @@ fn found_by<R: Threads + Sync, G: Gate + Sync>(
     let tree = frozen.tree();
     let domain = frozen.domain();
     let base = frozen.base();
-    let found = search_wide(rt, alloc, platform, tree, domain, base, gate, workers)?;
-    Ok(found)
+    search_wide(rt, alloc, platform, tree, domain, base, gate, workers)
 }
 
 // They find what was worked out by hand, and settle it as one search does.

@@ -3,7 +3,7 @@
 use crate::records::asked;
 use crate::steps::platform;
 use crate::values::rows::are_equal;
-use std::alloc::Global;
+use std::alloc::{AllocError, Global};
 use std::test::Fail;
 use sysmem_merge::{Aggregate, Reason, Settings};
 use sysmem_sanitise::{Constraints, Platform};
@@ -20,7 +20,7 @@ fn with_copy(
     platform: &Platform,
     first: &Constraints,
     second: &Constraints,
-) -> Result<[Result<Settings, Reason>; 4], Fail> {
+) -> Result<[Result<Settings, Reason>; 4], AllocError> {
     let mut source = Aggregate::new(alloc, platform)?;
     source.add(first)?;
     let copy = source.copy()?;
@@ -39,7 +39,7 @@ fn copies(alloc: Global) -> Result<[Result<Settings, Reason>; 4], Fail> {
     let platform = platform(alloc)?;
     let nv12 = asked(alloc, NV12)?;
     let r8 = asked(alloc, R8)?;
-    with_copy(alloc, &platform, &nv12, &r8)
+    Ok(with_copy(alloc, &platform, &nv12, &r8)?)
 }
 
 // A copy answers as its source; what is added to one isn't added to the other.

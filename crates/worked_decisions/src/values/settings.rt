@@ -3,7 +3,7 @@
 
 use crate::records::{asked, had};
 use crate::values::rows::are_equal;
-use std::alloc::Global;
+use std::alloc::{AllocError, Global};
 use std::process::Abort;
 use std::test::Fail;
 use sysmem_counts::Field;
@@ -43,7 +43,7 @@ fn best(
     first: &Constraints,
     second: &Constraints,
     whole: bool,
-) -> Result<Result<Settings, Reason>, Fail> {
+) -> Result<Result<Settings, Reason>, AllocError> {
     let mut aggregate = Aggregate::new(alloc, platform)?;
     aggregate.add(first)?;
     aggregate.add(second)?;
@@ -54,7 +54,7 @@ fn best(
 fn for_nobody(
     alloc: Global,
     platform: &Platform,
-) -> Result<(usize, Result<Settings, Reason>), Fail> {
+) -> Result<(usize, Result<Settings, Reason>), AllocError> {
     let aggregate = Aggregate::new(alloc, platform)?;
     let heaps = aggregate.platform().heaps().len();
     Ok((heaps, aggregate.best_settings(true)))
