@@ -20,7 +20,7 @@ proved:
 test:
 	RT_JOBS=$(JOBS) rt ci
 
-# Tests of the proved program as a whole (they need a C compiler and Python): reports, in lines and as objects, refusals, records, worked values, small trees beside each of their selections, certificates and their checks, files that fail, each allocation refused in turn, scripts played through handles, scripts on threads, and explanations.
+# Tests of the proved program as a whole (they need a C compiler and Python): reports, in lines and as objects, refusals, records, worked values, small trees beside each of their selections, participants in each order of their calls, certificates and their checks, files that fail, each allocation refused in turn, scripts played through handles, scripts on threads, and explanations.
 program-test: proved
 	@$(MAKE) --no-print-directory built-test
 
@@ -33,6 +33,7 @@ built-test:
 	tests/records
 	tests/values
 	tests/every_selection
+	tests/orders
 	tests/run_command
 	tests/certificates
 	tests/checks

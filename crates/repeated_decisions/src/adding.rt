@@ -92,7 +92,7 @@ fn selection_by(tree: &Tree, domain: DomainId, choices: &[u8]) -> Prefix
 }
 
 /// Takes a child of the next group; `false` where no group is left or it has no such child.
-fn choose(tree: &Tree, domain: DomainId, prefix: &mut Prefix, choice: u8) -> bool
+pub(crate) fn choose(tree: &Tree, domain: DomainId, prefix: &mut Prefix, choice: u8) -> bool
     requires domain { HasDomain tree.now.nodes domain }
     requires prefix { IsPrefix (forest_of by_number tree.now.nodes domain []) prefix.old }
     ensures { IsPrefix (forest_of by_number tree.now.nodes domain []) prefix.new }

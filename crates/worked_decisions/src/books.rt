@@ -3,7 +3,7 @@
 use crate::attached::RELEASED;
 use crate::equal::is_equal;
 use crate::playing::{play, played, refusal, standings};
-use std::alloc::Global;
+use std::alloc::{AllocError, Global};
 use std::process::Abort;
 use std::test::Fail;
 use sysmem_alloc::{Book, Entry, Frozen};
@@ -14,7 +14,7 @@ const ATTACHED: &str =
     "/ duplicate /0 bind cpu attach_token /0/0 bind attach_token cpu /0 attach_token";
 
 // What is played in turn, and how the domains stand then: a release in between changes no counts, a close fails four domains.
-const TURNS: [&[(&str, &str)]; 2] = [
+const TURNS: &[&[(&str, &str)]] = &[
     &[
         (RELEASED, "21: 9 9 > pending"),
         ("/ decide", "22: 9 9 empty"),
@@ -36,7 +36,7 @@ fn stand(
     book: &Book,
     after: &str,
     wanted: &str,
-) -> Result<(), Fail> {
+) -> Result<(), AllocError> {
     let text = standings(alloc, book)?;
     is_equal(rt, after, &text.as_str(), &wanted);
     Ok(())
@@ -70,7 +70,7 @@ fn how_domains_stand_by_turns(rt: HostRuntime) -> Result<(), Fail> {
 }
 
 // What an action is answered with, in turn, at its path.
-const ANSWERS: [(&str, &str, Option<Refusal>); 8] = [
+const ANSWERS: &[(&str, &str, Option<Refusal>)] = &[
     ("/", "cpu", Some(Refusal::WrongState)),
     ("/", "create_group", None),
     ("/0", "all_children_present", Some(Refusal::NoChildren)),
@@ -82,7 +82,7 @@ const ANSWERS: [(&str, &str, Option<Refusal>); 8] = [
 ];
 
 // What is entered of these.
-const ENTERED: [ActionKind; 4] = [
+const ENTERED: &[ActionKind] = &[
     ActionKind::CreateGroup,
     ActionKind::Duplicate,
     ActionKind::Close,
@@ -91,9 +91,10 @@ const ENTERED: [ActionKind; 4] = [
 
 fn answers(rt: &impl Abort, alloc: Global, book: &mut Book) -> Result<(), Fail> {
     for (path, word, wanted) in ANSWERS {
-        is_equal(rt, word, &refusal(alloc, book, path, word)?, &wanted);
+        is_equal(rt, word, &refusal(alloc, book, path, word)?, wanted);
     }
-    stand(rt, alloc, book, "all answers", "4: failed")
+    stand(rt, alloc, book, "all answers", "4: failed")?;
+    Ok(())
 }
 
 fn is_entered(rt: &impl Abort, book: &Book) {
@@ -130,7 +131,7 @@ fn decides_without_memory(rt: &impl Abort, book: &mut Book) {
 }
 
 // The root's release makes the initial domain ready, and it alone.
-fn is_decided_once(rt: &impl Abort, alloc: Global, book: &mut Book) -> Result<(), Fail> {
+fn is_decided_once(rt: &impl Abort, alloc: Global, book: &mut Book) -> Result<(), AllocError> {
     is_equal(rt, "ready before", &book.next_ready().is_none(), &true);
     is_equal(rt, "release", &release_root(book), &Some((true, true)));
     decides_without_memory(rt, book);
@@ -146,7 +147,8 @@ fn is_decided_once(rt: &impl Abort, alloc: Global, book: &mut Book) -> Result<()
 #[test]
 fn a_domain_without_memory_is_decided_once(rt: HostRuntime) -> Result<(), Fail> {
     let mut book = played(rt.alloc(), ATTACHED)?;
-    is_decided_once(&rt, rt.alloc(), &mut book)
+    is_decided_once(&rt, rt.alloc(), &mut book)?;
+    Ok(())
 }
 
 // How many nodes and heaps are frozen, whether of the initial domain, and whether with a base.

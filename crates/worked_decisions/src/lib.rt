@@ -13,8 +13,6 @@ mod finding;
 #[cfg(test)]
 mod fitting;
 #[cfg(test)]
-mod orders;
-#[cfg(test)]
 mod playing;
 #[cfg(test)]
 mod records;

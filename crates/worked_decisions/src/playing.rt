@@ -8,7 +8,7 @@ ghost use Rattle.sysmem_alloc.specs.State.{base_of, next_ready};
 ghost use Rattle.sysmem_tree.specs.Nodes.{HasNode};
 
 use crate::steps::{action, path, platform};
-use std::alloc::Global;
+use std::alloc::{AllocError, Global};
 use std::sync::Arc;
 use std::test::Fail;
 use sysmem_alloc::{Book, Frozen};
@@ -112,21 +112,20 @@ pub(crate) fn frozen_after(alloc: Global, script: &str) -> Result<Frozen, Fail> 
     }
 }
 
-fn tell_standing(text: &mut String, verdict: Option<&Verdict>) -> Result<(), Fail> {
+fn tell_standing(text: &mut String, verdict: Option<&Verdict>) -> Result<(), AllocError> {
     match verdict {
-        None => text.push_str(" pending")?,
-        Some(Verdict::Chosen(chosen)) => write!(text, " {}", chosen.settings().count)?,
-        Some(Verdict::IntersectionEmpty) => text.push_str(" empty")?,
-        Some(Verdict::Failed) => text.push_str(" failed")?,
-        Some(Verdict::NoMemory) => text.push_str(" no_memory")?,
-        Some(Verdict::TooMany) => text.push_str(" too_many")?,
+        None => text.push_str(" pending"),
+        Some(Verdict::Chosen(chosen)) => write!(text, " {}", chosen.settings().count),
+        Some(Verdict::IntersectionEmpty) => text.push_str(" empty"),
+        Some(Verdict::Failed) => text.push_str(" failed"),
+        Some(Verdict::NoMemory) => text.push_str(" no_memory"),
+        Some(Verdict::TooMany) => text.push_str(" too_many"),
     }
-    Ok(())
 }
 
-fn tell_domain(text: &mut String, book: &Book, index: u32) -> Result<(), Fail> {
+fn tell_domain(text: &mut String, book: &Book, index: u32) -> Result<(), AllocError> {
     let Some(domain) = book.tree().domain_at(index) else {
-        return Err(Fail::new("no domain of this index"));
+        return text.push_str(" no domain");
     };
     if book.next_ready() == Some(domain) {
         text.push_str(" >")?;
@@ -134,7 +133,7 @@ fn tell_domain(text: &mut String, book: &Book, index: u32) -> Result<(), Fail> {
     tell_standing(text, book.verdict_of(domain))
 }
 
-fn tell_standings(text: &mut String, book: &Book) -> Result<(), Fail> {
+fn tell_standings(text: &mut String, book: &Book) -> Result<(), AllocError> {
     write!(text, "{}:", book.history().len())?;
     for index in 0..book.tree().domains() {
         tell_domain(text, book, index)?;
@@ -144,7 +143,7 @@ fn tell_standings(text: &mut String, book: &Book) -> Result<(), Fail> {
 
 /// The number of entries, and how each domain stands, in order of creation of their roots: the number of its buffers, why it has
 /// none, or `pending`; before the one that is to be decided next stands `>`.
-pub(crate) fn standings(alloc: Global, book: &Book) -> Result<String, Fail> {
+pub(crate) fn standings(alloc: Global, book: &Book) -> Result<String, AllocError> {
     let mut text = String::new(alloc);
     tell_standings(&mut text, book)?;
     Ok(text)

@@ -1,16 +1,17 @@
-//! Searches of small trees and of attached domains: verdicts, what proves them, and how many prefixes are visited.
+//! Searches of small trees and of attached domains: verdicts, and how many prefixes are visited. The scripts of the same names in
+//! `tests/rows` have what proves the verdicts.
 
 use crate::equal::is_equal;
 use crate::finding::tell_search;
 use crate::playing::frozen_after;
-use std::alloc::Global;
+use std::alloc::{AllocError, Global};
 use std::process::Abort;
 use std::test::Fail;
 use sysmem_alloc::Frozen;
 
 // Groups of two children each, below the root, without the second ones, and without the first ones but that of the first group;
 // then the root's release.
-fn tell_groups(script: &mut String, many: u32) -> Result<(), Fail> {
+fn tell_groups(script: &mut String, many: u32) -> Result<(), AllocError> {
     for group in 0..many {
         let first = if group > 0 { "release" } else { "" };
         write!(
@@ -18,8 +19,7 @@ fn tell_groups(script: &mut String, many: u32) -> Result<(), Fail> {
             "/ create_group /{group} create_child create_child all_children_present /{group}/1 release /{group}/0 {first} "
         )?;
     }
-    script.push_str(if many > 0 { "/ release " } else { "" })?;
-    Ok(())
+    script.push_str(if many > 0 { "/ release " } else { "" })
 }
 
 /// What is frozen after these groups and steps.
@@ -34,66 +34,66 @@ pub(crate) fn frozen(alloc: Global, many: u32, then: &str) -> Result<Frozen, Fai
 pub(crate) type Row = (&'static str, u32, &'static str, &'static str);
 
 /// As worked by hand.
-pub(crate) const ROWS: [Row; 10] = [
+pub(crate) const ROWS: &[Row] = &[
     (
         "slack",
         0,
         "/ duplicate duplicate release /0 bind camps_on_2_and_slack /1 bind camps_on_3",
-        "chosen [] count 9 visits 1 told 1 most 0:; accepted wrong_shape",
+        "chosen [] count 9 visits 1 told 1 most 0; wrong_shape",
     ),
     (
         "groups_share_nv12",
         0,
         "/ create_group /0 create_child create_child all_children_present / create_group /1 create_child all_children_present / bind any /0/0 bind any /0/1 bind any /1/0 bind nv12",
-        "chosen [0, 0] count 1 visits 3 told 3 most 2: / /; accepted wrong_shape",
+        "chosen [0, 0] count 1 visits 3 told 3 most 2; wrong_shape",
     ),
     (
         "nothing_named",
         0,
         "/ create_group /0 create_child create_child all_children_present / create_group /1 create_child all_children_present / bind any /0/0 bind any /0/1 bind any /1/0 bind any",
-        "empty visits 5 told 5 most 2: 2 1 0 1 0; accepted wrong_shape",
+        "empty visits 5 told 5 most 2; wrong_shape",
     ),
     (
         "first_of_two_selections",
         0,
         "/ create_group /0 create_child create_child all_children_present / create_group /1 create_child create_child create_child all_children_present / release /0/0 bind r8 /0/1 bind nv12 /1/0 bind nv12 /1/1 bind r8g8b8a8 /1/2 bind r8",
-        "chosen [0, 2] count 1 visits 5 told 5 most 2: / / 0, 0,; accepted wrong_shape",
+        "chosen [0, 2] count 1 visits 5 told 5 most 2; wrong_shape",
     ),
     (
         "nested_groups",
         0,
         "/ create_group release /0 create_child create_child all_children_present /0/0 create_group /0/0/0 create_child create_child all_children_present /0/0 release /0/0/0/0 bind never /0/0/0/1 bind never /0/1 bind cpu",
-        "chosen [1] count 1 visits 5 told 5 most 2: / 2 0 0,; accepted wrong_shape",
+        "chosen [1] count 1 visits 5 told 5 most 2; wrong_shape",
     ),
     (
         "twelve_groups",
         12,
         "/0/0 release",
-        "chosen [0, 0, 0, 0, 0, 0, 0, 0, 0, 0, 0, 0] count 1 visits 13 told 13 most 12: / / / / / / / / / / / /; accepted wrong_shape",
+        "chosen [0, 0, 0, 0, 0, 0, 0, 0, 0, 0, 0, 0] count 1 visits 13 told 13 most 12; wrong_shape",
     ),
     (
         "prefix_cut",
         12,
         "/0/0 bind never",
-        "chosen [1, 0, 0, 0, 0, 0, 0, 0, 0, 0, 0, 0] count 1 visits 14 told 14 most 12: / 0, / / / / / / / / / / /; accepted wrong_shape",
+        "chosen [1, 0, 0, 0, 0, 0, 0, 0, 0, 0, 0, 0] count 1 visits 14 told 14 most 12; wrong_shape",
     ),
     (
         "thirteen_groups",
         13,
         "/0/0 bind never",
-        "too_many visits 0 told 0 most 0:; accepted accepted",
+        "too_many visits 0 told 0 most 0; accepted",
     ),
     (
         "attached_group",
         0,
         "/ duplicate duplicate release /0 bind camps_on_2_and_slack /1 bind camps_on_3 decide /0 attach_token /0/0 create_group /0/0/0 create_child create_child all_children_present /0/0 release /0/0/0/0 bind camps_on_2 /0/0/0/1 bind camps_on_1",
-        "chosen [1] count 9 visits 3 told 3 most 1: / 0,; accepted wrong_shape",
+        "chosen [1] count 9 visits 3 told 3 most 1; wrong_shape",
     ),
     (
-        "attached_group, whose second child asks for too much as well",
+        "attached_group_empty",
         0,
         "/ duplicate duplicate release /0 bind camps_on_2_and_slack /1 bind camps_on_3 decide /0 attach_token /0/0 create_group /0/0/0 create_child create_child all_children_present /0/0 release /0/0/0/0 bind camps_on_2 /0/0/0/1 bind camps_on_2",
-        "empty visits 3 told 3 most 1: 2 0 0; accepted wrong_shape",
+        "empty visits 3 told 3 most 1; wrong_shape",
     ),
 ];
 
@@ -103,7 +103,7 @@ fn is_found(
     frozen: &Frozen,
     name: &str,
     wanted: &str,
-) -> Result<(), Fail> {
+) -> Result<(), AllocError> {
     let mut found = String::new(alloc);
     tell_search(&mut found, alloc, frozen)?;
     is_equal(rt, name, &found.as_str(), &wanted);
@@ -113,13 +113,14 @@ fn is_found(
 fn is_as_worked(rt: &impl Abort, alloc: Global, row: Row) -> Result<(), Fail> {
     let (name, many, then, wanted) = row;
     let frozen = frozen(alloc, many, then)?;
-    is_found(rt, alloc, &frozen, name, wanted)
+    is_found(rt, alloc, &frozen, name, wanted)?;
+    Ok(())
 }
 
 #[test]
 fn what_is_found(rt: HostRuntime) -> Result<(), Fail> {
     for row in ROWS {
-        is_as_worked(&rt, rt.alloc(), row)?;
+        is_as_worked(&rt, rt.alloc(), *row)?;
     }
     Ok(())
 }

@@ -4,7 +4,7 @@
 use crate::equal::is_equal;
 use crate::finding::search_frozen;
 use crate::playing::frozen_after;
-use std::alloc::Global;
+use std::alloc::{AllocError, Global};
 use std::process::Abort;
 use std::test::Fail;
 use sysmem_alloc::Frozen;
@@ -57,17 +57,21 @@ fn number_of(index: usize, child: u8) -> usize {
         .wrapping_add(1)
 }
 
-fn tell_group(script: &mut String, (below, at, children): Group) -> Result<(), Fail> {
+fn tell_group(script: &mut String, (below, at, children): Group) -> Result<(), AllocError> {
     write!(script, "{below} create_group {at}")?;
     for _child in 0..children {
         script.push_str(" create_child")?;
     }
-    script.push_str(" all_children_present ")?;
-    Ok(())
+    script.push_str(" all_children_present ")
 }
 
 // Each child of the group of this index asks something.
-fn tell_asked(script: &mut String, index: usize, group: Group, tree: usize) -> Result<(), Fail> {
+fn tell_asked(
+    script: &mut String,
+    index: usize,
+    group: Group,
+    tree: usize,
+) -> Result<(), AllocError> {
     let (_, at, children) = group;
     for child in 0..children {
         let word = asked(tree, number_of(index, child));
@@ -77,15 +81,14 @@ fn tell_asked(script: &mut String, index: usize, group: Group, tree: usize) -> R
 }
 
 // The script of the tree of this number with these groups, ready for its decision.
-fn tell_tree(script: &mut String, shape: &[Group], tree: usize) -> Result<(), Fail> {
+fn tell_tree(script: &mut String, shape: &[Group], tree: usize) -> Result<(), AllocError> {
     for group in shape {
         tell_group(script, *group)?;
     }
     for (index, group) in shape.iter().enumerate() {
         tell_asked(script, index, *group, tree)?;
     }
-    write!(script, "/ bind {}", asked(tree, 0))?;
-    Ok(())
+    write!(script, "/ bind {}", asked(tree, 0))
 }
 
 fn frozen_tree(alloc: Global, shape: &[Group], tree: usize) -> Result<Frozen, Fail> {
@@ -99,55 +102,36 @@ type Visited = (u64, u64, bool);
 
 fn visited(alloc: Global, shape: &[Group], tree: usize) -> Result<Visited, Fail> {
     let frozen = frozen_tree(alloc, shape, tree)?;
-    visited_of(alloc, &frozen)
+    Ok(visited_of(alloc, &frozen)?)
 }
 
-fn visited_of(alloc: Global, frozen: &Frozen) -> Result<Visited, Fail> {
+fn visited_of(alloc: Global, frozen: &Frozen) -> Result<Visited, AllocError> {
     let found = search_frozen(alloc, frozen)?;
     let is_chosen = matches!(found.claim.verdict, Verdict::Chosen(_));
     Ok((found.told, found.visits, is_chosen))
 }
 
-// How many trees have a choice, and the visits of all.
-#[derive(Drop)]
-struct Tally {
-    chosen: u64,
-    visits: u64,
-}
-
-impl Tally {
-    fn count(&mut self, is_chosen: bool, visits: u64) {
-        self.visits = self.visits.wrapping_add(visits);
-        self.chosen = self.chosen.wrapping_add(is_chosen as u64);
-    }
-}
-
-// The gate of each search of 49 trees of a shape is told of each visit.
-fn tally_shape(
-    rt: &impl Abort,
-    alloc: Global,
-    shape: &[Group],
-    tally: &mut Tally,
-) -> Result<(), Fail> {
+// How many of the 49 trees of a shape have a choice, and the visits of all; the gate of each search is told of each visit.
+fn tally(rt: &impl Abort, alloc: Global, shape: &[Group]) -> Result<(u64, u64), Fail> {
+    let (mut chosen, mut visits) = (0u64, 0u64);
     for tree in 0..49 {
-        let (told, visits, is_chosen) = visited(alloc, shape, tree)?;
-        is_equal(rt, "told of", &told, &visits);
-        tally.count(is_chosen, visits);
+        let (told, more, is_chosen) = visited(alloc, shape, tree)?;
+        is_equal(rt, "told of", &told, &more);
+        chosen = chosen.wrapping_add(is_chosen as u64);
+        visits = visits.wrapping_add(more);
     }
-    Ok(())
+    Ok((chosen, visits))
 }
 
 // Each shape with 49 trees; how many are chosen and visited was counted by a program of other hands.
 #[test]
 fn visits_of_small_trees(rt: HostRuntime) -> Result<(), Fail> {
-    let mut tally = Tally {
-        chosen: 0,
-        visits: 0,
-    };
+    let (mut chosen, mut visits) = (0u64, 0u64);
     for shape in SHAPES {
-        tally_shape(&rt, rt.alloc(), shape, &mut tally)?;
+        let (more_chosen, more_visits) = tally(&rt, rt.alloc(), shape)?;
+        chosen = chosen.wrapping_add(more_chosen);
+        visits = visits.wrapping_add(more_visits);
     }
-    is_equal(&rt, "chosen", &tally.chosen, &170);
-    is_equal(&rt, "visits", &tally.visits, &857);
+    is_equal(&rt, "chosen, visits", &(chosen, visits), &(170, 857));
     Ok(())
 }

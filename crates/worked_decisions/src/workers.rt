@@ -5,7 +5,7 @@ ghost use Rattle.std.specs.Prelude.{◌≤◌};
 use crate::equal::is_equal;
 use crate::finding::{search_frozen, tell_verdict};
 use crate::searches::{ROWS, Row, frozen};
-use std::alloc::Global;
+use std::alloc::{AllocError, Global};
 use std::process::Abort;
 use std::sync::atomic::{AtomicU64, Ordering};
 use std::test::Fail;
@@ -31,7 +31,7 @@ fn found_by<R: Threads + Sync, G: Gate + Sync>(
     frozen: &Frozen,
     gate: &G,
     workers: u32,
-) -> Result<Found, Fail>
+) -> Result<Found, AllocError>
     requires some { 1 ≤ workers }
     requires few { workers ≤ 64 }
 {
@@ -39,43 +39,70 @@ fn found_by<R: Threads + Sync, G: Gate + Sync>(
     let tree = frozen.tree();
     let domain = frozen.domain();
     let base = frozen.base();
-    let found = search_wide(rt, alloc, platform, tree, domain, base, gate, workers)?;
-    Ok(found)
+    search_wide(rt, alloc, platform, tree, domain, base, gate, workers)
 }
 
-// They find what was worked out by hand, and settle it as one search does.
+// What is decided is what was worked out by hand.
+fn is_decided_as_worked(
+    rt: &impl Abort,
+    alloc: Global,
+    name: &str,
+    wanted: &str,
+    verdict: &Verdict,
+) -> Result<(), AllocError> {
+    let mut told = String::new(alloc);
+    tell_verdict(&mut told, verdict)?;
+    told.push_str(" visits")?;
+    is_equal(rt, name, &wanted.starts_with(told.as_str()), &true);
+    Ok(())
+}
+
+// So many workers find what was worked out by hand, and settle it so.
 fn find_as_worked<R: Threads + Abort + Sync>(
     rt: &R,
     alloc: Global,
-    row: Row,
+    frozen: &Frozen,
+    row: &Row,
+    settings: Option<Settings>,
     workers: u32,
-) -> Result<(), Fail>
+) -> Result<(), AllocError>
     requires some { 1 ≤ workers }
     requires few { workers ≤ 64 }
 {
-    let (name, many, then, wanted) = row;
+    let (name, _, _, wanted) = *row;
+    let found = found_by(rt, alloc, frozen, &NoGate, workers)?;
+    is_equal(rt, name, &settings_of(&found.verdict), &settings);
+    is_decided_as_worked(rt, alloc, name, wanted, &found.verdict)
+}
+
+fn settings_alone(alloc: Global, frozen: &Frozen) -> Result<Option<Settings>, AllocError> {
+    let alone = search_frozen(alloc, frozen)?;
+    Ok(settings_of(&alone.claim.verdict))
+}
+
+// One worker, two and 64 find what was worked out by hand, and settle it as one search does.
+fn all_find<R: Threads + Abort + Sync>(
+    rt: &R,
+    alloc: Global,
+    frozen: &Frozen,
+    row: &Row,
+) -> Result<(), AllocError> {
+    let settings = settings_alone(alloc, frozen)?;
+    find_as_worked(rt, alloc, frozen, row, settings, 1)?;
+    find_as_worked(rt, alloc, frozen, row, settings, 2)?;
+    find_as_worked(rt, alloc, frozen, row, settings, 64)
+}
+
+fn all_find_in<R: Threads + Abort + Sync>(rt: &R, alloc: Global, row: &Row) -> Result<(), Fail> {
+    let (_, many, then, _) = *row;
     let frozen = frozen(alloc, many, then)?;
-    let found = found_by(rt, alloc, &frozen, &NoGate, workers)?;
-    let mut told = String::new(alloc);
-    tell_verdict(&mut told, &found.verdict)?;
-    told.push_str(" visits")?;
-    is_equal(rt, name, &wanted.starts_with(told.as_str()), &true);
-    let alone = search_frozen(alloc, &frozen)?;
-    is_equal(
-        rt,
-        name,
-        &settings_of(&found.verdict),
-        &settings_of(&alone.claim.verdict),
-    );
-    Ok(())
+    Ok(all_find(rt, alloc, &frozen, row)?)
 }
 
 #[test]
 fn workers_find_what_one_finds(rt: HostRuntime) -> Result<(), Fail> {
     for row in ROWS {
-        find_as_worked(&rt, rt.alloc(), row, 1)?;
-        find_as_worked(&rt, rt.alloc(), row, 2)?;
-        find_as_worked(&rt, rt.alloc(), row, 64)?;
+        all_find_in(&rt, rt.alloc(), row)?;
     }
     Ok(())
 }
@@ -115,9 +142,9 @@ fn is_met_by_all<R: Threads + Abort + Clock + Sync>(
     rt: &R,
     alloc: Global,
     name: &str,
-    then: &str,
+    frozen: &Frozen,
     workers: u32,
-) -> Result<(), Fail>
+) -> Result<(), AllocError>
     requires some { 1 ≤ workers }
     requires few { workers ≤ 64 }
 {
@@ -127,8 +154,7 @@ fn is_met_by_all<R: Threads + Abort + Clock + Sync>(
         entered: AtomicU64::new(0),
         held_in_vain: AtomicU64::new(0),
     };
-    let frozen = frozen(alloc, 0, then)?;
-    found_by(rt, alloc, &frozen, &gate, workers)?;
+    found_by(rt, alloc, frozen, &gate, workers)?;
     is_equal(rt, name, &gate.held_in_vain.load(Ordering::SeqCst), &0);
     is_equal(
         rt,
@@ -139,16 +165,31 @@ fn is_met_by_all<R: Threads + Abort + Clock + Sync>(
     Ok(())
 }
 
+// What is frozen is kept by one function for each group: a test that kept both would be proved to free both at each `?`.
+fn meet<R: Threads + Abort + Clock + Sync>(
+    rt: &R,
+    alloc: Global,
+    name: &str,
+    then: &str,
+    workers: u32,
+) -> Result<(), Fail>
+    requires some { 1 ≤ workers }
+    requires few { workers ≤ 64 }
+{
+    let frozen = frozen(alloc, 0, then)?;
+    Ok(is_met_by_all(rt, alloc, name, &frozen, workers)?)
+}
+
 #[test]
 fn workers_search_at_the_same_time(rt: HostRuntime) -> Result<(), Fail> {
-    is_met_by_all(
+    meet(
         &rt,
         rt.alloc(),
         "two workers",
         "/ create_group release /0 create_child create_child all_children_present /0/0 bind cpu /0/1 bind cpu",
         2,
     )?;
-    is_met_by_all(
+    meet(
         &rt,
         rt.alloc(),
         "four workers",

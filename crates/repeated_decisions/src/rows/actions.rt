@@ -2,7 +2,7 @@
 
 use anyhow::{Result, bail};
 use serde_json::Value;
-use std::alloc::Global;
+use std::alloc::{AllocError, Global};
 use std::sync::Arc;
 use sysmem_sanitise::{Constraints, read_constraints};
 use sysmem_tree::{Action, Fate, Tree};
@@ -33,7 +33,7 @@ fn cpu(alloc: Global) -> Result<Constraints> {
 }
 
 /// Writes behind a text how each domain stands.
-pub(super) fn push_domains(text: &mut String, tree: &Tree) -> Result<()> {
+pub(super) fn push_domains(text: &mut String, tree: &Tree) -> Result<(), AllocError> {
     text.push(' ')?;
     for index in 0..tree.domains() {
         let Some(domain) = tree.domain_at(index) else {

@@ -6,8 +6,7 @@ ghost use Rattle.sysmem_tree.specs.Selection.{IsPrefix};
 ghost use Rattle.sysmem_tree.specs.Shape.{by_number, forest_of};
 
 use super::paths::{all_paths, push_path};
-use anyhow::Result;
-use std::alloc::Global;
+use std::alloc::{AllocError, Global};
 use sysmem_tree::{DomainId, NodeKind, Path, Prefix, Tree};
 
 /// What `next` or `settled` asks for behind a prefix.
@@ -18,7 +17,7 @@ pub(super) fn write_of_nodes(
     domain: DomainId,
     word: &str,
     prefix: &Prefix,
-) -> Result<()>
+) -> Result<(), AllocError>
     requires domain { HasDomain tree.now.nodes domain }
     requires prefix { IsPrefix (forest_of by_number tree.now.nodes domain []) prefix.now }
 {
@@ -36,21 +35,19 @@ fn next_group(
     paths: &[Path],
     domain: DomainId,
     prefix: &Prefix,
-) -> Result<()>
+) -> Result<(), AllocError>
     requires domain { HasDomain tree.now.nodes domain }
     requires prefix { IsPrefix (forest_of by_number tree.now.nodes domain []) prefix.now }
 {
     let Some((group, children)) = tree.next_group(domain, prefix) else {
-        text.push_str("none")?;
-        return Ok(());
+        return text.push_str("none");
     };
     for path in paths {
         if tree.node_at(path.ordinals()) == Some(group) {
             push_path(text, path)?;
         }
     }
-    write!(text, " {children}")?;
-    Ok(())
+    write!(text, " {children}")
 }
 
 /// The nodes with constraints that a prefix settles.
@@ -60,7 +57,7 @@ fn settled(
     paths: &[Path],
     domain: DomainId,
     prefix: &Prefix,
-) -> Result<()>
+) -> Result<(), AllocError>
     requires domain { HasDomain tree.now.nodes domain }
     requires prefix { IsPrefix (forest_of by_number tree.now.nodes domain []) prefix.now }
 {
@@ -84,7 +81,7 @@ pub(super) fn members(
     tree: &Tree,
     domain: DomainId,
     choices: &Prefix,
-) -> Result<()>
+) -> Result<(), AllocError>
     requires { HasDomain tree.now.nodes domain }
 {
     text.push_str("members")?;
@@ -97,7 +94,7 @@ fn push_members(
     paths: &[Path],
     domain: DomainId,
     choices: &Prefix,
-) -> Result<()>
+) -> Result<(), AllocError>
     requires { HasDomain tree.now.nodes domain }
 {
     for path in paths {
@@ -113,13 +110,23 @@ fn push_members(
 }
 
 /// The nodes of a domain, with their kinds and whether they set constraints, as a copy of the tree has them.
-pub(super) fn shape(alloc: Global, text: &mut String, tree: &Tree, domain: DomainId) -> Result<()> {
+pub(super) fn shape(
+    alloc: Global,
+    text: &mut String,
+    tree: &Tree,
+    domain: DomainId,
+) -> Result<(), AllocError> {
     text.push_str("shape")?;
     let copy = tree.copy()?;
     push_shape(text, &copy, &all_paths(alloc, &copy)?, domain)
 }
 
-fn push_shape(text: &mut String, tree: &Tree, paths: &[Path], domain: DomainId) -> Result<()> {
+fn push_shape(
+    text: &mut String,
+    tree: &Tree,
+    paths: &[Path],
+    domain: DomainId,
+) -> Result<(), AllocError> {
     for path in paths {
         let Some(node) = tree.node_at(path.ordinals()) else {
             continue;

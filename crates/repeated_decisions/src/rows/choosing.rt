@@ -5,26 +5,9 @@ ghost use Rattle.sysmem_tree.specs.Domain.{HasDomain};
 ghost use Rattle.sysmem_tree.specs.Selection.{IsPrefix};
 ghost use Rattle.sysmem_tree.specs.Shape.{by_number, forest_of};
 
+use crate::adding::choose;
 use anyhow::{Result, bail};
 use sysmem_tree::{DomainId, Fate, Prefix, Tree};
-
-/// One choice more, of a child of the group that is next; `None` where no group is left or it has no such child.
-fn choose(tree: &Tree, domain: DomainId, prefix: Prefix, choice: u8) -> Option<Prefix>
-    requires domain { HasDomain tree.now.nodes domain }
-    requires prefix { IsPrefix (forest_of by_number tree.now.nodes domain []) prefix }
-    ensures { IfSome result
-        (λ longer. IsPrefix (forest_of by_number tree.now.nodes domain []) longer) }
-{
-    let mut prefix = prefix;
-    let Some((_, children)) = tree.next_group(domain, &prefix) else {
-        return None;
-    };
-    if u32::from(choice) >= children || prefix.is_full() {
-        return None;
-    }
-    prefix.push(choice);
-    Some(prefix)
-}
 
 /// The prefix of a text such as `-` or `0.2`; `None` where the domain has no such prefix.
 pub(super) fn prefix_of(tree: &Tree, domain: DomainId, text: &str) -> Result<Option<Prefix>>
@@ -37,10 +20,9 @@ pub(super) fn prefix_of(tree: &Tree, domain: DomainId, text: &str) -> Result<Opt
         return Ok(Some(prefix));
     }
     for choice in text.split('.') {
-        let Some(longer) = choose(tree, domain, prefix, choice.parse::<u8>()?) else {
+        if !choose(tree, domain, &mut prefix, choice.parse::<u8>()?) {
             return Ok(None);
-        };
-        prefix = longer;
+        }
     }
     Ok(Some(prefix))
 }

@@ -12,7 +12,7 @@ use super::choosing::{choices_of, decide, prefix_of};
 use super::paths::node_at;
 use super::walking::walk;
 use anyhow::{Result, bail};
-use std::alloc::Global;
+use std::alloc::{AllocError, Global};
 use sysmem_tree::{DomainId, Event, NodeId, Prefix, Tree};
 
 /// Plays a line and writes what is answered.
@@ -43,26 +43,33 @@ fn chosen(
 {
     let domain = tree.domain_of(node);
     if word == "members" {
-        return members(alloc, text, tree, domain, &choices_of(choices)?);
+        members(alloc, text, tree, domain, &choices_of(choices)?)?;
+        return Ok(());
     }
     let Some(prefix) = prefix_of(tree, domain, choices)? else {
         text.push_str("no prefix")?;
         return Ok(());
     };
     match word {
-        "next" | "settled" => write_of_nodes(alloc, text, tree, domain, word, &prefix),
-        "walk" => walk(text, tree, domain, &prefix),
+        "next" | "settled" => write_of_nodes(alloc, text, tree, domain, word, &prefix)?,
+        "walk" => walk(text, tree, domain, &prefix)?,
         "chosen" => {
             let refusal = decide(tree, domain, Some(prefix));
-            told(text, tree, refusal)
+            told(text, tree, refusal)?;
         }
-        "try" => try_in_copy(text, tree, domain, prefix),
+        "try" => try_in_copy(text, tree, domain, prefix)?,
         _ => bail!("{word:?} is no word"),
     }
+    Ok(())
 }
 
 /// Decides for a selection in a copy.
-fn try_in_copy(text: &mut String, tree: &Tree, domain: DomainId, prefix: Prefix) -> Result<()>
+fn try_in_copy(
+    text: &mut String,
+    tree: &Tree,
+    domain: DomainId,
+    prefix: Prefix,
+) -> Result<(), AllocError>
     requires domain { HasDomain tree.now.nodes domain }
     requires prefix { IsPrefix (forest_of by_number tree.now.nodes domain []) prefix }
 {
@@ -77,27 +84,25 @@ fn acted(alloc: Global, text: &mut String, tree: &mut Tree, node: NodeId, word: 
 {
     let domain = tree.domain_of(node);
     match word {
-        "selections" => {
-            write!(text, "{}", tree.count_selections(domain))?;
-            Ok(())
-        }
-        "shape" => shape(alloc, text, tree, domain),
+        "selections" => write!(text, "{}", tree.count_selections(domain))?,
+        "shape" => shape(alloc, text, tree, domain)?,
         "none" => {
             let refusal = decide(tree, domain, None);
-            told(text, tree, refusal)
+            told(text, tree, refusal)?;
         }
         _ => {
             let Some(action) = action_of(alloc, word)? else {
                 bail!("{word:?} is no action");
             };
             let refusal = tree.apply(Event { node, action }).err();
-            told(text, tree, refusal.map(|refusal| refusal.name()))
+            told(text, tree, refusal.map(|refusal| refusal.name()))?;
         }
     }
+    Ok(())
 }
 
 /// `ok` or why not, and how the domains stand.
-fn told(text: &mut String, tree: &Tree, refusal: Option<&str>) -> Result<()> {
+fn told(text: &mut String, tree: &Tree, refusal: Option<&str>) -> Result<(), AllocError> {
     text.push_str(refusal.unwrap_or("ok"))?;
     push_domains(text, tree)
 }

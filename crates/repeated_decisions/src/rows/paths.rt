@@ -4,7 +4,7 @@ ghost use Rattle.std.specs.Prelude.{IfOk, IfSome};
 ghost use Rattle.sysmem_tree.specs.Nodes.{HasNode};
 
 use anyhow::{Result, bail};
-use std::alloc::Global;
+use std::alloc::{AllocError, Global};
 use sysmem_tree::{MOST_NODES, NodeId, Path, Tree};
 
 /// The node at a path such as `/` or `/0/2`; `None` where the tree has none there.
@@ -30,7 +30,7 @@ fn push_ordinals(ordinals: &mut Vec<u32>, steps: &str) -> Result<()> {
 }
 
 /// The paths of all nodes, the shorter first.
-pub(super) fn all_paths(alloc: Global, tree: &Tree) -> Result<Vec<Path>> {
+pub(super) fn all_paths(alloc: Global, tree: &Tree) -> Result<Vec<Path>, AllocError> {
     let mut paths = Vec::new(alloc);
     paths.push(Path::new(Vec::new(alloc)))?;
     push_paths(alloc, &mut paths, tree)?;
@@ -38,7 +38,7 @@ pub(super) fn all_paths(alloc: Global, tree: &Tree) -> Result<Vec<Path>> {
 }
 
 /// Adds the paths of the children of each path, those of the added ones too.
-fn push_paths(alloc: Global, paths: &mut Vec<Path>, tree: &Tree) -> Result<()> {
+fn push_paths(alloc: Global, paths: &mut Vec<Path>, tree: &Tree) -> Result<(), AllocError> {
     for at in 0..MOST_NODES {
         let Some(node) = paths.get(at).and_then(|path| tree.node_at(path.ordinals())) else {
             break;
@@ -51,7 +51,12 @@ fn push_paths(alloc: Global, paths: &mut Vec<Path>, tree: &Tree) -> Result<()> {
 }
 
 /// Adds the path of a child of the path at an index.
-fn push_child(alloc: Global, paths: &mut Vec<Path>, at: usize, child: u32) -> Result<()> {
+fn push_child(
+    alloc: Global,
+    paths: &mut Vec<Path>,
+    at: usize,
+    child: u32,
+) -> Result<(), AllocError> {
     let mut ordinals = Vec::new(alloc);
     if let Some(path) = paths.get(at) {
         ordinals.extend_from_slice(path.ordinals())?;
@@ -62,7 +67,7 @@ fn push_child(alloc: Global, paths: &mut Vec<Path>, at: usize, child: u32) -> Re
 }
 
 /// Writes a path behind a text.
-pub(super) fn push_path(text: &mut String, path: &Path) -> Result<()> {
+pub(super) fn push_path(text: &mut String, path: &Path) -> Result<(), AllocError> {
     if path.ordinals().is_empty() {
         text.push('/')?;
     }

@@ -8,6 +8,7 @@ ghost use Rattle.sysmem_tree.specs.OpenGroups.{HasChild, HasLeft, HoldsNodes, Is
 
 use super::paths::push_path;
 use anyhow::{Result, bail};
+use std::alloc::AllocError;
 use sysmem_tree::{
     ChildPlace, DomainId, GroupPlace, Layout, MOST_NODES, Prefix, SettledNodes, Tree,
 };
@@ -37,7 +38,12 @@ pub(super) fn walk(text: &mut String, tree: &Tree, domain: DomainId, prefix: &Pr
 }
 
 /// Writes the paths of the nodes that a walk gives.
-fn push_nodes(text: &mut String, tree: &Tree, layout: &Layout, walk: SettledNodes) -> Result<()>
+fn push_nodes(
+    text: &mut String,
+    tree: &Tree,
+    layout: &Layout,
+    walk: SettledNodes,
+) -> Result<(), AllocError>
     requires left { (ns : List ℕ) × HasLeft layout.now walk ns }
     requires nodes { HoldsNodes layout.now tree.now.nodes }
 {
@@ -53,15 +59,19 @@ fn push_nodes(text: &mut String, tree: &Tree, layout: &Layout, walk: SettledNode
 }
 
 /// Writes which group is open, and how many children it has.
-fn push_group(text: &mut String, tree: &Tree, layout: &Layout, group: GroupPlace) -> Result<()>
+fn push_group(
+    text: &mut String,
+    tree: &Tree,
+    layout: &Layout,
+    group: GroupPlace,
+) -> Result<(), AllocError>
     requires open { (d : Forest ℕ) × (cs : List ℕ) × IsFirstOpen layout.now d cs (Some group) }
     requires nodes { HoldsNodes layout.now tree.now.nodes }
 {
     let (node, children) = layout.group_at(group);
     text.push_str(", group ")?;
     push_path(text, &tree.path_of(node)?)?;
-    write!(text, " of {children}:")?;
-    Ok(())
+    write!(text, " of {children}:")
 }
 
 /// A child of an open group; an error where it has no such child.

@@ -50,25 +50,6 @@ fn rows_of(mut asked: Entry, bytes: u32) -> Entry
     asked
 }
 
-/// The entry, with rows of a multiple of so many bytes that end at a pixel.
-fn rows_to_pixel(asked: Entry, bytes: u32) -> Entry
-    requires some { 1 ≤ bytes }
-    requires small { bytes ≤ 65536 }
-{
-    let mut asked = rows_of(asked, bytes);
-    asked.bounds.at_pixel_boundary = true;
-    asked
-}
-
-/// The entry, with sizes of which the width is a multiple of this, and the height of that.
-fn aligned(mut asked: Entry, width: u32, height: u32) -> Entry
-    requires width { 1 ≤ width }
-    requires height { 1 ≤ height }
-{
-    asked.bounds.asked.size_alignment = Size { width, height };
-    asked
-}
-
 /// The bounds of entries on an offer.
 fn bounds_of(entries: &[Entry], offer: Offer) -> Result<ImageBounds, Field> {
     let mut bounds = ImageBounds::of(&offer);
@@ -76,14 +57,6 @@ fn bounds_of(entries: &[Entry], offer: Offer) -> Result<ImageBounds, Field> {
         merge_into(&mut bounds, entry, &offer)?;
     }
     Ok(bounds)
-}
-
-/// An entry of 7 by 7 pixels at least, of each format where none is given, and of each modifier.
-fn any_of_seven(format: Option<PixelFormat>) -> Entry {
-    let mut any = at_least(PixelFormat::R8, 7, 7);
-    any.format = format;
-    any.modifier = None;
-    any
 }
 
 /// The width that the entry found in the table of entries for an offer asks for.
@@ -96,10 +69,12 @@ fn table_width(entries: &[Entry], offer: Offer) -> Option<u32> {
 /// The table finds the first of two with the same names, and DO_NOT_CARE before a named one.
 #[test]
 fn first_matches(rt: HostRuntime) {
+    let mut any_modifier = at_least(PixelFormat::R8, 7, 7);
+    any_modifier.modifier = None;
     let entries = [
         entry(PixelFormat::NV12),
         at_least(PixelFormat::NV12, 5, 5),
-        any_of_seven(Some(PixelFormat::R8)),
+        any_modifier,
         entry(PixelFormat::R8),
     ];
     are_equal(
@@ -144,24 +119,17 @@ fn colours(rt: HostRuntime) {
     );
 }
 
-/// The bounds of two entries, made apart and joined.
-fn joined(first: Entry, second: Entry, offer: Offer) -> Result<ImageBounds, Field> {
-    let mut both = bounds_of(&[first], offer)?;
-    let more = bounds_of(&[second], offer)?;
-    merge_bounds(&mut both, &more)?;
-    Ok(both)
-}
-
-/// What joining them to those of the second again answers where their starts have no common multiple, and whether they are
-/// left as they were.
+/// What joining the bounds of two entries to those of the second again answers where their starts have no common multiple, and whether
+/// they are left as they were.
 fn starts_joined(
     first: Entry,
     second: Entry,
     offer: Offer,
 ) -> Result<(Option<Field>, bool), Field> {
-    let mut large = joined(first, second, offer)?;
-    large.start_offset_divisor = 4294967291;
     let mut other = bounds_of(&[second], offer)?;
+    let mut large = bounds_of(&[first], offer)?;
+    merge_bounds(&mut large, &other)?;
+    large.start_offset_divisor = 4294967291;
     other.start_offset_divisor = 4294967279;
     let before = large;
     let refused = merge_bounds(&mut large, &other).err();
@@ -183,15 +151,18 @@ fn with_great_multiples(asked: Entry) -> Result<(), Field> {
 /// The field named is the first of the conflict table, whichever multiple is above the limit too.
 #[test]
 fn first_multiple(rt: HostRuntime) {
-    let asked = rows_to_pixel(at_least(PixelFormat::R8G8B8, 1, 1), 1);
+    let mut asked = at_least(PixelFormat::R8G8B8, 1, 1);
+    asked.bounds.at_pixel_boundary = true;
+    let mut aligned = asked;
+    aligned.bounds.asked.size_alignment = Size {
+        width: 2,
+        height: 1,
+    };
     are_equal(
         &rt,
         &[
             (with_great_multiples(asked), Err(Field::BytesPerRowDivisor)),
-            (
-                with_great_multiples(aligned(asked, 2, 1)),
-                Err(Field::SizeAlignment),
-            ),
+            (with_great_multiples(aligned), Err(Field::SizeAlignment)),
         ],
     );
 }

@@ -50,7 +50,7 @@ fn names_and_sets(rt: HostRuntime) {
 }
 
 // Whether the heap ram 1 is equal to this one.
-fn is_ram_1(alloc: Global, heap_type: &str, id: u64) -> Result<bool, Fail> {
+fn is_ram_1(alloc: Global, heap_type: &str, id: u64) -> Result<bool, AllocError> {
     let heap = named(alloc, "ram", 1)?;
     Ok(heap == named(alloc, heap_type, id)?)
 }

@@ -3,7 +3,7 @@
 use crate::values::equal::{asked, had};
 use crate::values::rows::are_equal;
 use bitflags::Flags;
-use std::alloc::Global;
+use std::alloc::{AllocError, Global};
 use std::test::Fail;
 use sysmem_counts::{CountConstraints, Field, Usage};
 use sysmem_formats::{ColourSpace, Modifier, Pair, PixelFormat};
@@ -21,7 +21,7 @@ const TILED_R8: Pair = Pair {
     modifier: Modifier::IntelXTiled,
 };
 
-fn heap(alloc: Global, heap_type: &str, id: u64) -> Result<Heap, Fail> {
+fn heap(alloc: Global, heap_type: &str, id: u64) -> Result<Heap, AllocError> {
     Ok(Heap {
         heap_type: String::from_str(alloc, heap_type)?,
         id,
@@ -29,7 +29,7 @@ fn heap(alloc: Global, heap_type: &str, id: u64) -> Result<Heap, Fail> {
 }
 
 /// Heaps of this type and these ids, which processors see cached.
-fn heaps(alloc: Global, heap_type: &str, ids: &[u64]) -> Result<Vec<HeapInfo>, Fail> {
+fn heaps(alloc: Global, heap_type: &str, ids: &[u64]) -> Result<Vec<HeapInfo>, AllocError> {
     let mut domains = CoherencyDomains::NONE;
     domains.cpu = true;
     let mut heaps = Vec::new(alloc);
@@ -51,7 +51,7 @@ fn platform(
     ids: &[u64],
     pairs: &[Pair],
     colours: &[ColourSpace],
-) -> Result<Result<Platform, Field>, Fail> {
+) -> Result<Result<Platform, Field>, AllocError> {
     Ok(Platform::of(
         heaps(alloc, heap_type, ids)?,
         Vec::from_slice(alloc, pairs)?,
@@ -66,40 +66,29 @@ fn same_platform(alloc: Global) -> Result<bool, Fail> {
     Ok(made.is_ok_and(|platform| platform.is_same(&stated)))
 }
 
+// A heap type, the ids of its heaps, pairs and colour spaces that make no platform, and the field that is amiss.
+const NO_PLATFORMS: [(&str, &[u64], &[Pair], &[ColourSpace], Field); 6] = [
+    ("a", &[], &[R8], &[ColourSpace::Srgb], Field::Heaps),
+    ("a", &[1, 2, 1], &[R8], &[ColourSpace::Srgb], Field::Heaps),
+    ("a b", &[1], &[R8], &[ColourSpace::Srgb], Field::HeapType),
+    ("a", &[1], &[R8, R8], &[ColourSpace::Srgb], Field::Pairs),
+    (
+        "a",
+        &[1],
+        &[TILED_R8],
+        &[ColourSpace::Srgb],
+        Field::PixelFormatModifier,
+    ),
+    ("a", &[1], &[R8], &[], Field::ColorSpaces),
+];
+
 #[test]
 fn platforms(rt: HostRuntime) -> Result<(), Fail> {
-    let alloc = rt.alloc();
-    let srgb = [ColourSpace::Srgb];
-    are_equal(
-        &rt,
-        &[
-            (
-                platform(alloc, "a", &[], &[R8], &srgb)?.err(),
-                Some(Field::Heaps),
-            ),
-            (
-                platform(alloc, "a", &[1, 2, 1], &[R8], &srgb)?.err(),
-                Some(Field::Heaps),
-            ),
-            (
-                platform(alloc, "a b", &[1], &[R8], &srgb)?.err(),
-                Some(Field::HeapType),
-            ),
-            (
-                platform(alloc, "a", &[1], &[R8, R8], &srgb)?.err(),
-                Some(Field::Pairs),
-            ),
-            (
-                platform(alloc, "a", &[1], &[TILED_R8], &srgb)?.err(),
-                Some(Field::PixelFormatModifier),
-            ),
-            (
-                platform(alloc, "a", &[1], &[R8], &[])?.err(),
-                Some(Field::ColorSpaces),
-            ),
-        ],
-    );
-    are_equal(&rt, &[(same_platform(alloc)?, true)]);
+    for (row, (heap_type, ids, pairs, colours, wanted)) in NO_PLATFORMS.iter().enumerate() {
+        let found = platform(rt.alloc(), heap_type, ids, pairs, colours)?.err();
+        are_equal(&rt, &[((row, found), (row, Some(*wanted)))]);
+    }
+    are_equal(&rt, &[(same_platform(rt.alloc())?, true)]);
     Ok(())
 }
 
@@ -108,7 +97,7 @@ fn participant(
     alloc: Global,
     families: u8,
     entries: Vec<Entry>,
-) -> Result<Result<Constraints, Field>, Fail> {
+) -> Result<Result<Constraints, Field>, AllocError> {
     let counts = CountConstraints {
         min_buffer_count_for_camping: 0,
         min_buffer_count_for_dedicated_slack: 0,
@@ -145,32 +134,28 @@ fn same_participant(alloc: Global) -> Result<bool, Fail> {
     Ok(made.is_ok_and(|constraints| constraints.is_same(&stated)))
 }
 
+// Usages as bits, how often the entries of the record stand, and the field that is amiss, if one is.
+const PARTICIPANTS: [(u8, usize, Option<Field>); 5] = [
+    (0, 0, Some(Field::Usage)),
+    (3, 0, Some(Field::Usage)),
+    (34, 0, Some(Field::Usage)),
+    (2, 2, Some(Field::ImageFormatConstraints)),
+    (2, 0, None),
+];
+
+/// The field that is amiss in the participant with these usages and so many times the entries.
+fn amiss(alloc: Global, families: u8, times: usize) -> Result<Option<Field>, Fail> {
+    let entries = entries(alloc, times)?;
+    Ok(participant(alloc, families, entries)?.err())
+}
+
 #[test]
 fn participants(rt: HostRuntime) -> Result<(), Fail> {
-    let alloc = rt.alloc();
-    are_equal(
-        &rt,
-        &[
-            (
-                participant(alloc, 0, Vec::new(alloc))?.err(),
-                Some(Field::Usage),
-            ),
-            (
-                participant(alloc, 3, Vec::new(alloc))?.err(),
-                Some(Field::Usage),
-            ),
-            (
-                participant(alloc, 34, Vec::new(alloc))?.err(),
-                Some(Field::Usage),
-            ),
-            (
-                participant(alloc, 2, entries(alloc, 2)?)?.err(),
-                Some(Field::ImageFormatConstraints),
-            ),
-            (participant(alloc, 2, Vec::new(alloc))?.err(), None),
-        ],
-    );
-    are_equal(&rt, &[(same_participant(alloc)?, true)]);
+    for (row, (families, times, wanted)) in PARTICIPANTS.iter().enumerate() {
+        let found = amiss(rt.alloc(), *families, *times)?;
+        are_equal(&rt, &[((row, found), (row, *wanted))]);
+    }
+    are_equal(&rt, &[(same_participant(rt.alloc())?, true)]);
     Ok(())
 }
 

@@ -3,7 +3,7 @@
 
 use crate::records::{asked, had};
 use crate::values::rows::are_equal;
-use std::alloc::Global;
+use std::alloc::{AllocError, Global};
 use std::process::Abort;
 use std::test::Fail;
 use sysmem_counts::Field;
@@ -36,25 +36,11 @@ fn cached(count: u32, size_bytes: u64) -> Settings {
     }
 }
 
-// The best settings for two participants.
-fn best(
-    alloc: Global,
-    platform: &Platform,
-    first: &Constraints,
-    second: &Constraints,
-    whole: bool,
-) -> Result<Result<Settings, Reason>, Fail> {
-    let mut aggregate = Aggregate::new(alloc, platform)?;
-    aggregate.add(first)?;
-    aggregate.add(second)?;
-    Ok(aggregate.best_settings(whole))
-}
-
 // How many heaps an aggregate of nobody has, and its best settings.
 fn for_nobody(
     alloc: Global,
     platform: &Platform,
-) -> Result<(usize, Result<Settings, Reason>), Fail> {
+) -> Result<(usize, Result<Settings, Reason>), AllocError> {
     let aggregate = Aggregate::new(alloc, platform)?;
     let heaps = aggregate.platform().heaps().len();
     Ok((heaps, aggregate.best_settings(true)))
@@ -71,18 +57,31 @@ fn no_participant(rt: HostRuntime) -> Result<(), Fail> {
 // Of settings the offer, the count, the size in bytes and the least width.
 type Told = (Offer, u32, u64, u32);
 
+// The best settings for two participants.
+fn best(
+    alloc: Global,
+    platform: &Platform,
+    first: &Constraints,
+    second: &Constraints,
+    whole: bool,
+) -> Result<Result<Settings, Reason>, AllocError> {
+    let mut aggregate = Aggregate::new(alloc, platform)?;
+    aggregate.add(first)?;
+    aggregate.add(second)?;
+    Ok(aggregate.best_settings(whole))
+}
+
 // What is told of the best settings for participants of two records.
 fn shared(
     alloc: Global,
+    platform: &Platform,
     first: &str,
     second: &str,
     whole: bool,
 ) -> Result<Result<Told, Reason>, Fail> {
-    let platform = platform(alloc)?;
     let first = asked(alloc, first)?;
     let second = asked(alloc, second)?;
-    let found = best(alloc, &platform, &first, &second, whole)?;
-    Ok(told(found))
+    Ok(told(best(alloc, platform, &first, &second, whole)?))
 }
 
 fn told(found: Result<Settings, Reason>) -> Result<Told, Reason> {
@@ -160,8 +159,9 @@ const NV12: Offer = Offer::Image(
 
 #[test]
 fn best_for_two(rt: HostRuntime) -> Result<(), Fail> {
+    let platform = platform(rt.alloc())?;
     for (row, (first, second, whole, wanted)) in ROWS.iter().enumerate() {
-        let found = shared(rt.alloc(), first, second, *whole)?;
+        let found = shared(rt.alloc(), &platform, first, second, *whole)?;
         are_equal(&rt, &[((row, found), (row, *wanted))]);
     }
     Ok(())
