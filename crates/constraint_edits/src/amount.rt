@@ -1,7 +1,8 @@
 //! The value of a field of constraints, and values between two.
 
-use crate::edits::{Changed, ENTRIES, Edit, MEMORY, with};
-use serde_json::{Number, Value};
+use crate::edits::{Changed, Edit};
+use crate::objects::{ENTRIES, MEMORY, entries_of, number_value, with};
+use serde_json::Value;
 use std::alloc::{AllocError, Global};
 use std::fmt;
 
@@ -21,6 +22,11 @@ fn between(good: u64, bad: u64) -> Option<u64> {
     Some(good.saturating_add(gap / 2))
 }
 
+/// The half of an even number, 1 of an odd one.
+fn half_of(number: u64) -> u64 {
+    if number % 2 == 0 { number / 2 } else { 1 }
+}
+
 impl Amount {
     /// The same with zeros.
     pub(crate) fn none(self) -> Amount {
@@ -37,6 +43,32 @@ impl Amount {
             Amount::Sides(width, height) => {
                 Amount::Sides(width.saturating_add(1), height.saturating_add(1))
             }
+        }
+    }
+
+    /// Whether it is greater than another, in a side at least.
+    pub(crate) fn is_above(self, other: Amount) -> bool {
+        match (self, other) {
+            (Amount::Number(a), Amount::Number(b)) => a > b,
+            (Amount::Sides(a, b), Amount::Sides(c, d)) => a > c || b > d,
+            _ => false,
+        }
+    }
+
+    /// The half: of the width, and once that is 1 of the stated height. `None` where each was halved to 1.
+    pub(crate) fn half(self, stated: Amount) -> Option<Amount> {
+        match (self, stated) {
+            (Amount::Number(n), _) if half_of(n) > 1 => Some(Amount::Number(half_of(n))),
+            (Amount::Sides(w, h), Amount::Sides(width, height)) => {
+                if h == height && w > 1 {
+                    Some(Amount::Sides(half_of(w), h))
+                } else if h > 1 {
+                    Some(Amount::Sides(width, half_of(h)))
+                } else {
+                    None
+                }
+            }
+            _ => None,
         }
     }
 
@@ -98,14 +130,7 @@ impl fmt::Display for Amount {
     }
 }
 
-fn number_value(number: u64) -> Value {
-    match Number::from_u128(u128::from(number)) {
-        Some(number) => Value::Number(number),
-        None => Value::Null,
-    }
-}
-
-fn amount_of(value: &Value) -> Option<Amount> {
+pub(crate) fn amount_of(value: &Value) -> Option<Amount> {
     if let Some(number) = value.as_u64() {
         return Some(Amount::Number(number));
     }
@@ -117,18 +142,17 @@ fn amount_of(value: &Value) -> Option<Amount> {
 /// The value of the field that a change leaves out: of a bound that of the first entry that has it.
 pub(crate) fn amount_in(value: &Value, edit: Edit) -> Option<Amount> {
     match edit {
-        Edit::Supports(_) => None,
         Edit::NoCount(field) => amount_of(value.get(field.name())?),
         Edit::NoMemory(field) => amount_of(value.get(MEMORY)?.get(field.name())?),
         Edit::NoBound(field) => {
-            let entries = value.get(ENTRIES)?.as_array()?;
-            let member = entries.iter().find_map(|entry| entry.get(field.name()))?;
-            amount_of(member)
+            let name = field.name();
+            amount_of(entries_of(value).iter().find_map(|entry| entry.get(name))?)
         }
+        _ => None,
     }
 }
 
-/// The constraints with another value of that field, of a bound in each entry that has it.
+/// The constraints with another value of the field that a change leaves out, of a bound in each entry that has it.
 pub(crate) fn with_amount(
     alloc: Global,
     value: &Value,
@@ -136,23 +160,34 @@ pub(crate) fn with_amount(
     stated: Amount,
     amount: Amount,
 ) -> Result<Changed, AllocError> {
-    let name = edit.field().name();
-    let changed = stating(alloc, value, edit, amount)?;
+    let name = match edit.left_out() {
+        Some(field) => field.name(),
+        None => "",
+    };
+    let changed = match edit {
+        Edit::NoBound(_) => with_bound(alloc, value, name, amount)?,
+        Edit::NoMemory(_) => {
+            let memory = with(alloc, value.get(MEMORY), name, amount.value(alloc)?)?;
+            with(alloc, Some(value), MEMORY, memory)?
+        }
+        _ => with(alloc, Some(value), name, amount.value(alloc)?)?,
+    };
     Ok(Changed {
         value: changed,
         words: format!(in alloc; "{name} {amount} (is {stated})")?,
     })
 }
 
-fn stating(alloc: Global, value: &Value, edit: Edit, amount: Amount) -> Result<Value, AllocError> {
-    let key = edit.field().name();
-    match edit {
-        Edit::NoCount(_) => with(alloc, Some(value), key, amount.value(alloc)?),
-        Edit::NoBound(_) => with_bound(alloc, value, key, amount),
-        Edit::Supports(_) | Edit::NoMemory(_) => {
-            let memory = with(alloc, value.get(MEMORY), key, amount.value(alloc)?)?;
-            with(alloc, Some(value), MEMORY, memory)
-        }
+/// The constraints with another value of the field that a change would leave out; `None` where it isn't there.
+pub fn edited_to(
+    alloc: Global,
+    value: &Value,
+    edit: Edit,
+    amount: Amount,
+) -> Result<Option<Changed>, AllocError> {
+    match amount_in(value, edit) {
+        Some(stated) => Ok(Some(with_amount(alloc, value, edit, stated, amount)?)),
+        None => Ok(None),
     }
 }
 
@@ -163,10 +198,8 @@ fn with_bound(
     amount: Amount,
 ) -> Result<Value, AllocError> {
     let mut copy = Vec::new(alloc);
-    if let Some(entries) = value.get(ENTRIES).and_then(Value::as_array) {
-        for entry in entries {
-            copy.push(entry_with(alloc, entry, key, amount)?)?;
-        }
+    for entry in entries_of(value) {
+        copy.push(entry_with(alloc, entry, key, amount)?)?;
     }
     with(alloc, Some(value), ENTRIES, Value::Array(copy))
 }

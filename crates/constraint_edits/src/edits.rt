@@ -1,17 +1,22 @@
 //! Constraints with one field changed.
 
-use serde_json::{Map, Value};
+use crate::exchanging::exchanged;
+use crate::objects::{ENTRIES, MEMORY, entries_of, have, lacking, with, words_without};
+use crate::permitting::{meaning, permitting};
+use crate::taking::{taking_colour, taking_pair};
+use serde_json::Value;
 use std::alloc::{AllocError, Global};
-use std::fmt::Write;
 use sysmem_counts::Field;
-
-pub(crate) const MEMORY: &str = "buffer_memory_constraints";
-
-pub(crate) const ENTRIES: &str = "image_format_constraints";
+use sysmem_formats::{ColourSpace, Pair};
+use sysmem_memory::HeapInfo;
 
 /// A change of one field of one participant.
 #[derive(Clone, Copy)]
 pub enum Edit {
+    /// A heap is permitted in the place of one that nearly has its name: the heap of an index.
+    MeansHeap(usize),
+    /// Two fields are exchanged wherever the first is above the second, which is to be above it.
+    Exchanges(Field, Field),
     /// A coherency domain is supported.
     Supports(Field),
     /// A field of the counts is left out.
@@ -20,21 +25,32 @@ pub enum Edit {
     NoMemory(Field),
     /// A bound is left out of all entries.
     NoBound(Field),
+    /// A colour space is taken by all entries too.
+    TakesColour(ColourSpace),
+    /// A format with a modifier is taken by an entry more.
+    TakesPair(Pair),
+    /// A heap is permitted too: the heap of an index.
+    PermitsHeap(usize),
 }
 
 impl Edit {
-    pub(crate) fn field(self) -> Field {
+    /// The field that it leaves out.
+    pub(crate) fn left_out(self) -> Option<Field> {
         match self {
-            Edit::Supports(field)
-            | Edit::NoCount(field)
-            | Edit::NoMemory(field)
-            | Edit::NoBound(field) => field,
+            Edit::NoCount(field) | Edit::NoMemory(field) | Edit::NoBound(field) => Some(field),
+            _ => None,
         }
     }
 }
 
-/// The changes that are tried, those that are mostly meant first.
-pub const EDITS: [Edit; 24] = [
+/// The changes that go by no platform and are tried first.
+const FIRST: [Edit; 27] = [
+    Edit::Exchanges(Field::MinBufferCount, Field::MaxBufferCount),
+    Edit::Exchanges(Field::MinSizeBytes, Field::MaxSizeBytes),
+    Edit::Exchanges(Field::MinSize, Field::MaxSize),
+    Edit::Exchanges(Field::MinSize, Field::RequiredMinSize),
+    Edit::Exchanges(Field::RequiredMaxSize, Field::MaxSize),
+    Edit::Exchanges(Field::MinBytesPerRow, Field::MaxBytesPerRow),
     Edit::Supports(Field::RamDomainSupported),
     Edit::Supports(Field::CpuDomainSupported),
     Edit::Supports(Field::InaccessibleDomainSupported),
@@ -56,10 +72,38 @@ pub const EDITS: [Edit; 24] = [
     Edit::NoBound(Field::BytesPerRowDivisor),
     Edit::NoBound(Field::StartOffsetDivisor),
     Edit::NoBound(Field::DisplayRectAlignment),
-    Edit::NoMemory(Field::PermittedHeaps),
+];
+
+/// Those that drop what a participant demands of a buffer, and are tried last.
+const LAST: [Edit; 2] = [
     Edit::NoMemory(Field::PhysicallyContiguousRequired),
     Edit::NoMemory(Field::SecureRequired),
 ];
+
+/// The changes that are tried on a platform with these heaps, pairs and colour spaces, those that are mostly meant first.
+pub fn edits_on(
+    alloc: Global,
+    heaps: usize,
+    pairs: &[Pair],
+    colours: &[ColourSpace],
+) -> Result<Vec<Edit>, AllocError> {
+    let mut edits: Vec<Edit> = Vec::new(alloc);
+    for heap in 0..heaps {
+        edits.push(Edit::MeansHeap(heap))?;
+    }
+    edits.extend_from_slice(&FIRST)?;
+    for colour in colours {
+        edits.push(Edit::TakesColour(*colour))?;
+    }
+    for pair in pairs {
+        edits.push(Edit::TakesPair(*pair))?;
+    }
+    for heap in 0..heaps {
+        edits.push(Edit::PermitsHeap(heap))?;
+    }
+    edits.extend_from_slice(&LAST)?;
+    Ok(edits)
+}
 
 /// Constraints after a change, with what is changed in words.
 #[derive(Drop)]
@@ -68,66 +112,24 @@ pub struct Changed {
     pub words: String,
 }
 
-/// The constraints with a change; `None` where they are so already.
-pub fn edited(alloc: Global, value: &Value, edit: Edit) -> Result<Option<Changed>, AllocError> {
+/// The constraints with a change, on a platform with these heaps; `None` where they are so already.
+pub fn edited(
+    alloc: Global,
+    value: &Value,
+    edit: Edit,
+    heaps: &[HeapInfo],
+) -> Result<Option<Changed>, AllocError> {
     match edit {
+        Edit::MeansHeap(index) => meaning(alloc, value, heaps, index),
+        Edit::Exchanges(least, most) => exchanged(alloc, value, least.name(), most.name()),
         Edit::Supports(field) => supporting(alloc, value, field.name()),
         Edit::NoCount(field) => without(alloc, value, field.name()),
         Edit::NoMemory(field) => without_memory(alloc, value, field.name()),
         Edit::NoBound(field) => without_bound(alloc, value, field.name()),
+        Edit::TakesColour(colour) => taking_colour(alloc, value, colour.name()),
+        Edit::TakesPair(pair) => taking_pair(alloc, value, pair),
+        Edit::PermitsHeap(index) => permitting(alloc, value, heaps.get(index)),
     }
-}
-
-/// The members of an object; none where there is no object.
-fn members_of(alloc: Global, object: Option<&Value>) -> Result<Map<String, Value>, AllocError> {
-    if let Some(object) = object {
-        if let Value::Object(members) = object.clone()? {
-            return Ok(members);
-        }
-    }
-    Ok(Map::new(alloc))
-}
-
-/// An object with a member, in the place of one with that key.
-pub(crate) fn with(
-    alloc: Global,
-    object: Option<&Value>,
-    key: &str,
-    member: Value,
-) -> Result<Value, AllocError> {
-    let mut members = members_of(alloc, object)?;
-    let name = String::from_str(alloc, key)?;
-    let _before = members.insert(name, member)?;
-    Ok(Value::Object(members))
-}
-
-/// An object without a member.
-fn lacking(alloc: Global, object: &Value, key: &str) -> Result<Value, AllocError> {
-    let mut members = members_of(alloc, Some(object))?;
-    let _gone = members.remove(key);
-    Ok(Value::Object(members))
-}
-
-/// Puts a value in short after a text: a size as `1920x1080`.
-fn put_value(text: &mut String, value: &Value) -> Result<(), AllocError> {
-    if let (Some(width), Some(height)) = (value.get("width"), value.get("height")) {
-        if let (Some(width), Some(height)) = (width.as_u64(), height.as_u64()) {
-            return write!(text, "{width}x{height}");
-        }
-    }
-    if value.is_array() {
-        return text.push_str("a list");
-    }
-    let written = value.to_string(*text.allocator())?;
-    text.push_str(&written)
-}
-
-/// `no max_size (is 1920x1080)`.
-fn words_without(alloc: Global, key: &str, value: &Value) -> Result<String, AllocError> {
-    let mut words = format!(in alloc; "no {key} (is ")?;
-    put_value(&mut words, value)?;
-    words.push_str(")")?;
-    Ok(words)
 }
 
 fn supporting(alloc: Global, value: &Value, key: &str) -> Result<Option<Changed>, AllocError> {
@@ -135,6 +137,7 @@ fn supporting(alloc: Global, value: &Value, key: &str) -> Result<Option<Changed>
     let is = match memory.and_then(|memory| memory.get(key)) {
         Some(Value::Bool(true)) => return Ok(None),
         Some(_) => "is false",
+        None if key == Field::CpuDomainSupported.name() => return Ok(None),
         None => "is absent, so false",
     };
     let object = with(alloc, memory, key, Value::Bool(true))?;
@@ -158,35 +161,44 @@ fn without_memory(alloc: Global, value: &Value, key: &str) -> Result<Option<Chan
     let Some(memory) = value.get(MEMORY) else {
         return Ok(None);
     };
-    let Some(member) = memory.get(key) else {
+    let Some(change) = without(alloc, memory, key)? else {
         return Ok(None);
     };
-    let object = lacking(alloc, memory, key)?;
     Ok(Some(Changed {
-        value: with(alloc, Some(value), MEMORY, object)?,
-        words: words_without(alloc, key, member)?,
+        value: with(alloc, Some(value), MEMORY, change.value)?,
+        words: change.words,
     }))
 }
 
 fn without_bound(alloc: Global, value: &Value, key: &str) -> Result<Option<Changed>, AllocError> {
-    let Some(entries) = value.get(ENTRIES).and_then(Value::as_array) else {
+    if !have(value, key) {
         return Ok(None);
-    };
+    }
     let mut words = String::new(alloc);
     let mut copy = Vec::new(alloc);
-    for entry in entries {
-        if words.is_empty() {
-            if let Some(member) = entry.get(key) {
+    for entry in entries_of(value) {
+        if let Some(member) = entry.get(key) {
+            if words.is_empty() {
                 words = words_without(alloc, key, member)?;
             }
         }
         copy.push(lacking(alloc, entry, key)?)?;
     }
+    with_entries(alloc, value, copy, words)
+}
+
+/// The constraints with other entries, and what is changed; `None` where nothing is.
+pub(crate) fn with_entries(
+    alloc: Global,
+    value: &Value,
+    entries: Vec<Value>,
+    words: String,
+) -> Result<Option<Changed>, AllocError> {
     if words.is_empty() {
         return Ok(None);
     }
     Ok(Some(Changed {
-        value: with(alloc, Some(value), ENTRIES, Value::Array(copy))?,
+        value: with(alloc, Some(value), ENTRIES, Value::Array(entries))?,
         words,
     }))
 }

@@ -80,6 +80,38 @@ fn is_lowered(field: Field) -> bool {
     )
 }
 
+/// Whether a field asks for multiples of its value.
+fn is_multiple(field: Field) -> bool {
+    matches!(
+        field,
+        Field::SizeAlignment
+            | Field::BytesPerRowDivisor
+            | Field::StartOffsetDivisor
+            | Field::DisplayRectAlignment
+    )
+}
+
+/// How the least change is looked for.
+#[derive(Clone, Copy, PartialEq, Eq)]
+enum Way {
+    /// A greatest value is raised to what a decision has.
+    Raised,
+    /// A least value is lowered as little as possible.
+    Lowered,
+    /// A value of which multiples are asked for is halved as often as needed.
+    Halved,
+}
+
+fn way_of(field: Field) -> Option<Way> {
+    if is_lowered(field) {
+        Some(Way::Lowered)
+    } else if is_multiple(field) {
+        Some(Way::Halved)
+    } else {
+        None
+    }
+}
+
 /// Values of a field that are between the stated one and none, the next of which is to be tried.
 #[derive(Clone, Copy)]
 pub struct Halving {
@@ -88,13 +120,13 @@ pub struct Halving {
     /// What is known to do, and what is known not to.
     good: Amount,
     bad: Amount,
-    is_raised: bool,
+    way: Way,
 }
 
 impl Halving {
     /// The values that a change leaves between, where leaving the field out gives this line.
     pub fn of(value: &Value, edit: Edit, line: &str) -> Option<Halving> {
-        let field = edit.field();
+        let field = edit.left_out()?;
         let stated = amount_in(value, edit)?;
         if let Some(goal) = raised(field, line) {
             return Some(Halving {
@@ -102,43 +134,44 @@ impl Halving {
                 stated,
                 good: stated.greatest(goal),
                 bad: stated,
-                is_raised: true,
+                way: Way::Raised,
             });
         }
-        if !is_lowered(field) {
-            return None;
-        }
+        let way = way_of(field)?;
         Some(Halving {
             edit,
             stated,
             good: stated.none(),
-            bad: stated.above(),
-            is_raised: false,
+            bad: if way == Way::Lowered {
+                stated.above()
+            } else {
+                stated
+            },
+            way,
         })
     }
 
     /// The value that is to be tried next; `None` where none is left.
     pub fn next(&self) -> Option<Amount> {
-        if self.is_raised {
-            return if self.good == self.bad {
-                None
-            } else {
-                Some(self.good)
-            };
+        match self.way {
+            Way::Lowered => self.good.middle(self.bad),
+            _ if self.good == self.bad => None,
+            Way::Raised => Some(self.good),
+            Way::Halved => self.bad.half(self.stated),
         }
-        self.good.middle(self.bad)
     }
 
     /// A value was tried, and does or doesn't.
     pub fn learn(&mut self, amount: Amount, does: bool) {
-        if self.is_raised {
-            self.bad = self.good;
-            return;
-        }
-        if does {
-            self.good = amount;
-        } else {
-            self.bad = amount.ceiling(self.good, self.bad);
+        match self.way {
+            Way::Raised => self.bad = self.good,
+            Way::Lowered if !does => self.bad = amount.ceiling(self.good, self.bad),
+            Way::Halved if !does => self.bad = amount,
+            Way::Lowered => self.good = amount,
+            Way::Halved => {
+                self.good = amount;
+                self.bad = amount;
+            }
         }
     }
 
@@ -151,4 +184,20 @@ impl Halving {
     ) -> Result<Changed, AllocError> {
         with_amount(alloc, value, self.edit, self.stated, amount)
     }
+}
+
+/// A row of at least so many bytes may be too long to be meant.
+const LONG: u64 = 1_048_576;
+
+/// Fewer pixels than so many in a side are few.
+const SMALL: u64 = 16;
+
+/// Whether a decision that a change of constraints gives can't be meant: its row is long beyond all measure of its width; or, where sizes are asked
+/// for, its image is tiny.
+pub fn is_absurd(line: &str, is_sized: bool) -> bool {
+    let said = said_by(line);
+    if said.row >= LONG && said.row > said.width.saturating_mul(64) {
+        return true;
+    }
+    is_sized && said.width > 0 && (said.width < SMALL || said.height < SMALL)
 }

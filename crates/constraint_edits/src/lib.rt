@@ -1,8 +1,9 @@
-//! The constraints of a participant with one field changed, as JSON, with the change in words: the field left out, or with a value between.
+//! The constraints of a participant with one field changed, as JSON, with the change in words: the field left out, exchanged with another, with
+//! a value more, or with one between.
 //!
 //! ```
-//! for edit in EDITS {
-//!     if let Some(change) = edited(rt.alloc(), &value, edit)? {
+//! for edit in edits_on(rt.alloc(), heaps.len(), platform.pairs(), platform.colours())? {
+//!     if let Some(change) = edited(rt.alloc(), &value, edit, heaps)? {
 //!         println!(rt; "{}", change.words)?;
 //!     }
 //! }
@@ -11,8 +12,12 @@
 
 mod amount;
 mod edits;
+mod exchanging;
 mod halving;
+mod objects;
+mod permitting;
+mod taking;
 
-pub use amount::Amount;
-pub use edits::{Changed, EDITS, Edit, edited};
-pub use halving::Halving;
+pub use amount::{Amount, edited_to};
+pub use edits::{Changed, Edit, edited, edits_on};
+pub use halving::{Halving, is_absurd};

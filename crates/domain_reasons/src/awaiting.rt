@@ -224,6 +224,10 @@ fn help_of(
         if kind == NodeKind::Token && is_set {
             return format!(in alloc; "bind it before call {number}");
         }
+        if is_set && story.kind_before(node, number) == NodeKind::Token {
+            let bound = story.deed(node, Deed::Bind).unwrap_or(0);
+            return format!(in alloc; "move call {number} after call {bound}, which binds it");
+        }
         return format!(in alloc; "correct call {number}");
     }
     let words = match kind {

@@ -10,7 +10,7 @@ use std::alloc::{AllocError, Global};
 use std::fmt::Write;
 use story_parts::{Deed, Domain, Story, asked_in, put_domain};
 use sysmem_sanitise::Platform;
-use value_sources::put_texts;
+use value_sources::{Asked, put_texts};
 
 /// How many participants are named.
 const MOST_WHO: usize = 8;
@@ -84,7 +84,40 @@ fn tell_who(
 ) -> Result<(), AllocError> {
     let mut text = String::new(items.alloc());
     put_who(&mut text, story, index, are_selected)?;
-    items.say(1, "who", text)
+    items.say(1, "who", text)?;
+    for one in asked_in(items.alloc(), story, index, are_selected)? {
+        note_usage(items, story, one)?;
+    }
+    Ok(())
+}
+
+/// The usage that goes with what a participant or its actor is called, if one does.
+fn usage_of(name: &str) -> Option<&'static str> {
+    match name {
+        "display" | "screen" | "panel" => Some("display"),
+        "gpu" => Some("vulkan"),
+        "camera" | "isp" | "encoder" | "decoder" | "codec" => Some("video"),
+        _ => None,
+    }
+}
+
+/// Notes a usage that doesn't go with what a participant or its actor is called.
+fn note_usage(items: &mut Items, story: &Story<'_>, one: Asked<'_>) -> Result<(), AllocError> {
+    let alloc = items.alloc();
+    let number = story.deed(one.node, Deed::SetConstraints).unwrap_or(0);
+    let Some(usage) = usage_of(one.name).or(usage_of(story.actor(number))) else {
+        return Ok(());
+    };
+    let mut stated = String::new(alloc);
+    put_usage(&mut stated, story, number)?;
+    if stated.is_empty() || stated.as_str().split(' ').any(|word| word == usage) {
+        return Ok(());
+    }
+    let name = one.name;
+    let text = format!(in alloc;
+        "{name} (call {number}) doesn't state usage {usage}: are these the constraints that are meant for it?"
+    )?;
+    items.say(1, "note", text)
 }
 
 fn put_who(

@@ -4,11 +4,12 @@ use crate::choosing::groups_in;
 use crate::selecting::{Empty, MOST_TOLD, tell_empty};
 use explanation_text::Items;
 use script_reading::Act;
-use settings_reasons::tell_misfits;
+use settings_reasons::{failing, tell_misfits};
 use std::alloc::{AllocError, Global};
 use story_parts::{Domain, Made, Story, asked_in, left_out};
+use sysmem_merge::Settings;
 use sysmem_sanitise::Platform;
-use value_sources::put_texts;
+use value_sources::{Asked, put_texts, why_needed};
 
 /// Tells why a domain failed.
 pub(crate) fn tell_failed(
@@ -133,5 +134,93 @@ fn tell_late(
         return Ok(());
     };
     let people = asked_in(items.alloc(), story, index, false)?;
-    tell_misfits(items, platform, &people, settings)
+    let mut all = accepted_before(items.alloc(), story, index)?;
+    all.extend_from_slice(&people)?;
+    tell_room(items, &all, settings.count)?;
+    tell_fewer(items, &people, settings.count)?;
+    tell_unsuited(items, platform, &people, settings)
+}
+
+/// Tells in which fields settings fail participants, where they fail one.
+fn tell_unsuited(
+    items: &mut Items,
+    platform: &Platform,
+    people: &[Asked<'_>],
+    settings: &Settings,
+) -> Result<(), AllocError> {
+    let alloc = items.alloc();
+    for one in people {
+        if !failing(alloc, platform, settings, one.asked)?.is_empty() {
+            return tell_misfits(items, platform, people, settings);
+        }
+    }
+    Ok(())
+}
+
+/// The participants of the collection that were accepted before the domain of an index was decided.
+fn accepted_before<'a>(
+    alloc: Global,
+    story: &Story<'a>,
+    index: usize,
+) -> Result<Vec<Asked<'a>>, AllocError> {
+    let mut accepted: Vec<Asked<'a>> = Vec::new(alloc);
+    for earlier in &story.order {
+        if *earlier == index {
+            break;
+        }
+        match story.domains.get(*earlier) {
+            Some(domain) if domain.verdict() == "chosen" => {
+                let people = asked_in(alloc, story, *earlier, true)?;
+                accepted.extend_from_slice(&people)?;
+            }
+            _ => {}
+        }
+    }
+    Ok(accepted)
+}
+
+/// How many buffers participants need together: what they hold, and no fewer than any of them asks for.
+fn needed_by(people: &[Asked<'_>]) -> u64 {
+    let mut held = 0u64;
+    let mut shared = 0u32;
+    let mut least = 1u32;
+    for one in people {
+        let counts = one.asked.counts();
+        held = held
+            .saturating_add(u64::from(counts.min_buffer_count_for_camping))
+            .saturating_add(u64::from(counts.min_buffer_count_for_dedicated_slack));
+        shared = shared.max(counts.min_buffer_count_for_shared_slack);
+        least = least.max(counts.min_buffer_count);
+    }
+    held.saturating_add(u64::from(shared)).max(u64::from(least))
+}
+
+/// Tells how many buffers all need together, where more than were decided.
+fn tell_room(items: &mut Items, all: &[Asked<'_>], count: u32) -> Result<(), AllocError> {
+    let alloc = items.alloc();
+    let most = needed_by(all);
+    let lacking = most.saturating_sub(u64::from(count));
+    if lacking == 0 {
+        return Ok(());
+    }
+    let why = why_needed(alloc, all)?;
+    let text = format!(in alloc;
+        "{most} buffers are needed, {count} were decided, {lacking} too few: {why}"
+    )?;
+    items.say(1, "count", text)
+}
+
+/// Tells who takes fewer buffers than were decided.
+fn tell_fewer(items: &mut Items, people: &[Asked<'_>], count: u32) -> Result<(), AllocError> {
+    for one in people {
+        let most = one.asked.counts().max_buffer_count;
+        if most < count {
+            let name = one.name;
+            let text = format!(in items.alloc();
+                "{name} takes at most {most} buffers (max_buffer_count), {count} were decided"
+            )?;
+            items.say(1, "count", text)?;
+        }
+    }
+    Ok(())
 }

@@ -3,6 +3,8 @@
 use crate::changes::tell_changes;
 use crate::pending::tell_without;
 use crate::platforms::tell_platform;
+use crate::together::tell_together;
+use constraint_edits::edits_on;
 use domain_reasons::tell_domain;
 use explanation_text::Items;
 use script_story::Setting;
@@ -38,11 +40,30 @@ fn tell_help(
     let path = story.path(domain.root);
     match domain.verdict() {
         "pending" => tell_without(items, setting, story, index, path),
-        "empty" => {
-            let people = asked_in(items.alloc(), story, index, false)?;
-            tell_changes(items, setting, story, path, &people)?;
-            tell_platform(items, setting, path, &people)
-        }
+        "empty" => tell_edits(items, setting, story, index, path),
         _ => Ok(()),
     }
+}
+
+/// Tells what would help an empty domain: one change of a participant, or else some together, and a pair that the platform lacks.
+fn tell_edits(
+    items: &mut Items,
+    setting: &Setting<'_>,
+    story: &Story<'_>,
+    index: usize,
+    path: &str,
+) -> Result<(), AllocError> {
+    let alloc = items.alloc();
+    let platform = setting.platform;
+    let people = asked_in(alloc, story, index, false)?;
+    let edits = edits_on(
+        alloc,
+        platform.heaps().len(),
+        platform.pairs(),
+        platform.colours(),
+    )?;
+    if !tell_changes(items, setting, story, path, &people, &edits)? {
+        tell_together(items, setting, story, path, &people, &edits)?;
+    }
+    tell_platform(items, setting, path, &people)
 }

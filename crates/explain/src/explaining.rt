@@ -12,7 +12,7 @@ use script_story::{Setting, story_of};
 use serde_json::Value;
 use std::alloc::{AllocError, Global};
 use std::fmt::Write;
-use story_parts::{Story, put_domain, refused_calls, tell_refused};
+use story_parts::{Made, Story, put_domain, refused_calls, tell_refused};
 
 /// How many keys that are given twice are shown.
 const MOST_KEYS: usize = 6;
@@ -143,8 +143,31 @@ fn put_answer(items: &mut Items, story: &Story<'_>) -> Result<(), AllocError> {
         0 => text.push_str(", none refused")?,
         count => write!(text, ", {count} refused")?,
     }
+    let more = story
+        .calls
+        .iter()
+        .filter(|call| is_odd_answer(story, call))
+        .count();
+    if more > 0 {
+        write!(text, ", {more} answered otherwise than ok")?;
+    }
     put_verdicts(&mut text, story)?;
     items.push(Kind::Answer, 0, "", text)
+}
+
+/// Whether a verdict was asked for in vain, where the domain's own section doesn't tell why.
+fn is_odd_answer(story: &Story<'_>, call: &Made<'_>) -> bool {
+    if !call.asks() {
+        return false;
+    }
+    match call.code() {
+        "E9" => match call.node.and_then(|node| story.domain_of(node)) {
+            Some(domain) => domain.ended.is_some(),
+            None => false,
+        },
+        "E5" | "E6" => true,
+        _ => false,
+    }
 }
 
 /// Puts what became of each domain after a text.

@@ -11,8 +11,12 @@ mod changes;
 mod domains;
 mod explaining;
 mod lines;
+mod parts;
 mod pending;
 mod platforms;
+mod together;
+mod trying;
+mod worth;
 mod written;
 
 pub use explaining::{Explanation, Outcome, explain};

@@ -15,7 +15,7 @@ const MOST_ENTRIES: usize = 8;
 const LONGEST: usize = 262_144;
 
 /// The fields that reasons and changes name.
-const FIELDS: [&str; 24] = [
+const FIELDS: [&str; 25] = [
     "min_buffer_count_for_camping",
     "min_buffer_count_for_dedicated_slack",
     "min_buffer_count_for_shared_slack",
@@ -29,6 +29,7 @@ const FIELDS: [&str; 24] = [
     "ram_domain_supported",
     "inaccessible_domain_supported",
     "permitted_heaps",
+    "pixel_format",
     "color_spaces",
     "min_size",
     "max_size",

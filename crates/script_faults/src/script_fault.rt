@@ -64,6 +64,13 @@ fn tell_calls(items: &mut Items, document: &Document<'_>) -> Result<(), AllocErr
 pub fn tell_no_json(items: &mut Items, file: &str, bytes: &[u8]) -> Result<(), AllocError> {
     let alloc = items.alloc();
     put_answer(items, ScriptFault::NotJson)?;
+    if bytes.iter().all(|byte| byte.is_ascii_whitespace()) {
+        let text = String::from_str(
+            alloc,
+            "the file is empty: a script is an object with platform and calls",
+        )?;
+        return items.say(1, "", text);
+    }
     let valid = match std::str::from_utf8(bytes) {
         Ok(_) => bytes.len(),
         Err(error) => error.valid_up_to(),

@@ -106,7 +106,7 @@ fn tell_place(
         earlier.push(place)?;
     }
     let rows = place_rows(alloc, platform, &earlier, people, false)?;
-    tell_rows(items, 2, "not ", &rows)
+    tell_rows(items, 2, "not ", &rows, usize::MAX)
 }
 
 /// Tells the offer, and who refused each of those before it.
@@ -131,7 +131,7 @@ fn tell_offer(
     }
     let colours = platform.colours().len();
     let rows = offer_rows(alloc, &earlier, people, true, false, colours)?;
-    tell_rows(items, 2, "not ", &rows)
+    tell_rows(items, 2, "not ", &rows, usize::MAX)
 }
 
 /// Tells where an image's width, height and row come from.

@@ -10,8 +10,9 @@ use crate::lacking::{tell_no_heaps, tell_no_images};
 use crate::offering::{are_refused, offers_of};
 use crate::placing::{has_no_place, places_of};
 use crate::refusing::{offer_rows, place_rows};
-use crate::rows::tell_rows;
+use crate::rows::{nearest, tell_rows};
 use explanation_text::Items;
+use explanation_text::wording::MOST_NAMES;
 use std::alloc::{AllocError, Global};
 use std::fmt::Write;
 use sysmem_counts::Field;
@@ -80,7 +81,7 @@ fn tell_places(
     let head = none_of(alloc, "place", choices.places.len())?;
     items.say(depth, "place", head)?;
     let rows = place_rows(alloc, choices.platform, choices.places, people, true)?;
-    tell_rows(items, depth.saturating_add(1), "", &rows)?;
+    tell_rows(items, depth.saturating_add(1), "", &rows, usize::MAX)?;
     tell_no_heaps(items, depth, choices.platform, people)
 }
 
@@ -101,7 +102,8 @@ fn tell_offers(
     items.say(depth, "image", head)?;
     let colours = choices.platform.colours().len();
     let rows = offer_rows(alloc, offers, people, whole, true, colours)?;
-    tell_rows(items, depth.saturating_add(1), "", &rows)?;
+    let far = nearest(&rows).saturating_add(1);
+    tell_rows(items, depth.saturating_add(1), "", &rows, far)?;
     tell_no_images(items, depth, choices.platform, people)
 }
 
@@ -111,6 +113,9 @@ fn none_of(alloc: Global, what: &str, count: usize) -> Result<String, AllocError
     }
     format!(in alloc; "each of the {count} {what}s fails; the nearest first:")
 }
+
+/// How many sets of those who are in the way are told beside the first.
+const MOST_SETS: usize = 3;
 
 /// How many participants may be asked together; a tree has at most 128.
 const MOST_ASKED: usize = 1024;
@@ -168,16 +173,74 @@ fn tell_in_the_way(
         return Ok(());
     };
     let mut text = String::from_str(alloc, "in the way: ")?;
-    put_people(&mut text, &kept)?;
+    put_unmet(&mut text, &kept)?;
     let others = people.len().saturating_sub(kept.len());
-    if kept.len() == 1 {
-        text.push_str(" can't be met even by itself")?;
-    } else if others == 1 {
+    if kept.len() > 1 && others == 1 {
         text.push_str(", whatever the other asks")?;
-    } else if others > 1 {
+    } else if kept.len() > 1 && others > 1 {
         write!(text, ", whatever the other {others} ask")?;
     }
-    items.say(depth, "", text)
+    items.say(depth, "", text)?;
+    tell_others_in_the_way(items, depth, platform, people, &kept)
+}
+
+/// Puts who leave no settings by themselves after a text.
+fn put_unmet(text: &mut String, people: &[Asked<'_>]) -> Result<(), AllocError> {
+    put_people(text, people)?;
+    if people.len() == 1 {
+        text.push_str(" can't be met even by itself")?;
+    }
+    Ok(())
+}
+
+/// Tells others who leave no settings by themselves: without one of those who are told, and so on.
+fn tell_others_in_the_way<'a>(
+    items: &mut Items,
+    depth: usize,
+    platform: &Platform,
+    people: &[Asked<'a>],
+    told: &[Asked<'a>],
+) -> Result<(), AllocError> {
+    let alloc = items.alloc();
+    let mut rest = Vec::from_slice(alloc, people)?;
+    let mut kept = Vec::from_slice(alloc, told)?;
+    for _set in 0..MOST_SETS {
+        let Some(others) = without_one(alloc, platform, &rest, &kept)? else {
+            break;
+        };
+        rest = others.rest;
+        kept = others.kept;
+        if kept.len() > MOST_NAMES {
+            break;
+        }
+        let mut text = String::from_str(alloc, "also in the way: ")?;
+        put_unmet(&mut text, &kept)?;
+        items.say(depth, "", text)?;
+    }
+    Ok(())
+}
+
+/// Participants, and some of them who leave no settings by themselves.
+#[derive(Drop)]
+struct Others<'a> {
+    rest: Vec<Asked<'a>>,
+    kept: Vec<Asked<'a>>,
+}
+
+/// Participants without one of some, and who of them leave no settings; `None` where without each there are some.
+fn without_one<'a>(
+    alloc: Global,
+    platform: &Platform,
+    people: &[Asked<'a>],
+    some: &[Asked<'a>],
+) -> Result<Option<Others<'a>>, AllocError> {
+    for one in some {
+        let rest = all_but(alloc, people, one.node)?;
+        if let Some(kept) = in_the_way(alloc, platform, &rest)? {
+            return Ok(Some(Others { rest, kept }));
+        }
+    }
+    Ok(None)
 }
 
 /// The participants without the one of this number.

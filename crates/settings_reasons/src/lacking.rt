@@ -149,5 +149,5 @@ fn tell_lacked(
     }
     let head = String::from_str(alloc, "the platform doesn't have these:")?;
     items.say(depth, "lacks", head)?;
-    tell_rows(items, depth.saturating_add(1), "", &rows)
+    tell_rows(items, depth.saturating_add(1), "", &rows, usize::MAX)
 }

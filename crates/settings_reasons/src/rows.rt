@@ -56,19 +56,31 @@ pub(crate) fn are_same(a: &[String], b: &[String]) -> bool {
     a.len() == b.len() && a.iter().zip(b).all(|(x, y)| x.as_str() == y.as_str())
 }
 
-/// Tells the rows, the nearest first and else in their order; more than some are counted.
+/// How many of the rows, the nearest first, are told: of those that aren't farther than a distance so many; one more is shown rather than counted.
+fn shown(rows: &[Row], far: usize) -> usize {
+    let near = rows.iter().filter(|row| row.distance <= far).count();
+    let some = if rows.len() <= near.saturating_add(1) {
+        rows.len()
+    } else {
+        near
+    };
+    if some <= MOST_ROWS.saturating_add(1) {
+        some
+    } else {
+        MOST_ROWS
+    }
+}
+
+/// Tells the rows, the nearest first and else in their order; more than some are counted, and so are those that are farther than a distance.
 pub(crate) fn tell_rows(
     items: &mut Items,
     depth: usize,
     before: &str,
     rows: &[Row],
+    far: usize,
 ) -> Result<(), AllocError> {
     let alloc = items.alloc();
-    let most = if rows.len() <= MOST_ROWS.saturating_add(1) {
-        rows.len()
-    } else {
-        MOST_ROWS
-    };
+    let most = shown(rows, far);
     let order = order_of(items, rows)?;
     let mut others = 0usize;
     for (k, index) in order.iter().enumerate() {
@@ -95,6 +107,15 @@ fn order_of(items: &Items, rows: &[Row]) -> Result<Vec<usize>, AllocError> {
         add_at(&mut order, rows, distance)?;
     }
     Ok(order)
+}
+
+/// The distance of the nearest row.
+pub(crate) fn nearest(rows: &[Row]) -> usize {
+    let mut least = usize::MAX;
+    for row in rows {
+        least = least.min(row.distance);
+    }
+    least
 }
 
 fn farthest(rows: &[Row]) -> usize {

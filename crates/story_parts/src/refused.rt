@@ -1,7 +1,7 @@
 //! Why calls were refused.
 
 use crate::story::{Deed, Made, Story};
-use explanation_text::wording::{MOST_NAMES, put_few};
+use explanation_text::wording::{MOST_NAMES, put_few, put_joined};
 use explanation_text::{Items, Kind};
 use json_places::Step;
 use record_faults::{Document, tell_record_fault};
@@ -183,11 +183,14 @@ fn put_row(text: &mut String, call: &Made<'_>, row: &Row) -> Result<(), AllocErr
     put_calls(text, call, &row.numbers)?;
     text.push_str(": ")?;
     text.push_str(call.reply)?;
-    if row.fault.is_none() {
-        text.push_str(": ")?;
-        text.push_str(&row.cause)?;
+    match row.fault {
+        None => {
+            text.push_str(": ")?;
+            text.push_str(&row.cause)
+        }
+        Some(_) if call.code() == "S2" => text.push_str(": a key that isn't known"),
+        Some(_) => Ok(()),
     }
-    Ok(())
 }
 
 /// Puts which calls they are after a text: `call 3, bind a`, or `calls 3, 4 and 5`.
@@ -339,7 +342,7 @@ fn too_early(
     put_awaited(&mut text, story, index, number)?;
     if let Some(domain) = story.domain_of(node) {
         let last = domain.ended.unwrap_or(0);
-        write!(text, ": move it after call {last}")?;
+        write!(text, ": move it after call {last}, or use wait")?;
     }
     Ok(text)
 }
@@ -380,7 +383,11 @@ fn wrong_state(
             Some(deed) if deed.name() == "close" => "closed",
             _ => "released",
         };
-        return format!(in alloc; "{on} was {how} by call {gone} ({actor})");
+        let mut text = format!(in alloc; "{on} was {how} by call {gone} ({actor})")?;
+        if matches!(call.act, Act::SetConstraints(_)) {
+            put_unset(&mut text, story, number, "; it may mean ")?;
+        }
+        return Ok(text);
     }
     let makes = matches!(call.act, Act::CreateChild(_) | Act::AllChildrenPresent);
     match story.kind_before(node, number) {
@@ -400,14 +407,42 @@ fn unbound(
     number: usize,
 ) -> Result<String, AllocError> {
     let on = call.on;
-    match story.deed(node, Deed::Bind) {
-        Some(later) if later > number => {
-            format!(in alloc;
-                "{on} is a token until call {later} binds it: this call stands too early, or means another name"
-            )
-        }
-        _ => format!(in alloc; "{on} is a token: bind makes it a collection"),
+    let Some(later) = story.deed(node, Deed::Bind) else {
+        return format!(in alloc; "{on} is a token: bind makes it a collection");
+    };
+    let mut text = format!(in alloc;
+        "{on} is a token until call {later} binds it: move this call after call {later}"
+    )?;
+    if matches!(call.act, Act::SetConstraints(_)) {
+        put_unset(&mut text, story, number, ", or it means ")?;
     }
+    Ok(text)
+}
+
+/// Puts who was bound before the call of a number and has no constraints after a text, if somebody is, with words before it: it may be meant.
+fn put_unset(
+    text: &mut String,
+    story: &Story<'_>,
+    number: usize,
+    before: &str,
+) -> Result<(), AllocError> {
+    let mut names: Vec<&str> = Vec::new(*text.allocator());
+    for node in 0..story.nodes.len() {
+        let is_bound = story.deed_before(node, Deed::Bind, number).is_some();
+        if is_bound && story.is_awaited(node, usize::MAX) {
+            names.push(story.name(node))?;
+        }
+    }
+    if names.is_empty() {
+        return Ok(());
+    }
+    text.push_str(before)?;
+    put_joined(text, &names, "or")?;
+    text.push_str(if names.len() == 1 {
+        ", which isn't set"
+    } else {
+        ", which aren't set"
+    })
 }
 
 fn wrong_group(
@@ -470,6 +505,8 @@ fn set_before(
     let is_meant = story.nodes.iter().any(|other| other.name == actor);
     if is_meant && actor != on {
         put_meant(&mut text, actor)?;
+    } else {
+        put_unset(&mut text, story, number, ": it may mean ")?;
     }
     Ok(text)
 }

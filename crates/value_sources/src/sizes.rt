@@ -137,7 +137,7 @@ impl<'a> Wishes<'a, '_> {
             }
             let multiple = align.value;
             let who = align.why.as_str();
-            write!(why, ", up to a multiple of {multiple} ({who})")?;
+            write!(why, ", rounded up to a multiple of {multiple} ({who})")?;
         }
         Ok(Derived { value, why })
     }
@@ -173,7 +173,7 @@ impl<'a> Wishes<'a, '_> {
                     write!(why, " ({from})")?;
                 }
                 if plain != packed {
-                    write!(why, ", up to tiles of {tile} bytes")?;
+                    write!(why, ", rounded up to tiles of {tile} bytes")?;
                 }
             }
         }
@@ -202,7 +202,10 @@ impl<'a> Wishes<'a, '_> {
         if value != base {
             let multiple = divisor.value;
             let who = divisor.why.as_str();
-            write!(why, " = {base}, up to a multiple of {multiple} ({who})")?;
+            write!(
+                why,
+                " = {base}, rounded up to a multiple of {multiple} ({who})"
+            )?;
         }
         Ok(Derived { value, why })
     }
@@ -243,7 +246,7 @@ impl<'a> Wishes<'a, '_> {
         let mut why = format!(in alloc; "row {row} x ")?;
         write!(why, "{rows} {}", if rows == 1 { "row" } else { "rows" })?;
         if rows != height {
-            write!(why, " ({height}, up to whole tiles)")?;
+            write!(why, " ({height}, rounded up to whole tiles)")?;
         }
         let mut value = row.saturating_mul(rows);
         if has_half_plane(&self.offer) {

@@ -4,7 +4,7 @@ use Rattle.serde_json.specs.View.{view}
 use Rattle.script_reading.specs.Seen.{call_seen}
 use Rattle.explain.specs.Edited.{stating}
 use Rattle.explain.proofs.Stating.{stating_at}
-use Rattle.explain.proofs.changes.replaced.Goals as goal
+use Rattle.explain.proofs.trying.replaced.Goals as goal
 
 pub returns : goal.returns
 returns c =

@@ -1,0 +1,65 @@
+//! Constraints that contradict themselves, with a least and a greatest value exchanged.
+
+use crate::amount::amount_of;
+use crate::edits::{Changed, with_entries};
+use crate::objects::{MEMORY, entries_of, have, with};
+use serde_json::Value;
+use std::alloc::{AllocError, Global};
+
+/// The constraints with the values of two fields exchanged wherever the first is above the second; `None` where it nowhere is.
+pub(crate) fn exchanged(
+    alloc: Global,
+    value: &Value,
+    least: &str,
+    most: &str,
+) -> Result<Option<Changed>, AllocError> {
+    if let Some(change) = exchanged_in(alloc, value, least, most)? {
+        return Ok(Some(change));
+    }
+    if let Some(memory) = value.get(MEMORY) {
+        if let Some(change) = exchanged_in(alloc, memory, least, most)? {
+            return Ok(Some(Changed {
+                value: with(alloc, Some(value), MEMORY, change.value)?,
+                words: change.words,
+            }));
+        }
+    }
+    if !have(value, least) {
+        return Ok(None);
+    }
+    let mut words = String::new(alloc);
+    let mut copy = Vec::new(alloc);
+    for entry in entries_of(value) {
+        match exchanged_in(alloc, entry, least, most)? {
+            Some(change) => {
+                words = change.words;
+                copy.push(change.value)?;
+            }
+            None => copy.push(entry.clone()?)?,
+        }
+    }
+    with_entries(alloc, value, copy, words)
+}
+
+/// The same of one object.
+fn exchanged_in(
+    alloc: Global,
+    object: &Value,
+    least: &str,
+    most: &str,
+) -> Result<Option<Changed>, AllocError> {
+    let (Some(low), Some(high)) = (object.get(least), object.get(most)) else {
+        return Ok(None);
+    };
+    let (Some(a), Some(b)) = (amount_of(low), amount_of(high)) else {
+        return Ok(None);
+    };
+    if !a.is_above(b) {
+        return Ok(None);
+    }
+    let lowered = with(alloc, Some(object), least, high.clone()?)?;
+    Ok(Some(Changed {
+        value: with(alloc, Some(&lowered), most, low.clone()?)?,
+        words: format!(in alloc; "{least} and {most} exchanged (are {a} and {b})")?,
+    }))
+}

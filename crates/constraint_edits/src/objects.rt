@@ -1,0 +1,83 @@
+//! Values of JSON with a member put in or left out, and their words.
+
+use serde_json::{Map, Number, Value};
+use std::alloc::{AllocError, Global};
+
+pub(crate) const MEMORY: &str = "buffer_memory_constraints";
+
+pub(crate) const ENTRIES: &str = "image_format_constraints";
+
+/// The members of an object; none where there is no object.
+fn members_of(alloc: Global, object: Option<&Value>) -> Result<Map<String, Value>, AllocError> {
+    if let Some(object) = object {
+        if let Value::Object(members) = object.clone()? {
+            return Ok(members);
+        }
+    }
+    Ok(Map::new(alloc))
+}
+
+/// An object with a member, in the place of one with that key.
+pub(crate) fn with(
+    alloc: Global,
+    object: Option<&Value>,
+    key: &str,
+    member: Value,
+) -> Result<Value, AllocError> {
+    let mut members = members_of(alloc, object)?;
+    let name = String::from_str(alloc, key)?;
+    let _before = members.insert(name, member)?;
+    Ok(Value::Object(members))
+}
+
+/// An object without a member.
+pub(crate) fn lacking(alloc: Global, object: &Value, key: &str) -> Result<Value, AllocError> {
+    let mut members = members_of(alloc, Some(object))?;
+    let _gone = members.remove(key);
+    Ok(Value::Object(members))
+}
+
+pub(crate) fn number_value(number: u64) -> Value {
+    match Number::from_u128(u128::from(number)) {
+        Some(number) => Value::Number(number),
+        None => Value::Null,
+    }
+}
+
+pub(crate) fn text_value(alloc: Global, text: &str) -> Result<Value, AllocError> {
+    Ok(Value::String(String::from_str(alloc, text)?))
+}
+
+/// The entries of constraints.
+pub(crate) fn entries_of(value: &Value) -> &[Value] {
+    match value.get(ENTRIES).and_then(Value::as_array) {
+        Some(entries) => entries.as_slice(),
+        None => &[],
+    }
+}
+
+/// Whether an entry of constraints has a member.
+pub(crate) fn have(value: &Value, key: &str) -> bool {
+    entries_of(value)
+        .iter()
+        .any(|entry| entry.get(key).is_some())
+}
+
+/// Puts a value in short after a text: a size as `1920x1080`.
+fn put_value(text: &mut String, value: &Value) -> Result<(), AllocError> {
+    if let (Some(width), Some(height)) = (value.get("width"), value.get("height")) {
+        if let (Some(width), Some(height)) = (width.as_u64(), height.as_u64()) {
+            return write!(text, "{width}x{height}");
+        }
+    }
+    let written = value.to_string(*text.allocator())?;
+    text.push_str(&written)
+}
+
+/// `no max_size (is 1920x1080)`.
+pub(crate) fn words_without(alloc: Global, key: &str, value: &Value) -> Result<String, AllocError> {
+    let mut words = format!(in alloc; "no {key} (is ")?;
+    put_value(&mut words, value)?;
+    words.push_str(")")?;
+    Ok(words)
+}

@@ -1,0 +1,128 @@
+//! Constraints that permit a heap more, or another in the place of one that nearly has its name.
+
+use crate::edits::Changed;
+use crate::objects::{MEMORY, number_value, text_value, with};
+use explanation_text::nearest;
+use serde_json::Value;
+use std::alloc::{AllocError, Global};
+use sysmem_memory::{Heap, HeapInfo};
+
+const HEAPS: &str = "permitted_heaps";
+
+/// The heaps that constraints permit, where they name some and not this one.
+fn others_than<'a>(value: &'a Value, heap: &Heap) -> Option<&'a [Value]> {
+    let list = value.get(MEMORY)?.get(HEAPS)?.as_array()?.as_slice();
+    if list.is_empty() || list.iter().any(|item| is_heap(item, heap)) {
+        return None;
+    }
+    Some(list)
+}
+
+fn type_in(item: &Value) -> &str {
+    item.get("heap_type").and_then(Value::as_str).unwrap_or("")
+}
+
+fn id_in(item: &Value) -> u64 {
+    item.get("id").and_then(Value::as_u64).unwrap_or(0)
+}
+
+fn is_heap(item: &Value, heap: &Heap) -> bool {
+    type_in(item) == heap.heap_type.as_str() && id_in(item) == heap.id
+}
+
+fn heap_value(alloc: Global, heap: &Heap) -> Result<Value, AllocError> {
+    let name = text_value(alloc, &heap.heap_type)?;
+    let typed = with(alloc, None, "heap_type", name)?;
+    with(alloc, Some(&typed), "id", number_value(heap.id))
+}
+
+/// The constraints with a heap more that they permit; `None` where they permit it.
+pub(crate) fn permitting(
+    alloc: Global,
+    value: &Value,
+    info: Option<&HeapInfo>,
+) -> Result<Option<Changed>, AllocError> {
+    let Some(info) = info else {
+        return Ok(None);
+    };
+    let heap = &info.heap;
+    let Some(list) = others_than(value, heap) else {
+        return Ok(None);
+    };
+    let mut copy = Vec::new(alloc);
+    for item in list {
+        copy.push(item.clone()?)?;
+    }
+    copy.push(heap_value(alloc, heap)?)?;
+    let name = heap.heap_type.as_str();
+    let id = heap.id;
+    let words = format!(in alloc; "permitted_heaps with {name}#{id} too")?;
+    permitted(alloc, value, copy, words)
+}
+
+fn permitted(
+    alloc: Global,
+    value: &Value,
+    list: Vec<Value>,
+    words: String,
+) -> Result<Option<Changed>, AllocError> {
+    let memory = with(alloc, value.get(MEMORY), HEAPS, Value::Array(list))?;
+    Ok(Some(Changed {
+        value: with(alloc, Some(value), MEMORY, memory)?,
+        words,
+    }))
+}
+
+/// The index of the first heap of a list that the platform lacks and that nearly has the name of this one.
+fn near_in(
+    alloc: Global,
+    list: &[Value],
+    heap: &Heap,
+    heaps: &[HeapInfo],
+) -> Result<Option<usize>, AllocError> {
+    let known = [heap.heap_type.as_str()];
+    for (index, item) in list.iter().enumerate() {
+        let is_there = heaps.iter().any(|info| is_heap(item, &info.heap));
+        if !is_there && nearest(alloc, type_in(item), &known)?.is_some() {
+            return Ok(Some(index));
+        }
+    }
+    Ok(None)
+}
+
+/// The constraints with the heap of an index in the place of one that nearly has its name and isn't there; `None` where none is.
+pub(crate) fn meaning(
+    alloc: Global,
+    value: &Value,
+    heaps: &[HeapInfo],
+    index: usize,
+) -> Result<Option<Changed>, AllocError> {
+    let Some(info) = heaps.get(index) else {
+        return Ok(None);
+    };
+    let heap = &info.heap;
+    let Some(list) = others_than(value, heap) else {
+        return Ok(None);
+    };
+    let Some(place) = near_in(alloc, list, heap, heaps)? else {
+        return Ok(None);
+    };
+    let mut copy = Vec::new(alloc);
+    let mut words = String::new(alloc);
+    for (index, item) in list.iter().enumerate() {
+        if index == place {
+            words = words_for(alloc, heap, item)?;
+            copy.push(heap_value(alloc, heap)?)?;
+        } else {
+            copy.push(item.clone()?)?;
+        }
+    }
+    permitted(alloc, value, copy, words)
+}
+
+/// `permitted_heaps with cma#0 in the place of cmma#0`.
+fn words_for(alloc: Global, heap: &Heap, item: &Value) -> Result<String, AllocError> {
+    let (name, id) = (heap.heap_type.as_str(), heap.id);
+    let (other, number) = (type_in(item), id_in(item));
+    format!(in alloc; "permitted_heaps with {name}#{id} in the place of {other}#{number}")
+}

@@ -1,0 +1,73 @@
+//! Changes that are made together.
+
+use constraint_edits::{Amount, Changed, Edit, edited, edited_to};
+use serde_json::Value;
+use std::alloc::{AllocError, Global};
+use sysmem_memory::HeapInfo;
+
+/// A change of a participant.
+#[derive(Clone, Copy)]
+pub(crate) struct Part {
+    /// Its index among the participants.
+    pub(crate) person: usize,
+    pub(crate) edit: Edit,
+    /// The value that the field has then; where there is none it is left out, or the change has no value.
+    pub(crate) amount: Option<Amount>,
+}
+
+impl Part {
+    /// Constraints with the change, on a platform with these heaps; `None` where they are so already.
+    pub(crate) fn changed(
+        &self,
+        alloc: Global,
+        value: &Value,
+        heaps: &[HeapInfo],
+    ) -> Result<Option<Changed>, AllocError> {
+        match self.amount {
+            Some(amount) => edited_to(alloc, value, self.edit, amount),
+            None => edited(alloc, value, self.edit, heaps),
+        }
+    }
+}
+
+/// The parts without that of an index.
+pub(crate) fn all_but(
+    alloc: Global,
+    parts: &[Part],
+    index: usize,
+) -> Result<Vec<Part>, AllocError> {
+    let mut others = Vec::new(alloc);
+    for (k, part) in parts.iter().enumerate() {
+        if k != index {
+            others.push(*part)?;
+        }
+    }
+    Ok(others)
+}
+
+/// A participant's constraints after those of some changes that are its own.
+pub(crate) fn after(
+    alloc: Global,
+    value: &Value,
+    person: usize,
+    parts: &[Part],
+    heaps: &[HeapInfo],
+) -> Result<Value, AllocError> {
+    let mut now = value.clone()?;
+    for part in parts {
+        if part.person != person {
+            continue;
+        }
+        if let Some(change) = part.changed(alloc, &now, heaps)? {
+            now = change.value;
+        }
+    }
+    Ok(now)
+}
+
+/// Gives the part of an index another value.
+pub(crate) fn set_amount(parts: &mut [Part], index: usize, amount: Option<Amount>) {
+    if let Some(part) = parts.get_mut(index) {
+        part.amount = amount;
+    }
+}

@@ -1,0 +1,284 @@
+//! Several changes that together make an empty decision one that chooses, where no single one does.
+
+ghost use Rattle.std.specs.Prelude.{map, IfOk, IfSome};
+ghost use Rattle.std.specs.String.{string_bytes};
+ghost use Rattle.script_reading.specs.Seen.{call_seen};
+ghost use Rattle.explain.specs.Edited.{IsPromisedSo, IsRestated};
+
+use crate::parts::{Part, after, all_but, set_amount};
+use crate::trying::{MOST_HALVINGS, chosen_with, replaced};
+use crate::worth::{are_sized, is_worth};
+use constraint_edits::{Edit, Halving, edited, is_absurd};
+use explanation_text::{Items, Kind};
+use script_reading::Call;
+use script_story::Setting;
+use serde_json::Value;
+use std::alloc::{AllocError, Global};
+use story_parts::{Deed, Story};
+use value_sources::Asked;
+
+/// How many changes are made at once at most.
+const MOST: usize = 96;
+/// How many may lack a format or a colour space that they are to take.
+const FEW: usize = 2;
+/// How many changes together are told.
+const TOLD: usize = 6;
+
+/// Constraints that a call states in the place of its own.
+#[derive(Drop)]
+struct Stated {
+    /// The place of the call, from 0.
+    place: usize,
+    value: Value,
+}
+
+/// Those whose constraints are changed, for the domain at a path.
+#[derive(Clone, Copy)]
+struct Group<'a, 'b> {
+    setting: &'b Setting<'a>,
+    story: &'b Story<'a>,
+    path: &'b str,
+    people: &'b [Asked<'a>],
+}
+
+/// Tells the fewest changes found with which, made together, the domain at a path would have settings, and the decision that would come: the
+/// line of the report of the changed script.
+pub(crate) fn tell_together(
+    items: &mut Items,
+    setting: &Setting<'_>,
+    story: &Story<'_>,
+    path: &str,
+    people: &[Asked<'_>],
+    edits: &[Edit],
+) -> Result<(), AllocError> {
+    let group = Group {
+        setting,
+        story,
+        path,
+        people,
+    };
+    tell_fewest(items, group, edits)
+}
+
+fn tell_fewest(items: &mut Items, group: Group<'_, '_>, edits: &[Edit]) -> Result<(), AllocError> {
+    let all = group.parts(items.alloc(), edits)?;
+    let Some(fewest) = group.fewest(items.alloc(), &all)? else {
+        return Ok(());
+    };
+    if fewest.len() < 2 || fewest.len() > TOLD {
+        return Ok(());
+    }
+    let mut parts = fewest;
+    for index in 0..parts.len() {
+        group.lessen(items.alloc(), &mut parts, index)?;
+    }
+    group.tell(items, &parts)
+}
+
+impl Group<'_, '_> {
+    /// Each change of each participant that is worth a try, of the first where there are very many.
+    fn parts(&self, alloc: Global, edits: &[Edit]) -> Result<Vec<Part>, AllocError> {
+        let mut parts: Vec<Part> = Vec::new(alloc);
+        for edit in edits {
+            self.add_parts(&mut parts, *edit)?;
+        }
+        Ok(parts)
+    }
+
+    fn add_parts(&self, parts: &mut Vec<Part>, edit: Edit) -> Result<(), AllocError> {
+        let alloc = *parts.allocator();
+        let heaps = self.setting.platform.heaps();
+        for (person, one) in self.people.iter().enumerate() {
+            let Some(value) = one.stated else {
+                continue;
+            };
+            if parts.len() < MOST
+                && is_worth(edit, one, self.people, FEW)
+                && edited(alloc, value, edit, heaps)?.is_some()
+            {
+                parts.push(Part {
+                    person,
+                    edit,
+                    amount: None,
+                })?;
+            }
+        }
+        Ok(())
+    }
+
+    /// Of changes that help together some without each of which the others don't; `None` where all together don't help.
+    fn fewest(&self, alloc: Global, all: &[Part]) -> Result<Option<Vec<Part>>, AllocError> {
+        if self.outcome(alloc, all)?.is_none() {
+            return Ok(None);
+        }
+        let likely = self.needed(alloc, all, true)?;
+        let others = self.needed(alloc, all, false)?;
+        if others.len() < likely.len() {
+            return Ok(Some(others));
+        }
+        Ok(Some(likely))
+    }
+
+    /// What is left of changes that help together, once each is taken back without which the rest do: from the last on, or from the first.
+    fn needed(
+        &self,
+        alloc: Global,
+        all: &[Part],
+        from_last: bool,
+    ) -> Result<Vec<Part>, AllocError> {
+        let mut kept = Vec::from_slice(alloc, all)?;
+        let mut at = if from_last { all.len() } else { 0 };
+        for _part in 0..all.len() {
+            if from_last {
+                at = at.saturating_sub(1);
+            }
+            let others = all_but(alloc, &kept, at)?;
+            if self.outcome(alloc, &others)?.is_some() {
+                kept = others;
+            } else if !from_last {
+                at = at.saturating_add(1);
+            }
+        }
+        Ok(kept)
+    }
+
+    /// Finds the least change of the part of an index with which all do still.
+    fn lessen(&self, alloc: Global, parts: &mut [Part], index: usize) -> Result<(), AllocError> {
+        let Some(mut halving) = self.halving(alloc, parts, index)? else {
+            return Ok(());
+        };
+        let mut best = None;
+        for _halving in 0..MOST_HALVINGS {
+            let Some(amount) = halving.next() else {
+                break;
+            };
+            set_amount(parts, index, Some(amount));
+            let does = self.outcome(alloc, parts)?.is_some();
+            halving.learn(amount, does);
+            if does {
+                best = Some(amount);
+            }
+        }
+        set_amount(parts, index, best);
+        Ok(())
+    }
+
+    /// The values between of the part of an index, if it leaves a field out.
+    fn halving(
+        &self,
+        alloc: Global,
+        parts: &[Part],
+        index: usize,
+    ) -> Result<Option<Halving>, AllocError> {
+        let Some(line) = self.outcome(alloc, parts)? else {
+            return Ok(None);
+        };
+        let Some(part) = parts.get(index) else {
+            return Ok(None);
+        };
+        match self.people.get(part.person) {
+            Some(one) => match one.stated {
+                Some(value) => Ok(Halving::of(value, part.edit, &line)),
+                None => Ok(None),
+            },
+            None => Ok(None),
+        }
+    }
+
+    /// What the domain becomes by some changes, if it is chosen then with a row that may be meant.
+    fn outcome(&self, alloc: Global, parts: &[Part]) -> Result<Option<String>, AllocError>
+        ensures { IfOk result (λ said. IfSome said (λ what. IsPromisedSo
+            self.now.setting.now.platform.now (map call_seen self.now.setting.now.calls.now)
+            self.now.path.now (string_bytes what))) }
+    {
+        let stated = self.stated(alloc, parts)?;
+        let calls = restated(alloc, self.setting.calls, &stated)?;
+        match chosen_with(alloc, self.setting, &calls, self.path)? {
+            Some(line) if !is_absurd(&line, false) => Ok(Some(line)),
+            _ => Ok(None),
+        }
+    }
+
+    /// The constraints of each participant after some changes.
+    fn stated(&self, alloc: Global, parts: &[Part]) -> Result<Vec<Stated>, AllocError> {
+        let mut stated = Vec::new(alloc);
+        for (person, one) in self.people.iter().enumerate() {
+            let Some(number) = self.story.deed(one.node, Deed::SetConstraints) else {
+                continue;
+            };
+            let Some(value) = one.stated else {
+                continue;
+            };
+            if parts.iter().any(|part| part.person == person) {
+                let place = number.saturating_sub(1);
+                let heaps = self.setting.platform.heaps();
+                let value = after(alloc, value, person, parts, heaps)?;
+                stated.push(Stated { place, value })?;
+            }
+        }
+        Ok(stated)
+    }
+
+    /// Tells changes, and the decision that comes by them.
+    fn tell(&self, items: &mut Items, parts: &[Part]) -> Result<(), AllocError> {
+        let alloc = items.alloc();
+        let Some(line) = self.outcome(alloc, parts)? else {
+            return Ok(());
+        };
+        if is_absurd(&line, are_sized(self.people)) {
+            return Ok(());
+        }
+        let count = parts.len();
+        let head = format!(in alloc; "these {count} together suffice (fewer weren't found):")?;
+        items.say(1, "change", head)?;
+        for part in parts {
+            self.put_part(items, *part)?;
+        }
+        put_line(items, *self, line)
+    }
+
+    /// Puts a change of a participant.
+    fn put_part(&self, items: &mut Items, part: Part) -> Result<(), AllocError> {
+        let alloc = items.alloc();
+        let Some(one) = self.people.get(part.person) else {
+            return Ok(());
+        };
+        let Some(value) = one.stated else {
+            return Ok(());
+        };
+        let heaps = self.setting.platform.heaps();
+        let Some(change) = part.changed(alloc, value, heaps)? else {
+            return Ok(());
+        };
+        let number = self.story.deed(one.node, Deed::SetConstraints).unwrap_or(0);
+        let name = one.name;
+        let words = change.words.as_str();
+        let text = format!(in alloc; "{name} (call {number}): {words}")?;
+        items.say(2, "and", text)
+    }
+}
+
+/// Puts the decision that comes by several changes.
+fn put_line(items: &mut Items, group: Group<'_, '_>, line: String) -> Result<(), AllocError>
+    requires { IsPromisedSo group.setting.now.platform.now
+        (map call_seen group.setting.now.calls.now) group.path.now (string_bytes line) }
+{
+    items.push(Kind::Decision, 2, "->", line)
+}
+
+/// The calls, of which some state other constraints.
+fn restated<'a>(
+    alloc: Global,
+    calls: &[Call<'a>],
+    stated: &'a [Stated],
+) -> Result<Vec<Call<'a>>, AllocError>
+    ensures { IfOk result
+        (λ made. IsRestated (map call_seen calls.now) (map call_seen made.items)) }
+{
+    let mut made = Vec::from_slice(alloc, calls)?;
+    for one in stated {
+        let next = replaced(alloc, &made, one.place, &one.value)?;
+        made = next;
+    }
+    Ok(made)
+}
