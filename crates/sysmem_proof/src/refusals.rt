@@ -84,7 +84,8 @@ fn line_again(
         (IsOpenFor (participants (members_at tree.now.nodes nodes.now))) }
     ensures known { IfSome known.new
         (IsOpenFor (participants (members_at tree.now.nodes nodes.now))) }
-    ensures again { (whole : _) (ms : List Member) → StandFor (members_at tree.now.nodes nodes.now) ms
+    ensures again { (whole : _) (ms : List Member)
+        → StandFor (members_at tree.now.nodes nodes.now) ms
         → RefusesLast (IsOfferLineGiven whole ms) earlier.now before.now
         → IfOk result (λ line. IfSome line (IsOfferLineGiven whole ms offer.now)) }
 {
