@@ -36,7 +36,9 @@ enum mezulobu_status {
  * may be null where its room is 0: so call once with room 0 to learn the sizes, or with 64 KiB and again only where that
  * was too small. The same bytes give the same texts as long as memory isn't refused. Nothing is cut off.
  *
- * At NO_MEMORY each size is 0, and no buffer is written to. After a text a buffer is as it was. A text isn't ended by a 0. */
+ * At NO_MEMORY each size is 0, and no buffer is written to. After a text a buffer is as it was. A text isn't ended by a 0.
+ *
+ * A script is one JSON value; FORMATS, which is installed as share/doc/mezulobu/FORMATS.md, says what it holds. */
 
 /* Replays a script. At DONE text is its report and, where certificate_size isn't null, certificate proves its decisions.
  * At REFUSED text is the words of the script's first fault, as `script refused: Q4 at call 7`, and the certificate is of
@@ -61,10 +63,34 @@ int mezulobu_explain(const void *script, size_t script_size, const char *file, b
 
 /* ---- A list of participants, without a script -----------------------------------------------------------------------
  *
- * Formats are DRM_FORMAT_*, modifiers DRM_FORMAT_MOD_*. In what the caller states, **a number that is 0 says nothing**: what
- * stands for it is what a record without the field has. So a struct that begins as zeros, as `= {0}`, states nothing, and a
- * caller fills in what it means. Each struct_size is sizeof of the struct; another size is MISUSED. A list of no items may be
- * null. Text in brackets is the name of the field in a script's records, where FORMATS says more. */
+ * Formats are DRM_FORMAT_*, modifiers DRM_FORMAT_MOD_*, as drm_fourcc.h has them. In what the caller states, **a number that is
+ * 0 says nothing**: what stands for it is what a record without the field has, no bound. So a struct that begins as zeros, as
+ * `= {0}`, states nothing, and a caller fills in what it means. Four are read as they are: modifier, whose 0 is linear, and
+ * format, colors and usage, which may not be 0. Each struct_size, also of settings and of a refusal, is set by the caller to
+ * sizeof of the struct; another size is MISUSED. A list of no items may be null. Text in brackets is the name of the field in a
+ * script's records, by which a refusal names it; FORMATS has a table of them.
+ *
+ *     struct mezulobu_heap heaps[] = {{.cpu = true, .ram = true}};
+ *     struct mezulobu_pair pairs[] = {{.format = DRM_FORMAT_XRGB8888}};
+ *     uint32_t colors[] = {MEZULOBU_SRGB};
+ *     struct mezulobu_platform platform = {sizeof platform, heaps, 1, pairs, 1, colors, 1};
+ *     struct mezulobu_entry screen = {.struct_size = sizeof screen, .format = DRM_FORMAT_XRGB8888, .colors = MEZULOBU_SRGB,
+ *                                     .min_size = {1920, 1080}, .pitch_divisor = 256};
+ *     struct mezulobu_entry drawn = {.struct_size = sizeof drawn, .format = DRM_FORMAT_XRGB8888, .colors = MEZULOBU_SRGB};
+ *     struct mezulobu_participant both[] = {
+ *         {.struct_size = sizeof both[0], .usage = MEZULOBU_USE_DISPLAY, .ram = true, .camping = 2,
+ *          .entries = &screen, .n_entries = 1},
+ *         {.struct_size = sizeof both[0], .usage = MEZULOBU_USE_VULKAN, .ram = true, .camping = 1,
+ *          .entries = &drawn, .n_entries = 1}};
+ *     struct mezulobu_settings settings = {.struct_size = sizeof settings};
+ *     struct mezulobu_refusal why = {.struct_size = sizeof why};
+ *     int status = mezulobu_negotiate(&platform, both, 2, &settings, &why);
+ *     // DONE: 3 buffers. NO: who why.who is, and mezulobu_field_name(why.field)
+ *
+ * What is chosen is the first image that all can have: none, where nobody has entries, then each pair of the platform in each of
+ * its colours, in the platform's order (the order of a participant's entries says which of them holds for a pair, and nothing
+ * of preference); in the first place that all take, a heap of the platform's and its coherency domain, cpu before ram before
+ * inaccessible; of these the least count, and the smallest image. */
 
 enum { /* usage: a set, not empty */
     MEZULOBU_USE_NONE = 1, /* stands alone */
@@ -108,7 +134,8 @@ struct mezulobu_pair {
     uint32_t reserved;
 };
 
-/* What the allocator offers. Each list is in the order of preference, isn't empty, and has no item twice. */
+/* What the allocator offers, which the caller knows: its heaps, and the images that it is ready to use. Each list is in the order
+ * of preference, isn't empty, and has no item twice. */
 struct mezulobu_platform {
     size_t struct_size;
     const struct mezulobu_heap *heaps; /* at most 64 */
@@ -119,7 +146,8 @@ struct mezulobu_platform {
     size_t n_colors;
 };
 
-/* One image format that a participant takes, and its bounds on such images. */
+/* One image format that a participant takes, and its bounds on such images. Somebody states the size that is wanted, as a mode,
+ * as its min_size: where nobody does, an image of 1 by 1 is enough. Alignments round up, so the image may be larger. */
 struct mezulobu_entry {
     size_t struct_size;
     uint64_t modifier;          /* not read where any_modifier is true; DRM_FORMAT_MOD_INVALID isn't "any", and is refused */
@@ -127,10 +155,10 @@ struct mezulobu_entry {
     uint32_t colors;            /* a set, not empty */
     bool any_format, any_modifier;
     bool rows_end_at_pixels;    /* [require_bytes_per_row_at_pixel_boundary] */
-    struct mezulobu_size min_size, max_size, size_alignment;
+    struct mezulobu_size min_size, max_size, size_alignment; /* in pixels */
     uint32_t min_pitch, max_pitch, pitch_divisor, offset_divisor; /* in bytes [min_bytes_per_row .. start_offset_divisor] */
     struct mezulobu_size display_rect_alignment;
-    struct mezulobu_size required_min_size, required_max_size;
+    struct mezulobu_size required_min_size, required_max_size; /* of what it will put into them: all have to take such images */
     uint64_t max_pixels;        /* [max_width_times_height] */
 };
 
@@ -140,8 +168,11 @@ struct mezulobu_participant {
     uint8_t usage;
     bool contiguous, secure;     /* what the heap must be */
     bool cpu, ram, inaccessible; /* the coherency domains that it takes; where none is true, cpu */
-    uint32_t camping, dedicated_slack, shared_slack, min_count, max_count;
-    uint64_t min_bytes, max_bytes;
+    uint32_t camping;            /* how many buffers it holds at one time; all are added [min_buffer_count_for_camping] */
+    uint32_t dedicated_slack;    /* more for itself alone; added too [min_buffer_count_for_dedicated_slack] */
+    uint32_t shared_slack;       /* spare ones for all; the greatest is added [min_buffer_count_for_shared_slack] */
+    uint32_t min_count, max_count; /* how many there are in all [min_buffer_count, max_buffer_count] */
+    uint64_t min_bytes, max_bytes; /* of a buffer [min_size_bytes, max_size_bytes] */
     uint64_t heaps;              /* bit i: heap i is permitted; 0 permits each */
     const struct mezulobu_entry *entries;
     size_t n_entries;
@@ -195,7 +226,10 @@ enum mezulobu_kind {                /* of a refusal */
  * list. At NO the participants before who can share settings, and those up to who can't: who is the first with whom there are
  * none. What those before would share first is heap and coherency, and format, modifier and color, all 0 without an image; of
  * PLACES field is what who refuses that place for, of OFFERS the first line of the conflict table that is true of that offer
- * for those up to who. who is NOBODY where all can share settings but for a name of the image that nobody gives. */
+ * for those up to who. Who has no entry for it is told by pixel_format, whether the format or the modifier is what it lacks. So
+ * the order of the participants is a ranking: those that can be done without stand last. Where the first alone can't be met, the
+ * offer is that of no image, and field says little; mezulobu_explain tells each reason. who is NOBODY where all can share
+ * settings but for a name of the image that nobody gives. */
 struct mezulobu_refusal {
     size_t struct_size;
     size_t who;
@@ -212,7 +246,8 @@ struct mezulobu_refusal {
 
 /* The best settings for n participants on a platform. DONE: settings. NO: none meet them all, and refusal says who is in the
  * way. REFUSED: a struct states nothing that could be meant, and refusal says whose and which field. NO_MEMORY: refusal has kind
- * 0. MISUSED. settings is written at DONE alone, refusal at NO, REFUSED and NO_MEMORY; it may be null. */
+ * 0. MISUSED. settings is written at DONE alone, refusal at NO, REFUSED and NO_MEMORY. refusal may be null, settings may not. A
+ * list of nobody is DONE, with one buffer of one byte. */
 int mezulobu_negotiate(const struct mezulobu_platform *platform,
                        const struct mezulobu_participant *participants, size_t n,
                        struct mezulobu_settings *settings, struct mezulobu_refusal *refusal);
@@ -220,7 +255,8 @@ int mezulobu_negotiate(const struct mezulobu_platform *platform,
 /* The name of a refusal's field, as "max_size"; "?" of a number that is none. */
 const char *mezulobu_field_name(uint32_t field);
 
-/* The layout of an image with rows of pitch bytes in the first plane, its height in pixels. DONE; REFUSED where there is no
+/* The layout of an image with rows of pitch bytes in the first plane, its height in pixels, as settings have them: that the pitch
+ * suits the tiles and the height the colour planes isn't tested. DONE; REFUSED where there is no
  * such format or modifier here, where tiles don't go with the format, or where the bytes don't fit 64 bits: layout is as it
  * was then. MISUSED. */
 int mezulobu_planes(uint32_t format, uint64_t modifier, uint32_t pitch, uint32_t height, struct mezulobu_layout *layout);
