@@ -110,6 +110,21 @@ impl<'a> Document<'a> {
         self.point(items, depth, path, part, note, &helps)
     }
 
+    /// The same, if there was memory for the note and for what helps.
+    pub fn tell(
+        &self,
+        items: &mut Items,
+        depth: usize,
+        path: &[Step<'_>],
+        part: Part,
+        note: Result<String, AllocError>,
+        help: Result<String, AllocError>,
+    ) -> Result<(), AllocError> {
+        let help = help?;
+        let note = note?;
+        self.advise(items, depth, path, part, &note, help)
+    }
+
     /// The same of a part that is known, with what stands after its line and column.
     pub fn show(
         &self,

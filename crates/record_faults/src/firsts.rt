@@ -1,6 +1,6 @@
 //! Where what a list has twice stands first.
 
-use crate::paths::{put_path, with};
+use crate::paths::{put_longer, with};
 use json_places::{Step, value_at};
 use serde_json::Value;
 use std::alloc::AllocError;
@@ -27,8 +27,7 @@ pub(crate) fn put_first_like(
     };
     for (k, other) in items.iter().take(*index).enumerate() {
         if is_same_name(other, mine) {
-            let first = with(*text.allocator(), list, Step::Item(k))?;
-            put_path(text, &first)?;
+            put_longer(text, list, Step::Item(k))?;
             return Ok(true);
         }
     }
@@ -109,13 +108,15 @@ fn put_first_of(
     path: &[Step<'_>],
     mine: &Value,
 ) -> Result<bool, AllocError> {
-    let alloc = *text.allocator();
     if entry.get("pixel_format").is_some() && is_same_pair(entry, mine) {
-        let own = with(alloc, path, Step::Key("pixel_format"))?;
-        put_path(text, &own)?;
+        put_longer(text, path, Step::Key("pixel_format"))?;
         return Ok(true);
     }
-    let further = with(alloc, path, Step::Key("pixel_format_and_modifiers"))?;
+    let further = with(
+        *text.allocator(),
+        path,
+        Step::Key("pixel_format_and_modifiers"),
+    )?;
     put_first_further(text, entry, &further, mine)
 }
 
@@ -134,8 +135,7 @@ fn put_first_further(
     };
     for (j, pair) in pairs.iter().enumerate() {
         if is_same_pair(pair, mine) {
-            let first = with(*text.allocator(), path, Step::Item(j))?;
-            put_path(text, &first)?;
+            put_longer(text, path, Step::Item(j))?;
             return Ok(true);
         }
     }

@@ -47,6 +47,16 @@ pub(crate) fn put_path(text: &mut String, path: &[Step<'_>]) -> Result<(), Alloc
     Ok(())
 }
 
+/// Puts a path with a further step after a text.
+pub(crate) fn put_longer(
+    text: &mut String,
+    path: &[Step<'_>],
+    step: Step<'_>,
+) -> Result<(), AllocError> {
+    let longer = with(*text.allocator(), path, step)?;
+    put_path(text, &longer)
+}
+
 /// Puts a key after a text, the front of it where it is long.
 fn put_key(text: &mut String, key: &str) -> Result<(), AllocError> {
     let mut front = String::new(*text.allocator());

@@ -94,11 +94,11 @@ fn tell_missing(items: &mut Items, faulty: Faulty<'_, '_>) -> Result<(), AllocEr
     let at = faulty.fault.at.name();
     let last = faulty.path.len().saturating_sub(1);
     let object = faulty.path.get(..last).unwrap_or(&[]);
-    let note = missing_note(items.alloc(), at)?;
-    let help = help_allowed(items.alloc(), "needed", at, faulty.is_platform)?;
+    let help = help_allowed(items.alloc(), "needed", at, faulty.is_platform);
+    let note = missing_note(items.alloc(), at);
     faulty
         .document
-        .advise(items, faulty.depth, object, Part::Begin, &note, help)
+        .tell(items, faulty.depth, object, Part::Begin, note, help)
 }
 
 /// The keys that an object at a place may have.
@@ -165,17 +165,18 @@ fn wrong_side(size: &Value, least: u64, most: u64) -> &'static str {
 fn tell_side(items: &mut Items, faulty: Faulty<'_, '_>, value: &Value) -> Result<(), AllocError> {
     let at = faulty.fault.at.name();
     let side = wrong_side(value, 0, 4294967295);
-    let help = help_allowed(items.alloc(), "allowed", at, faulty.is_platform)?;
     match value.get(side) {
         Some(number) => {
             let path = with(items.alloc(), faulty.path, Step::Key(side))?;
+            let help = help_allowed(items.alloc(), "allowed", at, faulty.is_platform);
             tell_number(items, faulty, &path, number, (0, 4294967295), help)
         }
         None => {
-            let note = missing_note(items.alloc(), side)?;
+            let note = missing_note(items.alloc(), side);
+            let help = help_allowed(items.alloc(), "allowed", at, faulty.is_platform);
             faulty
                 .document
-                .advise(items, faulty.depth, faulty.path, Part::Begin, &note, help)
+                .tell(items, faulty.depth, faulty.path, Part::Begin, note, help)
         }
     }
 }
@@ -187,13 +188,13 @@ fn tell_number(
     path: &[Step<'_>],
     number: &Value,
     bounds: (u64, u64),
-    help: String,
+    help: Result<String, AllocError>,
 ) -> Result<(), AllocError> {
     let written = faulty.document.written(items.alloc(), path)?;
-    let note = wrong_number(items.alloc(), number, written, bounds.0, bounds.1)?;
+    let note = wrong_number(items.alloc(), number, written, bounds.0, bounds.1);
     faulty
         .document
-        .advise(items, faulty.depth, path, Part::Value, &note, help)
+        .tell(items, faulty.depth, path, Part::Value, note, help)
 }
 
 fn tell_name(items: &mut Items, faulty: Faulty<'_, '_>, value: &Value) -> Result<(), AllocError> {
@@ -214,11 +215,11 @@ fn tell_kind(items: &mut Items, faulty: Faulty<'_, '_>, value: &Value) -> Result
     let at = faulty.fault.at.name();
     let is_item = matches!(faulty.path.last(), Some(Step::Item(_)));
     let written = faulty.document.written(items.alloc(), faulty.path)?;
-    let note = wrong_value(items.alloc(), at, value, written, is_item)?;
-    let help = help_allowed(items.alloc(), "allowed", at, faulty.is_platform)?;
+    let note = wrong_value(items.alloc(), at, value, written, is_item);
+    let help = help_allowed(items.alloc(), "allowed", at, faulty.is_platform);
     faulty
         .document
-        .advise(items, faulty.depth, faulty.path, Part::Value, &note, help)
+        .tell(items, faulty.depth, faulty.path, Part::Value, note, help)
 }
 
 /// An alignment or a divisor out of its range.
@@ -230,7 +231,7 @@ fn tell_multiple(
     let help = String::from_str(
         items.alloc(),
         "an alignment or divisor is from 1 to 65536; 1 asks for nothing",
-    )?;
+    );
     if !value.is_object() {
         return tell_number(items, faulty, faulty.path, value, (1, 65536), help);
     }
@@ -275,16 +276,16 @@ fn helps_of_list(
     let at = faulty.fault.at.name();
     let help = match faulty.fault.code {
         Code::NotAnObject => return Ok(Vec::new(alloc)),
-        Code::TooMany => String::from_str(alloc, "allowed: at most 64")?,
+        Code::TooMany => String::from_str(alloc, "allowed: at most 64"),
         Code::TiledMisfit => String::from_str(
             alloc,
             "tiles go with formats of 4 bytes: R8G8B8A8, B8G8R8A8, R8G8B8X8 and B8G8R8X8",
-        )?,
-        Code::BadUsage => help_allowed(alloc, "allowed", "usage", false)?,
-        _ if is_empty => help_allowed(alloc, "needed", at, faulty.is_platform)?,
+        ),
+        Code::BadUsage => help_allowed(alloc, "allowed", "usage", false),
+        _ if is_empty => help_allowed(alloc, "needed", at, faulty.is_platform),
         code => return first_like(alloc, faulty, code),
     };
-    Ok(vec![in alloc; help]?)
+    Ok(vec![in alloc; help?]?)
 }
 
 /// Where what is given twice stands first, and which names count as equal.

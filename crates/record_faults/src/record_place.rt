@@ -22,13 +22,23 @@ pub(crate) fn place_of(
     }
     let mut cut = Narrowing::new(alloc, record, fault, is_platform)?;
     if is_platform {
-        place_in_platform(alloc, &mut cut, at)
-    } else if at == "usage" {
-        in_member(alloc, &mut cut, at, &[])
+        return place_in_platform(alloc, &mut cut, at);
+    }
+    place_in_constraints(alloc, record, &mut cut, at)
+}
+
+fn place_in_constraints(
+    alloc: Global,
+    record: &Value,
+    cut: &mut Narrowing,
+    at: &'static str,
+) -> Result<Path<'static>, AllocError> {
+    if at == "usage" {
+        in_member(alloc, cut, at, &[])
     } else if is_one_of(at, MEMORY) || is_one_of(at, HEAP_NAME) {
-        place_in_memory(alloc, &mut cut, at)
+        place_in_memory(alloc, cut, at)
     } else if is_one_of(at, ENTRY) || at == "image_format_constraints" {
-        place_in_entries(alloc, record, &mut cut, at)
+        place_in_entries(alloc, record, cut, at)
     } else {
         Ok(vec![in alloc; Step::Key(at)]?)
     }
@@ -54,8 +64,7 @@ fn place_in_platform(
             in_member(alloc, cut, "heaps", &[Step::Key(at)])
         }
         "domains" => {
-            let heaps = vec![in alloc; Step::Key("heaps")]?;
-            let path = cut.in_list(heaps, &[Step::Key(at)])?;
+            let path = in_member(alloc, cut, "heaps", &[Step::Key(at)])?;
             cut.in_list(path, &[])
         }
         "pixel_format" | "pixel_format_modifier" => {
@@ -70,15 +79,16 @@ fn place_in_memory(
     cut: &mut Narrowing,
     at: &'static str,
 ) -> Result<Path<'static>, AllocError> {
-    let memory = vec![in alloc; Step::Key("buffer_memory_constraints")]?;
+    let is_heap = is_one_of(at, HEAP_NAME);
+    let key = if is_heap { "permitted_heaps" } else { at };
+    let path = vec![in alloc; Step::Key("buffer_memory_constraints"), Step::Key(key)]?;
+    if is_heap {
+        return cut.in_list(path, &[Step::Key(at)]);
+    }
     if at == "permitted_heaps" {
-        return cut.in_list(with(alloc, &memory, Step::Key(at))?, &[]);
+        return cut.in_list(path, &[]);
     }
-    if is_one_of(at, HEAP_NAME) {
-        let heaps = with(alloc, &memory, Step::Key("permitted_heaps"))?;
-        return cut.in_list(heaps, &[Step::Key(at)]);
-    }
-    with(alloc, &memory, Step::Key(at))
+    Ok(path)
 }
 
 fn place_in_entries(
@@ -87,22 +97,20 @@ fn place_in_entries(
     cut: &mut Narrowing,
     at: &'static str,
 ) -> Result<Path<'static>, AllocError> {
-    let entries = vec![in alloc; Step::Key("image_format_constraints")]?;
-    let path = cut.in_list(entries, &[])?;
+    let mut path = in_member(alloc, cut, "image_format_constraints", &[])?;
     if at == "image_format_constraints" {
         return Ok(path);
     }
-    let own = with(alloc, &path, Step::Key(at))?;
+    if is_one_of(at, PAIR) || at == "pixel_format_and_modifiers" {
+        if let Some(further) = place_in_pairs(alloc, record, cut, &path, at)? {
+            return Ok(further);
+        }
+    }
+    path.push(Step::Key(at))?;
     if at == "color_spaces" {
-        return cut.in_list(own, &[]);
+        return cut.in_list(path, &[]);
     }
-    if !is_one_of(at, PAIR) && at != "pixel_format_and_modifiers" {
-        return Ok(own);
-    }
-    match place_in_pairs(alloc, record, cut, &path, at)? {
-        Some(further) => Ok(further),
-        None => Ok(own),
-    }
+    Ok(path)
 }
 
 /// The faulty one of an entry's further pairs, if it is one of these.
@@ -116,20 +124,19 @@ fn place_in_pairs(
     if at == "pixel_format_modifier" && has_wrong_modifier(value_at(record, entry)) {
         return Ok(None);
     }
-    let pairs = with(alloc, entry, Step::Key("pixel_format_and_modifiers"))?;
-    if !has_items(value_at(record, &pairs)) {
+    let mut path = with(alloc, entry, Step::Key("pixel_format_and_modifiers"))?;
+    if !has_items(value_at(record, &path)) {
         return Ok(None);
     }
     let own = value_at(record, entry).and_then(|entry| entry.get("pixel_format"));
-    let Some(index) = cut.item(&pairs, usize::from(own.is_none()))? else {
+    let Some(index) = cut.item(&path, usize::from(own.is_none()))? else {
         return Ok(None);
     };
-    let path = with(alloc, &pairs, Step::Item(index))?;
+    path.push(Step::Item(index))?;
     if is_one_of(at, PAIR) {
-        Ok(Some(with(alloc, &path, Step::Key(at))?))
-    } else {
-        Ok(Some(path))
+        path.push(Step::Key(at))?;
     }
+    Ok(Some(path))
 }
 
 /// Whether a value is a list that isn't empty.
