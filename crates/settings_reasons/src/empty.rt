@@ -13,7 +13,6 @@ use crate::refusing::{offer_rows, place_rows};
 use crate::rows::tell_rows;
 use explanation_text::Items;
 use std::alloc::{AllocError, Global};
-use std::fmt::Write;
 use sysmem_counts::Field;
 use sysmem_formats::Offer;
 use sysmem_memory::Place;
@@ -170,13 +169,16 @@ fn tell_in_the_way(
     let mut text = String::from_str(alloc, "in the way: ")?;
     put_people(&mut text, &kept)?;
     let others = people.len().saturating_sub(kept.len());
-    if kept.len() == 1 {
-        text.push_str(" can't be met even by itself")?;
+    let put = if kept.len() == 1 {
+        text.push_str(" can't be met even by itself")
     } else if others == 1 {
-        text.push_str(", whatever the other asks")?;
+        text.push_str(", whatever the other asks")
     } else if others > 1 {
-        write!(text, ", whatever the other {others} ask")?;
-    }
+        write!(text, ", whatever the other {others} ask")
+    } else {
+        Ok(())
+    };
+    put?;
     items.say(depth, "", text)
 }
 

@@ -8,6 +8,7 @@
 //! ```
 #![tactic(auto)]
 
+mod amounts;
 mod chosen;
 mod contradicting;
 mod empty;

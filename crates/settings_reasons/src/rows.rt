@@ -1,8 +1,7 @@
 //! Rows of what fails for the same reasons.
 
 use explanation_text::Items;
-use std::alloc::AllocError;
-use std::fmt::Write;
+use std::alloc::{AllocError, Global};
 use sysmem_counts::Field;
 use value_sources::{Asked, put_texts};
 
@@ -27,6 +26,16 @@ pub(crate) struct Row {
     pub(crate) distance: usize,
 }
 
+/// Tells words with a label, if there was memory for them.
+pub(crate) fn tell(
+    items: &mut Items,
+    depth: usize,
+    label: &'static str,
+    words: Result<String, AllocError>,
+) -> Result<(), AllocError> {
+    items.say(depth, label, words?)
+}
+
 /// Puts what fails into the row of those with its reasons.
 pub(crate) fn add(
     rows: &mut Vec<Row>,
@@ -36,24 +45,17 @@ pub(crate) fn add(
 ) -> Result<(), AllocError> {
     let alloc = *name.allocator();
     for row in rows.iter_mut() {
-        if are_same(&row.reasons, &reasons) {
+        if row.reasons == reasons {
             row.names.push(name)?;
             return Ok(());
         }
     }
-    let mut names = Vec::new(alloc);
-    names.push(name)?;
     rows.push(Row {
-        names,
+        names: vec![in alloc; name]?,
         reasons,
         distance,
     })?;
     Ok(())
-}
-
-/// Whether the texts are the same.
-pub(crate) fn are_same(a: &[String], b: &[String]) -> bool {
-    a.len() == b.len() && a.iter().zip(b).all(|(x, y)| x.as_str() == y.as_str())
 }
 
 /// Tells the rows, the nearest first and else in their order; more than some are counted.
@@ -63,7 +65,6 @@ pub(crate) fn tell_rows(
     before: &str,
     rows: &[Row],
 ) -> Result<(), AllocError> {
-    let alloc = items.alloc();
     let most = if rows.len() <= MOST_ROWS.saturating_add(1) {
         rows.len()
     } else {
@@ -82,8 +83,8 @@ pub(crate) fn tell_rows(
         }
     }
     if others > 0 {
-        let text = format!(in alloc; "{before}{others} others: refused too")?;
-        items.say(depth, "", text)?;
+        let words = format!(in items.alloc(); "{before}{others} others: refused too");
+        tell(items, depth, "", words)?;
     }
     Ok(())
 }
@@ -116,22 +117,35 @@ fn add_at(order: &mut Vec<usize>, rows: &[Row], distance: usize) -> Result<(), A
 }
 
 fn tell_row(items: &mut Items, depth: usize, before: &str, row: &Row) -> Result<(), AllocError> {
-    let mut text = String::from_str(items.alloc(), before)?;
-    put_names(&mut text, &row.names)?;
-    let Some((reason, others)) = row.reasons.split_first() else {
-        return items.say(depth, "", text);
-    };
-    if others.is_empty() {
-        write!(text, ": {reason}")?;
-        return items.say(depth, "", text);
-    }
-    text.push_str(":")?;
-    items.say(depth, "", text)?;
-    for reason in &row.reasons {
-        let words = String::from_str(items.alloc(), reason)?;
-        items.say(depth.saturating_add(1), "", words)?;
+    let head = head_of(items.alloc(), before, row)?;
+    items.say(depth, "", head)?;
+    if row.reasons.len() > 1 {
+        for reason in &row.reasons {
+            let words = String::from_str(items.alloc(), reason);
+            tell(items, depth.saturating_add(1), "", words)?;
+        }
     }
     Ok(())
+}
+
+/// A row's names, with its reason where it has one alone.
+fn head_of(alloc: Global, before: &str, row: &Row) -> Result<String, AllocError> {
+    let mut text = String::from_str(alloc, before)?;
+    put_names(&mut text, &row.names)?;
+    match row.reasons.as_slice() {
+        [] => {}
+        [reason] => write!(text, ": {reason}")?,
+        _ => text.push_str(":")?,
+    }
+    Ok(text)
+}
+
+/// Puts what stands between two sentences after a text that isn't empty.
+pub(crate) fn put_break(text: &mut String) -> Result<(), AllocError> {
+    if text.is_empty() {
+        return Ok(());
+    }
+    text.push_str("; ")
 }
 
 /// Puts at most four names after a text.
