@@ -28,34 +28,40 @@ mod walking;
 use anyhow::Result;
 use lines::answer;
 use std::alloc::Global;
-use std::io::{self, BufRead, BufReader, BufWriter, Write};
+use std::io;
 use sysmem_tree::Tree;
 
 /// Plays the lines of standard input.
 // What owns memory is made by one function and lent to another that may fail: else each `?` is proved to free it.
 pub(crate) fn play_rows(rt: &HostRuntime) -> Result<()> {
-    let mut out = BufWriter::new(rt.alloc(), io::writer(rt))?;
-    let mut tree = Tree::new(rt.alloc())?;
-    for line in BufReader::new(rt.alloc(), rt.reader())?.lines(rt.alloc()) {
-        let text = play(rt.alloc(), &mut tree, &line?)?;
-        writeln!(out, "{text}")?;
-    }
-    out.flush()?;
+    let text = io::read_to_string(rt.alloc(), rt.reader())?;
+    let answers = answers_of(rt.alloc(), &text)?;
+    print!(rt; "{answers}")?;
     Ok(())
 }
 
-/// Plays a line and gives what is printed.
-fn play(alloc: Global, tree: &mut Tree, line: &str) -> Result<String> {
+/// What is printed of these lines.
+fn answers_of(alloc: Global, lines: &str) -> Result<String> {
     let mut text = String::new(alloc);
-    write_answer(alloc, &mut text, tree, line)?;
+    play(alloc, &mut text, lines)?;
     Ok(text)
+}
+
+fn play(alloc: Global, text: &mut String, lines: &str) -> Result<()> {
+    let mut tree = Tree::new(alloc)?;
+    for line in lines.lines() {
+        write_answer(alloc, text, &mut tree, line)?;
+    }
+    Ok(())
 }
 
 fn write_answer(alloc: Global, text: &mut String, tree: &mut Tree, line: &str) -> Result<()> {
     if line.starts_with("tree ") {
         *tree = Tree::new(alloc)?;
         text.push_str(line)?;
-        return Ok(());
+    } else {
+        answer(alloc, text, tree, line)?;
     }
-    answer(alloc, text, tree, line)
+    text.push('\n')?;
+    Ok(())
 }

@@ -3,9 +3,11 @@
 use crate::deciding::claim_of;
 use anyhow::Result;
 use certificate_text::{CertificateWriter, write_proof};
-use std::alloc::Global;
+use serde_json::Value;
+use std::alloc::{AllocError, Global};
+use sysmem_proof::Claim;
 use sysmem_sanitise::Platform;
-use sysmem_tree::Tree;
+use sysmem_tree::{Path, Tree};
 
 /// Writes the certificate of the initial domain's verdict so many times.
 pub(crate) fn write_again(
@@ -15,12 +17,32 @@ pub(crate) fn write_again(
     times: u32,
 ) -> Result<()> {
     let claim = claim_of(alloc, platform, tree)?;
+    Ok(write_claim(alloc, platform, tree, &claim, times)?)
+}
+
+fn write_claim(
+    alloc: Global,
+    platform: &Platform,
+    tree: &Tree,
+    claim: &Claim,
+    times: u32,
+) -> Result<(), AllocError> {
     let path = tree.path_of(tree.root())?;
     for _ in 0..times {
-        let mut writer = CertificateWriter::new(alloc)?;
-        writer.put(platform, &path, Some(&claim))?;
-        writer.finish()?;
+        write_once(alloc, platform, &path, claim)?;
     }
+    Ok(())
+}
+
+fn write_once(
+    alloc: Global,
+    platform: &Platform,
+    path: &Path,
+    claim: &Claim,
+) -> Result<(), AllocError> {
+    let mut writer = CertificateWriter::new(alloc)?;
+    writer.put(platform, path, Some(claim))?;
+    writer.finish()?;
     Ok(())
 }
 
@@ -32,10 +54,29 @@ pub(crate) fn serialise_again(
     times: u32,
 ) -> Result<()> {
     let claim = claim_of(alloc, platform, tree)?;
-    let path = tree.path_of(tree.root())?;
-    let value = write_proof(alloc, platform, &path, Some(&claim))?;
+    Ok(serialise_claim(alloc, platform, tree, &claim, times)?)
+}
+
+fn serialise_claim(
+    alloc: Global,
+    platform: &Platform,
+    tree: &Tree,
+    claim: &Claim,
+    times: u32,
+) -> Result<(), AllocError> {
+    let value = value_of(alloc, platform, tree, claim)?;
     for _ in 0..times {
         value.to_vec(alloc)?;
     }
     Ok(())
+}
+
+fn value_of(
+    alloc: Global,
+    platform: &Platform,
+    tree: &Tree,
+    claim: &Claim,
+) -> Result<Value, AllocError> {
+    let path = tree.path_of(tree.root())?;
+    write_proof(alloc, platform, &path, Some(claim))
 }
