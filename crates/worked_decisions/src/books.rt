@@ -14,7 +14,7 @@ const ATTACHED: &str =
     "/ duplicate /0 bind cpu attach_token /0/0 bind attach_token cpu /0 attach_token";
 
 // What is played in turn, and how the domains stand then: a release in between changes no counts, a close fails four domains.
-const TURNS: [&[(&str, &str)]; 2] = [
+const TURNS: &[&[(&str, &str)]] = &[
     &[
         (RELEASED, "21: 9 9 > pending"),
         ("/ decide", "22: 9 9 empty"),
@@ -70,7 +70,7 @@ fn how_domains_stand_by_turns(rt: HostRuntime) -> Result<(), Fail> {
 }
 
 // What an action is answered with, in turn, at its path.
-const ANSWERS: [(&str, &str, Option<Refusal>); 8] = [
+const ANSWERS: &[(&str, &str, Option<Refusal>)] = &[
     ("/", "cpu", Some(Refusal::WrongState)),
     ("/", "create_group", None),
     ("/0", "all_children_present", Some(Refusal::NoChildren)),
@@ -82,7 +82,7 @@ const ANSWERS: [(&str, &str, Option<Refusal>); 8] = [
 ];
 
 // What is entered of these.
-const ENTERED: [ActionKind; 4] = [
+const ENTERED: &[ActionKind] = &[
     ActionKind::CreateGroup,
     ActionKind::Duplicate,
     ActionKind::Close,
@@ -91,7 +91,7 @@ const ENTERED: [ActionKind; 4] = [
 
 fn answers(rt: &impl Abort, alloc: Global, book: &mut Book) -> Result<(), Fail> {
     for (path, word, wanted) in ANSWERS {
-        is_equal(rt, word, &refusal(alloc, book, path, word)?, &wanted);
+        is_equal(rt, word, &refusal(alloc, book, path, word)?, wanted);
     }
     stand(rt, alloc, book, "all answers", "4: failed")?;
     Ok(())

@@ -11,7 +11,7 @@ const PLATFORM: &str =
     r#"{"heaps":[{"heap_type":"ram","domains":["cpu","ram"]},{"heap_type":"cma","contiguous":true,"domains":["cpu","ram"]},{"heap_type":"vault","contiguous":true,"secure":true,"domains":["inaccessible"]}],"pairs":[{"pixel_format":"B8G8R8A8"},{"pixel_format":"B8G8R8A8","pixel_format_modifier":"INTEL_I915_X_TILED"},{"pixel_format":"NV12"},{"pixel_format":"R8"},{"pixel_format":"R8G8B8A8"}],"color_spaces":["SRGB","REC709"]}"#;
 
 // What participants ask for, by the words for it.
-const ASKED: [(&str, &str); 15] = [
+const ASKED: &[(&str, &str)] = &[
     (
         "any",
         r#"{"usage":["video"],"image_format_constraints":[{"pixel_format":"DO_NOT_CARE","color_spaces":["DO_NOT_CARE"]}]}"#,
@@ -91,8 +91,8 @@ pub(crate) fn path(alloc: Global, text: &str) -> Result<Path, Fail> {
 
 fn record_for(word: &str) -> Option<&'static str> {
     for (name, record) in ASKED {
-        if name == word {
-            return Some(record);
+        if *name == word {
+            return Some(*record);
         }
     }
     None

@@ -42,39 +42,63 @@ fn found_by<R: Threads + Sync, G: Gate + Sync>(
     search_wide(rt, alloc, platform, tree, domain, base, gate, workers)
 }
 
-// They find what was worked out by hand, and settle it as one search does.
+// What is decided is what was worked out by hand.
+fn is_decided_as_worked(
+    rt: &impl Abort,
+    alloc: Global,
+    name: &str,
+    wanted: &str,
+    verdict: &Verdict,
+) -> Result<(), AllocError> {
+    let mut told = String::new(alloc);
+    tell_verdict(&mut told, verdict)?;
+    told.push_str(" visits")?;
+    is_equal(rt, name, &wanted.starts_with(told.as_str()), &true);
+    Ok(())
+}
+
+// So many workers find what was worked out by hand, and settle it so.
 fn find_as_worked<R: Threads + Abort + Sync>(
     rt: &R,
     alloc: Global,
-    row: Row,
+    frozen: &Frozen,
+    row: &Row,
+    settings: Option<Settings>,
     workers: u32,
-) -> Result<(), Fail>
+) -> Result<(), AllocError>
     requires some { 1 ≤ workers }
     requires few { workers ≤ 64 }
 {
-    let (name, many, then, wanted) = row;
-    let frozen = frozen(alloc, many, then)?;
-    let found = found_by(rt, alloc, &frozen, &NoGate, workers)?;
-    let mut told = String::new(alloc);
-    tell_verdict(&mut told, &found.verdict)?;
-    told.push_str(" visits")?;
-    is_equal(rt, name, &wanted.starts_with(told.as_str()), &true);
-    let alone = search_frozen(alloc, &frozen)?;
-    is_equal(
-        rt,
-        name,
-        &settings_of(&found.verdict),
-        &settings_of(&alone.claim.verdict),
-    );
-    Ok(())
+    let (name, _, _, wanted) = *row;
+    let found = found_by(rt, alloc, frozen, &NoGate, workers)?;
+    is_equal(rt, name, &settings_of(&found.verdict), &settings);
+    is_decided_as_worked(rt, alloc, name, wanted, &found.verdict)
+}
+
+fn settings_alone(alloc: Global, frozen: &Frozen) -> Result<Option<Settings>, AllocError> {
+    let alone = search_frozen(alloc, frozen)?;
+    Ok(settings_of(&alone.claim.verdict))
+}
+
+// One worker, two and 64 find what was worked out by hand, and settle it as one search does.
+fn all_find<R: Threads + Abort + Sync>(
+    rt: &R,
+    alloc: Global,
+    frozen: &Frozen,
+    row: &Row,
+) -> Result<(), AllocError> {
+    let settings = settings_alone(alloc, frozen)?;
+    find_as_worked(rt, alloc, frozen, row, settings, 1)?;
+    find_as_worked(rt, alloc, frozen, row, settings, 2)?;
+    find_as_worked(rt, alloc, frozen, row, settings, 64)
 }
 
 #[test]
 fn workers_find_what_one_finds(rt: HostRuntime) -> Result<(), Fail> {
     for row in ROWS {
-        find_as_worked(&rt, rt.alloc(), row, 1)?;
-        find_as_worked(&rt, rt.alloc(), row, 2)?;
-        find_as_worked(&rt, rt.alloc(), row, 64)?;
+        let (_, many, then, _) = *row;
+        let frozen = frozen(rt.alloc(), many, then)?;
+        all_find(&rt, rt.alloc(), &frozen, row)?;
     }
     Ok(())
 }
@@ -114,9 +138,9 @@ fn is_met_by_all<R: Threads + Abort + Clock + Sync>(
     rt: &R,
     alloc: Global,
     name: &str,
-    then: &str,
+    frozen: &Frozen,
     workers: u32,
-) -> Result<(), Fail>
+) -> Result<(), AllocError>
     requires some { 1 ≤ workers }
     requires few { workers ≤ 64 }
 {
@@ -126,8 +150,7 @@ fn is_met_by_all<R: Threads + Abort + Clock + Sync>(
         entered: AtomicU64::new(0),
         held_in_vain: AtomicU64::new(0),
     };
-    let frozen = frozen(alloc, 0, then)?;
-    found_by(rt, alloc, &frozen, &gate, workers)?;
+    found_by(rt, alloc, frozen, &gate, workers)?;
     is_equal(rt, name, &gate.held_in_vain.load(Ordering::SeqCst), &0);
     is_equal(
         rt,
@@ -138,20 +161,18 @@ fn is_met_by_all<R: Threads + Abort + Clock + Sync>(
     Ok(())
 }
 
+// Groups of two and of four children, each of whom settings meet.
+const OF_TWO: &str =
+    "/ create_group release /0 create_child create_child all_children_present /0/0 bind cpu /0/1 bind cpu";
+
+const OF_FOUR: &str =
+    "/ create_group release /0 create_child create_child create_child create_child all_children_present /0/0 bind cpu /0/1 bind cpu /0/2 bind cpu /0/3 bind cpu";
+
 #[test]
 fn workers_search_at_the_same_time(rt: HostRuntime) -> Result<(), Fail> {
-    is_met_by_all(
-        &rt,
-        rt.alloc(),
-        "two workers",
-        "/ create_group release /0 create_child create_child all_children_present /0/0 bind cpu /0/1 bind cpu",
-        2,
-    )?;
-    is_met_by_all(
-        &rt,
-        rt.alloc(),
-        "four workers",
-        "/ create_group release /0 create_child create_child create_child create_child all_children_present /0/0 bind cpu /0/1 bind cpu /0/2 bind cpu /0/3 bind cpu",
-        4,
-    )
+    let two = frozen(rt.alloc(), 0, OF_TWO)?;
+    is_met_by_all(&rt, rt.alloc(), "two workers", &two, 2)?;
+    let four = frozen(rt.alloc(), 0, OF_FOUR)?;
+    is_met_by_all(&rt, rt.alloc(), "four workers", &four, 4)?;
+    Ok(())
 }

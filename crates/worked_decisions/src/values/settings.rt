@@ -36,20 +36,6 @@ fn cached(count: u32, size_bytes: u64) -> Settings {
     }
 }
 
-// The best settings for two participants.
-fn best(
-    alloc: Global,
-    platform: &Platform,
-    first: &Constraints,
-    second: &Constraints,
-    whole: bool,
-) -> Result<Result<Settings, Reason>, AllocError> {
-    let mut aggregate = Aggregate::new(alloc, platform)?;
-    aggregate.add(first)?;
-    aggregate.add(second)?;
-    Ok(aggregate.best_settings(whole))
-}
-
 // How many heaps an aggregate of nobody has, and its best settings.
 fn for_nobody(
     alloc: Global,
@@ -71,18 +57,31 @@ fn no_participant(rt: HostRuntime) -> Result<(), Fail> {
 // Of settings the offer, the count, the size in bytes and the least width.
 type Told = (Offer, u32, u64, u32);
 
+// The best settings for two participants.
+fn best(
+    alloc: Global,
+    platform: &Platform,
+    first: &Constraints,
+    second: &Constraints,
+    whole: bool,
+) -> Result<Result<Settings, Reason>, AllocError> {
+    let mut aggregate = Aggregate::new(alloc, platform)?;
+    aggregate.add(first)?;
+    aggregate.add(second)?;
+    Ok(aggregate.best_settings(whole))
+}
+
 // What is told of the best settings for participants of two records.
 fn shared(
     alloc: Global,
+    platform: &Platform,
     first: &str,
     second: &str,
     whole: bool,
 ) -> Result<Result<Told, Reason>, Fail> {
-    let platform = platform(alloc)?;
     let first = asked(alloc, first)?;
     let second = asked(alloc, second)?;
-    let found = best(alloc, &platform, &first, &second, whole)?;
-    Ok(told(found))
+    Ok(told(best(alloc, platform, &first, &second, whole)?))
 }
 
 fn told(found: Result<Settings, Reason>) -> Result<Told, Reason> {
@@ -160,8 +159,9 @@ const NV12: Offer = Offer::Image(
 
 #[test]
 fn best_for_two(rt: HostRuntime) -> Result<(), Fail> {
+    let platform = platform(rt.alloc())?;
     for (row, (first, second, whole, wanted)) in ROWS.iter().enumerate() {
-        let found = shared(rt.alloc(), first, second, *whole)?;
+        let found = shared(rt.alloc(), &platform, first, second, *whole)?;
         are_equal(&rt, &[((row, found), (row, *wanted))]);
     }
     Ok(())
