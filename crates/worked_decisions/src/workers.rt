@@ -93,12 +93,16 @@ fn all_find<R: Threads + Abort + Sync>(
     find_as_worked(rt, alloc, frozen, row, settings, 64)
 }
 
+fn all_find_in<R: Threads + Abort + Sync>(rt: &R, alloc: Global, row: &Row) -> Result<(), Fail> {
+    let (_, many, then, _) = *row;
+    let frozen = frozen(alloc, many, then)?;
+    Ok(all_find(rt, alloc, &frozen, row)?)
+}
+
 #[test]
 fn workers_find_what_one_finds(rt: HostRuntime) -> Result<(), Fail> {
     for row in ROWS {
-        let (_, many, then, _) = *row;
-        let frozen = frozen(rt.alloc(), many, then)?;
-        all_find(&rt, rt.alloc(), &frozen, row)?;
+        all_find_in(&rt, rt.alloc(), row)?;
     }
     Ok(())
 }
@@ -161,18 +165,35 @@ fn is_met_by_all<R: Threads + Abort + Clock + Sync>(
     Ok(())
 }
 
-// Groups of two and of four children, each of whom settings meet.
-const OF_TWO: &str =
-    "/ create_group release /0 create_child create_child all_children_present /0/0 bind cpu /0/1 bind cpu";
-
-const OF_FOUR: &str =
-    "/ create_group release /0 create_child create_child create_child create_child all_children_present /0/0 bind cpu /0/1 bind cpu /0/2 bind cpu /0/3 bind cpu";
+// What is frozen is kept by one function for each group: a test that kept both would be proved to free both at each `?`.
+fn meet<R: Threads + Abort + Clock + Sync>(
+    rt: &R,
+    alloc: Global,
+    name: &str,
+    then: &str,
+    workers: u32,
+) -> Result<(), Fail>
+    requires some { 1 ≤ workers }
+    requires few { workers ≤ 64 }
+{
+    let frozen = frozen(alloc, 0, then)?;
+    Ok(is_met_by_all(rt, alloc, name, &frozen, workers)?)
+}
 
 #[test]
 fn workers_search_at_the_same_time(rt: HostRuntime) -> Result<(), Fail> {
-    let two = frozen(rt.alloc(), 0, OF_TWO)?;
-    is_met_by_all(&rt, rt.alloc(), "two workers", &two, 2)?;
-    let four = frozen(rt.alloc(), 0, OF_FOUR)?;
-    is_met_by_all(&rt, rt.alloc(), "four workers", &four, 4)?;
-    Ok(())
+    meet(
+        &rt,
+        rt.alloc(),
+        "two workers",
+        "/ create_group release /0 create_child create_child all_children_present /0/0 bind cpu /0/1 bind cpu",
+        2,
+    )?;
+    meet(
+        &rt,
+        rt.alloc(),
+        "four workers",
+        "/ create_group release /0 create_child create_child create_child create_child all_children_present /0/0 bind cpu /0/1 bind cpu /0/2 bind cpu /0/3 bind cpu",
+        4,
+    )
 }
