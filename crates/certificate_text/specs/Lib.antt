@@ -6,7 +6,6 @@ pub mod Fields
 pub mod Reading
 pub mod SettingsSaid
 pub mod Said
-pub mod Put
 pub mod CanBeRead
 pub mod Laws
 pub mod Out

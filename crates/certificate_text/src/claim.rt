@@ -31,10 +31,6 @@ impl Part for u8 {
         out.u64(u64::from(*self))
     }
 
-    fn value(&self, _alloc: Global) -> Result<Value, AllocError> {
-        Ok(Value::from(*self))
-    }
-
     fn read(_alloc: Global, value: &Value) -> Result<u8, Unread> {
         match number_to(value, u64::from(u8::MAX)) {
             Some(choice) => Ok(choice as u8),

@@ -9,11 +9,11 @@ ghost use Rattle.certificate_text.specs.Told.{conflict_data, earlier_data, item_
 ghost use Rattle.serde_json.specs.Data.{object, member, no_members};
 
 use crate::json_writer::Writer;
-use crate::line::{named_value, put_named, read_named};
-use crate::part::{Part, list_value, put_list};
+use crate::line::{put_named, read_named};
+use crate::part::{Part, put_list};
 use crate::reading::{expect_object, has_key, list_at, list_of, number_at};
 use crate::unread::Unread;
-use serde_json::{Map, Value, put};
+use serde_json::Value;
 use std::alloc::{AllocError, Global};
 use sysmem_counts::Field;
 use sysmem_proof::{Conflict, EarlierChoices, Item, Line, Lines, PathList, Refutation};
@@ -28,13 +28,6 @@ impl Part for Item {
         match self {
             Item::Split(children) => put_split(out, *children),
             Item::Leaf(conflict) => put_conflict(out, text, conflict),
-        }
-    }
-
-    fn value(&self, alloc: Global) -> Result<Value, AllocError> {
-        match self {
-            Item::Split(children) => split_value(alloc, *children),
-            Item::Leaf(conflict) => conflict_value(alloc, conflict),
         }
     }
 
@@ -55,10 +48,6 @@ impl Part for Refutation {
         put_list(out, text, self.items())
     }
 
-    fn value(&self, alloc: Global) -> Result<Value, AllocError> {
-        list_value(alloc, self.items())
-    }
-
     fn read(alloc: Global, value: &Value) -> Result<Refutation, Unread> {
         Ok(Refutation::new(list_of(alloc, value)?))
     }
@@ -71,10 +60,6 @@ impl Part for EarlierChoices {
 
     fn put(&self, out: &mut Writer, text: &mut String) -> Result<(), AllocError> {
         put_list(out, text, self.refutations())
-    }
-
-    fn value(&self, alloc: Global) -> Result<Value, AllocError> {
-        list_value(alloc, self.refutations())
     }
 
     fn read(alloc: Global, value: &Value) -> Result<EarlierChoices, Unread> {
@@ -114,37 +99,6 @@ fn put_lines(out: &mut Writer, kind: &str, lines: &Lines) -> Result<(), AllocErr
     out.key(kind)?;
     out.lines(lines.as_slice())?;
     out.end_object()
-}
-
-fn split_value(alloc: Global, children: u64) -> Result<Value, AllocError>
-    ensures { IfOk result (λ value. view value ≡ item_data (Item.Split children)) }
-{
-    let mut map = Map::new(alloc);
-    put(&mut map, alloc, "split", Value::from(children))?;
-    Ok(Value::Object(map))
-}
-
-fn conflict_value(alloc: Global, conflict: &Conflict) -> Result<Value, AllocError>
-    ensures { IfOk result (λ value. view value ≡ conflict_data conflict.now) }
-{
-    match conflict {
-        Conflict::Count(line) => named_value(alloc, "count", line.field(), line.nodes()),
-        Conflict::Fixed(field, node) => {
-            let nodes = PathList::new(alloc).with(node.ordinals())?;
-            named_value(alloc, "fixed", *field, &nodes)
-        }
-        Conflict::Places(lines) => lines_value(alloc, "places", lines),
-        Conflict::Offers(lines) => lines_value(alloc, "offers", lines),
-    }
-}
-
-fn lines_value(alloc: Global, kind: &str, lines: &Lines) -> Result<Value, AllocError>
-    ensures { IfOk result (λ value. view value
-        ≡ object (member kind.now (lines_data lines.now) no_members)) }
-{
-    let mut map = Map::new(alloc);
-    put(&mut map, alloc, kind, list_value(alloc, lines.as_slice())?)?;
-    Ok(Value::Object(map))
 }
 
 fn split_of(value: &Value) -> Option<Item>

@@ -21,11 +21,9 @@ mod reading;
 mod settings;
 mod text;
 mod unread;
-mod value;
 mod writer;
 
 pub use claim::read_proof;
 pub use path::push_path;
 pub use unread::Unread;
-pub use value::write_proof;
 pub use writer::CertificateWriter;

@@ -1,10 +1,7 @@
 //! Lines of the conflict table.
 
 ghost use Rattle.certificate_text.specs.Certificate.{PutsData};
-ghost use Rattle.std.specs.Prelude.{◌≡◌, codes, IfOk};
-ghost use Rattle.std.specs.Cmp.Lexicographic.{slice_cmp};
-ghost use Rattle.std.specs.Ordering.{nat_cmp};
-ghost use Rattle.std.proofs.Common.{Greater};
+ghost use Rattle.std.specs.Prelude.{◌≡◌, codes};
 ghost use Rattle.certificate_text.specs.Fields.{field_named};
 ghost use Rattle.certificate_text.specs.Reading.{named_at, SaysAs};
 ghost use Rattle.certificate_text.specs.Said.{line_said, named_said};
@@ -16,7 +13,7 @@ use crate::part::Part;
 use crate::path_list::paths_at;
 use crate::reading::{expect_object, text_at};
 use crate::unread::Unread;
-use serde_json::{Map, Value, put};
+use serde_json::Value;
 use std::alloc::{AllocError, Global};
 use sysmem_counts::Field;
 use sysmem_proof::{Line, PathList};
@@ -28,10 +25,6 @@ impl Part for Line {
 
     fn put(&self, out: &mut Writer, text: &mut String) -> Result<(), AllocError> {
         put_named(out, text, "field", self.field(), self.nodes())
-    }
-
-    fn value(&self, alloc: Global) -> Result<Value, AllocError> {
-        named_value(alloc, "field", self.field(), self.nodes())
     }
 
     fn read(alloc: Global, value: &Value) -> Result<Line, Unread> {
@@ -62,27 +55,6 @@ pub(crate) fn put_named(
     out.key("nodes")?;
     nodes.put(out, text)?;
     out.end_object()
-}
-
-/// A field under a kind, and the paths of nodes, as a value.
-pub(crate) fn named_value(
-    alloc: Global,
-    kind: &str,
-    field: Field,
-    nodes: &PathList,
-) -> Result<Value, AllocError>
-    requires { slice_cmp nat_cmp (codes "nodes") kind.now ≡ Greater }
-    ensures { IfOk result (λ value. view value ≡ named_data kind.now field nodes.now) }
-{
-    let mut map = Map::new(alloc);
-    put(
-        &mut map,
-        alloc,
-        kind,
-        Value::try_from_str(alloc, field.name())?,
-    )?;
-    put(&mut map, alloc, "nodes", nodes.value(alloc)?)?;
-    Ok(Value::Object(map))
 }
 
 /// The field of a line that stands behind others. Most often it is that of the last of them, whose name is compared first.

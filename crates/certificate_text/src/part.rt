@@ -4,8 +4,8 @@ ghost use Rattle.certificate_text.specs.Certificate.{PutsData, PutsMember};
 ghost use Rattle.certificate_text.specs.Told.{list_data};
 ghost use Rattle.certificate_text.specs.Reading.{Says};
 ghost use Rattle.serde_json.specs.Data.{Data};
-ghost use Rattle.serde_json.specs.View.{view, items_view, items_of};
-ghost use Rattle.std.specs.Prelude.{◌≡◌, map, IfOk, Option};
+ghost use Rattle.serde_json.specs.View.{view};
+ghost use Rattle.std.specs.Prelude.{Option};
 
 use crate::json_writer::Writer;
 use crate::unread::Unread;
@@ -21,10 +21,6 @@ pub(crate) trait Part: Sized + Drop {
     /// Puts it behind what is written. The text is one to write a path in.
     fn put(&self, out: &mut Writer, text: &mut String) -> Result<(), AllocError>
         ensures { PutsData result out.old out.new (told self.now) };
-
-    /// It as a value.
-    fn value(&self, alloc: Global) -> Result<Value, AllocError>
-        ensures { IfOk result (λ value. view value ≡ told self.now) };
 
     /// Reads it from a value.
     fn read(alloc: Global, value: &Value) -> Result<Self, Unread>
@@ -64,24 +60,4 @@ pub(crate) fn put_list_at<T: Part>(
 {
     out.key(key)?;
     put_list(out, text, parts)
-}
-
-/// The parts of a list as values.
-fn values_of<T: Part>(alloc: Global, parts: &[T]) -> Result<Vec<Value>, AllocError>
-    ensures { IfOk result (λ values. items_view values.items
-        ≡ items_of (map T.told parts.now)) }
-{
-    let mut values = Vec::with_capacity(alloc, parts.len())?;
-    for part in parts {
-        let value = part.value(alloc)?;
-        values.push(value)?;
-    }
-    Ok(values)
-}
-
-/// A list of parts as a value.
-pub(crate) fn list_value<T: Part>(alloc: Global, parts: &[T]) -> Result<Value, AllocError>
-    ensures { IfOk result (λ value. view value ≡ list_data T.told parts.now) }
-{
-    Ok(Value::Array(values_of(alloc, parts)?))
 }

@@ -1,6 +1,6 @@
 //! Paths.
 
-ghost use Rattle.std.specs.Prelude.{◌≡◌, ◌++◌, ◌≤◌, [], None, codes, IfOk, OnOk};
+ghost use Rattle.std.specs.Prelude.{◌≡◌, ◌++◌, ◌≤◌, [], None, codes, OnOk};
 ghost use Rattle.std.specs.Fmt.{decimal};
 ghost use Rattle.std.specs.String.{string_bytes};
 ghost use Rattle.certificate_text.specs.Certificate.{PutsData};
@@ -26,10 +26,6 @@ impl Part for Path {
         put_path(out, text, self.ordinals())
     }
 
-    fn value(&self, alloc: Global) -> Result<Value, AllocError> {
-        path_value(alloc, self.ordinals())
-    }
-
     fn read(alloc: Global, value: &Value) -> Result<Path, Unread> {
         let mut ordinals = Vec::new(alloc);
         read_path(&mut ordinals, value)?;
@@ -44,15 +40,6 @@ fn put_path(out: &mut Writer, text: &mut String, ordinals: &[u32]) -> Result<(),
     text.clear();
     push_path(text, ordinals)?;
     out.string(text.as_str())
-}
-
-/// The path of these ordinals as a value.
-pub(crate) fn path_value(alloc: Global, ordinals: &[u32]) -> Result<Value, AllocError>
-    ensures { IfOk result (λ value. view value ≡ path_data ordinals.now) }
-{
-    let mut text = String::new(alloc);
-    push_path(&mut text, ordinals)?;
-    Ok(Value::String(text))
 }
 
 /// Puts the text of a path behind the text so far: `/` or `/0/1`. Where memory is refused, a part of it may stand there.

@@ -2,13 +2,12 @@
 
 ghost use Rattle.certificate_text.specs.Reading.{at_key, each_said, list_said, Says};
 ghost use Rattle.certificate_text.specs.Said.{node_said};
-ghost use Rattle.certificate_text.specs.Told.{path_data, paths_data};
-ghost use Rattle.serde_json.specs.View.{items_of, items_view, view};
-ghost use Rattle.std.specs.Prelude.{◌≡◌, map, IfOk};
+ghost use Rattle.certificate_text.specs.Told.{paths_data};
+ghost use Rattle.serde_json.specs.View.{items_view, view};
 
 use crate::json_writer::Writer;
 use crate::part::Part;
-use crate::path::{path_value, read_path};
+use crate::path::read_path;
 use crate::unread::Unread;
 use serde_json::Value;
 use std::alloc::{AllocError, Global};
@@ -23,28 +22,12 @@ impl Part for PathList {
         out.paths(self)
     }
 
-    fn value(&self, alloc: Global) -> Result<Value, AllocError> {
-        Ok(Value::Array(path_values(alloc, self)?))
-    }
-
     fn read(alloc: Global, value: &Value) -> Result<PathList, Unread> {
         match value.as_array() {
             Some(values) => each_path(alloc, values),
             None => Err(Unread::WrongForm),
         }
     }
-}
-
-/// Paths as values.
-fn path_values(alloc: Global, paths: &PathList) -> Result<Vec<Value>, AllocError>
-    ensures { IfOk result (λ values. items_view values.items ≡ items_of (map path_data paths.now)) }
-{
-    let mut values = Vec::new(alloc);
-    for path in paths.iter() {
-        let value = path_value(alloc, path)?;
-        values.push(value)?;
-    }
-    Ok(values)
 }
 
 /// The paths that each of the items says.

@@ -12,7 +12,7 @@
 //! | `prove` | making what proves the verdict |
 //! | `check` | checking the verdict with its proof |
 //! | `write` | writing the certificate of both |
-//! | `serialise` | making the text of a `serde_json::Value` of the same, which is made once |
+//! | `serialise` | making the text of a `serde_json::Value` of the same, which is read once |
 //! | `rows` | nothing: plays the lines of standard input once (`rows.rt`). As the only job it reads no file |
 //!
 //! Calls that the tree refuses, checks and waits are passed over.
