@@ -19,7 +19,7 @@ line_middle = 34 ∷ 44 ∷ 34 ∷ (codes "nodes" ++ 34 ∷ 58 ∷ [])
 regroup : (o a n b p e : List ℕ) → ((((o ++ a) ++ n) ++ b) ++ p) ++ e ≡ o ++ (a ++ (n ++ (b ++ (p ++ e))))
 regroup o a n b p e = simp append_assoc
 
--- the parts of a line's text, one behind the other
+-- the parts of a line's text, one after the other
 pub line_put : (old : List ℕ) (field : Field) (nodes : List (List ℕ)) → escape (field_name field) ≡ field_name field
     → ((((old ++ line_front) ++ field_name field) ++ line_middle) ++ compact_text (paths_data nodes)) ++ 125 ∷ [] ≡ old ++ compact_text (named_data (codes "field") field nodes)
 unfolding escape_byte

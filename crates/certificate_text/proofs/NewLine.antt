@@ -1,4 +1,4 @@
--- A printed text with a newline behind it has the tokens that were printed.
+-- A printed text with a newline after it has the tokens that were printed.
 use Rattle.std.proofs.Common.{◌≡◌, ℕ, Bool, true, false, cond, ◌&&◌, List, [], ◌∷◌, ◌++◌, refl, sym, ap, ap₂, ◌∙◌, append_assoc, append-nil}
 use Rattle.json.specs.Token.{Token, begin_object, end_object, begin_array, end_array, key, string, number, boolean, null, bad}
 use Rattle.json.specs.Word.{ends_word, word}
@@ -21,12 +21,12 @@ lexemes_of (boolean b) = token (boolean b) ∷ []
 lexemes_of null = token null ∷ []
 lexemes_of bad = []
 
--- of tokens behind a value, or not
+-- of tokens after a value, or not
 abbrev all_lexemes : Bool → List Token → List Lexeme
 all_lexemes later [] = []
 all_lexemes later (t ∷ ts) = cond (later && begins t) (comma ∷ []) [] ++ (lexemes_of t ++ all_lexemes (ends t) ts)
 
--- after a value stands a comma, a closing bracket or what is behind all
+-- after a value stands a comma, a closing bracket or what is after all
 value_ends : (ts : List Token) (r : List ℕ) → ends_word r ≡ true → ends_word (print_from true ts ++ r) ≡ true
 unfolding print_from
 value_ends [] r ended = ended
@@ -66,7 +66,7 @@ unfolding lex
 lex_comma true r = refl
 lex_comma false r = refl
 
--- what is printed, with something behind it
+-- what is printed, with something after it
 lex_behind : (later : Bool) (ts : List Token) (r : List ℕ) → ArePrintable ts → ends_word r ≡ true → lex between (print_from later ts ++ r) ≡ all_lexemes later ts ++ lex between r
 unfolding lex print_from ArePrintable
 lex_behind later [] r h ended = refl

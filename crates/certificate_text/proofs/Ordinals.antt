@@ -52,7 +52,7 @@ abbrev pub HasOrdinal : NodeFacts → Type 0
 HasOrdinal n = IfSome n.birth (λ b. b.ordinal ≤ most_number)
 
 module _ (nodes : List NodeFacts) (tree : IsTree nodes) where
-  -- a child comes behind its parent
+  -- a child comes after its parent
   older : (k : ℕ) (n : NodeFacts) (b : Birth) → slice_get nodes k ≡ Some n → n.birth ≡ Some b → b.parent < length nodes
   older zero n b here born = at (slice_get nodes 0) here tree.root where
     at : (o : Option NodeFacts) → o ≡ Some n → IsSomeAnd o (λ x. (x.birth ≡ None) × (x.domain ≡ 0)) → b.parent < length nodes

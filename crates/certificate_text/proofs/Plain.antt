@@ -9,7 +9,7 @@ escape_append : (s t : List ℕ) → escape (s ++ t) ≡ escape s ++ escape t
 escape_append [] t = refl
 escape_append (c ∷ s) t = ap (λ l. escape_byte c ++ l) (escape_append s t) ∙ sym (append_assoc (escape_byte c) (escape s) (escape t))
 
--- texts that need no escape, one behind the other
+-- texts that need no escape, one after the other
 both_plain : (s t : List ℕ) → escape s ≡ s → escape t ≡ t → escape (s ++ t) ≡ s ++ t
 both_plain s t first second = escape_append s t ∙ ap₂ (λ a b. a ++ b) first second
 

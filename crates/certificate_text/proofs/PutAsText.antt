@@ -12,7 +12,8 @@ use Rattle.serde_json.specs.View.{items_of}
 use Rattle.serde_json.specs.Written.{outline, items_outline, items_text}
 use Rattle.serde_json.proofs.Texts.{print-outline}
 use Rattle.sysmem_proof.specs.Line.{LineFacts}
-use Rattle.certificate_text.specs.Certificate.{Adds, tokens_of}
+use Rattle.certificate_text.specs.Certificate.{tokens_of}
+use Rattle.certificate_text.specs.Puts.{Adds}
 use Rattle.json.specs.Written.{Written, Writes}
 use Rattle.certificate_text.specs.Out.{out_view, IsOut}
 use Rattle.certificate_text.specs.Told.{line_data, lines_data, path_data, paths_data}
@@ -45,7 +46,7 @@ module _ (w v : Inside) (h : IsOut w) (t : Token) (printable : IsPrintable t) (d
   unfolding pushed
   pushed_tokens = shows_printed v pushed ∙ ap (λ l. l ++ t ∷ []) (sym (shows_printed w h))
 
--- a token that the writer behind the text was given
+-- a token that the writer after the text was given
 module _ {E : Type 0} (r : Result (Unit {0}) E) (w v : Inside) (h : IsOut w) (t : Token) (printable : IsPrintable t) (done : v.done.items ≡ w.done.items) where
   pub given : Writes r w.behind v.behind t → IsOut v
   given writes = by r writes.ok writes.err where

@@ -9,7 +9,8 @@ use Rattle.serde_json.specs.Data.{Data, array, Members, member}
 use Rattle.serde_json.specs.View.{items_of}
 use Rattle.serde_json.specs.Written.{items_outline}
 use Rattle.serde_json.proofs.Texts.{print-outline}
-use Rattle.certificate_text.specs.Certificate.{tokens_of, rest_of, Adds, AddsMembers, HasTaken, certificate_text}
+use Rattle.certificate_text.specs.Certificate.{tokens_of, HasTaken, certificate_text}
+use Rattle.certificate_text.specs.Puts.{rest_of, Adds, AddsMembers}
 
 -- tokens, and then others
 pub adds : (a b c : Written) (ts us : List Token) → Adds a b ts → Adds b c us → Adds a c (ts ++ us)

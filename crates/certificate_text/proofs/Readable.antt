@@ -127,7 +127,7 @@ abbrev pub filled : Members → Members → Members
 filled no_members found = found
 filled (member k d ms) found = filled ms (put k d found)
 
--- they stay as they are, each key behind those before it
+-- they stay as they are, each key after those before it
 abbrev pub AreInOrder : Members → Type 0
 AreInOrder ms = filled ms no_members ≡ ms
 

@@ -12,11 +12,13 @@ count_data n = number (unsigned n)
 
 -- `{"height":H,"width":W}`
 abbrev pub size_data : ℕ → ℕ → Data
-size_data width height = object (member (codes "height") (count_data height) (member (codes "width") (count_data width) no_members))
+size_data width height = object (member (codes "height") (count_data height)
+    (member (codes "width") (count_data width) no_members))
 
 -- the value of a field: both sides of a size, or a number
 abbrev pub bound_data : ImageBounds → Bound → Data
-bound_data b f = if is_size f then size_data (value f side.Width b) (value f side.Height b) else count_data (value f side.Width b)
+bound_data b f =
+    if is_size f then size_data (value f side.Width b) (value f side.Height b) else count_data (value f side.Width b)
 
 -- these fields, each under its name and in the order of the names
 abbrev pub bounds_members : ImageBounds → List Bound → Members

@@ -1,4 +1,4 @@
--- Which claims can be read of their text: what they say fits the types that it is read into, and their settings are the platform's.
+-- Which claims can be read of their text: what they say fits its types, and their settings are the platform's.
 use Rattle.std.specs.Prelude.{◌≡◌, ℕ, ◌-◌, ◌^◌, ◌≤◌, List, [], ◌∷◌, length, All, Contains, IfSome, Option, Some, None}
 use Rattle.sysmem_formats.specs.declared.offer.Offer.TheVariants.{NoImage}
 use Rattle.sysmem_image.specs.Bounds.{IsInRange, IsOwn}
@@ -61,7 +61,8 @@ pub record AreReadableSettings (platform : PlatformFacts) (s : Settings) : Type 
   pub own : s.offer ≡ NoImage → IsOwn NoImage s.bounds
 
 -- at most 128 choices, each of one of at most 256 children
-pub record IsReadableChoice (platform : PlatformFacts) (chosen : ChosenFacts) (certificate : CertificateFacts) : Type 0 where
+pub record IsReadableChoice (platform : PlatformFacts) (chosen : ChosenFacts)
+    (certificate : CertificateFacts) : Type 0 where
   pub few : length chosen.selection ≤ 128
   pub choices : All (λ n. n ≤ 255) chosen.selection
   pub settings : AreReadableSettings platform chosen.settings

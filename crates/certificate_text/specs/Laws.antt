@@ -25,15 +25,18 @@ PathsReadBack = (path : List ℕ) → HasSteps path → node_said (path_data pat
 abbrev pub ClaimsReadBack : Type 0
 ClaimsReadBack = (platform : PlatformFacts) (path : List ℕ) (verdict : Verdict) (proof : Proof)
     → IsPlatform platform.heaps platform.pairs platform.colours → HasSteps path → CanBeRead platform verdict proof
-    → claim_said platform (claim_data platform path verdict proof) ≡ Some (path, record { verdict = verdict; proof = proof })
+    → claim_said platform (claim_data platform path verdict proof)
+    ≡ Some (path, record { verdict = verdict; proof = proof })
 
 -- the path of a node of a tree can be read
 abbrev pub NodePathsCanBeRead : Type 0
 NodePathsCanBeRead = (nodes : List NodeFacts) (i : ℕ) → IsTree nodes → HasSteps (path_of nodes i)
 
--- a claim that is true of a domain of a tree can be read, of an attached one where the settings that it is decided on can
+-- a claim that is true of a domain of a tree can be read; of an attached one, where the settings that it is decided on
+-- can be read
 abbrev pub TrueClaimsCanBeRead : Type 0
-TrueClaimsCanBeRead = (platform : PlatformFacts) (nodes : List NodeFacts) (domain : ℕ) (base : Option BaseFacts) (claim : Claim)
+TrueClaimsCanBeRead = (platform : PlatformFacts) (nodes : List NodeFacts) (domain : ℕ)
+    → (base : Option BaseFacts) (claim : Claim)
     → HasHeapIds platform → IsTree nodes → IsReadableBase platform base → IsTrueClaim platform nodes domain base claim
     → CanBeRead platform claim.verdict claim.proof
 
@@ -46,4 +49,5 @@ pub record IsTextOf (d : Data) (text : List ℕ) : Type 0 where
 abbrev pub TextsReadBack : Type 0
 TextsReadBack = (platform : PlatformFacts) (decisions : List (List ℕ × Option Claim)) → All IsHeap platform.heaps
     → All (λ c. IsReadableDecision platform c.0 c.1) decisions
-    → IsTextOf (array (items_of (map (λ c. decision_data platform c.0 c.1) decisions))) (certificate_text (map (λ c. decision_data platform c.0 c.1) decisions))
+    → IsTextOf (array (items_of (map (λ c. decision_data platform c.0 c.1) decisions)))
+    (certificate_text (map (λ c. decision_data platform c.0 c.1) decisions))

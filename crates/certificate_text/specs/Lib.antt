@@ -2,6 +2,7 @@ pub mod Paths
 pub mod Bounds
 pub mod Told
 pub mod Certificate
+pub mod Puts
 pub mod Fields
 pub mod Reading
 pub mod SettingsSaid

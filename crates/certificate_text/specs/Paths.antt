@@ -3,7 +3,7 @@ use Rattle.std.specs.Prelude.{ℕ, zero, suc, ◌+◌, ◌-◌, ◌*◌, ◌++�
 use Rattle.std.specs.Fmt.{decimal}
 use Rattle.sysmem_counts.specs.Bounds.{most_number}
 
--- `/0/1`: each ordinal behind a slash
+-- `/0/1`: each ordinal after a slash
 abbrev pub steps_text : List ℕ → List ℕ
 steps_text [] = []
 steps_text (ordinal ∷ path) = (codes "/" ++ decimal ordinal) ++ steps_text path
@@ -13,7 +13,8 @@ abbrev pub path_text : List ℕ → List ℕ
 path_text [] = codes "/"
 path_text (ordinal ∷ path) = steps_text (ordinal ∷ path)
 
--- an ordinal with a further digit: none follows a 0. What is above 32 bits is read as the greatest number of them, where no child is.
+-- an ordinal with a further digit: none follows a 0. What is above 32 bits is read as their greatest number, where no
+-- child is
 abbrev pub with_digit : Option ℕ → ℕ → Option ℕ
 with_digit None digit = Some digit
 with_digit (Some zero) digit = None
@@ -30,7 +31,7 @@ steps_said ordinal (c ∷ text) =
     if c == 47 then option_and_then (λ n. option_map (λ path. n ∷ path) (steps_said None text)) ordinal
     else option_and_then (λ n. steps_said (Some n) text) (with_byte ordinal c)
 
--- what stands behind the first slash: nothing for the root
+-- what stands after the first slash: nothing for the root
 abbrev pub path_behind : List ℕ → Option (List ℕ)
 path_behind [] = Some []
 path_behind (c ∷ text) = steps_said None (c ∷ text)

@@ -98,7 +98,10 @@ chosen_said platform d = do
   certificate ← certificate_said d
   selection ← at_key (codes "selection") selection_said d
   settings ← at_key (codes "settings") (settings_said platform) d
-  Some (record { verdict = verdicts.Chosen (record { selection = selection; settings = settings }); proof = proves.Choice certificate })
+  Some (record {
+    verdict = verdicts.Chosen (record { selection = selection; settings = settings });
+    proof = proves.Choice certificate;
+  })
 
 abbrev pub empty_said : Data → Option Claim
 empty_said d = do

@@ -43,7 +43,8 @@ field_data field = string (field_name field)
 
 -- `{"KIND":FIELD,"nodes":[PATH,..]}`
 abbrev pub named_data : List ℕ → Field → List (List ℕ) → Data
-named_data kind field nodes = object (member kind (field_data field) (member (codes "nodes") (paths_data nodes) no_members))
+named_data kind field nodes = object (member kind (field_data field)
+    (member (codes "nodes") (paths_data nodes) no_members))
 
 -- a line of those for each place or each offer
 abbrev pub line_data : LineFacts → Data
@@ -72,7 +73,8 @@ earlier_data refutations = list_data refutation_data refutations
 
 -- the heap of a place
 abbrev pub heap_data : Option HeapFacts → Data
-heap_data (Some h) = object (member (field_name field.HeapType) (string h.heap.heap_type) (member (field_name field.Id) (count_data h.heap.id) no_members))
+heap_data (Some h) = object (member (field_name field.HeapType) (string h.heap.heap_type)
+    (member (field_name field.Id) (count_data h.heap.id) no_members))
 heap_data None = null
 
 -- what the buffers hold, null without an image
@@ -105,7 +107,8 @@ verdict_name verdicts.NoMemory = codes "no_memory"
 -- what a verdict has beside its name, and what follows
 abbrev pub verdict_members : PlatformFacts → Verdict → Members → Members
 verdict_members platform (verdicts.Chosen chosen) ms =
-    member (codes "selection") (list_data count_data chosen.selection) (member (codes "settings") (settings_data platform chosen.settings) ms)
+    member (codes "selection") (list_data count_data chosen.selection)
+    (member (codes "settings") (settings_data platform chosen.settings) ms)
 verdict_members platform _ ms = ms
 
 -- what is to prove it, and what follows
@@ -120,7 +123,8 @@ proof_members proves.Nothing ms = ms
 -- the claim about the domain whose root is at the path
 abbrev pub claim_data : PlatformFacts → List ℕ → Verdict → Proof → Data
 claim_data platform path verdict proof = object (member (codes "domain") (path_data path)
-    (proof_members proof (verdict_members platform verdict (member (codes "verdict") (string (verdict_name verdict)) no_members))))
+    (proof_members proof (verdict_members platform verdict
+    (member (codes "verdict") (string (verdict_name verdict)) no_members))))
 
 -- what was decided of the domain: a claim, or that memory was refused
 abbrev pub decision_data : PlatformFacts → List ℕ → Option Claim → Data

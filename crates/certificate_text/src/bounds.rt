@@ -6,7 +6,7 @@ ghost use Rattle.sysmem_counts.specs.Field.{field_name};
 ghost use Rattle.sysmem_image.specs.Fields.{values_of};
 ghost use Rattle.certificate_text.specs.SettingsSaid.{any_number, any_size, bounds_beside, bounds_by, bounds_len, no_bounds, product_said, size_said, some_number, some_size, values_said};
 ghost use Rattle.certificate_text.specs.Bounds.{bounds_data, count_data, size_data};
-ghost use Rattle.certificate_text.specs.Certificate.{PutsData, PutsMember};
+ghost use Rattle.certificate_text.specs.Puts.{PutsData, PutsMember};
 
 use crate::json_writer::Writer;
 use crate::member::put_number;

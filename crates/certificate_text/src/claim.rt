@@ -1,7 +1,7 @@
 //! A decision: the object of a certificate for one domain.
 
 ghost use Rattle.std.specs.Prelude.{◌≡◌, ◌≤◌, length, option_map};
-ghost use Rattle.certificate_text.specs.Certificate.{PutsData, PutsMember, PutsMembers};
+ghost use Rattle.certificate_text.specs.Puts.{PutsData, PutsMember, PutsMembers};
 ghost use Rattle.certificate_text.specs.Bounds.{count_data};
 ghost use Rattle.certificate_text.specs.Reading.{at_key, number_to, Says};
 ghost use Rattle.certificate_text.specs.Said.{bare_said, certificate_said, chosen_said, claim_by, claim_said, empty_said, selection_said, unless_many};
@@ -39,7 +39,8 @@ impl Part for u8 {
     }
 }
 
-/// Puts what was decided of the domain whose root is at the path: a claim, or that memory was refused.
+/// Puts what was decided of the domain whose root is at the path: a claim, or that memory was
+/// refused.
 pub(crate) fn put_decision(
     out: &mut Writer,
     text: &mut String,
@@ -175,7 +176,8 @@ fn put_settings_at(
 
 /// Reads what an object of a certificate claims, and the path of the domain that it is about.
 ///
-/// Whether the claim is true isn't tested. A name, a kind, a key or a range that is wrong anywhere in the object is `WrongForm`.
+/// Whether the claim is true isn't tested. A name, a kind, a key or a range that is wrong anywhere
+/// in the object is `WrongForm`.
 pub fn read_proof(
     alloc: Global,
     platform: &Platform,

@@ -1,7 +1,7 @@
 //! Items of refutations, and refutations.
 
 ghost use Rattle.std.specs.Prelude.{◌≡◌, IfOk};
-ghost use Rattle.certificate_text.specs.Certificate.{PutsData};
+ghost use Rattle.certificate_text.specs.Puts.{PutsData};
 ghost use Rattle.certificate_text.specs.Reading.{Says};
 ghost use Rattle.certificate_text.specs.Said.{conflict_said, earlier_said, fixed_by, item_said, lines_said, refutation_said, split_said};
 ghost use Rattle.serde_json.specs.View.{view};

@@ -1,7 +1,9 @@
-//! Writes the JSON of a certificate. Lists of paths and of lines, which are most of it, are put as text.
+//! Writes the JSON of a certificate. Lists of paths and of lines, which are most of it, are put as
+//! text.
 
 ghost use Rattle.std.specs.Prelude.{◌≡◌, ◌++◌, [], ◌∷◌, IfOk, OnOk};
-ghost use Rattle.certificate_text.specs.Certificate.{Adds, PutsData, tokens_of};
+ghost use Rattle.certificate_text.specs.Certificate.{tokens_of};
+ghost use Rattle.certificate_text.specs.Puts.{Adds, PutsData};
 ghost use Rattle.certificate_text.specs.Told.{lines_data, paths_data};
 ghost use Rattle.json.specs.Print.{IsPrintable, print};
 ghost use Rattle.json.specs.Reads.{token_of};
@@ -16,12 +18,13 @@ use std::marker::Model;
 use std::mem;
 use sysmem_proof::{Line, PathList};
 
-/// JSON that is being written. It places the commas and the colons, and leaves the nesting to its caller.
+/// JSON that is being written. It places the commas and the colons, and leaves the nesting to its
+/// caller.
 #[derive(Drop)]
 pub(crate) struct Writer {
     /// The text up to the bracket that ends the last list that was put as text.
     done: Vec<u8>,
-    /// What stands behind that.
+    /// What stands after that.
     behind: json::Writer,
 }
 
@@ -157,7 +160,8 @@ impl Writer {
     }
 }
 
-/// Begins a list whose items are to be put as text: what stands behind the text is put to it, with the list's bracket. Its room is kept.
+/// Begins a list whose items are to be put as text: what stands after the text is put to it, with
+/// the list's bracket. Its room is kept.
 fn begin_list(done: &mut Vec<u8>, mut behind: json::Writer) -> Result<Vec<u8>, AllocError>
     requires { behind.before ≡ [] }
     ensures done { OnOk result (done.new.items
@@ -171,7 +175,7 @@ fn begin_list(done: &mut Vec<u8>, mut behind: json::Writer) -> Result<Vec<u8>, A
     Ok(text)
 }
 
-/// The bracket at a list's end, behind which the writing goes on.
+/// The bracket at a list's end, after which the writing goes on.
 fn end_of_list(room: Vec<u8>) -> Result<json::Writer, AllocError>
     requires { room.items ≡ [] }
     ensures before { IfOk result (λ behind. behind.before ≡ []) }

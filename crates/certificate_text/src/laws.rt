@@ -9,8 +9,9 @@ pub fn paths_read_back()
     ensures { PathsReadBack }
 {}
 
-/// What is written of a claim is read as the claim and its domain's path, where each number in it is within its range, there are at
-/// most 128 choices, the settings are the platform's, and the proof is of the verdict's kind.
+/// What is written of a claim is read as the claim and its domain's path, where each number in it
+/// is within its range, there are at most 128 choices, the settings are the platform's, and the
+/// proof is of the verdict's kind.
 pub fn claims_read_back()
     ensures { ClaimsReadBack }
 {}
@@ -20,9 +21,9 @@ pub fn node_paths_can_be_read()
     ensures { NodePathsCanBeRead }
 {}
 
-/// Each claim that is true of a domain of a tree can be read: its numbers are within their ranges, its settings are the platform's,
-/// and its proof is of the verdict's kind. Of an attached domain that holds where the settings that it is decided on can be read, as
-/// those of a true claim can.
+/// Each claim that is true of a domain of a tree can be read: its numbers are within their ranges,
+/// its settings are the platform's, and its proof is of the verdict's kind. Of an attached domain
+/// that holds where the settings that it is decided on can be read, as those of a true claim can.
 pub fn true_claims_can_be_read()
     ensures { TrueClaimsCanBeRead }
 {
@@ -31,7 +32,8 @@ pub fn true_claims_can_be_read()
     few_choices();
 }
 
-/// The whole text of a certificate whose decisions can be read is JSON, and is read as the list of their objects.
+/// The whole text of a certificate whose decisions can be read is JSON, and is read as the list of
+/// their objects.
 pub fn texts_read_back()
     ensures { TextsReadBack }
 {}

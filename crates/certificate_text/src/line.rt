@@ -1,6 +1,6 @@
 //! Lines of the conflict table.
 
-ghost use Rattle.certificate_text.specs.Certificate.{PutsData};
+ghost use Rattle.certificate_text.specs.Puts.{PutsData};
 ghost use Rattle.std.specs.Prelude.{◌≡◌, codes};
 ghost use Rattle.certificate_text.specs.Fields.{field_named};
 ghost use Rattle.certificate_text.specs.Reading.{named_at, SaysAs};
@@ -57,7 +57,8 @@ pub(crate) fn put_named(
     out.end_object()
 }
 
-/// The field of a line that stands behind others. Most often it is that of the last of them, whose name is compared first.
+/// The field of a line that stands after others. Most often it is that of the last of them, whose
+/// name is compared first.
 fn field_behind(lines: &[Line], value: &Value) -> Option<Field>
     ensures { result ≡ named_at (codes "field") field_named (view value.now) }
 {

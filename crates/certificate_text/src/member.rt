@@ -1,7 +1,7 @@
 //! Members of objects.
 
 ghost use Rattle.certificate_text.specs.Bounds.{count_data};
-ghost use Rattle.certificate_text.specs.Certificate.{PutsMember};
+ghost use Rattle.certificate_text.specs.Puts.{PutsMember};
 ghost use Rattle.serde_json.specs.Data.{string};
 
 use crate::json_writer::Writer;

@@ -1,6 +1,6 @@
 //! A part of a certificate.
 
-ghost use Rattle.certificate_text.specs.Certificate.{PutsData, PutsMember};
+ghost use Rattle.certificate_text.specs.Puts.{PutsData, PutsMember};
 ghost use Rattle.certificate_text.specs.Told.{list_data};
 ghost use Rattle.certificate_text.specs.Reading.{Says};
 ghost use Rattle.serde_json.specs.Data.{Data};
@@ -18,7 +18,7 @@ pub(crate) trait Part: Sized + Drop {
 
     ghost said: { Data → Option Self };
 
-    /// Puts it behind what is written. The text is one to write a path in.
+    /// Puts it after what is written. The text is one to write a path in.
     fn put(&self, out: &mut Writer, text: &mut String) -> Result<(), AllocError>
         ensures { PutsData result out.old out.new (told self.now) };
 
@@ -26,7 +26,8 @@ pub(crate) trait Part: Sized + Drop {
     fn read(alloc: Global, value: &Value) -> Result<Self, Unread>
         ensures { Says result (said (view value.now)) };
 
-    /// The same where it stands in a list behind these. What it has in common with one of them may be kept once for both.
+    /// Reads it from a value that stands in a list after these. What it has in common with one of
+    /// them may be kept once for both.
     fn read_behind(alloc: Global, _parts: &[Self], value: &Value) -> Result<Self, Unread>
         ensures { Says result (said (view value.now)) }
     {
@@ -34,7 +35,7 @@ pub(crate) trait Part: Sized + Drop {
     }
 }
 
-/// Puts a list of parts behind what is written.
+/// Puts a list of parts after what is written.
 pub(crate) fn put_list<T: Part>(
     out: &mut Writer,
     text: &mut String,

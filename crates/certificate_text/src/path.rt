@@ -3,7 +3,7 @@
 ghost use Rattle.std.specs.Prelude.{◌≡◌, ◌++◌, ◌≤◌, [], None, codes, OnOk};
 ghost use Rattle.std.specs.Fmt.{decimal};
 ghost use Rattle.std.specs.String.{string_bytes};
-ghost use Rattle.certificate_text.specs.Certificate.{PutsData};
+ghost use Rattle.certificate_text.specs.Puts.{PutsData};
 ghost use Rattle.certificate_text.specs.Paths.{path_said, path_text, path_behind, steps_said, steps_text, with_byte, with_digit};
 ghost use Rattle.certificate_text.specs.Reading.{SaysAs};
 ghost use Rattle.certificate_text.specs.Said.{node_said};
@@ -33,7 +33,7 @@ impl Part for Path {
     }
 }
 
-/// Puts the path of these ordinals behind what is written, and writes it in the text on the way.
+/// Puts the path of these ordinals after what is written, and writes it in the text on the way.
 fn put_path(out: &mut Writer, text: &mut String, ordinals: &[u32]) -> Result<(), AllocError>
     ensures { PutsData result out.old out.new (path_data ordinals.now) }
 {
@@ -42,7 +42,8 @@ fn put_path(out: &mut Writer, text: &mut String, ordinals: &[u32]) -> Result<(),
     out.string(text.as_str())
 }
 
-/// Puts the text of a path behind the text so far: `/` or `/0/1`. Where memory is refused, a part of it may stand there.
+/// Puts the text of a path after the text so far: `/` or `/0/1`. Where memory is refused, a part of
+/// it may stand there.
 pub fn push_path(text: &mut String, ordinals: &[u32]) -> Result<(), AllocError>
     ensures { OnOk result (string_bytes text.new
         ≡ string_bytes text.old ++ path_text ordinals.now) }
@@ -82,7 +83,7 @@ pub(crate) fn read_path(ordinals: &mut Vec<u32>, value: &Value) -> Result<(), Un
     }
 }
 
-/// The same of a path's text: `/` is the root's.
+/// Reads a path's text into it: `/` is the root's.
 fn read_text(ordinals: &mut Vec<u32>, text: &str) -> Result<(), Unread>
     ensures { SaysAs (λ _. ordinals.new.items) result (path_said text.now) }
 {
@@ -93,7 +94,7 @@ fn read_text(ordinals: &mut Vec<u32>, text: &str) -> Result<(), Unread>
     }
 }
 
-/// Reads what stands behind the first slash.
+/// Reads what stands after the first slash.
 fn read_behind(ordinals: &mut Vec<u32>, bytes: &[u8]) -> Result<(), Unread>
     requires { ordinals.old.items ≡ [] }
     ensures { SaysAs (λ _. ordinals.new.items) result (path_behind bytes.now) }
@@ -133,7 +134,8 @@ fn with_byte(ordinal: Option<u32>, byte: u8) -> Option<u32>
     }
 }
 
-/// An ordinal with a further digit from 0 to 9. None follows a 0, and the greatest number stands for all that are greater.
+/// An ordinal with a further digit from 0 to 9. None follows a 0, and the greatest number stands
+/// for all that are greater.
 fn with_digit(ordinal: Option<u32>, digit: u8) -> Option<u32>
     requires { digit ≤ 9 }
     ensures { result ≡ with_digit ordinal digit }

@@ -1,7 +1,7 @@
 //! The settings that were chosen.
 
 ghost use Rattle.std.specs.Prelude.{◌≡◌, Some, option_map, position, slice_get};
-ghost use Rattle.certificate_text.specs.Certificate.{PutsData};
+ghost use Rattle.certificate_text.specs.Puts.{PutsData};
 ghost use Rattle.certificate_text.specs.Reading.{named_at};
 ghost use Rattle.certificate_text.specs.SettingsSaid.{heap_len, heap_said, id_said, image_said, is_heap, offer_said, offered, place_at, place_said, settings_said};
 ghost use Rattle.serde_json.specs.View.{view};

@@ -12,8 +12,8 @@ use std::alloc::AllocError;
 use sysmem_counts::Field;
 use sysmem_proof::{Line, PathList};
 
-/// Puts the lines of a list behind bytes, with a comma between two. A line that has the paths of the one before it takes over their
-/// text, and one that has its field too takes over the whole.
+/// Puts the lines of a list after bytes, with a comma between two. A line that has the paths of the
+/// one before it takes over their text, and one that has its field too takes over the whole.
 pub(crate) fn push_line_items(out: &mut Vec<u8>, lines: &[Line]) -> Result<(), AllocError>
     ensures { OnOk result (out.new.items ++ codes "]"
         ≡ out.old.items ++ items_text false (items_of (map line_data lines.now))) }
@@ -29,7 +29,8 @@ pub(crate) fn push_line_items(out: &mut Vec<u8>, lines: &[Line]) -> Result<(), A
     push_others(out, &mut paths, &mut text, first, others)
 }
 
-/// Puts further lines behind bytes, each behind a comma. The text is that of the line before them, and of its paths.
+/// Puts further lines after bytes, each after a comma. The text is that of the line before them,
+/// and of its paths.
 fn push_others(
     out: &mut Vec<u8>,
     paths: &mut Vec<u8>,
@@ -81,7 +82,7 @@ fn tell(paths: &mut Vec<u8>, text: &mut Vec<u8>, line: &Line) -> Result<(), Allo
     push_line(text, line.field(), paths.as_slice())
 }
 
-/// Puts a line behind bytes, of whose paths this is the text: `{"field":"usage","nodes":["/0"]}`.
+/// Puts a line after bytes, of whose paths this is the text: `{"field":"usage","nodes":["/0"]}`.
 fn push_line(out: &mut Vec<u8>, field: Field, paths: &[u8]) -> Result<(), AllocError>
     ensures { (nodes : List (List ℕ)) → paths.now ≡ compact_text (paths_data nodes)
         → OnOk result (out.new.items ≡ out.old.items
@@ -104,7 +105,7 @@ fn push_paths(out: &mut Vec<u8>, paths: &PathList) -> Result<(), AllocError>
     Ok(())
 }
 
-/// Puts the paths of a list behind bytes, with a comma between two: `"/0","/1/2"`.
+/// Puts the paths of a list after bytes, with a comma between two: `"/0","/1/2"`.
 pub(crate) fn push_path_items(out: &mut Vec<u8>, paths: &PathList) -> Result<(), AllocError>
     ensures { OnOk result (out.new.items ++ codes "]"
         ≡ out.old.items ++ items_text false (items_of (map path_data paths.now))) }
@@ -157,7 +158,7 @@ fn push_steps(out: &mut Vec<u8>, ordinals: &[u32]) -> Result<(), AllocError>
     Ok(())
 }
 
-/// Puts a number behind bytes. Most ordinals have one digit or two, which need no buffer.
+/// Puts a number after bytes. Most ordinals have one digit or two, which need no buffer.
 fn push_number(out: &mut Vec<u8>, number: u32) -> Result<(), AllocError>
     ensures { OnOk result (out.new.items ≡ out.old.items ++ decimal number) }
 {

@@ -43,8 +43,9 @@ impl CertificateWriter {
         })
     }
 
-    /// Writes what was decided of the domain whose root is at the path: a claim, or that memory was refused. Where memory is refused
-    /// to the text, a part of it may be written, and nothing is said of the certificate any more.
+    /// Writes what was decided of the domain whose root is at the path: a claim, or that memory was
+    /// refused. Where memory is refused to the text, a part of it may be written, and nothing is
+    /// said of the certificate any more.
     pub fn put(
         &mut self,
         platform: &Platform,
