@@ -1,4 +1,4 @@
-//! The command line of `sysmem_replay`: the job that the words behind the program's name ask for,
+//! The command line of `sysmem_replay`: the job that the words after the program's name ask for,
 //! as clap reads them.
 //!
 //! ```

@@ -1,4 +1,4 @@
-//! The command line: the job that the words behind the program's name ask for.
+//! The command line: the job that the words after the program's name ask for.
 ghost use Rattle.std.specs.Prelude.{◌≡◌, Err, IfNone, IfOk, IfSome, IsSomeAnd, false, map, string_bytes};
 ghost use Rattle.std.specs.Bool.{Decides};
 ghost use Rattle.clap.specs.Words.{FailsBy, app_of, fault_of, found_of, rows_of, rule_of, subcommand_of, subcommand_rows_of};
@@ -46,7 +46,7 @@ pub enum Refusal {
     OneFile,
 }
 
-/// Reads the words behind the program's name. It answers a request for help by an error of the kind
+/// Reads the words after the program's name. It answers a request for help by an error of the kind
 /// `DisplayHelp`, and want of memory by one of the kind `OutOfMemory`. A job whose FILE and OUT are
 /// one word is refused; whether two words name one file isn't looked at.
 pub fn read_words<'a>(alloc: Global, words: &'a [String]) -> Result<Job<'a>, Refusal>

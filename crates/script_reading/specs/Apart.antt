@@ -10,7 +10,7 @@ use Rattle.script_reading.specs.Script.{CallFacts, ScriptFacts, KnownFacts, ◌>
 abbrev pub is_shared : List CallFacts → CallFacts → Bool
 is_shared before call = list_any (λ c. (c.place == call.place) && not (c.actor == call.actor)) before
 
--- the calls from this number on behind those before, where of a call's faults the last is that its name is shared
+-- the calls from this number on after those before, where of a call's faults the last is that its name is shared
 unfoldable pub apart_from : ℕ → KnownFacts → List CallFacts → Items → Result (List CallFacts) ScriptFault
 apart_from n known before no_items = Ok before
 apart_from n known before (item call calls) = do

@@ -11,7 +11,8 @@ use Rattle.script_reading.specs.Names.{is_name, is_among, with_actor, root}
 use Rattle.script_reading.specs.Platform.{platform_said}
 use Rattle.sysmem_sanitise.specs.Platform.{PlatformFacts}
 
--- A call: what it does, on which name, the place of that name among the names that were made before, and by which actor, in order of their first calls.
+-- A call: what it does, on which name, the place of that name among the names that were made before, and by which
+-- actor, in order of their first calls.
 pub record CallFacts : Type 0 where
   pub act : ActFacts
   pub on : List ℕ
@@ -43,7 +44,8 @@ names_after None names = Some names
 abbrev pub names_found : List (List ℕ) → FormFacts → Option (ℕ × List (List ℕ))
 names_found names form =
     if is_name form.actor
-    then option_and_then (λ place. option_map (λ after. (place, after)) (names_after (name_made form.act) names)) (position (bytes_eq form.on) names)
+    then option_and_then (λ place. option_map (λ after. (place, after)) (names_after (name_made form.act) names))
+    (position (bytes_eq form.on) names)
     else None
 
 -- an actor's number: the place among those so far, or the next one
@@ -52,7 +54,8 @@ actor_number actor actors = unwrap_or (position (bytes_eq actor) actors) (length
 
 -- the actors after a call, who are 16 at most
 abbrev pub actors_after : List ℕ → List (List ℕ) → Option (List (List ℕ))
-actors_after actor actors = if nat_le (length (with_actor actors actor)) 16 then Some (with_actor actors actor) else None
+actors_after actor actors =
+    if nat_le (length (with_actor actors actor)) 16 then Some (with_actor actors actor) else None
 
 -- the call of this number, and what is known after it
 abbrev pub call_of : ℕ → KnownFacts → Data → Result (CallFacts × KnownFacts) ScriptFault
@@ -60,7 +63,10 @@ call_of n known call = do
   form ← ok_or (form_of call) (CallMisshapen n)
   found ← ok_or (names_found known.names form) (BadName n)
   actors ← ok_or (actors_after form.actor known.actors) (TooManyActors n)
-  Ok (record { act = form.act; on = form.on; place = found.0; actor = actor_number form.actor known.actors }, record { names = found.1; actors = actors })
+  Ok (
+    record { act = form.act; on = form.on; place = found.0; actor = actor_number form.actor known.actors },
+    record { names = found.1; actors = actors },
+  )
 
 -- the calls from this number on
 unfoldable pub calls_from : ℕ → KnownFacts → Items → Result (List CallFacts) ScriptFault

@@ -21,8 +21,8 @@ fn is_shared(before: &[Call<'_>], call: &Call<'_>) -> bool
     before.iter().any(|other| other.place == call.place && other.actor != call.actor)
 }
 
-/// Reads the calls of a script whose actors are threads, as `read_calls` does, but for one fault more, the last of a call's: on the name on
-/// which it is made another actor made one before.
+/// Reads the calls of a script whose actors are threads, as `read_calls` does, but for one fault
+/// more, the last of a call's: on the name on which it is made another actor made one before.
 pub fn read_calls_apart<'a>(alloc: Global, values: &'a [Value]) -> Result<Vec<Call<'a>>, ParseFault>
     ensures { Gives (λ calls. map call_seen calls.items) result
         (calls_apart (items_view values.now)) }

@@ -52,6 +52,7 @@ pub struct Call<'a> {
     pub on: &'a str,
     /// The place of that name: 0 is the root's, and each call that makes a name gives it the next.
     pub place: usize,
-    /// The actor who makes the call, by number: they are counted from 0, in the order in which they make their first.
+    /// The actor who makes the call, by number: they are counted from 0, in the order in which they
+    /// make their first.
     pub actor: usize,
 }

@@ -12,7 +12,8 @@ use crate::known::Known;
 use serde_json::Value;
 use std::alloc::Global;
 
-/// Reads the calls of a script in order, up to the first fault, which names its call. The first call is 1.
+/// Reads the calls of a script in order, up to the first fault, which names its call. The first
+/// call is 1.
 pub fn read_calls<'a>(alloc: Global, values: &'a [Value]) -> Result<Vec<Call<'a>>, ParseFault>
     ensures { Gives (λ calls. map call_seen calls.items) result (calls_of (items_view values.now)) }
 {

@@ -44,7 +44,8 @@ pub enum ScriptFault {
     /// This call is made by a 17th actor.
     #[error("Q6 at call {0}")]
     TooManyActors(usize),
-    /// This call is made on a name on which another actor made one, in a script whose actors are threads.
+    /// This call is made on a name on which another actor made one, in a script whose actors are
+    /// threads.
     #[error("Q7 at call {0}")]
     SharedName(usize),
 }

@@ -46,7 +46,8 @@ fn name_in(call: &Value) -> Option<&str>
     text_at(call, "as")
 }
 
-/// What a call of this name does. The kinds that a script may repeat most come first, as the names are compared in this order.
+/// What a call of this name does. The kinds that a script may repeat most come first, as the names
+/// are compared in this order.
 fn act_of<'a>(name: &str, call: &'a Value) -> Option<Act<'a>>
     ensures { option_map act_seen result ≡ act_of name.now (view call.now) }
 {

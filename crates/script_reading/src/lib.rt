@@ -1,4 +1,5 @@
-//! Reads scripts of calls on a buffer collection: the platform and the calls that the bytes spell, or the first fault.
+//! Reads scripts of calls on a buffer collection: the platform and the calls that the bytes spell,
+//! or the first fault.
 //!
 //! ```
 //! let value = parse_script(rt.alloc(), bytes)?;

@@ -60,7 +60,8 @@ fn parts_of(script: &Value) -> Option<(&Value, &[Value])>
     }
 }
 
-/// Reads the script that a value stands for, up to its first fault: its parts, the platform, the number of calls, then each call.
+/// Reads the script that a value stands for, up to its first fault: its parts, the platform, the
+/// number of calls, then each call.
 pub fn read_script(alloc: Global, script: &Value) -> Result<Script<'_>, ParseFault>
     ensures { Gives script_seen result (script_of (view script.now)) }
 {
@@ -75,8 +76,9 @@ pub fn read_script(alloc: Global, script: &Value) -> Result<Script<'_>, ParseFau
     Ok(Script { platform, calls })
 }
 
-/// Reads the script that a value stands for, where its actors are threads: as `read_script` does, but for the calls, of which it refuses
-/// the first, too, on a name on which another actor made one.
+/// Reads the script that a value stands for, where its actors are threads: as `read_script` does,
+/// but for the calls, of which it refuses the first, too, on a name on which another actor made
+/// one.
 pub fn read_script_apart(alloc: Global, script: &Value) -> Result<Script<'_>, ParseFault>
     ensures { Gives script_seen result (script_apart (view script.now)) }
 {

@@ -12,7 +12,8 @@ use std::alloc::Global;
 /// The length of the longest script, in bytes.
 pub const LONGEST: usize = 4_194_304;
 
-/// Reads the one JSON value that the bytes of a script spell. The script's faults are `TooLong` and `NotJson`.
+/// Reads the one JSON value that the bytes of a script spell. The script's faults are `TooLong` and
+/// `NotJson`.
 pub fn parse_script(alloc: Global, bytes: &[u8]) -> Result<Value, ParseFault>
     ensures { GivesOneOf view result (Outcome IsValue bytes.now) }
 {

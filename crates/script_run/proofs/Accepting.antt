@@ -116,10 +116,10 @@ module _ (one : OneCheck) (alone : FaultIsAlone) (input certificate : List ℕ) 
   ends_in_yes : (result : Result Ended RunFault) (before after : Option (List ℕ)) → HasChecked result (Some input) (Some certificate) before after → EndsInYes many before after result
   ends_in_yes (Ok ended.Done) before after h =
       let w = h.yes refl in
-      subst (λ text. Appends before after text) (one input certificate answers.Yes answers.Yes w.text (answer_text answers.Yes many) w.checks checks).1 w.written
+      subst (λ text. Appends before after text) (one input certificate answers.Yes answers.Yes w.text (answer_text answers.Yes many) w.report checks).1 w.written
   ends_in_yes (Ok ended.CheckedNo) before after h =
       let w = h.no refl in
-      let same = (one input certificate (answers.No w.objection) answers.Yes w.writes.text (answer_text answers.Yes many) w.writes.checks checks).0 in
+      let same = (one input certificate (answers.No w.report.0) answers.Yes w.text (answer_text answers.Yes many) w.report.1 checks).0 in
       absurd (cc)
   ends_in_yes (Ok ended.MemoryRefused) before after h = absurd (h.fed refl)
   ends_in_yes (Err faults.Read) before after h = tt

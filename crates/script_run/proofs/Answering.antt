@@ -22,7 +22,8 @@ use Rattle.script_run.specs.declared.reply.Reply.{Reply}
 use Rattle.script_run.specs.declared.reply.Reply.TheVariants.{Accepted, Refused, Misread, Skipped}
 use Rattle.script_run.specs.Answer.{AsksFor, to_set, Replies, skips, misreads, starves, lacks, refuses, accepts, is_want}
 use Rattle.script_run.specs.Lines.{call_line}
-use Rattle.script_run.specs.Report.{Gave, GoesIn, RepliesIn, calls, call_lines, failed_lines}
+use Rattle.script_run.specs.Report.{Gave, calls, call_lines, failed_lines}
+use Rattle.script_run.specs.Steps.{GoesIn, RepliesIn}
 use Rattle.script_run.specs.State.{RunState, collection_tree, names_given, node_named, unmade}
 use Rattle.script_run.proofs.Following.{replies_platform, state_at}
 

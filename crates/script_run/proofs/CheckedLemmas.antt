@@ -1,6 +1,6 @@
 -- What a check of a file says of its inputs, from what it says of the bytes that it read.
 use Rattle.std.proofs.lemmas.Bool.{cases_order}
-use Rattle.std.proofs.Common.{◌≡◌, ◌≢◌, inl, inr, ℕ, ◌≤◌, ◌++◌, List, length, Option, Some, None, Result, Ok, Err, refl, sym, ap, subst, arith, length-append}
+use Rattle.std.proofs.Common.{◌≡◌, ◌≢◌, inl, inr, ℕ, ◌≤◌, ◌++◌, List, [], length, Option, Some, None, Result, Ok, Err, refl, sym, ap, subst, arith, length-append}
 use Rattle.std.specs.Prelude.{◌↔◌, IfSome}
 use Rattle.std.specs.Io.KnownBytes.{Appends}
 use Rattle.byte_transfer.specs.Transfer.{ReadsToLimit, WritesFront}
@@ -24,10 +24,10 @@ use Rattle.script_run.specs.declared.fault.RunFault.TheVariants.{Audit, NoMemory
 use Rattle.script_run.specs.declared.fault.RunFault.TheVariants as faults
 use Rattle.script_run.specs.declared.running.Ended.{Ended}
 use Rattle.script_run.specs.declared.running.Ended.TheVariants.{CheckedNo, Done}
-use Rattle.script_run.specs.CheckedFile.{AnswersIn, HasChecked, IfBoth, IsListOf, IsNoList, IsRefusal, ProofIsRefused, IsScriptOf, IsValueOf, WritesAnswer, WritesAnswerPart, WritesNo}
+use Rattle.script_run.specs.CheckedFile.{AnswersIn, ChecksTo, HasChecked, IfBoth, IsListOf, IsNoList, IsRefusal, ProofIsRefused, IsScriptOf, IsValueOf}
 use Rattle.script_run.specs.Faults.{fault_of_parse}
 use Rattle.script_run.specs.Outcome.{RunsTo, anyhow, refused}
-use Rattle.script_run.specs.Run.{IsCausedBy, both_counts}
+use Rattle.script_run.specs.Run.{IsCausedBy, WritesText, WritesTextPart, both_counts, in_first}
 use Rattle.script_run.proofs.RunLemmas.{Appends-nothing, runs-input, whole-read}
 
 -- ---- from bytes to values
@@ -166,14 +166,14 @@ module _ (had left proof proof_left : Option (List ℕ)) (bytes certificate : Li
       no_audit = λ found is. absurd (cc);
       script = λ found is. absurd (cc);
       proof_refused = λ is. absurd (cc);
-      front = λ is. both_of had proof (λ input. IsScriptOf input script) (λ c. AnswersIn script c answer text) (λ input c. WritesAnswerPart input c before after)
-          (λ input c a b. record { answer = answer; text = text; checks = record { script = script; reads = a; holds = b }; front = front }) reads answered;
+      front = λ is. both_of had proof (λ input. IsScriptOf input script) (λ c. AnswersIn script c answer text) (λ input c. WritesTextPart (λ t. (a : CheckAnswer) × ChecksTo input c a t) before after)
+          (λ input c a b. record { text = text; certificate = []; report = (answer, record { script = script; reads = a; holds = b }); fronts = in_first front tt }) reads answered;
       unwritten = λ found is not. absurd (not (cc));
     })
 
-    written_as : Appends before after text → IfBoth had proof (λ input c. WritesAnswer input c answer before after)
-    written_as written = both_of had proof (λ input. IsScriptOf input script) (λ c. AnswersIn script c answer text) (λ input c. WritesAnswer input c answer before after)
-        (λ input c a b. record { text = text; checks = record { script = script; reads = a; holds = b }; written = written }) reads answered
+    written_as : Appends before after text → IfBoth had proof (λ input c. WritesText (ChecksTo input c answer) before after)
+    written_as written = both_of had proof (λ input. IsScriptOf input script) (λ c. AnswersIn script c answer text) (λ input c. WritesText (ChecksTo input c answer) before after)
+        (λ input c a b. record { text = text; certificate = []; report = record { script = script; reads = a; holds = b }; written = written; proved = tt }) reads answered
 
   -- one that says yes
   pub check-yes : (before after : Option (List ℕ)) (answer : CheckAnswer) (text : List ℕ) → AnswersIn script certificate answer text → answer ≡ answers.Yes → Appends before after text
@@ -198,8 +198,8 @@ module _ (had left proof proof_left : Option (List ℕ)) (bytes certificate : Li
       let holds_no : AnswersIn script certificate (answers.No objection) text = subst (λ a. AnswersIn script certificate a text) is holds in
       record {
         yes = λ e. absurd (cc);
-        no = λ e. both_of had proof (λ input. IsScriptOf input script) (λ c. AnswersIn script c (answers.No objection) text) (λ input c. WritesNo input c before after)
-            (λ input c a b. record { objection = objection; writes = record { text = text; checks = record { script = script; reads = a; holds = b }; written = written } })
+        no = λ e. both_of had proof (λ input. IsScriptOf input script) (λ c. AnswersIn script c (answers.No objection) text) (λ input c. WritesText (λ t. (o : Objection) × ChecksTo input c (answers.No o) t) before after)
+            (λ input c a b. record { text = text; certificate = []; report = (objection, record { script = script; reads = a; holds = b }); written = written; proved = tt })
             reads (answered before after (answers.No objection) text holds_no);
         fed = λ e. absurd (cc);
         no_audit = λ found e. absurd (cc);

@@ -13,7 +13,8 @@ use Rattle.script_run.specs.declared.reply.Reply.{Reply}
 use Rattle.script_run.specs.Answer.{Replies, skips, misreads, starves, lacks, refuses, accepts, tells}
 use Rattle.script_run.specs.Lines.{domain_line}
 use Rattle.script_run.specs.Marks.{AreMarksOf, failed_at}
-use Rattle.script_run.specs.Report.{Certified, DecidesIn, EntersIn, Gave, Goes, GoesIn, Tells, calls, call_lines, certified, with_decision, decides, decision_lines, failed_lines, stays}
+use Rattle.script_run.specs.Report.{Certified, Gave, Goes, Tells, calls, call_lines, certified, with_decision, decides, decision_lines, failed_lines, stays}
+use Rattle.script_run.specs.Steps.{DecidesIn, EntersIn, GoesIn}
 use Rattle.script_run.specs.State.{RunState, collection_tree}
 use Rattle.script_run.proofs.Failures.{marks_same, marks_acted, marks_decided}
 
@@ -88,7 +89,7 @@ goes_on _ _ _ u _ qs _ b _ ds (decides number s t c rs what text cs allowed said
     subst (λ ts. Goes number s (rs ++ qs) ts (certified s c ∷ cs ++ ds) u) (sym (append_assoc (decision_lines s (answer_of c) what) text b))
     (decides number s u c (rs ++ qs) what (text ++ b) (cs ++ ds) allowed said (goes_on number (with_decision s (answer_of c)) t u rs qs text b cs ds rest on))
 
--- the same of lines that are put behind a text
+-- the same of lines that are put after a text
 pub goes_in : (number : ℕ) (s t u : RunState) (rs qs : List CallFacts) (before now next : List ℕ) (G H K : Gave) → GoesIn number s rs t before now G H → GoesIn (number + length rs) t qs u now next H K
     → GoesIn number s (rs ++ qs) u before next G K
 goes_in number s t u rs qs before now next G H K first on = record {

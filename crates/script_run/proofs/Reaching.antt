@@ -8,7 +8,8 @@ use Rattle.script_reading.specs.Script.{CallFacts}
 use Rattle.script_reading.specs.Seen.{call_seen}
 use Rattle.script_run.specs.declared.decider.Objection.{Objection}
 use Rattle.script_run.specs.Replayed.{LeavesIn}
-use Rattle.script_run.specs.Report.{Gave, GoesIn, IsReported, pending_lines}
+use Rattle.script_run.specs.Report.{Gave, IsReported, pending_lines}
+use Rattle.script_run.specs.Steps.{GoesIn}
 use Rattle.script_run.specs.State.{RunState, first_run_state}
 use Rattle.script_run.specs.Stop.{IsStopped, Objects, StopsIn}
 use Rattle.script_run.proofs.Following.{goes_in, goes_platform, starts}
@@ -64,14 +65,14 @@ reaches-stop platform rs place s t r before G H K objects o here fed stops reach
       fed = fed;
     }
 
--- the call at a place, and the calls behind it
+-- the call at a place, and the calls after it
 pub drop-call_seen : (calls : List Call) (place : ℕ) (call : Call) → place < length calls → call ≡ get_or calls place call
     → drop place (map call_seen calls) ≡ call_seen call ∷ drop (place + 1) (map call_seen calls)
 drop-call_seen calls place call within e =
     drop-map call_seen place calls ∙ (at_drop_more (λ (l : List Call). map call_seen l) calls place call within
     ∙ (ap (λ (c : Call). call_seen c ∷ map call_seen (drop (place + 1) calls)) (sym e) ∙ ap (λ (l : List CallFacts). call_seen call ∷ l) (sym (drop-map call_seen (place + 1) calls))))
 
--- behind all calls, these were made
+-- after all calls, these were made
 reaches-all : (platform : PlatformFacts) (calls : List Call) (place : ℕ) (s : RunState) (text : List ℕ) (G H : Gave) → length calls ≤ place
     → Reaches platform (map call_seen calls) place s text G H → GoesIn 1 (first_run_state platform) (map call_seen calls) s [] text G H
 reaches-all platform calls place s text G H all reached =
@@ -79,7 +80,7 @@ reaches-all platform calls place s text G H all reached =
     let whole : reached.made ≡ map call_seen calls = sym (append-nil reached.made) ∙ (ap (λ qs. reached.made ++ qs) (sym none) ∙ sym reached.split) in
     subst (λ qs. GoesIn 1 (first_run_state platform) qs s [] text G H) whole reached.goes
 
--- behind all calls the report ends
+-- after all calls the report ends
 pub reaches-end : (platform : PlatformFacts) (calls : List Call) (place : ℕ) (s : RunState) (before after : List ℕ) (G H : Gave) → length calls ≤ place → G []
     → Reaches platform (map call_seen calls) place s before G H → after ≡ before ++ pending_lines s.book
     → IsReported platform (map call_seen calls) H after s.starved

@@ -7,7 +7,8 @@ use Rattle.script_reading.specs.Script.{CallFacts}
 use Rattle.script_run.specs.declared.decider.Objection.{Objection}
 use Rattle.script_run.specs.declared.decider.Stop.{Stop}
 use Rattle.script_run.specs.declared.decider.Stop.TheVariants.{NoMemory, Refused}
-use Rattle.script_run.specs.Report.{Gave, GoesIn, RepliesIn, calls, call_lines, stays}
+use Rattle.script_run.specs.Report.{Gave, calls, call_lines, stays}
+use Rattle.script_run.specs.Steps.{GoesIn, RepliesIn}
 use Rattle.script_run.specs.State.{RunState}
 use Rattle.script_run.specs.Stop.{IfObjects, Objects, StopsIn}
 use Rattle.script_run.proofs.Following.{goes_on, goes_platform, replies_platform}

@@ -11,7 +11,7 @@ abbrev ifs : Option ℕ → List ℕ → List ℕ
 ifs None xs = xs
 ifs (Some x) xs = x ∷ xs
 
--- the lines of what is left are missing behind the text
+-- the lines of what is left are missing after the text
 abbrev pub Lacks : (ℕ → List ℕ) → (ℕ → Bool) → List ℕ → ℕ → List ℕ → List ℕ → Type 0
 Lacks f p xs k text whole = text ++ flat_map f (filter p (drop k xs)) ≡ whole
 
@@ -54,6 +54,6 @@ past [] (suc k) more = refl
 past (x ∷ xs) zero more = absurd (omega (arith, more))
 past (x ∷ xs) (suc k) more = past xs k (omega (arith, more))
 
--- behind the last one nothing is missing
+-- after the last one nothing is missing
 pub all_put : (f : ℕ → List ℕ) (p : ℕ → Bool) (xs : List ℕ) (k : ℕ) (text whole : List ℕ) → length xs ≤ k → Lacks f p xs k text whole → text ≡ whole
 all_put f p xs k text whole more lacks = sym (append-nil text) ∙ (sym (ap (λ ys. text ++ flat_map f (filter p ys)) (past xs k more)) ∙ lacks)

@@ -35,7 +35,8 @@ pub data AsksFor : ActFacts → Deed → Type 0 where
   to_create_child : (name : List ℕ) → AsksFor (creates_child name) deeds.creates_child
   to_complete : AsksFor has_all_children deeds.has_all_children
   to_set_none : AsksFor (states None) (deeds.sets None)
-  to_set : (d : Data) (asked : Participant) → participant_of d ≡ Ok asked → AsksFor (states (Some d)) (deeds.sets (Some asked))
+  to_set : (d : Data) (asked : Participant) → participant_of d ≡ Ok asked
+      → AsksFor (states (Some d)) (deeds.sets (Some asked))
   to_attach_token : (name : List ℕ) → AsksFor (attaches_token name) deeds.attaches_token
   to_release : AsksFor releases deeds.releases
   to_close : AsksFor closes deeds.closes
@@ -78,11 +79,14 @@ pub data Replies (s : RunState) (r : CallFacts) : Reply → RunState → Type 0 
       → r.act ≡ states (Some d) → fault.code ≡ WantOfMemory → participant_with (lack_of fault) d ≡ Err fault
       → Replies s r (Misread fault) (record s { starved = true })
   lacks : (k : ℕ) (d : Data) (asked : Participant) → node_named s r ≡ Some k
-      → r.act ≡ states (Some d) → participant_of d ≡ Ok asked → Replies s r (Refused refusals.NoMemory) (record s { starved = true })
+      → r.act ≡ states (Some d) → participant_of d ≡ Ok asked
+      → Replies s r (Refused refusals.NoMemory) (record s { starved = true })
   refuses : (k : ℕ) (deed : Deed) (refusal : Refusal) → node_named s r ≡ Some k
-      → AsksFor r.act deed → applied (collection_tree s) k deed ≡ Err refusal → Replies s r (Refused refusal) (unmade s r.act)
+      → AsksFor r.act deed → applied (collection_tree s) k deed ≡ Err refusal
+      → Replies s r (Refused refusal) (unmade s r.act)
   accepts : (k made : ℕ) (deed : Deed) (tree : TreeFacts) → node_named s r ≡ Some k
-      → AsksFor r.act deed → applied (collection_tree s) k deed ≡ Ok (record { tree = tree; node = made }) → Replies s r Accepted (acted s r.act (Acted k deed) made)
+      → AsksFor r.act deed → applied (collection_tree s) k deed ≡ Ok (record { tree = tree; node = made })
+      → Replies s r Accepted (acted s r.act (Acted k deed) made)
   tells : (k : ℕ) → node_named s r ≡ Some k → AsksVerdict r.act → Replies s r (told s.book k) s
 
 -- a reader's fault for want of memory

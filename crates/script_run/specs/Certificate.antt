@@ -39,9 +39,11 @@ pub record CertifiedFacts : Type 0 where
 
 -- what the program's stands for
 abbrev pub certified_seen : CertifiedReport → CertifiedFacts
-certified_seen c = record { text = string_bytes c.report.text; certificate = c.certificate.items; starved = c.report.starved }
+certified_seen c =
+    record { text = string_bytes c.report.text; certificate = c.certificate.items; starved = c.report.starved }
 
 -- what the bytes of a script give: a fault of theirs, or a report with its certificate
 abbrev pub CertifiesTo : List ℕ → Result CertifiedFacts ScriptFault → Type 0
-CertifiesTo input (Ok c) = RunsWith (IsCertifiedBy c.certificate) input (Ok (record { text = c.text; starved = c.starved }))
+CertifiesTo input (Ok c) = RunsWith (IsCertifiedBy c.certificate) input
+    (Ok (record { text = c.text; starved = c.starved }))
 CertifiesTo input (Err fault) = RunsTo input (Err fault)

@@ -34,12 +34,14 @@ pub record AreTaken (platform : PlatformFacts) (rs : List CallFacts) (objects : 
   pub text : List ℕ
   pub report : IsReported platform rs (AllZip (IsOf platform) objects) text false
 
--- what fails first of what an object says, for the domain that this node roots: it says nothing, it is about another domain, or the first test
--- that its claim fails
+-- what fails first of what an object says, for the domain that this node roots: it says nothing, it is about another
+-- domain, or the first test that its claim fails
 abbrev pub SaidFails : PlatformFacts → BookState → ℕ → Option (List ℕ × Claim) → Faults
 SaidFails platform b r None why = why ≡ WrongShape
-SaidFails platform b r (Some c) why = First (c.0 ≡ path_of b.tree.nodes r) (Fails (c.0 ≡ path_of b.tree.nodes r) WrongShape)
-    (VerdictFaults platform (option_map (terms_of b.tree.nodes) (base_of b r)) (shape_of b.tree.nodes r) c.1.verdict c.1.proof) why
+SaidFails platform b r (Some c) why =
+    First (c.0 ≡ path_of b.tree.nodes r) (Fails (c.0 ≡ path_of b.tree.nodes r) WrongShape)
+    (VerdictFaults platform (option_map (terms_of b.tree.nodes) (base_of b r)) (shape_of b.tree.nodes r)
+    c.1.verdict c.1.proof) why
 
 abbrev pub ClaimFails : PlatformFacts → BookState → ℕ → Data → Faults
 ClaimFails platform b r one = SaidFails platform b r (claim_said platform one)
@@ -50,13 +52,15 @@ NextFails platform b r [] why = why ≡ WrongShape
 NextFails platform b r (one ∷ left) why = ClaimFails platform b r one why
 
 -- what is said where the next object fails: the path of the domain, and the first that fails
-pub record FailsNext (left : List Data) (platform : PlatformFacts) (b : BookState) (r : ℕ) (objection : Objection) : Type 0 where
+pub record FailsNext (left : List Data) (platform : PlatformFacts) (b : BookState) (r : ℕ)
+    (objection : Objection) : Type 0 where
   pub path : objection.path ≡ path_of b.tree.nodes r
   pub no : NextFails platform b r left objection.no
 
--- some of the calls are made, with the claims of the first objects as decisions, where memory is not refused; then the next object fails at the
--- first domain that waits
-pub record FailsAtDomain (platform : PlatformFacts) (rs : List CallFacts) (objects : List Data) (objection : Objection) : Type 0 where
+-- some of the calls are made, with the claims of the first objects as decisions, where memory is not refused; then the
+-- next object fails at the first domain that waits
+pub record FailsAtDomain (platform : PlatformFacts) (rs : List CallFacts) (objects : List Data)
+    (objection : Objection) : Type 0 where
   pub made : List CallFacts
   pub rest : List CallFacts
   pub in_order : rs ≡ made ++ rest
@@ -77,10 +81,12 @@ pub record FailsAtDomain (platform : PlatformFacts) (rs : List CallFacts) (objec
 abbrev pub too_many : CheckAnswer
 too_many = answers.No (record { no = WrongShape; path = [] })
 
--- what a certificate's objects answer for calls on a platform: yes, the first that fails, or that more are there than decisions
+-- what a certificate's objects answer for calls on a platform: yes, the first that fails, or that more are there than
+-- decisions
 pub data Answers (platform : PlatformFacts) (rs : List CallFacts) (objects : List Data) : CheckAnswer → Type 0 where
   accepts : AreTaken platform rs objects → Answers platform rs objects answers.Yes
-  objects_to : (objection : Objection) → FailsAtDomain platform rs objects objection → Answers platform rs objects (answers.No objection)
+  objects_to : (objection : Objection) → FailsAtDomain platform rs objects objection
+      → Answers platform rs objects (answers.No objection)
   has_more : (taken left : List Data) (object : Data) → objects ≡ taken ++ object ∷ left → AreTaken platform rs taken
       → Answers platform rs objects too_many
 

@@ -2,7 +2,6 @@
 use Rattle.std.specs.Prelude.{◌≡◌, ◌≢◌, ℕ, ◌≤◌, ◌++◌, List, [], Option, Some, Result, Ok, Err, IfSome, codes, length, ⊤}
 use Rattle.std.specs.Fmt.{decimal}
 use Rattle.std.specs.Io.KnownBytes.{Appends}
-use Rattle.byte_transfer.specs.Transfer.{WritesFront}
 use Rattle.certificate_text.specs.Paths.{path_text}
 use Rattle.serde_json.specs.Data.{Data}
 use Rattle.serde_json.specs.Find.{as_array}
@@ -14,6 +13,7 @@ use Rattle.sysmem_proof.specs.declared.no.No.{No}
 use Rattle.sysmem_proof.specs.declared.no.No.TheVariants.{WrongShape, WrongNode, NoConflict, NotMet, Missing, NotLeast}
 use Rattle.script_run.specs.Checked.{Answers}
 use Rattle.script_run.specs.Outcome.{RunsTo}
+use Rattle.script_run.specs.Run.{WritesText, WritesTextPart}
 use Rattle.script_run.specs.declared.checked_file.CheckAnswer.{CheckAnswer}
 use Rattle.script_run.specs.declared.checked_file.CheckAnswer.TheVariants as answers
 use Rattle.script_run.specs.declared.decider.Objection.{Objection}
@@ -35,7 +35,8 @@ no_text NotLeast = codes "N6"
 -- `yes 3`, of so many objects, or `no N2 domain /0`
 abbrev pub answer_text : CheckAnswer → ℕ → List ℕ
 answer_text answers.Yes many = codes "yes " ++ decimal many ++ codes "\n"
-answer_text (answers.No objection) many = codes "no " ++ no_text objection.no ++ codes " domain " ++ path_text objection.path ++ codes "\n"
+answer_text (answers.No objection) many = codes "no " ++ no_text objection.no ++ codes " domain "
+    ++ path_text objection.path ++ codes "\n"
 
 -- the bytes, no more than a script may have, are one JSON value
 pub record IsValueOf (bytes : List ℕ) (value : Data) : Type 0 where
@@ -77,24 +78,6 @@ pub record ChecksTo (input certificate : List ℕ) (answer : CheckAnswer) (text 
   pub reads : IsScriptOf input script
   pub holds : AnswersIn script certificate answer text
 
--- their answer was written
-pub record WritesAnswer (input certificate : List ℕ) (answer : CheckAnswer) (before after : Option (List ℕ)) : Type 0 where
-  pub text : List ℕ
-  pub checks : ChecksTo input certificate answer text
-  pub written : Appends before after text
-
--- it is no, and was written
-pub record WritesNo (input certificate : List ℕ) (before after : Option (List ℕ)) : Type 0 where
-  pub objection : Objection
-  pub writes : WritesAnswer input certificate (answers.No objection) before after
-
--- a prefix of their answer was written
-pub record WritesAnswerPart (input certificate : List ℕ) (before after : Option (List ℕ)) : Type 0 where
-  pub answer : CheckAnswer
-  pub text : List ℕ
-  pub checks : ChecksTo input certificate answer text
-  pub front : WritesFront before after text
-
 -- the bytes are a script, and those of the certificate no list
 pub record ProofIsRefused (input certificate : List ℕ) : Type 0 where
   pub script : ScriptFacts
@@ -105,15 +88,19 @@ pub record ProofIsRefused (input certificate : List ℕ) : Type 0 where
 abbrev pub IfBoth : Option (List ℕ) → Option (List ℕ) → (List ℕ → List ℕ → Type 0) → Type 0
 IfBoth had proof P = IfSome had (λ input. IfSome proof (λ certificate. P input certificate))
 
--- what the readers of the script and of the certificate had, where they tell it, and what the writer held before and after, where it tells that
+-- what the readers of the script and of the certificate had, where they tell it, and what the writer held before and
+-- after, where it tells that
 pub record HasChecked (result : Result Ended RunFault) (had proof before after : Option (List ℕ)) : Type 0 where
-  pub yes : result ≡ Ok Done → IfBoth had proof (λ input certificate. WritesAnswer input certificate answers.Yes before after)
-  pub no : result ≡ Ok CheckedNo → IfBoth had proof (λ input certificate. WritesNo input certificate before after)
+  pub yes : result ≡ Ok Done → IfBoth had proof (λ input certificate.
+      WritesText (ChecksTo input certificate answers.Yes) before after)
+  pub no : result ≡ Ok CheckedNo → IfBoth had proof (λ input certificate. WritesText
+      (λ text. (objection : Objection) × ChecksTo input certificate (answers.No objection) text) before after)
   pub fed : result ≢ Ok MemoryRefused
   pub no_audit : (found : Disagreement) → result ≢ Err (Audit found)
   pub script : (fault : ScriptFault) → result ≡ Err (Script fault) → IfSome had (λ input. RunsTo input (Err fault))
   pub proof_refused : result ≡ Err Proof → IfBoth had proof ProofIsRefused
-  pub front : result ≡ Err Write → IfBoth had proof (λ input certificate. WritesAnswerPart input certificate before after)
+  pub front : result ≡ Err Write → IfBoth had proof (λ input certificate. WritesTextPart
+      (λ text. (answer : CheckAnswer) × ChecksTo input certificate answer text) before after)
   pub unwritten : (fault : RunFault) → result ≡ Err fault → fault ≢ Write → Appends before after []
 
 -- a fault of a script
@@ -128,7 +115,8 @@ IsOutside Write = ⊤
 IsOutside NoMemory = ⊤
 IsOutside fault = ⊥
 
--- how a check ends of bytes whose answer is yes, of so many objects: that was written, or a reader, the writer or memory failed
+-- how a check ends of bytes whose answer is yes, of so many objects: that was written, or a reader, the writer or
+-- memory failed
 abbrev pub EndsInYes : ℕ → Option (List ℕ) → Option (List ℕ) → Result Ended RunFault → Type 0
 EndsInYes many before after (Ok Done) = Appends before after (answer_text answers.Yes many)
 EndsInYes many before after (Ok ended) = ⊥

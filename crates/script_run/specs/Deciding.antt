@@ -21,8 +21,9 @@ CanBeTold TooMany = Unit {0}
 CanBeTold Failed = ⊥
 CanBeTold NoMemory = ⊥
 
--- the line of a verdict was put behind a text
-pub record TellsIn (platform : PlatformFacts) (path : List ℕ) (verdict : Option Verdict) (before after : List ℕ) : Type 0 where
+-- the line of a verdict was put after a text
+pub record TellsIn (platform : PlatformFacts) (path : List ℕ) (verdict : Option Verdict)
+    (before after : List ℕ) : Type 0 where
   pub what : List ℕ
   pub tells : Tells platform verdict what
   pub put : after ≡ before ++ domain_line path what

@@ -11,6 +11,7 @@ pub mod Marks
 pub mod Outcome
 pub mod Replayed
 pub mod Report
+pub mod Steps
 pub mod Run
 pub mod Runner
 pub mod State

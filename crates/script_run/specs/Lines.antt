@@ -41,18 +41,19 @@ act_name closes = codes "close"
 act_name checks = codes "check"
 act_name waits = codes "wait"
 
--- a name, if there is one, behind a space
+-- a name, if there is one, after a space
 abbrev pub spaced : Option (List ℕ) → List ℕ
 spaced (Some name) = codes " " ++ name
 spaced None = []
 
--- the name that the call makes, if it makes one, behind a space
+-- the name that the call makes, if it makes one, after a space
 abbrev pub new_name : ActFacts → List ℕ
 new_name act = spaced (name_made act)
 
 -- `7 duplicate root a ok`
 abbrev pub call_line : ℕ → CallFacts → Reply → List ℕ
-call_line number r reply = decimal number ++ codes " " ++ act_name r.act ++ codes " " ++ r.on ++ new_name r.act ++ codes " " ++ reply_text reply ++ codes "\n"
+call_line number r reply = decimal number ++ codes " " ++ act_name r.act ++ codes " " ++ r.on ++ new_name r.act
+    ++ codes " " ++ reply_text reply ++ codes "\n"
 
 -- `ram#0`, of the heap of a place
 abbrev pub heap_text : Option HeapFacts → List ℕ
@@ -61,7 +62,8 @@ heap_text None = []
 
 -- `NV12 LINEAR REC709 `
 abbrev pub format_text : Pair → ColourSpace → List ℕ
-format_text pair colour = format_name pair.format ++ codes " " ++ modifier_name pair.modifier ++ codes " " ++ colour_name colour ++ codes " "
+format_text pair colour = format_name pair.format ++ codes " " ++ modifier_name pair.modifier ++ codes " "
+    ++ colour_name colour ++ codes " "
 
 -- `1920x1088 row 1920`: width and height in pixels, the row in bytes
 abbrev pub corner_text : Corner → List ℕ
@@ -74,11 +76,12 @@ image_text (Image pair colour) k = format_text pair colour ++ corner_text k
 
 -- `count 2 size 4096 place ram#0 cpu image `
 abbrev pub settings_text : PlatformFacts → Settings → List ℕ
-settings_text platform s = (codes "count " ++ decimal s.count ++ codes " size " ++ decimal s.size_bytes ++ codes " place ")
+settings_text platform s =
+    (codes "count " ++ decimal s.count ++ codes " size " ++ decimal s.size_bytes ++ codes " place ")
     ++ heap_text (slice_get platform.heaps s.place.heap)
     ++ (codes " " ++ domain_name s.place.coherency ++ codes " image ")
 
--- each number behind this mark: `.0.1`
+-- each number after this mark: `.0.1`
 abbrev pub marked : List ℕ → List ℕ → List ℕ
 marked mark [] = []
 marked mark (n ∷ ns) = (mark ++ decimal n) ++ marked mark ns
@@ -91,12 +94,13 @@ selection_text (choice ∷ choices) = decimal choice ++ marked (codes ".") choic
 -- `chosen 0.1 count 2 size 4096 place ram#0 cpu image none`
 abbrev pub chosen_text : PlatformFacts → ChosenFacts → Corner → List ℕ
 chosen_text platform chosen k =
-    codes "chosen " ++ selection_text chosen.selection ++ codes " " ++ settings_text platform chosen.settings ++ image_text chosen.settings.offer k
+    codes "chosen " ++ selection_text chosen.selection ++ codes " " ++ settings_text platform chosen.settings
+    ++ image_text chosen.settings.offer k
 
 -- `domain /0/1 empty`: what became of the domain whose root is at this path
 abbrev pub domain_line : List ℕ → List ℕ → List ℕ
 domain_line path what = codes "domain " ++ path_text path ++ codes " " ++ what ++ codes "\n"
 
--- where the result is Ok, the line was put behind the text
+-- where the result is Ok, the line was put after the text
 abbrev pub Puts : {T E : Type 0} → Result T E → String Global → String Global → List ℕ → Type 0
 Puts result old new line = OnOk result (string_bytes new ≡ string_bytes old ++ line)

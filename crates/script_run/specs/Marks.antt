@@ -11,8 +11,10 @@ AreMarksOf old t marks = (k r : ℕ) → slice_get (roots_of t) k ≡ Some r →
 
 -- the k-th domain, if it has failed and its mark isn't set
 abbrev pub failed_unmarked_at : TreeFacts → List Bool → ℕ → Option ℕ
-failed_unmarked_at t marks k = option_and_then (λ r. if has_failed t r && not (get_or marks k false) then Some r else None) (slice_get (roots_of t) k)
+failed_unmarked_at t marks k = option_and_then
+    (λ r. if has_failed t r && not (get_or marks k false) then Some r else None) (slice_get (roots_of t) k)
 
 -- the k-th domain, if it has no verdict
 abbrev pub pending_at : State → ℕ → Option ℕ
-pending_at s k = option_and_then (λ r. if is_none (verdict_of s r) then Some r else None) (slice_get (roots_of s.tree) k)
+pending_at s k = option_and_then (λ r. if is_none (verdict_of s r) then Some r else None)
+    (slice_get (roots_of s.tree) k)

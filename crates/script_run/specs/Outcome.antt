@@ -26,7 +26,8 @@ SaysOf = PlatformFacts → Gave
 pub data ValueRunsTo (says : SaysOf) (value : Data) : Result ReportFacts ScriptFault → Type 0 where
   refused : (fault : ScriptFault) → script_of value ≡ Err fault → ValueRunsTo says value (Err fault)
   reported : (script : ScriptFacts) (report : ReportFacts) → script_of value ≡ Ok script
-      → IsReported script.platform script.calls (says script.platform) report.text report.starved → ValueRunsTo says value (Ok report)
+      → IsReported script.platform script.calls (says script.platform) report.text report.starved
+      → ValueRunsTo says value (Ok report)
 
 -- what the bytes of a script give: a fault of theirs, or what their value gives
 abbrev pub RunsWith : SaysOf → List ℕ → Result ReportFacts ScriptFault → Type 0

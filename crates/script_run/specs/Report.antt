@@ -1,4 +1,4 @@
--- What a report says: the lines of each call, of the domains that it makes fail, and of the decisions that follow; and what was decided.
+-- The lines of a report: of each call, of domains that it makes fail, of decisions that follow; and what was decided.
 use Rattle.std.specs.Prelude.{◌≡◌, ℕ, ◌+◌, ◌++◌, ◌||◌, List, [], ◌∷◌, Bool, Option, Some, None, codes, filter, flat_map, is_none}
 use Rattle.sysmem_alloc.specs.Decision.{Claimed, Decision, answer_of, choices_of}
 use Rattle.sysmem_alloc.specs.Entry.{Decided}
@@ -46,7 +46,8 @@ with_decision s d = record s {
 
 -- the lines of a decision: its own, and those of the domains that it makes fail
 abbrev pub decision_lines : RunState → Decision → List ℕ → List ℕ
-decision_lines s d what = domain_line (path_of (collection_tree s).nodes d.domain) what ++ failed_lines (collection_tree s) (collection_tree (with_decision s d))
+decision_lines s d what = domain_line (path_of (collection_tree s).nodes d.domain) what
+    ++ failed_lines (collection_tree s) (collection_tree (with_decision s d))
 
 -- what is certified of a decision: the path of its domain's root, and its claim, or none where memory was wanted
 abbrev pub Certified : Type 0
@@ -59,15 +60,17 @@ certified s c = (path_of (collection_tree s).nodes c.domain, c.claim)
 abbrev pub call_lines : ℕ → RunState → CallFacts → Reply → RunState → List ℕ
 call_lines number s r reply t = call_line number r reply ++ failed_lines (collection_tree s) (collection_tree t)
 
--- calls from a state to another, each numbered and made where no domain waits; and decisions, each of the first domain that waits, as the book
--- allows it: their lines, and what was decided
+-- calls from a state to another, each numbered and made where no domain waits; and decisions, each of the first domain
+-- that waits, as the book allows it: their lines, and what was decided
 pub data Goes : ℕ → RunState → List CallFacts → List ℕ → List Certified → RunState → Type 0 where
   stays : (number : ℕ) (s : RunState) → Goes number s [] [] [] s
-  calls : (number : ℕ) (s answered t : RunState) (r : CallFacts) (rs : List CallFacts) (reply : Reply) (text : List ℕ) (cs : List Certified)
+  calls : (number : ℕ) (s answered t : RunState) (r : CallFacts) (rs : List CallFacts) (reply : Reply)
+      (text : List ℕ) (cs : List Certified)
       → next_ready s.book ≡ None → Replies s r reply answered → Goes (number + 1) answered rs text cs t
       → Goes number s (r ∷ rs) (call_lines number s r reply answered ++ text) cs t
   decides : (number : ℕ) (s t : RunState) (c : Claimed) (rs : List CallFacts) (what text : List ℕ) (cs : List Certified)
-      → Allows s.platform s.book (Decided c) → Tells s.platform (answer_of c).verdict what → Goes number (with_decision s (answer_of c)) rs text cs t
+      → Allows s.platform s.book (Decided c) → Tells s.platform (answer_of c).verdict what
+      → Goes number (with_decision s (answer_of c)) rs text cs t
       → Goes number s rs (decision_lines s (answer_of c) what ++ text) (certified s c ∷ cs) t
 
 -- the domains without a verdict, in order of creation of their roots
@@ -78,8 +81,10 @@ pending_in b = filter (λ r. is_none (verdict_of b r)) (roots_of b.tree)
 abbrev pub pending_lines : BookState → List ℕ
 pending_lines b = domain_lines b.tree (codes "pending") (pending_in b)
 
--- the report of calls on a new collection, what was decided, and whether memory was refused: all calls are made, and no domain waits
-pub record IsReport (platform : PlatformFacts) (rs : List CallFacts) (text : List ℕ) (cs : List Certified) (starved : Bool) : Type 0 where
+-- the report of calls on a new collection, what was decided, and whether memory was refused: all calls are made, and no
+-- domain waits
+pub record IsReport (platform : PlatformFacts) (rs : List CallFacts) (text : List ℕ) (cs : List Certified)
+    (starved : Bool) : Type 0 where
   pub last : RunState
   pub lines : List ℕ
   pub goes : Goes 1 (first_run_state platform) rs lines cs last
@@ -92,35 +97,8 @@ abbrev pub Gave : Type 1
 Gave = List Certified → Type 0
 
 -- a report of calls, with decisions of which this is said
-pub record IsReported (platform : PlatformFacts) (rs : List CallFacts) (says : Gave) (text : List ℕ) (starved : Bool) : Type 0 where
+pub record IsReported (platform : PlatformFacts) (rs : List CallFacts) (says : Gave) (text : List ℕ)
+    (starved : Bool) : Type 0 where
   pub decisions : List Certified
   pub report : IsReport platform rs text decisions starved
   pub gave : says decisions
-
--- calls and decisions from a state to another, whose lines are put behind a text
-pub record GoesIn (number : ℕ) (s : RunState) (rs : List CallFacts) (t : RunState) (before after : List ℕ) (old new : Gave) : Type 0 where
-  pub lines : List ℕ
-  pub decisions : List Certified
-  pub goes : Goes number s rs lines decisions t
-  pub put : after ≡ before ++ lines
-  pub gave : (cs : List Certified) → old cs → new (cs ++ decisions)
-
--- a decision was entered, and its lines are put behind a text
-pub record EntersIn (s t : RunState) (claimed : Claimed) (before after : List ℕ) : Type 0 where
-  pub what : List ℕ
-  pub tells : Tells s.platform (answer_of claimed).verdict what
-  pub entered : t ≡ with_decision s (answer_of claimed)
-  pub put : after ≡ before ++ decision_lines s (answer_of claimed) what
-
--- a decision that the book allows was entered
-pub record DecidesIn (s t : RunState) (before after : List ℕ) (old new : Gave) : Type 0 where
-  pub claimed : Claimed
-  pub allowed : Allows s.platform s.book (Decided claimed)
-  pub enters : EntersIn s t claimed before after
-  pub gave : (cs : List Certified) → old cs → new (cs ++ certified s claimed ∷ [])
-
--- a reply, whose lines are put behind a text
-pub record RepliesIn (number : ℕ) (s : RunState) (r : CallFacts) (t : RunState) (before after : List ℕ) : Type 0 where
-  pub reply : Reply
-  pub replies : Replies s r reply t
-  pub put : after ≡ before ++ call_lines number s r reply t

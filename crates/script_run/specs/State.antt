@@ -11,8 +11,8 @@ use Rattle.sysmem_tree.specs.Nodes.{HasNode}
 use Rattle.script_reading.specs.Call.{ActFacts, name_made}
 use Rattle.script_reading.specs.Script.{CallFacts}
 
--- the platform; how the collection stands, without what proves its decisions; for each name, in the order of the calls that make one, the node
--- that it names, or None where that call was not made; and whether memory was refused so far
+-- the platform; how the collection stands, without what proves its decisions; for each name, in the order of the calls
+-- that make one, the node that it names, or None where that call was not made; and whether memory was refused so far
 pub record RunState : Type 0 where
   pub platform : PlatformFacts
   pub book : BookState
@@ -25,7 +25,8 @@ collection_tree s = s.book.tree
 
 -- a new collection, with the root token under its name
 abbrev pub first_run_state : PlatformFacts → RunState
-first_run_state platform = record { platform = platform; book = books.first_state; names = Some 0 ∷ []; starved = false }
+first_run_state platform =
+    record { platform = platform; book = books.first_state; names = Some 0 ∷ []; starved = false }
 
 -- the node that the call's name stands for, or None where the call that makes it was not made
 abbrev pub node_named : RunState → CallFacts → Option ℕ

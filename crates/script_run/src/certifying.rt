@@ -25,7 +25,7 @@ pub(crate) struct Certifying {
 }
 
 impl Certifying {
-    /// Before the first decision.
+    /// Begins before the first decision.
     pub(crate) fn new(alloc: Global) -> Result<Certifying, AllocError>
         ensures { IfOk result (λ certifying. HasTaken certifying.writer []) }
     {

@@ -1,4 +1,5 @@
-//! A certificate's check, from the bytes of a script and of a certificate to the answer that is written.
+//! A certificate's check, from the bytes of a script and of a certificate to the answer that is
+//! written.
 
 ghost use Rattle.std.specs.Prelude.{◌≡◌, ◌≢◌, Err, IfErr, IfOk, map};
 ghost use Rattle.std.specs.String.{string_bytes};
@@ -39,12 +40,14 @@ struct Answered {
     text: String,
 }
 
-/// Reads a script and then a certificate, makes the script's calls with the certificate's objects as decisions, and writes
-/// `yes N` where a check says yes to each of the N objects, or `no Nk domain PATH` for the first to which it doesn't.
+/// Reads a script and then a certificate, makes the script's calls with the certificate's objects
+/// as decisions, and writes `yes N` where a check says yes to each of the N objects, or `no Nk
+/// domain PATH` for the first to which it doesn't.
 ///
-/// The script is read and tested first: where that fails, nothing is read of the certificate. That is refused (`Proof`)
-/// where it is longer than 4,194,304 bytes, no JSON or no list. Any failure of a reader is the fault `Read`, and any of the
-/// writer the fault `Write`; what was written then is a prefix of the answer. After any other fault nothing was written.
+/// The script is read and tested first: where that fails, nothing is read of the certificate. That
+/// is refused (`Proof`) where it is longer than 4,194,304 bytes, no JSON or no list. Any failure of
+/// a reader is the fault `Read`, and any of the writer the fault `Write`; what was written then is
+/// a prefix of the answer. After any other fault nothing was written.
 pub fn check_file<R: Source, Q: Source, W: Sink>(
     alloc: Global,
     reader: &mut R,
@@ -146,7 +149,7 @@ fn answer_text(alloc: Global, answer: &CheckAnswer, many: usize) -> Result<Strin
     Ok(text)
 }
 
-/// Puts `no N2 domain /0` behind the text, with a newline.
+/// Puts `no N2 domain /0` after the text, with a newline.
 fn put_no(text: &mut String, objection: &Objection) -> Result<(), AllocError>
     ensures { Puts result text.old text.new (answer_text (CheckAnswer.No objection.now) 0) }
 {

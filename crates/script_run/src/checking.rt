@@ -48,7 +48,7 @@ impl From<AllocError> for ClaimFault {
 }
 
 impl<'a> Checking<'a> {
-    /// Of these objects, of which none was taken.
+    /// Begins with these objects, of which none is taken yet.
     pub(crate) fn new(objects: &'a [Value]) -> Checking<'a>
         ensures objects { result.objects.now ≡ objects.now }
         ensures taken { result.taken ≡ 0 }
@@ -109,7 +109,8 @@ fn is_same(a: &Path, b: &Path) -> bool
     a.ordinals() == b.ordinals()
 }
 
-/// The claim of an object for this domain, which is to be decided next and has this path, if a check says yes to it.
+/// The claim of an object for this domain, which is to be decided next and has this path, if a
+/// check says yes to it.
 fn claim_in(
     alloc: Global,
     book: &Book,

@@ -27,7 +27,8 @@ use sysmem_sanitise::Platform;
 use sysmem_search::{NoGate, prove, search};
 use sysmem_tree::{DomainId, Path, Tree};
 
-/// An optimal verdict of the first domain that waits, without what proves it; `None` where memory is refused.
+/// An optimal verdict of the first domain that waits, without what proves it; `None` where memory
+/// is refused.
 pub(crate) fn claim_for(alloc: Global, book: &Book, domain: DomainId) -> Option<Arc<Claim>>
     requires next { next_ready book.now.state ≡ Some domain }
     requires waits { MayWait book.now.state.tree domain }
@@ -53,7 +54,8 @@ pub(crate) fn claim_for(alloc: Global, book: &Book, domain: DomainId) -> Option<
     Some(shared)
 }
 
-/// An optimal verdict of the first domain that waits, with what proves it; `None` where memory is refused.
+/// An optimal verdict of the first domain that waits, with what proves it; `None` where memory is
+/// refused.
 pub(crate) fn proved_claim_for(alloc: Global, book: &Book, domain: DomainId) -> Option<Arc<Claim>>
     requires next { next_ready book.now.state ≡ Some domain }
     requires waits { MayWait book.now.state.tree domain }
@@ -99,7 +101,7 @@ fn proved_claim(
     })
 }
 
-/// Puts the line of a decision that the book allows behind the text.
+/// Puts the line of a decision that the book allows after the text.
 pub(crate) fn put_decision(
     text: &mut String,
     book: &Book,
@@ -125,7 +127,7 @@ pub(crate) fn put_decision(
     }
 }
 
-/// Puts the line of a verdict that a decision can have behind the text.
+/// Puts the line of a verdict that a decision can have after the text.
 fn put_verdict(
     text: &mut String,
     platform: &Platform,
@@ -145,7 +147,7 @@ fn put_verdict(
     }
 }
 
-/// Puts the line of a choice behind the text.
+/// Puts the line of a choice after the text.
 fn put_choice(
     text: &mut String,
     platform: &Platform,

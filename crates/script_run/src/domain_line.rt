@@ -1,4 +1,4 @@
-//! The lines of domains, each put behind the text so far.
+//! The lines of domains, each put after the text so far.
 
 ghost use Rattle.std.specs.Prelude.{◌≡◌, ℕ, ◌++◌, codes, option_map, slice_get};
 ghost use Rattle.std.specs.Fmt.{decimal};
@@ -18,8 +18,8 @@ use sysmem_proof::Chosen;
 use sysmem_sanitise::Platform;
 use sysmem_tree::{DomainId, Path, Tree};
 
-/// Puts the line of a domain that was decided behind the text: `domain /0 chosen 1 count 2 size 4096 place ram#0 cpu
-/// image none`.
+/// Puts the line of a domain that was decided after the text: `domain /0 chosen 1 count 2 size
+/// 4096 place ram#0 cpu image none`.
 pub fn put_chosen(
     text: &mut String,
     platform: &Platform,
@@ -40,7 +40,7 @@ pub fn put_chosen(
     Ok(())
 }
 
-/// Puts a line of one word behind the text: `domain /0 empty`.
+/// Puts a line of one word after the text: `domain /0 empty`.
 pub fn put_word(text: &mut String, path: &Path, word: &str) -> Result<(), AllocError>
     ensures { Puts result text.old text.new (domain_line path.now word.now) }
 {
@@ -49,7 +49,7 @@ pub fn put_word(text: &mut String, path: &Path, word: &str) -> Result<(), AllocE
     Ok(())
 }
 
-/// Puts the line that says this word of a domain of the tree behind the text: `domain /0 failed`.
+/// Puts the line that says this word of a domain of the tree after the text: `domain /0 failed`.
 pub(crate) fn put_domain(
     text: &mut String,
     tree: &Tree,

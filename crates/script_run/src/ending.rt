@@ -13,8 +13,8 @@ pub struct Ending {
 }
 
 /// The ending of a run: 0 where it is done, 1 for a read or write fault, 3 for a script that is
-/// refused, or a certificate that can't be read, 4 for want of memory, 5 where an audit says no, and 6 for a
-/// certificate that is wrong.
+/// refused, or a certificate that can't be read, 4 for want of memory, 5 where an audit says no,
+/// and 6 for a certificate that is wrong.
 pub fn ending_of(outcome: Result<Ended, RunFault>) -> Ending
     ensures status { result.status ≡ run_code outcome }
     ensures fault { result.fault ≡ fault_said outcome }

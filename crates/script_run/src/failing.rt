@@ -13,8 +13,8 @@ use script_reading::Act;
 use std::alloc::AllocError;
 use sysmem_tree::{DomainId, Tree};
 
-/// The domains that have failed, marked in order of creation of their roots; `None` before an act that only asks for the verdict, as it
-/// makes none fail.
+/// The domains that have failed, marked in order of creation of their roots; `None` before an act
+/// that only asks for the verdict, as it makes none fail.
 pub(crate) fn failed_before(tree: &Tree, act: &Act<'_>) -> Option<[bool; 128]>
     ensures marks { IfSome result
         (λ marks. (k : ℕ) → get_or marks k false ≡ failed_at tree.now k) }
@@ -43,7 +43,8 @@ fn newly_failed_at(
     if is_new { tree.domain_at(index) } else { None }
 }
 
-/// Puts the line of each domain that has failed and isn't marked behind the text, in order of creation of their roots.
+/// Puts the line of each domain that has failed and isn't marked after the text, in order of
+/// creation of their roots.
 pub(crate) fn put_failed(
     text: &mut String,
     tree: &Tree,
@@ -62,7 +63,7 @@ pub(crate) fn put_failed(
     Ok(())
 }
 
-/// The same where there are marks; without any it leaves the text.
+/// Puts these lines where there are marks; without any it leaves the text.
 pub(crate) fn put_failed_since(
     text: &mut String,
     tree: &Tree,

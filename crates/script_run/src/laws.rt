@@ -24,19 +24,21 @@ pub fn one_answer()
     one_report();
 }
 
-/// Bytes with a fault give that fault and nothing else, whether or not memory is refused: no report, and no other fault.
+/// Bytes with a fault give that fault and nothing else, whether or not memory is refused: no
+/// report, and no other fault.
 pub fn fault_is_alone()
     ensures { FaultIsAlone }
 {}
 
-/// What the bytes of a script give with a certificate they give without it, so that what holds of reports holds of those that
-/// have a certificate too: there is one, where memory is not refused, and a fault is alone.
+/// What the bytes of a script give with a certificate they give without it, so that what holds of
+/// reports holds of those that have a certificate too: there is one, where memory is not refused,
+/// and a fault is alone.
 pub fn certified_is_report()
     ensures { CertifiedIsReport }
 {}
 
-/// The certificate of a report's decisions, on a platform of the profile, is JSON: the list of their objects, each of which is read
-/// as the decision's path and claim.
+/// The certificate of a report's decisions, on a platform of the profile, is JSON: the list of
+/// their objects, each of which is read as the decision's path and claim.
 pub fn certificates_read_back()
     ensures { CertificatesReadBack }
 {
@@ -55,9 +57,10 @@ pub fn one_check()
     faults_are_first();
 }
 
-/// The certificate that a run makes is accepted, where memory was not refused and it has at most 4,194,304 bytes: the bytes of the
-/// script and of the certificate answer yes, with the number of the report's decisions. Each check of them writes that, unless
-/// a reader, the writer or memory fails.
+/// The certificate that a run makes is accepted, where memory was not refused and it has at most
+/// 4,194,304 bytes: the bytes of the script and of the certificate answer yes, with the number of
+/// the report's decisions. Each check of them writes that, unless a reader, the writer or memory
+/// fails.
 pub fn certificates_are_accepted()
     ensures { CertificatesAreAccepted }
 {

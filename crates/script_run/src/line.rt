@@ -1,4 +1,4 @@
-//! The lines of a report, each put behind the text so far.
+//! The lines of a report, each put after the text so far.
 
 ghost use Rattle.std.specs.Prelude.{◌≡◌, ◌++◌, codes};
 ghost use Rattle.std.specs.Fmt.{decimal};
@@ -12,7 +12,7 @@ use std::alloc::AllocError;
 use std::fmt::Write;
 use sysmem_sanitise::Fault;
 
-/// Puts the line of a call behind the text: `7 duplicate root a ok`.
+/// Puts the line of a call after the text: `7 duplicate root a ok`.
 pub(crate) fn put_call(
     text: &mut String,
     number: usize,

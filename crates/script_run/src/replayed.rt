@@ -33,8 +33,9 @@ impl Replayed {
         self.runner.book()
     }
 
-    /// The number of the node that the name at a place stands for, 0 being the root's place, and that
-    /// of each call that makes a name the next; `None` where there is none, or that call was not made.
+    /// The number of the node that the name at a place stands for, 0 being the root's place, and
+    /// that of each call that makes a name the next; `None` where there is none, or that call was
+    /// not made.
     pub fn node_named(&self, place: usize) -> Option<u32>
         ensures { result ≡ unwrap_or (slice_get (end_of self.now).names place) None }
     {
@@ -67,8 +68,9 @@ pub fn replay(alloc: Global, platform: Platform, calls: &[Call<'_>]) -> Result<R
     }
 }
 
-/// The calls on a platform, made in their order on one collection whose domains are decided so. Memory that is refused outside of a reply or
-/// a decision is the `Err`, and so is an objection to a decision.
+/// The calls on a platform, made in their order on one collection whose domains are decided so.
+/// Memory that is refused outside of a reply or a decision is the `Err`, and so is an objection to
+/// a decision.
 pub(crate) fn replayed_of<D: Decider>(
     alloc: Global,
     platform: Platform,

@@ -8,7 +8,8 @@ use std::alloc::{AllocError, Global};
 use sysmem_sanitise::Platform;
 
 /// What each call answers where they are made in order on one collection of this platform, whose
-/// domains are decided by a search. `AllocError` where memory is refused, to a reply or a decision too.
+/// domains are decided by a search. `AllocError` where memory is refused, to a reply or a decision
+/// too.
 pub fn replies_of(
     alloc: Global,
     platform: Platform,

@@ -21,14 +21,16 @@ use sysmem_tree::DomainId;
 /// A report.
 #[derive(Debug, Drop)]
 pub struct Report {
-    /// A line for each call, for each domain that was decided or failed, and for each domain without a verdict.
+    /// A line for each call, for each domain that was decided or failed, and for each domain
+    /// without a verdict.
     pub text: String,
     /// Whether memory was refused in a reply or a decision.
     pub starved: bool,
 }
 
-/// The report of the calls on a platform, made in their order on one collection whose domains are decided so. Memory that is refused outside
-/// of a reply or a decision is the `Err`, and so is an objection to a decision.
+/// The report of the calls on a platform, made in their order on one collection whose domains are
+/// decided so. Memory that is refused outside of a reply or a decision is the `Err`, and so is an
+/// objection to a decision.
 pub(crate) fn report_of<D: Decider>(
     alloc: Global,
     platform: Platform,
@@ -61,7 +63,8 @@ fn pending_at(book: &Book, index: u32) -> Option<DomainId>
     }
 }
 
-/// Puts the line of each domain without a verdict behind the text, in order of creation of their roots.
+/// Puts the line of each domain without a verdict after the text, in order of creation of their
+/// roots.
 pub(crate) fn put_pending(text: &mut String, book: &Book) -> Result<(), AllocError>
     ensures { Puts result text.old text.new (pending_lines book.now.state) }
 {

@@ -7,7 +7,8 @@ ghost use Rattle.serde_json.specs.View.{view};
 ghost use Rattle.script_reading.specs.Call.{states};
 ghost use Rattle.script_reading.specs.Seen.{act_seen, call_seen};
 ghost use Rattle.script_run.specs.Answer.{AsksFor, Replies, is_want};
-ghost use Rattle.script_run.specs.Report.{DecidesIn, EntersIn, GoesIn, RepliesIn, with_decision};
+ghost use Rattle.script_run.specs.Report.{with_decision};
+ghost use Rattle.script_run.specs.Steps.{DecidesIn, EntersIn, GoesIn, RepliesIn};
 ghost use Rattle.script_run.specs.State.{AreThere, first_run_state, names_given, node_named};
 ghost use Rattle.script_run.specs.Stop.{IfObjects, StopsIn};
 ghost use Rattle.script_run.specs.declared.decider.Stop.TheVariants.{Refused};
@@ -41,8 +42,8 @@ use sysmem_tree::{Action, DomainId, Event, NodeId, Refusal};
 #[derive(Debug, Drop)]
 pub struct Runner {
     book: Book,
-    /// For each name, in the order of the calls that make one, the node that it stands for; `None` where that call
-    /// was not made.
+    /// For each name, in the order of the calls that make one, the node that it stands for; `None`
+    /// where that call was not made.
     names: Vec<Option<NodeId>>,
     /// Whether memory was refused in a reply or a decision.
     starved: bool,
@@ -80,7 +81,8 @@ impl Runner {
         self.starved
     }
 
-    /// Makes a call where no domain waits, decides each domain that waits then, and puts the lines of all that behind the text.
+    /// Makes a call where no domain waits, decides each domain that waits then, and puts the lines
+    /// of all that after the text.
     pub(crate) fn take<D: Decider>(
         &mut self,
         alloc: Global,
@@ -111,7 +113,7 @@ impl Runner {
         Ok(answered)
     }
 
-    /// Makes a call, and puts its line and those of the domains that it makes fail behind the text.
+    /// Makes a call, and puts its line and those of the domains that it makes fail after the text.
     fn reply(
         &mut self,
         alloc: Global,
@@ -131,7 +133,7 @@ impl Runner {
         Ok(())
     }
 
-    /// Decides as long as a domain waits, and puts the lines of the decisions behind the text.
+    /// Decides as long as a domain waits, and puts the lines of the decisions after the text.
     fn decide_waiting<D: Decider>(
         &mut self,
         alloc: Global,
@@ -154,7 +156,7 @@ impl Runner {
         Ok(())
     }
 
-    /// Decides the first domain that waits, and puts the lines of the decision behind the text.
+    /// Decides the first domain that waits, and puts the lines of the decision after the text.
     fn decide<D: Decider>(
         &mut self,
         alloc: Global,
@@ -181,7 +183,7 @@ impl Runner {
         Ok(())
     }
 
-    /// Enters a decision that the book allows, and puts its lines behind the text.
+    /// Enters a decision that the book allows, and puts its lines after the text.
     fn tell(
         &mut self,
         domain: DomainId,
@@ -353,7 +355,8 @@ impl Runner {
         }
     }
 
-    /// The node that the name at a place stands for; `None` where the call that makes it was not made.
+    /// The node that the name at a place stands for; `None` where the call that makes it was not
+    /// made.
     fn node_at(&self, place: usize) -> Option<NodeId>
         ensures node { result ≡ unwrap_or (slice_get (state_of self.now).names place) None }
         ensures there { IfSome result (HasNode (state_of self.now).book.tree.nodes) }

@@ -36,8 +36,9 @@ pub enum Ended {
 
 /// Reads a script, makes its calls, and writes their report.
 ///
-/// Any failure of the reader is the fault `Read`, and any of the writer the fault `Write`; what was written then is a
-/// prefix of the report. No other fault is called so. A script that is refused writes nothing.
+/// Any failure of the reader is the fault `Read`, and any of the writer the fault `Write`; what was
+/// written then is a prefix of the report. No other fault is called so. A script that is refused
+/// writes nothing.
 pub fn run<R: Source, W: Sink>(
     alloc: Global,
     reader: &mut R,
@@ -54,7 +55,8 @@ pub fn run<R: Source, W: Sink>(
     run_leaving(alloc, reader, writer, &mut left)
 }
 
-/// `run`, which leaves the value that the bytes spell, if they do, in `left`: where the process ends next, it needn't be dropped.
+/// `run`, which leaves the value that the bytes spell, if they do, in `left`: where the process
+/// ends next, it needn't be dropped.
 pub fn run_leaving<R: Source, W: Sink>(
     alloc: Global,
     reader: &mut R,
@@ -77,11 +79,13 @@ pub fn run_leaving<R: Source, W: Sink>(
     Ok(Ended::Done)
 }
 
-/// Reads a script, makes its calls, and writes their report, and then the certificate of its decisions to `proof`.
+/// Reads a script, makes its calls, and writes their report, and then the certificate of its
+/// decisions to `proof`.
 ///
-/// Any failure of the reader is the fault `Read`, and any of a writer the fault `Write`; what was written then is a prefix of
-/// the report, or the whole report and a prefix of the certificate. No other fault is called so. The certificate is made
-/// before anything is written: where memory is refused to it, nothing is, as where the script is refused.
+/// Any failure of the reader is the fault `Read`, and any of a writer the fault `Write`; what was
+/// written then is a prefix of the report, or the whole report and a prefix of the certificate. No
+/// other fault is called so. The certificate is made before anything is written: where memory is
+/// refused to it, nothing is, as where the script is refused.
 pub fn run_with_proof<R: Source, W: Sink, P: Sink>(
     alloc: Global,
     reader: &mut R,
@@ -170,7 +174,7 @@ fn report_on<D: Decider>(
     report_leaving(alloc, bytes, decider, &mut left)
 }
 
-/// The same, where the value that the bytes spell, if they do, is left in `left`.
+/// The report of a script's bytes, which leaves the value that they spell, if they do, in `left`.
 fn report_leaving<D: Decider>(
     alloc: Global,
     bytes: Vec<u8>,

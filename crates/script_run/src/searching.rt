@@ -10,7 +10,8 @@ use sysmem_alloc::Book;
 use sysmem_proof::Claim;
 use sysmem_tree::DomainId;
 
-/// Searches for each verdict, and asks for no proof. Where memory is refused to a search, that is the decision.
+/// Searches for each verdict, and asks for no proof. Where memory is refused to a search, that is
+/// the decision.
 #[derive(Drop)]
 pub(crate) struct Searching;
 

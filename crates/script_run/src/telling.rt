@@ -34,7 +34,8 @@ fn is_open_collection(tree: &Tree, node: NodeId) -> bool
     matches!(state.kind, NodeKind::Collection) && state.is_open
 }
 
-/// The answer by the verdict of a node's domain, where settings were chosen for the node or weren't.
+/// The answer by the verdict of a node's domain, where settings were chosen for the node or
+/// weren't.
 fn told_by(is_selected: bool, verdict: Option<&Verdict>) -> Reply
     ensures { result ≡ told_by is_selected (option_map (λ v. v.now) verdict.entry) }
 {

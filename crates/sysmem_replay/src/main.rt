@@ -40,7 +40,7 @@ fn main(rt: HostRuntime) -> ExitCode {
     ExitCode::from(ending.status)
 }
 
-/// The words behind the program's name.
+/// The words after the program's name.
 fn given_words(rt: &HostRuntime) -> Result<Vec<String>, Ending> {
     let mut words = match env::args(rt) {
         Ok(words) => words,
@@ -125,8 +125,8 @@ fn run_last<R: Source, W: Sink>(
     ended
 }
 
-/// Opens the script, then empties the certificate's file where one is asked for, replays, and writes
-/// the objects of the report.
+/// Opens the script, then empties the certificate's file where one is asked for, replays, and
+/// writes the objects of the report.
 fn tell_file(rt: &HostRuntime, file: &str, proof: Option<&str>) -> Result<Ended, RunFault> {
     let Ok(script) = File::open(rt, file) else {
         return Err(RunFault::Read);

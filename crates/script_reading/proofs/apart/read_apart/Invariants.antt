@@ -1,4 +1,4 @@
--- The calls that are left, behind those so far, stand for all calls.
+-- The calls that are left, after those so far, stand for all calls.
 use Rattle.std.proofs.Common.{◌≡◌, ◌+◌, [], map, drop}
 use Rattle.serde_json.specs.View.{items_view}
 use Rattle.script_reading.specs.Apart.{apart_from}

@@ -1,12 +1,15 @@
 use Rattle.std.proofs.lemmas.Result.{err_from_is_err_and}
-use Rattle.script_run.specs.Outcome.{report_seen}
-use Rattle.script_run.proofs.RunLemmas.{ran-part, ran-refused}
+use Rattle.std.proofs.Common.{None}
+use Rattle.script_run.specs.Outcome.{RunsTo, report_seen}
+use Rattle.script_run.specs.Run.{GivesReport}
+use Rattle.script_run.proofs.RunLemmas.{ran-part, refused}
 use Rattle.script_run.proofs.running.run_leaving.Goals as goal
 
 pub returns-in_err-report-clause-ran : goal.returns-in_err-report-clause-ran
 returns-in_err-report-clause-ran g c =
     let failed = err_from_is_err_and c.from_residual-in_err-report.result c.from_residual-in_err-report.ensures.1 in
-    ran-refused _ c.in_err-report.field-0.0 _ _ _ c.in_ok-bytes.bytes.items (cc (failed.1, failed.2)) c.in_ok-bytes.ensures.bytes c.in_err-report.ensures
+    refused GivesReport _ _ None report_seen (RunsTo c.in_ok-bytes.bytes.items) _ c.in_err-report.field-0.0 _ c.in_ok-bytes.bytes.items (λ found is. is) (cc (failed.1, failed.2)) c.in_ok-bytes.ensures.bytes
+    c.in_err-report.ensures
 
 pub returns-in_err-write_fully-clause-ran : goal.returns-in_err-write_fully-clause-ran
 returns-in_err-write_fully-clause-ran g c =

@@ -1,12 +1,15 @@
 use Rattle.std.proofs.lemmas.Result.{err_from_is_err_and}
-use Rattle.script_run.specs.Certificate.{certified_seen}
-use Rattle.script_run.proofs.BothLemmas.{both-part, both-refused}
+use Rattle.script_run.specs.Certificate.{CertifiesTo, certified_seen}
+use Rattle.script_run.specs.Run.{GivesProvedReport}
+use Rattle.script_run.proofs.BothLemmas.{both-part}
+use Rattle.script_run.proofs.RunLemmas.{refused}
 use Rattle.script_run.proofs.running.run_with_proof.Goals as goal
 
 pub returns-in_err-certified-clause-ran : goal.returns-in_err-certified-clause-ran
 returns-in_err-certified-clause-ran g c =
     let failed = err_from_is_err_and c.from_residual-in_err-certified.result c.from_residual-in_err-certified.ensures.1 in
-    both-refused _ _ _ _ c.in_err-certified.field-0.0 _ c.in_ok-bytes.bytes.items (cc (failed.1, failed.2)) c.in_ok-bytes.ensures.bytes c.in_err-certified.ensures
+    refused GivesProvedReport _ _ _ certified_seen (CertifiesTo c.in_ok-bytes.bytes.items) _ c.in_err-certified.field-0.0 _ c.in_ok-bytes.bytes.items (λ found is. is) (cc (failed.1, failed.2))
+    c.in_ok-bytes.ensures.bytes c.in_err-certified.ensures
 
 pub returns-in_err-write_both-clause-ran : goal.returns-in_err-write_both-clause-ran
 returns-in_err-write_both-clause-ran g c =

@@ -1,7 +1,7 @@
 -- What was decided so far, and the history has room for 639 entries.
 use Rattle.std.specs.Prelude.{◌≡◌, ℕ, ◌-◌, [], length}
 use Rattle.std.specs.String.{string_bytes}
-use Rattle.script_run.specs.Report.{GoesIn}
+use Rattle.script_run.specs.Steps.{GoesIn}
 use Rattle.script_run.specs.Runner.{state_of}
 use Rattle.script_run.proofs.runner.Runner.decide_waiting.Given as goal
 
