@@ -135,16 +135,21 @@ fn offer_line(
     whole: bool,
     before: &[Line],
     kept: &mut Option<Named>,
+    known: &mut Option<OpenPair>,
 ) -> Result<Option<Line>, AllocError>
     requires there { All (HasNode tree.now.nodes) nodes.now }
     requires named { IfSome kept.old (NamesThose tree.now.nodes nodes.now) }
+    requires known { IfSome known.old
+        (IsOpenFor (participants (members_at tree.now.nodes nodes.now))) }
+    ensures known { IfSome known.new
+        (IsOpenFor (participants (members_at tree.now.nodes nodes.now))) }
     ensures named { IfSome kept.new (NamesThose tree.now.nodes nodes.now) }
     ensures line { (ms : List Member) → StandFor (members_at tree.now.nodes nodes.now) ms
         → IfOk result (λ line. IfSome line (IsOfferLineGiven whole ms offer.now)) }
     ensures share { (ms : List Member) → StandFor (members_at tree.now.nodes nodes.now) ms
         → IfOk result (λ line. IfNone line (ShareOffer whole ms offer.now)) }
 {
-    match read_offer(tree, nodes, offer) {
+    match read_offer(tree, nodes, offer, known) {
         Reading::Refused(field, node) => {
             let line = line_of(alloc, tree, &[node], field, Whom::All, before)?;
             Ok(Some(line))
@@ -189,7 +194,7 @@ fn next_line(
     if again.is_some() {
         return Ok(again);
     }
-    offer_line(alloc, tree, nodes, offer, whole, before, kept)
+    offer_line(alloc, tree, nodes, offer, whole, before, kept, known)
 }
 
 /// Lines that refuse each offer of the platform to the participants at these nodes, or each before the first that they share; where it
