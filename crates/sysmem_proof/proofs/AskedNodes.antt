@@ -13,8 +13,33 @@ use Rattle.sysmem_tree.specs.Nodes.{HasNode}
 use Rattle.sysmem_tree.specs.Path.{path_of}
 use Rattle.sysmem_tree.specs.Shape.{Member, by_path}
 use Rattle.sysmem_proof.specs.declared.whom.Whom.{Whom}
+use Rattle.sysmem_proof.specs.declared.whom.Whom.TheVariants as whoms
 use Rattle.sysmem_proof.specs.Members.{participants, member_at, members_at}
 use Rattle.sysmem_proof.specs.Whom.{names, members_named}
+
+abbrev Path : Member → List ℕ
+Path m = m.path
+
+-- whether a line names the one at a node
+module _ (nodes : List NodeFacts) (n : ℕ) (less : n < length nodes) (o : Option Participant) (asks : IfSome (slice_get nodes n) (λ x. o ≡ x.constraints)) where
+  pub one_named : (whom : Whom) (t : Bool) → t ≡ option_map_or (names whom) o false → (b : Bool) → t ≡ b
+      → map Path (members_named whom (members_at nodes (n ∷ []))) ≡ (if b then path_of nodes n ∷ [] else [])
+  one_named whom t is b at = by (slice_get nodes n) (slice_get_some nodes n less).1 asks where
+    in_case : (x : NodeFacts) (c : Bool) → option_map_or (names whom) x.constraints false ≡ c → map Path (members_named whom (by_path n (path_of nodes n) x ∷ [])) ≡ (if c then path_of nodes n ∷ [] else [])
+    in_case x true yes' = rw yes' refl
+    in_case x false no' = rw no' refl
+
+    by : (u : Option NodeFacts) → u ≡ Some (slice_get_some nodes n less).0 → IfSome u (λ x. o ≡ x.constraints)
+        → map Path (members_named whom (cons_option (option_map (by_path n (path_of nodes n)) u) [])) ≡ (if b then path_of nodes n ∷ [] else [])
+    by None e h = absurd (cc)
+    by (Some x) e h = in_case x b (ap (λ c. option_map_or (names whom) c false) (sym h) ∙ (sym is ∙ at))
+
+  -- who is named at all has the path of a line that names him alone
+  pub named_alone : (whom : Whom) (t : Bool) → t ≡ option_map_or (names whom) o false → t ≡ true → map Path (members_named whoms.All (members_at nodes (n ∷ []))) ≡ path_of nodes n ∷ []
+  named_alone whom t is yes' = one_named whoms.All true (by o (sym is ∙ yes')) true refl where
+    by : (c : Option Participant) → option_map_or (names whom) c false ≡ true → true ≡ option_map_or (names whoms.All) c false
+    by None e = absurd (cc)
+    by (Some p) e = refl
 
 module _ (nodes : List NodeFacts) where
   -- of one node
@@ -47,25 +72,11 @@ module _ (nodes : List NodeFacts) where
 
         -- whom a line names so far, and whether the one behind them is one
         module _ (whom : Whom) (t : Bool) (is : t ≡ option_map_or (names whom) o false) where
-          abbrev Path : Member → List ℕ
-          Path m = m.path
-
-          one_named : (b : Bool) → t ≡ b → map Path (members_named whom (members_at nodes (n ∷ []))) ≡ (if b then path_of nodes n ∷ [] else [])
-          one_named b at = by (slice_get nodes n) (slice_get_some nodes n node_there).1 asks where
-            in_case : (x : NodeFacts) (c : Bool) → option_map_or (names whom) x.constraints false ≡ c → map Path (members_named whom (by_path n (path_of nodes n) x ∷ [])) ≡ (if c then path_of nodes n ∷ [] else [])
-            in_case x true yes' = rw yes' refl
-            in_case x false no' = rw no' refl
-
-            by : (u : Option NodeFacts) → u ≡ Some (slice_get_some nodes n node_there).0 → IfSome u (λ x. o ≡ x.constraints)
-                → map Path (members_named whom (cons_option (option_map (by_path n (path_of nodes n)) u) [])) ≡ (if b then path_of nodes n ∷ [] else [])
-            by None e h = absurd (cc)
-            by (Some x) e h = in_case x b (ap (λ c. option_map_or (names whom) c false) (sym h) ∙ (sym is ∙ at))
-
           named_more : (b : Bool) → t ≡ b → map Path (members_named whom (members_at nodes (take (k + 1) ns))) ≡ map Path (members_named whom (members_at nodes (take k ns))) ++ (if b then path_of nodes n ∷ [] else [])
           named_more b at = ap (λ ms. map Path (members_named whom ms)) members_more
               ∙ (ap (map Path) (filter-append (λ m. option_map_or (names whom) m.constraints false) (members_at nodes (take k ns)) (members_at nodes (n ∷ [])))
               ∙ (map-append Path (members_named whom (members_at nodes (take k ns))) (members_named whom (members_at nodes (n ∷ [])))
-              ∙ ap (λ ps. map Path (members_named whom (members_at nodes (take k ns))) ++ ps) (one_named b at)))
+              ∙ ap (λ ps. map Path (members_named whom (members_at nodes (take k ns))) ++ ps) (one_named nodes n node_there o asks whom t is b at)))
 
           pub named_push : (paths new : List (List ℕ)) (path : List ℕ) → paths ≡ map Path (members_named whom (members_at nodes (take k ns))) → new ≡ paths ++ path ∷ [] → path ≡ path_of nodes n → t ≡ true
               → new ≡ map Path (members_named whom (members_at nodes (take (k + 1) ns)))

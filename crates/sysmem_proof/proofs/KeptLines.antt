@@ -1,8 +1,8 @@
 -- Lines that are kept for those who come again, and pairs that are known to be taken in every colour space.
-use Rattle.std.proofs.Common.{◌≡◌, ◌<◌, ℕ, true, List, [], ◌∷◌, Option, Some, None, length, get_or, sym, ◌∙◌, ap, subst}
+use Rattle.std.proofs.Common.{◌≡◌, ℕ, true, List, [], ◌∷◌, Option, Some, None, sym, ◌∙◌, ap, subst}
 use Rattle.std.specs.Prelude.{◌||◌, All}
 use Rattle.std.specs.Option.{option_map_or}
-use Rattle.std.proofs.lemmas.List.Elements.{All-contains, All-weaker}
+use Rattle.std.proofs.lemmas.List.Elements.{All-weaker}
 use Rattle.sysmem_counts.specs.declared.field.Field.{Field}
 use Rattle.sysmem_counts.specs.declared.field.Field.TheVariants.{ColorSpaces}
 use Rattle.sysmem_formats.specs.declared.colour_space.ColourSpace.{ColourSpace}
@@ -16,19 +16,19 @@ use Rattle.sysmem_merge.specs.Demands.{offer_demand}
 use Rattle.sysmem_sanitise.specs.Participant.{Participant}
 use Rattle.sysmem_tree.specs.Node.{NodeFacts}
 use Rattle.sysmem_proof.specs.declared.open_pairs.OpenPair.{OpenPair}
-use Rattle.sysmem_proof.specs.declared.whom.Alone.{Alone}
+use Rattle.sysmem_proof.specs.declared.alone_lines.Alone.{Alone}
 use Rattle.sysmem_proof.specs.declared.whom.Whom.TheVariants as whom
 use Rattle.sysmem_proof.specs.Line.{LineFacts}
 use Rattle.sysmem_proof.specs.OpenPairs.{IsOpenFor, TakesEach, takes_in}
 use Rattle.sysmem_proof.specs.Reading.{TakesIn}
-use Rattle.sysmem_proof.specs.Whom.{NamesOne, line_on}
-use Rattle.sysmem_proof.proofs.FirstOnes.{contained_at}
+use Rattle.sysmem_proof.specs.AloneLines.{NamesOne}
+use Rattle.sysmem_proof.specs.Whom.{line_on}
 
--- a line that is kept for the node names who is there
-pub kept_for : (nodes : List NodeFacts) (kept : List Alone) (k : ℕ) (one : Alone) (node : ℕ) → k < length kept → one ≡ get_or kept k one → one.number ≡ node
-    → All (NamesOne nodes) kept → one.line ≡ line_on nodes (node ∷ []) one.line.field whom.All
-kept_for nodes kept k one node inside here same all =
-    subst (λ n. one.line ≡ line_on nodes (n ∷ []) one.line.field whom.All) same (All-contains (NamesOne nodes) kept one all (contained_at kept k one inside here))
+-- a line that is kept for the node names who is there, and so does one with its paths
+pub kept_for : (nodes : List NodeFacts) (one : Alone) (node number : ℕ) (field : Field) (line : LineFacts) → one.number ≡ number → number ≡ node → NamesOne nodes one
+    → line ≡ record { field = field; nodes = one.line.nodes } → line ≡ line_on nodes (node ∷ []) field whom.All
+kept_for nodes one node number field line kept same names is = is
+    ∙ (ap (λ (l : LineFacts). record { field = field; nodes = l.nodes }) names ∙ ap (λ n. line_on nodes (n ∷ []) field whom.All) (kept ∙ same))
 
 -- a line that is made for a node can be kept
 pub is_kept : (nodes : List NodeFacts) (node number : ℕ) (field : Field) (line again : LineFacts) → number ≡ node → line ≡ line_on nodes (node ∷ []) field whom.All → again ≡ line

@@ -26,6 +26,21 @@ added numbers path are = ap (λ xs. paths_in ((xs ++ length path ∷ []) ++ path
 pub added_are : (numbers : List ℕ) (path : List ℕ) → AreOfPaths numbers → AreOfPaths ((numbers ++ length path ∷ []) ++ path)
 added_are numbers path are = ap (λ xs. (xs ++ length path ∷ []) ++ path) are ∙ (sym (one_more (paths_in numbers) path) ∙ ap numbers_of (sym (added numbers path are)))
 
+-- the numbers of one list of paths behind those of another
+numbers_behind : (ps qs : List (List ℕ)) → numbers_of (ps ++ qs) ≡ numbers_of ps ++ numbers_of qs
+numbers_behind [] qs = refl
+numbers_behind (p ∷ ps) qs = ap (λ xs. length p ∷ xs) (ap (λ xs. p ++ xs) (numbers_behind ps qs) ∙ sym (append_assoc p (numbers_of ps) (numbers_of qs)))
+
+module _ (one two : List ℕ) (first : AreOfPaths one) (second : AreOfPaths two) where
+  together : one ++ two ≡ numbers_of (paths_in one ++ paths_in two)
+  together = ap (λ xs. xs ++ two) first ∙ (ap (λ xs. numbers_of (paths_in one) ++ xs) second ∙ sym (numbers_behind (paths_in one) (paths_in two)))
+
+  pub joined : paths_in (one ++ two) ≡ paths_in one ++ paths_in two
+  joined = ap paths_in together ∙ read_back (paths_in one ++ paths_in two)
+
+  pub joined_are : AreOfPaths (one ++ two)
+  joined_are = together ∙ ap numbers_of (sym joined)
+
 -- what stands behind the first of some numbers of paths: that many steps, and numbers of the other paths
 pub record Begins (many : ℕ) (behind : List ℕ) : Type 0 where
   pub path : List ℕ

@@ -17,6 +17,8 @@ pub mod Found
 pub mod Roll
 pub mod EachLine
 pub mod Whom
+pub mod AloneLines
+pub mod Learnt
 pub mod Refusals
 pub mod Reading
 pub mod OpenPairs

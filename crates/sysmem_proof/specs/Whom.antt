@@ -1,12 +1,11 @@
 -- Whom of some participants a line names.
-use Rattle.std.specs.Prelude.{◌≡◌, ◌==◌, ℕ, Bool, true, false, not, List, [], ◌∷◌, filter, length, map}
+use Rattle.std.specs.Prelude.{◌≡◌, ◌==◌, ℕ, Bool, true, false, not, List, filter, length, map}
 use Rattle.std.specs.Option.{option_map_or}
 use Rattle.sysmem_counts.specs.declared.field.Field.{Field}
 use Rattle.sysmem_merge.specs.Demands.{OfferDemand, offer_demand}
 use Rattle.sysmem_sanitise.specs.Participant.{Participant}
 use Rattle.sysmem_tree.specs.Node.{NodeFacts}
 use Rattle.sysmem_tree.specs.Shape.{Member}
-use Rattle.sysmem_proof.specs.declared.whom.Alone.{Alone}
 use Rattle.sysmem_proof.specs.declared.whom.Named.{Named}
 use Rattle.sysmem_proof.specs.declared.whom.Whom.{Whom}
 use Rattle.sysmem_proof.specs.declared.whom.Whom.TheVariants.{All, WithCount, WithEntries, Nobody}
@@ -36,7 +35,3 @@ line_on nodes ns field whom = record { field = field; nodes = map (λ m. m.path)
 -- the line is one that names them among these nodes
 abbrev pub NamesThose : List NodeFacts → List ℕ → Named → Type 0
 NamesThose nodes ns named = named.line ≡ line_on nodes ns named.line.field named.whom
-
--- the line is one that names the one at its node
-abbrev pub NamesOne : List NodeFacts → Alone → Type 0
-NamesOne nodes alone = alone.line ≡ line_on nodes (alone.number ∷ []) alone.line.field All

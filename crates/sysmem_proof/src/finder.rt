@@ -6,9 +6,9 @@ ghost use Rattle.sysmem_proof.specs.Base.{IsElsewhere, IsGivenBase, terms_of};
 ghost use Rattle.sysmem_proof.specs.Certificate.{RefuseBeforeFor};
 ghost use Rattle.sysmem_proof.specs.Conflict.{IsConflict, IsConflictFor, IsFixedConflict};
 ghost use Rattle.sysmem_proof.specs.FirstConflict.{IsFirstConflict, IsFirstConflictFor, IsFirstFixedConflict};
+ghost use Rattle.sysmem_proof.specs.Learnt.{IsLearnt};
 ghost use Rattle.sysmem_proof.specs.Found.{AreSettledAt, IsBestChoice};
 ghost use Rattle.sysmem_proof.specs.Members.{members_at};
-ghost use Rattle.sysmem_proof.specs.PlacesAsked.{AreAsked};
 ghost use Rattle.sysmem_proof.specs.Refusals.{StandFor};
 ghost use Rattle.sysmem_proof.specs.Verdict.{MeetsFixed, MeetsSettled};
 ghost use Rattle.sysmem_proof.specs.declared.refutation.Item.{Item};
@@ -24,8 +24,8 @@ use crate::base::Base;
 use crate::conflict::Conflict;
 use crate::count_lines::{counts_at, fixed_line};
 use crate::first_refusing::first_failing;
+use crate::learnt::Learnt;
 use crate::line::Lines;
-use crate::places_asked::PlacesAsked;
 use crate::refusals::{Refusals, refused_offers, refused_places};
 use crate::whom::{Whom, line_of};
 use std::alloc::{AllocError, Global};
@@ -91,12 +91,12 @@ fn find_initial(
     tree: &Tree,
     nodes: &[NodeId],
     whole: bool,
-    asked: &mut PlacesAsked,
+    learnt: &mut Learnt,
 ) -> Result<Option<Conflict>, AllocError>
     requires there { All (HasNode tree.now.nodes) nodes.now }
     requires few { length nodes.now ≤ 128 }
-    requires asked { AreAsked tree.now.nodes platform.now.heaps asked.old }
-    ensures asked { AreAsked tree.now.nodes platform.now.heaps asked.new }
+    requires learnt { IsLearnt tree.now.nodes platform.now.heaps learnt.old }
+    ensures learnt { IsLearnt tree.now.nodes platform.now.heaps learnt.new }
     ensures conflict { (d : Forest Member)
         → StandFor (members_at tree.now.nodes nodes.now) (settled d)
         → whole ≡ is_none (choices d)
@@ -111,14 +111,17 @@ fn find_initial(
         → IfOk result (λ found. IfNone found ((t : Settled) × MeetsSettled platform.now None d t)) }
 {
     if let Err(field) = counts_at(tree, nodes).least_count() {
-        let line = line_of(alloc, tree, nodes, field, Whom::WithCount, &[])?;
+        let alone = &mut learnt.alone;
+        let line = line_of(alloc, tree, nodes, field, Whom::WithCount, &[], alone)?;
         return Ok(Some(Conflict::Count(line)));
     }
-    asked.begin(platform)?;
-    if let Refusals::Whole(lines) = refused_places(alloc, platform, tree, nodes, None, asked)? {
+    learnt.asked.begin(platform)?;
+    let (asked, alone) = (&mut learnt.asked, &mut learnt.alone);
+    let places = refused_places(alloc, platform, tree, nodes, None, asked, alone)?;
+    if let Refusals::Whole(lines) = places {
         return Ok(Some(Conflict::Places(lines)));
     }
-    match refused_offers(alloc, platform, tree, nodes, whole, None)? {
+    match refused_offers(alloc, platform, tree, nodes, whole, None, &mut learnt.alone)? {
         Refusals::Whole(lines) => Ok(Some(Conflict::Offers(lines))),
         Refusals::UpTo(_) => Ok(None),
     }
@@ -131,12 +134,15 @@ fn find_on_base(
     tree: &Tree,
     base: &Base,
     nodes: &[NodeId],
+    learnt: &mut Learnt,
 ) -> Result<Option<Conflict>, AllocError>
     requires there { All (HasNode tree.now.nodes) (base.now.accepted ++ nodes.now) }
     requires few { length (base.now.accepted ++ nodes.now) ≤ 128 }
     requires heap { base.now.settings.place.heap < length platform.now.heaps }
     requires some { 1 ≤ base.now.settings.count }
     requires limit { base.now.settings.count ≤ 128 }
+    requires learnt { IsLearnt tree.now.nodes platform.now.heaps learnt.old }
+    ensures learnt { IsLearnt tree.now.nodes platform.now.heaps learnt.new }
     ensures conflict { (d : Forest Member)
         → StandFor (members_at tree.now.nodes nodes.now) (settled d)
         → StandFor (members_at tree.now.nodes (base.now.accepted ++ nodes.now))
@@ -160,7 +166,8 @@ fn find_on_base(
     let settings = base.settings();
     let everyone = joined(alloc, base.accepted(), nodes)?;
     if let Some(field) = fixed_line(&counts_at(tree, &everyone), settings.count) {
-        let line = line_of(alloc, tree, &everyone, field, Whom::WithCount, &[])?;
+        let alone = &mut learnt.alone;
+        let line = line_of(alloc, tree, &everyone, field, Whom::WithCount, &[], alone)?;
         return Ok(Some(Conflict::Count(line)));
     }
     match first_failing(platform, &settings, tree, nodes) {
@@ -203,14 +210,22 @@ pub fn find_conflict(
     choices_leave_one_forest();
     let whole = tree.next_group(domain, prefix).is_none();
     let layout = tree.layout(domain);
-    let mut asked = PlacesAsked::new(alloc);
+    let mut learnt = Learnt::new(alloc);
     find_conflict_as(
-        alloc, platform, tree, domain, &layout, base, prefix, whole, &mut asked,
+        alloc,
+        platform,
+        tree,
+        domain,
+        &layout,
+        base,
+        prefix,
+        whole,
+        &mut learnt,
     )
 }
 
 /// As `find_conflict`, for a caller who has the domain's layout, knows whether the choices are a selection, so that no group is left
-/// (`whole`), and keeps what participants were asked about places.
+/// (`whole`), and keeps what is learnt of participants.
 pub fn find_conflict_as(
     alloc: Global,
     platform: &Platform,
@@ -220,7 +235,7 @@ pub fn find_conflict_as(
     base: Option<&Base>,
     prefix: &Prefix,
     whole: bool,
-    asked: &mut PlacesAsked,
+    learnt: &mut Learnt,
 ) -> Result<Option<Conflict>, AllocError>
     requires domain { HasDomain tree.now.nodes domain }
     requires lays { IsLayout layout.now (forest_of by_number tree.now.nodes domain []) }
@@ -231,8 +246,8 @@ pub fn find_conflict_as(
     requires whole { (d : Forest Member)
         → after (shape_of tree.now.nodes domain) prefix.now ≡ Some d
         → whole ≡ is_none (choices d) }
-    requires asked { AreAsked tree.now.nodes platform.now.heaps asked.old }
-    ensures asked { AreAsked tree.now.nodes platform.now.heaps asked.new }
+    requires learnt { IsLearnt tree.now.nodes platform.now.heaps learnt.old }
+    ensures learnt { IsLearnt tree.now.nodes platform.now.heaps learnt.new }
     ensures conflict { (d : Forest Member)
         → after (shape_of tree.now.nodes domain) prefix.now ≡ Some d
         → IfOk result (λ found. IfSome found (IsConflictFor platform.now
@@ -248,8 +263,8 @@ pub fn find_conflict_as(
 {
     let nodes = settled_at(tree, domain, layout, prefix)?;
     match base {
-        Some(base) => find_on_base(alloc, platform, tree, base, &nodes),
-        None => find_initial(alloc, platform, tree, &nodes, whole, asked),
+        Some(base) => find_on_base(alloc, platform, tree, base, &nodes, learnt),
+        None => find_initial(alloc, platform, tree, &nodes, whole, learnt),
     }
 }
 
@@ -288,9 +303,10 @@ pub fn lines_before(
     let layout = tree.layout(domain);
     let nodes = settled_at(tree, domain, &layout, selection)?;
     let (offer, place) = (settings.offer, settings.place);
-    let offers = refused_offers(alloc, platform, tree, &nodes, true, Some(offer))?;
-    let mut asked = PlacesAsked::new(alloc);
-    let places = refused_places(alloc, platform, tree, &nodes, Some(place), &mut asked)?;
+    let mut learnt = Learnt::new(alloc);
+    let (asked, alone) = (&mut learnt.asked, &mut learnt.alone);
+    let offers = refused_offers(alloc, platform, tree, &nodes, true, Some(offer), alone)?;
+    let places = refused_places(alloc, platform, tree, &nodes, Some(place), asked, alone)?;
     Ok(LinesBefore {
         offers: offers.into_lines(),
         places: places.into_lines(),

@@ -11,12 +11,14 @@ ghost use Rattle.sysmem_merge.specs.Reasons.{IsOfferLine};
 ghost use Rattle.sysmem_merge.specs.Settings.{CoversOn};
 ghost use Rattle.sysmem_proof.specs.FirstConflict.{IsFirstWithout};
 ghost use Rattle.sysmem_proof.specs.Members.{members_at, participants};
+ghost use Rattle.sysmem_proof.specs.OpenPairs.{IsOpenFor};
 ghost use Rattle.sysmem_proof.specs.PlacesAsked.{AreAsked};
 ghost use Rattle.sysmem_proof.specs.Reading.{IsReading, TakesIn};
 ghost use Rattle.sysmem_tree.specs.Nodes.{HasNode};
 ghost use Rattle.sysmem_tree.specs.Path.{path_of};
 
 use crate::asked::add_read;
+use crate::open_pairs::{OpenPair, first_without_colour};
 use crate::places_asked::PlacesAsked;
 use sysmem_counts::Field;
 use sysmem_formats::Offer;
@@ -114,14 +116,23 @@ fn read_all(tree: &Tree, nodes: &[NodeId], offer: &Offer) -> OfferRead
 
 /// Reads what the participants at these nodes ask of an offer. The first who doesn't take its format ends it; where nobody is that, the first
 /// who doesn't take its colour space; neither's bounds are read.
-pub(crate) fn read_offer(tree: &Tree, nodes: &[NodeId], offer: &Offer) -> Reading
-    requires { All (HasNode tree.now.nodes) nodes.now }
-    ensures { IsReading tree.now.nodes nodes.now offer.now result }
+pub(crate) fn read_offer(
+    tree: &Tree,
+    nodes: &[NodeId],
+    offer: &Offer,
+    known: &mut Option<OpenPair>,
+) -> Reading
+    requires there { All (HasNode tree.now.nodes) nodes.now }
+    requires known { IfSome known.old
+        (IsOpenFor (participants (members_at tree.now.nodes nodes.now))) }
+    ensures known { IfSome known.new
+        (IsOpenFor (participants (members_at tree.now.nodes nodes.now))) }
+    ensures reading { IsReading tree.now.nodes nodes.now offer.now result }
 {
     if let Some(node) = first_lacking(tree, nodes, Field::PixelFormat, offer) {
         return Reading::Refused(Field::PixelFormat, node);
     }
-    if let Some(node) = first_lacking(tree, nodes, Field::ColorSpaces, offer) {
+    if let Some(node) = first_without_colour(tree, nodes, offer, known) {
         return Reading::Refused(Field::ColorSpaces, node);
     }
     Reading::Read(read_all(tree, nodes, offer))

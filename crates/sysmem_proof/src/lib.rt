@@ -7,6 +7,7 @@
 #![tactic(auto)]
 
 mod all_asked;
+mod alone_lines;
 mod asked;
 mod base;
 mod certificate;
@@ -22,6 +23,7 @@ mod finder;
 mod first_refusing;
 mod fixed_faults;
 pub mod laws;
+mod learnt;
 mod line;
 mod line_faults;
 mod line_tests;
@@ -51,10 +53,10 @@ pub use certificate::{Certificate, Claim, EarlierChoices, Proof};
 pub use claims::check;
 pub use conflict::Conflict;
 pub use finder::{LinesBefore, find_conflict, find_conflict_as, lines_before};
+pub use learnt::Learnt;
 pub use line::{Line, Lines};
 pub use no::No;
 pub use path_list::{PathList, Paths};
-pub use places_asked::PlacesAsked;
 pub use refutation::{Item, Refutation};
 pub use selecting::MOST_SELECTIONS;
 pub use verdict::{Chosen, Verdict};

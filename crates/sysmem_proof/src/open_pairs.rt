@@ -1,10 +1,11 @@
 //! Pairs that participants take in every colour space.
 
-ghost use Rattle.std.specs.Prelude.{◌≡◌, true, List, [], All, IfSome, IsTrue, option_map};
+ghost use Rattle.std.specs.Prelude.{◌≡◌, true, List, [], ◌∷◌, All, Contains, IfNone, IfSome, IsTrue, option_map};
 ghost use Rattle.std.specs.List.{cons_option};
 ghost use Rattle.sysmem_counts.specs.declared.field.Field.TheVariants.{ColorSpaces};
 ghost use Rattle.sysmem_formats.specs.declared.colour_space.ColourSpace.{ColourSpace as Colour};
-ghost use Rattle.sysmem_merge.specs.Demands.{offer_demand};
+ghost use Rattle.sysmem_merge.specs.Demands.{offer_demand, offer_demands};
+ghost use Rattle.sysmem_merge.specs.Reasons.{IsOfferLine};
 ghost use Rattle.sysmem_proof.specs.Members.{members_at, participants};
 ghost use Rattle.sysmem_proof.specs.OpenPairs.{IsOpenFor, TakesEach, takes_in};
 ghost use Rattle.sysmem_proof.specs.Reading.{TakesIn};
@@ -99,6 +100,31 @@ fn is_open(tree: &Tree, nodes: &[NodeId], offer: &Offer, known: &mut Option<Open
     one.is_open
 }
 
+/// The first of the participants at these nodes who doesn't take the offer's colour space. Nobody is asked where all take its pair in
+/// every one.
+pub(crate) fn first_without_colour(
+    tree: &Tree,
+    nodes: &[NodeId],
+    offer: &Offer,
+    known: &mut Option<OpenPair>,
+) -> Option<NodeId>
+    requires there { All (HasNode tree.now.nodes) nodes.now }
+    requires known { IfSome known.old
+        (IsOpenFor (participants (members_at tree.now.nodes nodes.now))) }
+    ensures known { IfSome known.new
+        (IsOpenFor (participants (members_at tree.now.nodes nodes.now))) }
+    ensures there { IfSome result (Contains nodes.now) }
+    ensures line { IfSome result (λ node. IsOfferLine ColorSpaces offer.now
+        (offer_demands (participants (members_at tree.now.nodes (node ∷ []))))) }
+    ensures none { IfNone result (All (λ p. TakesIn ColorSpaces offer.now (offer_demand p))
+        (participants (members_at tree.now.nodes nodes.now))) }
+{
+    if is_open(tree, nodes, offer, known) {
+        return None;
+    }
+    first_lacking(tree, nodes, Field::ColorSpaces, offer)
+}
+
 /// Whether each of the participants at these nodes takes the offer's colour space.
 pub(crate) fn all_take_colour(
     tree: &Tree,
@@ -114,8 +140,5 @@ pub(crate) fn all_take_colour(
     ensures takes { IsTrue result → All (λ p. TakesIn ColorSpaces offer.now (offer_demand p))
         (participants (members_at tree.now.nodes nodes.now)) }
 {
-    if is_open(tree, nodes, offer, known) {
-        return true;
-    }
-    first_lacking(tree, nodes, Field::ColorSpaces, offer).is_none()
+    first_without_colour(tree, nodes, offer, known).is_none()
 }

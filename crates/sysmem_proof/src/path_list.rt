@@ -34,6 +34,23 @@ impl PathList {
         }
     }
 
+    /// No paths, with room for so many of up to 3 steps.
+    pub(crate) fn with_room(alloc: Global, many: usize) -> Result<PathList, AllocError>
+        ensures { IfOk result (λ list. list ≡ []) }
+    {
+        let numbers = SmallVec::with_capacity(alloc, many.saturating_mul(4))?;
+        Ok(PathList { numbers })
+    }
+
+    /// These paths and behind them those of the other list. `AllocError` where memory is refused.
+    pub(crate) fn joined(self, other: &PathList) -> Result<PathList, AllocError>
+        ensures { IfOk result (λ list. list ≡ self ++ other.now) }
+    {
+        let PathList { mut numbers } = self;
+        numbers.extend_from_slice(other.numbers.as_slice())?;
+        Ok(PathList { numbers })
+    }
+
     /// These paths and behind them that of these ordinals. `AllocError` where memory is refused, and for a path of 2^32 steps or more.
     pub fn with(self, ordinals: &[u32]) -> Result<PathList, AllocError>
         ensures { IfOk result (λ list. list ≡ self ++ ordinals.now ∷ []) }

@@ -27,7 +27,7 @@ pub(crate) struct Asked {
 
 /// What participants of a tree said of places of a platform. Where two questions share a slot, the last answer stands there.
 #[derive(Drop)]
-pub struct PlacesAsked {
+pub(crate) struct PlacesAsked {
     /// Whether a conflict was looked for before.
     is_used: bool,
     slots: Vec<Option<Asked>>,
@@ -35,7 +35,7 @@ pub struct PlacesAsked {
 
 impl PlacesAsked {
     /// Nobody was asked.
-    pub fn new(alloc: Global) -> PlacesAsked
+    pub(crate) fn new(alloc: Global) -> PlacesAsked
         ensures { (nodes : List NodeFacts) (heaps : List HeapFacts) → AreAsked nodes heaps result }
     {
         PlacesAsked {

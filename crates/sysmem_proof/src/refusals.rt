@@ -9,24 +9,26 @@ ghost use Rattle.sysmem_memory.specs.Listed.{HeapPlace, places_from, places_of, 
 ghost use Rattle.sysmem_merge.specs.Demands.{offer_demand, offer_demands};
 ghost use Rattle.sysmem_merge.specs.OfferRead.{IsRefusingLine};
 ghost use Rattle.sysmem_merge.specs.Reasons.{IsOfferLine, IsUnnamedLine};
+ghost use Rattle.sysmem_proof.specs.AloneLines.{AreAlone};
 ghost use Rattle.sysmem_proof.specs.FirstConflict.{IsOfferLineGiven, IsPlaceLineGiven};
 ghost use Rattle.sysmem_proof.specs.Members.{members_at, participants};
 ghost use Rattle.sysmem_proof.specs.OpenPairs.{IsOpenFor};
 ghost use Rattle.sysmem_proof.specs.PlacesAsked.{AreAsked};
 ghost use Rattle.sysmem_proof.specs.Reading.{TakesIn};
 ghost use Rattle.sysmem_proof.specs.Refusals.{AreRefusals, AreSoFar, Ends, GoOn, RefusesLast, ShareOffer, SharePlace, StandFor};
-ghost use Rattle.sysmem_proof.specs.Whom.{NamesOne, NamesThose, names};
+ghost use Rattle.sysmem_proof.specs.Whom.{NamesThose, names};
 ghost use Rattle.sysmem_sanitise.specs.Participant.{Participant};
 ghost use Rattle.sysmem_sanitise.specs.Platform.{offers_of};
 ghost use Rattle.sysmem_tree.specs.Nodes.{HasNode};
 ghost use Rattle.sysmem_tree.specs.Shape.{Member};
 
+use crate::alone_lines::{AloneLines, line_alone};
 use crate::first_refusing::{Reading, first_refused, read_offer};
 use crate::line::{Line, Lines};
 use crate::open_pairs::{OpenPair, all_take_colour};
 use crate::pair_lines::is_shared;
 use crate::places_asked::PlacesAsked;
-use crate::whom::{Alone, Named, Whom, line_alone, line_of, next_line_of};
+use crate::whom::{Named, Whom, next_line_of};
 use std::alloc::{AllocError, Global};
 use sysmem_counts::Field;
 use sysmem_formats::{Offer, offer_at};
@@ -135,25 +137,34 @@ fn offer_line(
     whole: bool,
     before: &[Line],
     kept: &mut Option<Named>,
+    known: &mut Option<OpenPair>,
+    alone: &mut AloneLines,
 ) -> Result<Option<Line>, AllocError>
     requires there { All (HasNode tree.now.nodes) nodes.now }
     requires named { IfSome kept.old (NamesThose tree.now.nodes nodes.now) }
+    requires known { IfSome known.old
+        (IsOpenFor (participants (members_at tree.now.nodes nodes.now))) }
+    requires alone { AreAlone tree.now.nodes alone.old }
     ensures named { IfSome kept.new (NamesThose tree.now.nodes nodes.now) }
+    ensures known { IfSome known.new
+        (IsOpenFor (participants (members_at tree.now.nodes nodes.now))) }
+    ensures alone { AreAlone tree.now.nodes alone.new }
     ensures line { (ms : List Member) → StandFor (members_at tree.now.nodes nodes.now) ms
         → IfOk result (λ line. IfSome line (IsOfferLineGiven whole ms offer.now)) }
     ensures share { (ms : List Member) → StandFor (members_at tree.now.nodes nodes.now) ms
         → IfOk result (λ line. IfNone line (ShareOffer whole ms offer.now)) }
 {
-    match read_offer(tree, nodes, offer) {
+    match read_offer(tree, nodes, offer, known) {
         Reading::Refused(field, node) => {
-            let line = line_of(alloc, tree, &[node], field, Whom::All, before)?;
+            let line = line_alone(alloc, tree, node, field, alone)?;
             Ok(Some(line))
         }
         Reading::Read(read) => {
             let Some(field) = read.first_line(whole) else {
                 return Ok(None);
             };
-            let line = next_line_of(alloc, tree, nodes, field, whom_for(field), before, kept)?;
+            let whom = whom_for(field);
+            let line = next_line_of(alloc, tree, nodes, field, whom, before, kept, alone)?;
             Ok(Some(line))
         }
     }
@@ -170,6 +181,7 @@ fn next_line(
     before: &[Line],
     kept: &mut Option<Named>,
     known: &mut Option<OpenPair>,
+    alone: &mut AloneLines,
 ) -> Result<Option<Line>, AllocError>
     requires there { All (HasNode tree.now.nodes) nodes.now }
     requires named { IfSome kept.old (NamesThose tree.now.nodes nodes.now) }
@@ -177,9 +189,11 @@ fn next_line(
         (IsOpenFor (participants (members_at tree.now.nodes nodes.now))) }
     requires last { (ms : List Member) → StandFor (members_at tree.now.nodes nodes.now) ms
         → RefusesLast (IsOfferLineGiven whole ms) earlier.now before.now }
+    requires alone { AreAlone tree.now.nodes alone.old }
     ensures named { IfSome kept.new (NamesThose tree.now.nodes nodes.now) }
     ensures known { IfSome known.new
         (IsOpenFor (participants (members_at tree.now.nodes nodes.now))) }
+    ensures alone { AreAlone tree.now.nodes alone.new }
     ensures line { (ms : List Member) → StandFor (members_at tree.now.nodes nodes.now) ms
         → IfOk result (λ line. IfSome line (IsOfferLineGiven whole ms offer.now)) }
     ensures share { (ms : List Member) → StandFor (members_at tree.now.nodes nodes.now) ms
@@ -189,7 +203,7 @@ fn next_line(
     if again.is_some() {
         return Ok(again);
     }
-    offer_line(alloc, tree, nodes, offer, whole, before, kept)
+    offer_line(alloc, tree, nodes, offer, whole, before, kept, known, alone)
 }
 
 /// Lines that refuse each offer of the platform to the participants at these nodes, or each before the first that they share; where it
@@ -201,9 +215,12 @@ pub(crate) fn refused_offers(
     nodes: &[NodeId],
     whole: bool,
     until: Option<Offer>,
+    alone: &mut AloneLines,
 ) -> Result<Refusals, AllocError>
-    requires { All (HasNode tree.now.nodes) nodes.now }
-    ensures { (ms : List Member) → StandFor (members_at tree.now.nodes nodes.now) ms
+    requires there { All (HasNode tree.now.nodes) nodes.now }
+    requires alone { AreAlone tree.now.nodes alone.old }
+    ensures alone { AreAlone tree.now.nodes alone.new }
+    ensures lines { (ms : List Member) → StandFor (members_at tree.now.nodes nodes.now) ms
         → IfOk result (AreRefusals (IsOfferLineGiven whole ms)
         (Ends until (λ (o : Offered). o) (ShareOffer whole ms)) (offers_of platform.now)) }
 {
@@ -216,7 +233,7 @@ pub(crate) fn refused_offers(
             return Ok(Refusals::UpTo(Lines::new(lines)));
         }
         let Some(line) = next_line(
-            alloc, tree, nodes, &earlier, &offer, whole, &lines, &mut kept, &mut known,
+            alloc, tree, nodes, &earlier, &offer, whole, &lines, &mut kept, &mut known, alone,
         )?
         else {
             return Ok(Refusals::UpTo(Lines::new(lines)));
@@ -237,14 +254,14 @@ fn place_line(
     heap: &HeapInfo,
     until: Option<Place>,
     asked: &mut PlacesAsked,
-    kept: &mut Vec<Alone>,
+    alone: &mut AloneLines,
 ) -> Result<Option<Line>, AllocError>
     requires there { All (HasNode tree.now.nodes) nodes.now }
     requires heap { slice_get platform.now.heaps place.heap ≡ Some heap.now }
     requires asked { AreAsked tree.now.nodes platform.now.heaps asked.old }
-    requires alone { All (NamesOne tree.now.nodes) kept.old.items }
+    requires alone { AreAlone tree.now.nodes alone.old }
     ensures asked { AreAsked tree.now.nodes platform.now.heaps asked.new }
-    ensures alone { OnOk result (All (NamesOne tree.now.nodes) kept.new.items) }
+    ensures alone { AreAlone tree.now.nodes alone.new }
     ensures line { (ms : List Member) → StandFor (members_at tree.now.nodes nodes.now) ms
         → IfOk result (λ line. IfSome line
         (IsPlaceLineGiven ms (record { place = place; heap = heap.now }))) }
@@ -258,7 +275,7 @@ fn place_line(
     let Some(first) = first_refused(platform, tree, nodes, place, heap, asked) else {
         return Ok(None);
     };
-    let line = line_alone(alloc, tree, first.node, first.field, kept)?;
+    let line = line_alone(alloc, tree, first.node, first.field, alone)?;
     Ok(Some(line))
 }
 
@@ -273,14 +290,14 @@ fn push_place(
     until: Option<Place>,
     lines: &mut Vec<Line>,
     asked: &mut PlacesAsked,
-    kept: &mut Vec<Alone>,
+    alone: &mut AloneLines,
 ) -> Result<bool, AllocError>
     requires there { All (HasNode tree.now.nodes) nodes.now }
     requires heap { slice_get platform.now.heaps place.heap ≡ Some heap.now }
     requires asked { AreAsked tree.now.nodes platform.now.heaps asked.old }
-    requires alone { All (NamesOne tree.now.nodes) kept.old.items }
+    requires alone { AreAlone tree.now.nodes alone.old }
     ensures asked { AreAsked tree.now.nodes platform.now.heaps asked.new }
-    ensures alone { OnOk result (All (NamesOne tree.now.nodes) kept.new.items) }
+    ensures alone { AreAlone tree.now.nodes alone.new }
     ensures lines { (ms : List Member) → StandFor (members_at tree.now.nodes nodes.now) ms
         → (xs left : List HeapPlace) → AreSoFar (IsPlaceLineGiven ms) xs lines.old.items
         (put_if (has_domain heap.now.domains place.coherency)
@@ -292,7 +309,7 @@ fn push_place(
         return Ok(true);
     }
     let Some(line) = place_line(
-        alloc, platform, tree, nodes, place, heap, until, asked, kept,
+        alloc, platform, tree, nodes, place, heap, until, asked, alone,
     )?
     else {
         return Ok(false);
@@ -312,14 +329,14 @@ fn push_heap(
     until: Option<Place>,
     lines: &mut Vec<Line>,
     asked: &mut PlacesAsked,
-    kept: &mut Vec<Alone>,
+    alone: &mut AloneLines,
 ) -> Result<bool, AllocError>
     requires there { All (HasNode tree.now.nodes) nodes.now }
     requires heap { slice_get platform.now.heaps index ≡ Some heap.now }
     requires asked { AreAsked tree.now.nodes platform.now.heaps asked.old }
-    requires alone { All (NamesOne tree.now.nodes) kept.old.items }
+    requires alone { AreAlone tree.now.nodes alone.old }
     ensures asked { AreAsked tree.now.nodes platform.now.heaps asked.new }
-    ensures alone { OnOk result (All (NamesOne tree.now.nodes) kept.new.items) }
+    ensures alone { AreAlone tree.now.nodes alone.new }
     ensures lines { (ms : List Member) → StandFor (members_at tree.now.nodes nodes.now) ms
         → (xs : List HeapPlace) (heaps : List HeapFacts)
         → AreSoFar (IsPlaceLineGiven ms) xs lines.old.items
@@ -333,7 +350,7 @@ fn push_heap(
         coherency: CoherencyDomain::Cpu,
     };
     if !push_place(
-        alloc, platform, tree, nodes, cpu, heap, until, lines, asked, kept,
+        alloc, platform, tree, nodes, cpu, heap, until, lines, asked, alone,
     )? {
         return Ok(false);
     }
@@ -342,7 +359,7 @@ fn push_heap(
         coherency: CoherencyDomain::Ram,
     };
     if !push_place(
-        alloc, platform, tree, nodes, ram, heap, until, lines, asked, kept,
+        alloc, platform, tree, nodes, ram, heap, until, lines, asked, alone,
     )? {
         return Ok(false);
     }
@@ -360,7 +377,7 @@ fn push_heap(
         until,
         lines,
         asked,
-        kept,
+        alone,
     )
 }
 
@@ -373,20 +390,22 @@ pub(crate) fn refused_places(
     nodes: &[NodeId],
     until: Option<Place>,
     asked: &mut PlacesAsked,
+    alone: &mut AloneLines,
 ) -> Result<Refusals, AllocError>
     requires there { All (HasNode tree.now.nodes) nodes.now }
     requires asked { AreAsked tree.now.nodes platform.now.heaps asked.old }
+    requires alone { AreAlone tree.now.nodes alone.old }
     ensures asked { AreAsked tree.now.nodes platform.now.heaps asked.new }
+    ensures alone { AreAlone tree.now.nodes alone.new }
     ensures lines { (ms : List Member) → StandFor (members_at tree.now.nodes nodes.now) ms
         → IfOk result (AreRefusals (IsPlaceLineGiven ms)
         (Ends until (λ (p : HeapPlace). p.place) (SharePlace ms))
         (places_of platform.now.heaps)) }
 {
     let mut lines = Vec::new(alloc);
-    let mut kept = Vec::new(alloc);
     for (index, heap) in platform.heaps().iter().enumerate() {
         if !push_heap(
-            alloc, platform, tree, nodes, index, heap, until, &mut lines, asked, &mut kept,
+            alloc, platform, tree, nodes, index, heap, until, &mut lines, asked, alone,
         )? {
             return Ok(Refusals::UpTo(Lines::new(lines)));
         }

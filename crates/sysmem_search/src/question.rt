@@ -17,7 +17,7 @@ use std::alloc::{AllocError, Global};
 use std::marker::Model;
 use sysmem_merge::Settings;
 use sysmem_merge::laws::sums_in_any_order;
-use sysmem_proof::{Base, Conflict, PlacesAsked, find_conflict_as};
+use sysmem_proof::{Base, Conflict, Learnt, find_conflict_as};
 use sysmem_sanitise::Platform;
 use sysmem_tree::layout_laws::{choice_settles_share, none_open_is_selection};
 use sysmem_tree::{DomainId, Layout, Prefix, Tree};
@@ -37,13 +37,13 @@ pub(crate) struct Question<'a> {
     parts: Vec<Option<Part>>,
     /// By the number of choices.
     levels: Vec<Level>,
-    /// What participants said of places where a conflict was looked for.
-    asked: PlacesAsked,
+    /// What was learnt of participants where a conflict was looked for.
+    learnt: Learnt,
 }
 
 impl<'a> Model for Question<'a> {
     ghost use Rattle.std.specs.Prelude.{option_map};
-    ghost use Rattle.sysmem_proof.specs.PlacesAsked.{AreAsked};
+    ghost use Rattle.sysmem_proof.specs.Learnt.{IsLearnt};
     ghost use Rattle.sysmem_search.specs.Standing.{Standing, StandsAt};
     ghost use Rattle.sysmem_tree.specs.Domain.{HasDomain, IsSoundTree};
 
@@ -66,7 +66,7 @@ impl<'a> Model for Question<'a> {
           domain = q.domain;
           base = option_map (λ b. b.now) q.base;
         }) q.layout q.parts.items q.levels.items q.prefix
-        × AreAsked q.tree.now.nodes q.platform.now.heaps q.asked };
+        × IsLearnt q.tree.now.nodes q.platform.now.heaps q.learnt };
 }
 
 impl<'a> Question<'a> {
@@ -108,7 +108,7 @@ impl<'a> Question<'a> {
             prefix: Prefix::new(),
             parts: Vec::new(alloc),
             levels,
-            asked: PlacesAsked::new(alloc),
+            learnt: Learnt::new(alloc),
         })
     }
 
@@ -194,7 +194,7 @@ impl<'a> Question<'a> {
             self.base,
             &self.prefix,
             whole,
-            &mut self.asked,
+            &mut self.learnt,
         )?;
         match found {
             Some(conflict) => Ok(conflict),

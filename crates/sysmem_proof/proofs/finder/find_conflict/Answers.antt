@@ -10,3 +10,6 @@ pub find_conflict_as-requires-clause-whole : goal.find_conflict_as-requires-clau
 find_conflict_as-requires-clause-whole c = λ d leads.
     same_whole c.args.tree.now.nodes c.args.domain c.args.prefix.now (c.choices_leave_one_forest.ensures c.args.tree.now.nodes c.args.domain c.args.prefix.now) d leads
     c.next_group.result c.next_group.ensures.group c.is_none-whole.result c.is_none-whole.ensures
+
+pub find_conflict_as-requires-clause-learnt : goal.find_conflict_as-requires-clause-learnt
+find_conflict_as-requires-clause-learnt c = c.new-learnt.ensures c.args.tree.now.nodes c.args.platform.now.heaps

@@ -32,7 +32,7 @@ returns-in-Some-clause-conflict c = λ d own stand.
     let everyone = c.in_ok-everyone.ensures ∙ ap (λ ns. ns ++ c.args.nodes.now) c.accepted.ensures in
     fixed_count_found c.args.tree.now.nodes (c.args.base.now.accepted ++ c.args.nodes.now) c.deref.result.now c.deref-in-Some.result.now (c.deref.ensures.value ∙ everyone) (c.deref-in-Some.ensures.value ∙ everyone)
     (members_at c.args.tree.now.nodes c.args.base.now.accepted ++ settled d) stand c.counts_at.result c.counts_at.ensures c.args.base.now.settings.count c.requires.limit c.in-Some.field
-    (λ ps tally. subst (λ (s : Settings). IsFixedCountLine s.count c.in-Some.field ps) c.settings-settings.ensures (c.in-Some.ensures.line ps tally)) c.in_ok-line.line c.in_ok-line.ensures
+    (λ ps tally. subst (λ (s : Settings). IsFixedCountLine s.count c.in-Some.field ps) c.settings-settings.ensures (c.in-Some.ensures.line ps tally)) c.in_ok-line.line c.in_ok-line.ensures.line
 
 pub returns-in-Some-clause-first : goal.returns-in-Some-clause-first
 returns-in-Some-clause-first c = λ d own stand.
@@ -40,7 +40,7 @@ returns-in-Some-clause-first c = λ d own stand.
     let all = members_at c.args.tree.now.nodes c.args.base.now.accepted ++ settled d in
     let tally = tally_of_all c.args.tree.now.nodes (c.args.base.now.accepted ++ c.args.nodes.now) c.deref.result.now c.deref.result.now (c.deref.ensures.value ∙ everyone) (c.deref.ensures.value ∙ everyone) all stand
     c.counts_at.result c.counts_at.ensures in
-    subst (λ (line : LineFacts). IsFirstOf (λ field. IsFixedCountLine c.args.base.now.settings.count field (counts_asked (participants all))) (MinBufferCount ∷ MaxBufferCount ∷ []) line.field) (sym c.in_ok-line.ensures)
+    subst (λ (line : LineFacts). IsFirstOf (λ field. IsFixedCountLine c.args.base.now.settings.count field (counts_asked (participants all))) (MinBufferCount ∷ MaxBufferCount ∷ []) line.field) (sym c.in_ok-line.ensures.line)
     (subst (λ (s : Settings). IsFirstOf (λ field. IsFixedCountLine s.count field (counts_asked (participants all))) (MinBufferCount ∷ MaxBufferCount ∷ []) c.in-Some.field) c.settings-settings.ensures
     (c.in-Some.ensures.first (counts_asked (participants all)) tally))
 

@@ -2,12 +2,12 @@
 use Rattle.sysmem_proof.proofs.FirstLines.{colour_lacking, format_lacking}
 use Rattle.sysmem_proof.proofs.first_refusing.read_offer.Goals as goal
 
-pub returns-in-Some : goal.returns-in-Some
-returns-in-Some c = (c.in-Some.ensures.there, c.in-Some.ensures.line, format_lacking c.args.tree.now.nodes c.args.nodes.now c.in-Some.node c.in-Some.ensures.there c.args.offer.now c.in-Some.ensures.line)
+pub returns-in-Some-clause-reading : goal.returns-in-Some-clause-reading
+returns-in-Some-clause-reading c = (c.in-Some.ensures.there, c.in-Some.ensures.line, format_lacking c.args.tree.now.nodes c.args.nodes.now c.in-Some.node c.in-Some.ensures.there c.args.offer.now c.in-Some.ensures.line)
 
-pub returns-in-Some-first_lacking : goal.returns-in-Some-first_lacking
-returns-in-Some-first_lacking c = (
-  c.in-Some-first_lacking.ensures.there,
-  c.in-Some-first_lacking.ensures.line,
-  colour_lacking c.args.tree.now.nodes c.args.nodes.now c.in-Some-first_lacking.node c.in-Some-first_lacking.ensures.there c.args.offer.now c.in_default.ensures.none c.in-Some-first_lacking.ensures.line,
+pub returns-in-Some-first_without_colour-clause-reading : goal.returns-in-Some-first_without_colour-clause-reading
+returns-in-Some-first_without_colour-clause-reading c = (
+  c.in-Some-first_without_colour.ensures.there,
+  c.in-Some-first_without_colour.ensures.line,
+  colour_lacking c.args.tree.now.nodes c.args.nodes.now c.in-Some-first_without_colour.node c.in-Some-first_without_colour.ensures.there c.args.offer.now c.in_default.ensures.none c.in-Some-first_without_colour.ensures.line,
 )

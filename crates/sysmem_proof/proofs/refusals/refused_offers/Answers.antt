@@ -12,16 +12,16 @@ use Rattle.sysmem_proof.proofs.Sofar.{all_offers, ends_at_offer, last_pushed, of
 use Rattle.sysmem_proof.proofs.refusals.refused_offers.Goals as goal
 use Rattle.list_lemmas.proofs.CallerLemmas.{of_some}
 
-pub returns-then-eq : goal.returns-then-eq
-returns-then-eq c = λ ms stand.
+pub returns-then-eq-clause-lines : goal.returns-then-eq-clause-lines
+returns-then-eq-clause-lines c = λ ms stand.
     let here = offer_read c.args.platform.now _ _ c.pairs.ensures.pairs c.colours.ensures.colours _ c.loop-offer.lines.items _ (c.len.ensures ∙ omega (arith, c.loop-offer.lines.ok)) c.in-Some.ensures in
     let same : c.args.until ≡ Some c.in-Some.offer = is_until c.args.until c.in-Some.offer c.if-eq.ensures in
     subst (EndsAt (IsOfferLineGiven c.args.whole ms) (Ends c.args.until (λ (o : Offer). o) (ShareOffer c.args.whole ms)) (offers_of c.args.platform.now)) (sym c.new.ensures)
     (ends_at_offer (IsOfferLineGiven c.args.whole ms) (Ends c.args.until (λ (o : Offer). o) (ShareOffer c.args.whole ms)) (offers_of c.args.platform.now) c.loop-offer.lines.items c.in-Some.offer
     (sym here) (c.loop-offer.invariant.so_far ms stand) (inl same))
 
-pub returns-in_default-2 : goal.returns-in_default-2
-returns-in_default-2 c = λ ms stand.
+pub returns-in_default-2-clause-lines : goal.returns-in_default-2-clause-lines
+returns-in_default-2-clause-lines c = λ ms stand.
     let here = offer_read c.args.platform.now _ _ c.pairs.ensures.pairs c.colours.ensures.colours _ c.loop-offer.lines.items _ (c.len.ensures ∙ omega (arith, c.loop-offer.lines.ok)) c.in-Some.ensures in
     let other : c.args.until ≢ Some c.in-Some.offer = is_before c.args.until c.in-Some.offer c.if-eq.ensures in
     subst (EndsAt (IsOfferLineGiven c.args.whole ms) (Ends c.args.until (λ (o : Offer). o) (ShareOffer c.args.whole ms)) (offers_of c.args.platform.now)) (sym c.new-in_default-2.ensures)
@@ -44,6 +44,7 @@ loop-offer-preserved c = record {
       let here = offer_read c.args.platform.now _ _ c.pairs.ensures.pairs c.colours.ensures.colours _ c.loop-offer.lines.items _ (c.len.ensures ∙ omega (arith, c.loop-offer.lines.ok)) c.in-Some.ensures in
       one_offer (IsOfferLineGiven c.args.whole ms) (offers_of c.args.platform.now) c.loop-offer.lines.items _ c.in-Some.offer c.in-Some-2.line (sym here) c.in_ok-push.ensures.items (c.loop-offer.invariant.so_far ms stand)
       (of_some (IsOfferLineGiven c.args.whole ms c.in-Some.offer) c.in_ok-line.field-0 c.in-Some-2.line c.in-Some-2.is (c.in_ok-line.ensures.line ms stand));
+  alone = c.next_line.ensures.alone;
   named = c.in_ok-line.ensures.named;
   known = c.in_ok-line.ensures.known;
   last = λ ms stand image last at.
@@ -51,8 +52,8 @@ loop-offer-preserved c = record {
       (of_some (IsOfferLineGiven c.args.whole ms c.in-Some.offer) c.in_ok-line.field-0 c.in-Some-2.line c.in-Some-2.is (c.in_ok-line.ensures.line ms stand));
 }
 
-pub returns : goal.returns
-returns c = λ ms stand.
+pub returns-clause-lines : goal.returns-clause-lines
+returns-clause-lines c = λ ms stand.
     let past = offer_read c.args.platform.now _ _ c.pairs.ensures.pairs c.colours.ensures.colours _ c.loop-offer.lines.items _ (c.len.ensures ∙ omega (arith, c.loop-offer.lines.ok)) c.in_default.ensures in
     subst (AllZip (IsOfferLineGiven c.args.whole ms) (offers_of c.args.platform.now)) (sym c.in_ok-fitted.ensures)
     (all_offers (IsOfferLineGiven c.args.whole ms) (offers_of c.args.platform.now) c.loop-offer.lines.items (sym past) (c.loop-offer.invariant.so_far ms stand))

@@ -2,6 +2,7 @@
 use Rattle.std.proofs.Common.{List, ◌-◌, drop, length}
 use Rattle.sysmem_sanitise.specs.Platform.{offers_of}
 use Rattle.sysmem_tree.specs.Shape.{Member}
+use Rattle.sysmem_proof.specs.AloneLines.{AreAlone}
 use Rattle.sysmem_proof.specs.FirstConflict.{IsOfferLineGiven}
 use Rattle.std.specs.Prelude.{IfSome}
 use Rattle.sysmem_proof.specs.Members.{members_at, participants}
@@ -14,6 +15,7 @@ abbrev pub invariant-loop-offer : goal.invariant-loop-offer
 invariant-loop-offer l = record {
   so_far : (ms : List Member) → StandFor (members_at l.tree.nodes l.nodes) ms
       → AreSoFar (IsOfferLineGiven l.whole ms) (offers_of l.platform) l.lines.items (drop (length l.lines.items) (offers_of l.platform));
+  alone : AreAlone l.tree.nodes l.alone;
   named : IfSome l.kept (NamesThose l.tree.nodes l.nodes);
   known : IfSome l.known (IsOpenFor (participants (members_at l.tree.nodes l.nodes)));
   last : (ms : List Member) → StandFor (members_at l.tree.nodes l.nodes) ms → RefusesLast (IsOfferLineGiven l.whole ms) l.earlier l.lines.items;

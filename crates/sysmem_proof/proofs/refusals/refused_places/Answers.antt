@@ -1,12 +1,9 @@
 -- One heap more.
 use Rattle.std.proofs.Common.{length, sym, ap, subst, drop, ◌+◌, arith}
 use Rattle.std.specs.List.{AllZip}
-use Rattle.std.specs.Prelude.{All}
-use Rattle.std.proofs.lemmas.List.Elements.{All-nil}
 use Rattle.sysmem_memory.specs.Listed.{HeapPlace, places_of}
 use Rattle.sysmem_proof.specs.FirstConflict.{IsPlaceLineGiven}
 use Rattle.sysmem_proof.specs.Refusals.{AreSoFar, Ends, EndsAt, SharePlace}
-use Rattle.sysmem_proof.specs.Whom.{NamesOne}
 use Rattle.sysmem_proof.proofs.Sofar.{all_done, heap_at, next_heap, no_heap, none_yet, they_end, they_go_on}
 use Rattle.sysmem_proof.proofs.refusals.refused_places.Goals as goal
 
@@ -24,7 +21,7 @@ returns-then-not-branch-clause-lines c = λ ms stand.
 pub loop-index-init : goal.loop-index-init
 loop-index-init c = record {
   asked = c.requires.asked;
-  alone = subst (All (NamesOne c.args.tree.now.nodes)) (sym c.new-kept.ensures.items) (All-nil (NamesOne c.args.tree.now.nodes));
+  alone = c.requires.alone;
   places = λ ms stand. subst (λ lines. AreSoFar (IsPlaceLineGiven ms) (places_of c.args.platform.now.heaps) lines (places_of c.args.platform.now.heaps)) (sym c.new-lines.ensures.items)
       (none_yet (IsPlaceLineGiven ms) (places_of c.args.platform.now.heaps));
 }
@@ -32,7 +29,7 @@ loop-index-init c = record {
 pub loop-index-preserved : goal.loop-index-preserved
 loop-index-preserved c = record {
   asked = c.push_heap.ensures.asked;
-  alone = c.in_ok-push_heap.ensures.alone;
+  alone = c.push_heap.ensures.alone;
   places = λ ms stand.
       they_go_on (IsPlaceLineGiven ms) (Ends c.args.until (λ (p : HeapPlace). p.place) (SharePlace ms)) c.in_ok-push_heap.field-0 (places_of c.args.platform.now.heaps) _ _ c.if-not-branch.false
       (c.in_ok-push_heap.ensures.lines ms stand (places_of c.args.platform.now.heaps) (drop (c.loop-index.index + 1) c.args.platform.now.heaps)
