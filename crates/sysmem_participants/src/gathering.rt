@@ -2,7 +2,7 @@
 
 ghost use Rattle.std.specs.Prelude.{◌≡◌, ◌≢◌, ◌<◌, ◌+◌, ◌↔◌, Err, length, sum_by, vec_len, IfErr, IfOk, IsTrue};
 ghost use Rattle.sysmem_alloc.specs.Book.{IsBook};
-ghost use Rattle.sysmem_participants.specs.Audit.{AgreesWith, AreFor, IsFaultOf, SomeBookAgrees, SomeBookRefuses};
+ghost use Rattle.sysmem_participants.specs.Audit.{AgreesWith, AreFor, IsFaultOf, SomeBookRefuses};
 ghost use Rattle.sysmem_room.specs.Counting.{actions_in};
 
 use crate::agreeing::stubs_agree;
@@ -11,7 +11,7 @@ use crate::shared::Shared;
 use crate::stub::Stub;
 use std::sync::ledger::{Ledger, Share};
 use std::sync::{Arc, Wait};
-use sysmem_room::Room;
+use sysmem_room::{Room, Seen};
 use sysmem_sanitise::Platform;
 
 /// A share with all parts and amounts of the stubs'.
@@ -87,17 +87,24 @@ fn shared_of<L: Ledger>(stubs: &[Stub<L>]) -> Result<Arc<Shared<L>>, AuditFault>
 }
 
 /// Joins the stubs of a collection, once all its handles are spent: whether they and its book say
-/// the same, and what there is to count. As many actions as the handles made stand in the book, and
-/// it is for their platform. Of no stubs, and of some for another platform, it answers `Stubs`.
-pub fn audit<L: Ledger, R: Wait>(rt: &R, stubs: Vec<Stub<L>>) -> Result<Audit, AuditFault>
-    ensures agree { IfOk result (SomeBookAgrees stubs.items) }
+/// the same, and what there is to count. Beside that stands the book as it was seen under its lock:
+/// it is legal, and for the stubs' platform, and as many actions as the handles made stand in it. Of
+/// no stubs, and of some for another platform, it answers `Stubs`.
+pub fn audit<L: Ledger, R: Wait>(
+    rt: &R,
+    stubs: Vec<Stub<L>>,
+) -> Result<(Audit, Seen<L>), AuditFault>
+    ensures book { IfOk result (λ found. IsBook found.1) }
+    ensures agree { IfOk result (λ found. AgreesWith found.1 stubs.items found.0) }
     ensures empty { vec_len stubs ≡ 0 → result ≡ Err AuditFault.Stubs }
     ensures fault { IfErr result (λ fault. 0 < vec_len stubs → fault ≢ AuditFault.NoMemory
         → SomeBookRefuses stubs.items fault) }
-    ensures sum { IfOk result (λ audit.
-        audit.actions ≡ sum_by (λ s. length s.deeds) stubs.items) }
+    ensures sum { IfOk result (λ found.
+        found.0.actions ≡ sum_by (λ s. length s.deeds) stubs.items) }
 {
     let shared = shared_of(&stubs)?;
     let mut room = shared.room.lock(rt);
-    audited(&mut room, stubs)
+    let seen = room.seen();
+    let audit = audited(&mut room, stubs)?;
+    Ok((audit, seen))
 }
