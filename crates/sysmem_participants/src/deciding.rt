@@ -70,7 +70,8 @@ fn claim_of<G: Gate + Sync, R: Threads + Sync>(
 
 /// What the domain that is next is decided on, in one hold, and the book as it is left then.
 fn next_of<L: Ledger, R: Wait>(rt: &R, shared: &Shared<L>) -> (Option<Frozen>, Seen<L>)
-    ensures { result.0 ≡ frozen_of result.1 }
+    ensures frozen { result.0 ≡ frozen_of result.1 }
+    ensures none { result.0 ≡ None → next_ready result.1.state ≡ None }
 {
     let mut room = shared.room.lock(rt);
     let frozen = room.frozen();

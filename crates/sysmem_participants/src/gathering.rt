@@ -53,14 +53,19 @@ fn are_for<L: Ledger>(platform: &Platform, stubs: &[Stub<L>]) -> bool
 /// What is found of a collection by the stubs of all its handles, once these are spent: its book,
 /// which stays as it is, has what they have, for their platform, and as many actions as they have
 /// together.
-fn audited<L: Ledger>(room: &mut Room<L>, stubs: Vec<Stub<L>>) -> Result<Audit, AuditFault>
+fn audited<L: Ledger>(
+    room: &mut Room<L>,
+    stubs: Vec<Stub<L>>,
+) -> Result<(Audit, Seen<L>), AuditFault>
     ensures same { room.new ≡ room.old }
-    ensures book { IsBook room.old }
-    ensures agree { IfOk result (AgreesWith room.old stubs.items) }
+    ensures legal { IsBook room.old }
+    ensures seen { IfOk result (λ found. found.1 ≡ room.old) }
+    ensures agree { IfOk result (λ found. AgreesWith found.1 stubs.items found.0) }
     ensures fault { IfErr result (IsFaultOf room.old stubs.items) }
-    ensures sum { IfOk result (λ audit.
-        audit.actions ≡ sum_by (λ s. length s.deeds) stubs.items) }
+    ensures sum { IfOk result (λ found.
+        found.0.actions ≡ sum_by (λ s. length s.deeds) stubs.items) }
 {
+    let seen = room.seen();
     let mut stubs = stubs;
     let is_for = are_for(room.book().platform(), &stubs);
     if !is_for {
@@ -68,7 +73,7 @@ fn audited<L: Ledger>(room: &mut Room<L>, stubs: Vec<Stub<L>>) -> Result<Audit, 
     }
     let audit = stubs_agree(room.book(), &mut stubs)?;
     count(room, stubs);
-    Ok(audit)
+    Ok((audit, seen))
 }
 
 /// One more owner of the collection of the first stub.
@@ -104,7 +109,5 @@ pub fn audit<L: Ledger, R: Wait>(
 {
     let shared = shared_of(&stubs)?;
     let mut room = shared.room.lock(rt);
-    let seen = room.seen();
-    let audit = audited(&mut room, stubs)?;
-    Ok((audit, seen))
+    audited(&mut room, stubs)
 }
