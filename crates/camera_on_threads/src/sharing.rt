@@ -80,7 +80,7 @@ pub(crate) fn share<L: Ledger + Send + Sync, R: Threads + Wait + Sync>(
     let mut stubs = Vec::from_array(alloc, [root, filmed.stub, encoded.stub])?;
     let recorder = told_to(&mut stubs, recorded)?;
     match audit(rt, stubs) {
-        Ok(audit) => Ok(Told {
+        Ok((audit, _seen)) => Ok(Told {
             camera: filmed.told,
             encoder: encoded.told,
             recorder,

@@ -32,7 +32,7 @@ pub(crate) fn put_audit<L: Ledger, R: Threads + Wait + Sync>(
     stubs: Vec<Stub<L>>,
 ) -> Result<(), AllocError> {
     match audit(rt, stubs) {
-        Ok(found) => {
+        Ok((found, _seen)) => {
             let (nodes, actions, decisions) = (found.nodes, found.actions, found.decisions);
             writeln!(
                 text,

@@ -141,7 +141,7 @@ fn tell<L: Ledger, R: Wait>(
     let Ok(lines) = lines else {
         return Err(AuditFault::NoMemory);
     };
-    let audit = audit(rt, remains.stubs)?;
+    let (audit, _seen) = audit(rt, remains.stubs)?;
     let is_starved = lines.is_starved || remains.is_starved;
     match with_audit(lines, audit) {
         Ok(text) => Ok(Told { text, is_starved }),

@@ -19,6 +19,7 @@ use Rattle.sysmem_room.specs.Agreeing.{book_log, own_deeds}
 use Rattle.sysmem_room.proofs.CallerLemmas.{log_cons}
 use Rattle.sysmem_participants.specs.Held.{Left}
 use Rattle.sysmem_participants.specs.Laws.{NoneClosed}
+use Rattle.sysmem_participants.proofs.TwoAudits.{read_open}
 
 abbrev IsKept : Deed → Type 0
 IsKept deed = is_close (kind_of deed) ≡ false
@@ -66,11 +67,11 @@ none_left stay platform all es (Acted i deed ∷ fs) parts legal are = (
 )
 
 pub none_closed : NumbersStay → NoneClosed
-none_closed stay b ss a is audited are = none_left stay b.platform b.history [] b.history refl is.legal (λ i less. by i (subst (λ (s : State). i < length s.tree.nodes) (sym is.replayed) less)) where
+none_closed stay b ss read a is reads audited are = none_left stay b.platform b.history [] b.history refl is.legal (λ i less. by i (subst (λ (s : State). i < length s.tree.nodes) (sym is.replayed) less)) where
   empty : Left
   empty = record { path = []; deeds = []; cell = 0; known = None; platform = b.platform }
 
   by : (i : ℕ) → i < length b.state.tree.nodes → AllByRecursion IsKept (book_log b.history i)
   by i less =
       let (k, below, own) = audited.all i less in
-      subst (AllByRecursion IsKept) (sym (own empty).log) (are k empty below)
+      subst (AllByRecursion IsKept) (sym (own empty).log) (read_open ss read reads are k empty below)

@@ -1,6 +1,9 @@
 -- What is true of a ruling, and of a claim that was made from what was frozen.
-use Rattle.std.proofs.Common.{◌≡◌, ◌∙◌, ℕ, List, Option, Result, Ok, Err, ap, sym, subst}
-use Rattle.std.specs.Prelude.{IfErr, IfOk}
+use Rattle.std.proofs.Common.{◌≡◌, ◌∙◌, ℕ, List, Option, None, Some, Result, Ok, Err, refl, ap, sym, subst}
+use Rattle.std.specs.Prelude.{IfErr, IfOk, option_map}
+use Rattle.sysmem_alloc.specs.Book.{BookFacts}
+use Rattle.sysmem_alloc.specs.Frozen.{FrozenFacts, frozen_of}
+use Rattle.sysmem_alloc.specs.State.{base_of, next_ready}
 use Rattle.sysmem_proof.specs.declared.certificate.Claim.{Claim as AClaim}
 use Rattle.sysmem_proof.specs.declared.certificate.Proof.{Proof}
 use Rattle.sysmem_proof.specs.declared.verdict.Verdict.{Verdict}
@@ -47,3 +50,10 @@ put_together p q t u d e a b v by pq tu de ab optimal proved =
     let three : IsTrueClaim p t.nodes e b claim = subst (λ x. IsTrueClaim p t.nodes x b claim) de two in
     let four : IsTrueClaim p u.nodes e b claim = subst (λ (x : TreeFacts). IsTrueClaim p x.nodes e b claim) tu three in
     subst (λ x. IsTrueClaim x u.nodes e b claim) pq four
+
+-- where nothing is to be frozen no domain waits
+pub none_next : (b : BookFacts) → frozen_of b ≡ None → next_ready b.state ≡ None
+none_next b none = by (next_ready b.state) none where
+  by : (r : Option ℕ) → ◌≡◌ {A = Option FrozenFacts} (option_map (λ d. record { platform = b.platform; tree = b.state.tree; domain = d; base = base_of b.state d }) r) None → r ≡ None
+  by None is = refl
+  by (Some d) is = absurd (cc)

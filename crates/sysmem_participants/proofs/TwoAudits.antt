@@ -13,7 +13,7 @@ use Rattle.sysmem_room.specs.declared.outcome.Outcome.{Outcome}
 use Rattle.sysmem_participants.specs.declared.faults.Audit.{Audit}
 use Rattle.sysmem_participants.specs.Audit.{AgreesWith, AreFor, AreRead, IsRead}
 use Rattle.sysmem_participants.specs.Held.{Left}
-use Rattle.sysmem_participants.specs.Laws.{AreAmong, AreOpen, AuditsAgree, GotOneVerdict, IsInitial, IsLike, NoneClosed, TwoAuditsAgree}
+use Rattle.sysmem_participants.specs.Laws.{AreAmong, AreOpen, AuditsAgree, GotOneVerdict, IsInitial, IsLike, TwoAuditsAgree}
 use Rattle.sysmem_participants.proofs.Audited.{is_sound, none_left}
 
 -- stubs that were read have the paths and the calls that they had
@@ -30,7 +30,8 @@ read_among ss ts us vs read also among k d less =
           record { path = two.path ∙ (alike.path ∙ sym one.path); deeds = two.deeds ∙ (alike.deeds ∙ sym one.deeds) },
     )
 
-read_open : (ss us : List Left) → AreRead ss us → AreOpen ss → AreOpen us
+-- of stubs whose cells were read as many were closed
+pub read_open : (ss us : List Left) → AreRead ss us → AreOpen ss → AreOpen us
 read_open ss us read are k d less =
     let below : k < length ss = omega (arith, less, read.many) in
     let one : IsRead (get_or ss k d) (get_or us k d) = read.each k d below in
@@ -55,27 +56,19 @@ one_platform sound b ss a platform is agrees are =
     let less : 0 < length ss = omega (arith, some, audited.many, read.many) in
     sym (agrees.platform 0 (none_left platform) less) ∙ are 0 (none_left platform) less
 
-pub two_audits : AuditsAgree → NoneClosed → LegalIsSound → TwoAuditsAgree
-two_audits agree closed sound platform ss ts a x (b, is, agrees) (c, also, agrees') for_ss for_ts same calm calm' =
+pub two_audits : AuditsAgree → LegalIsSound → TwoAuditsAgree
+two_audits agree sound platform b c ss ts a x is also agrees agrees' for_ss for_ts same calm calm' =
     let (us, read, audited) = agrees.audited in
     let (vs, read', audited') = agrees'.audited in
     let platforms : b.platform ≡ c.platform = one_platform sound b ss a platform is agrees for_ss ∙ sym (one_platform sound c ts x platform also agrees' for_ts) in
     let got : GotOneVerdict b c us vs =
-    agree b c us vs a x is also platforms audited audited' (record { first = read_among ss ts us vs read read' same.first; second = read_among ts ss vs us read' read same.second })
-    (closed b us a is audited (read_open ss us read calm)) (closed c vs x also audited' (read_open ts vs read' calm')) in (
-      b,
-      c,
-      record {
-        first = (is, agrees);
-        second = (also, agrees');
-        verdict = record {
-          ready = got.ready;
-          answer = got.answer;
-          known = λ k j d e r q less below home away knows knows'.
-              let one : IsRead (get_or ss k d) (get_or us k d) = read.each k d less in
-              let two : IsRead (get_or ts j e) (get_or vs j e) = read'.each j e below in
-              got.known k j d e r q (omega (arith, less, read.many)) (omega (arith, below, read'.many)) (read_initial b (get_or ss k d) (get_or us k d) one home)
-              (read_initial c (get_or ts j e) (get_or vs j e) two away) (read_known (get_or ss k d) (get_or us k d) _ one knows) (read_known (get_or ts j e) (get_or vs j e) _ two knows');
-        };
-      },
-    )
+    agree b c us vs a x is also platforms audited audited' (record { first = read_among ss ts us vs read read' same.first; second = read_among ts ss vs us read' read same.second }) calm calm' in
+    record {
+      ready = got.ready;
+      answer = got.answer;
+      known = λ k j d e r q less below home away knows knows'.
+          let one : IsRead (get_or ss k d) (get_or us k d) = read.each k d less in
+          let two : IsRead (get_or ts j e) (get_or vs j e) = read'.each j e below in
+          got.known k j d e r q (omega (arith, less, read.many)) (omega (arith, below, read'.many)) (read_initial b (get_or ss k d) (get_or us k d) one home)
+          (read_initial c (get_or ts j e) (get_or vs j e) two away) (read_known (get_or ss k d) (get_or us k d) _ one knows) (read_known (get_or ts j e) (get_or vs j e) _ two knows');
+    }

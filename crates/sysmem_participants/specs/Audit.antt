@@ -11,8 +11,8 @@ use Rattle.sysmem_participants.specs.declared.faults.AuditFault.{AuditFault}
 use Rattle.sysmem_participants.specs.declared.faults.AuditFault.TheVariants as faults
 use Rattle.sysmem_participants.specs.Held.{Left}
 
--- a stub is of node i: it has the path, the actions in their order, and, if its cell has a
--- verdict, that of the node's domain
+-- a stub is of node i: it has the path, the actions in their order, and, if it knows a verdict,
+-- that of the node's domain
 abbrev pub IsOf : BookFacts → Left → ℕ → Type 0
 IsOf b s i = AgreesAt b s.path s.deeds s.known i
 
@@ -55,7 +55,7 @@ abbrev pub HaveCalls : BookFacts → List Left → Type 0
 HaveCalls b stubs = (k : ℕ) (d : Left) → k < length stubs
     → HasAt b (slice_index_or stubs k d) (λ i. book_log b.history i ≡ (slice_index_or stubs k d).deeds)
 
--- each stub has the verdict of its node's domain, where its cell has one
+-- each stub has the verdict of its node's domain, where it knows one
 abbrev pub HaveVerdicts : BookFacts → List Left → Type 0
 HaveVerdicts b stubs = (k : ℕ) (d : Left) → k < length stubs
     → HasAt b (slice_index_or stubs k d) (λ i. IsKnown b i (slice_index_or stubs k d).known)
@@ -97,10 +97,6 @@ pub record AgreesWith (b : BookFacts) (stubs : List Left) (a : Audit) : Type 0 w
 abbrev pub IsFaultOf : BookFacts → List Left → AuditFault → Type 0
 IsFaultOf b stubs fault = ((fault ≡ faults.Stubs) × (AreFor b.platform stubs → ⊥))
     ⊎ (AreFor b.platform stubs × ((read : List Left) × AreRead stubs read × IsFirstFault b read fault))
-
--- a legal book and the stubs agree
-abbrev pub SomeBookAgrees : List Left → Audit → Type 0
-SomeBookAgrees stubs a = (b : BookFacts) × IsBook b × AgreesWith b stubs a
 
 -- the stubs have this fault by a legal book
 abbrev pub SomeBookRefuses : List Left → AuditFault → Type 0

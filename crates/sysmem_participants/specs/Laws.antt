@@ -14,7 +14,7 @@ use Rattle.sysmem_tree.specs.ActionKind.{kind_of}
 use Rattle.sysmem_tree.specs.History.{is_close}
 use Rattle.sysmem_tree.specs.Laws.{SameReady}
 use Rattle.sysmem_participants.specs.declared.faults.Audit.{Audit}
-use Rattle.sysmem_participants.specs.Audit.{AgreesWith, AreFor, HasAt, IsAudited, SomeBookAgrees}
+use Rattle.sysmem_participants.specs.Audit.{AgreesWith, AreFor, AreRead, HasAt, IsAudited}
 use Rattle.sysmem_participants.specs.Held.{Left}
 
 -- a stub has the path and the calls of another
@@ -67,25 +67,21 @@ AuditsAgree = (b c : BookFacts) (ss ts : List Left) (a x : Audit) → IsBook b �
 abbrev pub IsOpen : Left → Type 0
 IsOpen s = AllByRecursion (λ deed. is_close (kind_of deed) ≡ false) s.deeds
 
--- where none of the stubs that agree with a book was closed, no node of it was
-abbrev pub NoneClosed : Type 0
-NoneClosed = (b : BookFacts) (ss : List Left) (a : Audit) → IsBook b → IsAudited b ss a
-    → ((k : ℕ) (d : Left) → k < length ss → IsOpen (slice_index_or ss k d)) → NoEarlyClose b.history
-
 -- no stub's node was closed
 abbrev pub AreOpen : List Left → Type 0
 AreOpen ss = (k : ℕ) (d : Left) → k < length ss → IsOpen (slice_index_or ss k d)
 
--- the stubs of each of two collections agree with a legal book, and the two books got one verdict
-pub record FoundOneVerdict (ss ts : List Left) (a x : Audit) (b c : BookFacts) : Type 0 where
-  pub first : IsBook b × AgreesWith b ss a
-  pub second : IsBook c × AgreesWith c ts x
-  pub verdict : GotOneVerdict b c ss ts
+-- where none of the stubs was closed that agree with a book, once their cells were read, no node of
+-- it was
+abbrev pub NoneClosed : Type 0
+NoneClosed = (b : BookFacts) (ss read : List Left) (a : Audit) → IsBook b → AreRead ss read
+    → IsAudited b read a → AreOpen ss → NoEarlyClose b.history
 
--- two audits that said yes, of collections for one platform with the same calls at each path and no
--- node that was closed, found books that got one verdict for the initial domain
+-- two audits that said yes, of collections for one platform with the same calls at each path: the
+-- books that they saw, in which no node was closed before the initial domain's decision, got one
+-- verdict for that domain
 abbrev pub TwoAuditsAgree : Type 0
-TwoAuditsAgree = (platform : PlatformFacts) (ss ts : List Left) (a x : Audit)
-    → SomeBookAgrees ss a → SomeBookAgrees ts x → AreFor platform ss → AreFor platform ts
-    → HaveSameCalls ss ts → AreOpen ss → AreOpen ts
-    → (b c : BookFacts) × FoundOneVerdict ss ts a x b c
+TwoAuditsAgree = (platform : PlatformFacts) (b c : BookFacts) (ss ts : List Left) (a x : Audit)
+    → IsBook b → IsBook c → AgreesWith b ss a → AgreesWith c ts x
+    → AreFor platform ss → AreFor platform ts → HaveSameCalls ss ts
+    → NoEarlyClose b.history → NoEarlyClose c.history → GotOneVerdict b c ss ts

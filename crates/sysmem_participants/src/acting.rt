@@ -104,7 +104,7 @@ fn enter<L: Ledger, G: Gate + Drop + Sync, R: Threads + Wait + Sync>(
     let (done, decides) = hold(rt, shared, path, log, known, action, fresh, mine)?;
     log.push(copy);
     if decides {
-        decide(rt, shared, rules);
+        let _none_waits = decide(rt, shared, rules);
     }
     Ok(done.share)
 }

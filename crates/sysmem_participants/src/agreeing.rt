@@ -20,7 +20,7 @@ use sysmem_tree::NodeId;
 struct Agreement {
     /// The calls, in their order.
     calls: bool,
-    /// The verdict, where one is in the stub's cell.
+    /// The verdict, where the stub knows one.
     verdict: bool,
 }
 
@@ -99,9 +99,9 @@ fn are_marked(marks: &[bool; 128], nodes: u32) -> bool
     true
 }
 
-/// Whether there is one stub for each node of a book, with the node's actions and, where a verdict
-/// is in the stub's cell, the verdict of the node's domain; then what there is to count in the
-/// book. Else the first fault, of all stubs, in the order `Stubs`, `Calls`, `Verdicts`.
+/// Reads the stubs' cells: whether there is one stub for each node of a book, with the node's
+/// actions and, where the stub knows a verdict then, that of the node's domain; and what there is to
+/// count in the book. Else the first fault, of all stubs, in the order `Stubs`, `Calls`, `Verdicts`.
 pub fn stubs_agree<L: Ledger>(book: &Book, stubs: &mut [Stub<L>]) -> Result<Audit, AuditFault>
     ensures agree { IfOk result (IsAudited book.now stubs.new) }
     ensures fault { IfErr result (IsFirstFault book.now stubs.new) }

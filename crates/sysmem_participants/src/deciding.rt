@@ -1,7 +1,9 @@
 //! Decisions, taken while no one holds the lock.
 
-ghost use Rattle.std.specs.Prelude.{◌≡◌, ◌≤◌, IfOk};
+ghost use Rattle.std.specs.Prelude.{◌≡◌, ◌≤◌, None, IfOk};
 ghost use Rattle.std.specs.Arc.{arc_value};
+ghost use Rattle.sysmem_alloc.specs.Frozen.{frozen_of};
+ghost use Rattle.sysmem_alloc.specs.State.{next_ready};
 ghost use Rattle.sysmem_proof.specs.Claim.{IsTrueClaim};
 
 use crate::shared::{Rules, Shared};
@@ -11,6 +13,7 @@ use std::sync::{Arc, Wait};
 use std::thread::Threads;
 use sysmem_alloc::Frozen;
 use sysmem_proof::Claim;
+use sysmem_room::Seen;
 use sysmem_search::{Gate, prove, search_wide};
 
 /// From so many selections on, a search can take so long that a second worker is worth its thread.
@@ -65,18 +68,32 @@ fn claim_of<G: Gate + Sync, R: Threads + Sync>(
     Ok(Claim { verdict, proof })
 }
 
+/// What the domain that is next is decided on, in one hold, and the book as it is left then.
+fn next_of<L: Ledger, R: Wait>(rt: &R, shared: &Shared<L>) -> (Option<Frozen>, Seen<L>)
+    ensures frozen { result.0 ≡ frozen_of result.1 }
+    ensures none { result.0 ≡ None → next_ready result.1.state ≡ None }
+{
+    let mut room = shared.room.lock(rt);
+    let frozen = room.frozen();
+    let seen = room.seen();
+    (frozen, seen)
+}
+
 /// Decides the domains that wait, one after the other, until none waits: what it decides on is
-/// frozen in one hold, searched and proved in none, and entered in another.
+/// frozen in one hold, searched and proved in none, and entered in another. The book as it was seen
+/// where none waited.
 pub(crate) fn decide<L: Ledger, G: Gate + Drop + Sync, R: Threads + Wait + Sync>(
     rt: &R,
     shared: &Shared<L>,
     rules: &Rules<G>,
-) {
+) -> Seen<L>
+    ensures { next_ready result.state ≡ None }
+{
     for _ in rt.forever() {
-        let next = shared.room.lock(rt).frozen();
+        let (next, seen) = next_of(rt, shared);
         shared.changed.notify_all();
         let Some(frozen) = next else {
-            break;
+            return seen;
         };
         match claimed(rt, rules, &frozen) {
             Ok((claim, copy)) => {
@@ -85,4 +102,5 @@ pub(crate) fn decide<L: Ledger, G: Gate + Drop + Sync, R: Threads + Wait + Sync>
             Err(_) => shared.room.lock(rt).lack(&frozen),
         }
     }
+    unreachable!()
 }

@@ -59,7 +59,7 @@ fn end<L: Ledger, G: Gate + Drop + Sync, R: Threads + Wait + Sync>(
     };
     shared.changed.notify_all();
     if decides {
-        decide(rt, shared, rules);
+        let _none_waits = decide(rt, shared, rules);
     }
     Ok(())
 }
@@ -150,13 +150,13 @@ impl<L: Ledger, G: Gate + Drop + Sync> Seat<L, G> {
         }
     }
 
-    /// Closes the node, as a channel that ends: what is left of the handle, and why the close was
-    /// refused, if it was.
+    /// Closes the node, as a channel that ends: what is left of the handle, and that the close was
+    /// refused, if it was: since a handle's node is open, that the two disagree.
     pub(crate) fn close<R: Threads + Wait + Sync>(self, rt: &R) -> (Stub<L>, Option<Refusal>)
         ensures left { MatchOption result.1 (result.0 ≡ left_of (acted self closes))
             (λ _. result.0 ≡ left_of self) }
         ensures foreseen { MatchOption result.1 (MayEnter self closes) (λ _. Unit {0}) }
-        ensures answers { IfSome result.1 (AnswersAtEnd self closes) }
+        ensures strange { IfSome result.1 (λ refusal. refusal ≡ Refusal.Strange) }
     {
         let Seat {
             shared,
@@ -181,7 +181,7 @@ impl<L: Ledger, G: Gate + Drop + Sync> Seat<L, G> {
         );
         let (actions, refused) = match ended {
             Ok(()) => (log.ended(Action::Close), None),
-            Err(refusal) => (log.into_actions(), Some(refusal)),
+            Err(_) => (log.into_actions(), Some(Refusal::Strange)),
         };
         (
             Stub {

@@ -21,7 +21,7 @@ pub enum AuditFault {
     Stubs,
     /// The calls of a path differ.
     Calls,
-    /// The verdict in a stub's cell isn't the collection's.
+    /// The verdict that a stub knows isn't the collection's.
     Verdicts,
     /// Memory was refused.
     NoMemory,

@@ -2,7 +2,7 @@
 
 ghost use Rattle.std.specs.Prelude.{◌≡◌, ◌≢◌, ◌<◌, ◌+◌, ◌↔◌, Err, length, sum_by, vec_len, IfErr, IfOk, IsTrue};
 ghost use Rattle.sysmem_alloc.specs.Book.{IsBook};
-ghost use Rattle.sysmem_participants.specs.Audit.{AgreesWith, AreFor, IsFaultOf, SomeBookAgrees, SomeBookRefuses};
+ghost use Rattle.sysmem_participants.specs.Audit.{AgreesWith, AreFor, IsFaultOf, SomeBookRefuses};
 ghost use Rattle.sysmem_room.specs.Counting.{actions_in};
 
 use crate::agreeing::stubs_agree;
@@ -11,7 +11,7 @@ use crate::shared::Shared;
 use crate::stub::Stub;
 use std::sync::ledger::{Ledger, Share};
 use std::sync::{Arc, Wait};
-use sysmem_room::Room;
+use sysmem_room::{Room, Seen};
 use sysmem_sanitise::Platform;
 
 /// A share with all parts and amounts of the stubs'.
@@ -53,14 +53,19 @@ fn are_for<L: Ledger>(platform: &Platform, stubs: &[Stub<L>]) -> bool
 /// What is found of a collection by the stubs of all its handles, once these are spent: its book,
 /// which stays as it is, has what they have, for their platform, and as many actions as they have
 /// together.
-fn audited<L: Ledger>(room: &mut Room<L>, stubs: Vec<Stub<L>>) -> Result<Audit, AuditFault>
+fn audited<L: Ledger>(
+    room: &mut Room<L>,
+    stubs: Vec<Stub<L>>,
+) -> Result<(Audit, Seen<L>), AuditFault>
     ensures same { room.new ≡ room.old }
-    ensures book { IsBook room.old }
-    ensures agree { IfOk result (AgreesWith room.old stubs.items) }
+    ensures legal { IsBook room.old }
+    ensures seen { IfOk result (λ found. found.1 ≡ room.old) }
+    ensures agree { IfOk result (λ found. AgreesWith found.1 stubs.items found.0) }
     ensures fault { IfErr result (IsFaultOf room.old stubs.items) }
-    ensures sum { IfOk result (λ audit.
-        audit.actions ≡ sum_by (λ s. length s.deeds) stubs.items) }
+    ensures sum { IfOk result (λ found.
+        found.0.actions ≡ sum_by (λ s. length s.deeds) stubs.items) }
 {
+    let seen = room.seen();
     let mut stubs = stubs;
     let is_for = are_for(room.book().platform(), &stubs);
     if !is_for {
@@ -68,7 +73,7 @@ fn audited<L: Ledger>(room: &mut Room<L>, stubs: Vec<Stub<L>>) -> Result<Audit, 
     }
     let audit = stubs_agree(room.book(), &mut stubs)?;
     count(room, stubs);
-    Ok(audit)
+    Ok((audit, seen))
 }
 
 /// One more owner of the collection of the first stub.
@@ -87,15 +92,20 @@ fn shared_of<L: Ledger>(stubs: &[Stub<L>]) -> Result<Arc<Shared<L>>, AuditFault>
 }
 
 /// Joins the stubs of a collection, once all its handles are spent: whether they and its book say
-/// the same, and what there is to count. As many actions as the handles made stand in the book, and
-/// it is for their platform. Of no stubs, and of some for another platform, it answers `Stubs`.
-pub fn audit<L: Ledger, R: Wait>(rt: &R, stubs: Vec<Stub<L>>) -> Result<Audit, AuditFault>
-    ensures agree { IfOk result (SomeBookAgrees stubs.items) }
+/// the same, and what there is to count. Beside that stands the book as it was seen under its lock:
+/// it is legal, and for the stubs' platform, and as many actions as the handles made stand in it. Of
+/// no stubs, and of some for another platform, it answers `Stubs`.
+pub fn audit<L: Ledger, R: Wait>(
+    rt: &R,
+    stubs: Vec<Stub<L>>,
+) -> Result<(Audit, Seen<L>), AuditFault>
+    ensures book { IfOk result (λ found. IsBook found.1) }
+    ensures agree { IfOk result (λ found. AgreesWith found.1 stubs.items found.0) }
     ensures empty { vec_len stubs ≡ 0 → result ≡ Err AuditFault.Stubs }
     ensures fault { IfErr result (λ fault. 0 < vec_len stubs → fault ≢ AuditFault.NoMemory
         → SomeBookRefuses stubs.items fault) }
-    ensures sum { IfOk result (λ audit.
-        audit.actions ≡ sum_by (λ s. length s.deeds) stubs.items) }
+    ensures sum { IfOk result (λ found.
+        found.0.actions ≡ sum_by (λ s. length s.deeds) stubs.items) }
 {
     let shared = shared_of(&stubs)?;
     let mut room = shared.room.lock(rt);

@@ -80,12 +80,12 @@ impl<L: Ledger, G: Gate + Drop + Sync> Group<L, G> {
     }
 
     /// Closes the node, as a channel that ends does: what is left of the handle, with the action
-    /// where it was accepted, or beside it the refusal. It takes no memory.
+    /// where it was accepted, or beside it the refusal, which is `Strange`. It takes no memory.
     pub fn close<R: Threads + Wait + Sync>(self, rt: &R) -> (Stub<L>, Option<Refusal>)
         ensures left { MatchOption result.1 (result.0 ≡ left_of (acted self closes))
             (λ _. result.0 ≡ left_of self) }
         ensures foreseen { MatchOption result.1 (MayEnter self closes) (λ _. Unit {0}) }
-        ensures answers { IfSome result.1 (AnswersAtEnd self closes) }
+        ensures strange { IfSome result.1 (λ refusal. refusal ≡ Refusal.Strange) }
     {
         let Group { seat } = self;
         seat.close(rt)

@@ -24,12 +24,11 @@ pub fn none_closed()
 }
 
 /// Two calls of `audit` that said yes, of collections of one platform with the same calls at each
-/// path, none of whose nodes was closed: there are books for them, and these got one verdict for
-/// the initial domain, where memory was not refused to it.
+/// path: the books that they saw got one verdict for the initial domain, where no node was closed
+/// before its decision and memory was not refused to it.
 pub fn two_audits_agree()
     ensures { TwoAuditsAgree }
 {
     audits_agree();
-    none_closed();
     legal_is_sound();
 }

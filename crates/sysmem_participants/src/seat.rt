@@ -1,6 +1,6 @@
 //! What each kind of handle holds.
 
-ghost use Rattle.std.specs.Prelude.{◌≡◌, ◌≢◌, ◌<◌, ◌≤◌, ◌+◌, ◌++◌, [], ◌∷◌, None, Some, length, option_map, IfErr, IfOk, IfSome, MatchResult, OnErr, OnOk, ⊤};
+ghost use Rattle.std.specs.Prelude.{◌≡◌, ◌≢◌, ◌<◌, ◌+◌, ◌++◌, [], ◌∷◌, None, Some, length, IfErr, IfOk, IfSome, MatchResult, ⊤};
 ghost use Rattle.std.specs.Arc.{arc_value};
 ghost use Rattle.once_cell.specs.Once.{cell_name};
 ghost use Rattle.sysmem_participants.specs.Held.{IsSameBut, IsStillKnown, state_of};

@@ -32,12 +32,12 @@ stays true true is = absurd (cc)
 stays true false is = refl
 stays false e is = absurd (cc)
 
-makes_one : (m room : Bool) → not (not m || room) ≡ true → m ≡ true
+pub makes_one : (m room : Bool) → not (not m || room) ≡ true → m ≡ true
 makes_one true room is = refl
 makes_one false room is = absurd (cc)
 
 -- a log's state brings no refusal
-log_allows : (s : NodeState) (kind : ActionKind) → log_refusal s kind ≡ None → (allows kind s ≡ true) × (wants_child kind s ≡ false)
+pub log_allows : (s : NodeState) (kind : ActionKind) → log_refusal s kind ≡ None → (allows kind s ≡ true) × (wants_child kind s ≡ false)
 log_allows s kind none = by (allows kind s) (wants_child kind s) none where
   by : (a w : Bool) → ◌≡◌ {A = Option Refusal} (if not a then Some WrongState else if w then Some NoChildren else None) None → (a ≡ true) × (w ≡ false)
   by true false is = (refl, refl)

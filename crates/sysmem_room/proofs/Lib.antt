@@ -1,5 +1,6 @@
 mod Asking
 mod Counting
+mod Disputing
 mod Foreseeing
 mod Lacking
 mod Logs

@@ -1,6 +1,7 @@
 -- What a handle's action is refused for, by what the handle knows.
-use Rattle.std.specs.Prelude.{◌≡◌, ◌==◌, ℕ, Bool, true, false, List, Option, Some, None, is_some, option_map, unwrap_or, if◌then◌else◌}
+use Rattle.std.specs.Prelude.{◌≡◌, ◌==◌, ℕ, Bool, true, false, List, Option, Some, None, IfSome, is_some, option_map, slice_get, unwrap_or, if◌then◌else◌}
 use Rattle.std.specs.List.{list_any}
+use Rattle.sysmem_alloc.specs.Book.{BookFacts}
 use Rattle.sysmem_alloc.specs.Frozen.{FrozenFacts}
 use Rattle.sysmem_proof.specs.declared.verdict.Verdict.{Verdict}
 use Rattle.sysmem_proof.specs.declared.verdict.Verdict.TheVariants as verdicts
@@ -66,3 +67,8 @@ MayAnswer None known act r = IsUnforeseen known act r
 MayAnswer (Some q) None act DomainFailed = Unit {0}
 MayAnswer (Some q) None act NotSelected = Unit {0}
 MayAnswer (Some q) known act r = r ≡ q
+
+-- node i is a member by the verdict that its handle knows, and the book's decision left it out
+abbrev pub IsDisputed : BookFacts → List ℕ → Option Outcome → ℕ → Type 0
+IsDisputed b path None i = ⊥
+IsDisputed b path (Some o) i = (outcome_refusal o path ≡ None) × IfSome (slice_get b.state.tree.nodes i) (λ n. n.is_left_out ≡ true)

@@ -21,6 +21,7 @@ mod outcome;
 mod places;
 mod refusing;
 mod room;
+mod seen;
 mod verdicts;
 
 pub use agreeing::has_actions;
@@ -29,4 +30,5 @@ pub use log::Log;
 pub use outcome::{Outcome, Ruling};
 pub use refusing::{due, is_member};
 pub use room::{Entered, Opened, Room};
+pub use seen::Seen;
 pub use verdicts::has_verdict;

@@ -1,6 +1,6 @@
 //! What lies under a collection's lock.
 
-ghost use Rattle.std.specs.Prelude.{◌≡◌, ◌≢◌, ◌<◌, ◌≤◌, ◌+◌, ◌↔◌, ℕ, List, Ok, Err, Some, None, true, false, length, map, option_map, is_some, IfErr, IfOk, IfSome, IsTrue, OnErr, OnOk};
+ghost use Rattle.std.specs.Prelude.{◌≡◌, ◌≢◌, ◌<◌, ◌≤◌, ◌+◌, ◌↔◌, ℕ, List, Ok, Err, Some, None, true, false, length, option_map, is_some, IfErr, IfOk, IfSome, IsTrue, OnErr, OnOk};
 ghost use Rattle.std.specs.Arc.{arc_value};
 ghost use Rattle.sysmem_alloc.specs.Book.{entered, new_book};
 ghost use Rattle.sysmem_alloc.specs.Entry.{Acted, Decided};
@@ -11,7 +11,7 @@ ghost use Rattle.sysmem_room.specs.Agreeing.{IsAsKnown, IsOwn, book_log};
 ghost use Rattle.sysmem_room.specs.Counting.{actions_in, all_parts, nodes_by};
 ghost use Rattle.sysmem_room.specs.Lacking.{without_memory};
 ghost use Rattle.sysmem_room.specs.Log.{shown_by};
-ghost use Rattle.sysmem_room.specs.Refusals.{IsAnswer, due};
+ghost use Rattle.sysmem_room.specs.Refusals.{IsAnswer, IsDisputed, due};
 ghost use Rattle.sysmem_tree.specs.ActionKind.{deed_of, kind_of};
 ghost use Rattle.sysmem_tree.specs.Nodes.{HasNode};
 ghost use Rattle.sysmem_tree.specs.Table.{makes_root};
@@ -23,13 +23,14 @@ use crate::log::Log;
 use crate::outcome::{Outcome, Ruling};
 use crate::places::Places;
 use crate::refusing::{due, unforeseen};
+use crate::seen::Seen;
 use crate::verdicts::has_verdict;
 use once_cell::race::OnceBox;
 use std::alloc::{AllocError, Global};
 use std::marker::Model;
 use std::sync::Arc;
 use std::sync::ledger::{Blank, Book as Counted, Ledger, Share};
-use sysmem_alloc::laws::few_entries;
+use sysmem_alloc::laws::{few_entries, legal_agrees};
 use sysmem_alloc::{Book, Frozen};
 use sysmem_proof::Claim;
 use sysmem_sanitise::Platform;
@@ -137,6 +138,13 @@ impl<L: Ledger> Room<L> {
         ensures { result.now ≡ self.now }
     {
         &self.book
+    }
+
+    /// The book as it stands, for clauses alone.
+    pub fn seen(&self) -> Seen<L>
+        ensures { result ≡ self.now }
+    {
+        Seen::of(&self.book)
     }
 
     /// Enters an action, counts it in the share of who acts, and publishes the failures that it
@@ -247,7 +255,8 @@ impl<L: Ledger> Room<L> {
     /// verdict, as `enter` does. It is refused with `Strange` where the book has no node at the
     /// path that was made as the log says, other actions there than the log, or another verdict
     /// than the one that is known; else with what is due by what the handle knows; else with what
-    /// it can't foresee.
+    /// it can't foresee, or with `Strange` where the handle's verdict has its node as a member, and
+    /// the book left it out.
     pub fn act(
         &mut self,
         path: &[u32],
@@ -264,9 +273,9 @@ impl<L: Ledger> Room<L> {
             × (self.new ≡ entered self.old (Acted node (deed_of action)))) }
         ensures own { IfErr result (λ refusal. refusal ≢ Refusal.Strange → (node : ℕ)
             × IsOwn self.old path.now log.now (option_map (λ o. o.now) known.entry) node) }
-        ensures strange { IfErr result (λ refusal. refusal ≡ Refusal.Strange
-            → option_map (λ o. o.now) known.entry ≡ None → (node : ℕ)
-            → IsOwn self.old path.now log.now None node → ⊥) }
+        ensures strange { IfErr result (λ refusal. refusal ≡ Refusal.Strange → (node : ℕ)
+            → IsOwn self.old path.now log.now (option_map (λ o. o.now) known.entry) node
+            → IsDisputed self.old path.now (option_map (λ o. o.now) known.entry) node) }
         ensures unchanged { OnErr result (self.new ≡ self.old) }
         ensures foreseen { OnOk result (due (option_map (λ o. o.now) known.entry) path.now
             (shown_by log.now).state (kind_of (deed_of action)) ≡ None) }
@@ -288,6 +297,8 @@ impl<L: Ledger> Room<L> {
         if let Some(refusal) = due(known, path, log.state(), kind) {
             return Err(refusal);
         }
+        self.book.recall_legal();
+        legal_agrees();
         match self.enter(Event { node, action }, fresh, mine) {
             Ok(done) => Ok(done),
             Err(refusal) => Err(unforeseen(known, kind, refusal)),

@@ -5,7 +5,7 @@ ghost use Rattle.sysmem_room.specs.Counting.{all_parts};
 
 use crate::handles::asking::{CAMPS_ON_2, CAMPS_ON_3, allocator, asked};
 use crate::handles::equal::is_equal;
-use crate::handles::handling::{bound, child, closed, released, root, waits_for};
+use crate::handles::handling::{bound, child, closed, counted, released, root, waits_for};
 use std::alloc::Global;
 use std::marker::Brand;
 use std::process::Abort;
@@ -14,7 +14,7 @@ use std::sync::{Arc, Mutex, Wait};
 use std::test::Fail;
 use std::thread;
 use std::thread::Threads;
-use sysmem_participants::{Audit, AuditFault, Stub, Token, audit};
+use sysmem_participants::{Audit, AuditFault, Stub, Token};
 use sysmem_sanitise::Constraints;
 use sysmem_search::{Gate, NoGate};
 
@@ -96,7 +96,7 @@ fn play<L: Ledger + Send + Sync, R: Threads + Wait + Abort + Sync>(
     let second = Mutex::new(asked(alloc, CAMPS_ON_3)?);
     let root = root::<L, NoGate>(rt, &allocator, blank);
     let stubs = Vec::from_array(alloc, act(rt, root, &first, &second))?;
-    Ok(audit(rt, stubs))
+    Ok(counted(rt, stubs))
 }
 
 #[test]

@@ -6,7 +6,9 @@ ghost use Rattle.sysmem_room.specs.Counting.{all_parts};
 use crate::handles::actors::{emptied, take_part};
 use crate::handles::asking::{CAMPS_ON_2, CAMPS_ON_3, asked, platform};
 use crate::handles::equal::is_equal;
-use crate::handles::handling::{accepted, bound, child, closed, released, root, waits_for};
+use crate::handles::handling::{
+    accepted, bound, child, closed, counted, released, root, waits_for,
+};
 use std::alloc::Global;
 use std::marker::Brand;
 use std::process::Abort;
@@ -17,7 +19,7 @@ use std::test::Fail;
 use std::thread;
 use std::thread::Threads;
 use std::time::{Clock, Duration};
-use sysmem_participants::{Allocator, Audit, AuditFault, Collection, Stub, audit};
+use sysmem_participants::{Allocator, Audit, AuditFault, Collection, Stub};
 use sysmem_sanitise::Constraints;
 use sysmem_search::Gate;
 use sysmem_tree::Refusal;
@@ -138,7 +140,7 @@ fn hold<
     );
     emptied(rt, b);
     let stubs = [root, closed(rt, a), decided, attached];
-    Ok(audit(rt, Vec::from_array(alloc, stubs)?))
+    Ok(counted(rt, Vec::from_array(alloc, stubs)?))
 }
 
 // No search was held in vain.
@@ -220,7 +222,7 @@ fn choose<L: Ledger, G: Gate + Drop + Sync, R: Threads + Wait + Abort + Sync>(
     waits_for(rt, &mut a, 3);
     is_equal(rt, "check", &b.check().err(), &Some(Refusal::NotSelected));
     let stubs = [root, group, closed(rt, a), closed(rt, b)];
-    Ok(audit(rt, Vec::from_array(alloc, stubs)?))
+    Ok(counted(rt, Vec::from_array(alloc, stubs)?))
 }
 
 fn is_decided_by_two<R: Threads + Wait + Abort + Clock + Sync>(

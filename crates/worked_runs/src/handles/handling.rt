@@ -8,7 +8,7 @@ use std::process::Abort;
 use std::sync::ledger::{Blank, Ledger};
 use std::sync::{Arc, Wait};
 use std::thread::Threads;
-use sysmem_participants::{Allocator, Collection, Stub, Token, View};
+use sysmem_participants::{Allocator, Audit, AuditFault, Collection, Stub, Token, View, audit};
 use sysmem_proof::check;
 use sysmem_sanitise::Constraints;
 use sysmem_search::Gate;
@@ -89,6 +89,15 @@ pub(crate) fn closed<L: Ledger, G: Gate + Drop + Sync, R: Threads + Wait + Abort
     let (stub, refused) = collection.close(rt);
     is_equal(rt, "close", &refused, &None);
     stub
+}
+
+/// What an audit of the stubs counts.
+pub(crate) fn counted<L: Ledger>(
+    rt: &impl Wait,
+    stubs: Vec<Stub<L>>,
+) -> Result<Audit, AuditFault> {
+    let (found, _seen) = audit(rt, stubs)?;
+    Ok(found)
 }
 
 /// What is shown has this count, and the checker's yes.

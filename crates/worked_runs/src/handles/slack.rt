@@ -5,7 +5,7 @@ ghost use Rattle.sysmem_room.specs.Counting.{all_parts};
 
 use crate::handles::asking::{CAMPS_ON_2, CAMPS_ON_3, allocator, asked};
 use crate::handles::equal::is_equal;
-use crate::handles::handling::{bound, child, closed, released, root, waits_for};
+use crate::handles::handling::{bound, child, closed, counted, released, root, waits_for};
 use std::alloc::Global;
 use std::marker::Brand;
 use std::process::Abort;
@@ -13,7 +13,7 @@ use std::sync::ledger::{Blank, Ledger};
 use std::sync::{Arc, Wait};
 use std::test::Fail;
 use std::thread::Threads;
-use sysmem_participants::{Audit, AuditFault, Stub, Token, audit};
+use sysmem_participants::{Audit, AuditFault, Stub, Token};
 use sysmem_sanitise::Constraints;
 use sysmem_search::NoGate;
 use sysmem_tree::Refusal;
@@ -55,7 +55,7 @@ fn play<L: Ledger, R: Threads + Wait + Abort + Sync>(
     let root = root::<L, NoGate>(rt, &allocator, blank);
     let mut stubs = Vec::from_array(alloc, take_part(rt, root, first, second))?;
     stubs.truncate(kept);
-    Ok(audit(rt, stubs))
+    Ok(counted(rt, stubs))
 }
 
 fn is_audited<R: Threads + Wait + Abort + Sync>(

@@ -3,7 +3,7 @@ use Rattle.std.specs.Prelude.{IfErr}
 use Rattle.std.proofs.lemmas.Result.{err_from_is_err_and}
 use Rattle.sysmem_alloc.specs.Book.{BookFacts}
 use Rattle.sysmem_room.specs.Counting.{actions_in}
-use Rattle.sysmem_participants.specs.Audit.{AreFor, AreRead, IsAudited, IsFaultOf, IsFirstFault}
+use Rattle.sysmem_participants.specs.Audit.{AgreesWith, AreFor, AreRead, IsAudited, IsFaultOf, IsFirstFault}
 use Rattle.sysmem_participants.proofs.Entries.{sum_written}
 use Rattle.sysmem_participants.proofs.gathering.audited.Goals as goal
 
@@ -12,11 +12,13 @@ returns-clause-agree g c =
     let many : c.args.stubs.len ≡ length c.stubs_agree.new.stubs = omega (arith, c.stubs_agree.auto.stubs, c.deref_mut.ensures.len) in
     let read : AreRead c.args.stubs.items c.stubs_agree.new.stubs = search rules in
     let book : c.book-2.result.now ≡ c.args.room.now = search rules in
+    let found : AgreesWith c.args.room.now c.args.stubs.items c.in_ok-audit.audit =
     record {
       platform = search (rules, tests);
       counted = sym (sum_written c.args.stubs.len c.args.stubs.items c.stubs_agree.new.stubs many read) ∙ c.count.ensures.actions;
       audited = (c.stubs_agree.new.stubs, read, subst (λ (b : BookFacts). IsAudited b c.stubs_agree.new.stubs c.in_ok-audit.audit) book c.in_ok-audit.ensures.agree);
-    }
+    } in
+    subst (λ (b : BookFacts). AgreesWith b c.args.stubs.items c.in_ok-audit.audit) (sym c.seen-seen.ensures) found
 
 pub returns-clause-sum : goal.returns-clause-sum
 returns-clause-sum g c =
