@@ -13,8 +13,12 @@
 //! | `handles` | playing the calls through the handles of a new collection, and closing these |
 //! | `audited` | the same, and an audit of what is left |
 //! | `book` | applying the calls to a new book, without a decision |
-//! | `alone` | on one thread each of 126 participants of one collection, which are set, makes a call that is refused, since it is set |
-//! | `crowd` | the same on 16 threads |
+//! | `calls` | the calls of participants of a new collection, one for each `set_constraints` of the script (`taking.rt`) |
+//! | `applied` | the same calls on a new book |
+//! | `alone` | the calls of 126 participants of a new collection, on one thread (`crowding.rt`); how many nanoseconds they take is printed |
+//! | `crowd` | the same, shared out among 16 threads that begin together |
+//! | `refused_alone` | the same as `alone`, once, with so many calls more of each participant that are refused |
+//! | `refused_crowd` | the same on 16 threads |
 #![tactic(auto)]
 
 mod crowding;
@@ -25,23 +29,29 @@ mod playing;
 mod repeating;
 mod script;
 mod showing;
+mod taking;
+mod tokens;
 
 use anyhow::{Result, bail};
-use crowding::crowd_on;
+use crowding::{Crowd, crowd_on};
 use repeating::{repeat_book, repeat_handles};
-use script::{Asked, Played, all_stated};
+use script::{Played, all_stated};
 use script_reading::{Script, parse_script, read_script};
 use std::alloc::Global;
 use std::sync::{Arc, Wait};
 use std::thread::Threads;
+use std::time::Clock;
 use std::{env, fs};
-use sysmem_sanitise::Constraints;
+use sysmem_sanitise::{Constraints, Platform};
+use taking::{all_asked, apply_again, take_again};
 
 fn main(rt: HostRuntime) -> Result<()> {
     let mut words = env::args(&rt)?;
     let _program = words.next();
     let Some(file) = words.next() else {
-        bail!("usage: played_handles FILE [handles|audited|book|alone|crowd TIMES]");
+        bail!(
+            "usage: played_handles FILE [handles|audited|book|calls|applied|alone|crowd|refused_alone|refused_crowd TIMES]"
+        );
     };
     let bytes = fs::read(&rt, &file)?;
     let Ok(value) = parse_script(rt.alloc(), &bytes) else {
@@ -51,7 +61,7 @@ fn main(rt: HostRuntime) -> Result<()> {
         bail!("the script is refused");
     };
     if let (Some(job), Some(times)) = (words.next(), words.next()) {
-        return repeat(&rt, rt.alloc(), script, &job, times.parse::<u32>()?);
+        return repeat(&rt, &rt, script, &job, times.parse::<u32>()?);
     }
     let mut played = Played::new(rt.alloc(), script)?;
     played.play(&rt)?;
@@ -61,31 +71,56 @@ fn main(rt: HostRuntime) -> Result<()> {
 }
 
 /// Does the job of this name so many times.
-fn repeat<R: Threads + Wait + Sync>(
+fn repeat<R: Threads + Wait + Clock + Sync>(
+    host: &HostRuntime,
     rt: &R,
-    alloc: Global,
     script: Script<'_>,
     job: &str,
     times: u32,
 ) -> Result<()> {
+    let alloc = host.alloc();
     let Script { platform, calls } = script;
     let asked = all_stated(alloc, &calls)?;
     match job {
-        "handles" => repeat_handles(rt, alloc, platform, &calls, &asked, false, times),
-        "audited" => repeat_handles(rt, alloc, platform, &calls, &asked, true, times),
-        "book" => repeat_book(alloc, &platform, &calls, &asked, times),
-        "alone" => crowd_on(rt, alloc, platform, first_of(&asked)?, 1, times),
-        "crowd" => crowd_on(rt, alloc, platform, first_of(&asked)?, 16, times),
-        _ => bail!("{job:?} is no job"),
+        "handles" => return repeat_handles(rt, alloc, platform, &calls, &asked, false, times),
+        "audited" => return repeat_handles(rt, alloc, platform, &calls, &asked, true, times),
+        "book" => return repeat_book(alloc, &platform, &calls, &asked, times),
+        _ => {}
     }
+    let asked = all_asked(alloc, asked)?;
+    match job {
+        "calls" => return take_again(rt, alloc, platform, &asked, times),
+        "applied" => return apply_again(alloc, &platform, &asked, times),
+        _ => {}
+    }
+    let nanos = crowd(rt, alloc, platform, &asked, job, times)?;
+    println!(host; "{nanos}")?;
+    Ok(())
 }
 
-/// What the first asks for who asks for anything.
-fn first_of(asked: &[Asked]) -> Result<&Arc<Constraints>> {
-    for asked in asked {
-        if let Ok(Some(shared)) = asked {
-            return Ok(shared);
-        }
-    }
-    bail!("nobody asks for anything")
+/// How many nanoseconds the calls of 126 participants take, who ask for what the first asks for.
+fn crowd<R: Threads + Wait + Clock + Sync>(
+    rt: &R,
+    alloc: Global,
+    platform: Platform,
+    asked: &[Arc<Constraints>],
+    job: &str,
+    times: u32,
+) -> Result<u64> {
+    let Some(asked) = asked.first() else {
+        bail!("nobody asks for anything");
+    };
+    let (threads, collections, refused) = match job {
+        "alone" => (1, times, 0),
+        "crowd" => (16, times, 0),
+        "refused_alone" => (1, 1, times),
+        "refused_crowd" => (16, 1, times),
+        _ => bail!("{job:?} is no job"),
+    };
+    let crowd = Crowd {
+        asked,
+        threads,
+        refused,
+    };
+    crowd_on(rt, alloc, platform, &crowd, collections)
 }

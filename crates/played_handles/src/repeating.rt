@@ -64,6 +64,7 @@ fn play_once<L: Ledger, R: Threads + Wait + Sync>(
         bail!("memory is refused to a collection");
     };
     let mut hands = Vec::new(alloc);
+    let _room = hands.reserve(129);
     keep(rt, &mut hands, Hand::Token(root));
     for (call, asked) in calls.iter().zip(asked) {
         let _reply = make(rt, &mut hands, call, asked);

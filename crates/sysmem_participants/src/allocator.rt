@@ -70,8 +70,9 @@ fn opened<L: Ledger, G: Gate + Drop + Sync>(
 
 impl<G: Gate + Drop + Sync> Allocator<G> {
     /// For this platform; each decision of its collections tells this gate of its search. Two
-    /// workers share a search of 2,048 selections or more, which can take longer than a thread
-    /// costs; a shorter one is done by one. `AllocError` where memory is refused.
+    /// workers share a search that can take half a millisecond, by its selections and the
+    /// platform's offers; a shorter one, for which a thread costs more than it saves, is done by
+    /// one. `AllocError` where memory is refused.
     pub fn new(alloc: Global, platform: Platform, gate: G) -> Result<Allocator<G>, AllocError>
         ensures { IfOk result (λ allocator. allocator ≡ platform) }
     {

@@ -16,8 +16,20 @@ use sysmem_proof::Claim;
 use sysmem_room::Seen;
 use sysmem_search::{Gate, prove, search_wide};
 
-/// From so many selections on, a search can take so long that a second worker is worth its thread.
-const MANY_SELECTIONS: u64 = 2048;
+/// From so many nanoseconds on, a search is long enough for a second worker to be worth its thread.
+const LONG: u64 = 500_000;
+
+/// How many nanoseconds a search may take where it visits all prefixes, roughly: a visit takes
+/// longer where the platform has more offers.
+fn longest_search(frozen: &Frozen) -> u64 {
+    let platform = frozen.platform();
+    let offers = platform
+        .pairs()
+        .len()
+        .saturating_mul(platform.colours().len());
+    let selections = frozen.tree().count_selections(frozen.domain());
+    selections.saturating_mul((offers as u64).saturating_add(64))
+}
 
 /// How many workers search what was frozen.
 fn workers_for<G: Gate + Drop>(rules: &Rules<G>, frozen: &Frozen) -> u32
@@ -27,8 +39,7 @@ fn workers_for<G: Gate + Drop>(rules: &Rules<G>, frozen: &Frozen) -> u32
     if let Some(workers) = rules.workers {
         return workers;
     }
-    let selections = frozen.tree().count_selections(frozen.domain());
-    if selections >= MANY_SELECTIONS { 2 } else { 1 }
+    if longest_search(frozen) >= LONG { 2 } else { 1 }
 }
 
 /// A true claim of what was frozen, for the book and for the cell.

@@ -1,6 +1,6 @@
 use Rattle.std.proofs.Common.{length}
 use Rattle.played_handles.proofs.crowding.close_all.Given as goal
 
--- each turn closes one
-abbrev pub decreases-loop-token : goal.decreases-loop-token
-decreases-loop-token g l = length l.tokens.items
+-- each turn empties one
+abbrev pub decreases-loop-slot : goal.decreases-loop-slot
+decreases-loop-slot g l = length l.slots.items

@@ -1,4 +1,4 @@
 use Rattle.played_handles.proofs.crowding.crowd_on.Given as goal
 
-abbrev pub ghosts-crowd : goal.ghosts-crowd
-ghosts-crowd g a = record { name = a.blank.name; parts = a.blank.parts }
+abbrev pub ghosts-gather : goal.ghosts-gather
+ghosts-gather g a = record { name = a.blank.name; parts = a.blank.parts }
