@@ -17,3 +17,7 @@ so-more P xs i x within is holds = subst P (sym (take_more xs i x within ∙ ap 
 -- what holds of all, of as many as there are or more
 pub so-all : {X : Type 0} (P : List X → Type 0) (xs : List X) (i : ℕ) → length xs ≤ i → P xs → P (take (i + 1) xs)
 so-all P xs i over holds = subst P (sym (take_all (i + 1) xs (omega (arith, over)))) holds
+
+-- all, where there are as many or fewer
+pub all-up-to : {X : Type 0} (xs : List X) (i : ℕ) → length xs ≤ i → xs ≡ take (i + 1) xs
+all-up-to xs i over = sym (take_all (i + 1) xs (omega (arith, over)))
