@@ -52,6 +52,9 @@ pub(crate) fn put_change(object: &mut Object, text: &str) -> Result<(), AllocErr
     if let Some((entry, _)) = value.split_once(" too,") {
         return put_done(object, "add_entry", field, entry);
     }
+    if let Some(item) = value.strip_prefix("without ") {
+        return put_done(object, "remove", field, item);
+    }
     put_done(object, "set", field, value)?;
     put_was(object, was)
 }

@@ -1,8 +1,7 @@
 -- Where a list of participants has no settings any more, and why.
-use Rattle.std.specs.Prelude.{◌≡◌, ◌≢◌, ℕ, ◌+◌, ◌<◌, ◌⊎◌, Bool, true, false, List, [], All, Any, length, take, drop, Option, Some, None, IfSome, IsSomeAnd, option_map, slice_get}
+use Rattle.std.specs.Prelude.{◌≡◌, ℕ, ◌+◌, ◌<◌, ◌⊎◌, Bool, true, false, List, length, take, drop, Option, Some, None, IfSome, IsSomeAnd, option_map, slice_get}
 use Rattle.std.specs.Option.{unwrap_or}
 use Rattle.sysmem_counts.specs.declared.field.Field.{Field}
-use Rattle.sysmem_counts.specs.declared.field.Field.TheVariants.{PixelFormat, PixelFormatModifier}
 use Rattle.sysmem_formats.specs.declared.offer.Offer.{Offer}
 use Rattle.sysmem_memory.specs.Heap.{HeapFacts}
 use Rattle.sysmem_memory.specs.PlaceTable.{refuses_by}
@@ -17,7 +16,7 @@ use Rattle.sysmem_merge.specs.declared.settings.Settings.{Settings}
 use Rattle.sysmem_sanitise.specs.Participant.{Participant}
 use Rattle.sysmem_sanitise.specs.Platform.{PlatformFacts}
 use Rattle.flat_negotiation.specs.Own.{IsOwnOffer, or_else}
-use Rattle.flat_negotiation.specs.Takes.{TakeFormat}
+use Rattle.flat_negotiation.specs.Takes.{take_format, told_line}
 use Rattle.flat_negotiation.specs.declared.unsettled.Refusal.{Refusal}
 use Rattle.flat_negotiation.specs.declared.unsettled.Stop.{Stop}
 
@@ -62,16 +61,11 @@ pub record IsPlaceField (platform : PlatformFacts) (p : Participant) (s : Settin
   pub has : slice_get platform.heaps s.place.heap ≡ Some heap
   pub refuses : refuses_by field p.memory p.usage heap s.place.coherency ≡ true
 
--- the field that is told of a line: the modifier's, where all take the offer's format in some modifier
-abbrev pub IsLineTold : Offer → List Participant → Field → Field → Type 0
-IsLineTold o ps line field = ((line ≡ PixelFormat) × TakeFormat o ps × (field ≡ PixelFormatModifier))
-    ⊎ ((¬ ((line ≡ PixelFormat) × TakeFormat o ps)) × (field ≡ line))
-
 -- the field is told of the first line that is true of them for the offer
 pub record IsOfferField (whole : Bool) (ps : List Participant) (o : Offer) (field : Field) : Type 0 where
   pub line : Field
   pub first : IsFirstOf (IsRefusingLine whole o (offer_demands ps)) offer_lines line
-  pub told : IsLineTold o ps line field
+  pub told : field ≡ told_line (take_format o ps) line
 
 -- the offer that those before share
 abbrev pub shared_offer : Stop → Option Offer

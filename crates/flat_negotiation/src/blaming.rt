@@ -3,7 +3,8 @@
 ghost use Rattle.std.specs.Prelude.{◌≡◌, ◌≤◌, length, take, drop, Some, IfNone, IfSome, IsSomeAnd};
 ghost use Rattle.sysmem_merge.specs.Demands.{offer_demands};
 ghost use Rattle.sysmem_merge.specs.OfferRead.{IsOfferRead};
-ghost use Rattle.flat_negotiation.specs.Blame.{IsFieldOf, IsLineTold, IsOfferField, IsPlaceField, IsToldOffer, alone, shared_offer, told_of, told_reason, up_to};
+ghost use Rattle.flat_negotiation.specs.Takes.{take_format, told_line};
+ghost use Rattle.flat_negotiation.specs.Blame.{IsFieldOf, IsOfferField, IsPlaceField, IsToldOffer, alone, shared_offer, told_of, told_reason, up_to};
 
 use crate::taking::{or_else, own_offer, take_format};
 use crate::unsettled::{Refusal, Stop};
@@ -70,13 +71,12 @@ fn place_field(platform: &Platform, asked: &Constraints, settings: &Settings) ->
 }
 
 /// The field that is told of a line.
-fn line_told(line: Field, offer: &Offer, asked: &[Constraints]) -> Field
-    ensures { IsLineTold offer.now asked.now line result }
+fn line_told(line: Field, takes_format: bool) -> Field
+    ensures { result ≡ told_line takes_format line }
 {
-    if line == Field::PixelFormat && take_format(offer, asked) {
-        Field::PixelFormatModifier
-    } else {
-        line
+    match line {
+        Field::PixelFormat if takes_format => Field::PixelFormatModifier,
+        _ => line,
     }
 }
 
@@ -85,7 +85,7 @@ fn offer_field(offer: &Offer, asked: &[Constraints], whole: bool) -> Option<Fiel
     ensures { IfSome result (IsOfferField whole asked.now offer.now) }
 {
     let line = read_of(offer, asked).first_line(whole)?;
-    Some(line_told(line, offer, asked))
+    Some(line_told(line, take_format(offer, asked)))
 }
 
 fn shared_offer(stop: &Stop) -> Option<Offer>

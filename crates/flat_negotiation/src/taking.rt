@@ -1,9 +1,10 @@
 //! Which images participants take, but for their bounds.
 
-ghost use Rattle.std.specs.Prelude.{◌≡◌, ◌↔◌, All, IsTrue};
+ghost use Rattle.std.specs.Prelude.{◌≡◌, ◌↔◌, find, option_map, IsTrue};
+ghost use Rattle.std.specs.Option.{option_copied};
 ghost use Rattle.flat_negotiation.specs.Nearness.{Take};
 ghost use Rattle.flat_negotiation.specs.Own.{IsFirstColour, IsFirstImage, IsOwnOffer, or_else};
-ghost use Rattle.flat_negotiation.specs.Takes.{IsForFormat, TakeFormat, TakesFormat};
+ghost use Rattle.flat_negotiation.specs.Takes.{is_for_format, lacks_format, take_format};
 
 use crate::blaming::read_of;
 use sysmem_counts::Field;
@@ -12,47 +13,43 @@ use sysmem_image::Entry;
 use sysmem_sanitise::{Constraints, Platform};
 
 fn is_for_format(format: PixelFormat, entry: &Entry) -> bool
-    ensures { IsTrue result ↔ IsForFormat format entry.now }
+    ensures { result ≡ is_for_format format entry.now }
 {
     match entry.format {
         None => true,
-        Some(own) => own == format,
+        Some(own) => own as u32 == format as u32,
     }
 }
 
-/// Whether a participant takes a format, in some modifier.
-fn takes_format(format: PixelFormat, asked: &Constraints) -> bool
-    ensures { IsTrue result ↔ TakesFormat format asked.now }
+/// The first entry for a format, in some modifier.
+fn entry_for_format<'a>(format: PixelFormat, entries: &'a [Entry]) -> Option<&'a Entry>
+    ensures { option_copied result ≡ find (is_for_format format) entries.now }
 {
-    if asked.entries().is_empty() {
-        return true;
-    }
-    for entry in asked.entries() {
-        if is_for_format(format, entry) {
-            return true;
-        }
-    }
-    false
+    entries.iter().find(|entry| is_for_format(format, entry))
 }
 
-fn all_take(format: PixelFormat, asked: &[Constraints]) -> bool
-    ensures { IsTrue result ↔ All (TakesFormat format) asked.now }
+/// Whether a participant has entries, and none for a format.
+fn lacks_format(format: PixelFormat, asked: &Constraints) -> bool
+    ensures { result ≡ lacks_format format asked.now }
 {
-    for one in asked {
-        if !takes_format(format, one) {
-            return false;
-        }
-    }
-    true
+    let entries = asked.entries();
+    !entries.is_empty() && entry_for_format(format, entries).is_none()
+}
+
+/// The first who lacks a format.
+fn first_lacking(format: PixelFormat, asked: &[Constraints]) -> Option<&Constraints>
+    ensures { option_map (λ one. one.now) result ≡ find (lacks_format format) asked.now }
+{
+    asked.iter().find(|one| lacks_format(format, one))
 }
 
 /// Whether all take the format of an image, in some modifier.
 pub(crate) fn take_format(offer: &Offer, asked: &[Constraints]) -> bool
-    ensures { IsTrue result ↔ TakeFormat offer.now asked.now }
+    ensures { result ≡ take_format offer.now asked.now }
 {
     match offer {
         Offer::NoImage => false,
-        Offer::Image(pair, _) => all_take(pair.format, asked),
+        Offer::Image(pair, _) => first_lacking(pair.format, asked).is_none(),
     }
 }
 
@@ -89,21 +86,28 @@ fn first_colour(
 ) -> Option<ColourSpace>
     ensures { IsFirstColour (Take near asked.now pair) colours.now result }
 {
-    for colour in colours {
-        if take(near, asked, pair, *colour) {
-            return Some(*colour);
+    for index in 0..colours.len() {
+        let colour = colours[index];
+        if take(near, asked, pair, colour) {
+            return Some(colour);
         }
     }
     None
 }
 
-/// The first image of the platform to which they come so near.
-fn first_image(near: Nearness, platform: &Platform, asked: &[Constraints]) -> Option<Offer>
-    ensures { IsFirstImage platform.now (Take near asked.now) result }
+/// The first image of some pairs in some colour spaces to which they come so near.
+fn first_image(
+    near: Nearness,
+    pairs: &[Pair],
+    colours: &[ColourSpace],
+    asked: &[Constraints],
+) -> Option<Offer>
+    ensures { IsFirstImage pairs.now colours.now (Take near asked.now) result }
 {
-    for pair in platform.pairs() {
-        if let Some(colour) = first_colour(near, platform.colours(), asked, *pair) {
-            return Some(Offer::Image(*pair, colour));
+    for index in 0..pairs.len() {
+        let pair = pairs[index];
+        if let Some(colour) = first_colour(near, colours, asked, pair) {
+            return Some(Offer::Image(pair, colour));
         }
     }
     None
@@ -122,8 +126,9 @@ pub(crate) fn or_else(first: Option<Offer>, other: Option<Offer>) -> Option<Offe
 pub(crate) fn own_offer(platform: &Platform, asked: &[Constraints]) -> Option<Offer>
     ensures { IsOwnOffer platform.now asked.now result }
 {
-    let whole = first_image(Nearness::Whole, platform, asked);
-    let pair = first_image(Nearness::InPair, platform, asked);
-    let format = first_image(Nearness::InFormat, platform, asked);
+    let (pairs, colours) = (platform.pairs(), platform.colours());
+    let whole = first_image(Nearness::Whole, pairs, colours, asked);
+    let pair = first_image(Nearness::InPair, pairs, colours, asked);
+    let format = first_image(Nearness::InFormat, pairs, colours, asked);
     or_else(whole, or_else(pair, format))
 }
