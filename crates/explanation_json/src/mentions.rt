@@ -19,6 +19,8 @@ pub(crate) struct Mentions {
     fields: Vec<Field>,
     formats: Vec<PixelFormat>,
     modifiers: Vec<Modifier>,
+    /// The number of a call, unless the next word tells that it counts others.
+    held: Option<usize>,
 }
 
 /// What the words before say of the next.
@@ -43,11 +45,13 @@ pub(crate) fn mentions_in(
         fields: Vec::new(alloc),
         formats: Vec::new(alloc),
         modifiers: Vec::new(alloc),
+        held: None,
     };
     let mut before = Before::Nothing;
     for part in text.split(' ') {
         before = mentions.read(scene, before, part)?;
     }
+    mentions.settle("")?;
     Ok(mentions)
 }
 
@@ -79,6 +83,7 @@ impl Mentions {
         part: &str,
     ) -> Result<Before, AllocError> {
         let word = bare(part);
+        self.settle(word)?;
         if before == Before::Actor {
             return Ok(if part.contains(')') {
                 Before::Nothing
@@ -95,7 +100,7 @@ impl Mentions {
         match word.parse::<usize>() {
             Ok(number) if before == Before::Calls => {
                 if 0 < number && number <= scene.calls() {
-                    add(&mut self.calls, number)?;
+                    self.held = Some(number);
                 }
                 Ok(before)
             }
@@ -103,6 +108,16 @@ impl Mentions {
                 self.take(scene, word)?;
                 Ok(Before::Nothing)
             }
+        }
+    }
+
+    /// Adds the call that is held, unless the word after its number is `more`.
+    fn settle(&mut self, word: &str) -> Result<(), AllocError> {
+        let held = self.held;
+        self.held = None;
+        match held {
+            Some(number) if word != "more" => add(&mut self.calls, number),
+            _ => Ok(()),
         }
     }
 

@@ -51,6 +51,7 @@ impl Object {
     }
 
     /// The line of the object with a text at the key `text`.
+    #[tactic(auto, using(crate::proofs::More::line_said))]
     pub(crate) fn into_line(self, text: &str) -> Result<String, AllocError>
         ensures { IfOk result (λ line. IsLineOf text.now (string_bytes line)) }
     {
@@ -58,19 +59,23 @@ impl Object {
         let mut members = self.members;
         let value = Value::try_from_str(alloc, text)?;
         put(&mut members, alloc, "text", value)?;
-        line_of(alloc, members)
+        let line = line_of(alloc, members)?;
+        Ok(line)
     }
 
     /// The line of the object.
+    #[tactic(auto, using(crate::proofs::More::line_some))]
     pub(crate) fn into_end(self) -> Result<String, AllocError>
         ensures { IfOk result (λ line. IsObjectLine (string_bytes line)) }
     {
         let alloc = self.alloc;
-        line_of(alloc, self.members)
+        let line = line_of(alloc, self.members)?;
+        Ok(line)
     }
 }
 
 /// The line of an object with these members.
+#[tactic(auto, using(crate::proofs::More::line_made))]
 fn line_of(alloc: Global, members: Map<String, Value>) -> Result<String, AllocError>
     ensures { IfOk result (λ line. IsLine (members_view members.entries) (string_bytes line)) }
 {

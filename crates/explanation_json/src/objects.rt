@@ -75,6 +75,7 @@ fn played_objects<'a>(
 }
 
 /// The same, of which this is known.
+#[tactic(auto, using(crate::proofs::More::told_by))]
 fn told_objects(
     alloc: Global,
     scene: Scene<'_, '_>,
@@ -90,6 +91,7 @@ fn told_objects(
 }
 
 /// A line for each item.
+#[tactic(auto, using(crate::proofs::More::line_more))]
 fn lines_of(alloc: Global, scene: Scene<'_, '_>, items: &[Item]) -> Result<String, AllocError>
     ensures { IfOk result (λ text. AreLinesOf (item_texts items.now) (string_bytes text)) }
 {

@@ -21,7 +21,7 @@ pub(crate) struct Scene<'a, 'b> {
     pub(crate) played: Option<Played<'a, 'b>>,
 }
 
-impl<'a> Scene<'a, '_> {
+impl Scene<'_, '_> {
     /// The node of a name, by number.
     pub(crate) fn node_named(&self, name: &str) -> Option<usize> {
         self.played?
@@ -53,14 +53,6 @@ impl<'a> Scene<'a, '_> {
         match self.played {
             Some(played) => refused_calls(played.story),
             None => 0,
-        }
-    }
-
-    /// The name of a node.
-    pub(crate) fn name(&self, node: usize) -> &'a str {
-        match self.played {
-            Some(played) => played.story.name(node),
-            None => "",
         }
     }
 

@@ -38,7 +38,8 @@ impl<'a, 'b> Telling<'a, 'b> {
         ensures { IfOk result (λ line. IsLineOf (string_bytes item.now.text) (string_bytes line)) }
     {
         let object = self.object(item)?;
-        object.into_line(&item.text)
+        let line = object.into_line(&item.text)?;
+        Ok(line)
     }
 
     /// What the line says beside the text.

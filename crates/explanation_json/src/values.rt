@@ -17,7 +17,7 @@ pub(crate) fn number_value(alloc: Global, number: u64) -> Result<Value, AllocErr
 
 /// How many, or a place in a list.
 pub(crate) fn count_value(count: usize) -> Value {
-    Value::from(count as u64)
+    Value::from(count)
 }
 
 /// The value that words spell: a number, width and height as `1920x1080`, true or false; else a text.

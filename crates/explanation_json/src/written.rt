@@ -7,7 +7,7 @@ ghost use Rattle.explanation_json.specs.Endings.{Tells};
 ghost use Rattle.explanation_json.specs.Lines.{IsToldBy, item_texts};
 
 use crate::objects::objects_of;
-use byte_transfer::{Counted, Sink, Source, read_up_to_limit, write_fully};
+use byte_transfer::{Counted, ReadFault, Sink, Source, read_up_to_limit, write_fully};
 use explain::{Explanation, Outcome, explain};
 use explanation_page::explain_to_page;
 use script_reading::LONGEST;
@@ -19,6 +19,7 @@ use std::alloc::{AllocError, Global};
 ///
 /// Any failure of the reader is the fault `Read`, and any of the writer the fault `Write`; what was written then is a prefix of the objects. A script
 /// that is refused is explained, and no fault.
+#[tactic(auto, using(crate::proofs::Ends::tells_unread, crate::proofs::Ends::tells_unmade, crate::proofs::Ends::tells_part, crate::proofs::Ends::tells_done))]
 pub fn explain_as_json<R: Source, W: Sink>(
     alloc: Global,
     file: &str,
@@ -31,12 +32,18 @@ pub fn explain_as_json<R: Source, W: Sink>(
     ensures write_fault { IsCausedBy (result ≡ Err RunFault.Write)
         (W.failures writer.old) (W.failures writer.new) }
 {
-    let bytes = read_up_to_limit(alloc, reader, LONGEST)?;
+    let bytes = match read_up_to_limit(alloc, reader, LONGEST) {
+        Ok(bytes) => bytes,
+        Err(ReadFault::Failed) => return Err(RunFault::Read),
+        Err(ReadFault::NoMemory) => return Err(RunFault::NoMemory),
+    };
     let Ok(told) = told_of(alloc, file, &bytes) else {
         return Err(RunFault::NoMemory);
     };
-    write_fully(writer, told.objects.as_bytes())?;
-    Ok(told.explanation.outcome)
+    match write_fully(writer, told.objects.as_bytes()) {
+        Ok(()) => Ok(told.explanation.outcome),
+        Err(_) => Err(RunFault::Write),
+    }
 }
 
 /// The same, which then writes the page of the explanation. It is made before anything is written: where memory is refused to it, nothing is.
