@@ -3,7 +3,9 @@
 out by hand. The last line is 'N passed, M failed'."""
 import ctypes
 import json
+import os
 import random
+import re
 import sys
 
 lib = ctypes.CDLL(sys.argv[1])
@@ -342,11 +344,21 @@ def misused():
     yield told(on, [video], 1, settings, before)
 
 
+def numbered():
+    """Whether each field's number in the installed header has its name, and no further number has one."""
+    header = os.path.join(os.path.dirname(sys.argv[1]), "..", "include", "mezulobu.h")
+    with open(header, encoding="utf-8") as file:
+        fields = {int(number): name.lower() for name, number in re.findall(r"MEZULOBU_FIELD_(\w+) = (\d+)", file.read())}
+    told = {number: lib.mezulobu_field_name(number).decode() for number in range(len(fields) + 2)}
+    return told == fields | {0: "?", len(fields): "?", len(fields) + 1: "?"}
+
+
 def tries():
     for name, platform, flats, wanted, why in rows():
         status, _, r = negotiate(platform, flats)
         is_so = status == wanted and (r.kind, r.who, r.index, lib.mezulobu_field_name(r.field).decode(), r.alone) == (*why, 0)[:5]
         yield name, is_so, (status, r.kind, r.who, r.index, lib.mezulobu_field_name(r.field), r.alone)
+    yield "numbers of fields", numbered(), ""
     statuses = list(misused())
     yield "what is misused", all(status == MISUSED and said == wanted for status, said, wanted in statuses), statuses
     for seed in range(LISTS):
