@@ -5,7 +5,7 @@ use Rattle.std.proofs.lemmas.List.{map-append, take_more}
 use Rattle.serde_json.specs.Data.{Data, Members, object, put, string}
 use Rattle.serde_json.specs.Written.{IsInOrder}
 use Rattle.explanation_text.specs.declared.items.Item.{Item}
-use Rattle.explanation_json.specs.Lines.{AreLinesOf, IsLine, IsLineOf, IsObjectLine, IsToldBy, item_texts, one_more}
+use Rattle.explanation_json.specs.Lines.{AreLinesOf, IsLine, IsLineOf, IsObjectLine, IsToldBy, item_texts, no_line, one_more}
 
 -- the text of an object, and a newline
 pub line_made : (members : Members) (text line : List ℕ) → IsInOrder text (object members) → line ≡ text ++ codes "\n" → IsLine members line
@@ -34,3 +34,7 @@ pub line_more : (items : List Item) (i : ℕ) (item : Item) (lines line after : 
 line_more items i item lines line after within is before told grown =
     subst (λ l. AreLinesOf l after) (said-more items i item within is)
     (subst (λ l. AreLinesOf (item_texts (take i items) ++ string_bytes item.text ∷ []) l) (sym grown) (one_more (item_texts (take i items)) (string_bytes item.text) lines line before told))
+
+-- no item, and no line
+pub no_line_yet : (items : List Item) (text : List ℕ) → text ≡ [] → AreLinesOf (item_texts (take 0 items)) text
+no_line_yet items text empty = subst (λ l. AreLinesOf [] l) (sym empty) no_line

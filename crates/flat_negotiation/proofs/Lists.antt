@@ -1,5 +1,5 @@
 -- Lists that are made item by item.
-use Rattle.std.proofs.Common.{◌≡◌, ℕ, ◌+◌, ◌<◌, ◌≤◌, List, [], ◌∷◌, ◌++◌, length, get_or, take, sym, ap, ◌∙◌, subst, arith, below_more, Option, Some, slice_get}
+use Rattle.std.proofs.Common.{◌≡◌, ℕ, ◌+◌, ◌<◌, ◌≤◌, List, [], ◌∷◌, ◌++◌, length, get_or, take, sym, ap, ◌∙◌, subst, arith, below_more, Option, Some, slice_get, inl, inr}
 use Rattle.std.specs.List.{AllZip}
 use Rattle.flat_negotiation.specs.Own.{HoldsNowhere, IsFirstAt}
 use Rattle.std.proofs.lemmas.List.{take_more, take_all}

@@ -9,6 +9,6 @@ use Rattle.flat_negotiation.specs.declared.taking.Nearness.TheVariants as near
 
 -- they come so near to an image
 abbrev pub Take : Nearness → List Participant → Pair → ColourSpace → Type 0
-Take near.Whole ps pair colour = TakeImage ps pair colour
-Take near.InPair ps pair colour = TakePair ps pair colour
-Take near.InFormat ps pair colour = TakeItsFormat ps pair colour
+Take near.Whole = λ ps pair colour. TakeImage ps pair colour
+Take near.InPair = λ ps pair colour. TakePair ps pair colour
+Take near.InFormat = λ ps pair colour. TakeItsFormat ps pair colour

@@ -59,9 +59,9 @@ or_else None other = other
 -- format they take; or none
 pub record IsOwnOffer (platform : PlatformFacts) (ps : List Participant) (own : Option Offer) : Type 0 where
   pub whole : Option Offer
-  pub whole_is : IsFirstImage platform.pairs platform.colours (TakeImage ps) whole
+  pub whole_is : IsFirstImage platform.pairs platform.colours (λ pair colour. TakeImage ps pair colour) whole
   pub pair : Option Offer
-  pub pair_is : IsFirstImage platform.pairs platform.colours (TakePair ps) pair
+  pub pair_is : IsFirstImage platform.pairs platform.colours (λ pair colour. TakePair ps pair colour) pair
   pub format : Option Offer
-  pub format_is : IsFirstImage platform.pairs platform.colours (TakeItsFormat ps) format
+  pub format_is : IsFirstImage platform.pairs platform.colours (λ pair colour. TakeItsFormat ps pair colour) format
   pub nearest : own ≡ or_else whole (or_else pair format)

@@ -87,9 +87,9 @@ fn first_colour(
     ensures { IsFirstColour (Take near asked.now pair) colours.now result }
 {
     for index in 0..colours.len() {
-        let colour = colours[index];
-        if take(near, asked, pair, colour) {
-            return Some(colour);
+        let colour = &colours[index];
+        if take(near, asked, pair, *colour) {
+            return Some(*colour);
         }
     }
     None
@@ -105,9 +105,9 @@ fn first_image(
     ensures { IsFirstImage pairs.now colours.now (Take near asked.now) result }
 {
     for index in 0..pairs.len() {
-        let pair = pairs[index];
-        if let Some(colour) = first_colour(near, colours, asked, pair) {
-            return Some(Offer::Image(pair, colour));
+        let pair = &pairs[index];
+        if let Some(colour) = first_colour(near, colours, asked, *pair) {
+            return Some(Offer::Image(*pair, colour));
         }
     }
     None

@@ -1,5 +1,5 @@
 -- What is kept of one alone stands for it.
-use Rattle.std.proofs.Common.{subst, false}
+use Rattle.std.proofs.Common.{subst, false, inr}
 use Rattle.sysmem_merge.specs.Best.{IsBest, IsUnmet}
 use Rattle.sysmem_merge.specs.Reasons.{IsFirstReason}
 use Rattle.flat_negotiation.proofs.settling.lone_reason.Goals as goal
