@@ -42,6 +42,7 @@ built-test:
 	tests/handles
 	tests/threads
 	tests/explanations
+	tests/json_explanations
 	@$(MAKE) --no-print-directory lib-test
 
 # The library for C, C++ and Python, proved, as an archive and as a shared object, in out/. It needs a C compiler and binutils.

@@ -7,7 +7,7 @@ uint32_t mezulobu_rt_run(const uint8_t *, size_t, uint8_t *, size_t, size_t *);
 uint32_t mezulobu_rt_run_with_proof(const uint8_t *, size_t, uint8_t *, size_t, size_t *, uint8_t *, size_t, size_t *);
 uint32_t mezulobu_rt_check(const uint8_t *, size_t, const uint8_t *, size_t, uint8_t *, size_t, size_t *);
 uint32_t mezulobu_rt_check_status(const uint8_t *, size_t, const uint8_t *, size_t);
-uint32_t mezulobu_rt_explain(const uint8_t *, size_t, const uint8_t *, size_t, bool, uint8_t *, size_t, size_t *);
+uint32_t mezulobu_rt_explain(const uint8_t *, size_t, const uint8_t *, size_t, bool, bool, uint8_t *, size_t, size_t *);
 uint32_t mezulobu_rt_planes(uint32_t, uint64_t, uint32_t, uint32_t, struct mezulobu_layout *);
 uint32_t mezulobu_rt_negotiate(const struct mezulobu_platform *, const struct mezulobu_participant *, size_t,
                                struct mezulobu_settings *, struct mezulobu_refusal *);
@@ -48,7 +48,8 @@ int mezulobu_check(const void *script, size_t script_size, const void *certifica
     return (int)mezulobu_rt_check(in, script_size, proof, certificate_size, out, *text_size, text_size);
 }
 
-int mezulobu_explain(const void *script, size_t script_size, const char *file, bool is_strict, char *text, size_t *text_size)
+static int explain_as(const void *script, size_t script_size, const char *file, bool is_json, bool is_strict,
+                      char *text, size_t *text_size)
 {
     uint8_t none[2];
     if (lacks(script, script_size) || !text_size || lacks_room(text, text_size))
@@ -56,7 +57,18 @@ int mezulobu_explain(const void *script, size_t script_size, const char *file, b
     const uint8_t *in = script ? script : &none[0];
     uint8_t *out = text ? (uint8_t *)text : &none[1];
     const char *name = file ? file : "script";
-    return (int)mezulobu_rt_explain(in, script_size, (const uint8_t *)name, strlen(name), is_strict, out, *text_size, text_size);
+    return (int)mezulobu_rt_explain(in, script_size, (const uint8_t *)name, strlen(name), is_json, is_strict,
+                                    out, *text_size, text_size);
+}
+
+int mezulobu_explain(const void *script, size_t script_size, const char *file, bool is_strict, char *text, size_t *text_size)
+{
+    return explain_as(script, script_size, file, false, is_strict, text, text_size);
+}
+
+int mezulobu_explain_json(const void *script, size_t script_size, const char *file, bool is_strict, char *text, size_t *text_size)
+{
+    return explain_as(script, script_size, file, true, is_strict, text, text_size);
 }
 
 int mezulobu_planes(uint32_t format, uint64_t modifier, uint32_t pitch, uint32_t height, struct mezulobu_layout *layout)
@@ -82,24 +94,36 @@ static int mend_platform(struct mezulobu_platform *p)
     return 1;
 }
 
-/* The same of a participant. */
-static int mend_participant(struct mezulobu_participant *p)
+/* What mend_participant answers of one that isn't misused: no index of an entry, nor NOBODY. */
+#define SOUND (SIZE_MAX - 1)
+
+/* The same of a participant: SOUND, or the index of the entry that is misused, or NOBODY where it is the participant's own struct. */
+static size_t mend_participant(struct mezulobu_participant *p)
 {
     if (p->struct_size != sizeof *p || lacks(p->entries, p->n_entries))
-        return 0;
+        return MEZULOBU_NOBODY;
     for (size_t i = 0; i < p->n_entries; i++)
         if (p->entries[i].struct_size != sizeof p->entries[i])
-            return 0;
+            return i;
     p->entries = p->entries ? p->entries : &no_entry;
-    return 1;
+    return SOUND;
+}
+
+/* Says which struct is misused: its kind, and of a participant the index, and of an entry its own. */
+static int misused(struct mezulobu_refusal *why, uint32_t kind, size_t who, size_t index)
+{
+    *why = (struct mezulobu_refusal){.struct_size = sizeof *why, .kind = kind, .who = who, .index = index};
+    return MEZULOBU_MISUSED;
 }
 
 static int negotiate_list(const struct mezulobu_platform *platform, struct mezulobu_participant *list, size_t n,
                           struct mezulobu_settings *settings, struct mezulobu_refusal *refusal)
 {
-    for (size_t i = 0; i < n; i++)
-        if (!mend_participant(&list[i]))
-            return MEZULOBU_MISUSED;
+    for (size_t i = 0; i < n; i++) {
+        size_t entry = mend_participant(&list[i]);
+        if (entry != SOUND)
+            return misused(refusal, MEZULOBU_KIND_PARTICIPANT, i, entry);
+    }
     return (int)mezulobu_rt_negotiate(platform, n ? list : &no_participant, n, settings, refusal);
 }
 
@@ -108,13 +132,17 @@ int mezulobu_negotiate(const struct mezulobu_platform *platform, const struct me
 {
     struct mezulobu_refusal own = {.struct_size = sizeof own};
     struct mezulobu_refusal *why = refusal ? refusal : &own;
-    if (!platform || lacks(participants, n) || !settings || settings->struct_size != sizeof *settings || why->struct_size != sizeof *why)
+    if (why->struct_size != sizeof *why)
         return MEZULOBU_MISUSED;
+    if (!settings || settings->struct_size != sizeof *settings)
+        return misused(why, 0, MEZULOBU_NOBODY, 0);
+    if (!platform)
+        return misused(why, MEZULOBU_KIND_PLATFORM, MEZULOBU_NOBODY, 0);
     struct mezulobu_platform on = *platform;
     if (!mend_platform(&on))
-        return MEZULOBU_MISUSED;
-    if (n > SIZE_MAX / sizeof *participants)
-        return MEZULOBU_MISUSED;
+        return misused(why, MEZULOBU_KIND_PLATFORM, MEZULOBU_NOBODY, 0);
+    if (lacks(participants, n) || n > SIZE_MAX / sizeof *participants)
+        return misused(why, MEZULOBU_KIND_PARTICIPANT, MEZULOBU_NOBODY, MEZULOBU_NOBODY);
     struct mezulobu_participant *list = n ? malloc(n * sizeof *list) : NULL;
     if (n && !list) {
         *why = (struct mezulobu_refusal){.struct_size = sizeof *why, .who = MEZULOBU_NOBODY};

@@ -17,7 +17,7 @@
 extern "C" {
 #endif
 
-#define MEZULOBU_VERSION 0x00010001u /* major 16 bits, minor 16 bits */
+#define MEZULOBU_VERSION 0x00010002u /* major 16 bits, minor 16 bits */
 
 /* What a call answers: the exit status that the program has of the same, and 2 and 5 for what only a caller can get wrong. */
 enum mezulobu_status {
@@ -60,6 +60,10 @@ int mezulobu_check(const void *script, size_t script_size,
  * stands before lines and columns; where it is null that is "script", and what of it is no UTF-8 is replaced. */
 int mezulobu_explain(const void *script, size_t script_size, const char *file, bool is_strict,
                      char *text, size_t *text_size);
+
+/* The same as objects of JSON, one a line: one for each item of the explanation, and one that ends them. FORMATS says what each has. */
+int mezulobu_explain_json(const void *script, size_t script_size, const char *file, bool is_strict,
+                          char *text, size_t *text_size);
 
 /* ---- A list of participants, without a script -----------------------------------------------------------------------
  *
@@ -222,14 +226,46 @@ enum mezulobu_kind {                /* of a refusal */
 
 #define MEZULOBU_NOBODY SIZE_MAX
 
+/* The fields of a refusal: FIELD_ and the name that mezulobu_field_name tells. */
+enum mezulobu_field {
+    MEZULOBU_FIELD_NONE = 0, MEZULOBU_FIELD_USAGE = 1, MEZULOBU_FIELD_MIN_BUFFER_COUNT_FOR_CAMPING = 2,
+    MEZULOBU_FIELD_MIN_BUFFER_COUNT_FOR_DEDICATED_SLACK = 3, MEZULOBU_FIELD_MIN_BUFFER_COUNT_FOR_SHARED_SLACK = 4,
+    MEZULOBU_FIELD_MIN_BUFFER_COUNT = 5, MEZULOBU_FIELD_MAX_BUFFER_COUNT = 6,
+    MEZULOBU_FIELD_BUFFER_MEMORY_CONSTRAINTS = 7, MEZULOBU_FIELD_IMAGE_FORMAT_CONSTRAINTS = 8,
+    MEZULOBU_FIELD_MIN_SIZE_BYTES = 9, MEZULOBU_FIELD_MAX_SIZE_BYTES = 10,
+    MEZULOBU_FIELD_PHYSICALLY_CONTIGUOUS_REQUIRED = 11, MEZULOBU_FIELD_SECURE_REQUIRED = 12,
+    MEZULOBU_FIELD_CPU_DOMAIN_SUPPORTED = 13, MEZULOBU_FIELD_RAM_DOMAIN_SUPPORTED = 14,
+    MEZULOBU_FIELD_INACCESSIBLE_DOMAIN_SUPPORTED = 15, MEZULOBU_FIELD_PERMITTED_HEAPS = 16,
+    MEZULOBU_FIELD_PIXEL_FORMAT = 17, MEZULOBU_FIELD_PIXEL_FORMAT_MODIFIER = 18,
+    MEZULOBU_FIELD_PIXEL_FORMAT_AND_MODIFIERS = 19, MEZULOBU_FIELD_COLOR_SPACES = 20, MEZULOBU_FIELD_MIN_SIZE = 21,
+    MEZULOBU_FIELD_MAX_SIZE = 22, MEZULOBU_FIELD_SIZE_ALIGNMENT = 23, MEZULOBU_FIELD_MIN_BYTES_PER_ROW = 24,
+    MEZULOBU_FIELD_MAX_BYTES_PER_ROW = 25, MEZULOBU_FIELD_BYTES_PER_ROW_DIVISOR = 26,
+    MEZULOBU_FIELD_START_OFFSET_DIVISOR = 27, MEZULOBU_FIELD_DISPLAY_RECT_ALIGNMENT = 28,
+    MEZULOBU_FIELD_REQUIRED_MIN_SIZE = 29, MEZULOBU_FIELD_REQUIRED_MAX_SIZE = 30,
+    MEZULOBU_FIELD_MAX_WIDTH_TIMES_HEIGHT = 31, MEZULOBU_FIELD_REQUIRE_BYTES_PER_ROW_AT_PIXEL_BOUNDARY = 32,
+    MEZULOBU_FIELD_BUFFER_COUNT_LIMIT = 33, MEZULOBU_FIELD_UNNAMED_PIXEL_FORMAT = 34,
+    MEZULOBU_FIELD_UNNAMED_PIXEL_FORMAT_MODIFIER = 35, MEZULOBU_FIELD_UNNAMED_COLOR_SPACE = 36,
+    MEZULOBU_FIELD_HEAPS = 37, MEZULOBU_FIELD_PAIRS = 38, MEZULOBU_FIELD_HEAP_TYPE = 39, MEZULOBU_FIELD_ID = 40,
+    MEZULOBU_FIELD_CONTIGUOUS = 41, MEZULOBU_FIELD_SECURE = 42, MEZULOBU_FIELD_DOMAINS = 43
+};
+
 /* Why there are no settings. At REFUSED (the first three kinds) field is what is amiss in a struct, and index the item of its
- * list. At NO the participants before who can share settings, and those up to who can't: who is the first with whom there are
- * none. What those before would share first is heap and coherency, and format, modifier and color, all 0 without an image; of
- * PLACES field is what who refuses that place for, of OFFERS the first line of the conflict table that is true of that offer
- * for those up to who. Who has no entry for it is told by pixel_format, whether the format or the modifier is what it lacks. So
- * the order of the participants is a ranking: those that can be done without stand last. Where the first alone can't be met, the
- * offer is that of no image, and field says little; mezulobu_explain tells each reason. who is NOBODY where all can share
- * settings but for a name of the image that nobody gives. */
+ * list. At MISUSED (kind PLATFORM or PARTICIPANT, or 0 of settings) it is whose struct is misused, and of an entry index is its own;
+ * of the participant's struct itself index is NOBODY; field is 0.
+ *
+ * At NO the participants before who can share settings, and those up to who can't: who is the first with whom there are none. So
+ * the order of the participants is a ranking: those that can be done without stand last.
+ *
+ * **alone is 1 where who gets nothing even by itself**: the platform doesn't offer what it takes, or it contradicts itself, as by a
+ * min_size above its own max_size. Kind and field are of it alone then. Where alone is 0 the others are in the way: what who
+ * takes is offered, and those before it don't take it, or the other way round.
+ *
+ * heap and coherency, and format, modifier and color are what those before would share first (0 without an image). At PLACES field
+ * is what who refuses that place for. At OFFERS field is of the offer of format, modifier and color, which is the image of the
+ * platform that who comes nearest to, where it is alone: the first line of the conflict table that is true of it, for those up to
+ * who or for it alone. PIXEL_FORMAT: somebody has no entry for that format, or, without an image, takes images only;
+ * PIXEL_FORMAT_MODIFIER: all take the format, and somebody not in that modifier. who is NOBODY where all can share settings but
+ * for a name of the image that nobody gives. */
 struct mezulobu_refusal {
     size_t struct_size;
     size_t who;
@@ -240,14 +276,14 @@ struct mezulobu_refusal {
     uint32_t color;
     uint32_t coherency;
     uint32_t kind;  /* enum mezulobu_kind */
-    uint32_t field; /* mezulobu_field_name tells its name; 0 is none */
-    uint32_t reserved;
+    uint32_t field; /* enum mezulobu_field; mezulobu_field_name tells its name */
+    uint32_t alone;
 };
 
 /* The best settings for n participants on a platform. DONE: settings. NO: none meet them all, and refusal says who is in the
  * way. REFUSED: a struct states nothing that could be meant, and refusal says whose and which field. NO_MEMORY: refusal has kind
- * 0. MISUSED. settings is written at DONE alone, refusal at NO, REFUSED and NO_MEMORY. refusal may be null, settings may not. A
- * list of nobody is DONE, with one buffer of one byte. */
+ * 0. MISUSED: refusal says whose struct it is, unless it is the refusal's. settings is written at DONE alone, refusal at each other
+ * status. refusal may be null, settings may not. A list of nobody is DONE, with one buffer of one byte. */
 int mezulobu_negotiate(const struct mezulobu_platform *platform,
                        const struct mezulobu_participant *participants, size_t n,
                        struct mezulobu_settings *settings, struct mezulobu_refusal *refusal);
@@ -255,10 +291,14 @@ int mezulobu_negotiate(const struct mezulobu_platform *platform,
 /* The name of a refusal's field, as "max_size"; "?" of a number that is none. */
 const char *mezulobu_field_name(uint32_t field);
 
-/* The layout of an image with rows of pitch bytes in the first plane, its height in pixels, as settings have them: that the pitch
- * suits the tiles and the height the colour planes isn't tested. DONE; REFUSED where there is no
+/* The layout of an image with rows of pitch bytes in the first plane, its height in pixels. DONE; REFUSED where there is no
  * such format or modifier here, where tiles don't go with the format, or where the bytes don't fit 64 bits: layout is as it
- * was then. MISUSED. */
+ * was then. MISUSED.
+ *
+ * It demands a pitch and a height as settings have them, and tests neither: a pitch of at least a row's pixels, which is a multiple of 512 of
+ * X tiles and of 128 of Y tiles, and of NV12, P010, I420 and YV12 is even, as is their height. With others the call is DONE all the
+ * same: halves are rounded down then, and no plane ends after bytes, but DRM wouldn't take it. The height of tiles may be any: rows
+ * has what the last tile adds. */
 int mezulobu_planes(uint32_t format, uint64_t modifier, uint32_t pitch, uint32_t height, struct mezulobu_layout *layout);
 
 /* The name of a status, as "TOO_SMALL"; "?" of a number that is none. */

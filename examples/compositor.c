@@ -71,7 +71,7 @@ static int settle(struct mezulobu_settings *settings)
             printf("%s: %u buffers of %llu bytes in heap %zu, %ux%u, pitch %u\n", ways[w].name, settings->count, (unsigned long long)settings->bytes, settings->heap,
                    settings->image.width, settings->image.height, settings->image.layout.planes[0].pitch);
         else if (status == MEZULOBU_NO && why.who != MEZULOBU_NOBODY)
-            printf("%s: the %s is in the way by %s\n", ways[w].name, names[why.who], mezulobu_field_name(why.field));
+            printf("%s: the %s is in the way by %s%s\n", ways[w].name, names[why.who], mezulobu_field_name(why.field), why.alone ? ", even alone" : "");
         else
             printf("%s: %s\n", ways[w].name, mezulobu_status_name(status));
     }

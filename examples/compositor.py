@@ -49,7 +49,7 @@ Settings = record(
 )  # fmt: skip
 Refusal = record(
     "Refusal", ("struct_size", c_size_t), ("who", c_size_t), ("index", c_size_t), ("heap", c_size_t), ("modifier", c_uint64), ("format", c_uint32),
-    ("color", c_uint32), ("coherency", c_uint32), ("kind", c_uint32), ("field", c_uint32), ("reserved", c_uint32),
+    ("color", c_uint32), ("coherency", c_uint32), ("kind", c_uint32), ("field", c_uint32), ("alone", c_uint32),
 )  # fmt: skip
 
 # Ways to show the output: what the buffers are to hold, the greatest pitch that the display reads (0: any), and how large the images are at least.
@@ -94,7 +94,7 @@ def negotiated(library, modifier, max_pitch, output):
     settings, refusal = made(Settings), made(Refusal)
     status = library.mezulobu_negotiate(platform, listed(Participant, *asked.values()), len(asked), settings, refusal)
     who = list(asked)[refusal.who] if status == NO and refusal.who != NOBODY else None
-    return status, settings, who, library.mezulobu_field_name(refusal.field).decode()
+    return status, settings, who, library.mezulobu_field_name(refusal.field).decode() + (", even alone" if refusal.alone else "")
 
 
 def settled(library):

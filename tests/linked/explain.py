@@ -1,6 +1,6 @@
 #!/usr/bin/env python3
-"""Explains scripts through the library, by ctypes: the text and the status are those of the program, strict and not, where it is built, and the text is NAME.told
-where that is there. The last line is 'N passed, M failed'.
+"""Explains scripts through the library, by ctypes: the text, the objects and the status are those of the program, strict and not, where it is built, and the text is
+NAME.told where that is there. The last line is 'N passed, M failed'.
 
 usage: explain.py LIBRARY PROGRAM NAME ..
 """
@@ -13,6 +13,7 @@ lib = ctypes.CDLL(sys.argv[1])
 PROGRAM = sys.argv[2]
 SIZE = ctypes.POINTER(ctypes.c_size_t)
 lib.mezulobu_explain.argtypes = [ctypes.c_char_p, ctypes.c_size_t, ctypes.c_char_p, ctypes.c_bool, ctypes.c_char_p, SIZE]
+lib.mezulobu_explain_json.argtypes = lib.mezulobu_explain.argtypes
 TOO_SMALL = 5
 
 
@@ -21,17 +22,17 @@ def content(name):
         return file.read()
 
 
-def explained(script, name, is_strict):
+def explained(call, script, name, is_strict):
     """The text of an explanation, and the status."""
     size, text = ctypes.c_size_t(1024), ctypes.create_string_buffer(1024)
-    while (status := lib.mezulobu_explain(script, len(script), name, is_strict, text, size)) == TOO_SMALL:
+    while (status := call(script, len(script), name, is_strict, text, size)) == TOO_SMALL:
         text = ctypes.create_string_buffer(size.value)
     return text.raw[: size.value], status
 
 
-def printed(folder, name, is_strict):
+def printed(folder, name, is_strict, *more):
     """What the program prints, and its status."""
-    words = ["explain", *(["--strict"] if is_strict else []), name]
+    words = ["explain", *more, *(["--strict"] if is_strict else []), name]
     done = subprocess.run([PROGRAM, *words], stdout=subprocess.PIPE, cwd=folder, timeout=120)
     return done.stdout, done.returncode
 
@@ -41,9 +42,12 @@ def answers(path):
     folder, name = os.path.split(path + ".json")
     script = content(path + ".json")
     for is_strict in (False, True):
-        told = explained(script, name.encode(), is_strict)
+        told = explained(lib.mezulobu_explain, script, name.encode(), is_strict)
+        objects = explained(lib.mezulobu_explain_json, script, name.encode(), is_strict)
+        yield objects[1] == told[1] and objects[0].count(b"\n") > 0
         if os.path.exists(PROGRAM):
             yield told == printed(folder, name, is_strict)
+            yield objects == printed(folder, name, is_strict, "--json")
         if os.path.exists(path + ".told"):
             yield told[0] == content(path + ".told") and told[1] in (0, 3, *([6] if is_strict else []))
 

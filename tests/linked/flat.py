@@ -3,7 +3,9 @@
 out by hand. The last line is 'N passed, M failed'."""
 import ctypes
 import json
+import os
 import random
+import re
 import sys
 
 lib = ctypes.CDLL(sys.argv[1])
@@ -82,7 +84,7 @@ class Settings(Struct):
 
 class Refusal(Struct):
     _fields_ = [("struct_size", SIZE), ("who", SIZE), ("index", SIZE), ("heap", SIZE), ("modifier", U64)]
-    _fields_ += [(name, U32) for name in ("format", "color", "coherency", "kind", "field", "reserved")]
+    _fields_ += [(name, U32) for name in ("format", "color", "coherency", "kind", "field", "alone")]
 
 
 lib.mezulobu_field_name.restype = ctypes.c_char_p
@@ -249,6 +251,10 @@ def is_blamed(platform, flats, refusal):
     if fits and status == DONE and refusal.kind == PLACES:
         fits = (settings.heap, settings.coherency) == (refusal.heap, refusal.coherency)
     status, _, again = negotiate(platform, flats[: refusal.who + 1])
+    lone, _, own = negotiate(platform, [flats[refusal.who]])
+    is_lone = lone == NO and own.who != NOBODY
+    if refusal.alone != is_lone or is_lone and (own.kind, own.alone, own.who) != (refusal.kind, 1, 0):
+        return False
     return refusal.who < len(flats) and fits and status == NO and bytes(again) == bytes(refusal) and refusal.field > 0
 
 
@@ -268,7 +274,7 @@ def one_entry(letters="NV12", colors=32, **members):
 
 
 def rows():
-    """Lists, with the status and the refusal that they were worked out to have: kind, who, index, field."""
+    """Lists, with the status and the refusal that they were worked out to have: kind, who, index, field, and where who is alone in the way 1."""
     heaps = array(Heap, [Heap(cpu=True), Heap(cpu=True, ram=True)])
     pairs = array(Pair, [Pair(format=code("AB24")), Pair(format=code("NV12"))])
     colors = array(U32, [1, 32])
@@ -280,8 +286,22 @@ def rows():
     yield "max_size", on, [video, camera, Participant(usage=16, **one_entry(max_size=Size(width=1280, height=720)))], NO, (OFFERS, 2, 0, "max_size")
     yield "a maximum", on, [Participant(usage=16, camping=3, max_count=4), Participant(usage=16, camping=2)], NO, (COUNT, 1, 0, "max_buffer_count")
     yield "the limit", on, [Participant(usage=16, camping=100), Participant(usage=16, camping=29)], NO, (COUNT, 1, 0, "buffer_count_limit")
-    yield "coherency", first, [video, Participant(usage=16, ram=True)], NO, (PLACES, 1, 0, "cpu_domain_supported")
+    yield "coherency", first, [video, Participant(usage=16, ram=True)], NO, (PLACES, 1, 0, "cpu_domain_supported", 1)
     yield "heaps", on, [Participant(usage=16, heaps=1), video, Participant(usage=16, heaps=2)], NO, (PLACES, 2, 0, "permitted_heaps")
+    screen, rg16 = one_entry("AR24", 1), one_entry("RG16", 1)
+    tiled = Platform(heaps=heaps, n_heaps=2, pairs=array(Pair, [Pair(format=code("AR24"), modifier=MODIFIERS["INTEL_I915_X_TILED"]), Pair(format=code("NV12"))]), n_pairs=2)
+    tiled.colors, tiled.n_colors = array(U32, [1]), 1
+    both = Platform(heaps=heaps, n_heaps=2, pairs=array(Pair, [Pair(format=code("AR24"), modifier=MODIFIERS["INTEL_I915_X_TILED"]), Pair(format=code("AR24"))]), n_pairs=2)
+    both.colors, both.n_colors = array(U32, [1]), 1
+    x_tiles = Participant(usage=4, **one_entry("AR24", 1, modifier=MODIFIERS["INTEL_I915_X_TILED"]))
+    against = {"min_size": Size(width=640, height=480), "max_size": Size(width=320, height=480)}
+    yield "another tiling", both, [x_tiles, Participant(usage=8, **screen)], NO, (OFFERS, 1, 0, "pixel_format_modifier")
+    yield "a tiling that isn't offered", tiled, [video, Participant(usage=8, **screen)], NO, (OFFERS, 1, 0, "pixel_format_modifier", 1)
+    yield "a format that isn't offered", on, [video, Participant(usage=8, **rg16)], NO, (OFFERS, 1, 0, "pixel_format", 1)
+    yield "a colour space that isn't offered", tiled, [Participant(usage=8, **one_entry("NV12", 32))], NO, (OFFERS, 0, 0, "color_spaces", 1)
+    yield "against itself, first", on, [Participant(usage=16, **one_entry(**against)), video], NO, (OFFERS, 0, 0, "max_size", 1)
+    yield "against itself, later", on, [camera, Participant(usage=16, **one_entry("AB24", 1, **against))], NO, (OFFERS, 1, 0, "max_size", 1)
+    yield "a count against itself", on, [camera, Participant(usage=16, camping=3, max_count=2)], NO, (COUNT, 1, 0, "max_buffer_count", 1)
     yield "no name", on, [Participant(usage=16, **one_entry(colors=256))], NO, (OFFERS, NOBODY, 0, "unnamed_color_space")
     yield "no such format", on, [video, Participant(usage=16, **one_entry("NV21"))], REFUSED, (PARTICIPANT, 1, 0, "pixel_format")
     yield "no colours", on, [Participant(usage=16, **one_entry(colors=0))], REFUSED, (PARTICIPANT, 0, 0, "color_spaces")
@@ -297,31 +317,50 @@ def rows():
 
 
 def misused():
+    """Calls that are misused: the status, what the refusal says of whose struct it is, and what it is to say."""
     video, heap = Participant(usage=16), array(Heap, [Heap(cpu=True)])
     on, settings, refusal = flat_platform(random_platform(random.Random(1))), Settings(), Refusal()
-    short, entry = Participant(usage=16), Entry(format=code("NV12"), colors=32)
+    short, entry, good = Participant(usage=16), Entry(format=code("NV12"), colors=32), Entry(format=code("NV12"), colors=32)
     short.struct_size -= 8
     entry.struct_size += 8
-    yield lib.mezulobu_negotiate(None, array(Participant, [video]), 1, settings, refusal)
-    yield lib.mezulobu_negotiate(on, None, 1, settings, refusal)
-    yield lib.mezulobu_negotiate(on, array(Participant, [video]), 1, None, refusal)
-    yield lib.mezulobu_negotiate(Platform(heaps=heap, n_heaps=1, n_pairs=1), array(Participant, [video]), 1, settings, refusal)
-    yield lib.mezulobu_negotiate(on, array(Participant, [video, short]), 2, settings, refusal)
-    yield lib.mezulobu_negotiate(on, array(Participant, [Participant(usage=16, entries=array(Entry, [entry]), n_entries=1)]), 1, settings, refusal)
-    yield lib.mezulobu_negotiate(on, array(Participant, [Participant(usage=16, n_entries=1)]), 1, settings, refusal)
+    second = Participant(usage=16, entries=array(Entry, [good, entry]), n_entries=2)
+    bad = Platform(heaps=heap, n_heaps=1, n_pairs=1)
+
+    def told(platform, participants, n, settings, wanted):
+        status = lib.mezulobu_negotiate(platform, array(Participant, participants) if participants else None, n, settings, refusal)
+        return status, (refusal.kind, refusal.who, refusal.index, refusal.field), wanted
+
+    yield told(None, [video], 1, settings, (PLATFORM, NOBODY, 0, 0))
+    yield told(bad, [video], 1, settings, (PLATFORM, NOBODY, 0, 0))
+    yield told(on, None, 1, settings, (PARTICIPANT, NOBODY, NOBODY, 0))
+    yield told(on, [video], 1, None, (0, NOBODY, 0, 0))
+    yield told(on, [video, short], 2, settings, (PARTICIPANT, 1, NOBODY, 0))
+    yield told(on, [video, video, second], 3, settings, (PARTICIPANT, 2, 1, 0))
+    yield told(on, [Participant(usage=16, n_entries=1)], 1, settings, (PARTICIPANT, 0, NOBODY, 0))
     settings.struct_size = 8
-    yield lib.mezulobu_negotiate(on, array(Participant, [video]), 1, settings, refusal)
+    yield told(on, [video], 1, settings, (0, NOBODY, 0, 0))
     settings.struct_size, refusal.struct_size = ctypes.sizeof(settings), 8
-    yield lib.mezulobu_negotiate(on, array(Participant, [video]), 1, settings, refusal)
+    before = (refusal.kind, refusal.who, refusal.index, refusal.field)
+    yield told(on, [video], 1, settings, before)
+
+
+def numbered():
+    """Whether each field's number in the installed header has its name, and no further number has one."""
+    header = os.path.join(os.path.dirname(sys.argv[1]), "..", "include", "mezulobu.h")
+    with open(header, encoding="utf-8") as file:
+        fields = {int(number): name.lower() for name, number in re.findall(r"MEZULOBU_FIELD_(\w+) = (\d+)", file.read())}
+    told = {number: lib.mezulobu_field_name(number).decode() for number in range(len(fields) + 2)}
+    return told == fields | {0: "?", len(fields): "?", len(fields) + 1: "?"}
 
 
 def tries():
     for name, platform, flats, wanted, why in rows():
         status, _, r = negotiate(platform, flats)
-        is_so = status == wanted and (r.kind, r.who, r.index, lib.mezulobu_field_name(r.field).decode()) == why
-        yield name, is_so, (status, r.kind, r.who, r.index, lib.mezulobu_field_name(r.field))
+        is_so = status == wanted and (r.kind, r.who, r.index, lib.mezulobu_field_name(r.field).decode(), r.alone) == (*why, 0)[:5]
+        yield name, is_so, (status, r.kind, r.who, r.index, lib.mezulobu_field_name(r.field), r.alone)
+    yield "numbers of fields", numbered(), ""
     statuses = list(misused())
-    yield "what is misused", all(status == MISUSED for status in statuses), statuses
+    yield "what is misused", all(status == MISUSED and said == wanted for status, said, wanted in statuses), statuses
     for seed in range(LISTS):
         yield f"list {seed}", try_random(random.Random(seed)), ""
 

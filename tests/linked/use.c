@@ -235,6 +235,7 @@ static void try_refusals(const struct job *j)
     good = mezulobu_run(NULL, 1, text, &size, NULL, NULL) == MEZULOBU_MISUSED;
     good = good && mezulobu_explain(NULL, 1, "a", false, text, &size) == MEZULOBU_MISUSED;
     good = good && mezulobu_explain("{", 1, "a", false, text, NULL) == MEZULOBU_MISUSED;
+    good = good && mezulobu_explain_json(NULL, 1, "a", false, text, &size) == MEZULOBU_MISUSED;
     good = good && mezulobu_explain("{", 1, "a", false, NULL, (size = 1, &size)) == MEZULOBU_MISUSED;
     good = good && mezulobu_run(j->script.at, j->script.size, text, NULL, NULL, NULL) == MEZULOBU_MISUSED;
     good = good && mezulobu_run(j->script.at, j->script.size, NULL, (size = 1, &size), NULL, NULL) == MEZULOBU_MISUSED;

@@ -30,7 +30,7 @@ abbrev IsAskedThreads : Text × List Row → Type 0
 IsAskedThreads e = (file : Text) × IsThreadsOf e file
 
 abbrev IsAskedExplain : Text × List Row → Type 0
-IsAskedExplain e = (file : Text) × (page : Option Text) × (is_strict : Bool) × IsExplainOf e file page is_strict
+IsAskedExplain e = (file : Text) × (is_json : Bool) × (page : Option Text) × (is_strict : Bool) × IsExplainOf e file is_json page is_strict
 
 abbrev IsAskedCheck : Text × List Row → Type 0
 IsAskedCheck e = (file : Text) × (proof : Text) × IsCheckOf e file proof
@@ -97,7 +97,7 @@ explain_asked words none =
     let given = explain_file_given (rows_after explain_shape.rules [] words) (level_parts explain_shape [] words false [] none).1 in
     let read = given_is_read (codes "FILE") (rows_after explain_shape.rules [] words) (each_has_value explain_shape words [] refl none) given in
     let rows = rows_after explain_shape.rules [] words in
-    (read.0, first_of (codes "page") rows, flag_of (codes "strict") rows, (refl, read.1, refl, refl))
+    (read.0, flag_of (codes "json") rows, first_of (codes "page") rows, flag_of (codes "strict") rows, (refl, read.1, refl, refl, refl))
 
 -- the words after `check` give FILE and PROOF
 check_asked : (words : List Text) → level_fault check_shape [] nothing_held words false [] ≡ [] → IsAskedCheck (rows_at check_shape words)
@@ -151,5 +151,5 @@ pub none_asked : (o : Option (Text × List Row)) → IfSome o AsksForNone → Is
 none_asked None h asked = asked
 none_asked (Some e) h (inl run) = h.run run.0 run.1 run.2 run.3
 none_asked (Some e) h (inr (inl threads)) = h.threads threads.0 threads.1
-none_asked (Some e) h (inr (inr (inl explain))) = h.explain explain.0 explain.1 explain.2 explain.3
+none_asked (Some e) h (inr (inr (inl explain))) = h.explain explain.0 explain.1 explain.2 explain.3 explain.4
 none_asked (Some e) h (inr (inr (inr check))) = h.check check.0 check.1 check.2

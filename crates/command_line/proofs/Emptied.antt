@@ -33,9 +33,9 @@ not_emptied entries (Threads file) asks apart h = elim h.writes [
   | inl run ↦ run_or_threads (sym run.0 ∙ asks.0)
   | inr explain ↦ explain_or_threads (sym explain.0 ∙ asks.0)
 ]
-not_emptied entries (Explain file page is_strict) asks apart h = elim h.writes [
+not_emptied entries (Explain file is_json page is_strict) asks apart h = elim h.writes [
   | inl run ↦ run_or_explain (sym run.0 ∙ asks.0)
-  | inr explain ↦ apart (sym asks.2 ∙ explain.1 ∙ sym h.reads ∙ asks.1)
+  | inr explain ↦ apart (sym asks.3 ∙ explain.1 ∙ sym h.reads ∙ asks.1)
 ]
 not_emptied entries (Check file proof) asks apart h = elim h.writes [
   | inl run ↦ run_or_check (sym run.0 ∙ asks.0)

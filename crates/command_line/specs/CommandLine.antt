@@ -47,10 +47,9 @@ strict_rule = new_flag (codes "strict")
 abbrev pub page_rule : Rule
 page_rule = record (new_rule (codes "page")) { long = Some (codes "page"); value_names = 1 }
 
--- explain FILE [--strict] [--page OUT]
+-- explain FILE [--json] [--strict] [--page OUT]
 abbrev pub explain_app : App
-explain_app =
-    with_rule (with_rule (with_rule (new_app (codes "explain")) file_rule) strict_rule) page_rule
+explain_app = with_rule (with_rule (with_rule (with_rule (new_app (codes "explain")) file_rule) json_rule) strict_rule) page_rule
 
 -- PROOF, which has to be there
 abbrev pub certificate_rule : Rule
@@ -103,10 +102,11 @@ IsRunOf entries file is_json proof =
 abbrev pub IsThreadsOf : Text × List Row → Text → Type 0
 IsThreadsOf entries file = (entries.0 ≡ codes "threads") × (first_of (codes "FILE") entries.1 ≡ Some file)
 
--- they are `explain`, this FILE, this OUT or none, and whether the status is to tell
-abbrev pub IsExplainOf : Text × List Row → Text → Option Text → Bool → Type 0
-IsExplainOf entries file page is_strict =
+-- they are `explain`, this FILE, whether JSON is asked for, this OUT or none, and whether the status is to tell
+abbrev pub IsExplainOf : Text × List Row → Text → Bool → Option Text → Bool → Type 0
+IsExplainOf entries file is_json page is_strict =
     (entries.0 ≡ codes "explain") × (first_of (codes "FILE") entries.1 ≡ Some file)
+    × (flag_of (codes "json") entries.1 ≡ is_json)
     × (first_of (codes "page") entries.1 ≡ page)
     × (flag_of (codes "strict") entries.1 ≡ is_strict)
 
@@ -120,14 +120,14 @@ IsCheckOf entries file proof =
 abbrev pub AsksForJob : Text × List Row → Job → Type 0
 AsksForJob entries (Run file is_json proof) = IsRunOf entries file.now is_json (option_map (λ s. s.now) proof)
 AsksForJob entries (Threads file) = IsThreadsOf entries file.now
-AsksForJob entries (Explain file page is_strict) = IsExplainOf entries file.now (option_map (λ s. s.now) page) is_strict
+AsksForJob entries (Explain file is_json page is_strict) = IsExplainOf entries file.now is_json (option_map (λ s. s.now) page) is_strict
 AsksForJob entries (Check file proof) = IsCheckOf entries file.now proof.now
 
 -- they are no job's
 pub record AsksForNone (entries : Text × List Row) : Type 0 where
   pub run : (file : Text) (is_json : Bool) (proof : Option Text) → ¬ IsRunOf entries file is_json proof
   pub threads : (file : Text) → ¬ IsThreadsOf entries file
-  pub explain : (file : Text) (page : Option Text) (is_strict : Bool) → ¬ IsExplainOf entries file page is_strict
+  pub explain : (file : Text) (is_json : Bool) (page : Option Text) (is_strict : Bool) → ¬ IsExplainOf entries file is_json page is_strict
   pub check : (file proof : Text) → ¬ IsCheckOf entries file proof
 
 -- they name this OUT: a run's certificate, or an explanation's page
@@ -146,7 +146,7 @@ pub record EmptiesScript (entries : Text × List Row) : Type 0 where
 abbrev pub IsOneFile : Job → Type 0
 IsOneFile (Run file is_json proof) = option_map (λ s. s.now) proof ≡ Some file.now
 IsOneFile (Threads file) = ⊥
-IsOneFile (Explain file page is_strict) = option_map (λ s. s.now) page ≡ Some file.now
+IsOneFile (Explain file is_json page is_strict) = option_map (λ s. s.now) page ≡ Some file.now
 IsOneFile (Check file proof) = ⊥
 
 -- the parser's error has one of these kinds, or is want of memory, and else there are none

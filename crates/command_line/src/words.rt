@@ -22,11 +22,12 @@ pub enum Job<'a> {
     Threads {
         file: &'a str,
     },
-    /// Say in words what a script's report means, or where the script has a fault; with `page` also
-    /// write it there as a page, and with `is_strict` tell by the exit status whether all went
-    /// well.
+    /// Say in words what a script's report means, or where the script has a fault, with `is_json`
+    /// as JSON; with `page` also write it there as a page, and with `is_strict` tell by the exit
+    /// status whether all went well.
     Explain {
         file: &'a str,
+        is_json: bool,
         page: Option<&'a str>,
         is_strict: bool,
     },
@@ -151,9 +152,11 @@ fn job_in<'a>(matches: &ArgMatches<'a>) -> Option<Job<'a>>
         "explain" => {
             let file = entries.get_str("FILE")?;
             let page = entries.get_str("page");
+            let is_json = is_set(entries, "json");
             let is_strict = is_set(entries, "strict");
             Some(Job::Explain {
                 file,
+                is_json,
                 page,
                 is_strict,
             })
@@ -256,6 +259,7 @@ fn explain_command<'a>(alloc: Global) -> Result<Command<'a>, AllocError>
             "Says who is awaited or in the way, which field decided, or where the script is wrong",
         )
         .arg(file_arg(alloc))?
+        .arg(json_arg(alloc))?
         .arg(strict_arg(alloc))?
         .arg(page_arg(alloc))
 }
@@ -300,7 +304,7 @@ fn json_arg<'a>(alloc: Global) -> Arg<'a>
     Arg::new(alloc, "json")
         .long("json")
         .action(ArgAction::SetTrue)
-        .help("Prints the report as JSON")
+        .help("Prints an object of JSON for each line")
 }
 
 /// The flag `--strict`.

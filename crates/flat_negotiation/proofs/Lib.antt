@@ -1,3 +1,4 @@
 mod Corners
+mod Images
 mod Lists
 mod Writable

@@ -1,6 +1,6 @@
 -- Refusals as a C program is told them.
 use Rattle.std.specs.Prelude.{ℕ, ◌^◌, ◌-◌, Option, Some, None, if◌then◌else◌}
-use Rattle.std.specs.Option.{unwrap_or}
+use Rattle.std.specs.Option.{unwrap_or, option_map_or}
 use Rattle.drm_images.specs.Codes.{fourcc, modifier_bits}
 use Rattle.sysmem_counts.specs.declared.field.Field.{Field}
 use Rattle.sysmem_counts.specs.declared.field.Field.TheVariants as field
@@ -14,6 +14,7 @@ use Rattle.flat_negotiation.specs.declared.flat.FlatRefusal.{FlatRefusal}
 use Rattle.flat_negotiation.specs.declared.unsettled.Refusal.{Refusal}
 use Rattle.flat_negotiation.specs.declared.unsettled.Unsettled.{Unsettled}
 use Rattle.flat_negotiation.specs.declared.unsettled.Unsettled.TheVariants as why
+use Rattle.flat_negotiation.specs.Blame.{told_reason}
 use Rattle.flat_negotiation.specs.Written.{domain_code}
 
 -- a field's number, in the order in which records are read
@@ -79,7 +80,7 @@ refusal_with size kind who index number = record {
   coherency = 0;
   kind = kind;
   field = number;
-  reserved = 0;
+  alone = 0;
 }
 
 -- the number of what there are none of
@@ -96,11 +97,20 @@ with_offer (offer.Image pair colour) r = record r { modifier = modifier_bits pai
 -- what is told of settings that others share
 abbrev pub with_shared : Option Settings → FlatRefusal → FlatRefusal
 with_shared None r = r
-with_shared (Some s) r = with_offer s.offer (record r { heap = s.place.heap; coherency = domain_code s.place.coherency })
+with_shared (Some s) r = record r { heap = s.place.heap; coherency = domain_code s.place.coherency }
+
+-- the number of whether there is such a reason
+abbrev pub lone_number : Option Reason → ℕ
+lone_number None = 0
+lone_number (Some reason) = 1
+
+-- what is told of who is in the way
+abbrev pub told_refusal : ℕ → Refusal → FlatRefusal
+told_refusal size r = record (refusal_with size (kind_of (told_reason r)) (if r.stop.whole then nobody else r.stop.who) 0 (field_number r.field)) { alone = lone_number r.lone }
 
 -- what is told where no settings meet them
 abbrev pub unmet_refusal : ℕ → Refusal → FlatRefusal
-unmet_refusal size r = with_shared r.stop.shared (refusal_with size (kind_of r.stop.reason) (if r.stop.whole then nobody else r.stop.who) 0 (field_number r.field))
+unmet_refusal size r = option_map_or (λ o. with_offer o (with_shared r.stop.shared (told_refusal size r))) r.offer (with_shared r.stop.shared (told_refusal size r))
 
 -- what is told of why there are no settings
 abbrev pub flat_refusal : ℕ → Unsettled → FlatRefusal

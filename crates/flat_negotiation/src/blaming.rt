@@ -1,11 +1,13 @@
 //! The field of a participant that is in the way.
 
-ghost use Rattle.std.specs.Prelude.{◌≡◌, ◌≤◌, length, take, IfNone, IfSome, IsSomeAnd};
+ghost use Rattle.std.specs.Prelude.{◌≡◌, ◌≤◌, length, take, drop, Some, IfNone, IfSome, IsSomeAnd};
 ghost use Rattle.sysmem_merge.specs.Demands.{offer_demands};
 ghost use Rattle.sysmem_merge.specs.OfferRead.{IsOfferRead};
-ghost use Rattle.flat_negotiation.specs.Blame.{IsFieldOf, IsOfferField, IsPlaceField, IsStop, up_to};
+ghost use Rattle.flat_negotiation.specs.Takes.{take_format, told_line};
+ghost use Rattle.flat_negotiation.specs.Blame.{IsFieldOf, IsOfferField, IsPlaceField, IsToldOffer, alone, shared_offer, told_of, told_reason, up_to};
 
-use crate::unsettled::Stop;
+use crate::taking::{or_else, own_offer, take_format};
+use crate::unsettled::{Refusal, Stop};
 use sysmem_counts::Field;
 use sysmem_formats::Offer;
 use sysmem_memory::refuses;
@@ -13,7 +15,7 @@ use sysmem_merge::{OfferRead, Reason, Settings};
 use sysmem_sanitise::{Constraints, Platform};
 
 /// What all of a list ask of an offer.
-fn read_of(offer: &Offer, asked: &[Constraints]) -> OfferRead
+pub(crate) fn read_of(offer: &Offer, asked: &[Constraints]) -> OfferRead
     ensures { IsOfferRead offer.now (offer_demands asked.now) result }
 {
     let mut read = OfferRead::new(offer);
@@ -23,14 +25,35 @@ fn read_of(offer: &Offer, asked: &[Constraints]) -> OfferRead
     read
 }
 
-/// What those of a list up to this index ask of an offer.
-fn read_up_to(offer: &Offer, asked: &[Constraints], who: usize) -> OfferRead
-    ensures { IsOfferRead offer.now (offer_demands (up_to who asked.now)) result }
+/// Those of a list up to this index.
+fn up_to(asked: &[Constraints], who: usize) -> &[Constraints]
+    ensures { result.now ≡ up_to who asked.now }
 {
     if who < asked.len() {
-        read_of(offer, &asked[..who + 1])
+        &asked[..who + 1]
     } else {
-        read_of(offer, asked)
+        asked
+    }
+}
+
+/// The one of this index by itself, where it is one of the list.
+pub(crate) fn alone(asked: &[Constraints], who: usize) -> &[Constraints]
+    ensures { result.now ≡ alone who asked.now }
+{
+    if who < asked.len() {
+        &asked[who..][..1]
+    } else {
+        &[]
+    }
+}
+
+/// Those of whom is told.
+fn told_of<'a>(asked: &'a [Constraints], stop: &Stop, lone: Option<Reason>) -> &'a [Constraints]
+    ensures { result.now ≡ told_of stop.now lone asked.now }
+{
+    match lone {
+        Some(_) => alone(asked, stop.who),
+        None => up_to(asked, stop.who),
     }
 }
 
@@ -47,19 +70,77 @@ fn place_field(platform: &Platform, asked: &Constraints, settings: &Settings) ->
     )
 }
 
-/// The field of who is in the way, or, of the count, its own.
-pub(crate) fn blamed_field(platform: &Platform, asked: &[Constraints], stop: &Stop) -> Option<Field>
-    ensures { IfSome result (IsFieldOf platform.now asked.now stop.now stop.now.reason) }
+/// The field that is told of a line.
+fn line_told(line: Field, takes_format: bool) -> Field
+    ensures { result ≡ told_line takes_format line }
 {
-    match stop.reason {
-        Reason::Count(field) => Some(field),
+    match line {
+        Field::PixelFormat if takes_format => Field::PixelFormatModifier,
+        _ => line,
+    }
+}
+
+/// The field that is told of the first line that is true of a list for an offer.
+fn offer_field(offer: &Offer, asked: &[Constraints], whole: bool) -> Option<Field>
+    ensures { IfSome result (IsOfferField whole asked.now offer.now) }
+{
+    let line = read_of(offer, asked).first_line(whole)?;
+    Some(line_told(line, take_format(offer, asked)))
+}
+
+fn shared_offer(stop: &Stop) -> Option<Offer>
+    ensures { result ≡ shared_offer stop.now }
+{
+    match stop.shared {
+        Some(settings) => Some(settings.offer),
+        None => None,
+    }
+}
+
+/// The offer of which is told.
+fn told_offer(
+    platform: &Platform,
+    asked: &[Constraints],
+    stop: &Stop,
+    lone: Option<Reason>,
+) -> Option<Offer>
+    ensures { IsToldOffer platform.now asked.now stop.now lone result }
+{
+    match lone {
+        Some(Reason::NoOffer) => {
+            or_else(
+                own_offer(platform, alone(asked, stop.who)),
+                shared_offer(stop),
+            )
+        }
+        _ => shared_offer(stop),
+    }
+}
+
+/// Who is in the way, and in which field, or, of the count, its own.
+pub(crate) fn blamed(
+    platform: &Platform,
+    asked: &[Constraints],
+    stop: Stop,
+    lone: Option<Reason>,
+) -> Option<Refusal>
+    ensures stop { IfSome result (λ r. (r.stop ≡ stop) × (r.lone ≡ lone)) }
+    ensures offer { IfSome result (λ r. IsToldOffer platform.now asked.now stop lone r.offer) }
+    ensures field { IfSome result (λ r. IsFieldOf platform.now asked.now r (told_reason r)) }
+{
+    let offer = told_offer(platform, asked, &stop, lone);
+    let field = match lone.unwrap_or(stop.reason) {
+        Reason::Count(field) => field,
         Reason::NoPlace => {
             let shared = stop.shared?;
-            place_field(platform, asked.get(stop.who)?, &shared)
+            place_field(platform, asked.get(stop.who)?, &shared)?
         }
-        Reason::NoOffer => {
-            let shared = stop.shared?;
-            read_up_to(&shared.offer, asked, stop.who).first_line(stop.whole)
-        }
-    }
+        Reason::NoOffer => offer_field(&offer?, told_of(asked, &stop, lone), stop.whole)?,
+    };
+    Some(Refusal {
+        stop,
+        lone,
+        offer,
+        field,
+    })
 }

@@ -41,7 +41,7 @@ pub struct FlatRefusal {
     pub who: usize,
     /// Of a list in a struct that is amiss, the item.
     pub index: usize,
-    /// The place that those before could share, and the next three the offer.
+    /// The place that those before could share, and the next three the offer of which is told.
     pub heap: usize,
     pub modifier: u64,
     pub format: u32,
@@ -50,5 +50,6 @@ pub struct FlatRefusal {
     pub kind: u32,
     /// A field's number, or 0.
     pub field: u32,
-    pub reserved: u32,
+    /// 1 where the participant can't be met even by itself, and else 0.
+    pub alone: u32,
 }

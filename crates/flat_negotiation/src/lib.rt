@@ -8,6 +8,7 @@ mod negotiating;
 mod refusal;
 mod said;
 mod settling;
+mod taking;
 mod unsettled;
 mod written;
 

@@ -36,7 +36,7 @@ fn refusal_with(struct_size: usize, kind: u32, who: usize, index: usize, field: 
         coherency: 0,
         kind,
         field,
-        reserved: 0,
+        alone: 0,
     }
 }
 
@@ -79,14 +79,11 @@ fn with_shared(shared: Option<Settings>, refusal: FlatRefusal) -> FlatRefusal
 {
     match shared {
         None => refusal,
-        Some(settings) => with_offer(
-            settings.offer,
-            FlatRefusal {
-                heap: settings.place.heap,
-                coherency: domain_code(settings.place.coherency),
-                ..refusal
-            },
-        ),
+        Some(settings) => FlatRefusal {
+            heap: settings.place.heap,
+            coherency: domain_code(settings.place.coherency),
+            ..refusal
+        },
     }
 }
 
@@ -95,9 +92,17 @@ fn unmet_refusal(struct_size: usize, refusal: &Refusal) -> FlatRefusal
 {
     let stop = refusal.stop;
     let who = if stop.whole { NOBODY } else { stop.who };
-    let kind = kind_of(stop.reason);
+    let kind = kind_of(refusal.lone.unwrap_or(stop.reason));
     let field = field_number(refusal.field);
-    with_shared(stop.shared, refusal_with(struct_size, kind, who, 0, field))
+    let told = FlatRefusal {
+        alone: u32::from(refusal.lone.is_some()),
+        ..refusal_with(struct_size, kind, who, 0, field)
+    };
+    let placed = with_shared(stop.shared, told);
+    match refusal.offer {
+        Some(offer) => with_offer(offer, placed),
+        None => placed,
+    }
 }
 
 /// Why there are no settings, in a struct of this size.

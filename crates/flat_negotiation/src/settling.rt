@@ -1,13 +1,13 @@
 //! The best settings of a list, or where it stops having some.
 
-ghost use Rattle.std.specs.Prelude.{◌≡◌, ◌≤◌, length, true, IfErr, IfOk};
+ghost use Rattle.std.specs.Prelude.{◌≡◌, ◌≤◌, length, true, false, IfErr, IfOk, IfSome};
 ghost use Rattle.sysmem_merge.specs.Aggregate.{StandsFor};
 ghost use Rattle.sysmem_merge.specs.Best.{IsBest, IsUnmet};
 ghost use Rattle.sysmem_merge.specs.Reasons.{IsFirstReason};
-ghost use Rattle.flat_negotiation.specs.Blame.{IsStop};
+ghost use Rattle.flat_negotiation.specs.Blame.{IsBlamed, IsLone, IsStop};
 ghost use Rattle.flat_negotiation.specs.Unsettled.{AreUnmet};
 
-use crate::blaming::blamed_field;
+use crate::blaming::{alone, blamed};
 use crate::unsettled::{Refusal, Stop, Unsettled};
 use std::alloc::{AllocError, Global};
 use sysmem_merge::{Aggregate, Reason, Settings};
@@ -90,12 +90,45 @@ fn refused(alloc: Global, platform: &Platform, asked: &[Constraints], reason: Re
     requires reason { IsFirstReason true platform.now asked.now reason }
     ensures { AreUnmet platform.now asked.now result }
 {
-    let Ok(stop) = stop_of(alloc, platform, asked, reason) else {
-        return Unsettled::NoMemory;
-    };
-    // By the reason some field is in the way.
-    match blamed_field(platform, asked, &stop) {
-        Some(field) => Unsettled::Unmet(Refusal { stop, field }),
-        None => Unsettled::NoMemory,
+    match blame_of(alloc, platform, asked, reason) {
+        Ok(Some(refusal)) => Unsettled::Unmet(refusal),
+        // By the reason some field is in the way.
+        _ => Unsettled::NoMemory,
+    }
+}
+
+/// Who is in the way, and in which field. It fails where memory is refused.
+fn blame_of(
+    alloc: Global,
+    platform: &Platform,
+    asked: &[Constraints],
+    reason: Reason,
+) -> Result<Option<Refusal>, AllocError>
+    requires few { length asked.now ≤ 1024 }
+    requires unmet { IsUnmet true platform.now asked.now }
+    requires reason { IsFirstReason true platform.now asked.now reason }
+    ensures { IfOk result (λ found. IfSome found (IsBlamed platform.now asked.now)) }
+{
+    let stop = stop_of(alloc, platform, asked, reason)?;
+    let lone = lone_reason(alloc, platform, asked, &stop)?;
+    Ok(blamed(platform, asked, stop, lone))
+}
+
+/// Why the participant at whom a list stops can't be met even by itself, if it can't. It fails where memory is refused.
+fn lone_reason(
+    alloc: Global,
+    platform: &Platform,
+    asked: &[Constraints],
+    stop: &Stop,
+) -> Result<Option<Reason>, AllocError>
+    ensures { IfOk result (IsLone platform.now asked.now stop.now) }
+{
+    if stop.whole {
+        return Ok(None);
+    }
+    let aggregate = aggregate_of(alloc, platform, alone(asked, stop.who))?;
+    match aggregate.best_settings(false) {
+        Ok(_) => Ok(None),
+        Err(reason) => Ok(Some(reason)),
     }
 }

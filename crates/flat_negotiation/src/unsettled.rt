@@ -5,6 +5,7 @@ ghost use Rattle.std.specs.Prelude.{◌≡◌};
 use flat_parts::Amiss;
 use std::alloc::AllocError;
 use sysmem_counts::Field;
+use sysmem_formats::Offer;
 use sysmem_merge::{Reason, Settings};
 
 /// Where a list has no settings any more.
@@ -24,6 +25,10 @@ pub struct Stop {
 #[derive(Clone, Copy, Debug)]
 pub struct Refusal {
     pub stop: Stop,
+    /// Why that participant can't be met even by itself, if it can't.
+    pub lone: Option<Reason>,
+    /// The offer of which the field is told, or, of another reason, which those before could share.
+    pub offer: Option<Offer>,
     pub field: Field,
 }
 

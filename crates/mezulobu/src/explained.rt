@@ -1,4 +1,4 @@
-//! What the bytes of a script mean, in words.
+//! What the bytes of a script mean, in words or as objects of JSON.
 
 ghost use Rattle.std.specs.Prelude.{ℕ, List, IfOk};
 ghost use Rattle.serde_json.specs.View.{view};
@@ -6,6 +6,7 @@ ghost use Rattle.mezulobu.specs.Explains.{ExplanationSays, HasFault, IsFaultOf};
 
 use crate::told::Told;
 use explain::{Outcome, explain, text_of};
+use explanation_json::objects_of;
 use script_reading::{ParseFault, ScriptFault, parse_script, read_script};
 use serde_json::Value;
 use std::alloc::{AllocError, Global};
@@ -29,13 +30,14 @@ pub(crate) fn explanation_told(
     alloc: Global,
     script: &[u8],
     file: &[u8],
+    is_json: bool,
     is_strict: bool,
 ) -> Result<Told, AllocError>
     ensures { IfOk result (λ told.
         ExplanationSays script.now is_strict told.status told.text.items) }
 {
     let fault = fault_of(alloc, script)?;
-    let explained = explained_of(alloc, script, file)?;
+    let explained = explained_of(alloc, script, file, is_json)?;
     Ok(told_explained(fault, explained, is_strict))
 }
 
@@ -62,10 +64,19 @@ fn fault_in(alloc: Global, value: &Value) -> Result<Option<ScriptFault>, AllocEr
     }
 }
 
-fn explained_of(alloc: Global, script: &[u8], file: &[u8]) -> Result<Explained, AllocError> {
+fn explained_of(
+    alloc: Global,
+    script: &[u8],
+    file: &[u8],
+    is_json: bool,
+) -> Result<Explained, AllocError> {
     let file = String::from_utf8_lossy(alloc, file)?;
     let explanation = explain(alloc, file.as_str(), script)?;
-    let text = text_of(alloc, &explanation.items)?;
+    let text = if is_json {
+        objects_of(alloc, file.as_str(), script, &explanation)?
+    } else {
+        text_of(alloc, &explanation.items)?
+    };
     Ok(Explained {
         is_faulty: explanation.outcome == Outcome::Faulty,
         text: text.into_bytes(),

@@ -117,20 +117,21 @@ pub extern "C" fn mezulobu_rt_check_status(alloc: Global, script: &[u8], certifi
     }
 }
 
-/// Explains a script: the text says what it means, or where its first fault stands. The name of its file, in which bytes that are no UTF-8 are
-/// replaced, stands before lines and columns.
+/// Explains a script: the text says what it means, or where its first fault stands, in words or as objects of JSON. The name of its file, in which
+/// bytes that are no UTF-8 are replaced, stands before lines and columns.
 #[unsafe(no_mangle)]
 pub extern "C" fn mezulobu_rt_explain(
     alloc: Global,
     script: &[u8],
     file: &[u8],
+    is_json: bool,
     is_strict: bool,
     text: &mut [u8],
     size: &mut usize,
 ) -> u32
     ensures { Ends (ExplanationSays script.now is_strict) text.old text.new size.new result }
 {
-    let Ok(told) = explanation_told(alloc, script, file, is_strict) else {
+    let Ok(told) = explanation_told(alloc, script, file, is_json, is_strict) else {
         *size = 0;
         return NO_MEMORY;
     };

@@ -1,9 +1,8 @@
 //! The objects of domains.
 
 use crate::image_object::put_image;
-use crate::names::Names;
-use crate::put::{put_digits, put_name, put_number, word_at};
-use std::alloc::AllocError;
+use crate::put::{put_digits, put_name, put_number, word_at, words_of};
+use std::alloc::{AllocError, Global};
 use std::fmt::Write;
 use sysmem_sanitise::Platform;
 
@@ -18,22 +17,51 @@ const HEAP: usize = 8;
 
 const COHERENCY: usize = 9;
 
-/// Puts the object of a domain of which a word is said: `{"domain":"/0","name":"camera","verdict":"failed"}`.
-pub(crate) fn put_word(
-    out: &mut String,
-    names: &Names<'_>,
+/// The object of the domain at a path, whose root has this name, of which a report says this: `chosen - count 8 ..`, or a word.
+pub fn decision_object(
+    alloc: Global,
+    platform: &Platform,
     path: &str,
+    name: Option<&str>,
+    said: &str,
+) -> Result<String, AllocError> {
+    let line = format!(in alloc; "{path} {said}")?;
+    let words = words_of(alloc, &line)?;
+    let mut out = String::new(alloc);
+    put_told(&mut out, platform, name, &words)?;
+    Ok(out)
+}
+
+/// Puts the object of a domain by the words of its line: its path, the verdict, and what was chosen.
+pub(crate) fn put_told(
+    out: &mut String,
+    platform: &Platform,
+    name: Option<&str>,
+    words: &[&str],
+) -> Result<(), AllocError> {
+    let path = word_at(words, 0);
+    match word_at(words, 1) {
+        "chosen" => put_chosen(out, platform, path, name, words),
+        verdict => put_word(out, path, name, verdict),
+    }
+}
+
+/// Puts the object of a domain of which a word is said: `{"domain":"/0","name":"camera","verdict":"failed"}`.
+fn put_word(
+    out: &mut String,
+    path: &str,
+    name: Option<&str>,
     verdict: &str,
 ) -> Result<(), AllocError> {
     out.push_str("{")?;
-    put_root(out, names, path)?;
+    put_root(out, path, name)?;
     put_verdict(out, verdict)
 }
 
 /// Puts the path of a domain's root and its name.
-pub(crate) fn put_root(out: &mut String, names: &Names<'_>, path: &str) -> Result<(), AllocError> {
+pub(crate) fn put_root(out: &mut String, path: &str, name: Option<&str>) -> Result<(), AllocError> {
     write!(out, "\"domain\":\"{path}\",\"name\":")?;
-    put_name(out, names.at(path))
+    put_name(out, name)
 }
 
 /// Puts the verdict, which ends the object.
@@ -42,18 +70,18 @@ pub(crate) fn put_verdict(out: &mut String, verdict: &str) -> Result<(), AllocEr
 }
 
 /// Puts the object of a domain for which settings were chosen, by the words of its line.
-pub(crate) fn put_chosen(
+fn put_chosen(
     out: &mut String,
-    names: &Names<'_>,
     platform: &Platform,
     path: &str,
+    name: Option<&str>,
     words: &[&str],
 ) -> Result<(), AllocError> {
     let count = word_at(words, COUNT);
     write!(out, "{{\"count\":{count},\"domain\":\"{path}\",\"image\":")?;
     put_image(out, words)?;
     out.push_str(",\"name\":")?;
-    put_name(out, names.at(path))?;
+    put_name(out, name)?;
     put_place(out, platform, words)?;
     put_selection(out, word_at(words, SELECTION))?;
     out.push_str("],\"size_bytes\":")?;

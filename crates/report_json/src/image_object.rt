@@ -105,7 +105,7 @@ fn put_plane(out: &mut String, before: &str, plane: Option<Plane>) -> Result<(),
 }
 
 /// The letters of a format's code; `L8` has none.
-fn format_letters(format: PixelFormat) -> Option<&'static str>
+pub fn format_letters(format: PixelFormat) -> Option<&'static str>
     ensures { option_map (λ text. word_of text.now) result ≡ fourcc format }
 {
     match format {
@@ -128,7 +128,7 @@ fn format_letters(format: PixelFormat) -> Option<&'static str>
 }
 
 /// The 64 bits of a modifier.
-fn modifier_digits(modifier: Modifier) -> &'static str {
+pub fn modifier_digits(modifier: Modifier) -> &'static str {
     match modifier {
         Modifier::Linear => "0x0000000000000000",
         Modifier::IntelXTiled => "0x0100000000000001",

@@ -16,4 +16,6 @@ mod reasons;
 mod running;
 mod telling;
 
+pub use domain_object::decision_object;
+pub use image_object::{format_letters, modifier_digits};
 pub use running::{run_as_json, run_as_json_with_proof};

@@ -22,7 +22,7 @@ pub(crate) fn put_empty(
     out.push_str("{\"because\":")?;
     put_reasons(out, names, text.as_str())?;
     out.push_str(",")?;
-    put_root(out, names, path)?;
+    put_root(out, path, names.at(path))?;
     put_verdict(out, "empty")
 }
 

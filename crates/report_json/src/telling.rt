@@ -1,7 +1,7 @@
 //! The objects of a report, line by line.
 
 use crate::call_object::{Called, put_call, reply_in};
-use crate::domain_object::{put_chosen, put_word};
+use crate::domain_object::put_told;
 use crate::names::Names;
 use crate::put::{word_at, words_of};
 use crate::reasons::put_empty;
@@ -86,9 +86,8 @@ impl Telling<'_, '_> {
         let names = &self.names;
         let platform = &self.script.platform;
         match verdict {
-            "chosen" => put_chosen(&mut self.out, names, platform, path, &words),
             "empty" => put_empty(&mut self.out, names, path, self.decisions),
-            _ => put_word(&mut self.out, names, path, verdict),
+            _ => put_told(&mut self.out, platform, names.at(path), &words),
         }
     }
 

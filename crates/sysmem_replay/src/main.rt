@@ -4,8 +4,8 @@
 //! `sysmem_replay threads FILE` replays it with a thread for each actor, and prints what became of
 //! each domain.
 //! `sysmem_replay explain FILE` says what a script means: where it has a fault, or what its report
-//! comes from; with `--page OUT` it also writes that as a page of HTML, and with `--strict` the
-//! exit status tells whether all went well.
+//! comes from, with `--json` as an object of JSON for each item; with `--page OUT` it also writes
+//! that as a page of HTML, and with `--strict` the exit status tells whether all went well.
 //! `sysmem_replay check FILE PROOF` tests such a certificate.
 #![tactic(auto)]
 
@@ -15,6 +15,7 @@ use byte_transfer::{Counted, Sink, Source};
 use clap::Error;
 pub use command_line::{Job, Refusal, read_words};
 pub use explain::{Outcome, explain_file};
+pub use explanation_json::{explain_as_json, explain_as_json_to_page};
 pub use explanation_page::{explain_to_page, explained_ending};
 use refusal::refusal_ending;
 pub use report_json::{run_as_json, run_as_json_with_proof};
@@ -71,8 +72,17 @@ fn obey<T: Threads + Wait + Sync>(rt: &HostRuntime, threads: &T, words: &[String
         Ok(
             Job::Explain {
                 file,
+                is_json: true,
                 page,
                 is_strict,
+            },
+        ) => explained_ending(tell_script(rt, file, page), is_strict),
+        Ok(
+            Job::Explain {
+                file,
+                page,
+                is_strict,
+                ..
             },
         ) => explained_ending(explain_script(rt, file, page), is_strict),
         Ok(Job::Check { file, proof }) => ending_of(check_files(rt, file, proof)),
@@ -172,6 +182,24 @@ fn explain_script(rt: &HostRuntime, file: &str, page: Option<&str>) -> Result<Ou
     };
     let mut page = Counted::new(page);
     explain_to_page(rt.alloc(), file, &mut reader, &mut writer, &mut page)
+}
+
+/// Opens the script, then empties the page's file where one is asked for, explains it, and writes
+/// the objects of the explanation.
+fn tell_script(rt: &HostRuntime, file: &str, page: Option<&str>) -> Result<Outcome, RunFault> {
+    let Ok(script) = File::open(rt, file) else {
+        return Err(RunFault::Read);
+    };
+    let mut reader = Counted::new(script);
+    let mut writer = Counted::new(io::writer(rt));
+    let Some(out) = page else {
+        return explain_as_json(rt.alloc(), file, &mut reader, &mut writer);
+    };
+    let Ok(page) = File::create(rt, out) else {
+        return Err(RunFault::Write);
+    };
+    let mut page = Counted::new(page);
+    explain_as_json_to_page(rt.alloc(), file, &mut reader, &mut writer, &mut page)
 }
 
 /// Opens the script and then the certificate, and tests that.

@@ -21,7 +21,7 @@ returns-in_err-file-in-run-clause-none c =
     sym (first_value-rows (found_of c.in_ok-name.entries.now) (codes "FILE")) ∙ sym c.get_str.ensures ∙ ap (option_map (λ s. s.now)) (c.in_err-file-in-run.was) in
     none_entered _ c.args.matches.now (c.in_ok-name.name.now, rows) AsksForNone
     (entered_is c.args.matches.now c.in_ok-name.name.now rows c.in_ok-name.ensures.name c.in_ok-name.ensures.rows)
-    (record { run = λ file json proof h. some≢none file (sym h.1 ∙ unread); threads = λ file h. some≢none file (sym h.1 ∙ unread); explain = λ file page strict h. some≢none file (sym h.1 ∙ unread); check = λ file proof h. some≢none file (sym h.1 ∙ unread) })
+    (record { run = λ file json proof h. some≢none file (sym h.1 ∙ unread); threads = λ file h. some≢none file (sym h.1 ∙ unread); explain = λ file json page strict h. some≢none file (sym h.1 ∙ unread); check = λ file proof h. some≢none file (sym h.1 ∙ unread) })
 
 pub returns-in_ok-file-in-run-clause-some : goal.returns-in_ok-file-in-run-clause-some
 returns-in_ok-file-in-run-clause-some c =
@@ -42,7 +42,7 @@ returns-in_err-file-in-threads-clause-none c =
     sym (first_value-rows (found_of c.in_ok-name.entries.now) (codes "FILE")) ∙ sym c.get_str-in-threads.ensures ∙ ap (option_map (λ s. s.now)) (c.in_err-file-in-threads.was) in
     none_entered _ c.args.matches.now (c.in_ok-name.name.now, rows) AsksForNone
     (entered_is c.args.matches.now c.in_ok-name.name.now rows c.in_ok-name.ensures.name c.in_ok-name.ensures.rows)
-    (record { run = λ file json proof h. some≢none file (sym h.1 ∙ unread); threads = λ file h. some≢none file (sym h.1 ∙ unread); explain = λ file page strict h. some≢none file (sym h.1 ∙ unread); check = λ file proof h. some≢none file (sym h.1 ∙ unread) })
+    (record { run = λ file json proof h. some≢none file (sym h.1 ∙ unread); threads = λ file h. some≢none file (sym h.1 ∙ unread); explain = λ file json page strict h. some≢none file (sym h.1 ∙ unread); check = λ file proof h. some≢none file (sym h.1 ∙ unread) })
 
 pub returns-in_ok-file-in-threads-clause-some : goal.returns-in_ok-file-in-threads-clause-some
 returns-in_ok-file-in-threads-clause-some c =
@@ -60,7 +60,7 @@ returns-in_err-file-in-explain-clause-none c =
     sym (first_value-rows (found_of c.in_ok-name.entries.now) (codes "FILE")) ∙ sym c.get_str-in-explain.ensures ∙ ap (option_map (λ s. s.now)) (c.in_err-file-in-explain.was) in
     none_entered _ c.args.matches.now (c.in_ok-name.name.now, rows) AsksForNone
     (entered_is c.args.matches.now c.in_ok-name.name.now rows c.in_ok-name.ensures.name c.in_ok-name.ensures.rows)
-    (record { run = λ file json proof h. some≢none file (sym h.1 ∙ unread); threads = λ file h. some≢none file (sym h.1 ∙ unread); explain = λ file page strict h. some≢none file (sym h.1 ∙ unread); check = λ file proof h. some≢none file (sym h.1 ∙ unread) })
+    (record { run = λ file json proof h. some≢none file (sym h.1 ∙ unread); threads = λ file h. some≢none file (sym h.1 ∙ unread); explain = λ file json page strict h. some≢none file (sym h.1 ∙ unread); check = λ file proof h. some≢none file (sym h.1 ∙ unread) })
 
 pub returns-in_ok-file-in-explain-clause-some : goal.returns-in_ok-file-in-explain-clause-some
 returns-in_ok-file-in-explain-clause-some c =
@@ -71,8 +71,8 @@ returns-in_ok-file-in-explain-clause-some c =
     let page = option_map (λ s. s.now) c.get_str-page.result in
     let kept : first_of (codes "page") rows ≡ page =
     sym (first_value-rows (found_of c.in_ok-name.entries.now) (codes "page")) ∙ sym c.get_str-page.ensures in
-    some_entered c.args.matches.now (c.in_ok-name.name.now, rows) (λ e. IsExplainOf e file page c.is_set-is_strict.result)
-    (entered_is c.args.matches.now c.in_ok-name.name.now rows c.in_ok-name.ensures.name c.in_ok-name.ensures.rows) (c.in-explain.is, read, kept, sym c.is_set-is_strict.ensures)
+    some_entered c.args.matches.now (c.in_ok-name.name.now, rows) (λ e. IsExplainOf e file c.is_set-is_json-in-explain.result page c.is_set-is_strict.result)
+    (entered_is c.args.matches.now c.in_ok-name.name.now rows c.in_ok-name.ensures.name c.in_ok-name.ensures.rows) (c.in-explain.is, read, sym c.is_set-is_json-in-explain.ensures, kept, sym c.is_set-is_strict.ensures)
 
 pub returns-in_err-file-in-check-clause-none : goal.returns-in_err-file-in-check-clause-none
 returns-in_err-file-in-check-clause-none c =
@@ -81,7 +81,7 @@ returns-in_err-file-in-check-clause-none c =
     sym (first_value-rows (found_of c.in_ok-name.entries.now) (codes "FILE")) ∙ sym c.get_str-in-check.ensures ∙ ap (option_map (λ s. s.now)) (c.in_err-file-in-check.was) in
     none_entered _ c.args.matches.now (c.in_ok-name.name.now, rows) AsksForNone
     (entered_is c.args.matches.now c.in_ok-name.name.now rows c.in_ok-name.ensures.name c.in_ok-name.ensures.rows)
-    (record { run = λ file json proof h. some≢none file (sym h.1 ∙ unread); threads = λ file h. some≢none file (sym h.1 ∙ unread); explain = λ file page strict h. some≢none file (sym h.1 ∙ unread); check = λ file proof h. some≢none file (sym h.1 ∙ unread) })
+    (record { run = λ file json proof h. some≢none file (sym h.1 ∙ unread); threads = λ file h. some≢none file (sym h.1 ∙ unread); explain = λ file json page strict h. some≢none file (sym h.1 ∙ unread); check = λ file proof h. some≢none file (sym h.1 ∙ unread) })
 
 pub returns-in_err-proof-in-check-clause-none : goal.returns-in_err-proof-in-check-clause-none
 returns-in_err-proof-in-check-clause-none c =
@@ -90,7 +90,7 @@ returns-in_err-proof-in-check-clause-none c =
     sym (first_value-rows (found_of c.in_ok-name.entries.now) (codes "PROOF")) ∙ sym c.get_str-in-check-2.ensures ∙ ap (option_map (λ s. s.now)) (c.in_err-proof-in-check.was) in
     none_entered _ c.args.matches.now (c.in_ok-name.name.now, rows) AsksForNone
     (entered_is c.args.matches.now c.in_ok-name.name.now rows c.in_ok-name.ensures.name c.in_ok-name.ensures.rows)
-    (record { run = λ file json proof h. check_or_run (sym c.in-check.is ∙ h.0); threads = λ file h. check_or_threads (sym c.in-check.is ∙ h.0); explain = λ file page strict h. check_or_explain (sym c.in-check.is ∙ h.0); check = λ file proof h. some≢none proof (sym h.2 ∙ unread) })
+    (record { run = λ file json proof h. check_or_run (sym c.in-check.is ∙ h.0); threads = λ file h. check_or_threads (sym c.in-check.is ∙ h.0); explain = λ file json page strict h. check_or_explain (sym c.in-check.is ∙ h.0); check = λ file proof h. some≢none proof (sym h.2 ∙ unread) })
 
 pub returns-in_ok-proof-in-check-clause-some : goal.returns-in_ok-proof-in-check-clause-some
 returns-in_ok-proof-in-check-clause-some c =
