@@ -103,11 +103,7 @@ fn try_room(search: &mut Search, group: Group<'_, '_>, index: usize) -> Result<(
 fn try_edit(search: &mut Search, group: Group<'_, '_>, edit: Edit) -> Result<(), AllocError> {
     let story = group.story;
     let has_groups = (0..story.nodes.len()).any(|node| story.is_group(node));
-    let few = if has_groups {
-        group.people.len()
-    } else {
-        1
-    };
+    let few = if has_groups { group.people.len() } else { 1 };
     for one in group.people {
         if search.is_done() {
             break;
@@ -184,7 +180,10 @@ fn head_of(alloc: Global, search: &Search) -> Result<String, AllocError> {
             "none was found that helps alone, of {tried} that were tried, but {absurd} that leave a tiny image or a row long beyond measure"
         ),
         0 => format!(in alloc; "none was found that helps alone, of {tried} that were tried"),
-        1 => String::from_str(alloc, "this alone suffices (maybe not the only one that does):"),
+        1 => String::from_str(
+            alloc,
+            "this alone suffices (maybe not the only one that does):",
+        ),
         _ => String::from_str(alloc, "each of these alone suffices:"),
     }
 }

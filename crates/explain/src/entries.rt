@@ -102,7 +102,8 @@ impl Teller<'_, '_> {
         self.put_entry(&mut text, holder)?;
         text.push_str(" comes before it and holds for ")?;
         put_pair(&mut text, Some(pair.format), Some(pair.modifier))?;
-        text.push_str("; is it to come first?")?;
+        let shown = place_of(self.one.stated, index).item.saturating_add(1);
+        write!(text, "; is entry {shown} to come first?")?;
         Ok(text)
     }
 

@@ -79,7 +79,11 @@ fn try_exchange(
     let Some(line) = outcome(alloc, group, &stated, group.path)? else {
         return Ok(());
     };
-    let root = group.story.domains.get(domain).map_or(0, |known| known.root);
+    let root = group
+        .story
+        .domains
+        .get(domain)
+        .map_or(0, |known| known.root);
     let path = group.story.path(root);
     if outcome(alloc, group, &stated, path)?.is_none() {
         return Ok(());

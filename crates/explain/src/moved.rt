@@ -188,11 +188,7 @@ fn step<'a>(
 }
 
 /// The calls once some are moved, from the last on.
-fn moved<'a>(
-    alloc: Global,
-    calls: &[Call<'a>],
-    moves: &[Move],
-) -> Result<Vec<Call<'a>>, AllocError>
+fn moved<'a>(alloc: Global, calls: &[Call<'a>], moves: &[Move]) -> Result<Vec<Call<'a>>, AllocError>
     ensures { IfOk result (λ made. IsMoved calls.now made.items) }
 {
     let mut made = Vec::from_slice(alloc, calls)?;

@@ -233,7 +233,9 @@ impl Group<'_, '_> {
             return Ok(());
         }
         let count = parts.len();
-        let head = format!(in alloc; "{before}these {count} together suffice (fewer weren't found):")?;
+        let head = format!(in alloc;
+            "{before}these {count} together suffice (fewer weren't found):"
+        )?;
         items.say(1, "change", head)?;
         for part in parts {
             self.put_part(items, *part)?;

@@ -108,7 +108,14 @@ fn tell_refused(
         );
         return tell(items, 2, "", words);
     }
-    let rows = offer_rows(alloc, &refused, before, true, false, platform.colours().len())?;
+    let rows = offer_rows(
+        alloc,
+        &refused,
+        before,
+        true,
+        false,
+        platform.colours().len(),
+    )?;
     tell_rows(items, 2, "not ", &rows, usize::MAX, "offers that it takes")
 }
 

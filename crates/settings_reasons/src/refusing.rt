@@ -132,7 +132,13 @@ fn add_pair(
             offer => offer_name(alloc, offer)?,
         };
         let count = if is_one { colours } else { 1 };
-        add(rows, name, copied(alloc, &refused.texts)?, refused.distance, count)?;
+        add(
+            rows,
+            name,
+            copied(alloc, &refused.texts)?,
+            refused.distance,
+            count,
+        )?;
     }
     Ok(())
 }
