@@ -8,7 +8,7 @@ ghost use Rattle.explain.specs.Moved.{IsMoved, IsPromisedMoved, moving};
 use crate::explaining::answer_of;
 use domain_reasons::tell_domain;
 use explanation_text::{Items, Kind};
-use script_reading::{Call, read_script};
+use script_reading::{Call, ParseFault, read_script};
 use script_story::{Setting, story_of};
 use serde_json::Value;
 use std::alloc::{AllocError, Global};
@@ -31,8 +31,10 @@ pub(crate) fn tell_moved(
         return Ok(());
     }
     let other = reordered(alloc, value, &moves)?;
-    let Ok(script) = read_script(alloc, &other) else {
-        return Ok(());
+    let script = match read_script(alloc, &other) {
+        Ok(script) => script,
+        Err(ParseFault::NoMemory) => return Err(AllocError),
+        Err(ParseFault::Refused(_)) => return Ok(()),
     };
     let wider = Setting {
         platform: setting.platform,
