@@ -183,10 +183,13 @@ fn step<'a>(
     ensures { IfOk result (λ made.
         (first : List Called) → IsMoved first calls.now → IsMoved first made.items) }
 {
-    if from < to && to < calls.len() {
-        return moved_once(alloc, calls, from, to);
+    let is_later = from < to && to < calls.len();
+    if is_later {
+        let made = moved_once(alloc, calls, from, to)?;
+        return Ok(made);
     }
-    Vec::from_slice(alloc, calls)
+    let same = Vec::from_slice(alloc, calls)?;
+    Ok(same)
 }
 
 /// The calls once some are moved, from the last on.
