@@ -4,6 +4,7 @@ use crate::exchanging::exchanged;
 use crate::objects::{ENTRIES, MEMORY, entries_of, have, lacking, with, words_without};
 use crate::permitting::{meaning, permitting};
 use crate::taking::{taking_colour, taking_pair};
+use crate::using::{asking_for, without_cpu};
 use serde_json::Value;
 use std::alloc::{AllocError, Global};
 use sysmem_counts::Field;
@@ -11,7 +12,7 @@ use sysmem_formats::{ColourSpace, Pair};
 use sysmem_memory::HeapInfo;
 
 /// A change of one field of one participant.
-#[derive(Clone, Copy)]
+#[derive(Clone, Copy, PartialEq, Eq)]
 pub enum Edit {
     /// A heap is permitted in the place of one that nearly has its name: the heap of an index.
     MeansHeap(usize),
@@ -31,6 +32,10 @@ pub enum Edit {
     TakesPair(Pair),
     /// A heap is permitted too: the heap of an index.
     PermitsHeap(usize),
+    /// No CPU uses the buffers.
+    NoCpu,
+    /// So many buffers are asked for at least.
+    LeastCount(u32),
 }
 
 impl Edit {
@@ -45,25 +50,25 @@ impl Edit {
 
 /// The changes that go by no platform and are tried first.
 const FIRST: [Edit; 27] = [
+    Edit::Supports(Field::RamDomainSupported),
+    Edit::Supports(Field::CpuDomainSupported),
+    Edit::Supports(Field::InaccessibleDomainSupported),
+    Edit::NoBound(Field::MaxSize),
+    Edit::NoBound(Field::RequiredMinSize),
+    Edit::NoBound(Field::MaxBytesPerRow),
+    Edit::NoBound(Field::MaxWidthTimesHeight),
+    Edit::NoMemory(Field::MaxSizeBytes),
+    Edit::NoCount(Field::MaxBufferCount),
     Edit::Exchanges(Field::MinBufferCount, Field::MaxBufferCount),
     Edit::Exchanges(Field::MinSizeBytes, Field::MaxSizeBytes),
     Edit::Exchanges(Field::MinSize, Field::MaxSize),
     Edit::Exchanges(Field::MinSize, Field::RequiredMinSize),
     Edit::Exchanges(Field::RequiredMaxSize, Field::MaxSize),
     Edit::Exchanges(Field::MinBytesPerRow, Field::MaxBytesPerRow),
-    Edit::Supports(Field::RamDomainSupported),
-    Edit::Supports(Field::CpuDomainSupported),
-    Edit::Supports(Field::InaccessibleDomainSupported),
-    Edit::NoBound(Field::MaxSize),
     Edit::NoBound(Field::MinSize),
     Edit::NoBound(Field::RequiredMaxSize),
-    Edit::NoBound(Field::RequiredMinSize),
-    Edit::NoBound(Field::MaxBytesPerRow),
     Edit::NoBound(Field::MinBytesPerRow),
-    Edit::NoBound(Field::MaxWidthTimesHeight),
-    Edit::NoMemory(Field::MaxSizeBytes),
     Edit::NoMemory(Field::MinSizeBytes),
-    Edit::NoCount(Field::MaxBufferCount),
     Edit::NoCount(Field::MinBufferCount),
     Edit::NoCount(Field::MinBufferCountForCamping),
     Edit::NoCount(Field::MinBufferCountForDedicatedSlack),
@@ -74,10 +79,11 @@ const FIRST: [Edit; 27] = [
     Edit::NoBound(Field::DisplayRectAlignment),
 ];
 
-/// Those that drop what a participant demands of a buffer, and are tried last.
-const LAST: [Edit; 2] = [
+/// Those that drop what a participant demands of a buffer or does with it, and are tried last.
+const LAST: [Edit; 3] = [
     Edit::NoMemory(Field::PhysicallyContiguousRequired),
     Edit::NoMemory(Field::SecureRequired),
+    Edit::NoCpu,
 ];
 
 /// The changes that are tried on a platform with these heaps, pairs and colour spaces, those that are mostly meant first.
@@ -129,6 +135,8 @@ pub fn edited(
         Edit::TakesColour(colour) => taking_colour(alloc, value, colour.name()),
         Edit::TakesPair(pair) => taking_pair(alloc, value, pair),
         Edit::PermitsHeap(index) => permitting(alloc, value, heaps.get(index)),
+        Edit::NoCpu => without_cpu(alloc, value),
+        Edit::LeastCount(count) => asking_for(alloc, value, count),
     }
 }
 

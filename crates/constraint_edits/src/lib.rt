@@ -17,6 +17,7 @@ mod halving;
 mod objects;
 mod permitting;
 mod taking;
+mod using;
 
 pub use amount::{Amount, edited_to};
 pub use edits::{Changed, Edit, edited, edits_on};

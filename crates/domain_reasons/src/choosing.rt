@@ -9,7 +9,7 @@ use sysmem_sanitise::Platform;
 use value_sources::put_texts;
 
 /// How many choices are named.
-const MOST_CHOICES: usize = 6;
+pub(crate) const MOST_CHOICES: usize = 6;
 
 /// Tells what was chosen in a domain, and why: of the initial one.
 pub(crate) fn tell_choice(

@@ -2,6 +2,7 @@
 
 use crate::awaiting::tell_pending;
 use crate::choosing::tell_choice;
+use crate::exchanged::{are_exchanged, states_usage, usage_meant};
 use crate::failing::{tell_failed, tell_none, tell_too_many};
 use explanation_text::{Items, Kind};
 use script_reading::Act;
@@ -91,33 +92,41 @@ fn tell_who(
     Ok(())
 }
 
-/// The usage that goes with what a participant or its actor is called, if one does.
-fn usage_of(name: &str) -> Option<&'static str> {
-    match name {
-        "display" | "screen" | "panel" => Some("display"),
-        "gpu" => Some("vulkan"),
-        "camera" | "isp" | "encoder" | "decoder" | "codec" => Some("video"),
-        _ => None,
-    }
-}
-
-/// Notes a usage that doesn't go with what a participant or its actor is called.
+/// Notes a usage that doesn't go with what a participant or its actor is called, and with whom its constraints may be exchanged.
 fn note_usage(items: &mut Items, story: &Story<'_>, one: Asked<'_>) -> Result<(), AllocError> {
     let alloc = items.alloc();
-    let number = story.deed(one.node, Deed::SetConstraints).unwrap_or(0);
-    let Some(usage) = usage_of(one.name).or(usage_of(story.actor(number))) else {
+    let Some(usage) = usage_meant(story, one) else {
         return Ok(());
     };
+    let number = story.deed(one.node, Deed::SetConstraints).unwrap_or(0);
     let mut stated = String::new(alloc);
     put_usage(&mut stated, story, number)?;
-    if stated.is_empty() || stated.as_str().split(' ').any(|word| word == usage) {
+    if stated.is_empty() || states_usage(story, one, usage) {
         return Ok(());
     }
     let name = one.name;
-    let text = format!(in alloc;
+    let mut text = format!(in alloc;
         "{name} (call {number}) doesn't state usage {usage}: are these the constraints that are meant for it?"
     )?;
+    put_other(&mut text, story, one)?;
     items.say(1, "note", text)
+}
+
+/// Puts with whom the constraints of a participant may be exchanged after a text, of all domains, if somebody is found.
+fn put_other(text: &mut String, story: &Story<'_>, one: Asked<'_>) -> Result<(), AllocError> {
+    for index in 0..story.domains.len() {
+        for other in asked_in(*text.allocator(), story, index, false)? {
+            if are_exchanged(story, one, other) {
+                let name = other.name;
+                let number = story.deed(other.node, Deed::SetConstraints).unwrap_or(0);
+                return write!(
+                    text,
+                    " They may be exchanged with those of {name} (call {number})"
+                );
+            }
+        }
+    }
+    Ok(())
 }
 
 fn put_who(

@@ -138,7 +138,29 @@ fn tell_late(
     all.extend_from_slice(&people)?;
     tell_room(items, &all, settings.count)?;
     tell_fewer(items, &people, settings.count)?;
-    tell_unsuited(items, platform, &people, settings)
+    let before = accepted_before(items.alloc(), story, index)?;
+    tell_unsuited(items, platform, &people, &before, settings)
+}
+
+/// How many buffers all need together who share those of the domain of an index, where that is more than were decided before it.
+pub fn room_needed(
+    alloc: Global,
+    story: &Story<'_>,
+    index: usize,
+) -> Result<Option<u32>, AllocError> {
+    let host = story.domains.get(index).and_then(|domain| domain.host);
+    let Some(above) = host.and_then(|host| story.domain_of(host)) else {
+        return Ok(None);
+    };
+    let Some(settings) = &above.settings else {
+        return Ok(None);
+    };
+    let mut all = accepted_before(alloc, story, index)?;
+    all.extend_from_slice(&asked_in(alloc, story, index, false)?)?;
+    match u32::try_from(needed_by(&all)) {
+        Ok(most) if most > settings.count => Ok(Some(most)),
+        _ => Ok(None),
+    }
 }
 
 /// Tells in which fields settings fail participants, where they fail one.
@@ -146,12 +168,13 @@ fn tell_unsuited(
     items: &mut Items,
     platform: &Platform,
     people: &[Asked<'_>],
+    before: &[Asked<'_>],
     settings: &Settings,
 ) -> Result<(), AllocError> {
     let alloc = items.alloc();
     for one in people {
         if !failing(alloc, platform, settings, one.asked)?.is_empty() {
-            return tell_misfits(items, platform, people, settings);
+            return tell_misfits(items, platform, people, before, settings);
         }
     }
     Ok(())
@@ -204,8 +227,9 @@ fn tell_room(items: &mut Items, all: &[Asked<'_>], count: u32) -> Result<(), All
         return Ok(());
     }
     let why = why_needed(alloc, all)?;
+    let were = if count == 1 { "was" } else { "were" };
     let text = format!(in alloc;
-        "{most} buffers are needed, {count} were decided, {lacking} too few: {why}"
+        "{most} buffers are needed, {count} {were} decided, {lacking} too few: {why}"
     )?;
     items.say(1, "count", text)
 }

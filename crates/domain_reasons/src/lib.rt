@@ -10,8 +10,12 @@
 mod awaiting;
 mod choosing;
 mod domains;
+mod exchanged;
 mod failing;
 mod selecting;
 
 pub use awaiting::who_holds_up;
 pub use domains::tell_domain;
+pub use exchanged::are_exchanged;
+pub use failing::room_needed;
+pub use selecting::choices_in;

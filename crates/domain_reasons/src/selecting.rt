@@ -1,11 +1,13 @@
 //! Why no selection of groups' children has settings.
 
+use crate::choosing::MOST_CHOICES;
 use explanation_text::wording::put_joined;
 use explanation_text::{Items, are_same};
 use settings_reasons::{is_unmet, tell_conflict};
 use std::alloc::{AllocError, Global};
 use story_parts::{Story, asked_by};
 use sysmem_sanitise::Platform;
+use value_sources::put_texts;
 
 /// How many failing selections are told.
 pub(crate) const MOST_TOLD: usize = 12;
@@ -234,4 +236,33 @@ fn tell_not(
     let text = format!(in items.alloc(); "not {name}:")?;
     items.say(2, "", text)?;
     tell_empty(items, 3, empty, choices, told, empty.story.nodes.len())
+}
+
+/// The children that the choices of a line on a domain name, as `layouts: tiled`; empty where it names none.
+pub fn choices_in(
+    alloc: Global,
+    story: &Story<'_>,
+    root: usize,
+    line: &str,
+) -> Result<String, AllocError> {
+    let mut texts: Vec<String> = Vec::new(alloc);
+    let mut choices: Vec<Choice> = Vec::new(alloc);
+    let ordinals = line.split(' ').nth(1).unwrap_or("-");
+    for ordinal in ordinals.split('.') {
+        let Ok(place) = ordinal.parse::<usize>() else {
+            break;
+        };
+        let Some(group) = walk(alloc, story, root, &choices)?.open else {
+            break;
+        };
+        let Some(child) = story.children(alloc, group)?.get(place).copied() else {
+            break;
+        };
+        let (name, chosen) = (story.name(group), story.name(child));
+        texts.push(format!(in alloc; "{name}: {chosen}")?)?;
+        choices.push(Choice { group, child })?;
+    }
+    let mut text = String::new(alloc);
+    put_texts(&mut text, &texts, MOST_CHOICES)?;
+    Ok(text)
 }

@@ -1,1 +1,2 @@
 pub mod Edited
+pub mod Moved

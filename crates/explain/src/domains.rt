@@ -1,12 +1,16 @@
 //! What became of each domain, why, and what would help.
 
 use crate::changes::tell_changes;
+use crate::entries::tell_unused;
+use crate::group::Group;
+use crate::moved::tell_then;
 use crate::pending::tell_without;
 use crate::platforms::tell_platform;
 use crate::together::tell_together;
 use constraint_edits::edits_on;
 use domain_reasons::tell_domain;
 use explanation_text::Items;
+use record_faults::Document;
 use script_story::Setting;
 use std::alloc::AllocError;
 use story_parts::{Story, asked_in};
@@ -14,6 +18,7 @@ use story_parts::{Story, asked_in};
 /// Tells each domain, in the order of the report.
 pub(crate) fn tell_domains(
     items: &mut Items,
+    document: &Document<'_>,
     setting: &Setting<'_>,
     story: &Story<'_>,
 ) -> Result<(), AllocError> {
@@ -21,7 +26,8 @@ pub(crate) fn tell_domains(
         let is_again = story.order.iter().take(k).any(|before| before == index);
         if !is_again {
             tell_domain(items, setting.platform, story, *index)?;
-            tell_help(items, setting, story, *index)?;
+            tell_unused(items, document, setting.platform, story, *index)?;
+            tell_help(items, document, setting, story, *index)?;
         }
     }
     Ok(())
@@ -30,6 +36,7 @@ pub(crate) fn tell_domains(
 /// Tells what would help a domain that is pending or empty.
 fn tell_help(
     items: &mut Items,
+    document: &Document<'_>,
     setting: &Setting<'_>,
     story: &Story<'_>,
     index: usize,
@@ -39,8 +46,11 @@ fn tell_help(
     };
     let path = story.path(domain.root);
     match domain.verdict() {
-        "pending" => tell_without(items, setting, story, index, path),
-        "empty" => tell_edits(items, setting, story, index, path),
+        "pending" => {
+            tell_then(items, setting, story, path)?;
+            tell_without(items, setting, story, index, path)
+        }
+        "empty" => tell_edits(items, document, setting, story, index),
         _ => Ok(()),
     }
 }
@@ -48,10 +58,10 @@ fn tell_help(
 /// Tells what would help an empty domain: one change of a participant, or else some together, and a pair that the platform lacks.
 fn tell_edits(
     items: &mut Items,
+    document: &Document<'_>,
     setting: &Setting<'_>,
     story: &Story<'_>,
     index: usize,
-    path: &str,
 ) -> Result<(), AllocError> {
     let alloc = items.alloc();
     let platform = setting.platform;
@@ -62,8 +72,17 @@ fn tell_edits(
         platform.pairs(),
         platform.colours(),
     )?;
-    if !tell_changes(items, setting, story, path, &people, &edits)? {
-        tell_together(items, setting, story, path, &people, &edits)?;
+    let root = story.domains.get(index).map_or(0, |domain| domain.root);
+    let group = Group {
+        document,
+        setting,
+        story,
+        path: story.path(root),
+        root,
+        people: &people,
+    };
+    if !tell_changes(items, group, index, &edits)? {
+        tell_together(items, group, &edits)?;
     }
-    tell_platform(items, setting, path, &people)
+    tell_platform(items, setting, group.path, &people)
 }

@@ -2,6 +2,7 @@
 
 use crate::domains::tell_domains;
 use crate::lines::with_lines;
+use crate::moved::tell_moved;
 use explanation_text::wording::put_count;
 use explanation_text::{Item, Items, Kind};
 use json_places::{Span, column_of, line_of, repeated_keys};
@@ -79,12 +80,29 @@ fn explain_value(
         Ok(script) => explain_script(alloc, &document, &script),
         Err(ParseFault::NoMemory) => Err(AllocError),
         Err(ParseFault::Refused(fault)) => {
-            let mut items = Items::new(alloc);
-            tell_fault(&mut items, &document, fault)?;
-            tell_repeats(&mut items, &document)?;
-            Ok(refusal(items))
+            let mut told = Items::new(alloc);
+            tell_fault(&mut told, &document, fault)?;
+            Ok(refusal(with_repeats(&document, told)?))
         }
     }
+}
+
+/// What is told of a fault, with the keys that are given twice before where it stands: one of them may be what is meant.
+fn with_repeats(document: &Document<'_>, told: Items) -> Result<Items, AllocError> {
+    let alloc = told.alloc();
+    let mut items = Items::new(alloc);
+    for item in told.into_list() {
+        let is_answer = item.kind == Kind::Answer;
+        items.push(item.kind, item.depth, item.label, item.text)?;
+        if is_answer {
+            tell_repeats(&mut items, document)?;
+            if items.len() > 1 {
+                let title = String::from_str(alloc, "where the script is refused")?;
+                items.push(Kind::Title, 0, "", title)?;
+            }
+        }
+    }
+    Ok(items)
 }
 
 /// Explains what a script's calls do.
@@ -120,7 +138,8 @@ fn tell_story(
     put_answer(items, story)?;
     tell_repeats(items, document)?;
     tell_refused(items, document, story)?;
-    tell_domains(items, setting, story)
+    tell_moved(items, setting, document.value, story)?;
+    tell_domains(items, document, setting, story)
 }
 
 fn outcome_of(story: &Story<'_>) -> Outcome {
@@ -137,7 +156,13 @@ fn outcome_of(story: &Story<'_>) -> Outcome {
 
 /// The answer: how many calls were refused, and what became of each domain.
 fn put_answer(items: &mut Items, story: &Story<'_>) -> Result<(), AllocError> {
-    let mut text = String::new(items.alloc());
+    let text = answer_of(items.alloc(), story)?;
+    items.push(Kind::Answer, 0, "", text)
+}
+
+/// The answer in words.
+pub(crate) fn answer_of(alloc: Global, story: &Story<'_>) -> Result<String, AllocError> {
+    let mut text = String::new(alloc);
     put_count(&mut text, story.calls.len(), "call", "calls")?;
     match refused_calls(story) {
         0 => text.push_str(", none refused")?,
@@ -152,7 +177,7 @@ fn put_answer(items: &mut Items, story: &Story<'_>) -> Result<(), AllocError> {
         write!(text, ", {more} answered otherwise than ok")?;
     }
     put_verdicts(&mut text, story)?;
-    items.push(Kind::Answer, 0, "", text)
+    Ok(text)
 }
 
 /// Whether a verdict was asked for in vain, where the domain's own section doesn't tell why.

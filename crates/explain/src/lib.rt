@@ -9,8 +9,12 @@
 
 mod changes;
 mod domains;
+mod entries;
+mod exchanges;
 mod explaining;
+mod group;
 mod lines;
+mod moved;
 mod parts;
 mod pending;
 mod platforms;

@@ -5,17 +5,18 @@ ghost use Rattle.std.specs.String.{string_bytes};
 ghost use Rattle.script_reading.specs.Seen.{call_seen};
 ghost use Rattle.explain.specs.Edited.{IsPromisedSo, IsRestated};
 
+use crate::changes::put_choice;
+use crate::group::Group;
 use crate::parts::{Part, after, all_but, set_amount};
 use crate::trying::{MOST_HALVINGS, chosen_with, replaced};
 use crate::worth::{are_sized, is_worth};
 use constraint_edits::{Edit, Halving, edited, is_absurd};
+use domain_reasons::choices_in;
 use explanation_text::{Items, Kind};
 use script_reading::Call;
-use script_story::Setting;
 use serde_json::Value;
 use std::alloc::{AllocError, Global};
-use story_parts::{Deed, Story};
-use value_sources::Asked;
+use story_parts::Deed;
 
 /// How many changes are made at once at most.
 const MOST: usize = 96;
@@ -26,53 +27,56 @@ const TOLD: usize = 6;
 
 /// Constraints that a call states in the place of its own.
 #[derive(Drop)]
-struct Stated {
+pub(crate) struct Stated {
     /// The place of the call, from 0.
-    place: usize,
-    value: Value,
-}
-
-/// Those whose constraints are changed, for the domain at a path.
-#[derive(Clone, Copy)]
-struct Group<'a, 'b> {
-    setting: &'b Setting<'a>,
-    story: &'b Story<'a>,
-    path: &'b str,
-    people: &'b [Asked<'a>],
+    pub(crate) place: usize,
+    pub(crate) value: Value,
 }
 
 /// Tells the fewest changes found with which, made together, the domain at a path would have settings, and the decision that would come: the
-/// line of the report of the changed script.
+/// line of the report of the changed script. Where others do that take the use by a CPU away, those are told beside them.
 pub(crate) fn tell_together(
     items: &mut Items,
-    setting: &Setting<'_>,
-    story: &Story<'_>,
-    path: &str,
-    people: &[Asked<'_>],
+    group: Group<'_, '_>,
     edits: &[Edit],
 ) -> Result<(), AllocError> {
-    let group = Group {
-        setting,
-        story,
-        path,
-        people,
-    };
-    tell_fewest(items, group, edits)
+    let alloc = items.alloc();
+    let all = group.parts(alloc, edits)?;
+    let mut plain: Vec<Part> = Vec::new(alloc);
+    for part in &all {
+        if part.edit != Edit::NoCpu {
+            plain.push(*part)?;
+        }
+    }
+    if let Some(fewest) = group.fewest(alloc, &plain)? {
+        tell_parts(items, group, &fewest, "")?;
+    }
+    if plain.len() == all.len() || group.outcome(alloc, &all)?.is_none() {
+        return Ok(());
+    }
+    let others = group.needed(alloc, &all, false)?;
+    if others.iter().any(|part| part.edit == Edit::NoCpu) {
+        tell_parts(items, group, &others, "or ")?;
+    }
+    Ok(())
 }
 
-fn tell_fewest(items: &mut Items, group: Group<'_, '_>, edits: &[Edit]) -> Result<(), AllocError> {
-    let all = group.parts(items.alloc(), edits)?;
-    let Some(fewest) = group.fewest(items.alloc(), &all)? else {
-        return Ok(());
-    };
+/// Tells changes that help together, each as small as it can be.
+fn tell_parts(
+    items: &mut Items,
+    group: Group<'_, '_>,
+    fewest: &[Part],
+    before: &str,
+) -> Result<(), AllocError> {
     if fewest.len() < 2 || fewest.len() > TOLD {
         return Ok(());
     }
-    let mut parts = fewest;
+    let alloc = items.alloc();
+    let mut parts = Vec::from_slice(alloc, fewest)?;
     for index in 0..parts.len() {
-        group.lessen(items.alloc(), &mut parts, index)?;
+        group.lessen(alloc, &mut parts, index)?;
     }
-    group.tell(items, &parts)
+    group.tell(items, &parts, before)
 }
 
 impl Group<'_, '_> {
@@ -220,7 +224,7 @@ impl Group<'_, '_> {
     }
 
     /// Tells changes, and the decision that comes by them.
-    fn tell(&self, items: &mut Items, parts: &[Part]) -> Result<(), AllocError> {
+    fn tell(&self, items: &mut Items, parts: &[Part], before: &str) -> Result<(), AllocError> {
         let alloc = items.alloc();
         let Some(line) = self.outcome(alloc, parts)? else {
             return Ok(());
@@ -229,12 +233,16 @@ impl Group<'_, '_> {
             return Ok(());
         }
         let count = parts.len();
-        let head = format!(in alloc; "these {count} together suffice (fewer weren't found):")?;
+        let head = format!(in alloc;
+            "{before}these {count} together suffice (fewer weren't found):"
+        )?;
         items.say(1, "change", head)?;
         for part in parts {
             self.put_part(items, *part)?;
         }
-        put_line(items, *self, line)
+        let choice = choices_in(alloc, self.story, self.root, &line)?;
+        put_line(items, *self, 2, line)?;
+        put_choice(items, 2, choice)
     }
 
     /// Puts a change of a participant.
@@ -250,24 +258,28 @@ impl Group<'_, '_> {
         let Some(change) = part.changed(alloc, value, heaps)? else {
             return Ok(());
         };
-        let number = self.story.deed(one.node, Deed::SetConstraints).unwrap_or(0);
-        let name = one.name;
+        let who = self.who(alloc, one)?;
         let words = change.words.as_str();
-        let text = format!(in alloc; "{name} (call {number}): {words}")?;
+        let text = format!(in alloc; "{who}: {words}")?;
         items.say(2, "and", text)
     }
 }
 
 /// Puts the decision that comes by several changes.
-fn put_line(items: &mut Items, group: Group<'_, '_>, line: String) -> Result<(), AllocError>
+pub(crate) fn put_line(
+    items: &mut Items,
+    group: Group<'_, '_>,
+    depth: usize,
+    line: String,
+) -> Result<(), AllocError>
     requires { IsPromisedSo group.setting.now.platform.now
         (map call_seen group.setting.now.calls.now) group.path.now (string_bytes line) }
 {
-    items.push(Kind::Decision, 2, "->", line)
+    items.push(Kind::Decision, depth, "->", line)
 }
 
 /// The calls, of which some state other constraints.
-fn restated<'a>(
+pub(crate) fn restated<'a>(
     alloc: Global,
     calls: &[Call<'a>],
     stated: &'a [Stated],

@@ -28,8 +28,6 @@ pub(crate) struct Found {
 pub(crate) struct Trial<'a, 'b> {
     pub(crate) setting: &'b Setting<'a>,
     pub(crate) path: &'b str,
-    /// The participant's name.
-    pub(crate) name: &'b str,
     /// The place of the call that states its constraints, from 0.
     pub(crate) place: usize,
 }

@@ -29,6 +29,10 @@ pub(crate) fn is_worth(edit: Edit, one: &Asked<'_>, people: &[Asked<'_>], few: u
             }
             lacking <= few && lacks_colour(one, colour)
         }
+        Edit::NoCpu => people.iter().any(|other| {
+            let memory = other.asked.memory();
+            memory.secure_required
+        }),
         _ => true,
     }
 }

@@ -4,7 +4,7 @@ use crate::offer_words::offer_name;
 use crate::offering::offers_of;
 use crate::placing::{places_of, put_place};
 use crate::refusing::{offer_rows, place_rows};
-use crate::rows::tell_rows;
+use crate::rows::{tell, tell_rows};
 use explanation_text::Items;
 use std::alloc::AllocError;
 use sysmem_formats::{Offer, bytes_per_pixel};
@@ -37,12 +37,10 @@ fn tell_count(
     people: &[Asked<'_>],
     settings: &Settings,
 ) -> Result<(), AllocError> {
-    let alloc = items.alloc();
-    let why = why_needed(alloc, people)?;
-    let count = settings.count;
+    let why = why_needed(items.alloc(), people)?;
     let mark = if why.contains('(') { " =" } else { ":" };
-    let text = format!(in alloc; "{count}{mark} {why}")?;
-    items.say(1, "count", text)
+    let words = format!(in items.alloc(); "{}{mark} {why}", settings.count);
+    tell(items, 1, "count", words)
 }
 
 /// Tells a number, and where it comes from.
@@ -51,10 +49,8 @@ fn tell_derived(
     label: &'static str,
     derived: &Derived,
 ) -> Result<(), AllocError> {
-    let value = derived.value;
-    let why = derived.why.as_str();
-    let text = format!(in items.alloc(); "{value}: {why}")?;
-    items.say(1, label, text)
+    let words = format!(in items.alloc(); "{}: {}", derived.value, derived.why);
+    tell(items, 1, label, words)
 }
 
 /// Notes sides and rows that come out more than twice as great as anybody asks: mostly a multiple
@@ -63,28 +59,37 @@ fn note_size(items: &mut Items, wishes: Wishes<'_, '_>) -> Result<(), AllocError
     let Offer::Image(_, _) = wishes.offer else {
         return Ok(());
     };
-    let alloc = items.alloc();
-    for side in [Side::Width, Side::Height] {
-        let value = wishes.side(alloc, side)?.value;
-        let asked = wishes.asked(side);
-        if value > asked.saturating_mul(2).max(32) {
-            let name = side.name();
-            let text = format!(in alloc;
-                "the {name} is {value}, more than twice the {asked} that are asked for: is the size_alignment meant?"
-            )?;
-            items.say(1, "note", text)?;
-        }
+    note_side(items, wishes, Side::Width)?;
+    note_side(items, wishes, Side::Height)?;
+    note_row(items, wishes)
+}
+
+/// Notes a side that comes out so great.
+fn note_side(items: &mut Items, wishes: Wishes<'_, '_>, side: Side) -> Result<(), AllocError> {
+    let value = wishes.side(items.alloc(), side)?.value;
+    let asked = wishes.asked(side);
+    if value <= asked.saturating_mul(2).max(32) {
+        return Ok(());
     }
-    let width = wishes.side(alloc, Side::Width)?.value;
+    let name = side.name();
+    let words = format!(in items.alloc();
+        "the {name} is {value}, more than twice the {asked} that are asked for: is the size_alignment meant?"
+    );
+    tell(items, 1, "note", words)
+}
+
+/// Notes rows that come out so long.
+fn note_row(items: &mut Items, wishes: Wishes<'_, '_>) -> Result<(), AllocError> {
+    let width = wishes.side(items.alloc(), Side::Width)?.value;
     let packed = width.saturating_mul(u128::from(bytes_per_pixel(&wishes.offer)));
-    let row = wishes.row(alloc, false)?.value;
-    if row > packed.saturating_mul(2).max(512) {
-        let text = format!(in alloc;
-            "a row is {row} bytes, more than twice the {packed} of its pixels: are the row's fields meant?"
-        )?;
-        return items.say(1, "note", text);
+    let row = wishes.row(items.alloc(), false)?.value;
+    if row <= packed.saturating_mul(2).max(512) {
+        return Ok(());
     }
-    Ok(())
+    let words = format!(in items.alloc();
+        "a row is {row} bytes, more than twice the {packed} of its pixels: are the row's fields meant?"
+    );
+    tell(items, 1, "note", words)
 }
 
 /// Tells the place, and who refused each of those before it.
@@ -98,15 +103,10 @@ fn tell_place(
     let mut text = String::new(alloc);
     put_place(&mut text, platform, settings.place)?;
     items.say(1, "place", text)?;
-    let mut earlier = Vec::new(alloc);
-    for place in places_of(alloc, platform)? {
-        if place == settings.place {
-            break;
-        }
-        earlier.push(place)?;
-    }
-    let rows = place_rows(alloc, platform, &earlier, people, false)?;
-    tell_rows(items, 2, "not ", &rows, usize::MAX)
+    let places = places_of(alloc, platform)?;
+    let earlier = before(&places, &settings.place);
+    let rows = place_rows(alloc, platform, earlier, people, false)?;
+    tell_rows(items, 2, "not ", &rows, usize::MAX, "places before it")
 }
 
 /// Tells the offer, and who refused each of those before it.
@@ -122,16 +122,21 @@ fn tell_offer(
         offer => offer_name(alloc, &offer)?,
     };
     items.say(1, "image", text)?;
-    let mut earlier = Vec::new(alloc);
-    for offer in offers_of(alloc, platform)? {
-        if offer == settings.offer {
-            break;
-        }
-        earlier.push(offer)?;
-    }
+    let offers = offers_of(alloc, platform)?;
+    let earlier = before(&offers, &settings.offer);
     let colours = platform.colours().len();
-    let rows = offer_rows(alloc, &earlier, people, true, false, colours)?;
-    tell_rows(items, 2, "not ", &rows, usize::MAX)
+    let rows = offer_rows(alloc, earlier, people, true, false, colours)?;
+    tell_rows(items, 2, "not ", &rows, usize::MAX, "offers before it")
+}
+
+/// The front of a list up to the first item that is equal to one; all of it where none is.
+fn before<'a, T: PartialEq>(list: &'a [T], one: &T) -> &'a [T] {
+    for (k, other) in list.iter().enumerate() {
+        if *other == *one {
+            return list.get(..k).unwrap_or(list);
+        }
+    }
+    list
 }
 
 /// Tells where an image's width, height and row come from.
@@ -143,10 +148,8 @@ fn tell_sides(items: &mut Items, wishes: Wishes<'_, '_>) -> Result<(), AllocErro
     let width = wishes.side(alloc, Side::Width)?;
     let height = wishes.side(alloc, Side::Height)?;
     if width.why == height.why {
-        let (w, h) = (width.value, height.value);
-        let why = width.why.as_str();
-        let text = format!(in alloc; "{w}x{h}: {why}")?;
-        items.say(1, "pixels", text)?;
+        let words = format!(in alloc; "{}x{}: {}", width.value, height.value, width.why);
+        tell(items, 1, "pixels", words)?;
     } else {
         tell_derived(items, "width", &width)?;
         tell_derived(items, "height", &height)?;

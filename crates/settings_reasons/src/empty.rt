@@ -14,7 +14,6 @@ use crate::rows::{nearest, tell_rows};
 use explanation_text::Items;
 use explanation_text::wording::MOST_NAMES;
 use std::alloc::{AllocError, Global};
-use std::fmt::Write;
 use sysmem_counts::Field;
 use sysmem_formats::Offer;
 use sysmem_memory::Place;
@@ -81,7 +80,14 @@ fn tell_places(
     let head = none_of(alloc, "place", choices.places.len())?;
     items.say(depth, "place", head)?;
     let rows = place_rows(alloc, choices.platform, choices.places, people, true)?;
-    tell_rows(items, depth.saturating_add(1), "", &rows, usize::MAX)?;
+    tell_rows(
+        items,
+        depth.saturating_add(1),
+        "",
+        &rows,
+        usize::MAX,
+        "places are refused too",
+    )?;
     tell_no_heaps(items, depth, choices.platform, people)
 }
 
@@ -103,7 +109,14 @@ fn tell_offers(
     let colours = choices.platform.colours().len();
     let rows = offer_rows(alloc, offers, people, whole, true, colours)?;
     let far = nearest(&rows).saturating_add(1);
-    tell_rows(items, depth.saturating_add(1), "", &rows, far)?;
+    tell_rows(
+        items,
+        depth.saturating_add(1),
+        "",
+        &rows,
+        far,
+        "offers are refused too",
+    )?;
     tell_no_images(items, depth, choices.platform, people)
 }
 

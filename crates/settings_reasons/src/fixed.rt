@@ -3,20 +3,23 @@
 ghost use Rattle.std.specs.Prelude.{All, IfOk};
 ghost use Rattle.sysmem_merge.specs.Failing.{FailsOn};
 
-use crate::offer_words::{offer_name, offer_text};
+use crate::amounts::amount_at;
+use crate::offer_words::{offer_name, put_offer_reason};
+use crate::offering::{are_refused, offers_of};
 use crate::placing::{put_place, put_place_reason};
-use crate::rows::Reason;
+use crate::refusing::offer_rows;
+use crate::rows::{Reason, tell, tell_rows};
 use explanation_text::Items;
 use std::alloc::{AllocError, Global};
-use std::fmt::Write;
 use sysmem_counts::Field;
-use sysmem_image::{ImageBounds, Size, entry_for};
+use sysmem_formats::Offer;
+use sysmem_image::{entry_for, takes_colour};
 use sysmem_merge::{Settings, fails_in};
 use sysmem_sanitise::{Constraints, Platform};
 use value_sources::Asked;
 
 /// The fields in which settings may fail a participant, in the order in which they are looked at.
-const FIELDS: [Field; 22] = [
+const FIELDS: &[Field] = &[
     Field::PixelFormat,
     Field::ColorSpaces,
     Field::MinSize,
@@ -41,23 +44,24 @@ const FIELDS: [Field; 22] = [
     Field::Usage,
 ];
 
-/// Tells in which fields settings fail participants who come late.
+/// Tells in which fields settings fail participants who come late, and who of those before refuses the images that they take.
 pub fn tell_misfits(
     items: &mut Items,
     platform: &Platform,
     people: &[Asked<'_>],
+    before: &[Asked<'_>],
     settings: &Settings,
 ) -> Result<(), AllocError> {
-    let before = items.len();
+    let start = items.len();
     for one in people {
-        tell_misfit(items, platform, *one, settings)?;
+        tell_misfit(items, platform, *one, before, settings)?;
     }
-    if items.len() == before {
-        let count = settings.count;
-        let text = format!(in items.alloc();
-            "{count} buffers were decided: too few for these beside all who came before, or more than one of these takes"
-        )?;
-        return items.say(1, "count", text);
+    if items.len() == start {
+        let words = format!(in items.alloc();
+            "{} buffers were decided: too few for these beside all who came before, or more than one of these takes",
+            settings.count
+        );
+        return tell(items, 1, "count", words);
     }
     Ok(())
 }
@@ -66,14 +70,61 @@ fn tell_misfit(
     items: &mut Items,
     platform: &Platform,
     one: Asked<'_>,
+    before: &[Asked<'_>],
     settings: &Settings,
 ) -> Result<(), AllocError> {
     let alloc = items.alloc();
     for field in failing(alloc, platform, settings, one.asked)? {
-        let text = misfit_text(alloc, platform, settings, one, field)?;
+        let mut text = String::new(alloc);
+        put_misfit(&mut text, platform, settings, one, field)?;
         items.say(1, "misfit", text)?;
+        if field == Field::PixelFormat || field == Field::ColorSpaces {
+            tell_refused(items, platform, one, before)?;
+        }
     }
     Ok(())
+}
+
+/// Tells who of those before refuses the images that a participant takes; or that nobody does, and the platform has what was decided before them.
+fn tell_refused(
+    items: &mut Items,
+    platform: &Platform,
+    one: Asked<'_>,
+    before: &[Asked<'_>],
+) -> Result<(), AllocError> {
+    let alloc = items.alloc();
+    let mut refused = Vec::new(alloc);
+    for offer in offers_of(alloc, platform)? {
+        if offer == Offer::NoImage || !takes(one.asked, &offer) {
+            continue;
+        }
+        if are_refused(&[offer], before, true) {
+            refused.push(offer)?;
+            continue;
+        }
+        let name = offer_name(alloc, &offer)?;
+        let words = format!(in alloc;
+            "{name} is refused by nobody before: the platform has what was decided before it"
+        );
+        return tell(items, 2, "", words);
+    }
+    let rows = offer_rows(
+        alloc,
+        &refused,
+        before,
+        true,
+        false,
+        platform.colours().len(),
+    )?;
+    tell_rows(items, 2, "not ", &rows, usize::MAX, "offers that it takes")
+}
+
+/// Whether a participant has an entry for an offer, in its colour space.
+fn takes(asked: &Constraints, offer: &Offer) -> bool {
+    match entry_for(asked.entries(), offer) {
+        Some(entry) => takes_colour(entry, offer),
+        None => false,
+    }
 }
 
 /// The fields in which settings fail a participant.
@@ -88,83 +139,104 @@ pub fn failing(
 {
     let mut fields = Vec::new(alloc);
     for field in FIELDS {
-        if fails_in(field, platform, settings, asked) {
-            fields.push(field)?;
+        if fails_in(*field, platform, settings, asked) {
+            fields.push(*field)?;
         }
     }
     Ok(fields)
 }
 
-/// Puts a sentence on a field in which settings fail a participant.
-fn misfit_text(
-    alloc: Global,
+/// Puts a sentence on a field in which settings fail a participant into an empty text.
+fn put_misfit(
+    text: &mut String,
     platform: &Platform,
     settings: &Settings,
     one: Asked<'_>,
     field: Field,
-) -> Result<String, AllocError> {
-    let mut people = Vec::new(alloc);
-    people.push(one)?;
-    let reason = Reason { field, people };
+) -> Result<(), AllocError> {
     match field {
-        Field::PixelFormat | Field::ColorSpaces => {
-            let mut text = offer_text(alloc, &settings.offer, &reason)?;
-            let holds = offer_name(alloc, &settings.offer)?;
-            write!(text, "; the buffers are {holds}")?;
-            Ok(text)
-        }
-        Field::MinSizeBytes | Field::MaxSizeBytes => { size_text(alloc, settings, one, field) }
+        Field::PixelFormat | Field::ColorSpaces => put_offer(text, settings, one, field),
+        Field::MinSizeBytes => put_size(text, settings, one, field),
+        Field::MaxSizeBytes => put_size(text, settings, one, field),
         Field::PermittedHeaps
         | Field::PhysicallyContiguousRequired
         | Field::SecureRequired
         | Field::CpuDomainSupported
         | Field::RamDomainSupported
         | Field::InaccessibleDomainSupported
-        | Field::Usage => {
-            let mut text = String::new(alloc);
-            put_place_reason(&mut text, &reason)?;
-            text.push_str(": the buffers lie in ")?;
-            put_place(&mut text, platform, settings.place)?;
-            Ok(text)
-        }
-        _ => bound_text(alloc, settings, one, field),
+        | Field::Usage => put_heap(text, platform, settings, one, field),
+        _ => put_bound(text, settings, one, field),
     }
 }
 
-fn size_text(
-    alloc: Global,
+/// A field by which one refuses something.
+fn reason_of(alloc: Global, one: Asked<'_>, field: Field) -> Result<Reason<'_>, AllocError> {
+    let people = vec![in alloc; one]?;
+    Ok(Reason { field, people })
+}
+
+fn put_offer(
+    text: &mut String,
     settings: &Settings,
     one: Asked<'_>,
     field: Field,
-) -> Result<String, AllocError> {
+) -> Result<(), AllocError> {
+    let alloc = *text.allocator();
+    put_offer_reason(text, &settings.offer, &reason_of(alloc, one, field)?)?;
+    let holds = offer_name(alloc, &settings.offer)?;
+    write!(text, "; the buffers are {holds}")
+}
+
+fn put_heap(
+    text: &mut String,
+    platform: &Platform,
+    settings: &Settings,
+    one: Asked<'_>,
+    field: Field,
+) -> Result<(), AllocError> {
+    let reason = reason_of(*text.allocator(), one, field)?;
+    put_place_reason(text, &reason)?;
+    text.push_str(": the buffers lie in ")?;
+    put_place(text, platform, settings.place)
+}
+
+fn put_size(
+    text: &mut String,
+    settings: &Settings,
+    one: Asked<'_>,
+    field: Field,
+) -> Result<(), AllocError> {
     let memory = one.asked.memory();
     let mine = if field == Field::MinSizeBytes {
         memory.min_size_bytes
     } else {
         memory.max_size_bytes
     };
-    let who = one.name;
-    let name = field.name();
-    let size = settings.size_bytes;
-    format!(in alloc; "{who} says {name} {mine}: the buffers have {size} bytes")
+    write!(
+        text,
+        "{} says {} {mine}: the buffers have {} bytes",
+        one.name,
+        field.name(),
+        settings.size_bytes
+    )
 }
 
-fn bound_text(
-    alloc: Global,
+fn put_bound(
+    text: &mut String,
     settings: &Settings,
     one: Asked<'_>,
     field: Field,
-) -> Result<String, AllocError> {
-    let who = one.name;
-    let name = field.name();
-    let mut text = format!(in alloc; "{who} says {name} ")?;
+) -> Result<(), AllocError> {
+    write!(text, "{} says {} ", one.name, field.name())?;
     if let Some(entry) = entry_for(one.asked.entries(), &settings.offer) {
-        put_bound(&mut text, &entry.bounds.asked, field)?;
+        write!(text, "{}", amount_at(&entry.bounds.asked, field))?;
     }
-    text.push_str(": decided was ")?;
-    text.push_str(how(field))?;
-    put_bound(&mut text, &settings.bounds, field)?;
-    Ok(text)
+    write!(
+        text,
+        ": decided was {}{}",
+        how(field),
+        amount_at(&settings.bounds, field)
+    )
 }
 
 /// How a field's values are merged.
@@ -177,30 +249,4 @@ fn how(field: Field) -> &'static str {
         | Field::MaxWidthTimesHeight => "at most ",
         _ => "multiples of ",
     }
-}
-
-fn put_size(text: &mut String, size: Size) -> Result<(), AllocError> {
-    let (width, height) = (size.width, size.height);
-    write!(text, "{width}x{height}")
-}
-
-/// Puts the value of a field of bounds after a text.
-fn put_bound(text: &mut String, bounds: &ImageBounds, field: Field) -> Result<(), AllocError> {
-    match field {
-        Field::MinSize => put_size(text, bounds.min_size),
-        Field::MaxSize => put_size(text, bounds.max_size),
-        Field::SizeAlignment => put_size(text, bounds.size_alignment),
-        Field::DisplayRectAlignment => put_size(text, bounds.display_rect_alignment),
-        Field::RequiredMinSize => put_size(text, bounds.required_min_size),
-        Field::RequiredMaxSize => put_size(text, bounds.required_max_size),
-        Field::MinBytesPerRow => put_number(text, u64::from(bounds.min_bytes_per_row)),
-        Field::MaxBytesPerRow => put_number(text, u64::from(bounds.max_bytes_per_row)),
-        Field::BytesPerRowDivisor => put_number(text, u64::from(bounds.bytes_per_row_divisor)),
-        Field::StartOffsetDivisor => put_number(text, u64::from(bounds.start_offset_divisor)),
-        _ => put_number(text, bounds.max_width_times_height),
-    }
-}
-
-fn put_number(text: &mut String, number: u64) -> Result<(), AllocError> {
-    write!(text, "{number}")
 }

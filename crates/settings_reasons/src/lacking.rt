@@ -1,7 +1,7 @@
 //! What participants name that the platform lacks.
 
 use crate::offer_words::pair_name;
-use crate::rows::{Row, add, tell_rows};
+use crate::rows::{Row, add, tell, tell_rows};
 use explanation_text::Items;
 use std::alloc::{AllocError, Global};
 use sysmem_image::{ColourSet, Entry};
@@ -28,14 +28,15 @@ pub(crate) fn tell_no_images(
     let mut lacked: Vec<Named<'_>> = Vec::new(alloc);
     for one in people {
         for entry in one.asked.entries() {
-            if !has_pair(platform, entry) {
-                let name = pair_name(alloc, entry.format, entry.modifier)?;
-                add_named(&mut lacked, name, one)?;
-            } else if !has_colour(platform, entry.colours) {
-                let mut name = pair_name(alloc, entry.format, entry.modifier)?;
-                name.push_str(" in any of its colour spaces")?;
-                add_named(&mut lacked, name, one)?;
+            let has_pair = has_pair(platform, entry);
+            if has_pair && has_colour(platform, entry.colours) {
+                continue;
             }
+            let mut name = pair_name(alloc, entry.format, entry.modifier)?;
+            if has_pair {
+                name.push_str(" in any of its colour spaces")?;
+            }
+            add_named(&mut lacked, name, one)?;
         }
     }
     tell_lacked(items, depth, &lacked, people.len(), "takes it", "take it")
@@ -53,9 +54,7 @@ pub(crate) fn tell_no_heaps(
     for one in people {
         for heap in &one.asked.memory().permitted_heaps {
             if !has_heap(platform, heap) {
-                let heap_type = heap.heap_type.as_str();
-                let id = heap.id;
-                let name = format!(in alloc; "{heap_type}#{id}")?;
+                let name = format!(in alloc; "{}#{}", heap.heap_type, heap.id)?;
                 add_named(&mut lacked, name, one)?;
             }
         }
@@ -114,9 +113,10 @@ fn add_named<'a>(
             return Ok(());
         }
     }
-    let mut people = Vec::new(alloc);
-    people.push(*one)?;
-    lacked.push(Named { name, people })?;
+    lacked.push(Named {
+        name,
+        people: vec![in alloc; *one]?,
+    })?;
     Ok(())
 }
 
@@ -129,25 +129,26 @@ fn tell_lacked(
     one: &str,
     many: &str,
 ) -> Result<(), AllocError> {
+    if lacked.is_empty() {
+        return Ok(());
+    }
     let alloc = items.alloc();
     let mut rows: Vec<Row> = Vec::new(alloc);
     for named in lacked {
         let mut text = String::new(alloc);
         put_has(&mut text, &named.people, one, many)?;
-        let mut texts = Vec::new(alloc);
-        texts.push(text)?;
         let name = String::from_str(alloc, &named.name)?;
-        add(
-            &mut rows,
-            name,
-            texts,
-            people.saturating_sub(named.people.len()),
-        )?;
+        let far = people.saturating_sub(named.people.len());
+        add(&mut rows, name, vec![in alloc; text]?, far, 1)?;
     }
-    if rows.is_empty() {
-        return Ok(());
-    }
-    let head = String::from_str(alloc, "the platform doesn't have these:")?;
-    items.say(depth, "lacks", head)?;
-    tell_rows(items, depth.saturating_add(1), "", &rows, usize::MAX)
+    let head = String::from_str(alloc, "the platform doesn't have these:");
+    tell(items, depth, "lacks", head)?;
+    tell_rows(
+        items,
+        depth.saturating_add(1),
+        "",
+        &rows,
+        usize::MAX,
+        "aren't there either",
+    )
 }

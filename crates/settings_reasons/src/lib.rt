@@ -8,6 +8,7 @@
 //! ```
 #![tactic(auto)]
 
+mod amounts;
 mod chosen;
 mod contradicting;
 mod empty;
@@ -18,7 +19,9 @@ mod offering;
 mod placing;
 mod refusing;
 mod rows;
+mod unused;
 
 pub use chosen::tell_settings;
 pub use empty::{in_the_way, is_unmet, tell_conflict};
 pub use fixed::{failing, tell_misfits};
+pub use unused::{holder_of, unused_entries};

@@ -1,15 +1,15 @@
 //! Why participants refuse an offer, in words.
 
-use crate::rows::Reason;
+use crate::amounts::amount_at;
+use crate::rows::{Reason, put_break};
 use explanation_text::wording::{put_few, put_joined};
 use std::alloc::{AllocError, Global};
-use std::fmt::Write;
 use sysmem_counts::Field;
 use sysmem_formats::{ColourSpace, Modifier, Offer, PixelFormat};
-use sysmem_image::{ColourSet, ImageBounds, entry_for};
+use sysmem_image::{ColourSet, entry_for};
 use value_sources::{Asked, Side, Wish, Wishes, format_of, put_has, put_texts};
 
-const COLOURS: [ColourSpace; 8] = [
+const COLOURS: &[ColourSpace] = &[
     ColourSpace::Srgb,
     ColourSpace::Rec601Ntsc,
     ColourSpace::Rec601NtscFullRange,
@@ -44,34 +44,30 @@ pub(crate) fn pair_name(
     format!(in alloc; "{format} {modifier}")
 }
 
-/// The sentence of a reason against an offer, with the numbers of all participants.
-pub(crate) fn offer_text(
-    alloc: Global,
+/// Puts the sentence of a reason against an offer, with the numbers of all participants, into an empty text.
+pub(crate) fn put_offer_reason(
+    text: &mut String,
     offer: &Offer,
     reason: &Reason<'_>,
-) -> Result<String, AllocError> {
-    let mut text = String::new(alloc);
+) -> Result<(), AllocError> {
     let people = &reason.people;
     let wishes = Wishes {
         people,
         offer: *offer,
     };
     match reason.field {
-        Field::PixelFormat => put_no_entry(&mut text, offer, people)?,
-        Field::ColorSpaces => put_colours(&mut text, offer, people)?,
-        Field::UnnamedPixelFormat => put_unnamed(&mut text, people, "format")?,
-        Field::UnnamedPixelFormatModifier => {
-            put_unnamed(&mut text, people, "modifier")?;
-        }
-        Field::UnnamedColorSpace => put_unnamed(&mut text, people, "colour space")?,
-        Field::RequiredMinSize => put_required(&mut text, wishes)?,
-        Field::MaxSize => put_too_large(&mut text, wishes)?,
-        Field::MaxWidthTimesHeight => put_too_many_pixels(&mut text, wishes)?,
-        Field::MaxBytesPerRow => put_too_long(&mut text, wishes)?,
-        Field::MaxSizeBytes => put_too_big(&mut text, wishes)?,
-        field => put_no_multiple(&mut text, wishes, field)?,
+        Field::PixelFormat => put_no_entry(text, offer, people),
+        Field::ColorSpaces => put_colours(text, offer, people),
+        Field::UnnamedPixelFormat => put_unnamed(text, people, "format"),
+        Field::UnnamedPixelFormatModifier => put_unnamed(text, people, "modifier"),
+        Field::UnnamedColorSpace => put_unnamed(text, people, "colour space"),
+        Field::RequiredMinSize => put_required(text, wishes),
+        Field::MaxSize => put_too_large(text, wishes),
+        Field::MaxWidthTimesHeight => put_too_many_pixels(text, wishes),
+        Field::MaxBytesPerRow => put_too_long(text, wishes),
+        Field::MaxSizeBytes => put_too_big(text, wishes),
+        field => put_no_multiple(text, wishes, field),
     }
-    Ok(text)
 }
 
 /// Puts who has no entry for an offer after a text, with the modifiers that they take its format with.
@@ -87,20 +83,14 @@ fn put_no_entry(text: &mut String, offer: &Offer, people: &[Asked<'_>]) -> Resul
             none.push(*one)?;
             continue;
         }
-        if !text.is_empty() {
-            text.push_str("; ")?;
-        }
-        let name = one.name;
-        let format = pair.format.name();
-        write!(text, "{name} takes {format} only as ")?;
+        put_break(text)?;
+        write!(text, "{} takes {} only as ", one.name, pair.format.name())?;
         put_joined(text, &modifiers, "and")?;
     }
     if none.is_empty() {
         return Ok(());
     }
-    if !text.is_empty() {
-        text.push_str("; ")?;
-    }
+    put_break(text)?;
     put_has(text, &none, "has no entry for it", "have no entry for it")
 }
 
@@ -132,9 +122,7 @@ fn put_colours(text: &mut String, offer: &Offer, people: &[Asked<'_>]) -> Result
         }
         done.push(entry.colours)?;
         let those = with_colours(alloc, offer, people, entry.colours)?;
-        if !text.is_empty() {
-            text.push_str("; ")?;
-        }
+        put_break(text)?;
         put_has(text, &those, "takes it only in ", "take it only in ")?;
         put_colour_names(text, entry.colours)?;
     }
@@ -161,7 +149,7 @@ fn with_colours<'a>(
 fn put_colour_names(text: &mut String, colours: ColourSet) -> Result<(), AllocError> {
     let mut names: Vec<&str> = Vec::new(*text.allocator());
     for colour in COLOURS {
-        if colours.lists(colour) {
+        if colours.lists(*colour) {
             names.push(colour.name())?;
         }
     }
@@ -185,9 +173,7 @@ fn put_required(text: &mut String, wishes: Wishes<'_, '_>) -> Result<(), AllocEr
         if least <= most {
             continue;
         }
-        if !text.is_empty() {
-            text.push_str("; ")?;
-        }
+        put_break(text)?;
         let name = side.name();
         write!(
             text,
@@ -196,6 +182,14 @@ fn put_required(text: &mut String, wishes: Wishes<'_, '_>) -> Result<(), AllocEr
         )?;
     }
     Ok(())
+}
+
+/// Puts who takes at most so much, by a field, after a text, if somebody does.
+fn put_most(text: &mut String, most: Option<(&str, u64)>, field: &str) -> Result<(), AllocError> {
+    match most {
+        Some((who, most)) => write!(text, "; {who} takes at most {most} ({field})"),
+        None => Ok(()),
+    }
 }
 
 /// Puts that the smallest image is larger than somebody takes after a text.
@@ -209,15 +203,13 @@ fn put_too_large(text: &mut String, wishes: Wishes<'_, '_>) -> Result<(), AllocE
         if least.value <= u128::from(most) {
             continue;
         }
-        if !text.is_empty() {
-            text.push_str("; ")?;
-        }
-        let name = side.name();
-        let value = least.value;
-        let why = least.why.as_str();
+        put_break(text)?;
         write!(
             text,
-            "the least {name} is {value}: {why}; {who} takes at most {most} (max_size)"
+            "the least {} is {}: {}; {who} takes at most {most} (max_size)",
+            side.name(),
+            least.value,
+            least.why
         )?;
     }
     Ok(())
@@ -233,35 +225,27 @@ fn put_too_many_pixels(text: &mut String, wishes: Wishes<'_, '_>) -> Result<(), 
         text,
         "the smallest image has {width}x{height} = {pixels} pixels: {why}"
     )?;
-    if let Some((who, most)) = wishes.least(Wish::MostPixels) {
-        write!(
-            text,
-            "; {who} takes at most {most} (max_width_times_height)"
-        )?;
-    }
-    Ok(())
+    put_most(
+        text,
+        wishes.least(Wish::MostPixels),
+        "max_width_times_height",
+    )
 }
 
 fn put_too_long(text: &mut String, wishes: Wishes<'_, '_>) -> Result<(), AllocError> {
     let row = wishes.row(*text.allocator(), true)?;
-    let value = row.value;
-    let why = row.why.as_str();
-    write!(text, "the least row is {value} bytes: {why}")?;
-    if let Some((who, most)) = wishes.least(Wish::MostRow) {
-        write!(text, "; {who} takes at most {most} (max_bytes_per_row)")?;
-    }
-    Ok(())
+    write!(text, "the least row is {} bytes: {}", row.value, row.why)?;
+    put_most(text, wishes.least(Wish::MostRow), "max_bytes_per_row")
 }
 
 fn put_too_big(text: &mut String, wishes: Wishes<'_, '_>) -> Result<(), AllocError> {
     let size = wishes.size(*text.allocator(), true)?;
-    let value = size.value;
-    let why = size.why.as_str();
-    write!(text, "a buffer has {value} bytes at least: {why}")?;
-    if let Some((who, most)) = wishes.greatest_size() {
-        write!(text, "; {who} takes at most {most} (max_size_bytes)")?;
-    }
-    Ok(())
+    write!(
+        text,
+        "a buffer has {} bytes at least: {}",
+        size.value, size.why
+    )?;
+    put_most(text, wishes.greatest_size(), "max_size_bytes")
 }
 
 /// Puts that what participants want multiples of has no common multiple after a text.
@@ -271,38 +255,15 @@ fn put_no_multiple(
     field: Field,
 ) -> Result<(), AllocError> {
     let alloc = *text.allocator();
-    let name = field.name();
     let mut parts: Vec<String> = Vec::new(alloc);
     for one in wishes.people {
         if let Some(entry) = entry_for(one.asked.entries(), &wishes.offer) {
-            parts.push(multiple_text(alloc, one.name, &entry.bounds.asked, field)?)?;
+            let amount = amount_at(&entry.bounds.asked, field);
+            parts.push(format!(in alloc; "{} {amount}", one.name)?)?;
         }
     }
-    write!(text, "{name} of ")?;
+    write!(text, "{} of ", field.name())?;
     put_texts(text, &parts, 4)?;
     let format = format_of(&wishes.offer);
     write!(text, " have no common multiple up to 4294967295 ({format})")
-}
-
-/// Of what a participant wants multiples, with its name.
-fn multiple_text(
-    alloc: Global,
-    who: &str,
-    bounds: &ImageBounds,
-    field: Field,
-) -> Result<String, AllocError> {
-    let size = match field {
-        Field::BytesPerRowDivisor => {
-            let value = bounds.bytes_per_row_divisor;
-            return format!(in alloc; "{who} {value}");
-        }
-        Field::StartOffsetDivisor => {
-            let value = bounds.start_offset_divisor;
-            return format!(in alloc; "{who} {value}");
-        }
-        Field::SizeAlignment => bounds.size_alignment,
-        _ => bounds.display_rect_alignment,
-    };
-    let (width, height) = (size.width, size.height);
-    format!(in alloc; "{who} {width}x{height}")
 }

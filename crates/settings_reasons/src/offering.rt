@@ -19,7 +19,7 @@ use sysmem_sanitise::Platform;
 use value_sources::Asked;
 
 /// The lines on the bounds of images, in the order of the conflict table.
-const LINES: [Field; 9] = [
+const LINES: &[Field] = &[
     Field::SizeAlignment,
     Field::BytesPerRowDivisor,
     Field::StartOffsetDivisor,
@@ -31,7 +31,7 @@ const LINES: [Field; 9] = [
     Field::MaxSizeBytes,
 ];
 
-const UNNAMED: [Field; 3] = [
+const UNNAMED: &[Field] = &[
     Field::UnnamedPixelFormat,
     Field::UnnamedPixelFormatModifier,
     Field::UnnamedColorSpace,
@@ -169,11 +169,11 @@ pub(crate) fn offer_reasons<'a>(
     if !colours.is_empty() {
         return Ok(colours);
     }
-    let lines = line_reasons(alloc, offer, people, whole, &LINES)?;
+    let lines = line_reasons(alloc, offer, people, whole, LINES)?;
     if !lines.is_empty() {
         return Ok(lines);
     }
-    line_reasons(alloc, offer, people, whole, &UNNAMED)
+    line_reasons(alloc, offer, people, whole, UNNAMED)
 }
 
 /// Each of some lines that is true of participants, with all of them; one on names where they are all that there are.

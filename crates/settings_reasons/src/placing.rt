@@ -6,17 +6,16 @@ ghost use Rattle.sysmem_memory.specs.Place.{HasNoPlace};
 ghost use Rattle.sysmem_merge.specs.Demands.{place_demands};
 ghost use Rattle.value_sources.specs.Sources.{all_asked};
 
-use crate::rows::Reason;
+use crate::rows::{Reason, put_break};
 use explanation_text::wording::put_visible;
 use std::alloc::{AllocError, Global};
-use std::fmt::Write;
 use sysmem_counts::Field;
 use sysmem_memory::{CoherencyDomain, HeapInfo, MemoryBounds, Place, refuses_in};
 use sysmem_sanitise::Platform;
 use value_sources::{Asked, put_has};
 
 /// The fields by which a place is refused, in the order of the place table.
-const FIELDS: [Field; 7] = [
+const FIELDS: &[Field] = &[
     Field::PermittedHeaps,
     Field::PhysicallyContiguousRequired,
     Field::SecureRequired,
@@ -26,7 +25,7 @@ const FIELDS: [Field; 7] = [
     Field::Usage,
 ];
 
-const DOMAINS: [CoherencyDomain; 3] = [
+const DOMAINS: &[CoherencyDomain] = &[
     CoherencyDomain::Cpu,
     CoherencyDomain::Ram,
     CoherencyDomain::Inaccessible,
@@ -44,8 +43,11 @@ pub(crate) fn places_of(alloc: Global, platform: &Platform) -> Result<Vec<Place>
 /// Adds the places of a heap.
 fn add_places(places: &mut Vec<Place>, heap: usize, info: &HeapInfo) -> Result<(), AllocError> {
     for coherency in DOMAINS {
-        if info.domains.has(coherency) {
-            places.push(Place { heap, coherency })?;
+        if info.domains.has(*coherency) {
+            places.push(Place {
+                heap,
+                coherency: *coherency,
+            })?;
         }
     }
     Ok(())
@@ -96,8 +98,8 @@ fn reasons_in<'a>(
 {
     let mut reasons = Vec::new(alloc);
     for field in FIELDS {
-        let those = refusing(alloc, heap, place, field, people)?;
-        add_reason(&mut reasons, heap, place, field, those)?;
+        let those = refusing(alloc, heap, place, *field, people)?;
+        add_reason(&mut reasons, heap, place, *field, those)?;
     }
     Ok(reasons)
 }
@@ -147,26 +149,31 @@ pub(crate) fn put_place(
     text.push_str(place.coherency.name())
 }
 
-/// Puts why participants refuse a place by a field after a text.
+/// Puts why participants refuse a place by a field into an empty text.
 pub(crate) fn put_place_reason(text: &mut String, reason: &Reason<'_>) -> Result<(), AllocError> {
     let people = &reason.people;
     let name = reason.field.name();
     match reason.field {
         Field::PermittedHeaps => put_permits(text, people),
-        Field::PhysicallyContiguousRequired => {
-            put_has(text, people, "needs", "need")?;
-            write!(text, " contiguous memory ({name})")
-        }
-        Field::SecureRequired => {
-            put_has(text, people, "needs", "need")?;
-            write!(text, " secure memory ({name})")
-        }
+        Field::PhysicallyContiguousRequired => put_needs(text, people, "contiguous", name),
+        Field::SecureRequired => put_needs(text, people, "secure", name),
         Field::Usage => {
             put_has(text, people, "uses", "use")?;
             text.push_str(" the CPU (usage cpu), which doesn't reach it")
         }
         _ => put_unsupported(text, people, name),
     }
+}
+
+/// Puts which memory participants need by a field after a text.
+fn put_needs(
+    text: &mut String,
+    people: &[Asked<'_>],
+    what: &str,
+    field: &str,
+) -> Result<(), AllocError> {
+    put_has(text, people, "needs", "need")?;
+    write!(text, " {what} memory ({field})")
 }
 
 /// Puts which heaps participants permit after a text; of several with other lists only that it isn't this one.
@@ -188,10 +195,8 @@ fn put_permits(text: &mut String, people: &[Asked<'_>]) -> Result<(), AllocError
         .take(4)
         .enumerate()
     {
-        text.push_str(if k == 0 { " " } else { ", " })?;
-        text.push_str(&heap.heap_type)?;
-        let id = heap.id;
-        write!(text, "#{id}")?;
+        let mark = if k == 0 { " " } else { ", " };
+        write!(text, "{mark}{}#{}", heap.heap_type, heap.id)?;
     }
     Ok(())
 }
@@ -207,28 +212,34 @@ fn states(one: &Asked<'_>, field: &str) -> bool {
     }
 }
 
-/// Puts who says that it doesn't take a coherency domain after a text, and who doesn't say that it does.
+/// Puts who says that it doesn't take a coherency domain into an empty text, and who doesn't say that it does.
 fn put_unsupported(text: &mut String, people: &[Asked<'_>], field: &str) -> Result<(), AllocError> {
-    let alloc = *text.allocator();
-    let mut said = Vec::new(alloc);
-    let mut absent = Vec::new(alloc);
+    put_stating(text, people, field, true)?;
+    put_stating(text, people, field, false)
+}
+
+/// Puts who states a field, or who doesn't, after a text, if somebody does.
+fn put_stating(
+    text: &mut String,
+    people: &[Asked<'_>],
+    field: &str,
+    is_stated: bool,
+) -> Result<(), AllocError> {
+    let mut those = Vec::new(*text.allocator());
     for one in people {
-        if states(one, field) {
-            said.push(*one)?;
-        } else {
-            absent.push(*one)?;
+        if states(one, field) == is_stated {
+            those.push(*one)?;
         }
     }
-    if !said.is_empty() {
-        put_has(text, &said, "says", "say")?;
-        write!(text, " {field} false")?;
+    if those.is_empty() {
+        return Ok(());
     }
-    if !said.is_empty() && !absent.is_empty() {
-        text.push_str("; ")?;
-    }
-    if !absent.is_empty() {
-        put_has(text, &absent, "doesn't say", "don't say")?;
-        write!(text, " {field}, so it's false")?;
-    }
-    Ok(())
+    let (one, many, end) = if is_stated {
+        ("says", "say", " false")
+    } else {
+        ("doesn't say", "don't say", ", so it's false")
+    };
+    put_break(text)?;
+    put_has(text, &those, one, many)?;
+    write!(text, " {field}{end}")
 }

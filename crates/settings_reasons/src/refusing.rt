@@ -1,9 +1,9 @@
 //! Rows of the places and offers that participants refuse.
 
-use crate::offer_words::{offer_name, offer_text};
+use crate::offer_words::{offer_name, put_offer_reason};
 use crate::offering::{distance_of, offer_reasons};
 use crate::placing::{place_reasons, put_place, put_place_reason};
-use crate::rows::{Reason, Row, add, are_same};
+use crate::rows::{Reason, Row, add};
 use std::alloc::{AllocError, Global};
 use sysmem_formats::Offer;
 use sysmem_memory::Place;
@@ -22,18 +22,19 @@ pub(crate) fn place_rows(
     let mut rows = Vec::new(alloc);
     for place in places {
         let reasons = place_reasons(alloc, platform, *place, people)?;
-        let texts = place_texts(alloc, &reasons, all)?;
+        let texts = texts_of(alloc, None, &reasons, all)?;
         let far = if all { refusals(&reasons) } else { 0 };
         let mut name = String::new(alloc);
         put_place(&mut name, platform, *place)?;
-        add(&mut rows, name, texts, far)?;
+        add(&mut rows, name, texts, far, 1)?;
     }
     Ok(rows)
 }
 
-/// The reasons against a place in words, or the first of them.
-fn place_texts(
+/// The reasons against an offer, or against a place where there is none, in words; or the first of them.
+fn texts_of(
     alloc: Global,
+    offer: Option<&Offer>,
     reasons: &[Reason<'_>],
     all: bool,
 ) -> Result<Vec<String>, AllocError> {
@@ -41,7 +42,11 @@ fn place_texts(
     let mut texts = Vec::new(alloc);
     for reason in reasons.iter().take(most) {
         let mut text = String::new(alloc);
-        put_place_reason(&mut text, reason)?;
+        let put = match offer {
+            Some(offer) => put_offer_reason(&mut text, offer, reason),
+            None => put_place_reason(&mut text, reason),
+        };
+        put?;
         texts.push(text)?;
     }
     Ok(texts)
@@ -78,7 +83,7 @@ pub(crate) fn offer_rows(
         let reasons = offer_reasons(alloc, offer, people, whole)?;
         pair.push(Refused {
             offer: *offer,
-            texts: texts_of(alloc, offer, &reasons, all)?,
+            texts: texts_of(alloc, Some(offer), &reasons, all)?,
             distance: if all { distance_of(&reasons) } else { 0 },
         })?;
     }
@@ -113,9 +118,7 @@ fn add_pair(
     };
     let is_one = offers.len() == colours
         && 1 < colours
-        && offers
-            .iter()
-            .all(|other| are_same(&other.texts, &first.texts));
+        && offers.iter().all(|other| other.texts == first.texts);
     for (k, refused) in offers.iter().enumerate() {
         if is_one && 0 < k {
             continue;
@@ -128,7 +131,14 @@ fn add_pair(
             }
             offer => offer_name(alloc, offer)?,
         };
-        add(rows, name, copied(alloc, &refused.texts)?, refused.distance)?;
+        let count = if is_one { colours } else { 1 };
+        add(
+            rows,
+            name,
+            copied(alloc, &refused.texts)?,
+            refused.distance,
+            count,
+        )?;
     }
     Ok(())
 }
@@ -139,18 +149,4 @@ fn copied(alloc: Global, texts: &[String]) -> Result<Vec<String>, AllocError> {
         copy.push(String::from_str(alloc, text)?)?;
     }
     Ok(copy)
-}
-
-fn texts_of(
-    alloc: Global,
-    offer: &Offer,
-    reasons: &[Reason<'_>],
-    all: bool,
-) -> Result<Vec<String>, AllocError> {
-    let most = if all { reasons.len() } else { 1 };
-    let mut texts = Vec::new(alloc);
-    for reason in reasons.iter().take(most) {
-        texts.push(offer_text(alloc, offer, reason)?)?;
-    }
-    Ok(texts)
 }

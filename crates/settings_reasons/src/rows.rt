@@ -1,8 +1,7 @@
 //! Rows of what fails for the same reasons.
 
 use explanation_text::Items;
-use std::alloc::AllocError;
-use std::fmt::Write;
+use std::alloc::{AllocError, Global};
 use sysmem_counts::Field;
 use value_sources::{Asked, put_texts};
 
@@ -25,6 +24,18 @@ pub(crate) struct Row {
     pub(crate) reasons: Vec<String>,
     /// How far these are from not failing: the less the nearer.
     pub(crate) distance: usize,
+    /// How many fail; a name may stand for several.
+    pub(crate) count: usize,
+}
+
+/// Tells words with a label, if there was memory for them.
+pub(crate) fn tell(
+    items: &mut Items,
+    depth: usize,
+    label: &'static str,
+    words: Result<String, AllocError>,
+) -> Result<(), AllocError> {
+    items.say(depth, label, words?)
 }
 
 /// Puts what fails into the row of those with its reasons.
@@ -33,27 +44,23 @@ pub(crate) fn add(
     name: String,
     reasons: Vec<String>,
     distance: usize,
+    count: usize,
 ) -> Result<(), AllocError> {
     let alloc = *name.allocator();
     for row in rows.iter_mut() {
-        if are_same(&row.reasons, &reasons) {
+        if row.reasons == reasons {
             row.names.push(name)?;
+            row.count = row.count.saturating_add(count);
             return Ok(());
         }
     }
-    let mut names = Vec::new(alloc);
-    names.push(name)?;
     rows.push(Row {
-        names,
+        names: vec![in alloc; name]?,
         reasons,
         distance,
+        count,
     })?;
     Ok(())
-}
-
-/// Whether the texts are the same.
-pub(crate) fn are_same(a: &[String], b: &[String]) -> bool {
-    a.len() == b.len() && a.iter().zip(b).all(|(x, y)| x.as_str() == y.as_str())
 }
 
 /// How many of the rows, the nearest first, are told: of those that aren't farther than a distance so many; one more is shown rather than counted.
@@ -71,15 +78,16 @@ fn shown(rows: &[Row], far: usize) -> usize {
     }
 }
 
-/// Tells the rows, the nearest first and else in their order; more than some are counted, and so are those that are farther than a distance.
+/// Tells the rows, the nearest first and else in their order; more than some are counted, with what is said of them, and so are those that are
+/// farther than a distance.
 pub(crate) fn tell_rows(
     items: &mut Items,
     depth: usize,
     before: &str,
     rows: &[Row],
     far: usize,
+    what: &str,
 ) -> Result<(), AllocError> {
-    let alloc = items.alloc();
     let most = shown(rows, far);
     let order = order_of(items, rows)?;
     let mut others = 0usize;
@@ -90,12 +98,12 @@ pub(crate) fn tell_rows(
         if k < most {
             tell_row(items, depth, before, row)?;
         } else {
-            others = others.saturating_add(row.names.len());
+            others = others.saturating_add(row.count);
         }
     }
     if others > 0 {
-        let text = format!(in alloc; "{before}{others} others: refused too")?;
-        items.say(depth, "", text)?;
+        let words = format!(in items.alloc(); "{before}the other {others} {what}");
+        tell(items, depth, "", words)?;
     }
     Ok(())
 }
@@ -137,22 +145,35 @@ fn add_at(order: &mut Vec<usize>, rows: &[Row], distance: usize) -> Result<(), A
 }
 
 fn tell_row(items: &mut Items, depth: usize, before: &str, row: &Row) -> Result<(), AllocError> {
-    let mut text = String::from_str(items.alloc(), before)?;
-    put_names(&mut text, &row.names)?;
-    let Some((reason, others)) = row.reasons.split_first() else {
-        return items.say(depth, "", text);
-    };
-    if others.is_empty() {
-        write!(text, ": {reason}")?;
-        return items.say(depth, "", text);
-    }
-    text.push_str(":")?;
-    items.say(depth, "", text)?;
-    for reason in &row.reasons {
-        let words = String::from_str(items.alloc(), reason)?;
-        items.say(depth.saturating_add(1), "", words)?;
+    let head = head_of(items.alloc(), before, row)?;
+    items.say(depth, "", head)?;
+    if row.reasons.len() > 1 {
+        for reason in &row.reasons {
+            let words = String::from_str(items.alloc(), reason);
+            tell(items, depth.saturating_add(1), "", words)?;
+        }
     }
     Ok(())
+}
+
+/// A row's names, with its reason where it has one alone.
+fn head_of(alloc: Global, before: &str, row: &Row) -> Result<String, AllocError> {
+    let mut text = String::from_str(alloc, before)?;
+    put_names(&mut text, &row.names)?;
+    match row.reasons.as_slice() {
+        [] => {}
+        [reason] => write!(text, ": {reason}")?,
+        _ => text.push_str(":")?,
+    }
+    Ok(text)
+}
+
+/// Puts what stands between two sentences after a text that isn't empty.
+pub(crate) fn put_break(text: &mut String) -> Result<(), AllocError> {
+    if text.is_empty() {
+        return Ok(());
+    }
+    text.push_str("; ")
 }
 
 /// Puts at most four names after a text.

@@ -6,9 +6,11 @@
 #![tactic(auto)]
 
 mod asked;
+mod moves;
 mod refused;
 mod story;
 
 pub use asked::{asked_by, asked_in};
-pub use refused::{left_out, put_domain, refused_calls, tell_refused};
+pub use moves::{Move, moves_in};
+pub use refused::{left_out, put_domain, refused_calls, refused_words, tell_refused};
 pub use story::{Deed, Deeds, Domain, Made, Node, Story, first_word};

@@ -85,6 +85,20 @@ fn tell_rows(
     Ok(())
 }
 
+/// What is told of the calls that were refused, those with one cause together; where their constraints have a fault only its code.
+pub fn refused_words(alloc: Global, story: &Story<'_>) -> Result<Vec<String>, AllocError> {
+    let mut words: Vec<String> = Vec::new(alloc);
+    for row in &rows_of(alloc, story)? {
+        let number = row.numbers.first().copied().unwrap_or(0);
+        if let Some(call) = story.call(number) {
+            let mut text = String::new(alloc);
+            put_row(&mut text, call, row)?;
+            words.push(text)?;
+        }
+    }
+    Ok(words)
+}
+
 fn rows_of(alloc: Global, story: &Story<'_>) -> Result<Vec<Row>, AllocError> {
     let mut rows: Vec<Row> = Vec::new(alloc);
     for (index, call) in story.calls.iter().enumerate() {
@@ -361,11 +375,17 @@ fn put_awaited(
     }
     let names = story.names(alloc, &awaited)?;
     put_few(text, &names, MOST_NAMES)?;
-    text.push_str(if names.len() == 1 {
-        " is still awaited"
-    } else {
-        " are still awaited"
-    })
+    put_by_count(text, &names, " is still awaited", " are still awaited")
+}
+
+/// Puts words on one name after a text, or those on several.
+fn put_by_count(
+    text: &mut String,
+    names: &[&str],
+    one: &str,
+    many: &str,
+) -> Result<(), AllocError> {
+    text.push_str(if names.len() == 1 { one } else { many })
 }
 
 /// Which state of a node doesn't allow a call.
@@ -438,11 +458,7 @@ fn put_unset(
     }
     text.push_str(before)?;
     put_joined(text, &names, "or")?;
-    text.push_str(if names.len() == 1 {
-        ", which isn't set"
-    } else {
-        ", which aren't set"
-    })
+    put_by_count(text, &names, ", which isn't set", ", which aren't set")
 }
 
 fn wrong_group(

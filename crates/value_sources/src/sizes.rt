@@ -119,27 +119,13 @@ impl<'a> Wishes<'a, '_> {
         is_asked: bool,
         why: String,
     ) -> Result<Derived, AllocError> {
-        let mut why = why;
         let (width, height) = own_alignment(&self.offer);
         let own = if side == Side::Width { width } else { height };
-        let format = format_of(&self.offer);
-        let mut parts: Vec<Multiple> = Vec::new(alloc);
-        parts.push(Multiple {
-            value: u128::from(own),
-            who: format!(in alloc; "{format} itself")?,
-        })?;
+        let who = format!(in alloc; "{} itself", format_of(&self.offer))?;
+        let mut parts = own_multiple(who, u128::from(own))?;
         self.add_multiples(&mut parts, "size_alignment", Wish::Alignment(side))?;
-        let align = multiple_of(alloc, parts)?;
-        let value = up(u128::from(base), align.value);
-        if value != u128::from(base) {
-            if is_asked {
-                write!(why, " {base}")?;
-            }
-            let multiple = align.value;
-            let who = align.why.as_str();
-            write!(why, ", rounded up to a multiple of {multiple} ({who})")?;
-        }
-        Ok(Derived { value, why })
+        let mark = if is_asked { Some(" ") } else { None };
+        rounded(u128::from(base), parts, mark, why)
     }
 
     /// Where the least width and height come from.
@@ -182,32 +168,16 @@ impl<'a> Wishes<'a, '_> {
 
     /// A row, rounded up to what it has to be a multiple of.
     fn round_row(&self, alloc: Global, base: u128, why: String) -> Result<Derived, AllocError> {
-        let mut why = why;
-        let mut parts: Vec<Multiple> = Vec::new(alloc);
-        let format = format_of(&self.offer);
         let who = if modifier_of(&self.offer) == Modifier::Linear {
-            format!(in alloc; "{format} itself")?
+            format!(in alloc; "{} itself", format_of(&self.offer))
         } else {
-            String::from_str(alloc, "tiles")?
+            String::from_str(alloc, "tiles")
         };
-        parts.push(Multiple {
-            value: u128::from(own_row_divisor(&self.offer)),
-            who,
-        })?;
+        let mut parts = own_multiple(who?, u128::from(own_row_divisor(&self.offer)))?;
         self.add_multiples(&mut parts, "bytes_per_row_divisor", Wish::RowDivisor)?;
         let whole = Wish::WholePixels(bytes_per_pixel(&self.offer));
         self.add_multiples(&mut parts, "whole pixels in a row", whole)?;
-        let divisor = multiple_of(alloc, parts)?;
-        let value = up(base, divisor.value);
-        if value != base {
-            let multiple = divisor.value;
-            let who = divisor.why.as_str();
-            write!(
-                why,
-                " = {base}, rounded up to a multiple of {multiple} ({who})"
-            )?;
-        }
-        Ok(Derived { value, why })
+        rounded(base, parts, Some(" = "), why)
     }
 
     /// The least size of a buffer in bytes; where the image's sides come from is said too if that is asked for.
@@ -243,8 +213,8 @@ impl<'a> Wishes<'a, '_> {
         let height = self.side(alloc, Side::Height)?.value;
         let row = self.row(alloc, false)?.value;
         let rows = up(height, tile_rows(&self.offer));
-        let mut why = format!(in alloc; "row {row} x ")?;
-        write!(why, "{rows} {}", if rows == 1 { "row" } else { "rows" })?;
+        let word = if rows == 1 { "row" } else { "rows" };
+        let mut why = format!(in alloc; "row {row} x {rows} {word}")?;
         if rows != height {
             write!(why, " ({height}, rounded up to whole tiles)")?;
         }
@@ -262,13 +232,38 @@ impl<'a> Wishes<'a, '_> {
     }
 }
 
+/// A list of one multiple.
+fn own_multiple(who: String, value: u128) -> Result<Vec<Multiple>, AllocError> {
+    let alloc = *who.allocator();
+    Ok(vec![in alloc; Multiple { value, who }]?)
+}
+
+/// A number, rounded up to what it has to be a multiple of; where that changes it, it is shown after a mark, if there is one.
+fn rounded(
+    base: u128,
+    parts: Vec<Multiple>,
+    mark: Option<&str>,
+    why: String,
+) -> Result<Derived, AllocError> {
+    let mut why = why;
+    let multiple = multiple_of(*why.allocator(), parts)?;
+    let value = up(base, multiple.value);
+    if value != base {
+        if let Some(mark) = mark {
+            write!(why, "{mark}{base}")?;
+        }
+        write!(
+            why,
+            ", rounded up to a multiple of {} ({})",
+            multiple.value, multiple.why
+        )?;
+    }
+    Ok(Derived { value, why })
+}
+
 /// Puts how many pixels of how many bytes after a text.
 fn put_pixels(text: &mut String, width: u128, bytes: u128) -> Result<(), AllocError> {
     let pixels = if width == 1 { "pixel" } else { "pixels" };
-    write!(text, "{width} {pixels} of ")?;
-    write!(
-        text,
-        "{bytes} {}",
-        if bytes == 1 { "byte" } else { "bytes" }
-    )
+    let word = if bytes == 1 { "byte" } else { "bytes" };
+    write!(text, "{width} {pixels} of {bytes} {word}")
 }

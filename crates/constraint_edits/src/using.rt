@@ -1,0 +1,58 @@
+//! Constraints of one whose buffers no CPU uses, or who asks for more of them.
+
+use crate::edits::Changed;
+use crate::objects::{number_value, text_value, with};
+use serde_json::Value;
+use std::alloc::{AllocError, Global};
+use sysmem_counts::Field;
+
+const USAGE: &str = "usage";
+
+/// The constraints without the use by a CPU; `None` where there is none. Nothing else used is the usage `none`.
+pub(crate) fn without_cpu(alloc: Global, value: &Value) -> Result<Option<Changed>, AllocError> {
+    let Some(usages) = value.get(USAGE).and_then(Value::as_array) else {
+        return Ok(None);
+    };
+    let mut others = Vec::new(alloc);
+    for usage in usages {
+        if !is_cpu(usage) {
+            others.push(usage.clone()?)?;
+        }
+    }
+    if others.len() == usages.len() {
+        return Ok(None);
+    }
+    let words = if others.is_empty() {
+        others.push(text_value(alloc, "none")?)?;
+        "usage none (is cpu)"
+    } else {
+        "usage without cpu"
+    };
+    Ok(Some(Changed {
+        value: with(alloc, Some(value), USAGE, Value::Array(others))?,
+        words: String::from_str(alloc, words)?,
+    }))
+}
+
+fn is_cpu(usage: &Value) -> bool {
+    usage.as_str().is_some_and(|name| name == "cpu")
+}
+
+/// The constraints with so many buffers asked for at least; `None` where as many are.
+pub(crate) fn asking_for(
+    alloc: Global,
+    value: &Value,
+    count: u32,
+) -> Result<Option<Changed>, AllocError> {
+    let name = Field::MinBufferCount.name();
+    let before = value.get(name).and_then(Value::as_u64);
+    let words = match before {
+        Some(least) if least >= u64::from(count) => return Ok(None),
+        Some(least) => format!(in alloc; "{name} {count} (is {least})")?,
+        None => format!(in alloc; "{name} {count} (is absent)")?,
+    };
+    Ok(Some(Changed {
+        value: with(alloc, Some(value), name, number_value(u64::from(count)))?,
+        words,
+    }))
+}

@@ -1,0 +1,53 @@
+//! Participants whose constraints seem to be each other's.
+
+use script_reading::Act;
+use serde_json::Value;
+use story_parts::{Deed, Story};
+use value_sources::Asked;
+
+/// The usage that goes with what a participant or its actor is called, if one does.
+fn usage_of(name: &str) -> Option<&'static str> {
+    match name {
+        "display" | "screen" | "panel" => Some("display"),
+        "gpu" => Some("vulkan"),
+        "camera" | "isp" | "encoder" | "decoder" | "codec" => Some("video"),
+        _ => None,
+    }
+}
+
+/// The usage that is expected of a participant.
+pub(crate) fn usage_meant(story: &Story<'_>, one: Asked<'_>) -> Option<&'static str> {
+    let number = story.deed(one.node, Deed::SetConstraints).unwrap_or(0);
+    usage_of(one.name).or(usage_of(story.actor(number)))
+}
+
+/// Whether a participant states a usage.
+pub(crate) fn states_usage(story: &Story<'_>, one: Asked<'_>, usage: &str) -> bool {
+    let number = story.deed(one.node, Deed::SetConstraints).unwrap_or(0);
+    let Some(call) = story.call(number) else {
+        return false;
+    };
+    let Act::SetConstraints(Some(value)) = call.act else {
+        return false;
+    };
+    match value.get("usage").and_then(Value::as_array) {
+        Some(usages) => usages
+            .iter()
+            .any(|known| known.as_str().is_some_and(|name| name == usage)),
+        None => false,
+    }
+}
+
+/// Whether each of two participants states the usage that is expected of the other, and not its own.
+pub fn are_exchanged(story: &Story<'_>, a: Asked<'_>, b: Asked<'_>) -> bool {
+    match (usage_meant(story, a), usage_meant(story, b)) {
+        (Some(mine), Some(other)) => {
+            mine != other
+                && states_usage(story, a, other)
+                && states_usage(story, b, mine)
+                && !states_usage(story, a, mine)
+                && !states_usage(story, b, other)
+        }
+        _ => false,
+    }
+}

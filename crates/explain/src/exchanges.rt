@@ -1,0 +1,144 @@
+//! The constraints of two participants exchanged, each of whom another decision asks otherwise.
+
+ghost use Rattle.std.specs.Prelude.{map, IfOk, IfSome};
+ghost use Rattle.std.specs.String.{string_bytes};
+ghost use Rattle.script_reading.specs.Seen.{call_seen};
+ghost use Rattle.explain.specs.Edited.{IsPromisedSo};
+
+use crate::changes::{Search, put_choice};
+use crate::group::Group;
+use crate::together::{Stated, put_line, restated};
+use crate::trying::chosen_with;
+use domain_reasons::{are_exchanged, choices_in};
+use std::alloc::{AllocError, Global};
+use story_parts::{Deed, Story, asked_in};
+use value_sources::Asked;
+
+/// How many pairs of participants are tried.
+const MOST: usize = 24;
+
+/// Tries to exchange the constraints of a participant of the domain of an index and of another one, where that can make a difference: of those
+/// alone who seem to be exchanged if that is asked for, else of the others.
+pub(crate) fn try_exchanges(
+    search: &mut Search,
+    group: Group<'_, '_>,
+    index: usize,
+    are_meant: bool,
+) -> Result<(), AllocError> {
+    let alloc = search.found.alloc();
+    let story = group.story;
+    let mut pairs = 0usize;
+    for one in group.people {
+        for domain in 0..story.domains.len() {
+            for other in asked_in(alloc, story, domain, false)? {
+                let is_pair = domain != index || one.node < other.node;
+                let matters = domain != index
+                    || is_below_group(story, one.node)
+                    || is_below_group(story, other.node);
+                if !is_pair || !matters || are_exchanged(story, *one, other) != are_meant {
+                    continue;
+                }
+                pairs = pairs.saturating_add(1);
+                if pairs <= MOST && !search.is_done() {
+                    try_exchange(search, group, *one, other, domain)?;
+                }
+            }
+        }
+    }
+    Ok(())
+}
+
+/// Whether a node lies below a group.
+fn is_below_group(story: &Story<'_>, node: usize) -> bool {
+    let mut at = Some(node);
+    for _level in 0..story.nodes.len() {
+        let Some(known) = at.and_then(|number| story.nodes.get(number)) else {
+            break;
+        };
+        at = known.parent;
+        if at.is_some_and(|parent| story.is_group(parent)) {
+            return true;
+        }
+    }
+    false
+}
+
+/// Tries to exchange the constraints of two participants, of which the other one's domain is to have settings too, and tells it where it helps.
+fn try_exchange(
+    search: &mut Search,
+    group: Group<'_, '_>,
+    one: Asked<'_>,
+    other: Asked<'_>,
+    domain: usize,
+) -> Result<(), AllocError> {
+    let alloc = search.found.alloc();
+    let Some(stated) = exchanged(alloc, group.story, one, other)? else {
+        return Ok(());
+    };
+    search.tried = search.tried.saturating_add(1);
+    let Some(line) = outcome(alloc, group, &stated, group.path)? else {
+        return Ok(());
+    };
+    let root = group
+        .story
+        .domains
+        .get(domain)
+        .map_or(0, |known| known.root);
+    let path = group.story.path(root);
+    if outcome(alloc, group, &stated, path)?.is_none() {
+        return Ok(());
+    }
+    let who = group.who(alloc, &one)?;
+    let whom = group.who(alloc, &other)?;
+    let text = format!(in alloc; "{who} and {whom}: their constraints exchanged")?;
+    let choice = choices_in(alloc, group.story, group.root, &line)?;
+    let label = search.label();
+    search.found.say(2, label, text)?;
+    put_line(&mut search.found, group, 3, line)?;
+    put_choice(&mut search.found, 3, choice)
+}
+
+/// What two participants' calls state once their constraints are exchanged; `None` where they are the same.
+fn exchanged(
+    alloc: Global,
+    story: &Story<'_>,
+    one: Asked<'_>,
+    other: Asked<'_>,
+) -> Result<Option<Vec<Stated>>, AllocError> {
+    let (Some(mine), Some(its)) = (one.stated, other.stated) else {
+        return Ok(None);
+    };
+    let first = story.deed(one.node, Deed::SetConstraints);
+    let second = story.deed(other.node, Deed::SetConstraints);
+    let (Some(first), Some(second)) = (first, second) else {
+        return Ok(None);
+    };
+    if one.asked.is_same(other.asked) {
+        return Ok(None);
+    }
+    let mut stated = Vec::new(alloc);
+    stated.push(Stated {
+        place: first.saturating_sub(1),
+        value: its.clone()?,
+    })?;
+    stated.push(Stated {
+        place: second.saturating_sub(1),
+        value: mine.clone()?,
+    })?;
+    Ok(Some(stated))
+}
+
+/// What the domain at a path becomes where calls state these constraints, if it is chosen then.
+fn outcome(
+    alloc: Global,
+    group: Group<'_, '_>,
+    stated: &[Stated],
+    path: &str,
+) -> Result<Option<String>, AllocError>
+    ensures { IfOk result (λ said. IfSome said (λ what. IsPromisedSo
+        group.setting.now.platform.now (map call_seen group.setting.now.calls.now) path.now
+        (string_bytes what))) }
+{
+    let calls = restated(alloc, group.setting.calls, stated)?;
+    chosen_with(alloc, group.setting, &calls, path)
+}
