@@ -4,13 +4,23 @@
 //! ```
 //! let allocator = Allocator::new(alloc, platform, NoGate)?;
 //! let mut root = allocator.allocate_shared::<L>(blank)?;
-//! let camera = root.duplicate(&rt)?;
-//! let stub = root.release(&rt)?;
-//! // on the camera's thread
-//! let mut camera = camera.bind(&rt)?;
-//! camera.set_constraints(&rt, Some(constraints))?;
-//! let view = camera.wait_for_all(&rt)?;
-//! let settings = view.settings();
+//! let camera = root.duplicate(&rt);
+//! match root.release(&rt) {
+//!     Ok(stub) => stubs.push(stub)?,
+//!     Err((root, refusal)) => stubs.push(root.close(&rt).0)?,
+//! }
+//! // on the camera's thread, with the token of `camera`
+//! match camera.bind(&rt) {
+//!     Ok(mut camera) => {
+//!         let told = negotiate(&rt, &mut camera, constraints);
+//!         stubs.push(camera.close(&rt).0)?;
+//!     }
+//!     Err((camera, refusal)) => stubs.push(camera.close(&rt).0)?,
+//! }
+//! // negotiate: it borrows the handle, so it can use `?`
+//! collection.set_constraints(&rt, Some(constraints))?;
+//! let view = collection.wait_for_all(&rt)?;
+//! Ok(view.settings())
 //! ```
 #![tactic(auto)]
 
