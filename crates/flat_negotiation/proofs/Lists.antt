@@ -3,7 +3,7 @@ use Rattle.std.proofs.Common.{◌≡◌, ℕ, ◌+◌, ◌<◌, ◌≤◌, List,
 use Rattle.std.specs.List.{AllZip}
 use Rattle.flat_negotiation.specs.Own.{HoldsNowhere, IsFirstAt}
 use Rattle.std.proofs.lemmas.List.{take_more, take_all}
-use Rattle.std.proofs.lemmas.Option.{slice_get-get_or, slice_get_cases}
+use Rattle.std.proofs.lemmas.Option.{slice_get_cases}
 use Rattle.std.proofs.lemmas.Slice.Zip.{all_zipped_more}
 
 -- one more of two lists whose items are related
@@ -23,10 +23,6 @@ so-all P xs i over holds = subst P (sym (take_all (i + 1) xs (omega (arith, over
 -- all, where there are as many or fewer
 pub all-up-to : {X : Type 0} (xs : List X) (i : ℕ) → length xs ≤ i → xs ≡ take (i + 1) xs
 all-up-to xs i over = sym (take_all (i + 1) xs (omega (arith, over)))
-
--- what is read at an index stands there
-pub at-index : {X : Type 0} (xs : List X) (i : ℕ) (x : X) → i < length xs → x ≡ get_or xs i x → slice_get xs i ≡ Some x
-at-index xs i x within is = slice_get-get_or xs i x within ∙ ap Some (sym is)
 
 -- none of those so far, nor one more
 pub none-more : {X : Type 0} (P : X → Type 0) (xs : List X) (i : ℕ) (x : X) → slice_get xs i ≡ Some x → ¬ P x → ((k : ℕ) (y : X) → k < i → slice_get xs k ≡ Some y → ¬ P y)

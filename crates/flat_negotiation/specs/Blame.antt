@@ -75,7 +75,7 @@ shared_offer stop = option_map (λ s. s.offer) stop.shared
 -- there is no such image, that which those before share
 abbrev pub IsToldOffer : PlatformFacts → List Participant → Stop → Option Reason → Option Offer → Type 0
 IsToldOffer platform ps stop (Some NoOffer) offer = (own : Option Offer) × IsOwnOffer platform (alone stop.who ps) own × (offer ≡ or_else own (shared_offer stop))
-IsToldOffer platform ps stop lone offer = offer ≡ shared_offer stop
+IsToldOffer platform ps stop why offer = offer ≡ shared_offer stop
 
 -- what the field says, by the reason: it is the count's own; or the participant's, which refuses it the place that those
 -- before share; or it is told of the first line that is true of the offer
