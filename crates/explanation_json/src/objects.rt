@@ -66,6 +66,9 @@ fn played_objects<'a>(
         calls: &script.calls,
     };
     let told = setting.tell(alloc, &script.calls)?;
+    if told.report.starved {
+        return Err(AllocError);
+    }
     let story = story_of(alloc, document.value, &script.calls, &told)?;
     let played = Some(Played {
         story: &story,
