@@ -92,10 +92,7 @@ pub(crate) fn closed<L: Ledger, G: Gate + Drop + Sync, R: Threads + Wait + Abort
 }
 
 /// What an audit of the stubs counts.
-pub(crate) fn counted<L: Ledger>(
-    rt: &impl Wait,
-    stubs: Vec<Stub<L>>,
-) -> Result<Audit, AuditFault> {
+pub(crate) fn counted<L: Ledger>(rt: &impl Wait, stubs: Vec<Stub<L>>) -> Result<Audit, AuditFault> {
     let (found, _seen) = audit(rt, stubs)?;
     Ok(found)
 }
