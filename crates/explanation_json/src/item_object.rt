@@ -16,9 +16,7 @@ pub(crate) fn put_item(
     scene: &Scene<'_, '_>,
     item: &Item,
 ) -> Result<(), AllocError> {
-    object.put("depth", count_value(item.depth))?;
-    object.say("kind", kind_of(item))?;
-    object.say("label", item.label)?;
+    put_form(object, item)?;
     match item.kind {
         Kind::Answer => {
             let domains = scene.domains(object.alloc())?;
@@ -32,6 +30,13 @@ pub(crate) fn put_item(
             put_told(object, item)
         }
     }
+}
+
+/// Puts how deep an item stands, what kind it is of and its label into an object.
+pub(crate) fn put_form(object: &mut Object, item: &Item) -> Result<(), AllocError> {
+    object.put("depth", count_value(item.depth))?;
+    object.say("kind", kind_of(item))?;
+    object.say("label", item.label)
 }
 
 /// What kind of item it is, in a word.

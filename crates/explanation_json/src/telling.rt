@@ -5,7 +5,7 @@ ghost use Rattle.std.specs.String.{string_bytes};
 ghost use Rattle.explanation_json.specs.Lines.{IsLineOf};
 
 use crate::changes::{change_value, is_change};
-use crate::item_object::put_item;
+use crate::item_object::{put_form, put_item};
 use crate::object::Object;
 use crate::scene::Scene;
 use explanation_text::{Item, Kind};
@@ -20,6 +20,8 @@ pub(crate) struct Telling<'a, 'b> {
     scene: Scene<'a, 'b>,
     /// The root of the domain whose section it is, by number.
     root: Option<usize>,
+    /// How deep the item stands that tells of calls made otherwise, if the words below it tell what these would do.
+    then: Option<usize>,
     /// The changes that no decision followed yet.
     changes: Vec<Value>,
 }
@@ -29,6 +31,7 @@ impl<'a, 'b> Telling<'a, 'b> {
         Telling {
             scene,
             root: None,
+            then: None,
             changes: Vec::new(alloc),
         }
     }
@@ -46,7 +49,11 @@ impl<'a, 'b> Telling<'a, 'b> {
     fn object(&mut self, item: &Item) -> Result<Object, AllocError> {
         let alloc = *item.text.allocator();
         let mut object = Object::new(alloc);
-        put_item(&mut object, &self.scene, item)?;
+        if self.is_below_then(item) {
+            put_form(&mut object, item)?;
+        } else {
+            put_item(&mut object, &self.scene, item)?;
+        }
         match item.kind {
             Kind::Title => self.begin(&mut object, item)?,
             Kind::Decision => self.decide(&mut object, item)?,
@@ -57,6 +64,17 @@ impl<'a, 'b> Telling<'a, 'b> {
             self.put_domain(&mut object, root, item.kind == Kind::Title)?;
         }
         Ok(object)
+    }
+
+    /// Whether these are words on what calls would do that are made otherwise: the numbers and names in them are of another script.
+    fn is_below_then(&mut self, item: &Item) -> bool {
+        match self.then {
+            Some(depth) if item.depth > depth && item.kind == Kind::Words => true,
+            _ => {
+                self.then = if item.label == "then" { Some(item.depth) } else { None };
+                false
+            }
+        }
     }
 
     /// Begins a section: `domain / (root): empty, after call 7 (set_constraints encoder)`.
