@@ -10,6 +10,7 @@ use crate::group::Group;
 use crate::together::{Stated, put_line, restated};
 use crate::trying::chosen_with;
 use domain_reasons::{are_exchanged, choices_in};
+use script_story::Setting;
 use std::alloc::{AllocError, Global};
 use story_parts::{Deed, Story, asked_in};
 use value_sources::Asked;
@@ -76,7 +77,7 @@ fn try_exchange(
         return Ok(());
     };
     search.tried = search.tried.saturating_add(1);
-    let Some(line) = outcome(alloc, group, &stated, group.path)? else {
+    let Some(line) = outcome(alloc, group.setting, &stated, group.path)? else {
         return Ok(());
     };
     let root = group
@@ -85,7 +86,7 @@ fn try_exchange(
         .get(domain)
         .map_or(0, |known| known.root);
     let path = group.story.path(root);
-    if outcome(alloc, group, &stated, path)?.is_none() {
+    if outcome(alloc, group.setting, &stated, path)?.is_none() {
         return Ok(());
     }
     let who = group.who(alloc, &one)?;
@@ -131,14 +132,14 @@ fn exchanged(
 /// What the domain at a path becomes where calls state these constraints, if it is chosen then.
 fn outcome(
     alloc: Global,
-    group: Group<'_, '_>,
+    setting: &Setting<'_>,
     stated: &[Stated],
     path: &str,
 ) -> Result<Option<String>, AllocError>
     ensures { IfOk result (λ said. IfSome said (λ what. IsPromisedSo
-        group.setting.now.platform.now (map call_seen group.setting.now.calls.now) path.now
+        setting.now.platform.now (map call_seen setting.now.calls.now) path.now
         (string_bytes what))) }
 {
-    let calls = restated(alloc, group.setting.calls, stated)?;
-    chosen_with(alloc, group.setting, &calls, path)
+    let calls = restated(alloc, setting.calls, stated)?;
+    chosen_with(alloc, setting, &calls, path)
 }

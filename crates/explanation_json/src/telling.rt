@@ -71,7 +71,11 @@ impl<'a, 'b> Telling<'a, 'b> {
         match self.then {
             Some(depth) if item.depth > depth && item.kind == Kind::Words => true,
             _ => {
-                self.then = if item.label == "then" { Some(item.depth) } else { None };
+                self.then = if item.label == "then" {
+                    Some(item.depth)
+                } else {
+                    None
+                };
                 false
             }
         }

@@ -8,4 +8,4 @@ loop-one-init c = subst (IsMoved c.args.calls.now) (sym c.in_ok-made.ensures.ite
 
 pub loop-one-preserved : goal.loop-one-preserved
 loop-one-preserved c =
-    c.in_ok-next.ensures c.args.calls.now (subst (IsMoved c.args.calls.now) (sym c.deref.ensures.value) c.loop-one.invariant)
+    c.in_ok-next.ensures c.args.calls.now (subst (IsMoved c.args.calls.now) (sym c.deref-in-loop-one-2.ensures.value) c.loop-one.invariant)

@@ -4,7 +4,7 @@ use Rattle.explain.specs.Moved.{IsMoved, one_more}
 use Rattle.explain.proofs.moved.step.Goals as goal
 
 pub returns-then-is_later : goal.returns-then-is_later
-returns-then-is_later c = λ first moved. subst (IsMoved first) (sym c.in_ok-made.ensures) (one_more _ _ _ moved)
+returns-then-is_later c = λ first moved. subst (IsMoved first) (sym c.in_ok-made.ensures) (one_more c.args.calls.now c.args.from c.args.to moved)
 
 pub returns : goal.returns
 returns c = λ first moved. subst (IsMoved first) (sym c.in_ok-same.ensures.items) moved
