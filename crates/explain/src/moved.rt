@@ -106,17 +106,16 @@ pub(crate) fn put_moves(text: &mut String, moves: &[Move]) -> Result<(), AllocEr
 /// The script with its calls in the order that they have once some are moved.
 fn reordered(alloc: Global, value: &Value, moves: &[Move]) -> Result<Value, AllocError> {
     let mut copy = value.clone()?;
-    let Some(calls) = copy.get_mut("calls").and_then(Value::as_array_mut) else {
-        return Ok(copy);
-    };
-    let order = order_of(alloc, calls.len(), moves)?;
-    let mut list = Vec::new(alloc);
-    for place in order {
-        if let Some(call) = calls.get(place) {
-            list.push(call.clone()?)?;
+    if let Some(Value::Array(calls)) = copy.get_mut("calls") {
+        let order = order_of(alloc, calls.len(), moves)?;
+        let mut list = Vec::new(alloc);
+        for place in order {
+            if let Some(call) = calls.get(place) {
+                list.push(call.clone()?)?;
+            }
         }
+        *calls = list;
     }
-    *calls = list;
     Ok(copy)
 }
 
