@@ -1,6 +1,6 @@
 -- Lines that are kept for those who come again, and pairs that are known to be taken in every colour space.
-use Rattle.std.proofs.Common.{◌≡◌, ℕ, true, List, [], ◌∷◌, Option, Some, None, sym, ◌∙◌, ap, subst}
-use Rattle.std.specs.Prelude.{◌||◌, All}
+use Rattle.std.proofs.Common.{◌≡◌, ℕ, Bool, true, false, List, [], ◌∷◌, Option, Some, None, length, refl, sym, ◌∙◌, ap, subst}
+use Rattle.std.specs.Prelude.{◌||◌, ◌==◌, All, is_some}
 use Rattle.std.specs.Option.{option_map_or}
 use Rattle.std.proofs.lemmas.List.Elements.{All-weaker}
 use Rattle.sysmem_counts.specs.declared.field.Field.{Field}
@@ -13,6 +13,7 @@ use Rattle.sysmem_image.specs.declared.entry.Entry.{Entry}
 use Rattle.sysmem_image.specs.Colours.{lists, lists_any}
 use Rattle.sysmem_image.specs.Entries.{first_match, takes_colour}
 use Rattle.sysmem_merge.specs.Demands.{offer_demand}
+use Rattle.sysmem_merge.specs.Offers.{has_format}
 use Rattle.sysmem_sanitise.specs.Participant.{Participant}
 use Rattle.sysmem_tree.specs.Node.{NodeFacts}
 use Rattle.sysmem_proof.specs.declared.open_pairs.OpenPair.{OpenPair}
@@ -44,6 +45,20 @@ any_listed pair colour entries entry at listed = ap (λ (o : Option Entry). opti
 -- who has no entry for a pair refuses it in no colour space
 pub none_listed : (pair : Pair) (colour : ColourSpace) (entries : List Entry) → first_match (Image pair Srgb) entries ≡ None → takes_in pair colour entries ≡ true
 none_listed pair colour entries at = ap (λ (o : Option Entry). option_map_or (takes_colour (Image pair colour)) o true) at
+
+-- who has an entry for a pair takes its format
+pub by_entry : (pair : Pair) (colour : ColourSpace) (p : Participant) (entry : Entry) → first_match (Image pair Srgb) p.entries ≡ Some entry → has_format (Image pair colour) (offer_demand p) ≡ true
+by_entry pair colour p entry at = ap (λ (m : Option Entry). (length p.entries == 0) || is_some m) at ∙ or_true (length p.entries == 0) where
+  or_true : (b : Bool) → (b || true) ≡ true
+  or_true true = refl
+  or_true false = refl
+
+-- who has none takes it where he has no entries at all
+pub by_none : (pair : Pair) (colour : ColourSpace) (p : Participant) (t : Bool) → t ≡ (length p.entries == 0) → first_match (Image pair Srgb) p.entries ≡ None → has_format (Image pair colour) (offer_demand p) ≡ t
+by_none pair colour p t is at = ap (λ (m : Option Entry). (length p.entries == 0) || is_some m) at ∙ (or_false (length p.entries == 0) ∙ sym is) where
+  or_false : (b : Bool) → (b || false) ≡ b
+  or_false true = refl
+  or_false false = refl
 
 -- who takes a pair in every colour space takes its offer
 pub in_each : (ps : List Participant) (one : OpenPair) (pair : Pair) (colour : ColourSpace) → one.pair ≡ pair → IsOpenFor ps one → one.is_open ≡ true

@@ -18,7 +18,7 @@ ghost use Rattle.sysmem_tree.specs.Nodes.{HasNode};
 ghost use Rattle.sysmem_tree.specs.Path.{path_of};
 
 use crate::asked::add_read;
-use crate::open_pairs::{OpenPair, first_without_colour};
+use crate::open_pairs::{OpenPair, first_without_colour, first_without_format};
 use crate::places_asked::PlacesAsked;
 use sysmem_counts::Field;
 use sysmem_formats::Offer;
@@ -129,10 +129,10 @@ pub(crate) fn read_offer(
         (IsOpenFor (participants (members_at tree.now.nodes nodes.now))) }
     ensures reading { IsReading tree.now.nodes nodes.now offer.now result }
 {
-    if let Some(node) = first_lacking(tree, nodes, Field::PixelFormat, offer) {
+    if let Some(node) = first_without_format(tree, nodes, offer, known) {
         return Reading::Refused(Field::PixelFormat, node);
     }
-    if let Some(node) = first_without_colour(tree, nodes, offer, known) {
+    if let Some(node) = first_without_colour(tree, nodes, offer, *known) {
         return Reading::Refused(Field::ColorSpaces, node);
     }
     Reading::Read(read_all(tree, nodes, offer))

@@ -79,12 +79,10 @@ fn line_again(
     earlier: &Offer,
     offer: &Offer,
     before: &[Line],
-    known: &mut Option<OpenPair>,
+    known: Option<OpenPair>,
 ) -> Result<Option<Line>, AllocError>
     requires there { All (HasNode tree.now.nodes) nodes.now }
-    requires known { IfSome known.old
-        (IsOpenFor (participants (members_at tree.now.nodes nodes.now))) }
-    ensures known { IfSome known.new
+    requires known { IfSome known
         (IsOpenFor (participants (members_at tree.now.nodes nodes.now))) }
     ensures again { (whole : _) (ms : List Member)
         → StandFor (members_at tree.now.nodes nodes.now) ms
@@ -111,12 +109,10 @@ fn is_before_colour(
     nodes: &[NodeId],
     field: Field,
     offer: &Offer,
-    known: &mut Option<OpenPair>,
+    known: Option<OpenPair>,
 ) -> bool
     requires there { All (HasNode tree.now.nodes) nodes.now }
-    requires known { IfSome known.old
-        (IsOpenFor (participants (members_at tree.now.nodes nodes.now))) }
-    ensures known { IfSome known.new
+    requires known { IfSome known
         (IsOpenFor (participants (members_at tree.now.nodes nodes.now))) }
     ensures before { IsTrue result → (field ≡ PixelFormat)
         ⊎ All (λ p. TakesIn ColorSpaces offer.now (offer_demand p))
@@ -199,7 +195,7 @@ fn next_line(
     ensures share { (ms : List Member) → StandFor (members_at tree.now.nodes nodes.now) ms
         → IfOk result (λ line. IfNone line (ShareOffer whole ms offer.now)) }
 {
-    let again = line_again(tree, nodes, earlier, offer, before, known)?;
+    let again = line_again(tree, nodes, earlier, offer, before, *known)?;
     if again.is_some() {
         return Ok(again);
     }

@@ -2,5 +2,5 @@
 use Rattle.std.proofs.Common.{inr}
 use Rattle.sysmem_proof.proofs.refusals.is_before_colour.Goals as goal
 
-pub returns-in_default-clause-before : goal.returns-in_default-clause-before
-returns-in_default-clause-before c = λ takes. inr (c.all_take_colour.ensures.takes takes)
+pub returns-in_default : goal.returns-in_default
+returns-in_default c = λ takes. inr (c.all_take_colour.ensures takes)
