@@ -47,7 +47,7 @@ pub(crate) fn search_together_again<R: Threads + Sync>(
     times: u32,
 ) -> Result<()> {
     let domain = tree.domain_of(tree.root());
-    if !tree.ready(domain) || tree.host_of(domain).is_some() {
+    if !tree.is_ready(domain) || tree.host_of(domain).is_some() {
         bail!("the initial domain isn't ready");
     }
     for _ in 0..times {
@@ -103,7 +103,7 @@ pub(crate) fn found_in(
     ensures optimal { IfOk result
         (λ found. IsOptimalIn platform.now tree.now.nodes domain None found.verdict) }
 {
-    if !tree.ready(domain) || tree.host_of(domain).is_some() {
+    if !tree.is_ready(domain) || tree.host_of(domain).is_some() {
         bail!("the initial domain isn't ready");
     }
     Ok(search(alloc, platform, tree, domain, None, &NoGate)?)

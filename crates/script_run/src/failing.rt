@@ -54,7 +54,7 @@ pub(crate) fn put_failed(
         → Puts result text.old text.new (failed_lines old tree.now) }
 {
     let have_failed = tree.failed_domains();
-    for index in 0..tree.domains() {
+    for index in 0..tree.domain_count() {
         let Some(domain) = newly_failed_at(tree, &have_failed, marks, index) else {
             continue;
         };

@@ -69,7 +69,7 @@ pub(crate) fn put_pending(text: &mut String, book: &Book) -> Result<(), AllocErr
     ensures { Puts result text.old text.new (pending_lines book.now.state) }
 {
     let tree = book.tree();
-    for index in 0..tree.domains() {
+    for index in 0..tree.domain_count() {
         let Some(domain) = pending_at(book, index) else {
             continue;
         };

@@ -49,7 +49,7 @@ pub(crate) fn lines_of(alloc: Global, book: &Book) -> Result<Lines, AllocError>
 /// The domains in pre-order of their roots.
 fn roots_of(alloc: Global, tree: &Tree) -> Result<Vec<Rooted>, AllocError> {
     let mut roots = Vec::new(alloc);
-    for index in 0..tree.domains() {
+    for index in 0..tree.domain_count() {
         if let Some(domain) = tree.domain_at(index) {
             let path = tree.path_of(tree.root_of(domain))?;
             roots.push(Rooted { index, path })?;

@@ -346,7 +346,7 @@ impl Book {
         members_stand_once();
         let were_ready = ready_domains(&self.tree);
         add_chosen(&self.tree, domain, &claim, &mut self.chosen);
-        self.tree.decided(domain, choices_of(&claim));
+        self.tree.decide(domain, choices_of(&claim));
         self.were_open = open_nodes(&self.tree);
         self.history.push_reserved(Entry::Decided(domain, claim));
         self.waiting.remove(0);

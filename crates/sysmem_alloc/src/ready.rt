@@ -14,7 +14,7 @@ fn is_ready_at(tree: &Tree, index: u32) -> bool
     ensures { result ≡ ready_at tree.now index }
 {
     match tree.domain_at(index) {
-        Some(domain) => tree.ready(domain),
+        Some(domain) => tree.is_ready(domain),
         None => false,
     }
 }
@@ -24,7 +24,7 @@ fn is_ready_at(tree: &Tree, index: u32) -> bool
 pub(crate) fn ready_domains(tree: &Tree) -> [bool; 128]
     ensures { (k : ℕ) → get_or result k false ≡ ready_at tree.now k }
 {
-    if tree.domains() > 1 {
+    if tree.domain_count() > 1 {
         return tree.ready_domains();
     }
     let mut marks = [false; 128];
@@ -57,7 +57,7 @@ pub(crate) fn add_ready(tree: &Tree, marks: &[bool; 128], waiting: &mut Vec<Doma
     ensures reserved { vec_capacity waiting.new ≡ vec_capacity waiting.old }
 {
     let are_ready = ready_domains(tree);
-    for index in 0..tree.domains() {
+    for index in 0..tree.domain_count() {
         let Some(domain) = newly_ready_at(tree, &are_ready, marks, index) else {
             continue;
         };
@@ -74,7 +74,7 @@ pub(crate) fn add_if_ready(tree: &Tree, domain: Option<DomainId>, waiting: &mut 
     ensures reserved { vec_capacity waiting.new ≡ vec_capacity waiting.old }
 {
     if let Some(one) = domain {
-        if tree.ready(one) {
+        if tree.is_ready(one) {
             waiting.push_reserved(one);
         }
     }
@@ -95,7 +95,7 @@ pub(crate) fn open_nodes(tree: &Tree) -> [bool; 128]
     ensures { (k : ℕ) → get_or result k false ≡ is_open tree.now.nodes k }
 {
     let mut marks = [false; 128];
-    for number in 0..tree.nodes() {
+    for number in 0..tree.node_count() {
         marks[number as usize] = is_open_at(tree, number);
     }
     marks

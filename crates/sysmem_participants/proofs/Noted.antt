@@ -1,5 +1,5 @@
 -- What a handle has noted once it was told.
-use Rattle.std.proofs.Common.{◌≡◌, ◌∙◌, ℕ, List, Option, Some, None, Result, Ok, Err, ap, sym, subst}
+use Rattle.std.proofs.Common.{◌≡◌, ◌≢◌, ◌∙◌, ℕ, List, Option, Some, None, Result, Ok, Err, ap, sym, subst}
 use Rattle.std.specs.Prelude.{IfErr, IfOk, IfSome, MatchResult}
 use Rattle.once_cell.specs.Once.{Agrees}
 use Rattle.sysmem_room.specs.declared.outcome.Outcome.{Outcome}
@@ -8,6 +8,7 @@ use Rattle.sysmem_room.specs.Ruling.{RulingFacts}
 use Rattle.sysmem_sanitise.specs.Participant.{Participant}
 use Rattle.sysmem_sanitise.specs.Platform.{PlatformFacts}
 use Rattle.sysmem_tree.specs.declared.refusal.Refusal.{Refusal}
+use Rattle.sysmem_tree.specs.declared.refusal.Refusal.TheVariants as refusals
 use Rattle.sysmem_participants.specs.Held.{Held, IsSameBut, IsStillKnown}
 use Rattle.sysmem_participants.specs.Told.{IsTold, IsToldBy, Tells, asked_by}
 
@@ -25,9 +26,10 @@ told_to h platform path asked o refusal p q a told =
 -- what is noted goes with what is shown or told
 pub noted_by : {V : Type 0} (told : Result V Refusal) (at : V → RulingFacts) (h : Held) (platform : PlatformFacts) (path : List ℕ) (asked : Option Participant) (o : Outcome) (noted : Option Outcome) → noted ≡ Some o
     → platform ≡ h.platform → path ≡ h.path → asked ≡ asked_by h → IfOk told (λ v. o ≡ outcomes.Decided (at v)) → IfErr told (IsTold platform path asked o)
+    → IfErr told (λ r. r ≢ refusals.Pending)
     → MatchResult told (λ v. noted ≡ Some (outcomes.Decided (at v))) (IsToldBy h noted)
-noted_by (Ok v) at h platform path asked o noted set p q a decided told = set ∙ ap Some decided
-noted_by (Err refusal) at h platform path asked o noted set p q a decided told = λ _. (o, set, told_to h platform path asked o refusal p q a told)
+noted_by (Ok v) at h platform path asked o noted set p q a decided told known = set ∙ ap Some decided
+noted_by (Err refusal) at h platform path asked o noted set p q a decided told known = ((λ is. absurd (known is)), (λ _. (o, set, told_to h platform path asked o refusal p q a told)))
 
 -- what was known is what is found in the cell
 was_known : (was known : Option Outcome) (o : Outcome) → known ≡ was → Agrees known o → IfSome was (λ k. k ≡ o)
@@ -56,7 +58,7 @@ pub waited : {V : Type 0} (told : Result V Refusal) (at : V → RulingFacts) (h 
 waited {V} told at h k n same kept after = (after.0 ∙ same, known_on h.known k.known n.known kept after.1, by told after.2) where
   by : (t : Result V Refusal) → MatchResult t (λ v. n.known ≡ Some (outcomes.Decided (at v))) (IsToldBy k n.known) → MatchResult t (λ v. n.known ≡ Some (outcomes.Decided (at v))) (IsToldBy h n.known)
   by (Ok v) noted = noted
-  by (Err refusal) noted = λ decided. let (o, set, was_told) = noted decided in (o, set, told_to h k.platform k.path (asked_by k) o refusal (ap (λ (x : Held). x.platform) same) (ap (λ (x : Held). x.path) same) (ap asked_by same) was_told)
+  by (Err refusal) noted = (noted.0, λ decided. let (o, set, was_told) = noted.1 decided in (o, set, told_to h k.platform k.path (asked_by k) o refusal (ap (λ (x : Held). x.platform) same) (ap (λ (x : Held). x.path) same) (ap asked_by same) was_told))
 
 pub tells_as : {V : Type 0} (told : Result V Refusal) (h k : Held) → IsSameBut h k → IsStillKnown h k → IfErr told (Tells k) → IfErr told (Tells h)
 tells_as (Ok v) h k same kept tells = tt

@@ -1,5 +1,5 @@
 -- What a handle is told of its domain's verdict.
-use Rattle.std.specs.Prelude.{◌≡◌, ◌≢◌, ◌⊎◌, ℕ, false, true, List, Option, Some, IfSome}
+use Rattle.std.specs.Prelude.{◌≡◌, ◌≢◌, ◌⊎◌, ℕ, false, true, List, Option, None, Some, IfSome}
 use Rattle.sysmem_alloc.specs.Frozen.{FrozenFacts}
 use Rattle.sysmem_proof.specs.declared.verdict.Verdict.{Verdict}
 use Rattle.sysmem_proof.specs.declared.verdict.Verdict.TheVariants as verdicts
@@ -87,10 +87,11 @@ IsTold platform path asked (outcomes.Decided r) refusal = IsRefusedBy platform p
 IsTold platform path asked outcomes.Failed refusal = refusal ≡ refusals.DomainFailed
 IsTold platform path asked outcomes.NoMemory refusal = refusal ≡ refusals.NoMemory
 
--- a handle is told what it then knows became of its domain, or `Pending`
+-- a handle is told what it then knows became of its domain; or `Pending`, and then it knows nothing
 abbrev pub IsToldBy : Held → Option Outcome → Refusal → Type 0
-IsToldBy h known refusal = refusal ≢ refusals.Pending
-    → (o : Outcome) × (known ≡ Some o) × IsTold h.platform h.path (asked_by h) o refusal
+IsToldBy h known refusal = (refusal ≡ refusals.Pending → known ≡ None)
+    × (refusal ≢ refusals.Pending
+    → (o : Outcome) × (known ≡ Some o) × IsTold h.platform h.path (asked_by h) o refusal)
 
 -- what a handle is told tells what became of its domain: what it knew of that, where it knew it
 abbrev pub Tells : Held → Refusal → Type 0

@@ -79,7 +79,7 @@ fn counted(book: &Book) -> Audit
     let actions = actions_of(book);
     let decisions = book.history().len() - actions;
     Audit {
-        nodes: book.tree().nodes(),
+        nodes: book.tree().node_count(),
         actions: actions as u32,
         decisions: decisions as u32,
     }
@@ -107,7 +107,7 @@ pub fn stubs_agree<L: Ledger>(book: &Book, stubs: &mut [Stub<L>]) -> Result<Audi
     ensures fault { IfErr result (IsFirstFault book.now stubs.new) }
     ensures read { AreRead stubs.old stubs.new }
 {
-    let nodes = book.tree().nodes();
+    let nodes = book.tree().node_count();
     if stubs.len() != nodes as usize {
         return Err(AuditFault::Stubs);
     }

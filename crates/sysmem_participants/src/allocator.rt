@@ -8,6 +8,7 @@ ghost use Rattle.sysmem_room.specs.Counting.{all_parts};
 use crate::seat::Seat;
 use crate::shared::{Rules, Shared};
 use crate::token::Token;
+use smallvec::SmallVec;
 use std::alloc::{AllocError, Global};
 use std::marker::Model;
 use std::sync::ledger::{Blank, Ledger};
@@ -60,7 +61,7 @@ fn opened<L: Ledger, G: Gate + Drop + Sync>(
     Ok(Seat {
         shared,
         rules,
-        path: Vec::new(alloc),
+        path: SmallVec::new(alloc),
         log,
         share: opened.share,
         cell: opened.cell,

@@ -12,6 +12,7 @@ use crate::telling::told;
 use crate::view::View;
 use crate::waiting::wait_until_set;
 use once_cell::race::{Note, OnceBox};
+use smallvec::SmallVec;
 use std::alloc::AllocError;
 use std::marker::Model;
 use std::sync::ledger::{Ledger, Share};
@@ -24,7 +25,8 @@ use sysmem_tree::{NodeKind, Refusal};
 pub(crate) struct Seat<L: Ledger, G: Gate + Drop> {
     pub(crate) shared: Arc<Shared<L>>,
     pub(crate) rules: Arc<Rules<G>>,
-    pub(crate) path: Vec<u32>,
+    /// One of up to four steps takes no memory.
+    pub(crate) path: SmallVec<u32, 4>,
     pub(crate) log: Log,
     /// One part of the ledger, for the number of actions in the log.
     pub(crate) share: Share<L>,
@@ -61,7 +63,7 @@ impl<L: Ledger, G: Gate + Drop> Model for Seat<L, G> {
 pub(crate) struct Prepared<L: Ledger, G: Gate + Drop> {
     pub(crate) shared: Arc<Shared<L>>,
     pub(crate) rules: Arc<Rules<G>>,
-    pub(crate) path: Vec<u32>,
+    pub(crate) path: SmallVec<u32, 4>,
     pub(crate) log: Log,
     pub(crate) cell: Arc<OnceBox<Outcome>>,
 }
@@ -87,8 +89,7 @@ impl<L: Ledger, G: Gate + Drop> Seat<L, G> {
             (arc_value child.shared).platform ≡ self.now.platform) }
     {
         let alloc = self.rules.alloc;
-        let mut path = Vec::with_capacity(alloc, self.path.len().saturating_add(1))?;
-        path.extend_from_slice(&self.path)?;
+        let mut path = SmallVec::from_slice(alloc, &self.path)?;
         path.push(self.log.state().children)?;
         Ok(Prepared {
             shared: Arc::try_clone(&self.shared)?,

@@ -4,6 +4,7 @@ ghost use Rattle.std.specs.Prelude.{◌≡◌, length};
 
 use crate::shared::Shared;
 use once_cell::race::{Note, OnceBox};
+use smallvec::SmallVec;
 use std::marker::Model;
 use std::sync::Arc;
 use std::sync::ledger::{Ledger, Share};
@@ -15,7 +16,7 @@ use sysmem_tree::Action;
 #[derive(Drop)]
 pub struct Stub<L: Ledger> {
     pub(crate) shared: Arc<Shared<L>>,
-    pub(crate) path: Vec<u32>,
+    pub(crate) path: SmallVec<u32, 4>,
     pub(crate) actions: Vec<Action>,
     pub(crate) share: Share<L>,
     pub(crate) cell: Arc<OnceBox<Outcome>>,

@@ -12,8 +12,8 @@ use Rattle.sysmem_tree.specs.Node.{NodeFacts}
 use Rattle.sysmem_tree.specs.Nodes.{HasNode}
 use Rattle.sysmem_tree.specs.Path.{path_of}
 use Rattle.sysmem_tree.specs.Shape.{Member, by_path}
-use Rattle.sysmem_proof.specs.declared.whom.Whom.{Whom}
-use Rattle.sysmem_proof.specs.declared.whom.Whom.TheVariants as whoms
+use Rattle.sysmem_proof.specs.declared.finding.whom.Whom.{Whom}
+use Rattle.sysmem_proof.specs.declared.finding.whom.Whom.TheVariants as whoms
 use Rattle.sysmem_proof.specs.Members.{participants, member_at, members_at}
 use Rattle.sysmem_proof.specs.Whom.{names, members_named}
 

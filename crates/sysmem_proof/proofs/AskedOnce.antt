@@ -7,7 +7,7 @@ use Rattle.sysmem_memory.specs.declared.place.Place.{Place}
 use Rattle.sysmem_memory.specs.Heap.{HeapFacts}
 use Rattle.sysmem_sanitise.specs.Participant.{Participant}
 use Rattle.sysmem_tree.specs.Node.{NodeFacts}
-use Rattle.sysmem_proof.specs.declared.places_asked.Asked.{Asked}
+use Rattle.sysmem_proof.specs.declared.finding.places_asked.Asked.{Asked}
 use Rattle.sysmem_proof.specs.PlacesAsked.{IsAsked, IsPlaceAnswer}
 
 module _ (nodes : List NodeFacts) (heaps : List HeapFacts) (o : Option Participant) (node : ℕ) (place : Place) (heap : HeapFacts) (one : Asked) (number : one.number ≡ node) (at : one.place ≡ place)

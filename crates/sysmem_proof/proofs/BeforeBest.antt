@@ -18,8 +18,8 @@ use Rattle.sysmem_merge.specs.Settings.{Meets}
 use Rattle.sysmem_sanitise.specs.Platform.{PlatformFacts, offers_of}
 use Rattle.sysmem_tree.specs.Node.{NodeFacts}
 use Rattle.sysmem_tree.specs.Shape.{Member}
-use Rattle.sysmem_proof.specs.declared.refusals.Refusals.{Refusals}
-use Rattle.sysmem_proof.specs.declared.refusals.Refusals.TheVariants.{Whole, UpTo}
+use Rattle.sysmem_proof.specs.declared.finding.refusals.Refusals.{Refusals}
+use Rattle.sysmem_proof.specs.declared.finding.refusals.Refusals.TheVariants.{Whole, UpTo}
 use Rattle.sysmem_proof.specs.Base.{BaseFacts, terms_of}
 use Rattle.sysmem_proof.specs.Certificate.{HoldBefore, RefusePlacesBefore, RefuseBefore, RefuseBeforeFor}
 use Rattle.sysmem_proof.specs.CertificateFacts.{CertificateFacts}

@@ -10,7 +10,7 @@ use Rattle.sysmem_tree.specs.Shape.{Member}
 use Rattle.sysmem_proof.specs.Verdict.{Meeting, IsForestUnmet, IsUnmetBefore, IsChosen}
 use Rattle.sysmem_proof.proofs.Walks.{after_choice, whole_alone, begins, joins, goes_on}
 pub use Rattle.sysmem_proof.proofs.Equal.{same_settings}
-pub use Rattle.sysmem_proof.proofs.Finding.{splits_refute, earlier_grows}
+pub use Rattle.sysmem_proof.proofs.FinderLemmas.{splits_refute, earlier_grows}
 pub use Rattle.sysmem_proof.proofs.Labels.{AllIn, both_all, in_after, in_settled, in_tree}
 
 module _ (Met : Meeting) where

@@ -29,7 +29,7 @@ use Rattle.sysmem_proof.specs.Conflict.{IsConflictFor, RefusesOffer, RefusesPlac
 use Rattle.sysmem_proof.specs.Line.{LineFacts}
 use Rattle.sysmem_proof.specs.Members.{participants}
 use Rattle.sysmem_proof.specs.Verdict.{IsUnmetBefore, IsChosen, MeetsFor, IsBestFor}
-use Rattle.sysmem_proof.proofs.Finding.{earlier_grows}
+use Rattle.sysmem_proof.proofs.FinderLemmas.{earlier_grows}
 use Rattle.sysmem_proof.proofs.OfferCases.{refused_or_fit}
 use Rattle.sysmem_proof.proofs.ReasonOrMet.{refused_or_allowed, meets_with, settings_with}
 use Rattle.sysmem_proof.proofs.Refutable.{Apart, FitTerms, all_of, all_taken, collected, all_named, apart_child, refuted, own}

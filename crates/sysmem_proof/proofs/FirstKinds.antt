@@ -24,8 +24,8 @@ use Rattle.sysmem_sanitise.specs.Participant.{Participant}
 use Rattle.sysmem_sanitise.specs.Platform.{PlatformFacts, offers_of}
 use Rattle.sysmem_tree.specs.Forest.{Forest, choices, settled}
 use Rattle.sysmem_tree.specs.Shape.{Member}
-use Rattle.sysmem_proof.specs.declared.refusals.Refusals.{Refusals}
-use Rattle.sysmem_proof.specs.declared.refusals.Refusals.TheVariants.{Whole, UpTo}
+use Rattle.sysmem_proof.specs.declared.finding.refusals.Refusals.{Refusals}
+use Rattle.sysmem_proof.specs.declared.finding.refusals.Refusals.TheVariants.{Whole, UpTo}
 use Rattle.sysmem_proof.specs.declared.conflict.Conflict.TheVariants.{Places, Offers}
 use Rattle.sysmem_proof.specs.Conflict.{IsConflict, RefusesOffer, RefusesPlace}
 use Rattle.sysmem_proof.specs.FirstConflict.{IsFirstConflict, IsOfferLineGiven, IsPlaceLineGiven}

@@ -25,7 +25,7 @@ use Rattle.sysmem_tree.specs.Forest.{Forest, choices, settled}
 use Rattle.sysmem_tree.specs.Node.{NodeFacts}
 use Rattle.sysmem_tree.specs.Path.{path_of}
 use Rattle.sysmem_tree.specs.Shape.{Member, by_path}
-use Rattle.sysmem_proof.specs.declared.whom.Whom.TheVariants as whoms
+use Rattle.sysmem_proof.specs.declared.finding.whom.Whom.TheVariants as whoms
 use Rattle.sysmem_proof.specs.Base.{Terms}
 use Rattle.sysmem_proof.specs.Finder.{has_count}
 use Rattle.sysmem_proof.specs.Line.{LineFacts}

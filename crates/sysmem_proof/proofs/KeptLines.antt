@@ -15,9 +15,9 @@ use Rattle.sysmem_image.specs.Entries.{first_match, takes_colour}
 use Rattle.sysmem_merge.specs.Demands.{offer_demand}
 use Rattle.sysmem_sanitise.specs.Participant.{Participant}
 use Rattle.sysmem_tree.specs.Node.{NodeFacts}
-use Rattle.sysmem_proof.specs.declared.open_pairs.OpenPair.{OpenPair}
-use Rattle.sysmem_proof.specs.declared.alone_lines.Alone.{Alone}
-use Rattle.sysmem_proof.specs.declared.whom.Whom.TheVariants as whom
+use Rattle.sysmem_proof.specs.declared.finding.open_pairs.OpenPair.{OpenPair}
+use Rattle.sysmem_proof.specs.declared.finding.alone_lines.Alone.{Alone}
+use Rattle.sysmem_proof.specs.declared.finding.whom.Whom.TheVariants as whom
 use Rattle.sysmem_proof.specs.Line.{LineFacts}
 use Rattle.sysmem_proof.specs.OpenPairs.{IsOpenFor, TakesEach, takes_in}
 use Rattle.sysmem_proof.specs.Reading.{TakesIn}

@@ -19,7 +19,7 @@ pub mod Conflicts
 pub mod Fixing
 pub mod Exact
 pub mod Saying
-pub mod Finding
+pub mod FinderLemmas
 pub mod CountNodes
 pub mod Faulting
 pub mod Labels

@@ -15,14 +15,14 @@ use Rattle.sysmem_sanitise.specs.Participant.{Participant}
 use Rattle.sysmem_tree.specs.Node.{NodeFacts}
 use Rattle.sysmem_tree.specs.Shape.{Member}
 use Rattle.sysmem_tree.specs.Sublist.{IsSublist, taken, left_out}
-use Rattle.sysmem_proof.specs.declared.whom.Whom.{Whom}
-use Rattle.sysmem_proof.specs.declared.whom.Whom.TheVariants as whoms
+use Rattle.sysmem_proof.specs.declared.finding.whom.Whom.{Whom}
+use Rattle.sysmem_proof.specs.declared.finding.whom.Whom.TheVariants as whoms
 use Rattle.sysmem_proof.specs.Conflict.{RefusesOffer, RefusesPlace}
 use Rattle.sysmem_proof.specs.Members.{participants, member_at, members_at}
 use Rattle.sysmem_proof.specs.Naming.{Names}
 use Rattle.sysmem_proof.specs.Refusals.{StandFor}
 use Rattle.sysmem_proof.specs.Whom.{names, members_named, line_on}
-use Rattle.sysmem_proof.proofs.Finding.{some_are_named}
+use Rattle.sysmem_proof.proofs.FinderLemmas.{some_are_named}
 use Rattle.sysmem_proof.proofs.Growing.{sub_none, sub_trans}
 use Rattle.sysmem_proof.proofs.OnRoll.{place_told}
 use Rattle.sysmem_proof.proofs.SettledNodes.{filter_sub}

@@ -31,7 +31,7 @@ use Rattle.sysmem_proof.specs.Naming.{Names}
 use Rattle.sysmem_proof.specs.Verdict.{IsForestUnmet, MeetsFor}
 use Rattle.sysmem_proof.proofs.Deciding.{any_or_all}
 use Rattle.sysmem_proof.proofs.FailsOrCovers.{fails_or_covers}
-use Rattle.sysmem_proof.proofs.Finding.{some_are_named, reasons_are_conflicts, splits_refute}
+use Rattle.sysmem_proof.proofs.FinderLemmas.{some_are_named, reasons_are_conflicts, splits_refute}
 use Rattle.sysmem_proof.proofs.ReasonOrMet.{reason_or_met, fixed_count_or_line}
 use Rattle.sysmem_proof.proofs.SettledNodes.{filter_sub, asks, asked_alike}
 use Rattle.sysmem_proof.proofs.Walks.{after_choice, joins}

@@ -17,7 +17,7 @@ use Rattle.sysmem_merge.specs.Offers.{bounds_asked, entry_bounds, is_named}
 use Rattle.sysmem_merge.specs.Reasons.{IsOfferLine, IsUnnamedLine}
 use Rattle.sysmem_sanitise.specs.Participant.{Participant}
 use Rattle.sysmem_tree.specs.Shape.{Member}
-use Rattle.sysmem_proof.specs.declared.whom.Whom.TheVariants.{All, WithEntries}
+use Rattle.sysmem_proof.specs.declared.finding.whom.Whom.TheVariants.{All, WithEntries}
 use Rattle.sysmem_proof.specs.Members.{participants}
 use Rattle.sysmem_proof.specs.Refusals.{StandFor, ShareOffer}
 use Rattle.sysmem_proof.specs.Whom.{has_entries, names}

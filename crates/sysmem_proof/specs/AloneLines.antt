@@ -1,9 +1,9 @@
 -- Lines that are kept of participants, each of which it names alone.
 use Rattle.std.specs.Prelude.{◌≡◌, List, [], ◌∷◌, Option, All, IfSome}
 use Rattle.sysmem_tree.specs.Node.{NodeFacts}
-use Rattle.sysmem_proof.specs.declared.alone_lines.Alone.{Alone}
-use Rattle.sysmem_proof.specs.declared.alone_lines.AloneLines.{AloneLines}
-use Rattle.sysmem_proof.specs.declared.whom.Whom.TheVariants as whom
+use Rattle.sysmem_proof.specs.declared.finding.alone_lines.Alone.{Alone}
+use Rattle.sysmem_proof.specs.declared.finding.alone_lines.AloneLines.{AloneLines}
+use Rattle.sysmem_proof.specs.declared.finding.whom.Whom.TheVariants as whom
 use Rattle.sysmem_proof.specs.Whom.{line_on}
 
 -- the line is one that names the one at its node

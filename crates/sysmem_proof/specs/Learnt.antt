@@ -2,7 +2,7 @@
 use Rattle.std.specs.Prelude.{List}
 use Rattle.sysmem_memory.specs.Heap.{HeapFacts}
 use Rattle.sysmem_tree.specs.Node.{NodeFacts}
-use Rattle.sysmem_proof.specs.declared.learnt.Learnt.{Learnt}
+use Rattle.sysmem_proof.specs.declared.finding.learnt.Learnt.{Learnt}
 use Rattle.sysmem_proof.specs.AloneLines.{AreAlone}
 use Rattle.sysmem_proof.specs.PlacesAsked.{AreAsked}
 

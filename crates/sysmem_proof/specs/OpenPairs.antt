@@ -7,7 +7,7 @@ use Rattle.sysmem_formats.specs.declared.offer.Pair.{Pair}
 use Rattle.sysmem_image.specs.declared.entry.Entry.{Entry}
 use Rattle.sysmem_image.specs.Entries.{first_match, takes_colour}
 use Rattle.sysmem_sanitise.specs.Participant.{Participant}
-use Rattle.sysmem_proof.specs.declared.open_pairs.OpenPair.{OpenPair}
+use Rattle.sysmem_proof.specs.declared.finding.open_pairs.OpenPair.{OpenPair}
 
 -- who has these entries takes images of the pair in the colour space, if an entry is for them
 abbrev pub takes_in : Pair → ColourSpace → List Entry → Bool

@@ -7,8 +7,8 @@ use Rattle.sysmem_memory.specs.Heap.{HeapFacts}
 use Rattle.sysmem_memory.specs.PlaceTable.{AllowsPlace, first_refusing, refuses_by}
 use Rattle.sysmem_sanitise.specs.Participant.{Participant}
 use Rattle.sysmem_tree.specs.Node.{NodeFacts}
-use Rattle.sysmem_proof.specs.declared.places_asked.Asked.{Asked}
-use Rattle.sysmem_proof.specs.declared.places_asked.PlacesAsked.{PlacesAsked}
+use Rattle.sysmem_proof.specs.declared.finding.places_asked.Asked.{Asked}
+use Rattle.sysmem_proof.specs.declared.finding.places_asked.PlacesAsked.{PlacesAsked}
 
 -- what a participant, if there is one, says of a coherency domain of a heap: the first field that refuses it, or that it takes it
 pub record IsPlaceAnswer (asked : Option Participant) (heap : HeapFacts) (domain : CoherencyDomain) (answer : Option Field) : Type 0 where

@@ -9,8 +9,8 @@ use Rattle.sysmem_merge.specs.OfferRead.{IsOfferRead, IsRefusingLine, offer_line
 use Rattle.sysmem_merge.specs.Offers.{has_format, has_colour}
 use Rattle.sysmem_merge.specs.Reasons.{IsOfferLine}
 use Rattle.sysmem_tree.specs.Node.{NodeFacts}
-use Rattle.sysmem_proof.specs.declared.first_refusing.Reading.{Reading}
-use Rattle.sysmem_proof.specs.declared.first_refusing.Reading.TheVariants.{Refused, Read}
+use Rattle.sysmem_proof.specs.declared.finding.first_refusing.Reading.{Reading}
+use Rattle.sysmem_proof.specs.declared.finding.first_refusing.Reading.TheVariants.{Refused, Read}
 use Rattle.sysmem_proof.specs.Members.{participants, members_at}
 
 -- a participant takes the part of an offer that the field speaks of: its format or its colour space

@@ -12,8 +12,8 @@ use Rattle.sysmem_merge.specs.Offers.{is_named}
 use Rattle.sysmem_tree.specs.Laws.{PathsDiffer}
 use Rattle.sysmem_tree.specs.Shape.{Member}
 use Rattle.sysmem_tree.specs.Sublist.{IsSublist}
-use Rattle.sysmem_proof.specs.declared.refusals.Refusals.{Refusals}
-use Rattle.sysmem_proof.specs.declared.refusals.Refusals.TheVariants.{Whole, UpTo}
+use Rattle.sysmem_proof.specs.declared.finding.refusals.Refusals.{Refusals}
+use Rattle.sysmem_proof.specs.declared.finding.refusals.Refusals.TheVariants.{Whole, UpTo}
 use Rattle.sysmem_proof.specs.Line.{LineFacts}
 use Rattle.sysmem_proof.specs.Members.{participants}
 

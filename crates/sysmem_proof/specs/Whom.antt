@@ -6,9 +6,9 @@ use Rattle.sysmem_merge.specs.Demands.{OfferDemand, offer_demand}
 use Rattle.sysmem_sanitise.specs.Participant.{Participant}
 use Rattle.sysmem_tree.specs.Node.{NodeFacts}
 use Rattle.sysmem_tree.specs.Shape.{Member}
-use Rattle.sysmem_proof.specs.declared.whom.Named.{Named}
-use Rattle.sysmem_proof.specs.declared.whom.Whom.{Whom}
-use Rattle.sysmem_proof.specs.declared.whom.Whom.TheVariants.{All, WithCount, WithEntries, Nobody}
+use Rattle.sysmem_proof.specs.declared.finding.whom.Named.{Named}
+use Rattle.sysmem_proof.specs.declared.finding.whom.Whom.{Whom}
+use Rattle.sysmem_proof.specs.declared.finding.whom.Whom.TheVariants.{All, WithCount, WithEntries, Nobody}
 use Rattle.sysmem_proof.specs.Finder.{has_count}
 use Rattle.sysmem_proof.specs.Line.{LineFacts}
 use Rattle.sysmem_proof.specs.Members.{members_at}

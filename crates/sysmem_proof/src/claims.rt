@@ -12,12 +12,10 @@ ghost use Rattle.sysmem_tree.specs.Shape.{shape_of};
 
 use crate::base::Base;
 use crate::certificate::{Claim, Proof};
-use crate::checker::Checker;
-use crate::choice_faults::choice_fault;
+use crate::checking::{Checker, choice_fault, refutation_fault};
 use crate::laws::{faults_are_first, tests_are_exact};
 use crate::no::No;
 use crate::refutation::Refutation;
-use crate::refutations::refutation_fault;
 use crate::verdict::Verdict;
 use sysmem_sanitise::Platform;
 use sysmem_tree::{DomainId, Prefix, Tree};

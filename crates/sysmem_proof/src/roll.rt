@@ -132,10 +132,10 @@ impl<'a> Roll<'a> {
     }
 
     /// How many nodes the tree has.
-    pub(crate) fn nodes(&self) -> u32
+    pub(crate) fn node_count(&self) -> u32
         ensures { result ≡ length self.now.nodes }
     {
-        self.tree.nodes()
+        self.tree.node_count()
     }
 
     /// Participants that are named, each once, are at most as many as a tree has nodes.

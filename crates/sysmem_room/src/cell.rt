@@ -60,7 +60,7 @@ impl DomainCell {
 fn index_of(tree: &Tree, domain: DomainId) -> Option<usize>
     ensures { IfSome result (λ index. index < length tree.now.domains) }
 {
-    for index in 0..tree.domains() {
+    for index in 0..tree.domain_count() {
         if tree.domain_at(index) == Some(domain) {
             return Some(index as usize);
         }
@@ -87,7 +87,7 @@ fn publish_failed(cells: &mut [DomainCell], tree: &Tree)
     ensures { length cells.new ≡ length cells.old }
 {
     let have_failed = tree.failed_domains();
-    for index in 0..tree.domains() {
+    for index in 0..tree.domain_count() {
         if have_failed[index as usize] {
             cells[index as usize].set(Outcome::Failed);
         }

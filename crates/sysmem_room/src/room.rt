@@ -181,8 +181,8 @@ impl<L: Ledger> Room<L> {
         let entries = self.book.history().len();
         let done = self.book.apply(event)?;
         let tree = self.book.tree();
-        tree.nodes();
-        tree.domains();
+        tree.node_count();
+        tree.domain_count();
         self.places.add(tree.number_of(acted), entries, kind);
         self.counted.add(mine, 1);
         let share = self.spare.split_off(parts, 0);
@@ -423,7 +423,7 @@ impl<L: Ledger> Room<L> {
         ensures amount { all.new.amount ≡ all.old.amount }
         ensures actions { all.new.amount ≡ actions_in self.old.history }
     {
-        let rest = 129 - u64::from(self.book.tree().nodes());
+        let rest = 129 - u64::from(self.book.tree().node_count());
         self.counted.audit(all);
         self.spare.give(all, rest, 0);
         self.counted.audit(all);

@@ -14,7 +14,7 @@ impl Tree {
     /// Enters the decision of a domain of the tree that is ready and undecided: for the selection
     /// that these choices make, and then the nodes of the domain that are no members are left out;
     /// or for none. It takes no memory.
-    pub fn decided(&mut self, domain: DomainId, choices: Option<&[u8]>)
+    pub fn decide(&mut self, domain: DomainId, choices: Option<&[u8]>)
         requires { IsDecidable self.old domain (option_map (λ chosen. chosen.now) choices) }
         ensures { self.new
             ≡ decided self.old domain (option_map (λ chosen. chosen.now) choices.entry) }

@@ -5,7 +5,7 @@
 //! let mut tree = Tree::new(rt.alloc())?;
 //! let camera = tree.apply(Event { node: tree.root(), action: Action::Duplicate })?;
 //! tree.apply(Event { node: tree.root(), action: Action::Release })?;
-//! assert!(!tree.ready(tree.domain_of(camera)));
+//! assert!(!tree.is_ready(tree.domain_of(camera)));
 //! ```
 #![tactic(auto)]
 

@@ -82,7 +82,7 @@ impl Tree {
     }
 
     /// How many nodes were made, those that are gone included: 1 to 128.
-    pub fn nodes(&self) -> u32
+    pub fn node_count(&self) -> u32
         ensures number { result ≡ length self.now.nodes }
         ensures some { 1 ≤ result }
         ensures few { result ≤ 128 }
@@ -177,7 +177,7 @@ impl Tree {
     }
 
     /// How many domains there are: 1 to 128.
-    pub fn domains(&self) -> u32
+    pub fn domain_count(&self) -> u32
         ensures number { result ≡ length self.now.domains }
         ensures some { 1 ≤ result }
         ensures few { result ≤ 128 }
@@ -219,7 +219,7 @@ impl Tree {
     /// Whether a domain of the tree is ready for a decision: nothing more waits on any of its
     /// nodes, it hasn't failed, and, where its root was attached, the collection to which it was is
     /// selected. A domain that is ready stays so, whatever is decided.
-    pub fn ready(&self, domain: DomainId) -> bool
+    pub fn is_ready(&self, domain: DomainId) -> bool
         requires { HasDomain self.now.nodes domain }
         ensures { result ≡ is_ready self.now domain }
     {

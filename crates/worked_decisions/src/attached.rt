@@ -78,7 +78,7 @@ fn is_frozen(
     };
     let heaps = frozen.platform().heaps().len();
     is_equal(rt, "domain", &book.next_ready(), &Some(frozen.domain()));
-    is_equal(rt, "nodes", &frozen.tree().nodes(), &7);
+    is_equal(rt, "nodes", &frozen.tree().node_count(), &7);
     is_equal(rt, "heaps", &heaps, &3);
     is_base(rt, alloc, book, frozen.base())
 }

@@ -158,7 +158,7 @@ fn seen(frozen: &Frozen) -> Seen {
     let tree = frozen.tree();
     let first = tree.domain_of(tree.root());
     (
-        tree.nodes(),
+        tree.node_count(),
         frozen.platform().heaps().len(),
         frozen.domain() == first,
         frozen.base().is_some(),
@@ -190,7 +190,7 @@ fn is_frozen_once_ready(rt: &impl Abort, alloc: Global, book: &mut Book) -> Resu
     is_equal(rt, "not ready", &nothing, &None);
     let five = frozen_before(alloc, book, "/0/0 attach_token")?;
     is_equal(rt, "ready", &five, &Some((5, 3, true, false)));
-    is_equal(rt, "attached since", &book.tree().nodes(), &6);
+    is_equal(rt, "attached since", &book.tree().node_count(), &6);
     Ok(())
 }
 

@@ -135,7 +135,7 @@ fn tell_domain(text: &mut String, book: &Book, index: u32) -> Result<(), AllocEr
 
 fn tell_standings(text: &mut String, book: &Book) -> Result<(), AllocError> {
     write!(text, "{}:", book.history().len())?;
-    for index in 0..book.tree().domains() {
+    for index in 0..book.tree().domain_count() {
         tell_domain(text, book, index)?;
     }
     Ok(())

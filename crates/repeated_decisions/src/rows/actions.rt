@@ -35,12 +35,12 @@ fn cpu(alloc: Global) -> Result<Constraints> {
 /// Writes behind a text how each domain stands.
 pub(super) fn push_domains(text: &mut String, tree: &Tree) -> Result<(), AllocError> {
     text.push(' ')?;
-    for index in 0..tree.domains() {
+    for index in 0..tree.domain_count() {
         let Some(domain) = tree.domain_at(index) else {
             continue;
         };
         text.push(match tree.fate(domain) {
-            Fate::Undecided if tree.ready(domain) => 'r',
+            Fate::Undecided if tree.is_ready(domain) => 'r',
             Fate::Undecided => 'u',
             Fate::Failed => 'f',
             Fate::Chosen => 'c',

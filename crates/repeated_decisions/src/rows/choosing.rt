@@ -52,19 +52,19 @@ pub(super) fn decide(
     requires prefix { IfSome selection
         (λ prefix. IsPrefix (forest_of by_number tree.old.nodes domain []) prefix) }
 {
-    if !tree.ready(domain) {
+    if !tree.is_ready(domain) {
         return Some("not ready");
     }
     let Fate::Undecided = tree.fate(domain) else {
         return Some("decided");
     };
     let Some(prefix) = selection else {
-        tree.decided(domain, None);
+        tree.decide(domain, None);
         return None;
     };
     if tree.next_group(domain, &prefix).is_some() {
         return Some("no selection");
     }
-    tree.decided(domain, Some(prefix.choices()));
+    tree.decide(domain, Some(prefix.choices()));
     None
 }

@@ -9,4 +9,4 @@ loop-number-init c = set_none (is_open c.args.tree.now.nodes) _ refl none_of
 
 pub returns : goal.returns
 returns c = set_all (is_open c.args.tree.now.nodes) c.loop-number.marks c.loop-number.number
-    (λ k more. open_past c.args.tree.now.nodes c.loop-number.number k (omega (arith, c.loop-number-test.false, c.nodes-number-end.ensures.number)) more) c.loop-number.invariant
+    (λ k more. open_past c.args.tree.now.nodes c.loop-number.number k (omega (arith, c.loop-number-test.false, c.node_count-number-end.ensures.number)) more) c.loop-number.invariant

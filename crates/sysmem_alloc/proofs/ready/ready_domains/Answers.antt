@@ -5,5 +5,5 @@ use Rattle.sysmem_alloc.proofs.Marked.{set_none, none_of, set_more, set_all, rea
 use Rattle.sysmem_alloc.proofs.ready.ready_domains.Goals as goal
 
 pub returns : goal.returns
-returns c = set_all (ready_at c.args.tree.now) (slice_set (replicate 128 false) 0 c.is_ready_at.result) 1 (λ k more. ready_past c.args.tree.now 1 k (omega (arith, c.domains.ensures.number)) more)
+returns c = set_all (ready_at c.args.tree.now) (slice_set (replicate 128 false) 0 c.is_ready_at.result) 1 (λ k more. ready_past c.args.tree.now 1 k (omega (arith, c.domain_count.ensures.number)) more)
     (set_more (ready_at c.args.tree.now) (replicate 128 false) 0 c.is_ready_at.result (omega arith) c.is_ready_at.ensures (set_none (ready_at c.args.tree.now) (replicate 128 false) refl none_of))

@@ -32,13 +32,13 @@ pub returns-then-not-have_stubs-clause-fault : goal.returns-then-not-have_stubs-
 returns-then-not-have_stubs-clause-fault g c = λ matched.
     let end : c.loop-index.index ≡ length c.loop-index.stubs = omega (arith, c.loop-index-test.false, c.loop-index.invariant.read.many, c.loop-index.auto.index-end) in
     let (i, less, unmarked) = c.are_marked-have_stubs.ensures.one (search (rules, tests)) in
-    let number = c.nodes-nodes.ensures.number ∙ ap (λ (t : TreeFacts). length t.nodes) c.tree.ensures in
+    let number = c.node_count-nodes.ensures.number ∙ ap (λ (t : TreeFacts). length t.nodes) c.tree.ensures in
     absurd (cc (sym (marked_all c.args.book.now c.loop-index.stubs c.loop-index.marks c.loop-index.all.calls c.loop-index.all.verdict c.loop-index.index end c.loop-index.invariant.seen matched i (omega (arith, less, number))) ∙ unmarked))
 
 pub returns-then-not-calls-clause-fault : goal.returns-then-not-calls-clause-fault
 returns-then-not-calls-clause-fault g c =
     let end : c.loop-index.index ≡ length c.loop-index.stubs = omega (arith, c.loop-index-test.false, c.loop-index.invariant.read.many, c.loop-index.auto.index-end) in
-    let number = c.nodes-nodes.ensures.number ∙ ap (λ (t : TreeFacts). length t.nodes) c.tree.ensures in
+    let number = c.node_count-nodes.ensures.number ∙ ap (λ (t : TreeFacts). length t.nodes) c.tree.ensures in
     let many : length c.loop-index.stubs ≡ length c.args.book.now.state.tree.nodes = omega (arith, c.loop-index.invariant.read.many, c.if-stubs-nodes.false, number) in
     let marked = c.are_marked-have_stubs.ensures.all (search (rules, tests)) in
     let differ : c.loop-index.all.calls ≡ false = search (rules, tests) in (
@@ -49,7 +49,7 @@ returns-then-not-calls-clause-fault g c =
 pub returns-then-not-verdict-clause-fault : goal.returns-then-not-verdict-clause-fault
 returns-then-not-verdict-clause-fault g c =
     let end : c.loop-index.index ≡ length c.loop-index.stubs = omega (arith, c.loop-index-test.false, c.loop-index.invariant.read.many, c.loop-index.auto.index-end) in
-    let number = c.nodes-nodes.ensures.number ∙ ap (λ (t : TreeFacts). length t.nodes) c.tree.ensures in
+    let number = c.node_count-nodes.ensures.number ∙ ap (λ (t : TreeFacts). length t.nodes) c.tree.ensures in
     let many : length c.loop-index.stubs ≡ length c.args.book.now.state.tree.nodes = omega (arith, c.loop-index.invariant.read.many, c.if-stubs-nodes.false, number) in
     let marked = c.are_marked-have_stubs.ensures.all (search (rules, tests)) in
     let calls : c.loop-index.all.calls ≡ true = search (rules, tests) in
@@ -62,7 +62,7 @@ returns-then-not-verdict-clause-fault g c =
 pub returns-clause-agree : goal.returns-clause-agree
 returns-clause-agree g c =
     let end : c.loop-index.index ≡ length c.loop-index.stubs = omega (arith, c.loop-index-test.false, c.loop-index.invariant.read.many, c.loop-index.auto.index-end) in
-    let number = c.nodes-nodes.ensures.number ∙ ap (λ (t : TreeFacts). length t.nodes) c.tree.ensures in
+    let number = c.node_count-nodes.ensures.number ∙ ap (λ (t : TreeFacts). length t.nodes) c.tree.ensures in
     let many : length c.loop-index.stubs ≡ length c.args.book.now.state.tree.nodes = omega (arith, c.loop-index.invariant.read.many, c.if-stubs-nodes.false, number) in
     let marked = c.are_marked-have_stubs.ensures.all (search (rules, tests)) in
     let calls : c.loop-index.all.calls ≡ true = search (rules, tests) in

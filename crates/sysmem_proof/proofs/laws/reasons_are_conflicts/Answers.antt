@@ -1,4 +1,4 @@
-use Rattle.sysmem_proof.proofs.Finding.{reasons_are_conflicts}
+use Rattle.sysmem_proof.proofs.FinderLemmas.{reasons_are_conflicts}
 use Rattle.sysmem_proof.proofs.laws.reasons_are_conflicts.Goals as goal
 
 pub returns : goal.returns

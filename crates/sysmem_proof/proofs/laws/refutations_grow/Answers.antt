@@ -1,4 +1,4 @@
-use Rattle.sysmem_proof.proofs.Finding.{splits_refute, earlier_grows}
+use Rattle.sysmem_proof.proofs.FinderLemmas.{splits_refute, earlier_grows}
 use Rattle.sysmem_proof.specs.Conflict.{IsConflictFor}
 use Rattle.sysmem_proof.proofs.laws.refutations_grow.Goals as goal
 

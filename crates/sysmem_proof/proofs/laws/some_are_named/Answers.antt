@@ -1,5 +1,5 @@
 use Rattle.sysmem_proof.proofs.CountNodes.{counts_are_of_some, fixed_counts_are_of_some}
-use Rattle.sysmem_proof.proofs.Finding.{bounds_are_of_some, some_are_named}
+use Rattle.sysmem_proof.proofs.FinderLemmas.{bounds_are_of_some, some_are_named}
 use Rattle.sysmem_proof.proofs.laws.some_are_named.Goals as goal
 
 pub returns-clause-counts : goal.returns-clause-counts

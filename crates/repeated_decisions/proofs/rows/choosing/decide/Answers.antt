@@ -12,20 +12,20 @@ none_of : {A : Type 0} (o : Option A) → false ≡ is_some o → o ≡ None
 none_of None e = refl
 none_of (Some x) e = absurd (cc)
 
-pub decided-requires : goal.decided-requires
-decided-requires c = record {
+pub decide-requires : goal.decide-requires
+decide-requires c = record {
   there = c.requires.there;
-  ready = sym c.if-not-ready.ensures;
+  ready = sym c.if-not-is_ready.ensures;
   undecided = undecided_by_fate c.args.tree.now c.args.domain (sym c.fate.ensures ∙ c.in-Undecided.is);
   selects = tt;
 }
 
-pub decided-requires-2 : goal.decided-requires-2
-decided-requires-2 c =
+pub decide-requires-2 : goal.decide-requires-2
+decide-requires-2 c =
     let d : Forest ℕ = forest_of by_number c.args.tree.now.nodes c.args.domain [] in
     record {
       there = c.requires.there;
-      ready = sym c.if-not-ready.ensures;
+      ready = sym c.if-not-is_ready.ensures;
       undecided = undecided_by_fate c.args.tree.now c.args.domain (sym c.fate.ensures ∙ c.in-Undecided.is);
       selects = subst (λ cs. (e : Forest ℕ) × IsSelection d cs e) (sym c.choices.ensures)
           (is_selection d c.in-Some.prefix (subst (λ o. IfSome o (λ p. IsPrefix d p)) c.in-Some.is c.requires.prefix)

@@ -39,8 +39,8 @@ add_chosen-requires-clause-room c =
     let kept = ap length c.self.invariant.6 in
     omega (arith, room, kept, c.self.invariant.5)
 
-pub decided-requires : goal.decided-requires
-decided-requires c =
+pub decide-requires : goal.decide-requires
+decide-requires c =
     let d : Claimed = record { domain = c.args.domain; claim = option_map (λ shared. arc_value shared) c.args.claim } in
     let ok = subst (λ b. Allows b.platform b.state (Decided d)) (sym c.self.view_is) (c.requires.next, if_map (λ shared. arc_value shared) _ c.args.claim c.requires.right) in
     subst (IsDecidable c.self.inside.tree c.args.domain) (sym c.choices_of.ensures) (may_enter c.legal_is_sound.ensures c.one_forest.ensures _ d c.self.invariant.0 ok)
@@ -49,7 +49,7 @@ pub add_ready-requires : goal.add_ready-requires
 add_ready-requires c =
     let d : Claimed = record { domain = c.args.domain; claim = option_map (λ shared. arc_value shared) c.args.claim } in
     let ok = subst (λ b. Allows b.platform b.state (Decided d)) (sym c.self.view_is) (c.requires.next, if_map (λ shared. arc_value shared) _ c.args.claim c.requires.right) in
-    let tree = c.decided.ensures ∙ ap (decided c.self.inside.tree c.args.domain) c.choices_of.ensures in
+    let tree = c.decide.ensures ∙ ap (decided c.self.inside.tree c.args.domain) c.choices_of.ensures in
     let room = subst (λ u. length (drop 1 c.self.inside.waiting.items) + length (ready_unmarked u c.ready_domains-were_ready.result 0 (roots_of u)) ≤ 128) (sym tree)
     (decided_room c.legal_is_sound.ensures c.self.inside.platform c.self.inside.tree c.self.inside.history.items c.self.inside.waiting.items c.self.inside.were_open c.ready_domains-were_ready.result d
     c.self.invariant.0 ok c.ready_domains-were_ready.ensures) in
@@ -60,13 +60,13 @@ pub invariant_of-self : goal.invariant_of-self
 invariant_of-self c =
     let d : Claimed = record { domain = c.args.domain; claim = option_map (λ shared. arc_value shared) c.args.claim } in
     let ok = subst (λ b. Allows b.platform b.state (Decided d)) (sym c.self.view_is) (c.requires.next, if_map (λ shared. arc_value shared) _ c.args.claim c.requires.right) in
-    let tree = c.decided.ensures ∙ ap (decided c.self.inside.tree c.args.domain) c.choices_of.ensures in
+    let tree = c.decide.ensures ∙ ap (decided c.self.inside.tree c.args.domain) c.choices_of.ensures in
     let grown = c.add_ready.ensures.items
-    ∙ ap (λ ys. ys ++ ready_unmarked c.decided.new.self c.ready_domains-were_ready.result 0 (roots_of c.decided.new.self)) (c.remove.ensures.items ∙ removed c.self.inside.waiting.items) in
-    let shown = decided_shows c.self.inside.platform c.self.inside.tree c.decided.new.self c.self.inside.history.items c.push_reserved.new.self.items c.self.inside.waiting.items c.add_ready.new.waiting.items
+    ∙ ap (λ ys. ys ++ ready_unmarked c.decide.new.self c.ready_domains-were_ready.result 0 (roots_of c.decide.new.self)) (c.remove.ensures.items ∙ removed c.self.inside.waiting.items) in
+    let shown = decided_shows c.self.inside.platform c.self.inside.tree c.decide.new.self c.self.inside.history.items c.push_reserved.new.self.items c.self.inside.waiting.items c.add_ready.new.waiting.items
     c.self.inside.were_open c.open_nodes-self-inside.result c.ready_domains-were_ready.result (entries.Decided c.args.domain c.args.claim) d c.self.invariant.0 ok refl (λ nodes. refl) tree
     c.push_reserved.ensures.items c.ready_domains-were_ready.ensures grown c.open_nodes-self-inside.ensures in
-    let kept = kept_decided c.legal_is_sound.ensures c.forest_stays.ensures c.one_forest.ensures c.self.inside.platform c.self.inside.tree c.decided.new.self c.self.inside.history.items c.push_reserved.new.self.items
+    let kept = kept_decided c.legal_is_sound.ensures c.forest_stays.ensures c.one_forest.ensures c.self.inside.platform c.self.inside.tree c.decide.new.self c.self.inside.history.items c.push_reserved.new.self.items
     c.self.inside.waiting.items c.self.inside.were_open (entries.Decided c.args.domain c.args.claim) d c.self.inside.chosen.items c.add_chosen.new.chosen.items c.self.invariant.0 ok refl tree c.push_reserved.ensures.items
     c.self.invariant.6 c.add_chosen.ensures.nodes in (
       shown.book,
@@ -82,10 +82,10 @@ pub returns-clause-entered : goal.returns-clause-entered
 returns-clause-entered c =
     let d : Claimed = record { domain = c.args.domain; claim = option_map (λ shared. arc_value shared) c.args.claim } in
     let ok = subst (λ b. Allows b.platform b.state (Decided d)) (sym c.self.view_is) (c.requires.next, if_map (λ shared. arc_value shared) _ c.args.claim c.requires.right) in
-    let tree = c.decided.ensures ∙ ap (decided c.self.inside.tree c.args.domain) c.choices_of.ensures in
+    let tree = c.decide.ensures ∙ ap (decided c.self.inside.tree c.args.domain) c.choices_of.ensures in
     let grown = c.add_ready.ensures.items
-    ∙ ap (λ ys. ys ++ ready_unmarked c.decided.new.self c.ready_domains-were_ready.result 0 (roots_of c.decided.new.self)) (c.remove.ensures.items ∙ removed c.self.inside.waiting.items) in
-    let shown = decided_shows c.self.inside.platform c.self.inside.tree c.decided.new.self c.self.inside.history.items c.push_reserved.new.self.items c.self.inside.waiting.items c.add_ready.new.waiting.items
+    ∙ ap (λ ys. ys ++ ready_unmarked c.decide.new.self c.ready_domains-were_ready.result 0 (roots_of c.decide.new.self)) (c.remove.ensures.items ∙ removed c.self.inside.waiting.items) in
+    let shown = decided_shows c.self.inside.platform c.self.inside.tree c.decide.new.self c.self.inside.history.items c.push_reserved.new.self.items c.self.inside.waiting.items c.add_ready.new.waiting.items
     c.self.inside.were_open c.open_nodes-self-inside.result c.ready_domains-were_ready.result (entries.Decided c.args.domain c.args.claim) d c.self.invariant.0 ok refl (λ nodes. refl) tree
     c.push_reserved.ensures.items c.ready_domains-were_ready.ensures grown c.open_nodes-self-inside.ensures in
     shown.is ∙ ap (λ b. entered b (Decided d)) c.self.view_is

@@ -17,7 +17,7 @@ returns g c =
         (
           search rules,
           still_known c.args.self.now.known c.self.inside.note.known c.get_as.new.note.known c.in-Some.outcome.now was set c.in-Some.ensures.value.1,
-          noted_by c.told.result (λ v. v.ruling.now) c.args.self.now c.deref-2.result.now.platform c.deref-3.result.now (shown_by c.self.inside.log).constraints c.in-Some.outcome.now c.get_as.new.note.known set platform path asked c.told.ensures.decided c.told.ensures.told,
+          noted_by c.told.result (λ v. v.ruling.now) c.args.self.now c.deref-2.result.now.platform c.deref-3.result.now (shown_by c.self.inside.log).constraints c.in-Some.outcome.now c.get_as.new.note.known set platform path asked c.told.ensures.decided c.told.ensures.told c.told.ensures.known,
         ),
       ),
       record {

@@ -18,8 +18,8 @@ pub split_off-share-requires-clause-has_parts : goal.split_off-share-requires-cl
 split_off-share-requires-clause-has_parts g c =
     let (_, _, parts, _, _, _, _) = c.self.invariant in
     let more = grows c.self.inside.book.state.tree c.args.event.node (deed_of c.args.event.action) _ c.in_ok-done.ensures.accepted in
-    let few = c.nodes.ensures.few in
-    let many = c.nodes.ensures.number ∙ ap (λ (t : TreeFacts). length t.nodes) c.tree-tree.ensures in
+    let few = c.node_count.ensures.few in
+    let many = c.node_count.ensures.number ∙ ap (λ (t : TreeFacts). length t.nodes) c.tree-tree.ensures in
     omega (arith, parts, more, few, many, c.parts_of-parts.ensures, ap nodes_by c.kind-kind.ensures)
 
 pub number_of-requires : goal.number_of-requires
@@ -45,8 +45,8 @@ keep-requires g c = λ is_given.
     let (_, _, _, _, cells, room, _) = c.self.invariant in
     let more = roots_grow c.self.inside.book.state.tree c.args.event.node (deed_of c.args.event.action) _ c.in_ok-done.ensures.accepted in
     let one = ap one_if (sym c.requires.fresh ∙ is_given) in
-    let many = c.domains.ensures.number ∙ ap (λ (t : TreeFacts). length t.domains) c.tree-tree.ensures in
-    omega (arith, cells, room, more, one, many, c.domains.ensures.few)
+    let many = c.domain_count.ensures.number ∙ ap (λ (t : TreeFacts). length t.domains) c.tree-tree.ensures in
+    omega (arith, cells, room, more, one, many, c.domain_count.ensures.few)
 
 pub publish_action-requires : goal.publish_action-requires
 publish_action-requires g c =

@@ -1,9 +1,0 @@
--- What was read so far.
-use Rattle.std.proofs.Common.{take}
-use Rattle.sysmem_merge.specs.Demands.{offer_demands}
-use Rattle.sysmem_merge.specs.OfferRead.{IsOfferRead}
-use Rattle.sysmem_proof.specs.Asked.{asked_in}
-use Rattle.sysmem_proof.proofs.all_asked.read_nodes.Given as goal
-
-abbrev pub invariant-loop-node : goal.invariant-loop-node
-invariant-loop-node l = IsOfferRead l.offer (offer_demands (asked_in l.tree.nodes (take l.node-index l.nodes))) l.read

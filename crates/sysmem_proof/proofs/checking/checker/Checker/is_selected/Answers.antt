@@ -1,0 +1,9 @@
+-- The domain is that of its parts.
+use Rattle.std.proofs.Common.{subst}
+use Rattle.std.specs.Prelude.{◌↔◌, IsTrue}
+use Rattle.sysmem_proof.specs.Matter.{Matter, forest}
+use Rattle.sysmem_proof.specs.Fault.{IsSelected}
+use Rattle.sysmem_proof.proofs.checking.checker.Checker.is_selected.Goals as goal
+
+pub returns : goal.returns
+returns c = subst (λ (x : Matter). IsTrue c.is_selected.result ↔ IsSelected (forest x) c.args.selection.now) c.self.view_is c.is_selected.ensures

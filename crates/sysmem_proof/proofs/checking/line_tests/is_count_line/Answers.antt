@@ -1,0 +1,10 @@
+-- What is tested of those named.
+use Rattle.sysmem_counts.specs.Counts.{IsCountLine}
+use Rattle.sysmem_merge.specs.Demands.{counts_asked}
+use Rattle.sysmem_proof.specs.Roll.{listed}
+use Rattle.sysmem_proof.proofs.OnRoll.{true_of}
+use Rattle.sysmem_proof.proofs.checking.line_tests.is_count_line.Goals as goal
+
+pub returns : goal.returns
+returns c = true_of (listed c.args.roll.now) c.nodes-nodes.result.now c.args.line.now.nodes c.field.result c.args.line.now.field (λ f ps. IsCountLine f (counts_asked ps)) c.is_line.result
+    c.nodes-nodes.ensures c.field.ensures c.requires (c.is_line.ensures _ c.counts_of.ensures)
