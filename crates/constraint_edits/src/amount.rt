@@ -1,7 +1,7 @@
 //! The value of a field of constraints, and values between two.
 
 use crate::edits::{Changed, Edit};
-use crate::objects::{ENTRIES, MEMORY, entries_of, number_value, with};
+use crate::objects::{ENTRIES, MEMORY, entries_of, number_value, values_in, with};
 use serde_json::Value;
 use std::alloc::{AllocError, Global};
 use std::fmt;
@@ -172,9 +172,13 @@ pub(crate) fn with_amount(
         }
         _ => with(alloc, Some(value), name, amount.value(alloc)?)?,
     };
+    let was = match edit {
+        Edit::NoBound(_) => values_in(alloc, entries_of(value), name)?,
+        _ => format!(in alloc; "{stated}")?,
+    };
     Ok(Changed {
         value: changed,
-        words: format!(in alloc; "{name} {amount} (is {stated})")?,
+        words: format!(in alloc; "{name} {was} becomes {amount}")?,
     })
 }
 

@@ -1,9 +1,9 @@
 //! Constraints with one field changed.
 
 use crate::exchanging::exchanged;
-use crate::objects::{ENTRIES, MEMORY, entries_of, have, lacking, with, words_without};
+use crate::objects::{ENTRIES, MEMORY, entries_of, have, lacking, values_in, with, words_without};
 use crate::permitting::{meaning, permitting};
-use crate::taking::{taking_colour, taking_pair};
+use crate::taking::{putting_first, taking_colour, taking_pair};
 use crate::using::{asking_for, without_cpu};
 use serde_json::Value;
 use std::alloc::{AllocError, Global};
@@ -36,6 +36,8 @@ pub enum Edit {
     NoCpu,
     /// So many buffers are asked for at least.
     LeastCount(u32),
+    /// The entry of an index, from 0, stands before the others.
+    EntryFirst(usize),
 }
 
 impl Edit {
@@ -137,21 +139,22 @@ pub fn edited(
         Edit::PermitsHeap(index) => permitting(alloc, value, heaps.get(index)),
         Edit::NoCpu => without_cpu(alloc, value),
         Edit::LeastCount(count) => asking_for(alloc, value, count),
+        Edit::EntryFirst(index) => putting_first(alloc, value, index),
     }
 }
 
 fn supporting(alloc: Global, value: &Value, key: &str) -> Result<Option<Changed>, AllocError> {
     let memory = value.get(MEMORY);
-    let is = match memory.and_then(|memory| memory.get(key)) {
+    let was = match memory.and_then(|memory| memory.get(key)) {
         Some(Value::Bool(true)) => return Ok(None),
-        Some(_) => "is false",
+        Some(_) => "false",
         None if key == Field::CpuDomainSupported.name() => return Ok(None),
-        None => "is absent, so false",
+        None => "(absent, so false)",
     };
     let object = with(alloc, memory, key, Value::Bool(true))?;
     Ok(Some(Changed {
         value: with(alloc, Some(value), MEMORY, object)?,
-        words: format!(in alloc; "{key} true ({is})")?,
+        words: format!(in alloc; "{key} {was} becomes true")?,
     }))
 }
 
@@ -182,16 +185,12 @@ fn without_bound(alloc: Global, value: &Value, key: &str) -> Result<Option<Chang
     if !have(value, key) {
         return Ok(None);
     }
-    let mut words = String::new(alloc);
     let mut copy = Vec::new(alloc);
     for entry in entries_of(value) {
-        if let Some(member) = entry.get(key) {
-            if words.is_empty() {
-                words = words_without(alloc, key, member)?;
-            }
-        }
         copy.push(lacking(alloc, entry, key)?)?;
     }
+    let was = values_in(alloc, entries_of(value), key)?;
+    let words = format!(in alloc; "{key} {was} left out")?;
     with_entries(alloc, value, copy, words)
 }
 

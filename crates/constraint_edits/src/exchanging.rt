@@ -60,6 +60,6 @@ fn exchanged_in(
     let lowered = with(alloc, Some(object), least, high.clone()?)?;
     Ok(Some(Changed {
         value: with(alloc, Some(&lowered), most, low.clone()?)?,
-        words: format!(in alloc; "{least} and {most} exchanged (are {a} and {b})")?,
+        words: format!(in alloc; "{least} {a} and {most} {b} exchanged")?,
     }))
 }

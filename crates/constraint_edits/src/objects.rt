@@ -1,5 +1,6 @@
 //! Values of JSON with a member put in or left out, and their words.
 
+use explanation_text::wording::put_few;
 use serde_json::{Map, Number, Value};
 use std::alloc::{AllocError, Global};
 
@@ -74,10 +75,31 @@ fn put_value(text: &mut String, value: &Value) -> Result<(), AllocError> {
     text.push_str(&written)
 }
 
-/// `no max_size (is 1920x1080)`.
+/// The values in short that a key has in entries, each once: `1280x720 and 4096x2160`.
+pub(crate) fn values_in(alloc: Global, entries: &[Value], key: &str) -> Result<String, AllocError> {
+    let mut texts: Vec<String> = Vec::new(alloc);
+    for entry in entries {
+        if let Some(member) = entry.get(key) {
+            let mut text = String::new(alloc);
+            put_value(&mut text, member)?;
+            if !texts.contains(&text) {
+                texts.push(text)?;
+            }
+        }
+    }
+    let mut words: Vec<&str> = Vec::new(alloc);
+    for text in &texts {
+        words.push(text.as_str())?;
+    }
+    let mut joined = String::new(alloc);
+    put_few(&mut joined, &words, 3)?;
+    Ok(joined)
+}
+
+/// `max_size 1920x1080 left out`.
 pub(crate) fn words_without(alloc: Global, key: &str, value: &Value) -> Result<String, AllocError> {
-    let mut words = format!(in alloc; "no {key} (is ")?;
+    let mut words = format!(in alloc; "{key} ")?;
     put_value(&mut words, value)?;
-    words.push_str(")")?;
+    words.push_str(" left out")?;
     Ok(words)
 }

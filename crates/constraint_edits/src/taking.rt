@@ -1,4 +1,5 @@
-//! Constraints that take a colour space, or a format with a modifier, more.
+//! Constraints that take a colour space, or a format with a modifier, more, or have another entry
+//! first.
 
 use crate::edits::{Changed, with_entries};
 use crate::objects::{entries_of, lacking, text_value, with};
@@ -46,11 +47,11 @@ pub(crate) fn taking_colour(
     with_entries(alloc, value, copy, words)
 }
 
-/// `color_spaces with REC709 too (is SRGB)`.
+/// `color_spaces SRGB, with REC709 too`.
 fn words_beside(alloc: Global, colour: &str, names: &[&str]) -> Result<String, AllocError> {
-    let mut words = format!(in alloc; "color_spaces with {colour} too (is ")?;
+    let mut words = String::from_str(alloc, "color_spaces ")?;
     put_few(&mut words, names, 3)?;
-    words.push_str(")")?;
+    write!(words, ", with {colour} too")?;
     Ok(words)
 }
 
@@ -65,22 +66,65 @@ fn with_colour(alloc: Global, entry: &Value, colour: &str) -> Result<Value, Allo
     with(alloc, Some(entry), COLOURS, Value::Array(list))
 }
 
-/// The constraints with an entry for a format and modifier before the others, which is else like the first; `None` where there is no entry.
+/// The constraints with an entry for a format and modifier before the others, which is else like
+/// the first that names this format, or like the first of all where none does; `None` where there
+/// is no entry.
 pub(crate) fn taking_pair(
     alloc: Global,
     value: &Value,
     pair: Pair,
 ) -> Result<Option<Changed>, AllocError> {
     let entries = entries_of(value);
-    let Some(first) = entries.first() else {
+    let format = pair.format.name();
+    let index = entries
+        .iter()
+        .position(|entry| names_format(entry, format))
+        .unwrap_or(0);
+    let Some(like) = entries.get(index) else {
         return Ok(None);
     };
     let mut copy = Vec::new(alloc);
-    copy.push(naming(alloc, first, pair)?)?;
+    copy.push(naming(alloc, like, pair)?)?;
     for entry in entries {
         copy.push(entry.clone()?)?;
     }
-    let words = words_on(alloc, first, pair)?;
+    let words = words_on(alloc, like, index, pair)?;
+    with_entries(alloc, value, copy, words)
+}
+
+/// Whether an entry names a format as its own.
+fn names_format(entry: &Value, format: &str) -> bool {
+    match text_in(entry, FORMAT) {
+        Some(name) => name == format,
+        None => false,
+    }
+}
+
+/// The constraints with the entry of an index, from 0, before the others; `None` where it is the
+/// first, or there is none.
+pub(crate) fn putting_first(
+    alloc: Global,
+    value: &Value,
+    index: usize,
+) -> Result<Option<Changed>, AllocError> {
+    let entries = entries_of(value);
+    let Some(entry) = entries.get(index) else {
+        return Ok(None);
+    };
+    if index == 0 {
+        return Ok(None);
+    }
+    let mut copy = Vec::new(alloc);
+    copy.push(entry.clone()?)?;
+    for (k, other) in entries.iter().enumerate() {
+        if k != index {
+            copy.push(other.clone()?)?;
+        }
+    }
+    let shown = index.saturating_add(1);
+    let mut words = format!(in alloc; "entry {shown} (")?;
+    put_named(&mut words, entry)?;
+    words.push_str(") put first")?;
     with_entries(alloc, value, copy, words)
 }
 
@@ -93,20 +137,33 @@ fn naming(alloc: Global, entry: &Value, pair: Pair) -> Result<Value, AllocError>
     with(alloc, Some(&named), MODIFIER, modifier)
 }
 
-/// `pixel_format NV12 LINEAR too, in an entry before the others that is else like the first (YUY2)`.
-fn words_on(alloc: Global, first: &Value, pair: Pair) -> Result<String, AllocError> {
+/// `pixel_format NV12 LINEAR too, in an entry before the others that is else like the first
+/// (YUY2)`, or `like entry 2 (..)`.
+fn words_on(alloc: Global, like: &Value, index: usize, pair: Pair) -> Result<String, AllocError> {
     let format = pair.format.name();
     let modifier = pair.modifier.name();
     let mut words = format!(in alloc;
-        "pixel_format {format} {modifier} too, in an entry before the others that is else like the first ("
+        "pixel_format {format} {modifier} too, in an entry before the others that is else like "
     )?;
-    words.push_str(text_in(first, FORMAT).unwrap_or("several pairs"))?;
-    if let Some(other) = text_in(first, MODIFIER) {
-        words.push_str(" ")?;
-        words.push_str(other)?;
+    if index == 0 {
+        words.push_str("the first (")?;
+    } else {
+        let shown = index.saturating_add(1);
+        write!(words, "entry {shown} (")?;
     }
+    put_named(&mut words, like)?;
     words.push_str(")")?;
     Ok(words)
+}
+
+/// Puts the format and the modifier that an entry names after a text.
+fn put_named(text: &mut String, entry: &Value) -> Result<(), AllocError> {
+    text.push_str(text_in(entry, FORMAT).unwrap_or("several pairs"))?;
+    if let Some(modifier) = text_in(entry, MODIFIER) {
+        text.push_str(" ")?;
+        text.push_str(modifier)?;
+    }
+    Ok(())
 }
 
 fn text_in<'a>(entry: &'a Value, key: &str) -> Option<&'a str> {

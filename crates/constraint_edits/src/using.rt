@@ -24,7 +24,7 @@ pub(crate) fn without_cpu(alloc: Global, value: &Value) -> Result<Option<Changed
     }
     let words = if others.is_empty() {
         others.push(text_value(alloc, "none")?)?;
-        "usage none (is cpu)"
+        "usage cpu becomes none"
     } else {
         "usage without cpu"
     };
@@ -48,8 +48,8 @@ pub(crate) fn asking_for(
     let before = value.get(name).and_then(Value::as_u64);
     let words = match before {
         Some(least) if least >= u64::from(count) => return Ok(None),
-        Some(least) => format!(in alloc; "{name} {count} (is {least})")?,
-        None => format!(in alloc; "{name} {count} (is absent)")?,
+        Some(least) => format!(in alloc; "{name} {least} becomes {count}")?,
+        None => format!(in alloc; "{name} (absent) becomes {count}")?,
     };
     Ok(Some(Changed {
         value: with(alloc, Some(value), name, number_value(u64::from(count)))?,

@@ -1,9 +1,11 @@
 //! What was chosen in a domain, and what decided it.
 
+use crate::passed_over::tell_passed_over;
 use crate::selecting::{Empty, tell_left_out};
 use explanation_text::Items;
 use settings_reasons::tell_settings;
 use std::alloc::{AllocError, Global};
+use std::fmt::Write;
 use story_parts::{Domain, Story, asked_in, put_domain};
 use sysmem_sanitise::Platform;
 use value_sources::put_texts;
@@ -29,6 +31,7 @@ pub(crate) fn tell_choice(
         root: domain.root,
     };
     tell_left_out(items, selections)?;
+    tell_passed_over(items, selections)?;
     let people = asked_in(items.alloc(), story, index, true)?;
     match &domain.settings {
         Some(settings) => tell_settings(items, platform, &people, settings),
@@ -78,16 +81,22 @@ pub(crate) fn groups_in(
     Ok(groups)
 }
 
-/// The child that was chosen of a group, if the group is selected: `layouts: tiled`.
+/// The child that was chosen of a group, if the group is selected: `layouts: tiled (first of 2)`.
 fn choice_of(alloc: Global, story: &Story<'_>, group: usize) -> Result<Option<String>, AllocError> {
     if !story.is_selected(group) {
         return Ok(None);
     }
-    for child in story.children(alloc, group)? {
-        if story.is_selected(child) {
+    let children = story.children(alloc, group)?;
+    for (place, child) in children.iter().enumerate() {
+        if story.is_selected(*child) {
             let group = story.name(group);
-            let name = story.name(child);
-            return Ok(Some(format!(in alloc; "{group}: {name}")?));
+            let name = story.name(*child);
+            let mut text = format!(in alloc; "{group}: {name}")?;
+            if place == 0 && children.len() > 1 {
+                let count = children.len();
+                write!(text, " (first of {count})")?;
+            }
+            return Ok(Some(text));
         }
     }
     Ok(None)

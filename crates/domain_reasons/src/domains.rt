@@ -2,7 +2,7 @@
 
 use crate::awaiting::tell_pending;
 use crate::choosing::tell_choice;
-use crate::exchanged::{are_exchanged, states_usage, usage_meant};
+use crate::exchanged::{are_exchanged, is_named_so, states_usage, usage_meant};
 use crate::failing::{tell_failed, tell_none, tell_too_many};
 use explanation_text::{Items, Kind};
 use script_reading::Act;
@@ -92,7 +92,8 @@ fn tell_who(
     Ok(())
 }
 
-/// Notes a usage that doesn't go with what a participant or its actor is called, and with whom its constraints may be exchanged.
+/// Notes a usage that doesn't go with what a participant is called, or its actor where its constraints may be exchanged with somebody's; and with
+/// whom they may be.
 fn note_usage(items: &mut Items, story: &Story<'_>, one: Asked<'_>) -> Result<(), AllocError> {
     let alloc = items.alloc();
     let Some(usage) = usage_meant(story, one) else {
@@ -108,7 +109,11 @@ fn note_usage(items: &mut Items, story: &Story<'_>, one: Asked<'_>) -> Result<()
     let mut text = format!(in alloc;
         "{name} (call {number}) doesn't state usage {usage}: are these the constraints that are meant for it?"
     )?;
+    let alone = text.len();
     put_other(&mut text, story, one)?;
+    if text.len() == alone && !is_named_so(one) {
+        return Ok(());
+    }
     items.say(1, "note", text)
 }
 

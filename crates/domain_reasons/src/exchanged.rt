@@ -21,6 +21,11 @@ pub(crate) fn usage_meant(story: &Story<'_>, one: Asked<'_>) -> Option<&'static 
     usage_of(one.name).or(usage_of(story.actor(number)))
 }
 
+/// Whether a participant's own name goes with a usage, and not its actor's alone.
+pub(crate) fn is_named_so(one: Asked<'_>) -> bool {
+    usage_of(one.name).is_some()
+}
+
 /// Whether a participant states a usage.
 pub(crate) fn states_usage(story: &Story<'_>, one: Asked<'_>, usage: &str) -> bool {
     let number = story.deed(one.node, Deed::SetConstraints).unwrap_or(0);

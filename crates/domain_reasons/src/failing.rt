@@ -3,10 +3,11 @@
 use crate::choosing::groups_in;
 use crate::selecting::{Empty, MOST_TOLD, tell_empty};
 use explanation_text::Items;
+use explanation_text::wording::{MOST_NAMES, put_few};
 use script_reading::Act;
 use settings_reasons::{failing, tell_misfits};
 use std::alloc::{AllocError, Global};
-use story_parts::{Domain, Made, Story, asked_in, left_out};
+use story_parts::{Deed, Domain, Made, Story, asked_in, left_out};
 use sysmem_merge::Settings;
 use sysmem_sanitise::Platform;
 use value_sources::{Asked, put_texts, why_needed};
@@ -20,9 +21,9 @@ pub(crate) fn tell_failed(
     if let Some(call) = closing(story, domain) {
         let actor = call.actor;
         let on = call.on;
-        let text = format!(in items.alloc();
-            "{actor} closed {on} while somebody was still awaited: a close then fails its domain, a release doesn't"
-        )?;
+        let mut text = format!(in items.alloc(); "{actor} closed {on} while ")?;
+        put_awaited(&mut text, story, domain)?;
+        text.push_str(" still awaited: a close then fails its domain, a release doesn't")?;
         return items.say(1, "why", text);
     }
     let Some(host) = domain.host else {
@@ -30,6 +31,34 @@ pub(crate) fn tell_failed(
     };
     let text = why_of_host(items.alloc(), story, host)?;
     items.say(1, "why", text)
+}
+
+/// Puts for whom a domain waited when the call was made after which it failed after a text: `camera
+/// and encoder were`.
+fn put_awaited(
+    text: &mut String,
+    story: &Story<'_>,
+    domain: &Domain<'_>,
+) -> Result<(), AllocError> {
+    let alloc = *text.allocator();
+    let number = domain.ended.unwrap_or(0);
+    let index = match story.nodes.get(domain.root) {
+        Some(root) => root.domain,
+        None => 0,
+    };
+    let awaited = story.awaited(alloc, index, number)?;
+    let names = story.names(alloc, &awaited)?;
+    match names.len() {
+        0 => text.push_str("the domain that it was attached to was"),
+        1 => {
+            put_few(text, &names, MOST_NAMES)?;
+            text.push_str(" was")
+        }
+        _ => {
+            put_few(text, &names, MOST_NAMES)?;
+            text.push_str(" were")
+        }
+    }
 }
 
 /// The call after which a domain failed, if it closes one of its nodes.
@@ -180,26 +209,46 @@ fn tell_unsuited(
     Ok(())
 }
 
-/// The participants of the collection that were accepted before the domain of an index was decided.
-fn accepted_before<'a>(
+/// The participants of the collection that were accepted before the domain of an index was decided, and not released or closed before that.
+pub fn accepted_before<'a>(
     alloc: Global,
     story: &Story<'a>,
     index: usize,
 ) -> Result<Vec<Asked<'a>>, AllocError> {
+    let decided = match story.domains.get(index) {
+        Some(domain) => domain.ended.unwrap_or(usize::MAX),
+        None => usize::MAX,
+    };
     let mut accepted: Vec<Asked<'a>> = Vec::new(alloc);
     for earlier in &story.order {
         if *earlier == index {
             break;
         }
-        match story.domains.get(*earlier) {
-            Some(domain) if domain.verdict() == "chosen" => {
-                let people = asked_in(alloc, story, *earlier, true)?;
-                accepted.extend_from_slice(&people)?;
-            }
-            _ => {}
+        let is_chosen = match story.domains.get(*earlier) {
+            Some(domain) => domain.verdict() == "chosen",
+            None => false,
+        };
+        if is_chosen {
+            let people = asked_in(alloc, story, *earlier, true)?;
+            add_open(&mut accepted, story, &people, decided)?;
         }
     }
     Ok(accepted)
+}
+
+/// Adds those who weren't released or closed before the call of a number.
+fn add_open<'a>(
+    accepted: &mut Vec<Asked<'a>>,
+    story: &Story<'a>,
+    people: &[Asked<'a>],
+    number: usize,
+) -> Result<(), AllocError> {
+    for one in people {
+        if story.deed_before(one.node, Deed::End, number).is_none() {
+            accepted.push(*one)?;
+        }
+    }
+    Ok(())
 }
 
 /// How many buffers participants need together: what they hold, and no fewer than any of them asks for.

@@ -7,15 +7,18 @@
 //! ```
 #![tactic(auto)]
 
+mod answer;
 mod awaiting;
 mod choosing;
 mod domains;
 mod exchanged;
 mod failing;
+mod passed_over;
 mod selecting;
 
+pub use answer::answer_of;
 pub use awaiting::who_holds_up;
 pub use domains::tell_domain;
 pub use exchanged::are_exchanged;
-pub use failing::room_needed;
+pub use failing::{accepted_before, room_needed};
 pub use selecting::choices_in;

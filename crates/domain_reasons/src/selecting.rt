@@ -15,21 +15,21 @@ pub(crate) const MOST_TOLD: usize = 12;
 /// A group, and the child that is chosen of it.
 #[derive(Clone, Copy)]
 pub(crate) struct Choice {
-    group: usize,
-    child: usize,
+    pub(crate) group: usize,
+    pub(crate) child: usize,
 }
 
 /// What choices settle.
 #[derive(Drop)]
-struct Settled {
+pub(crate) struct Settled {
     /// The nodes, in pre-order.
-    nodes: Vec<usize>,
+    pub(crate) nodes: Vec<usize>,
     /// The first group of which no child is chosen.
-    open: Option<usize>,
+    pub(crate) open: Option<usize>,
 }
 
 /// What choices settle in a domain.
-fn walk(
+pub(crate) fn walk(
     alloc: Global,
     story: &Story<'_>,
     root: usize,
@@ -74,7 +74,7 @@ fn put_below(
 }
 
 /// Choices, and that of one more group's child.
-fn with_choice(
+pub(crate) fn with_choice(
     alloc: Global,
     choices: &[Choice],
     group: usize,

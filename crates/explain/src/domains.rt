@@ -1,17 +1,18 @@
 //! What became of each domain, why, and what would help.
 
-use crate::changes::tell_changes;
 use crate::entries::tell_unused;
-use crate::group::Group;
-use crate::moved::tell_then;
-use crate::pending::tell_without;
-use crate::platforms::tell_platform;
-use crate::together::tell_together;
 use constraint_edits::edits_on;
+use constraint_trials::Group;
 use domain_reasons::tell_domain;
 use explanation_text::Items;
+use joint_changes::tell_together;
+use other_outcomes::{
+    tell_ended_later, tell_heaps, tell_later_children, tell_later_pairs, tell_platform, tell_then,
+    tell_without,
+};
 use record_faults::Document;
 use script_story::Setting;
+use single_changes::tell_changes;
 use std::alloc::AllocError;
 use story_parts::{Story, asked_in};
 
@@ -26,14 +27,14 @@ pub(crate) fn tell_domains(
         let is_again = story.order.iter().take(k).any(|before| before == index);
         if !is_again {
             tell_domain(items, setting.platform, story, *index)?;
-            tell_unused(items, document, setting.platform, story, *index)?;
+            tell_unused(items, document, setting, story, *index)?;
             tell_help(items, document, setting, story, *index)?;
         }
     }
     Ok(())
 }
 
-/// Tells what would help a domain that is pending or empty.
+/// Tells what would help a domain that is pending or empty, and what else one could be that is chosen.
 fn tell_help(
     items: &mut Items,
     document: &Document<'_>,
@@ -50,7 +51,14 @@ fn tell_help(
             tell_then(items, setting, story, path)?;
             tell_without(items, setting, story, index, path)
         }
-        "empty" => tell_edits(items, document, setting, story, index),
+        "empty" => {
+            tell_ended_later(items, setting, story, index, path)?;
+            tell_edits(items, document, setting, story, index)
+        }
+        "chosen" => {
+            tell_later_children(items, setting, story, index, path)?;
+            tell_later_pairs(items, setting, story, index, path)
+        }
         _ => Ok(()),
     }
 }
@@ -84,5 +92,6 @@ fn tell_edits(
     if !tell_changes(items, group, index, &edits)? {
         tell_together(items, group, &edits)?;
     }
-    tell_platform(items, setting, group.path, &people)
+    tell_platform(items, setting, group.path, &people)?;
+    tell_heaps(items, setting, group.path, &people)
 }

@@ -1,17 +1,23 @@
-//! Entries of participants that are never used, and which hold in their place.
+//! Entries of participants that are never used, which hold in their place, and what would be chosen
+//! with them first.
 
-use crate::group::line_at;
-use explanation_text::Items;
+ghost use Rattle.std.specs.Prelude.{map};
+ghost use Rattle.std.specs.String.{string_bytes};
+ghost use Rattle.script_reading.specs.Seen.{call_seen};
+ghost use Rattle.constraint_trials.specs.Edited.{IsPromised};
+
+use constraint_edits::{Edit, edited};
+use constraint_trials::{Trial, entry_place, line_at, put_choice, takes};
+use domain_reasons::choices_in;
+use explanation_text::{Items, Kind};
 use json_places::Step;
 use record_faults::{Document, Part};
-use serde_json::Value;
+use script_story::Setting;
 use settings_reasons::{holder_of, unused_entries};
 use std::alloc::{AllocError, Global};
 use std::fmt::Write;
-use story_parts::{Deed, Story, asked_in};
+use story_parts::{Deed, Domain, Story, asked_in};
 use sysmem_formats::{Modifier, Pair, PixelFormat};
-use sysmem_image::Entry;
-use sysmem_sanitise::Platform;
 use value_sources::Asked;
 
 /// How many are told of one participant.
@@ -19,91 +25,161 @@ const MOST: usize = 3;
 
 const ENTRIES: &str = "image_format_constraints";
 
-const FURTHER: &str = "pixel_format_and_modifiers";
-
 /// Tells which entries of the participants of a domain are never used since earlier ones hold for all that they take; of one that is chosen of
-/// those who are selected.
+/// those who are selected, and what would be chosen with such an entry first.
 pub(crate) fn tell_unused(
     items: &mut Items,
     document: &Document<'_>,
-    platform: &Platform,
+    setting: &Setting<'_>,
     story: &Story<'_>,
     index: usize,
 ) -> Result<(), AllocError> {
-    let verdict = match story.domains.get(index) {
-        Some(domain) => domain.verdict(),
-        None => "",
+    let Some(domain) = story.domains.get(index) else {
+        return Ok(());
     };
-    if verdict != "chosen" && verdict != "empty" {
+    let is_chosen = domain.verdict() == "chosen";
+    if !is_chosen && domain.verdict() != "empty" {
         return Ok(());
     }
-    for one in asked_in(items.alloc(), story, index, verdict == "chosen")? {
-        let number = story.deed(one.node, Deed::SetConstraints).unwrap_or(0);
-        let teller = Teller {
-            document,
-            platform,
-            one,
-            number,
-        };
-        teller.tell(items)?;
+    let people = asked_in(items.alloc(), story, index, is_chosen)?;
+    for one in &people {
+        tell_of(items, &*document, &*setting, &*story, domain, one)?;
     }
     Ok(())
 }
 
-/// A participant, with the number of the call that states its constraints.
+/// Tells which entries of a participant are never used.
+fn tell_of<'a, 'b>(
+    items: &mut Items,
+    document: &'b Document<'a>,
+    setting: &'b Setting<'a>,
+    story: &'b Story<'a>,
+    domain: &'b Domain<'a>,
+    one: &'b Asked<'a>,
+) -> Result<(), AllocError> {
+    let teller = Teller {
+        document,
+        setting,
+        story,
+        domain,
+        one,
+        number: story.deed(one.node, Deed::SetConstraints).unwrap_or(0),
+    };
+    teller.tell(items)
+}
+
+/// A participant of a domain, with the number of the call that states its constraints.
 #[derive(Clone, Copy)]
 struct Teller<'a, 'b> {
     document: &'b Document<'a>,
-    platform: &'b Platform,
-    one: Asked<'b>,
+    setting: &'b Setting<'a>,
+    story: &'b Story<'a>,
+    domain: &'b Domain<'a>,
+    one: &'b Asked<'a>,
     number: usize,
+}
+
+/// A pair that an entry takes, and the entry that holds for it, by index.
+#[derive(Clone, Copy)]
+struct Holder {
+    index: usize,
+    pair: Pair,
 }
 
 impl Teller<'_, '_> {
     fn tell(&self, items: &mut Items) -> Result<(), AllocError> {
         let alloc = items.alloc();
         let entries = self.one.asked.entries();
+        let mut tried: Vec<usize> = Vec::new(alloc);
         let mut told = 0usize;
-        for index in unused_entries(alloc, self.platform, entries)? {
-            let Some(pair) = self.pair_of(index) else {
+        for index in unused_entries(alloc, self.setting.platform, entries)? {
+            let Some(holder) = self.holder_of(index) else {
                 continue;
             };
-            if let Some(holder) = holder_of(entries, pair) {
-                if told < MOST {
-                    let text = self.sentence(alloc, index, holder, pair)?;
-                    items.say(1, "note", text)?;
-                }
-                told = told.saturating_add(1);
+            if told < MOST {
+                self.tell_one(items, &mut tried, index, holder)?;
             }
+            told = told.saturating_add(1);
         }
         Ok(())
     }
 
-    /// The first pair of the platform that the entry of an index takes.
-    fn pair_of(&self, index: usize) -> Option<Pair> {
+    /// Tells that the entry of an index is never used, and what would be with the record's entry
+    /// first to which it belongs, where that is another one than the holder's and wasn't tried.
+    fn tell_one(
+        &self,
+        items: &mut Items,
+        tried: &mut Vec<usize>,
+        index: usize,
+        holder: Holder,
+    ) -> Result<(), AllocError> {
+        let text = self.sentence(items.alloc(), index, holder)?;
+        items.say(1, "note", text)?;
+        let item = entry_place(self.one.stated, index).item;
+        let is_own = item == entry_place(self.one.stated, holder.index).item;
+        if is_own || self.domain.verdict() != "chosen" || tried.contains(&item) {
+            return Ok(());
+        }
+        tried.push(item)?;
+        self.tell_first(items, item)
+    }
+
+    /// Tells what would be decided with an entry of the record, from 0, before the others.
+    fn tell_first(&self, items: &mut Items, item: usize) -> Result<(), AllocError> {
+        let alloc = items.alloc();
+        let Some(value) = self.one.stated else {
+            return Ok(());
+        };
+        let heaps = self.setting.platform.heaps();
+        let Some(change) = edited(alloc, value, Edit::EntryFirst(item), heaps)? else {
+            return Ok(());
+        };
+        let trial = Trial {
+            setting: self.setting,
+            path: self.story.path(self.domain.root),
+            place: self.number.saturating_sub(1),
+        };
+        let (name, number) = (self.one.name, self.number);
+        let shown = item.saturating_add(1);
+        let mut text = format!(in alloc;
+            "with entry {shown} of {name} (call {number}) put first "
+        )?;
+        let Some(line) = trial.outcome(alloc, &change.value)? else {
+            text.push_str("nothing would be chosen")?;
+            return items.say(1, "then", text);
+        };
+        if line.as_str() == self.domain.told {
+            text.push_str("the decision would be the same")?;
+            return items.say(1, "then", text);
+        }
+        text.push_str("it would be:")?;
+        items.say(1, "then", text)?;
+        let choice = choices_in(alloc, self.story, self.domain.root, &line)?;
+        put_promised(items, trial, line)?;
+        put_choice(items, 2, choice)
+    }
+
+    /// The first pair of the platform that the entry of an index takes, and which entry holds for
+    /// it.
+    fn holder_of(&self, index: usize) -> Option<Holder> {
         let entry = self.one.asked.entries().get(index)?;
-        let pairs = self.platform.pairs();
-        pairs.iter().copied().find(|pair| takes(entry, *pair))
+        let pairs = self.setting.platform.pairs();
+        let pair = pairs.iter().copied().find(|pair| takes(entry, *pair))?;
+        let index = holder_of(self.one.asked.entries(), pair)?;
+        Some(Holder { index, pair })
     }
 
     /// `camera (call 5): entry 2 (NV12 LINEAR, line 18) is never used: entry 1 (any format DO_NOT_CARE, line 17) comes before it and holds for ..`.
-    fn sentence(
-        &self,
-        alloc: Global,
-        index: usize,
-        holder: usize,
-        pair: Pair,
-    ) -> Result<String, AllocError> {
+    fn sentence(&self, alloc: Global, index: usize, holder: Holder) -> Result<String, AllocError> {
         let name = self.one.name;
         let number = self.number;
         let mut text = format!(in alloc; "{name} (call {number}): ")?;
         self.put_entry(&mut text, index)?;
         text.push_str(" is never used: ")?;
-        self.put_entry(&mut text, holder)?;
+        self.put_entry(&mut text, holder.index)?;
         text.push_str(" comes before it and holds for ")?;
+        let pair = holder.pair;
         put_pair(&mut text, Some(pair.format), Some(pair.modifier))?;
-        let shown = place_of(self.one.stated, index).item.saturating_add(1);
-        write!(text, "; is entry {shown} to come first?")?;
         Ok(text)
     }
 
@@ -113,7 +189,7 @@ impl Teller<'_, '_> {
         let Some(entry) = self.one.asked.entries().get(index) else {
             return Ok(());
         };
-        let place = place_of(self.one.stated, index);
+        let place = entry_place(self.one.stated, index);
         if place.pairs > 1 {
             text.push_str("a pair of ")?;
         }
@@ -134,46 +210,13 @@ impl Teller<'_, '_> {
     }
 }
 
-/// Which entry of a record a pair belongs to, and how many pairs that has.
-#[derive(Clone, Copy)]
-struct Place {
-    item: usize,
-    pairs: usize,
-}
-
-/// The entry of a record to which the pair of an index belongs: an entry has its own pair, if it names one, and then further ones.
-fn place_of(stated: Option<&Value>, index: usize) -> Place {
-    let mut before = 0usize;
-    let list = stated.and_then(|value| value.get(ENTRIES)?.as_array());
-    if let Some(entries) = list {
-        for (item, entry) in entries.iter().enumerate() {
-            let pairs = pairs_of(entry);
-            before = before.saturating_add(pairs);
-            if index < before {
-                return Place { item, pairs };
-            }
-        }
-    }
-    Place {
-        item: index,
-        pairs: 1,
-    }
-}
-
-/// How many pairs an entry of a record names.
-fn pairs_of(entry: &Value) -> usize {
-    let own = usize::from(entry.get("pixel_format").is_some());
-    match entry.get(FURTHER).and_then(Value::as_array) {
-        Some(list) => own.saturating_add(list.len()),
-        None => own,
-    }
-}
-
-fn takes(entry: &Entry, pair: Pair) -> bool {
-    entry.format.is_none_or(|format| format == pair.format)
-        && entry
-            .modifier
-            .is_none_or(|modifier| modifier == pair.modifier)
+/// Puts the decision that comes with an entry first.
+fn put_promised(items: &mut Items, trial: Trial<'_, '_>, line: String) -> Result<(), AllocError>
+    requires { IsPromised trial.setting.now.platform.now
+        (map call_seen trial.setting.now.calls.now) trial.place trial.path.now
+        (string_bytes line) }
+{
+    items.push(Kind::Decision, 2, "->", line)
 }
 
 /// Puts a format and a modifier after a text.

@@ -1,19 +1,19 @@
 //! What a script's text means.
 
+use crate::corrected::{meant_in, tell_corrected};
 use crate::domains::tell_domains;
 use crate::lines::with_lines;
-use crate::moved::tell_moved;
-use explanation_text::wording::put_count;
+use domain_reasons::answer_of;
 use explanation_text::{Item, Items, Kind};
 use json_places::{Span, column_of, line_of, repeated_keys};
+use other_outcomes::tell_moved;
 use record_faults::Document;
 use script_faults::{tell_fault, tell_no_json};
 use script_reading::{ParseFault, Script, ScriptFault, parse_script, read_script};
 use script_story::{Setting, story_of};
 use serde_json::Value;
 use std::alloc::{AllocError, Global};
-use std::fmt::Write;
-use story_parts::{Made, Story, put_domain, refused_calls, tell_refused};
+use story_parts::{Story, refused_calls, tell_refused};
 
 /// How many keys that are given twice are shown.
 const MOST_KEYS: usize = 6;
@@ -82,16 +82,23 @@ fn explain_value(
         Err(ParseFault::Refused(fault)) => {
             let mut told = Items::new(alloc);
             tell_fault(&mut told, &document, fault)?;
-            Ok(refusal(with_repeats(&document, told)?))
+            let shown = told.into_list();
+            let meant = meant_in(alloc, &document, &shown)?;
+            let mut items = with_repeats(alloc, &document, shown)?;
+            tell_corrected(&mut items, &document, &meant)?;
+            Ok(refusal(items))
         }
     }
 }
 
 /// What is told of a fault, with the keys that are given twice before where it stands: one of them may be what is meant.
-fn with_repeats(document: &Document<'_>, told: Items) -> Result<Items, AllocError> {
-    let alloc = told.alloc();
+fn with_repeats(
+    alloc: Global,
+    document: &Document<'_>,
+    told: Vec<Item>,
+) -> Result<Items, AllocError> {
     let mut items = Items::new(alloc);
-    for item in told.into_list() {
+    for item in told {
         let is_answer = item.kind == Kind::Answer;
         items.push(item.kind, item.depth, item.label, item.text)?;
         if is_answer {
@@ -137,9 +144,27 @@ fn tell_story(
 ) -> Result<(), AllocError> {
     put_answer(items, story)?;
     tell_repeats(items, document)?;
-    tell_refused(items, document, story)?;
+    tell_calls(items, document, story)?;
     tell_moved(items, setting, document.value, story)?;
     tell_domains(items, document, setting, story)
+}
+
+/// Tells which calls were refused, and what comes once the texts in them are corrected that nearly
+/// are known ones.
+fn tell_calls(
+    items: &mut Items,
+    document: &Document<'_>,
+    story: &Story<'_>,
+) -> Result<(), AllocError> {
+    let alloc = items.alloc();
+    let mut refused = Items::new(alloc);
+    tell_refused(&mut refused, document, story)?;
+    let shown = refused.into_list();
+    let meant = meant_in(alloc, document, &shown)?;
+    for item in shown {
+        items.push(item.kind, item.depth, item.label, item.text)?;
+    }
+    tell_corrected(items, document, &meant)
 }
 
 fn outcome_of(story: &Story<'_>) -> Outcome {
@@ -158,65 +183,6 @@ fn outcome_of(story: &Story<'_>) -> Outcome {
 fn put_answer(items: &mut Items, story: &Story<'_>) -> Result<(), AllocError> {
     let text = answer_of(items.alloc(), story)?;
     items.push(Kind::Answer, 0, "", text)
-}
-
-/// The answer in words.
-pub(crate) fn answer_of(alloc: Global, story: &Story<'_>) -> Result<String, AllocError> {
-    let mut text = String::new(alloc);
-    put_count(&mut text, story.calls.len(), "call", "calls")?;
-    match refused_calls(story) {
-        0 => text.push_str(", none refused")?,
-        count => write!(text, ", {count} refused")?,
-    }
-    let more = story
-        .calls
-        .iter()
-        .filter(|call| is_odd_answer(story, call))
-        .count();
-    if more > 0 {
-        write!(text, ", {more} answered otherwise than ok")?;
-    }
-    put_verdicts(&mut text, story)?;
-    Ok(text)
-}
-
-/// Whether a verdict was asked for in vain, where the domain's own section doesn't tell why.
-fn is_odd_answer(story: &Story<'_>, call: &Made<'_>) -> bool {
-    if !call.asks() {
-        return false;
-    }
-    match call.code() {
-        "E9" => match call.node.and_then(|node| story.domain_of(node)) {
-            Some(domain) => domain.ended.is_some(),
-            None => false,
-        },
-        "E5" | "E6" => true,
-        _ => false,
-    }
-}
-
-/// Puts what became of each domain after a text.
-fn put_verdicts(text: &mut String, story: &Story<'_>) -> Result<(), AllocError> {
-    let all = story.domains.len();
-    let most = if all > 9 { 8 } else { all };
-    for index in 0..most {
-        put_verdict(text, story, index)?;
-    }
-    let more = all.saturating_sub(most);
-    if more > 0 {
-        write!(text, "; {more} more domains")?;
-    }
-    Ok(())
-}
-
-fn put_verdict(text: &mut String, story: &Story<'_>, index: usize) -> Result<(), AllocError> {
-    let Some(domain) = story.domains.get(index) else {
-        return Ok(());
-    };
-    text.push_str("; ")?;
-    put_domain(text, story, domain.root)?;
-    let verdict = domain.verdict();
-    write!(text, " {verdict}")
 }
 
 /// Tells the keys that an object has twice.

@@ -7,20 +7,11 @@
 //! ```
 #![tactic(auto)]
 
-mod changes;
+mod corrected;
 mod domains;
 mod entries;
-mod exchanges;
 mod explaining;
-mod group;
 mod lines;
-mod moved;
-mod parts;
-mod pending;
-mod platforms;
-mod together;
-mod trying;
-mod worth;
 mod written;
 
 pub use explaining::{Explanation, Outcome, explain};

@@ -1,9 +1,10 @@
-//! Changes that would help, as their words tell them: `encoder (call 7): max_size 4096x2160 (is 1920x1088)`.
+//! Changes that would help, as their words tell them: `encoder (call 7): max_size 1920x1088 becomes
+//! 4096x2160`.
 
 use crate::mentions::mentions_in;
 use crate::object::Object;
 use crate::scene::Scene;
-use crate::values::spelled;
+use crate::values::{count_value, spelled};
 use serde_json::Value;
 use std::alloc::{AllocError, Global};
 use sysmem_counts::Field;
@@ -31,32 +32,46 @@ pub(crate) fn put_change(object: &mut Object, text: &str) -> Result<(), AllocErr
     let Some((_, words)) = text.split_once("): ") else {
         return Ok(());
     };
-    let (done, was) = match words.split_once(" (") {
-        Some((done, was)) => (done, was.trim_end_matches(')')),
-        None => (words, ""),
+    if let Some(entry) = words.strip_prefix("entry ") {
+        return put_first(object, entry);
+    }
+    let (field, done) = match words.split_once(' ') {
+        Some((field, done)) if Field::from_name(field).is_some() => (field, done),
+        _ => return Ok(()),
     };
-    if let Some(field) = done.strip_prefix("no ") {
+    if done.starts_with("with ") {
+        return put_added(object, field, done);
+    }
+    if let Some(was) = done.strip_suffix(" left out") {
         put_done(object, "leave_out", field, "")?;
         return put_was(object, was);
     }
-    let (field, value) = match done.split_once(' ') {
-        Some((field, value)) if Field::from_name(field).is_some() => (field, value),
-        _ => return Ok(()),
-    };
-    if let Some(most) = value.strip_suffix(" exchanged") {
-        return put_exchange(object, field, most);
+    if let Some((was, value)) = done.split_once(" becomes ") {
+        put_done(object, "set", field, value)?;
+        return put_was(object, was);
     }
-    if let Some(more) = value.strip_prefix("with ") {
-        return put_added(object, field, more);
+    if let Some(both) = done.strip_suffix(" exchanged") {
+        return put_exchange(object, field, both);
     }
-    if let Some((entry, _)) = value.split_once(" too,") {
+    if let Some((entry, _)) = done.split_once(" too,") {
         return put_done(object, "add_entry", field, entry);
     }
-    if let Some(item) = value.strip_prefix("without ") {
+    if let Some(item) = done.strip_prefix("without ") {
         return put_done(object, "remove", field, item);
     }
-    put_done(object, "set", field, value)?;
-    put_was(object, was)
+    put_added(object, field, done)
+}
+
+/// Puts that the entry of a number, from 1, stands before the others: `2 (NV12 LINEAR) put first`.
+fn put_first(object: &mut Object, entry: &str) -> Result<(), AllocError> {
+    let (number, _) = entry.split_once(' ').unwrap_or((entry, ""));
+    match number.parse::<usize>() {
+        Ok(number) => {
+            object.say("does", "put_first")?;
+            object.put("entry", count_value(number))
+        }
+        Err(_) => Ok(()),
+    }
 }
 
 /// Puts what is done to a field, and with which value, if there is one.
@@ -70,27 +85,35 @@ fn put_done(object: &mut Object, does: &str, field: &str, value: &str) -> Result
     object.put("value", spelled(alloc, value)?)
 }
 
-/// Puts what a field is before, null where it is absent: `is 1920x1088`, `is absent, so false`.
+/// Puts what a field is before, null where it is absent: `1920x1088`, `(absent, so false)`.
 fn put_was(object: &mut Object, was: &str) -> Result<(), AllocError> {
     let alloc = object.alloc();
-    match was.strip_prefix("is ") {
-        Some(words) if words.starts_with("absent") => object.put("was", Value::Null),
-        Some(words) => object.put("was", spelled(alloc, words)?),
-        None => Ok(()),
+    if was.starts_with("(absent") {
+        return object.put("was", Value::Null);
     }
+    object.put("was", spelled(alloc, was)?)
 }
 
-/// Puts that two fields get each other's values.
-fn put_exchange(object: &mut Object, field: &str, most: &str) -> Result<(), AllocError> {
+/// Puts that two fields get each other's values: `1920x1080 and max_size 1280x720`.
+fn put_exchange(object: &mut Object, field: &str, both: &str) -> Result<(), AllocError> {
     put_done(object, "exchange", field, "")?;
-    match most.strip_prefix("and ") {
-        Some(other) => object.say("with", other),
+    let (_, other) = both.split_once(" and ").unwrap_or((both, ""));
+    match other.split_once(' ') {
+        Some((name, _)) => object.say("with", name),
         None => Ok(()),
     }
 }
 
-/// Puts what a list is to have too, or in the place of another.
-fn put_added(object: &mut Object, field: &str, more: &str) -> Result<(), AllocError> {
+/// Puts what a list is to have too, or in the place of another: `SRGB, with REC709 too`, `with
+/// cma#0 in the place of cmma#0`.
+fn put_added(object: &mut Object, field: &str, done: &str) -> Result<(), AllocError> {
+    let more = match done.split_once(", with ") {
+        Some((_, more)) => more,
+        None => match done.strip_prefix("with ") {
+            Some(more) => more,
+            None => return Ok(()),
+        },
+    };
     if let Some(item) = more.strip_suffix(" too") {
         return put_done(object, "add", field, item);
     }

@@ -173,9 +173,7 @@ fn allowed_name(field: &str, is_platform: bool) -> &'static str {
 
 fn allowed_list(field: &str, is_platform: bool) -> &'static str {
     match field {
-        "usage" => {
-            "a list of none, cpu, vulkan, display or video; one at least, and none stands alone"
-        }
+        "usage" => { "a list of none alone, or of one or more of cpu, vulkan, display and video" }
         "color_spaces" if is_platform => "a list of names, one at least, none twice",
         "color_spaces" => "a list of names, one at least; DO_NOT_CARE takes any",
         "domains" => "a list of cpu, ram or inaccessible; one at least, none twice",

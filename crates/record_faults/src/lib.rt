@@ -1,6 +1,7 @@
 //! Where the first fault of a script's record stands in its text, and what would be right, in words.
 #![tactic(auto)]
 
+mod alike;
 mod cutting;
 mod document;
 mod firsts;

@@ -1,5 +1,6 @@
 //! A record's first fault, in words.
 
+use crate::alike::begins_alike;
 use crate::document::{Document, Part};
 use crate::firsts::put_first_like;
 use crate::keys::{
@@ -261,7 +262,7 @@ fn note_of_list(
         Code::TooMany => "the 65th",
         Code::TiledMisfit => "a tiled modifier doesn't go with this format",
         _ if is_empty => "the list is empty",
-        Code::BadUsage => "none stands alone",
+        Code::BadUsage => "no other usage may stand beside \"none\"",
         _ => "given before",
     };
     String::from_str(alloc, note)
@@ -326,8 +327,11 @@ fn help_of_key(
     if is_platform {
         return keys_here(alloc, keys);
     }
-    match help_elsewhere(alloc, key, keys)? {
-        Some(help) => Ok(Some(help)),
+    if let Some(help) = help_elsewhere(alloc, key, keys)? {
+        return Ok(Some(help));
+    }
+    match begins_alike(key, keys) {
+        Some(near) => Ok(Some(format!(in alloc; "did you mean {near}?")?)),
         None => keys_here(alloc, keys),
     }
 }

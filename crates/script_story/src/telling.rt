@@ -73,7 +73,7 @@ fn calls_of<'a>(
 
 fn nodes_of<'a>(alloc: Global, tree: &'a Tree) -> Result<Vec<Node<'a>>, AllocError> {
     let mut nodes = Vec::new(alloc);
-    for number in 0..tree.nodes() {
+    for number in 0..tree.node_count() {
         if let Some(node) = tree.node(number) {
             nodes.push(node_of(alloc, tree, node)?)?;
         }
@@ -109,7 +109,7 @@ fn parent_of(tree: &Tree, path: &[u32]) -> Option<usize> {
 
 /// The index of a domain.
 fn index_of(tree: &Tree, domain: DomainId) -> usize {
-    for index in 0..tree.domains() {
+    for index in 0..tree.domain_count() {
         if tree.domain_at(index) == Some(domain) {
             return index as usize;
         }
@@ -156,7 +156,7 @@ fn domains_of<'a>(alloc: Global, book: &Book) -> Result<Vec<Domain<'a>>, AllocEr
 {
     let tree = book.tree();
     let mut domains = Vec::new(alloc);
-    for index in 0..tree.domains() {
+    for index in 0..tree.domain_count() {
         if let Some(domain) = tree.domain_at(index) {
             domains.push(domain_of(book, domain))?;
         }

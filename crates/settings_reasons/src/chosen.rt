@@ -1,13 +1,14 @@
 //! What decided each value of a choice.
 
+use crate::listed::listed_before;
 use crate::offer_words::offer_name;
-use crate::offering::offers_of;
+use crate::offering::{are_refused, offers_of};
 use crate::placing::{places_of, put_place};
 use crate::refusing::{offer_rows, place_rows};
 use crate::rows::{tell, tell_rows};
 use explanation_text::Items;
-use std::alloc::AllocError;
-use sysmem_formats::{Offer, bytes_per_pixel};
+use std::alloc::{AllocError, Global};
+use sysmem_formats::{Offer, Pair, bytes_per_pixel};
 use sysmem_merge::Settings;
 use sysmem_sanitise::Platform;
 use value_sources::{Asked, Derived, Side, Wishes, why_needed};
@@ -126,7 +127,40 @@ fn tell_offer(
     let earlier = before(&offers, &settings.offer);
     let colours = platform.colours().len();
     let rows = offer_rows(alloc, earlier, people, true, false, colours)?;
-    tell_rows(items, 2, "not ", &rows, usize::MAX, "offers before it")
+    tell_rows(items, 2, "not ", &rows, usize::MAX, "offers before it")?;
+    tell_listed(items, platform, people, settings)
+}
+
+/// Tells who refuses each pair that participants list before the chosen one, where all its offers are refused: such a pair stands later on the
+/// platform.
+fn tell_listed(
+    items: &mut Items,
+    platform: &Platform,
+    people: &[Asked<'_>],
+    settings: &Settings,
+) -> Result<(), AllocError> {
+    let Offer::Image(chosen, _) = settings.offer else {
+        return Ok(());
+    };
+    let alloc = items.alloc();
+    let colours = platform.colours().len();
+    for pair in listed_before(alloc, platform, people, chosen)? {
+        let offers = offers_with(alloc, platform, pair)?;
+        if are_refused(&offers, people, true) {
+            let rows = offer_rows(alloc, &offers, people, true, false, colours)?;
+            tell_rows(items, 2, "nor ", &rows, usize::MAX, "offers after it")?;
+        }
+    }
+    Ok(())
+}
+
+/// The offers of a pair.
+fn offers_with(alloc: Global, platform: &Platform, pair: Pair) -> Result<Vec<Offer>, AllocError> {
+    let mut offers = Vec::new(alloc);
+    for colour in platform.colours() {
+        offers.push(Offer::Image(pair, *colour))?;
+    }
+    Ok(offers)
 }
 
 /// The front of a list up to the first item that is equal to one; all of it where none is.

@@ -1,6 +1,7 @@
 //! Why participants refuse an offer, in words.
 
 use crate::amounts::amount_at;
+use crate::later::{put_later, put_later_size};
 use crate::rows::{Reason, put_break};
 use explanation_text::wording::{put_few, put_joined};
 use std::alloc::{AllocError, Global};
@@ -125,6 +126,7 @@ fn put_colours(text: &mut String, offer: &Offer, people: &[Asked<'_>]) -> Result
         put_break(text)?;
         put_has(text, &those, "takes it only in ", "take it only in ")?;
         put_colour_names(text, entry.colours)?;
+        put_later(text, offer, &those)?;
     }
     Ok(())
 }
@@ -211,6 +213,7 @@ fn put_too_large(text: &mut String, wishes: Wishes<'_, '_>) -> Result<(), AllocE
             least.value,
             least.why
         )?;
+        put_later_size(text, &wishes.offer, wishes.people, who, side, least.value)?;
     }
     Ok(())
 }

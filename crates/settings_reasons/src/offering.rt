@@ -230,10 +230,15 @@ fn is_true(read: &OfferRead, whole: bool, field: Field) -> bool
     read.is_unnamed(field)
 }
 
-/// How far an offer is from being taken: how many have no entry for it, and how many lack its colour space, which is nearer.
-pub(crate) fn distance_of(reasons: &[Reason<'_>]) -> usize {
+/// How far an offer is from being taken by so many: how many have no entry for it, and how many
+/// lack its colour space, which is nearer. Where somebody takes images only, no image is the
+/// farthest.
+pub(crate) fn distance_of(offer: &Offer, reasons: &[Reason<'_>], people: usize) -> usize {
     let mut far = 0usize;
     for reason in reasons {
+        if *offer == Offer::NoImage && reason.field == Field::PixelFormat {
+            return people.saturating_mul(2).saturating_add(1);
+        }
         match reason.field {
             Field::PixelFormat => {
                 far = far.saturating_add(reason.people.len().saturating_mul(2));

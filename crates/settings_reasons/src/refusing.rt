@@ -84,7 +84,11 @@ pub(crate) fn offer_rows(
         pair.push(Refused {
             offer: *offer,
             texts: texts_of(alloc, Some(offer), &reasons, all)?,
-            distance: if all { distance_of(&reasons) } else { 0 },
+            distance: if all {
+                distance_of(offer, &reasons, people.len())
+            } else {
+                0
+            },
         })?;
     }
     add_pair(alloc, &mut rows, &pair, colours)?;

@@ -1,4 +1,5 @@
-//! Calls that stand too early.
+//! Calls that stand too early: before the bind of what they are made on, or as the bind of what
+//! later ones need as a token.
 
 use crate::story::{Deed, Made, Story};
 use script_reading::Act;
@@ -12,7 +13,8 @@ pub struct Move {
     pub after: usize,
 }
 
-/// The calls that were refused since a later one binds what they are made on.
+/// The calls that were refused since a later one binds what they are made on; and those that bind a
+/// token, or are made on it since, of which a later call was refused since it needs the token.
 pub fn moves_in(alloc: Global, story: &Story<'_>) -> Result<Vec<Move>, AllocError> {
     let mut moves = Vec::new(alloc);
     for (index, call) in story.calls.iter().enumerate() {
@@ -23,8 +25,55 @@ pub fn moves_in(alloc: Global, story: &Story<'_>) -> Result<Vec<Move>, AllocErro
                 after,
             })?;
         }
+        if needs_token(call) && is_last(story, call, number) {
+            add_held(&mut moves, story, call, number)?;
+        }
     }
     Ok(moves)
+}
+
+/// Whether a call was refused that needs a token.
+fn needs_token(call: &Made<'_>) -> bool {
+    matches!(call.act, Act::Duplicate(_) | Act::CreateGroup(_)) && call.code() == "E2"
+}
+
+/// Whether no call after that of a number was refused since it needs the same token.
+fn is_last(story: &Story<'_>, call: &Made<'_>, number: usize) -> bool {
+    !story
+        .calls
+        .iter()
+        .skip(number)
+        .any(|later| later.node == call.node && needs_token(later))
+}
+
+/// Adds the call that bound the token on which the call of a number was refused, and those made on
+/// it since: they are to stand after that call.
+fn add_held(
+    moves: &mut Vec<Move>,
+    story: &Story<'_>,
+    call: &Made<'_>,
+    number: usize,
+) -> Result<(), AllocError> {
+    let Some(node) = call.node else {
+        return Ok(());
+    };
+    let Some(bound) = story.deed_before(node, Deed::Bind, number) else {
+        return Ok(());
+    };
+    if story.deed_before(node, Deed::End, number).is_some() {
+        return Ok(());
+    }
+    for (index, other) in story.calls.iter().enumerate() {
+        let own = index.saturating_add(1);
+        let is_between = bound <= own && own < number;
+        if is_between && other.node == Some(node) && other.is_accepted() {
+            moves.push(Move {
+                call: own,
+                after: number,
+            })?;
+        }
+    }
+    Ok(())
 }
 
 /// The later call that binds the token on which the call of a number was refused.

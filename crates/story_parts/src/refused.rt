@@ -85,7 +85,8 @@ fn tell_rows(
     Ok(())
 }
 
-/// What is told of the calls that were refused, those with one cause together; where their constraints have a fault only its code.
+/// What is told of the calls that were refused, those with one cause together; where their
+/// constraints have a fault only its field and its code.
 pub fn refused_words(alloc: Global, story: &Story<'_>) -> Result<Vec<String>, AllocError> {
     let mut words: Vec<String> = Vec::new(alloc);
     for row in &rows_of(alloc, story)? {
@@ -192,18 +193,29 @@ fn tell_row(
     tell_record_fault(items, 2, document, &base, fault, false)
 }
 
-/// Puts calls, their reply and its cause after a text; a fault is told below it.
+/// Puts calls and why they were refused after a text, and behind it their reply; of a fault only
+/// its field and its code, for it is told below.
 fn put_row(text: &mut String, call: &Made<'_>, row: &Row) -> Result<(), AllocError> {
     put_calls(text, call, &row.numbers)?;
-    text.push_str(": ")?;
-    text.push_str(call.reply)?;
+    let (code, reply) = (call.code(), call.reply);
     match row.fault {
         None => {
-            text.push_str(": ")?;
-            text.push_str(&row.cause)
+            let cause = row.cause.as_str();
+            write!(text, ": {cause} ({reply})")
         }
-        Some(_) if call.code() == "S2" => text.push_str(": a key that isn't known"),
-        Some(_) => Ok(()),
+        Some(_) if code == "S2" => write!(text, ": a key that isn't known ({code})"),
+        Some(_) => {
+            let field = faulty_field(reply);
+            write!(text, ": a fault in {field} ({code})")
+        }
+    }
+}
+
+/// The field of a reply that names a fault: `S4 usage`.
+fn faulty_field<'a>(reply: &'a str) -> &'a str {
+    match reply.split_once(' ') {
+        Some((_, field)) if field != "whole" => field,
+        _ => "its constraints",
     }
 }
 
@@ -496,7 +508,11 @@ fn wrong_collection(
         Act::SetConstraints(_) => set_before(alloc, story, call, node, number),
         Act::Duplicate(_) | Act::CreateGroup(_) | Act::Bind => {
             let bound = story.deed_before(node, Deed::Bind, number).unwrap_or(0);
-            format!(in alloc; "{on} is no token any more: call {bound} bound it")
+            let mut text = format!(in alloc; "{on} is no token any more: call {bound} bound it")?;
+            if call.act.name_made().is_some() {
+                write!(text, "; move call {bound} after this call")?;
+            }
+            Ok(text)
         }
         _ => format!(in alloc; "{on} is a collection, no group"),
     }

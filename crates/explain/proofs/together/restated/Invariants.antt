@@ -1,7 +1,0 @@
-use Rattle.std.specs.Prelude.{map}
-use Rattle.script_reading.specs.Seen.{call_seen}
-use Rattle.explain.specs.Edited.{IsRestated}
-use Rattle.explain.proofs.together.restated.Given as goal
-
-abbrev pub invariant-loop-one : goal.invariant-loop-one
-invariant-loop-one l = IsRestated (map call_seen l.calls) (map call_seen l.made.items)

@@ -1,0 +1,244 @@
+//! What a script means once each text in it is corrected that nearly is a known one.
+
+use domain_reasons::answer_of;
+use explanation_text::wording::{put_joined, put_visible};
+use explanation_text::{Item, Items, Kind};
+use json_places::{begins_character, line_of};
+use record_faults::Document;
+use script_faults::tell_fault;
+use script_reading::{ParseFault, Script, ScriptFault, parse_script, read_script};
+use script_story::{Setting, story_of};
+use std::alloc::{AllocError, Global};
+use story_parts::refused_words;
+
+/// A text of the script, by the bytes between its quotes, and the one that it may mean.
+#[derive(Drop)]
+pub(crate) struct Meant {
+    start: usize,
+    end: usize,
+    is: String,
+}
+
+/// What the faults that are shown may mean; nothing where one of them has no known text near it, or
+/// isn't a plain one in quotes.
+pub(crate) fn meant_in(
+    alloc: Global,
+    document: &Document<'_>,
+    shown: &[Item],
+) -> Result<Vec<Meant>, AllocError> {
+    let mut file = String::new(alloc);
+    put_visible(&mut file, document.file)?;
+    let mut meant = Vec::new(alloc);
+    for item in shown {
+        if item.kind != Kind::Source {
+            continue;
+        }
+        match meant_by(alloc, document.bytes, &file, &item.text)? {
+            Some(one) => meant.push(one)?,
+            None => return Ok(Vec::new(alloc)),
+        }
+    }
+    Ok(meant)
+}
+
+/// What a fault that is shown may mean.
+fn meant_by(
+    alloc: Global,
+    bytes: &[u8],
+    file: &str,
+    shown: &str,
+) -> Result<Option<Meant>, AllocError> {
+    let Some(is) = known_of(shown) else {
+        return Ok(None);
+    };
+    let Some(at) = place_of(bytes, file, shown) else {
+        return Ok(None);
+    };
+    let start = at.saturating_add(1);
+    let rest = bytes.get(start..).unwrap_or(&[]);
+    let Some(length) = rest.iter().position(|byte| *byte == b'"' || *byte == b'\\') else {
+        return Ok(None);
+    };
+    let end = start.saturating_add(length);
+    if bytes.get(at).copied() != Some(b'"') || bytes.get(end).copied() != Some(b'"') {
+        return Ok(None);
+    }
+    let is = String::from_str(alloc, is)?;
+    Ok(Some(Meant { start, end, is }))
+}
+
+/// The known text that a line on what helps names: `did you mean camera?`, `it is vulkan here`.
+fn known_in<'a>(line: &'a str) -> Option<&'a str> {
+    let (_, help) = line.split_once(" = ")?;
+    let name = match help.strip_prefix("did you mean ") {
+        Some(asked) => asked.strip_suffix("?")?,
+        None => {
+            let (_, told) = help.strip_suffix(" here")?.split_once(" is ")?;
+            told
+        }
+    };
+    if is_name(name) { Some(name) } else { None }
+}
+
+/// The first known text that the lines on what helps name.
+fn known_of<'a>(shown: &'a str) -> Option<&'a str> {
+    for line in shown.lines() {
+        if let Some(name) = known_in(line) {
+            return Some(name);
+        }
+    }
+    None
+}
+
+fn is_name(text: &str) -> bool {
+    text.as_bytes().iter().all(|byte| byte.is_ascii_alphanumeric()
+        || *byte == b'_'
+        || *byte == b'-')
+}
+
+/// Where the fault begins whose line and column are shown after the name of the file: `  -->
+/// camera.json:13:17: ..`.
+fn place_of(bytes: &[u8], file: &str, shown: &str) -> Option<usize> {
+    let (_, after) = shown.lines().next()?.split_once("--> ")?;
+    let numbers = after.strip_prefix(file)?.strip_prefix(":")?;
+    let (line, more) = numbers.split_once(':')?;
+    let (column, _) = more.split_once(':').unwrap_or((more, ""));
+    match (line.parse::<usize>(), column.parse::<usize>()) {
+        (Ok(line), Ok(column)) => byte_at(bytes, line, column),
+        _ => None,
+    }
+}
+
+/// The byte at a line and a column, both from 1, a column for each character.
+fn byte_at(bytes: &[u8], line: usize, column: usize) -> Option<usize> {
+    let mut at_line = 1usize;
+    let mut at_column = 0usize;
+    for (at, byte) in bytes.iter().enumerate() {
+        if begins_character(*byte) {
+            at_column = at_column.saturating_add(1);
+        }
+        if at_line == line && at_column == column {
+            return Some(at);
+        }
+        if *byte == b'\n' {
+            at_line = at_line.saturating_add(1);
+            at_column = 0;
+        }
+    }
+    None
+}
+
+/// Tells what the script has once these texts are corrected: its answer, and which calls are
+/// refused then.
+pub(crate) fn tell_corrected(
+    items: &mut Items,
+    document: &Document<'_>,
+    meant: &[Meant],
+) -> Result<(), AllocError> {
+    let alloc = items.alloc();
+    if meant.is_empty() {
+        return Ok(());
+    }
+    let Some(bytes) = corrected(alloc, document.bytes, meant)? else {
+        return Ok(());
+    };
+    let value = match parse_script(alloc, &bytes) {
+        Ok(value) => value,
+        Err(ParseFault::NoMemory) => return Err(AllocError),
+        Err(ParseFault::Refused(_)) => return Ok(()),
+    };
+    let mut text = String::from_str(alloc, "with ")?;
+    put_meant(&mut text, document.bytes, meant)?;
+    text.push_str(" the script has:")?;
+    items.say(1, "then", text)?;
+    let other = Document {
+        file: document.file,
+        bytes: &bytes,
+        value: &value,
+    };
+    tell_answer(items, &other)
+}
+
+/// The script with what is meant; `None` where that doesn't stand in the order of the text.
+fn corrected(alloc: Global, bytes: &[u8], meant: &[Meant]) -> Result<Option<Vec<u8>>, AllocError> {
+    let mut made = Vec::new(alloc);
+    let mut from = 0usize;
+    for one in meant {
+        if one.start < from {
+            return Ok(None);
+        }
+        made.extend_from_slice(bytes.get(from..one.start).unwrap_or(&[]))?;
+        made.extend_from_slice(one.is.as_bytes())?;
+        from = one.end;
+    }
+    made.extend_from_slice(bytes.get(from..).unwrap_or(&[]))?;
+    Ok(Some(made))
+}
+
+/// Puts what stands in the place of what after a text: `vulkan in the place of gpu (line 13)`.
+fn put_meant(text: &mut String, bytes: &[u8], meant: &[Meant]) -> Result<(), AllocError> {
+    let alloc = *text.allocator();
+    let mut texts: Vec<String> = Vec::new(alloc);
+    for one in meant {
+        let line = line_of(bytes, one.start.min(bytes.len()));
+        let was = String::from_utf8_lossy(alloc, bytes.get(one.start..one.end).unwrap_or(&[]))?;
+        let is = one.is.as_str();
+        let mut part = format!(in alloc; "{is} in the place of ")?;
+        put_visible(&mut part, &was)?;
+        write!(part, " (line {line})")?;
+        texts.push(part)?;
+    }
+    let mut words: Vec<&str> = Vec::new(alloc);
+    for part in &texts {
+        words.push(part.as_str())?;
+    }
+    put_joined(text, &words, "and")
+}
+
+/// Tells the answer of a script, and which of its calls are refused; or that it is refused itself.
+fn tell_answer(items: &mut Items, document: &Document<'_>) -> Result<(), AllocError> {
+    match read_script(items.alloc(), document.value) {
+        Ok(script) => tell_script(items, document, &script),
+        Err(ParseFault::NoMemory) => Err(AllocError),
+        Err(ParseFault::Refused(fault)) => tell_refusal(items, document, fault),
+    }
+}
+
+/// Tells the answer of a script that isn't refused, and which of its calls are.
+fn tell_script<'a>(
+    items: &mut Items,
+    document: &Document<'a>,
+    script: &Script<'a>,
+) -> Result<(), AllocError> {
+    let alloc = items.alloc();
+    let setting = Setting {
+        platform: &script.platform,
+        calls: &script.calls,
+    };
+    let told = setting.tell(alloc, &script.calls)?;
+    if told.report.starved {
+        return Err(AllocError);
+    }
+    let story = story_of(alloc, document.value, &script.calls, &told)?;
+    items.say(2, "", answer_of(alloc, &story)?)?;
+    for words in refused_words(alloc, &story)? {
+        items.say(2, "", words)?;
+    }
+    Ok(())
+}
+
+/// Tells that a script is refused, and for what.
+fn tell_refusal(
+    items: &mut Items,
+    document: &Document<'_>,
+    fault: ScriptFault,
+) -> Result<(), AllocError> {
+    let mut told = Items::new(items.alloc());
+    tell_fault(&mut told, document, fault)?;
+    for item in told.into_list() {
+        if item.kind == Kind::Answer {
+            items.say(2, "", item.text)?;
+        }
+    }
+    Ok(())
+}

@@ -1,0 +1,16 @@
+-- What is promised of a script's calls, of which two make each other's names.
+use Rattle.std.specs.Prelude.{◌==◌, ℕ, List, map, if◌then◌else◌}
+use Rattle.sysmem_sanitise.specs.Platform.{PlatformFacts}
+use Rattle.script_reading.specs.Seen.{call_seen}
+use Rattle.script_reading.specs.declared.call.Call.{Call}
+use Rattle.script_story.specs.Told.{IsReportedOn}
+
+-- the call, on the other of two names where it is on one of them
+abbrev pub on_other : ℕ → ℕ → Call → Call
+on_other a b call = record call { place = if call.place == a then b else if call.place == b then a else call.place }
+
+-- with two names exchanged wherever calls are made on them, the report says this of the domain at a path
+pub record IsPromisedExchanged (platform : PlatformFacts) (calls : List Call) (path what : List ℕ) : Type 0 where
+  pub a : ℕ
+  pub b : ℕ
+  pub reported : IsReportedOn platform (map call_seen (map (on_other a b) calls)) path what

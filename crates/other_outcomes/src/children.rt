@@ -1,0 +1,172 @@
+//! Later children of groups in the place of those that were chosen.
+
+ghost use Rattle.std.specs.Prelude.{◌≡◌, map, IfOk, IfSome};
+ghost use Rattle.std.specs.String.{string_bytes};
+ghost use Rattle.other_outcomes.specs.Exchanged.{IsPromisedExchanged, on_other};
+
+use crate::pending::place_of;
+use explanation_text::{Items, Kind};
+use script_reading::Call;
+use script_story::Setting;
+use std::alloc::{AllocError, Global};
+use story_parts::{Story, first_word};
+
+/// How many children are tried.
+const MOST: usize = 2;
+
+/// A child that a group chose and a later one, with the numbers of the calls that create them.
+#[derive(Clone, Copy)]
+struct Siblings {
+    chosen: usize,
+    later: usize,
+    first: usize,
+    second: usize,
+}
+
+/// Tells of the children of groups of a chosen domain that come after the chosen one what would be decided if they stood in its place, where they
+/// would be chosen then.
+pub fn tell_later_children(
+    items: &mut Items,
+    setting: &Setting<'_>,
+    story: &Story<'_>,
+    index: usize,
+    path: &str,
+) -> Result<(), AllocError> {
+    let alloc = items.alloc();
+    let pairs = siblings_in(alloc, story, index)?;
+    for pair in pairs.iter().take(MOST) {
+        if let Some(line) = outcome_with(alloc, setting, story, *pair, path)? {
+            let (later, chosen) = (story.name(pair.later), story.name(pair.chosen));
+            let (first, second) = (pair.first, pair.second);
+            let text = format!(in alloc;
+                "{later} would do too, but is created after {chosen}, and the first child that does is chosen; with their names exchanged in calls {first} and {second} it would be:"
+            )?;
+            items.say(1, "then", text)?;
+            put_promised(items, setting, path, line)?;
+        }
+    }
+    Ok(())
+}
+
+/// The chosen child of each group of a domain that isn't attached, with each later child.
+fn siblings_in(
+    alloc: Global,
+    story: &Story<'_>,
+    index: usize,
+) -> Result<Vec<Siblings>, AllocError> {
+    let mut pairs = Vec::new(alloc);
+    let is_first = story
+        .domains
+        .get(index)
+        .is_some_and(|domain| domain.host.is_none());
+    for (group, known) in story.nodes.iter().enumerate() {
+        if is_first && known.domain == index && story.is_group(group) && known.is_selected {
+            add_siblings(&mut pairs, story, group)?;
+        }
+    }
+    Ok(pairs)
+}
+
+fn add_siblings(
+    pairs: &mut Vec<Siblings>,
+    story: &Story<'_>,
+    group: usize,
+) -> Result<(), AllocError> {
+    let mut known = None;
+    for later in story.children(*pairs.allocator(), group)? {
+        let Some(second) = story.nodes.get(later).and_then(|node| node.made_by) else {
+            continue;
+        };
+        if let Some((chosen, first)) = known {
+            pairs.push(Siblings {
+                chosen,
+                later,
+                first,
+                second,
+            })?;
+        }
+        if story.is_selected(later) {
+            known = Some((later, second));
+        }
+    }
+    Ok(())
+}
+
+/// What the domain at a path would be if two children's names were exchanged where they are created, if the later one would be chosen then.
+fn outcome_with(
+    alloc: Global,
+    setting: &Setting<'_>,
+    story: &Story<'_>,
+    pair: Siblings,
+    path: &str,
+) -> Result<Option<String>, AllocError>
+    ensures { IfOk result (λ said. IfSome said (λ what. IsPromisedExchanged
+        setting.now.platform.now setting.now.calls.now path.now (string_bytes what))) }
+{
+    let a = place_of(story, Some(pair.first));
+    let b = place_of(story, Some(pair.second));
+    let between = story.calls.get(pair.first..pair.second).unwrap_or(&[]);
+    if between.iter().any(|call| call.place == a) {
+        return Ok(None);
+    }
+    let now = match story.domain_of(pair.chosen) {
+        Some(domain) => choices_of(domain.told),
+        None => "",
+    };
+    let calls = exchanged(alloc, setting.calls, a, b)?;
+    match setting.outcome(alloc, &calls, path)? {
+        Some(line) if !now.is_empty() && choices_of(&line) == now => Ok(Some(line)),
+        _ => Ok(None),
+    }
+}
+
+/// The choices that a line on a domain that is chosen names, as a text; empty where it isn't.
+fn choices_of(line: &str) -> &str {
+    match line.strip_prefix("chosen ") {
+        Some(rest) => first_word(rest),
+        None => "",
+    }
+}
+
+/// The calls with those on one of two names made on the other.
+fn exchanged<'a>(
+    alloc: Global,
+    calls: &[Call<'a>],
+    a: usize,
+    b: usize,
+) -> Result<Vec<Call<'a>>, AllocError>
+    ensures { IfOk result (λ made. made.items ≡ map (on_other a b) calls.now) }
+{
+    let mut made = Vec::new(alloc);
+    for call in calls {
+        made.push(on_other(call, a, b))?;
+    }
+    Ok(made)
+}
+
+/// The call, on the other of two names where it is on one of them.
+fn on_other<'a>(call: &Call<'a>, a: usize, b: usize) -> Call<'a>
+    ensures { result ≡ on_other a b call.now }
+{
+    let place = if call.place == a {
+        b
+    } else if call.place == b {
+        a
+    } else {
+        call.place
+    };
+    Call { place, ..*call }
+}
+
+/// Puts the decision that comes once two names are exchanged.
+fn put_promised(
+    items: &mut Items,
+    setting: &Setting<'_>,
+    path: &str,
+    line: String,
+) -> Result<(), AllocError>
+    requires { IsPromisedExchanged setting.now.platform.now setting.now.calls.now path.now
+        (string_bytes line) }
+{
+    items.push(Kind::Decision, 2, "->", line)
+}

@@ -1,0 +1,24 @@
+//! What would become of a script's domains otherwise: with calls moved that stand too early or too late, without those who are awaited, with a later
+//! child in the place of the chosen one, and on a platform that has a pair more, a pair first, or a heap that is contiguous or secure.
+//!
+//! ```
+//! tell_moved(&mut items, &setting, &value, &story)?;
+//! print!(rt; "{}", text_of(rt.alloc(), &items.into_list())?)?;
+//! ```
+#![tactic(auto)]
+
+mod children;
+mod ended_later;
+mod heaps;
+mod later_pairs;
+mod moved;
+mod pending;
+mod platforms;
+
+pub use children::tell_later_children;
+pub use ended_later::tell_ended_later;
+pub use heaps::tell_heaps;
+pub use later_pairs::tell_later_pairs;
+pub use moved::{tell_moved, tell_then};
+pub use pending::tell_without;
+pub use platforms::tell_platform;

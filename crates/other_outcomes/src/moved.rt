@@ -1,0 +1,292 @@
+//! What the calls do once those that stand too early are moved.
+
+ghost use Rattle.std.specs.Prelude.{◌≡◌, ◌<◌, List, length, IfOk, IfSome};
+ghost use Rattle.std.specs.String.{string_bytes};
+ghost use Rattle.script_reading.specs.declared.call.Call.{Call as Called};
+ghost use Rattle.other_outcomes.specs.Moved.{IsMoved, IsPromisedMoved, moving};
+
+use domain_reasons::{answer_of, tell_domain};
+use explanation_text::{Items, Kind};
+use script_reading::{Call, ParseFault, read_script};
+use script_run::Replayed;
+use script_story::{Setting, story_of};
+use serde_json::Value;
+use std::alloc::{AllocError, Global};
+use std::fmt::Write;
+use story_parts::{Move, Story, moves_in, refused_words};
+
+/// How many lines are told of a domain.
+const MOST: usize = 8;
+
+/// Tells what would be refused and pending next, and what each domain would be, once the calls that stand too early are moved.
+pub fn tell_moved(
+    items: &mut Items,
+    setting: &Setting<'_>,
+    value: &Value,
+    story: &Story<'_>,
+) -> Result<(), AllocError> {
+    let alloc = items.alloc();
+    let moves = moves_in(alloc, story)?;
+    if moves.is_empty() {
+        return Ok(());
+    }
+    let other = reordered(alloc, value, &moves)?;
+    let script = match read_script(alloc, &other) {
+        Ok(script) => script,
+        Err(ParseFault::NoMemory) => return Err(AllocError),
+        Err(ParseFault::Refused(_)) => return Ok(()),
+    };
+    let wider = Setting {
+        platform: setting.platform,
+        calls: &script.calls,
+    };
+    let told = wider.tell(alloc, &script.calls)?;
+    if told.report.starved {
+        return Err(AllocError);
+    }
+    tell_replayed(items, setting, &moves, &other, &script.calls, &told)
+}
+
+/// Tells what calls do that are those of a script with some moved.
+fn tell_replayed<'a>(
+    items: &mut Items,
+    setting: &Setting<'_>,
+    moves: &[Move],
+    value: &'a Value,
+    calls: &[Call<'a>],
+    told: &'a Replayed,
+) -> Result<(), AllocError> {
+    let then = story_of(items.alloc(), value, calls, told)?;
+    tell_story(items, setting, moves, &then)
+}
+
+/// Tells which calls are moved, what the answer is then, which calls are refused, and what has no settings.
+fn tell_story(
+    items: &mut Items,
+    setting: &Setting<'_>,
+    moves: &[Move],
+    then: &Story<'_>,
+) -> Result<(), AllocError> {
+    let alloc = items.alloc();
+    let mut text = String::from_str(alloc, "with ")?;
+    put_moves(&mut text, moves)?;
+    text.push_str(" the script has, its calls numbered anew:")?;
+    items.say(1, "then", text)?;
+    items.say(2, "", answer_of(alloc, then)?)?;
+    for words in refused_words(alloc, then)? {
+        items.say(2, "", words)?;
+    }
+    for index in 0..then.domains.len() {
+        tell_next(items, setting, then, index)?;
+    }
+    Ok(())
+}
+
+/// Tells why a domain has no settings then, in a few lines.
+fn tell_next(
+    items: &mut Items,
+    setting: &Setting<'_>,
+    then: &Story<'_>,
+    index: usize,
+) -> Result<(), AllocError> {
+    let is_chosen = match then.domains.get(index) {
+        Some(domain) => domain.verdict() == "chosen",
+        None => true,
+    };
+    if is_chosen {
+        return Ok(());
+    }
+    let mut section = Items::new(items.alloc());
+    tell_domain(&mut section, setting.platform, then, index)?;
+    let mut told = 0usize;
+    for item in section.into_list() {
+        if item.kind == Kind::Title || item.label == "who" || told >= MOST {
+            continue;
+        }
+        told = told.saturating_add(1);
+        items.push(
+            item.kind,
+            item.depth.saturating_add(1),
+            item.label,
+            item.text,
+        )?;
+    }
+    Ok(())
+}
+
+/// Puts which calls are moved after a text: `call 5 moved after call 6`.
+fn put_moves(text: &mut String, moves: &[Move]) -> Result<(), AllocError> {
+    for (k, one) in moves.iter().enumerate() {
+        if k > 0 {
+            text.push_str(" and ")?;
+        }
+        let (call, after) = (one.call, one.after);
+        write!(text, "call {call} moved after call {after}")?;
+    }
+    Ok(())
+}
+
+/// The script with its calls in the order that they have once some are moved.
+fn reordered(alloc: Global, value: &Value, moves: &[Move]) -> Result<Value, AllocError> {
+    let mut copy = value.clone()?;
+    if let Some(Value::Array(calls)) = copy.get_mut("calls") {
+        let order = order_of(alloc, calls.len(), moves)?;
+        let mut list = Vec::new(alloc);
+        for place in order {
+            if let Some(call) = calls.get(place) {
+                list.push(call.clone()?)?;
+            }
+        }
+        *calls = list;
+    }
+    Ok(copy)
+}
+
+/// The places of so many calls, from 0, in the order that they have once some are moved, from the last on.
+fn order_of(alloc: Global, count: usize, moves: &[Move]) -> Result<Vec<usize>, AllocError> {
+    let mut order: Vec<usize> = (0..count).collect(alloc)?;
+    for one in moves.iter().rev() {
+        let next = order_after(alloc, &order, *one)?;
+        order = next;
+    }
+    Ok(order)
+}
+
+/// The places of calls after one move more.
+fn order_after(alloc: Global, order: &[usize], one: Move) -> Result<Vec<usize>, AllocError> {
+    let from = place_in(order, one.call);
+    let to = place_in(order, one.after);
+    let mut next = Vec::new(alloc);
+    for (k, place) in order.iter().enumerate() {
+        if k != from {
+            next.push(*place)?;
+        }
+        if k == to {
+            next.push(one.call.saturating_sub(1))?;
+        }
+    }
+    Ok(next)
+}
+
+/// Where the call of a number stands.
+fn place_in(order: &[usize], number: usize) -> usize {
+    let place = number.saturating_sub(1);
+    order
+        .iter()
+        .position(|other| *other == place)
+        .unwrap_or(usize::MAX)
+}
+
+/// The calls, of which that at a place stands right after that at a later one.
+fn moved_once<'a>(
+    alloc: Global,
+    calls: &[Call<'a>],
+    from: usize,
+    to: usize,
+) -> Result<Vec<Call<'a>>, AllocError>
+    requires later { from < to }
+    requires there { to < length calls.now }
+    ensures { IfOk result (λ made. made.items ≡ moving calls.now from to) }
+{
+    let mut made = Vec::from_slice(alloc, &calls[..from])?;
+    made.extend_from_slice(&calls[from + 1..to + 1])?;
+    made.extend_from_slice(&calls[from..from + 1])?;
+    made.extend_from_slice(&calls[to + 1..])?;
+    Ok(made)
+}
+
+/// The calls after a move, if it is one to a later place.
+pub(crate) fn step<'a>(
+    alloc: Global,
+    calls: &[Call<'a>],
+    from: usize,
+    to: usize,
+) -> Result<Vec<Call<'a>>, AllocError>
+    ensures { IfOk result (λ made.
+        (first : List Called) → IsMoved first calls.now → IsMoved first made.items) }
+{
+    let is_later = from < to && to < calls.len();
+    if is_later {
+        let made = moved_once(alloc, calls, from, to)?;
+        return Ok(made);
+    }
+    let same = Vec::from_slice(alloc, calls)?;
+    Ok(same)
+}
+
+/// The calls once some are moved, from the last on.
+fn moved<'a>(alloc: Global, calls: &[Call<'a>], moves: &[Move]) -> Result<Vec<Call<'a>>, AllocError>
+    ensures { IfOk result (λ made. IsMoved calls.now made.items) }
+{
+    let mut made = Vec::from_slice(alloc, calls)?;
+    let mut order: Vec<usize> = (0..calls.len()).collect(alloc)?;
+    for one in moves.iter().rev() {
+        let from = place_in(&order, one.call);
+        let to = place_in(&order, one.after);
+        let next = step(alloc, &made, from, to)?;
+        made = next;
+        let after = order_after(alloc, &order, *one)?;
+        order = after;
+    }
+    Ok(made)
+}
+
+/// What the domain at a path becomes once calls are moved.
+fn outcome_moved(
+    alloc: Global,
+    setting: &Setting<'_>,
+    moves: &[Move],
+    path: &str,
+) -> Result<Option<String>, AllocError>
+    ensures { IfOk result (λ said. IfSome said (λ what. IsPromisedMoved
+        setting.now.platform.now setting.now.calls.now path.now (string_bytes what))) }
+{
+    let calls = moved(alloc, setting.calls, moves)?;
+    setting.outcome(alloc, &calls, path)
+}
+
+/// Tells what the domain at a path would be once the calls that stand too early are moved, if that is decided then and isn't now.
+pub fn tell_then(
+    items: &mut Items,
+    setting: &Setting<'_>,
+    story: &Story<'_>,
+    path: &str,
+) -> Result<(), AllocError> {
+    let alloc = items.alloc();
+    let moves = moves_in(alloc, story)?;
+    if moves.is_empty() || moves.iter().any(|one| makes_name(story, *one)) {
+        return Ok(());
+    }
+    let Some(line) = outcome_moved(alloc, setting, &moves, path)? else {
+        return Ok(());
+    };
+    if line.as_str() == "pending" {
+        return Ok(());
+    }
+    let mut text = String::from_str(alloc, "with ")?;
+    put_moves(&mut text, &moves)?;
+    text.push_str(" it would be:")?;
+    items.say(1, "then", text)?;
+    put_promised(items, setting, path, line)
+}
+
+/// Whether the call that is moved makes a name: then the names stand in another order.
+fn makes_name(story: &Story<'_>, one: Move) -> bool {
+    match story.call(one.call) {
+        Some(call) => call.act.name_made().is_some(),
+        None => false,
+    }
+}
+
+/// Puts the decision that comes once calls are moved.
+fn put_promised(
+    items: &mut Items,
+    setting: &Setting<'_>,
+    path: &str,
+    line: String,
+) -> Result<(), AllocError>
+    requires { IsPromisedMoved setting.now.platform.now setting.now.calls.now path.now
+        (string_bytes line) }
+{
+    items.push(Kind::Decision, 2, "->", line)
+}

@@ -1,0 +1,110 @@
+//! A platform with one pair more, where participants take a format that it lacks.
+
+use explanation_text::{Items, Kind};
+use script_story::Setting;
+use std::alloc::{AllocError, Global};
+use sysmem_formats::{Modifier, Pair};
+use sysmem_memory::{Heap, HeapInfo};
+use sysmem_sanitise::Platform;
+use value_sources::Asked;
+
+/// How many pairs are tried.
+const MOST: usize = 4;
+
+/// Tells the first pair that participants name and the platform lacks with which the domain at a
+/// path would have settings, and what would be decided then.
+pub fn tell_platform(
+    items: &mut Items,
+    setting: &Setting<'_>,
+    path: &str,
+    people: &[Asked<'_>],
+) -> Result<(), AllocError> {
+    let alloc = items.alloc();
+    let lacked = lacked_pairs(alloc, setting.platform, people)?;
+    for pair in lacked.iter().take(MOST) {
+        let Some(line) = outcome_with(alloc, setting, path, *pair)? else {
+            continue;
+        };
+        let format = pair.format.name();
+        let modifier = pair.modifier.name();
+        let text = format!(in alloc; "with {format} {modifier} on the platform it would be:")?;
+        items.say(1, "then", text)?;
+        return items.push(Kind::Decision, 2, "->", line);
+    }
+    Ok(())
+}
+
+/// What the domain at a path would be on the platform with one pair more, if it would be chosen.
+fn outcome_with(
+    alloc: Global,
+    setting: &Setting<'_>,
+    path: &str,
+    pair: Pair,
+) -> Result<Option<String>, AllocError> {
+    let mut pairs = Vec::from_slice(alloc, setting.platform.pairs())?;
+    pairs.push(pair)?;
+    let heaps = heaps_of(alloc, setting.platform)?;
+    outcome_on(alloc, setting, heaps, pairs, path)
+}
+
+/// The pairs that participants name and the platform lacks, each once; without a modifier the
+/// linear one is meant.
+fn lacked_pairs(
+    alloc: Global,
+    platform: &Platform,
+    people: &[Asked<'_>],
+) -> Result<Vec<Pair>, AllocError> {
+    let mut lacked: Vec<Pair> = Vec::new(alloc);
+    for one in people {
+        for entry in one.asked.entries() {
+            let Some(format) = entry.format else {
+                continue;
+            };
+            let modifier = entry.modifier.unwrap_or(Modifier::Linear);
+            let pair = Pair { format, modifier };
+            if !platform.pairs().contains(&pair) && !lacked.contains(&pair) {
+                lacked.push(pair)?;
+            }
+        }
+    }
+    Ok(lacked)
+}
+
+/// The platform's heaps.
+pub(crate) fn heaps_of(alloc: Global, platform: &Platform) -> Result<Vec<HeapInfo>, AllocError> {
+    let mut heaps = Vec::new(alloc);
+    for info in platform.heaps() {
+        heaps.push(HeapInfo {
+            heap: Heap {
+                heap_type: info.heap.heap_type.clone()?,
+                id: info.heap.id,
+            },
+            contiguous: info.contiguous,
+            secure: info.secure,
+            domains: info.domains,
+        })?;
+    }
+    Ok(heaps)
+}
+
+/// What the domain at a path would be on the platform with these heaps and pairs, if it would be chosen.
+pub(crate) fn outcome_on(
+    alloc: Global,
+    setting: &Setting<'_>,
+    heaps: Vec<HeapInfo>,
+    pairs: Vec<Pair>,
+    path: &str,
+) -> Result<Option<String>, AllocError> {
+    let colours = Vec::from_slice(alloc, setting.platform.colours())?;
+    let Ok(platform) = Platform::of(heaps, pairs, colours) else {
+        return Ok(None);
+    };
+    let other = Setting {
+        platform: &platform,
+        calls: setting.calls,
+    };
+    match other.outcome(alloc, setting.calls, path)? {
+        Some(line) if line.as_str().starts_with("chosen ") => Ok(Some(line)),
+        _ => Ok(None),
+    }
+}

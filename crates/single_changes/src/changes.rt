@@ -1,0 +1,226 @@
+//! Single changes that make an empty decision one that chooses, found by trying each.
+
+ghost use Rattle.std.specs.Prelude.{map};
+ghost use Rattle.std.specs.String.{string_bytes};
+ghost use Rattle.script_reading.specs.Seen.{call_seen};
+ghost use Rattle.constraint_trials.specs.Edited.{IsPromised};
+
+use crate::exchanges::try_exchanges;
+use constraint_edits::{Edit, edited, is_absurd};
+use constraint_trials::{Found, Group, Trial, are_sized, entries_behind, is_worth, put_choice};
+use domain_reasons::{choices_in, room_needed};
+use explanation_text::{Items, Kind};
+use std::alloc::{AllocError, Global};
+use story_parts::{Deed, asked_in};
+use value_sources::Asked;
+
+/// How many changes are told.
+const MOST: usize = 5;
+/// How many are tried.
+const TRIES: usize = 300;
+
+const LABELS: [&str; 5] = ["1.", "2.", "3.", "4.", "5."];
+
+/// What was found of changes so far.
+#[derive(Drop)]
+pub(crate) struct Search {
+    pub(crate) found: Items,
+    count: usize,
+    pub(crate) tried: usize,
+    /// How many help and can't be meant.
+    absurd: usize,
+    /// Whether sizes are asked for.
+    is_sized: bool,
+}
+
+impl Search {
+    /// Whether enough were found or tried.
+    pub(crate) fn is_done(&self) -> bool {
+        self.count >= MOST || self.tried >= TRIES
+    }
+
+    /// The label of one more that helps.
+    pub(crate) fn label(&mut self) -> &'static str {
+        let label = LABELS.get(self.count).copied().unwrap_or("");
+        self.count = self.count.saturating_add(1);
+        label
+    }
+}
+
+/// Tells the changes of one field of one participant with which the domain at a path would have
+/// settings, each with the decision that would come: the line of the report of the changed script;
+/// of one participant an entry put first, and of two the exchange. Says whether there is one.
+pub fn tell_changes(
+    items: &mut Items,
+    group: Group<'_, '_>,
+    index: usize,
+    edits: &[Edit],
+) -> Result<bool, AllocError> {
+    let mut search = Search {
+        found: Items::new(items.alloc()),
+        count: 0,
+        tried: 0,
+        absurd: 0,
+        is_sized: are_sized(group.people),
+    };
+    try_exchanges(&mut search, group, index, true)?;
+    try_room(&mut search, group, index)?;
+    for one in group.people {
+        try_entries(&mut search, group, one)?;
+    }
+    for edit in edits {
+        try_edit(&mut search, group, *edit)?;
+    }
+    try_exchanges(&mut search, group, index, false)?;
+    put_head(items, &search)?;
+    let count = search.count;
+    items.append(search.found)?;
+    Ok(count > 0)
+}
+
+/// Tries that more buffers are asked for in the domain to which one was attached, where those that were decided don't do.
+fn try_room(search: &mut Search, group: Group<'_, '_>, index: usize) -> Result<(), AllocError> {
+    let alloc = search.found.alloc();
+    let story = group.story;
+    let Some(count) = room_needed(alloc, story, index)? else {
+        return Ok(());
+    };
+    let Some(host) = story.domains.get(index).and_then(|domain| domain.host) else {
+        return Ok(());
+    };
+    let above = story.nodes.get(host).map_or(0, |node| node.domain);
+    let before = search.count;
+    for is_host in [true, false] {
+        for one in &asked_in(alloc, story, above, true)? {
+            if search.count == before && (one.node == host) == is_host {
+                try_one(search, group, one, Edit::LeastCount(count))?;
+            }
+        }
+    }
+    Ok(())
+}
+
+/// Tries to put an entry of a participant first, behind another that takes a pair of the platform
+/// which it takes, until one helps.
+fn try_entries(
+    search: &mut Search,
+    group: Group<'_, '_>,
+    one: &Asked<'_>,
+) -> Result<(), AllocError> {
+    let alloc = search.found.alloc();
+    let before = search.count;
+    for index in entries_behind(alloc, group.setting.platform, one)? {
+        if search.count == before && !search.is_done() {
+            try_one(search, group, one, Edit::EntryFirst(index))?;
+        }
+    }
+    Ok(())
+}
+
+/// Tries an edit of each participant's constraints.
+fn try_edit(search: &mut Search, group: Group<'_, '_>, edit: Edit) -> Result<(), AllocError> {
+    let story = group.story;
+    let has_groups = (0..story.nodes.len()).any(|node| story.is_group(node));
+    let few = if has_groups { group.people.len() } else { 1 };
+    for one in group.people {
+        if search.is_done() {
+            break;
+        }
+        if is_worth(edit, one, group.people, few) {
+            try_one(search, group, one, edit)?;
+        }
+    }
+    Ok(())
+}
+
+/// Tries an edit of a participant's constraints, if it has stated some.
+fn try_one(
+    search: &mut Search,
+    group: Group<'_, '_>,
+    one: &Asked<'_>,
+    edit: Edit,
+) -> Result<(), AllocError> {
+    let Some(number) = group.story.deed(one.node, Deed::SetConstraints) else {
+        return Ok(());
+    };
+    let trial = Trial {
+        setting: group.setting,
+        path: group.path,
+        place: number.saturating_sub(1),
+    };
+    try_change(search, group, trial, one, edit)
+}
+
+/// Tries an edit of a participant's constraints, and tells it where it helps.
+fn try_change(
+    search: &mut Search,
+    group: Group<'_, '_>,
+    trial: Trial<'_, '_>,
+    one: &Asked<'_>,
+    edit: Edit,
+) -> Result<(), AllocError> {
+    let alloc = search.found.alloc();
+    let Some(value) = one.stated else {
+        return Ok(());
+    };
+    let Some(change) = edited(alloc, value, edit, trial.setting.platform.heaps())? else {
+        return Ok(());
+    };
+    search.tried = search.tried.saturating_add(1);
+    let Some(line) = trial.outcome(alloc, &change.value)? else {
+        return Ok(());
+    };
+    let found = Found {
+        words: change.words,
+        line,
+        value: change.value,
+    };
+    let least = trial.least(alloc, value, edit, found)?;
+    if is_absurd(&least.line, search.is_sized) {
+        search.absurd = search.absurd.saturating_add(1);
+        return Ok(());
+    }
+    let who = group.who_changes(alloc, one, edit, &least.value)?;
+    let choice = choices_in(alloc, group.story, group.root, &least.line)?;
+    let label = search.label();
+    put_change(&mut search.found, trial, label, &who, least)?;
+    put_choice(&mut search.found, 3, choice)
+}
+
+fn put_head(items: &mut Items, search: &Search) -> Result<(), AllocError> {
+    let text = head_of(items.alloc(), search)?;
+    items.say(1, "change", text)
+}
+
+fn head_of(alloc: Global, search: &Search) -> Result<String, AllocError> {
+    let (tried, absurd) = (search.tried, search.absurd);
+    match search.count {
+        0 if absurd > 0 => format!(in alloc;
+            "none was found that helps alone, of {tried} that were tried, but {absurd} that leave a tiny image or a row long beyond measure"
+        ),
+        0 => format!(in alloc; "none was found that helps alone, of {tried} that were tried"),
+        1 => String::from_str(
+            alloc,
+            "this alone suffices (maybe not the only one that does):",
+        ),
+        _ => String::from_str(alloc, "each of these alone suffices:"),
+    }
+}
+
+/// Puts a change that was tried, and what it gives.
+fn put_change(
+    items: &mut Items,
+    trial: Trial<'_, '_>,
+    label: &'static str,
+    who: &str,
+    found: Found,
+) -> Result<(), AllocError>
+    requires { IsPromised trial.setting.now.platform.now
+        (map call_seen trial.setting.now.calls.now) trial.place trial.path.now
+        (string_bytes found.line) }
+{
+    let words = found.words.as_str();
+    let text = format!(in items.alloc(); "{who}: {words}")?;
+    items.say(2, label, text)?;
+    items.push(Kind::Decision, 3, "->", found.line)
+}

@@ -1,0 +1,180 @@
+//! The constraints of two participants exchanged, each of whom another decision asks otherwise.
+
+ghost use Rattle.std.specs.Prelude.{map, IfOk, IfSome};
+ghost use Rattle.std.specs.String.{string_bytes};
+ghost use Rattle.script_reading.specs.Seen.{call_seen};
+ghost use Rattle.constraint_trials.specs.Edited.{IsPromisedSo};
+
+use crate::changes::Search;
+use constraint_trials::{Group, Stated, chosen_with, put_choice, put_line, restated};
+use domain_reasons::{are_exchanged, choices_in};
+use script_story::Setting;
+use std::alloc::{AllocError, Global};
+use story_parts::{Deed, Story, asked_in};
+use value_sources::Asked;
+
+/// How many pairs of participants are tried.
+const MOST: usize = 24;
+
+/// Another participant, with the index of its domain.
+#[derive(Clone, Copy)]
+struct Partner<'a> {
+    one: Asked<'a>,
+    domain: usize,
+}
+
+/// Tries to exchange the constraints of a participant of the domain of an index and of another one, where that can make a difference: of those
+/// alone who seem to be exchanged if that is asked for, else of the others.
+pub(crate) fn try_exchanges(
+    search: &mut Search,
+    group: Group<'_, '_>,
+    index: usize,
+    are_meant: bool,
+) -> Result<(), AllocError> {
+    let story = group.story;
+    let partners = partners_in(search.found.alloc(), story)?;
+    let mut pairs = 0usize;
+    for one in group.people {
+        for partner in &partners {
+            if pairs >= MOST || search.is_done() {
+                return Ok(());
+            }
+            if can_matter(story, *one, *partner, index)
+                && are_exchanged(story, *one, partner.one) == are_meant
+            {
+                pairs = pairs.saturating_add(1);
+                try_exchange(search, group, *one, *partner)?;
+            }
+        }
+    }
+    Ok(())
+}
+
+/// All participants, by domain.
+fn partners_in<'a>(alloc: Global, story: &Story<'a>) -> Result<Vec<Partner<'a>>, AllocError> {
+    let mut partners = Vec::new(alloc);
+    for domain in 0..story.domains.len() {
+        for one in asked_in(alloc, story, domain, false)? {
+            partners.push(Partner { one, domain })?;
+        }
+    }
+    Ok(partners)
+}
+
+/// Whether a participant of the domain of an index can gain by another's constraints: in one domain only where one of them lies below a group, and
+/// each two once.
+fn can_matter(story: &Story<'_>, one: Asked<'_>, partner: Partner<'_>, index: usize) -> bool {
+    let other = partner.one;
+    partner.domain != index
+        || (one.node < other.node
+            && (is_below_group(story, one.node) || is_below_group(story, other.node)))
+}
+
+/// Whether a node lies below a group.
+fn is_below_group(story: &Story<'_>, node: usize) -> bool {
+    let mut at = Some(node);
+    for _level in 0..story.nodes.len() {
+        let Some(known) = at.and_then(|number| story.nodes.get(number)) else {
+            break;
+        };
+        at = known.parent;
+        if at.is_some_and(|parent| story.is_group(parent)) {
+            return true;
+        }
+    }
+    false
+}
+
+/// Tries to exchange the constraints of two participants, of which the other one's domain is to have settings too, and tells it where it helps.
+fn try_exchange(
+    search: &mut Search,
+    group: Group<'_, '_>,
+    one: Asked<'_>,
+    partner: Partner<'_>,
+) -> Result<(), AllocError> {
+    let alloc = search.found.alloc();
+    let Some(stated) = exchanged(alloc, group.story, one, partner.one)? else {
+        return Ok(());
+    };
+    search.tried = search.tried.saturating_add(1);
+    let Some(line) = outcome(alloc, group.setting, &stated, group.path)? else {
+        return Ok(());
+    };
+    let root = group
+        .story
+        .domains
+        .get(partner.domain)
+        .map_or(0, |known| known.root);
+    let path = group.story.path(root);
+    if outcome(alloc, group.setting, &stated, path)?.is_none() {
+        return Ok(());
+    }
+    tell_exchange(search, group, one, partner.one, line)
+}
+
+/// Tells that two participants' constraints exchanged help, and the decision that comes so.
+fn tell_exchange(
+    search: &mut Search,
+    group: Group<'_, '_>,
+    one: Asked<'_>,
+    other: Asked<'_>,
+    line: String,
+) -> Result<(), AllocError>
+    requires { IsPromisedSo group.setting.now.platform.now
+        (map call_seen group.setting.now.calls.now) group.path.now (string_bytes line) }
+{
+    let alloc = search.found.alloc();
+    let who = group.who(alloc, &one)?;
+    let whom = group.who(alloc, &other)?;
+    let text = format!(in alloc; "{who} and {whom}: their constraints exchanged")?;
+    let choice = choices_in(alloc, group.story, group.root, &line)?;
+    let label = search.label();
+    search.found.say(2, label, text)?;
+    put_line(&mut search.found, group, 3, line)?;
+    put_choice(&mut search.found, 3, choice)
+}
+
+/// What two participants' calls state once their constraints are exchanged; `None` where they are the same.
+fn exchanged(
+    alloc: Global,
+    story: &Story<'_>,
+    one: Asked<'_>,
+    other: Asked<'_>,
+) -> Result<Option<Vec<Stated>>, AllocError> {
+    let (Some(mine), Some(its)) = (one.stated, other.stated) else {
+        return Ok(None);
+    };
+    let first = story.deed(one.node, Deed::SetConstraints);
+    let second = story.deed(other.node, Deed::SetConstraints);
+    let (Some(first), Some(second)) = (first, second) else {
+        return Ok(None);
+    };
+    if one.asked.is_same(other.asked) {
+        return Ok(None);
+    }
+    let mut stated = Vec::new(alloc);
+    stated.push(Stated {
+        place: first.saturating_sub(1),
+        value: its.clone()?,
+    })?;
+    stated.push(Stated {
+        place: second.saturating_sub(1),
+        value: mine.clone()?,
+    })?;
+    Ok(Some(stated))
+}
+
+/// What the domain at a path becomes where calls state these constraints, if it is chosen then.
+fn outcome(
+    alloc: Global,
+    setting: &Setting<'_>,
+    stated: &[Stated],
+    path: &str,
+) -> Result<Option<String>, AllocError>
+    ensures { IfOk result (λ said. IfSome said (λ what. IsPromisedSo
+        setting.now.platform.now (map call_seen setting.now.calls.now) path.now
+        (string_bytes what))) }
+{
+    let calls = restated(alloc, setting.calls, stated)?;
+    chosen_with(alloc, setting, &calls, path)
+}
