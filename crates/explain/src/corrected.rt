@@ -7,7 +7,7 @@ use json_places::{begins_character, line_of};
 use record_faults::Document;
 use script_faults::tell_fault;
 use script_reading::{ParseFault, Script, ScriptFault, parse_script, read_script};
-use script_story::{Setting, story_of};
+use script_story::{Effort, Setting, story_of};
 use std::alloc::{AllocError, Global};
 use story_parts::refused_words;
 
@@ -211,9 +211,11 @@ fn tell_script<'a>(
     script: &Script<'a>,
 ) -> Result<(), AllocError> {
     let alloc = items.alloc();
+    let effort = Effort::new();
     let setting = Setting {
         platform: &script.platform,
         calls: &script.calls,
+        effort: &effort,
     };
     let told = setting.tell(alloc, &script.calls)?;
     if told.report.starved {

@@ -7,7 +7,7 @@ ghost use Rattle.script_reading.specs.Seen.{call_seen};
 ghost use Rattle.constraint_trials.specs.Edited.{IsPromised};
 
 use constraint_edits::{Edit, edited};
-use constraint_trials::{Trial, entry_place, line_at, put_choice, takes};
+use constraint_trials::{Group, Trial, entry_place, line_at, put_choice, takes};
 use domain_reasons::choices_in;
 use explanation_text::{Items, Kind};
 use json_places::Step;
@@ -16,7 +16,7 @@ use script_story::Setting;
 use settings_reasons::{holder_of, unused_entries};
 use std::alloc::{AllocError, Global};
 use std::fmt::Write;
-use story_parts::{Deed, Domain, Story, asked_in};
+use story_parts::{Deed, Story, asked_in};
 use sysmem_formats::{Modifier, Pair, PixelFormat};
 use value_sources::Asked;
 
@@ -25,8 +25,9 @@ const MOST: usize = 3;
 
 const ENTRIES: &str = "image_format_constraints";
 
-/// Tells which entries of the participants of a domain are never used since earlier ones hold for all that they take; of one that is chosen of
-/// those who are selected, and what would be chosen with such an entry first.
+/// Tells which entries of the participants of a domain are never used since earlier ones hold for
+/// all that they take; of one that is chosen of those who are selected, and what would be chosen
+/// with such an entry first.
 pub(crate) fn tell_unused(
     items: &mut Items,
     document: &Document<'_>,
@@ -34,47 +35,59 @@ pub(crate) fn tell_unused(
     story: &Story<'_>,
     index: usize,
 ) -> Result<(), AllocError> {
-    let Some(domain) = story.domains.get(index) else {
-        return Ok(());
-    };
-    let is_chosen = domain.verdict() == "chosen";
-    if !is_chosen && domain.verdict() != "empty" {
+    let verdict = verdict_of(story, index);
+    if verdict != "chosen" && verdict != "empty" {
         return Ok(());
     }
-    let people = asked_in(items.alloc(), story, index, is_chosen)?;
-    for one in &people {
-        tell_of(items, &*document, &*setting, &*story, domain, one)?;
+    let people = asked_in(items.alloc(), story, index, verdict == "chosen")?;
+    let root = story.domains.get(index).map_or(0, |domain| domain.root);
+    let group = Group {
+        document,
+        setting,
+        story,
+        path: story.path(root),
+        root,
+        people: &people,
+    };
+    tell_of_each(items, group, index)
+}
+
+/// The word of the report for what became of a domain, by index.
+fn verdict_of<'a>(story: &Story<'a>, index: usize) -> &'a str {
+    match story.domains.get(index) {
+        Some(domain) => domain.verdict(),
+        None => "",
+    }
+}
+
+/// What the report's line says of a domain, by index.
+fn told_of<'a>(story: &Story<'a>, index: usize) -> &'a str {
+    match story.domains.get(index) {
+        Some(domain) => domain.told,
+        None => "",
+    }
+}
+
+/// Tells which entries of each participant are never used.
+fn tell_of_each(items: &mut Items, group: Group<'_, '_>, index: usize) -> Result<(), AllocError> {
+    for one in group.people {
+        let teller = Teller {
+            group,
+            index,
+            one,
+            number: group.story.deed(one.node, Deed::SetConstraints).unwrap_or(0),
+        };
+        teller.tell(items)?;
     }
     Ok(())
 }
 
-/// Tells which entries of a participant are never used.
-fn tell_of<'a, 'b>(
-    items: &mut Items,
-    document: &'b Document<'a>,
-    setting: &'b Setting<'a>,
-    story: &'b Story<'a>,
-    domain: &'b Domain<'a>,
-    one: &'b Asked<'a>,
-) -> Result<(), AllocError> {
-    let teller = Teller {
-        document,
-        setting,
-        story,
-        domain,
-        one,
-        number: story.deed(one.node, Deed::SetConstraints).unwrap_or(0),
-    };
-    teller.tell(items)
-}
-
-/// A participant of a domain, with the number of the call that states its constraints.
+/// A participant of a group, with the index of its domain and the number of the call that states
+/// its constraints.
 #[derive(Clone, Copy)]
 struct Teller<'a, 'b> {
-    document: &'b Document<'a>,
-    setting: &'b Setting<'a>,
-    story: &'b Story<'a>,
-    domain: &'b Domain<'a>,
+    group: Group<'a, 'b>,
+    index: usize,
     one: &'b Asked<'a>,
     number: usize,
 }
@@ -92,7 +105,7 @@ impl Teller<'_, '_> {
         let entries = self.one.asked.entries();
         let mut tried: Vec<usize> = Vec::new(alloc);
         let mut told = 0usize;
-        for index in unused_entries(alloc, self.setting.platform, entries)? {
+        for index in unused_entries(alloc, self.group.setting.platform, entries)? {
             let Some(holder) = self.holder_of(index) else {
                 continue;
             };
@@ -117,7 +130,9 @@ impl Teller<'_, '_> {
         items.say(1, "note", text)?;
         let item = entry_place(self.one.stated, index).item;
         let is_own = item == entry_place(self.one.stated, holder.index).item;
-        if is_own || self.domain.verdict() != "chosen" || tried.contains(&item) {
+        let is_chosen = verdict_of(self.group.story, self.index) == "chosen";
+        let is_spent = self.group.setting.effort.is_spent();
+        if is_own || !is_chosen || is_spent || tried.contains(&item) {
             return Ok(());
         }
         tried.push(item)?;
@@ -130,13 +145,13 @@ impl Teller<'_, '_> {
         let Some(value) = self.one.stated else {
             return Ok(());
         };
-        let heaps = self.setting.platform.heaps();
+        let heaps = self.group.setting.platform.heaps();
         let Some(change) = edited(alloc, value, Edit::EntryFirst(item), heaps)? else {
             return Ok(());
         };
         let trial = Trial {
-            setting: self.setting,
-            path: self.story.path(self.domain.root),
+            setting: self.group.setting,
+            path: self.group.path,
             place: self.number.saturating_sub(1),
         };
         let (name, number) = (self.one.name, self.number);
@@ -148,13 +163,13 @@ impl Teller<'_, '_> {
             text.push_str("nothing would be chosen")?;
             return items.say(1, "then", text);
         };
-        if line.as_str() == self.domain.told {
+        if line.as_str() == told_of(self.group.story, self.index) {
             text.push_str("the decision would be the same")?;
             return items.say(1, "then", text);
         }
         text.push_str("it would be:")?;
         items.say(1, "then", text)?;
-        let choice = choices_in(alloc, self.story, self.domain.root, &line)?;
+        let choice = choices_in(alloc, self.group.story, self.group.root, &line)?;
         put_promised(items, trial, line)?;
         put_choice(items, 2, choice)
     }
@@ -163,7 +178,7 @@ impl Teller<'_, '_> {
     /// it.
     fn holder_of(&self, index: usize) -> Option<Holder> {
         let entry = self.one.asked.entries().get(index)?;
-        let pairs = self.setting.platform.pairs();
+        let pairs = self.group.setting.platform.pairs();
         let pair = pairs.iter().copied().find(|pair| takes(entry, *pair))?;
         let index = holder_of(self.one.asked.entries(), pair)?;
         Some(Holder { index, pair })
@@ -203,7 +218,7 @@ impl Teller<'_, '_> {
             Step::Key(ENTRIES),
             Step::Item(place.item),
         ];
-        if let Some(line) = line_at(alloc, self.document, &path, Part::Value)? {
+        if let Some(line) = line_at(alloc, self.group.document, &path, Part::Value)? {
             write!(text, ", line {line}")?;
         }
         text.push_str(")")

@@ -10,7 +10,7 @@ use other_outcomes::tell_moved;
 use record_faults::Document;
 use script_faults::{tell_fault, tell_no_json};
 use script_reading::{ParseFault, Script, ScriptFault, parse_script, read_script};
-use script_story::{Setting, story_of};
+use script_story::{Effort, Setting, story_of};
 use serde_json::Value;
 use std::alloc::{AllocError, Global};
 use story_parts::{Story, refused_calls, tell_refused};
@@ -118,9 +118,11 @@ fn explain_script<'a>(
     document: &Document<'a>,
     script: &Script<'a>,
 ) -> Result<Explanation, AllocError> {
+    let effort = Effort::new();
     let setting = Setting {
         platform: &script.platform,
         calls: &script.calls,
+        effort: &effort,
     };
     let told = setting.tell(alloc, &script.calls)?;
     if told.report.starved {

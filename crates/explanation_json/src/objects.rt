@@ -12,7 +12,7 @@ use explain::{Explanation, Outcome};
 use explanation_text::Item;
 use record_faults::Document;
 use script_reading::{ParseFault, Script, parse_script, read_script};
-use script_story::{Setting, story_of};
+use script_story::{Effort, Setting, story_of};
 use serde_json::Value;
 use std::alloc::{AllocError, Global};
 
@@ -61,9 +61,11 @@ fn played_objects<'a>(
     ensures { IfOk result (λ text. IsToldBy (item_texts explanation.now.items.items)
         (string_bytes text)) }
 {
+    let effort = Effort::new();
     let setting = Setting {
         platform: &script.platform,
         calls: &script.calls,
+        effort: &effort,
     };
     let told = setting.tell(alloc, &script.calls)?;
     if told.report.starved {

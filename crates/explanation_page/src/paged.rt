@@ -4,7 +4,7 @@ use crate::proofs::proofs_of;
 use explanation_markup::page_of;
 use explanation_text::Item;
 use script_reading::{ParseFault, Script, parse_script, read_script};
-use script_story::{Setting, story_of};
+use script_story::{Effort, Setting, story_of};
 use serde_json::Value;
 use std::alloc::{AllocError, Global};
 use story_drawing::drawing_of;
@@ -37,9 +37,11 @@ fn drawn_page<'a>(
     script: &Script<'a>,
     items: &[Item],
 ) -> Result<String, AllocError> {
+    let effort = Effort::new();
     let setting = Setting {
         platform: &script.platform,
         calls: &script.calls,
+        effort: &effort,
     };
     let told = setting.tell(alloc, &script.calls)?;
     if told.report.starved {

@@ -1,4 +1,5 @@
-//! What is told, as text: lines of at most 100 columns, but for source lines and decisions.
+//! What is told, as text: lines of at most 100 columns, but for source lines and decisions, and for
+//! words that stand far in.
 
 use crate::items::{Item, Kind};
 use crate::wording::{put_repeated, width_of};
@@ -6,6 +7,8 @@ use std::alloc::{AllocError, Global};
 
 /// How wide a line is.
 const WIDTH: usize = 100;
+/// How many columns words have at least, however far in they stand.
+const LEAST: usize = 40;
 /// How wide the labels are that stand in a column.
 const LABEL: usize = 6;
 
@@ -97,7 +100,8 @@ fn put_words(
     let most = WIDTH
         .saturating_sub(indent)
         .saturating_sub(label)
-        .saturating_sub(2);
+        .saturating_sub(2)
+        .max(LEAST);
     let parts: Vec<&str> = words.split(' ').collect(*text.allocator())?;
     let mut used = 0usize;
     for (k, word) in parts.iter().enumerate() {

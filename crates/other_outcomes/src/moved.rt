@@ -39,6 +39,7 @@ pub fn tell_moved(
     let wider = Setting {
         platform: setting.platform,
         calls: &script.calls,
+        effort: setting.effort,
     };
     let told = wider.tell(alloc, &script.calls)?;
     if told.report.starved {

@@ -20,7 +20,7 @@ pub fn tell_without(
 ) -> Result<(), AllocError> {
     let alloc = items.alloc();
     let awaited = who_holds_up(alloc, story, index)?;
-    if awaited.is_empty() {
+    if awaited.is_empty() || setting.effort.is_spent() {
         return Ok(());
     }
     let Some(calls) = without(alloc, setting, story, &awaited)? else {

@@ -102,6 +102,7 @@ pub(crate) fn outcome_on(
     let other = Setting {
         platform: &platform,
         calls: setting.calls,
+        effort: setting.effort,
     };
     match other.outcome(alloc, setting.calls, path)? {
         Some(line) if line.as_str().starts_with("chosen ") => Ok(Some(line)),

@@ -28,8 +28,13 @@ use sysmem_search::{NoGate, prove, search};
 use sysmem_tree::{DomainId, Path, Tree};
 
 /// An optimal verdict of the first domain that waits, without what proves it; `None` where memory
-/// is refused.
-pub(crate) fn claim_for(alloc: Global, book: &Book, domain: DomainId) -> Option<Arc<Claim>>
+/// is refused. The prefixes that its search visits are added to those visited before.
+pub(crate) fn claim_for(
+    alloc: Global,
+    book: &Book,
+    domain: DomainId,
+    visits: &mut u64,
+) -> Option<Arc<Claim>>
     requires next { next_ready book.now.state ≡ Some domain }
     requires waits { MayWait book.now.state.tree domain }
     ensures { Allows book.now.platform book.now.state (Decided (record {
@@ -44,6 +49,7 @@ pub(crate) fn claim_for(alloc: Global, book: &Book, domain: DomainId) -> Option<
     let Ok(found) = search(alloc, platform, book.tree(), domain, base.as_ref(), &NoGate) else {
         return None;
     };
+    *visits = visits.saturating_add(found.visits);
     let claim = Claim {
         verdict: found.verdict,
         proof: Proof::Nothing,

@@ -21,6 +21,8 @@ use sysmem_sanitise::Platform;
 #[derive(Debug, Drop)]
 pub struct Replayed {
     pub report: Report,
+    /// How many prefixes its searches visited, at most `u64::MAX`.
+    pub visits: u64,
     runner: Runner,
 }
 
@@ -48,6 +50,7 @@ impl Replayed {
     {
         let Replayed {
             report,
+            visits: _visits,
             runner: _runner,
         } = self;
         report
@@ -62,8 +65,12 @@ pub fn replay(alloc: Global, platform: Platform, calls: &[Call<'_>]) -> Result<R
     ensures leaves { IfOk result (λ replayed. LeavesIn platform (map call_seen calls.now)
         (string_bytes replayed.report.text) (end_of replayed)) }
 {
-    match replayed_of(alloc, platform, calls, &mut Searching) {
-        Ok(replayed) => Ok(replayed),
+    let mut searching = Searching::new();
+    match replayed_of(alloc, platform, calls, &mut searching) {
+        Ok(mut replayed) => {
+            replayed.visits = searching.visits();
+            Ok(replayed)
+        }
         Err(_) => Err(AllocError),
     }
 }
@@ -99,5 +106,9 @@ pub(crate) fn replayed_of<D: Decider>(
         text,
         starved: runner.is_starved(),
     };
-    Ok(Replayed { report, runner })
+    Ok(Replayed {
+        report,
+        visits: 0,
+        runner,
+    })
 }

@@ -109,7 +109,7 @@ impl Runner {
     pub(crate) fn reply_to(&mut self, alloc: Global, call: &Call<'_>) -> Result<Reply, Stop> {
         let answered = self.answer(alloc, call)?;
         let mut unsaid = String::new(alloc);
-        self.decide_waiting(alloc, &mut Searching, &mut unsaid)?;
+        self.decide_waiting(alloc, &mut Searching::new(), &mut unsaid)?;
         Ok(answered)
     }
 

@@ -71,7 +71,7 @@ pub fn run_leaving<R: Source, W: Sink>(
         (W.failures writer.old) (W.failures writer.new) }
 {
     let bytes = read_up_to_limit(alloc, reader, LONGEST)?;
-    let report = report_leaving(alloc, bytes, &mut Searching, left)?;
+    let report = report_leaving(alloc, bytes, &mut Searching::new(), left)?;
     write_fully(writer, report.text.as_bytes())?;
     if report.starved {
         return Ok(Ended::MemoryRefused);

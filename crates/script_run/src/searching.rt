@@ -13,7 +13,20 @@ use sysmem_tree::DomainId;
 /// Searches for each verdict, and asks for no proof. Where memory is refused to a search, that is
 /// the decision.
 #[derive(Drop)]
-pub(crate) struct Searching;
+pub(crate) struct Searching {
+    visits: u64,
+}
+
+impl Searching {
+    pub(crate) fn new() -> Searching {
+        Searching { visits: 0 }
+    }
+
+    /// How many prefixes its searches visited so far, at most `u64::MAX`.
+    pub(crate) fn visits(&self) -> u64 {
+        self.visits
+    }
+}
 
 impl Decider for Searching {
     ghost gave = { λ _ platform decisions. ⊤ };
@@ -28,6 +41,6 @@ impl Decider for Searching {
         book: &Book,
         domain: DomainId,
     ) -> Result<Option<Arc<Claim>>, Stop> {
-        Ok(claim_for(alloc, book, domain))
+        Ok(claim_for(alloc, book, domain, &mut self.visits))
     }
 }

@@ -7,9 +7,11 @@
 //! ```
 #![tactic(auto)]
 
+mod effort;
 mod setting;
 mod telling;
 mod words;
 
+pub use effort::Effort;
 pub use setting::Setting;
 pub use telling::story_of;

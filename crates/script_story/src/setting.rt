@@ -9,17 +9,19 @@ ghost use Rattle.script_run.specs.Replayed.{LeavesIn, end_of};
 ghost use Rattle.script_run.specs.Report.{IsReported};
 ghost use Rattle.script_story.specs.Told.{IsReportedOn, line_on};
 
+use crate::effort::Effort;
 use crate::words::said_on;
 use script_reading::Call;
 use script_run::{Replayed, replay};
 use std::alloc::{AllocError, Global};
 use sysmem_sanitise::Platform;
 
-/// A script's platform and its calls.
+/// A script's platform and its calls, with what its runs cost so far.
 #[derive(Clone, Copy)]
 pub struct Setting<'a> {
     pub platform: &'a Platform,
     pub calls: &'a [Call<'a>],
+    pub effort: &'a Effort,
 }
 
 impl<'a> Setting<'a> {
@@ -32,11 +34,14 @@ impl<'a> Setting<'a> {
             (map call_seen calls.now) (string_bytes told.report.text) (end_of told)) }
     {
         let platform = self.platform.copy()?;
-        replay(alloc, platform, calls)
+        let told = replay(alloc, platform, calls)?;
+        self.effort.spend(told.visits);
+        Ok(told)
     }
 
     /// What the report of these calls says last of the domain at a path; `None` where it has no line
-    /// on it. `AllocError` also where memory was refused in a reply or a decision.
+    /// on it, and where nothing more is to be tried. `AllocError` also where memory was refused in a
+    /// reply or a decision.
     pub fn outcome(
         &self,
         alloc: Global,
@@ -46,6 +51,9 @@ impl<'a> Setting<'a> {
         ensures { IfOk result (λ said. IfSome said (λ what. IsReportedOn self.now.platform.now
             (map call_seen calls.now) path.now (string_bytes what))) }
     {
+        if self.effort.is_spent() {
+            return Ok(None);
+        }
         let told = self.tell(alloc, calls)?;
         if told.report.starved {
             return Err(AllocError);

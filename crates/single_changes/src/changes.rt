@@ -10,6 +10,7 @@ use constraint_edits::{Edit, edited, is_absurd};
 use constraint_trials::{Found, Group, Trial, are_sized, entries_behind, is_worth, put_choice};
 use domain_reasons::{choices_in, room_needed};
 use explanation_text::{Items, Kind};
+use script_story::Effort;
 use std::alloc::{AllocError, Global};
 use story_parts::{Deed, asked_in};
 use value_sources::Asked;
@@ -35,8 +36,8 @@ pub(crate) struct Search {
 
 impl Search {
     /// Whether enough were found or tried.
-    pub(crate) fn is_done(&self) -> bool {
-        self.count >= MOST || self.tried >= TRIES
+    pub(crate) fn is_done(&self, effort: &Effort) -> bool {
+        self.count >= MOST || self.tried >= TRIES || effort.is_spent()
     }
 
     /// The label of one more that helps.
@@ -72,7 +73,7 @@ pub fn tell_changes(
         try_edit(&mut search, group, *edit)?;
     }
     try_exchanges(&mut search, group, index, false)?;
-    put_head(items, &search)?;
+    put_head(items, &search, group.setting.effort)?;
     let count = search.count;
     items.append(search.found)?;
     Ok(count > 0)
@@ -110,7 +111,7 @@ fn try_entries(
     let alloc = search.found.alloc();
     let before = search.count;
     for index in entries_behind(alloc, group.setting.platform, one)? {
-        if search.count == before && !search.is_done() {
+        if search.count == before && !search.is_done(group.setting.effort) {
             try_one(search, group, one, Edit::EntryFirst(index))?;
         }
     }
@@ -123,7 +124,7 @@ fn try_edit(search: &mut Search, group: Group<'_, '_>, edit: Edit) -> Result<(),
     let has_groups = (0..story.nodes.len()).any(|node| story.is_group(node));
     let few = if has_groups { group.people.len() } else { 1 };
     for one in group.people {
-        if search.is_done() {
+        if search.is_done(group.setting.effort) {
             break;
         }
         if is_worth(edit, one, group.people, few) {
@@ -187,8 +188,11 @@ fn try_change(
     put_choice(&mut search.found, 3, choice)
 }
 
-fn put_head(items: &mut Items, search: &Search) -> Result<(), AllocError> {
-    let text = head_of(items.alloc(), search)?;
+fn put_head(items: &mut Items, search: &Search, effort: &Effort) -> Result<(), AllocError> {
+    let mut text = head_of(items.alloc(), search)?;
+    if search.count == 0 && effort.is_spent() {
+        text.push_str("; to try more would take long")?;
+    }
     items.say(1, "change", text)
 }
 

@@ -36,7 +36,7 @@ pub(crate) fn try_exchanges(
     let mut pairs = 0usize;
     for one in group.people {
         for partner in &partners {
-            if pairs >= MOST || search.is_done() {
+            if pairs >= MOST || search.is_done(group.setting.effort) {
                 return Ok(());
             }
             if can_matter(story, *one, *partner, index)
