@@ -15,6 +15,7 @@ mod exchanged;
 mod failing;
 mod passed_over;
 mod selecting;
+mod short;
 
 pub use answer::answer_of;
 pub use awaiting::who_holds_up;
@@ -22,3 +23,4 @@ pub use domains::tell_domain;
 pub use exchanged::are_exchanged;
 pub use failing::{accepted_before, room_needed};
 pub use selecting::choices_in;
+pub use short::tell_in_short;

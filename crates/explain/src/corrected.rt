@@ -1,6 +1,6 @@
 //! What a script means once each text in it is corrected that nearly is a known one.
 
-use domain_reasons::answer_of;
+use domain_reasons::tell_in_short;
 use explanation_text::wording::{put_joined, put_visible};
 use explanation_text::{Item, Items, Kind};
 use json_places::{begins_character, line_of};
@@ -9,7 +9,6 @@ use script_faults::tell_fault;
 use script_reading::{ParseFault, Script, ScriptFault, parse_script, read_script};
 use script_story::{Effort, Setting, story_of};
 use std::alloc::{AllocError, Global};
-use story_parts::refused_words;
 
 /// A text of the script, by the bytes between its quotes, and the one that it may mean.
 #[derive(Drop)]
@@ -222,11 +221,7 @@ fn tell_script<'a>(
         return Err(AllocError);
     }
     let story = story_of(alloc, document.value, &script.calls, &told)?;
-    items.say(2, "", answer_of(alloc, &story)?)?;
-    for words in refused_words(alloc, &story)? {
-        items.say(2, "", words)?;
-    }
-    Ok(())
+    tell_in_short(items, &script.platform, &story)
 }
 
 /// Tells that a script is refused, and for what.

@@ -7,7 +7,7 @@ ghost use Rattle.script_reading.specs.Seen.{call_seen};
 ghost use Rattle.constraint_trials.specs.Edited.{IsPromised};
 
 use constraint_edits::{Edit, edited};
-use constraint_trials::{Group, Trial, entry_place, line_at, put_choice, takes};
+use constraint_trials::{Trial, entry_place, line_at, put_choice, takes};
 use domain_reasons::choices_in;
 use explanation_text::{Items, Kind};
 use json_places::Step;
@@ -40,16 +40,30 @@ pub(crate) fn tell_unused(
         return Ok(());
     }
     let people = asked_in(items.alloc(), story, index, verdict == "chosen")?;
-    let root = story.domains.get(index).map_or(0, |domain| domain.root);
-    let group = Group {
+    for one in &people {
+        tell_of(items, &*document, &*setting, &*story, index, one)?;
+    }
+    Ok(())
+}
+
+/// Tells which entries of a participant are never used.
+fn tell_of<'a, 'b>(
+    items: &mut Items,
+    document: &'b Document<'a>,
+    setting: &'b Setting<'a>,
+    story: &'b Story<'a>,
+    index: usize,
+    one: &'b Asked<'a>,
+) -> Result<(), AllocError> {
+    let teller = Teller {
         document,
         setting,
         story,
-        path: story.path(root),
-        root,
-        people: &people,
+        index,
+        one,
+        number: story.deed(one.node, Deed::SetConstraints).unwrap_or(0),
     };
-    tell_of_each(items, group, index)
+    teller.tell(items)
 }
 
 /// The word of the report for what became of a domain, by index.
@@ -68,25 +82,18 @@ fn told_of<'a>(story: &Story<'a>, index: usize) -> &'a str {
     }
 }
 
-/// Tells which entries of each participant are never used.
-fn tell_of_each(items: &mut Items, group: Group<'_, '_>, index: usize) -> Result<(), AllocError> {
-    for one in group.people {
-        let teller = Teller {
-            group,
-            index,
-            one,
-            number: group.story.deed(one.node, Deed::SetConstraints).unwrap_or(0),
-        };
-        teller.tell(items)?;
-    }
-    Ok(())
+/// The root of a domain, by index.
+fn root_of(story: &Story<'_>, index: usize) -> usize {
+    story.domains.get(index).map_or(0, |domain| domain.root)
 }
 
-/// A participant of a group, with the index of its domain and the number of the call that states
-/// its constraints.
+/// A participant of the domain of an index, with the number of the call that states its
+/// constraints.
 #[derive(Clone, Copy)]
 struct Teller<'a, 'b> {
-    group: Group<'a, 'b>,
+    document: &'b Document<'a>,
+    setting: &'b Setting<'a>,
+    story: &'b Story<'a>,
     index: usize,
     one: &'b Asked<'a>,
     number: usize,
@@ -105,7 +112,7 @@ impl Teller<'_, '_> {
         let entries = self.one.asked.entries();
         let mut tried: Vec<usize> = Vec::new(alloc);
         let mut told = 0usize;
-        for index in unused_entries(alloc, self.group.setting.platform, entries)? {
+        for index in unused_entries(alloc, self.setting.platform, entries)? {
             let Some(holder) = self.holder_of(index) else {
                 continue;
             };
@@ -130,8 +137,8 @@ impl Teller<'_, '_> {
         items.say(1, "note", text)?;
         let item = entry_place(self.one.stated, index).item;
         let is_own = item == entry_place(self.one.stated, holder.index).item;
-        let is_chosen = verdict_of(self.group.story, self.index) == "chosen";
-        let is_spent = self.group.setting.effort.is_spent();
+        let is_chosen = verdict_of(self.story, self.index) == "chosen";
+        let is_spent = self.setting.effort.is_spent();
         if is_own || !is_chosen || is_spent || tried.contains(&item) {
             return Ok(());
         }
@@ -142,16 +149,17 @@ impl Teller<'_, '_> {
     /// Tells what would be decided with an entry of the record, from 0, before the others.
     fn tell_first(&self, items: &mut Items, item: usize) -> Result<(), AllocError> {
         let alloc = items.alloc();
+        let root = root_of(self.story, self.index);
         let Some(value) = self.one.stated else {
             return Ok(());
         };
-        let heaps = self.group.setting.platform.heaps();
+        let heaps = self.setting.platform.heaps();
         let Some(change) = edited(alloc, value, Edit::EntryFirst(item), heaps)? else {
             return Ok(());
         };
         let trial = Trial {
-            setting: self.group.setting,
-            path: self.group.path,
+            setting: self.setting,
+            path: self.story.path(root),
             place: self.number.saturating_sub(1),
         };
         let (name, number) = (self.one.name, self.number);
@@ -163,13 +171,13 @@ impl Teller<'_, '_> {
             text.push_str("nothing would be chosen")?;
             return items.say(1, "then", text);
         };
-        if line.as_str() == told_of(self.group.story, self.index) {
+        if line.as_str() == told_of(self.story, self.index) {
             text.push_str("the decision would be the same")?;
             return items.say(1, "then", text);
         }
         text.push_str("it would be:")?;
         items.say(1, "then", text)?;
-        let choice = choices_in(alloc, self.group.story, self.group.root, &line)?;
+        let choice = choices_in(alloc, self.story, root, &line)?;
         put_promised(items, trial, line)?;
         put_choice(items, 2, choice)
     }
@@ -178,7 +186,7 @@ impl Teller<'_, '_> {
     /// it.
     fn holder_of(&self, index: usize) -> Option<Holder> {
         let entry = self.one.asked.entries().get(index)?;
-        let pairs = self.group.setting.platform.pairs();
+        let pairs = self.setting.platform.pairs();
         let pair = pairs.iter().copied().find(|pair| takes(entry, *pair))?;
         let index = holder_of(self.one.asked.entries(), pair)?;
         Some(Holder { index, pair })
@@ -218,7 +226,7 @@ impl Teller<'_, '_> {
             Step::Key(ENTRIES),
             Step::Item(place.item),
         ];
-        if let Some(line) = line_at(alloc, self.group.document, &path, Part::Value)? {
+        if let Some(line) = line_at(alloc, self.document, &path, Part::Value)? {
             write!(text, ", line {line}")?;
         }
         text.push_str(")")

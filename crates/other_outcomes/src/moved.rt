@@ -5,7 +5,7 @@ ghost use Rattle.std.specs.String.{string_bytes};
 ghost use Rattle.script_reading.specs.declared.call.Call.{Call as Called};
 ghost use Rattle.other_outcomes.specs.Moved.{IsMoved, IsPromisedMoved, moving};
 
-use domain_reasons::{answer_of, tell_domain};
+use domain_reasons::tell_in_short;
 use explanation_text::{Items, Kind};
 use script_reading::{Call, ParseFault, read_script};
 use script_run::Replayed;
@@ -13,10 +13,7 @@ use script_story::{Setting, story_of};
 use serde_json::Value;
 use std::alloc::{AllocError, Global};
 use std::fmt::Write;
-use story_parts::{Move, Story, moves_in, refused_words};
-
-/// How many lines are told of a domain.
-const MOST: usize = 8;
+use story_parts::{Move, Story, moves_in};
 
 /// Tells what would be refused and pending next, and what each domain would be, once the calls that stand too early are moved.
 pub fn tell_moved(
@@ -73,46 +70,7 @@ fn tell_story(
     put_moves(&mut text, moves)?;
     text.push_str(" the script has, its calls numbered anew:")?;
     items.say(1, "then", text)?;
-    items.say(2, "", answer_of(alloc, then)?)?;
-    for words in refused_words(alloc, then)? {
-        items.say(2, "", words)?;
-    }
-    for index in 0..then.domains.len() {
-        tell_next(items, setting, then, index)?;
-    }
-    Ok(())
-}
-
-/// Tells why a domain has no settings then, in a few lines.
-fn tell_next(
-    items: &mut Items,
-    setting: &Setting<'_>,
-    then: &Story<'_>,
-    index: usize,
-) -> Result<(), AllocError> {
-    let is_chosen = match then.domains.get(index) {
-        Some(domain) => domain.verdict() == "chosen",
-        None => true,
-    };
-    if is_chosen {
-        return Ok(());
-    }
-    let mut section = Items::new(items.alloc());
-    tell_domain(&mut section, setting.platform, then, index)?;
-    let mut told = 0usize;
-    for item in section.into_list() {
-        if item.kind == Kind::Title || item.label == "who" || told >= MOST {
-            continue;
-        }
-        told = told.saturating_add(1);
-        items.push(
-            item.kind,
-            item.depth.saturating_add(1),
-            item.label,
-            item.text,
-        )?;
-    }
-    Ok(())
+    tell_in_short(items, setting.platform, then)
 }
 
 /// Puts which calls are moved after a text: `call 5 moved after call 6`.

@@ -151,7 +151,7 @@ impl<L: Ledger> Room<L> {
     /// brings; or answers the tree's first refusal, and then nothing has changed. A node that is
     /// made gets a part of the count, and where it is the root of a domain, the domain gets the
     /// fresh cell. It takes no memory.
-    pub fn enter(
+    pub(crate) fn enter(
         &mut self,
         event: Event,
         fresh: Option<FreshCell>,
