@@ -43,22 +43,27 @@ pub fn put_count(text: &mut String, count: usize, one: &str, many: &str) -> Resu
     write!(text, "{count} {word}")
 }
 
-/// Whether a character can't be seen, or steers a terminal or the direction of writing.
+/// The first and the last of each run of characters that can't be seen, or that steer a terminal or the direction of writing.
+const UNSEEN: [(u32, u32); 11] = [
+    (0, 0x1F),
+    (0x7F, 0x9F),
+    (0xAD, 0xAD),
+    (0x61C, 0x61C),
+    (0x180E, 0x180E),
+    (0x200B, 0x200F),
+    (0x2028, 0x202E),
+    (0x2060, 0x206F),
+    (0xFEFF, 0xFEFF),
+    (0xFFF9, 0xFFFB),
+    (0xE0000, 0xE007F),
+];
+
+/// Whether a character is one of these.
 fn is_unseen(c: char) -> bool {
-    matches!(
-        u32::from(c),
-        0..=0x1F
-            | 0x7F..=0x9F
-            | 0xAD
-            | 0x61C
-            | 0x180E
-            | 0x200B..=0x200F
-            | 0x2028..=0x202E
-            | 0x2060..=0x206F
-            | 0xFEFF
-            | 0xFFF9..=0xFFFB
-            | 0xE0000..=0xE007F
-    )
+    let code = u32::from(c);
+    UNSEEN
+        .iter()
+        .any(|(first, last)| *first <= code && code <= *last)
 }
 
 /// Puts a text after another, each of its characters as one that can be seen: a tab as a space, and others as U+FFFD.
