@@ -233,7 +233,7 @@ fn put_bound(
     }
     write!(
         text,
-        ": decided was {}{}",
+        ", but {}{} was decided before",
         how(field),
         amount_at(&settings.bounds, field)
     )
