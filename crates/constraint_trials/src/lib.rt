@@ -15,6 +15,7 @@ mod group;
 mod promising;
 mod restating;
 mod trying;
+mod unmet;
 mod worth;
 
 pub use entries::{EntryPlace, entries_behind, entry_place, takes};
@@ -22,4 +23,5 @@ pub use group::{Group, line_at};
 pub use promising::{put_choice, put_line};
 pub use restating::{Stated, restated};
 pub use trying::{Found, MOST_HALVINGS, Trial, chosen_with};
+pub use unmet::{has_groups, leaves_none};
 pub use worth::{are_sized, is_worth};

@@ -7,7 +7,9 @@ ghost use Rattle.script_reading.specs.Seen.{call_seen};
 ghost use Rattle.script_story.specs.Told.{IsReportedOn};
 ghost use Rattle.constraint_trials.specs.Edited.{IsPromised, stating};
 
-use constraint_edits::{Edit, Halving, is_absurd};
+use crate::group::Group;
+use crate::unmet::{has_groups, least_met};
+use constraint_edits::{Changed, Edit, Halving, is_absurd};
 use script_reading::{Act, Call};
 use script_story::Setting;
 use serde_json::Value;
@@ -46,8 +48,37 @@ impl Trial<'_, '_> {
         chosen_with(alloc, self.setting, &calls, self.path)
     }
 
-    /// The least change of the field that an edit leaves out, where leaving it out does.
+    /// The least change of the field that an edit leaves out, where leaving it out does, for the
+    /// domain of a group.
     pub fn least(
+        &self,
+        alloc: Global,
+        group: Group<'_, '_>,
+        value: &Value,
+        edit: Edit,
+        found: Found,
+    ) -> Result<Found, AllocError>
+        requires { IsPromised self.now.setting.now.platform.now
+            (map call_seen self.now.setting.now.calls.now) self.now.place self.now.path.now
+            (string_bytes found.line) }
+        ensures { IfOk result (λ best. IsPromised self.now.setting.now.platform.now
+            (map call_seen self.now.setting.now.calls.now) self.now.place self.now.path.now
+            (string_bytes best.line)) }
+    {
+        if has_groups(group.story) {
+            return self.least_run(alloc, value, edit, found);
+        }
+        let Some(change) = least_met(alloc, group, self.place, value, edit, &found.line)? else {
+            return Ok(found);
+        };
+        match self.promised(alloc, change)? {
+            Some(least) => Ok(least),
+            None => self.least_run(alloc, value, edit, found),
+        }
+    }
+
+    /// The same, where each change is run.
+    fn least_run(
         &self,
         alloc: Global,
         value: &Value,
@@ -70,22 +101,29 @@ impl Trial<'_, '_> {
                 break;
             };
             let change = halving.changed(alloc, value, amount)?;
-            let Some(line) = self.outcome(alloc, &change.value)? else {
-                halving.learn(amount, false);
-                continue;
-            };
-            let does = !is_absurd(&line, false);
-            halving.learn(amount, does);
-            if !does {
-                continue;
+            let told = self.promised(alloc, change)?;
+            halving.learn(amount, told.is_some());
+            if let Some(least) = told {
+                best = least;
             }
-            best = Found {
+        }
+        Ok(best)
+    }
+
+    /// A change with the decision that comes then, if one is chosen that may be meant.
+    fn promised(&self, alloc: Global, change: Changed) -> Result<Option<Found>, AllocError>
+        ensures { IfOk result (λ told. IfSome told (λ found. IsPromised
+            self.now.setting.now.platform.now (map call_seen self.now.setting.now.calls.now)
+            self.now.place self.now.path.now (string_bytes found.line))) }
+    {
+        match self.outcome(alloc, &change.value)? {
+            Some(line) if !is_absurd(&line, false) => Ok(Some(Found {
                 words: change.words,
                 line,
                 value: change.value,
-            };
+            })),
+            _ => Ok(None),
         }
-        Ok(best)
     }
 }
 

@@ -9,5 +9,6 @@
 
 mod parts;
 mod together;
+mod walk;
 
 pub use together::tell_together;

@@ -1,5 +1,6 @@
 //! Changes that are made together.
 
+use crate::walk::Run;
 use constraint_edits::{Amount, Changed, Edit, edited, edited_to};
 use serde_json::Value;
 use std::alloc::{AllocError, Global};
@@ -30,15 +31,11 @@ impl Part {
     }
 }
 
-/// The parts without that of an index.
-pub(crate) fn all_but(
-    alloc: Global,
-    parts: &[Part],
-    index: usize,
-) -> Result<Vec<Part>, AllocError> {
+/// The parts without those of a run.
+pub(crate) fn all_but(alloc: Global, parts: &[Part], run: Run) -> Result<Vec<Part>, AllocError> {
     let mut others = Vec::new(alloc);
     for (k, part) in parts.iter().enumerate() {
-        if k != index {
+        if k < run.start || run.end <= k {
             others.push(*part)?;
         }
     }

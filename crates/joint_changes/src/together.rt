@@ -6,9 +6,11 @@ ghost use Rattle.script_reading.specs.Seen.{call_seen};
 ghost use Rattle.constraint_trials.specs.Edited.{IsPromisedSo};
 
 use crate::parts::{Part, after, all_but, set_amount};
+use crate::walk::Walk;
 use constraint_edits::{Edit, Halving, edited, is_absurd};
 use constraint_trials::{
-    Group, MOST_HALVINGS, Stated, are_sized, chosen_with, is_worth, put_choice, put_line, restated,
+    Group, MOST_HALVINGS, Stated, are_sized, chosen_with, is_worth, leaves_none, put_choice,
+    put_line, restated,
 };
 use domain_reasons::choices_in;
 use explanation_text::{Items, Kind};
@@ -19,6 +21,8 @@ use story_parts::Deed;
 const MOST: usize = 96;
 /// How many may lack a format or a colour space that they are to take.
 const FEW: usize = 2;
+/// How often changes are taken back at most.
+const MOST_STEPS: usize = 1024;
 /// How many changes together are told.
 const TOLD: usize = 6;
 
@@ -119,7 +123,8 @@ impl Joint<'_, '_> {
         Ok(Some(likely))
     }
 
-    /// What is left of changes that help together, once each is taken back without which the rest do: from the last on, or from the first.
+    /// What is left of changes that help together, once each is taken back without which the rest
+    /// do: from the last on, or from the first. Several are taken back at once as long as that goes.
     fn needed(
         &self,
         alloc: Global,
@@ -127,16 +132,16 @@ impl Joint<'_, '_> {
         from_last: bool,
     ) -> Result<Vec<Part>, AllocError> {
         let mut kept = Vec::from_slice(alloc, all)?;
-        let mut at = if from_last { all.len() } else { 0 };
-        for _part in 0..all.len() {
-            if from_last {
-                at = at.saturating_sub(1);
-            }
-            let others = all_but(alloc, &kept, at)?;
-            if self.outcome(alloc, &others)?.is_some() {
+        let mut walk = Walk::over(all.len(), from_last);
+        for _step in 0..MOST_STEPS {
+            let Some(run) = walk.next(kept.len()) else {
+                break;
+            };
+            let others = all_but(alloc, &kept, run)?;
+            let does = self.outcome(alloc, &others)?.is_some();
+            walk.learn(run, does);
+            if does {
                 kept = others;
-            } else if !from_last {
-                at = at.saturating_add(1);
             }
         }
         Ok(kept)
@@ -192,6 +197,9 @@ impl Joint<'_, '_> {
             self.now.group.path.now (string_bytes what))) }
     {
         let stated = self.stated(alloc, parts)?;
+        if leaves_none(alloc, self.group, &stated)? {
+            return Ok(None);
+        }
         let calls = restated(alloc, self.group.setting.calls, &stated)?;
         match chosen_with(alloc, self.group.setting, &calls, self.group.path)? {
             Some(line) if !is_absurd(&line, false) => Ok(Some(line)),

@@ -7,11 +7,15 @@ ghost use Rattle.constraint_trials.specs.Edited.{IsPromised};
 
 use crate::exchanges::try_exchanges;
 use constraint_edits::{Edit, edited, is_absurd};
-use constraint_trials::{Found, Group, Trial, are_sized, entries_behind, is_worth, put_choice};
+use constraint_trials::{
+    Found, Group, Stated, Trial, are_sized, entries_behind, has_groups, is_worth, leaves_none,
+    put_choice,
+};
 use domain_reasons::{choices_in, room_needed};
 use explanation_text::{Items, Kind};
 use script_story::Effort;
 use std::alloc::{AllocError, Global};
+use std::slice::from_ref;
 use story_parts::{Deed, asked_in};
 use value_sources::Asked;
 
@@ -120,9 +124,11 @@ fn try_entries(
 
 /// Tries an edit of each participant's constraints.
 fn try_edit(search: &mut Search, group: Group<'_, '_>, edit: Edit) -> Result<(), AllocError> {
-    let story = group.story;
-    let has_groups = (0..story.nodes.len()).any(|node| story.is_group(node));
-    let few = if has_groups { group.people.len() } else { 1 };
+    let few = if has_groups(group.story) {
+        group.people.len()
+    } else {
+        1
+    };
     for one in group.people {
         if search.is_done(group.setting.effort) {
             break;
@@ -168,15 +174,22 @@ fn try_change(
         return Ok(());
     };
     search.tried = search.tried.saturating_add(1);
-    let Some(line) = trial.outcome(alloc, &change.value)? else {
+    let stated = Stated {
+        place: trial.place,
+        value: change.value,
+    };
+    if leaves_none(alloc, group, from_ref(&stated))? {
+        return Ok(());
+    }
+    let Some(line) = trial.outcome(alloc, &stated.value)? else {
         return Ok(());
     };
     let found = Found {
         words: change.words,
         line,
-        value: change.value,
+        value: stated.value,
     };
-    let least = trial.least(alloc, value, edit, found)?;
+    let least = trial.least(alloc, group, value, edit, found)?;
     if is_absurd(&least.line, search.is_sized) {
         search.absurd = search.absurd.saturating_add(1);
         return Ok(());

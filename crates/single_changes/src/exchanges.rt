@@ -6,7 +6,7 @@ ghost use Rattle.script_reading.specs.Seen.{call_seen};
 ghost use Rattle.constraint_trials.specs.Edited.{IsPromisedSo};
 
 use crate::changes::Search;
-use constraint_trials::{Group, Stated, chosen_with, put_choice, put_line, restated};
+use constraint_trials::{Group, Stated, chosen_with, leaves_none, put_choice, put_line, restated};
 use domain_reasons::{are_exchanged, choices_in};
 use script_story::Setting;
 use std::alloc::{AllocError, Global};
@@ -97,6 +97,9 @@ fn try_exchange(
         return Ok(());
     };
     search.tried = search.tried.saturating_add(1);
+    if leaves_none(alloc, group, &stated)? {
+        return Ok(());
+    }
     let Some(line) = outcome(alloc, group.setting, &stated, group.path)? else {
         return Ok(());
     };
