@@ -247,6 +247,6 @@ fn how(field: Field) -> &'static str {
         | Field::MaxBytesPerRow
         | Field::RequiredMinSize
         | Field::MaxWidthTimesHeight => "at most ",
-        _ => "multiples of ",
+        _ => "a multiple of ",
     }
 }
