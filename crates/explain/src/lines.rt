@@ -161,63 +161,68 @@ fn lines_of(
 ) -> Result<String, AllocError> {
     let mut text = String::new(alloc);
     let call = number.saturating_sub(1);
+    let path = [
+        Step::Key("calls"),
+        Step::Item(call),
+        Step::Key("constraints"),
+    ];
+    let span = document.span(alloc, &path, Part::Value)?;
+    let (Some(value), Some(span)) = (document.at(&path), span) else {
+        return Ok(text);
+    };
+    let record = Document {
+        file: document.file,
+        bytes: span.within(document.bytes),
+        value,
+    };
+    let begin = line_of(document.bytes, span.start.min(document.bytes.len()));
     for field in FIELDS {
         if is_named(told, field) {
-            put_lines(&mut text, document, call, field)?;
+            put_lines(&mut text, &record, begin, field)?;
         }
     }
     Ok(text)
 }
 
-/// Puts in which lines the constraints of a call state a field after a text.
+/// Puts in which lines constraints, which begin in a line of the text, state a field after a text.
 fn put_lines(
     text: &mut String,
-    document: &Document<'_>,
-    call: usize,
+    record: &Document<'_>,
+    begin: usize,
     field: &str,
 ) -> Result<(), AllocError> {
-    let calls = Step::Key("calls");
-    let record = Step::Key("constraints");
-    let own = [calls, Step::Item(call), record, Step::Key(field)];
-    put_line(text, document, &own, field, 0)?;
-    let memory = [
-        calls,
-        Step::Item(call),
-        record,
-        Step::Key("buffer_memory_constraints"),
-        Step::Key(field),
-    ];
-    put_line(text, document, &memory, field, 0)?;
+    put_line(text, record, begin, &[Step::Key(field)], field, 0)?;
+    let memory = [Step::Key("buffer_memory_constraints"), Step::Key(field)];
+    put_line(text, record, begin, &memory, field, 0)?;
     for entry in 0..MOST_ENTRIES {
         let path = [
-            calls,
-            Step::Item(call),
-            record,
             Step::Key("image_format_constraints"),
             Step::Item(entry),
             Step::Key(field),
         ];
-        put_line(text, document, &path, field, entry)?;
+        put_line(text, record, begin, &path, field, entry)?;
     }
     Ok(())
 }
 
-/// Puts in which line the member at a path stands after a text, if there is one; an entry but the
-/// first is named.
+/// Puts in which line the member at a path of constraints stands, which begin in a line of the
+/// text, after a text, if there is one; an entry but the first is named.
 fn put_line(
     text: &mut String,
-    document: &Document<'_>,
+    record: &Document<'_>,
+    begin: usize,
     path: &[Step<'_>],
     field: &str,
     entry: usize,
 ) -> Result<(), AllocError> {
-    if document.at(path).is_none() {
+    if record.at(path).is_none() {
         return Ok(());
     }
-    let Some(span) = document.span(*text.allocator(), path, Part::Key)? else {
+    let Some(span) = record.span(*text.allocator(), path, Part::Key)? else {
         return Ok(());
     };
-    let line = line_of(document.bytes, span.start.min(document.bytes.len()));
+    let within = line_of(record.bytes, span.start.min(record.bytes.len()));
+    let line = begin.saturating_add(within).saturating_sub(1);
     if !text.is_empty() {
         text.push_str(", ")?;
     }

@@ -6,7 +6,7 @@ ghost use Rattle.script_reading.specs.Seen.{call_seen};
 ghost use Rattle.constraint_trials.specs.Edited.{IsPromisedSo};
 
 use crate::parts::{Part, after, all_but, set_amount};
-use crate::walk::Walk;
+use crate::walk::{Run, Walk};
 use constraint_edits::{Edit, Halving, edited, is_absurd};
 use constraint_trials::{
     Group, MOST_HALVINGS, Stated, are_sized, chosen_with, is_worth, leaves_none, put_choice,
@@ -15,6 +15,7 @@ use constraint_trials::{
 use domain_reasons::choices_in;
 use explanation_text::{Items, Kind};
 use std::alloc::{AllocError, Global};
+use std::mem;
 use story_parts::Deed;
 
 /// How many changes are made at once at most.
@@ -71,6 +72,17 @@ fn tell_parts(
         joint.lessen(alloc, &mut parts, index)?;
     }
     joint.tell(items, &parts, before)
+}
+
+/// Exchanges what some calls state with what others say that the same calls state.
+fn exchange(stated: &mut [Stated], others: &mut [Stated]) {
+    for other in others {
+        for one in &mut *stated {
+            if one.place == other.place {
+                mem::swap(&mut one.value, &mut other.value);
+            }
+        }
+    }
 }
 
 /// Changes made together, for those of a group.
@@ -132,19 +144,36 @@ impl Joint<'_, '_> {
         from_last: bool,
     ) -> Result<Vec<Part>, AllocError> {
         let mut kept = Vec::from_slice(alloc, all)?;
+        let mut stated = self.stated(alloc, &kept)?;
         let mut walk = Walk::over(all.len(), from_last);
         for _step in 0..MOST_STEPS {
             let Some(run) = walk.next(kept.len()) else {
                 break;
             };
             let others = all_but(alloc, &kept, run)?;
-            let does = self.outcome(alloc, &others)?.is_some();
+            let mut trial = self.stated_without(alloc, &kept, run, &others)?;
+            exchange(&mut stated, &mut trial);
+            let does = self.chosen(alloc, &stated)?.is_some();
             walk.learn(run, does);
             if does {
                 kept = others;
+            } else {
+                exchange(&mut stated, &mut trial);
             }
         }
         Ok(kept)
+    }
+
+    /// What is stated once the parts of a run are taken back, by those whose parts they are.
+    fn stated_without(
+        &self,
+        alloc: Global,
+        parts: &[Part],
+        run: Run,
+        others: &[Part],
+    ) -> Result<Vec<Stated>, AllocError> {
+        let some = parts.get(run.start..run.end).unwrap_or(&[]);
+        self.stated_by(alloc, some, others)
     }
 
     /// Finds the least change of the part of an index with which all do still.
@@ -197,10 +226,20 @@ impl Joint<'_, '_> {
             self.now.group.path.now (string_bytes what))) }
     {
         let stated = self.stated(alloc, parts)?;
-        if leaves_none(alloc, self.group, &stated)? {
+        self.chosen(alloc, &stated)
+    }
+
+    /// What the domain becomes where calls state these constraints, if it is chosen then with a row
+    /// that may be meant.
+    fn chosen(&self, alloc: Global, stated: &[Stated]) -> Result<Option<String>, AllocError>
+        ensures { IfOk result (λ said. IfSome said (λ what. IsPromisedSo
+            self.now.group.setting.now.platform.now (map call_seen self.now.group.setting.now.calls.now)
+            self.now.group.path.now (string_bytes what))) }
+    {
+        if leaves_none(alloc, self.group, stated)? {
             return Ok(None);
         }
-        let calls = restated(alloc, self.group.setting.calls, &stated)?;
+        let calls = restated(alloc, self.group.setting.calls, stated)?;
         match chosen_with(alloc, self.group.setting, &calls, self.group.path)? {
             Some(line) if !is_absurd(&line, false) => Ok(Some(line)),
             _ => Ok(None),
@@ -209,6 +248,16 @@ impl Joint<'_, '_> {
 
     /// The constraints of each participant after some changes.
     fn stated(&self, alloc: Global, parts: &[Part]) -> Result<Vec<Stated>, AllocError> {
+        self.stated_by(alloc, parts, parts)
+    }
+
+    /// The constraints after some changes of each participant of whom there is one of others.
+    fn stated_by(
+        &self,
+        alloc: Global,
+        others: &[Part],
+        parts: &[Part],
+    ) -> Result<Vec<Stated>, AllocError> {
         let mut stated = Vec::new(alloc);
         for (person, one) in self.group.people.iter().enumerate() {
             let Some(number) = self.group.story.deed(one.node, Deed::SetConstraints) else {
@@ -217,7 +266,7 @@ impl Joint<'_, '_> {
             let Some(value) = one.stated else {
                 continue;
             };
-            if parts.iter().any(|part| part.person == person) {
+            if others.iter().any(|part| part.person == person) {
                 let place = number.saturating_sub(1);
                 let heaps = self.group.setting.platform.heaps();
                 let value = after(alloc, value, person, parts, heaps)?;
