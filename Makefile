@@ -1,8 +1,8 @@
 # Mezulobu: the two commands are `make run FILE=examples/NAME.json` and `make test`.
 PROGRAM := crates/sysmem_replay
 FILE ?= examples/one_participant.json
-# How many proofs the gate makes side by side: one a processor, where each has 4 GB of memory. Each is made by one process, which takes about a
-# third less processor time than several.
+# How many proofs the gate makes side by side: one a processor, where each has 4 GB of memory. Each
+# is made by one process, which takes about a third less processor time than several.
 JOBS ?= $(shell awk -v n=$$(nproc) '/^MemAvailable/ { m = int($$2 / 4000000); print m < 1 ? 1 : m < n ? m : n }' /proc/meminfo)
 
 .PHONY: run proved test program-test built-test wrong-bodies bench lib install lib-test
@@ -16,11 +16,16 @@ proved:
 	cd $(PROGRAM) && rt run -- run $(abspath examples/one_participant.json)
 	cd crates/played_handles && rt run -- data/attached.json
 
-# The whole gate: every proof, the must-fail edits, the tests, the program. A kit that keeps what passed proves only what changed the next time.
+# The whole gate: every proof, the must-fail edits, the tests, the program. A kit that keeps what
+# passed proves only what changed the next time.
 test:
 	RT_JOBS=$(JOBS) rt ci
 
-# Tests of the proved program as a whole (they need a C compiler and Python): reports, in lines and as objects, refusals, records, worked values, small trees beside each of their selections, participants in each order of their calls, certificates and their checks, files that fail, each allocation refused in turn, scripts played through handles, scripts on threads, and explanations.
+# Tests of the proved program as a whole (they need a C compiler and Python): reports, in lines
+# and as objects, refusals, records, worked values, small trees beside each of their selections,
+# participants in each order of their calls, certificates and their checks, files that fail, each
+# allocation refused in turn, scripts played through handles, scripts on threads, and
+# explanations.
 program-test: proved
 	@$(MAKE) --no-print-directory built-test
 
@@ -45,7 +50,8 @@ built-test:
 	tests/json_explanations
 	@$(MAKE) --no-print-directory lib-test
 
-# The library for C, C++ and Python, proved, as an archive and as a shared object, in out/. It needs a C compiler and binutils.
+# The library for C, C++ and Python, proved, as an archive and as a shared object, in out/. It
+# needs a C compiler and binutils.
 lib:
 	c/archive
 	@$(MAKE) --no-print-directory -f c/lib.mk
@@ -58,11 +64,13 @@ install: lib
 lib-test:
 	tests/library
 
-# Wrong bodies beyond those of the gate, each of which the prover must refuse. Of a crate the functions that they change are checked, and the crates below it are built.
+# Wrong bodies beyond those of the gate, each of which the prover must refuse. Of a crate the
+# functions that they change are checked, and the crates below it are built.
 wrong-bodies:
 	tests/wrong_bodies
 
-# Times the proved program beside the reading of the same bytes as a JSON value, and calls on small and large trees; counts instructions of runs, certificates and checks.
+# Times the proved program beside the reading of the same bytes as a JSON value, and calls on
+# small and large trees; counts instructions of runs, certificates and checks.
 bench: proved
 	cd crates/repeated_decisions && rt run -- data/groups_share_nv12.json read,search,together,add,settle,prove,check,write,serialise 3
 	bench/run

@@ -1,6 +1,7 @@
-// negotiation: times mezulobu_negotiate of three participants, mezulobu_run of a script in which the same participants ask for the same, and a merge of the same
-// fields that is written by hand. Each gives the same settings, which is tested. A time is the processor's, and the least of several rounds, in which the three
-// take turns. It prints three times in nanoseconds.
+// negotiation: times mezulobu_negotiate of three participants, mezulobu_run of a script in which
+// the same participants ask for the same, and a merge of the same fields that is written by hand.
+// Each gives the same settings, which is tested. A time is the processor's, and the least of
+// several rounds, in which the three take turns. It prints three times in nanoseconds.
 //
 // usage: negotiation SCRIPT COUNT SIZE
 #define _POSIX_C_SOURCE 200809L
@@ -35,7 +36,8 @@ static const struct mezulobu_participant participants[] = {
 };
 #define PARTICIPANTS 3
 
-// ---- The merge by hand: the same fields of the same structs, without tiles, and without what none of the three asks for beside sizes, rows and alignments ----
+// ---- The merge by hand: the same fields of the same structs, without tiles, and without what none
+// of the three asks for beside sizes, rows and alignments ----
 
 struct merged {
     uint32_t min_w, min_h, max_w, max_h, align_w, align_h, min_pitch, max_pitch, divisor;

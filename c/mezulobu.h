@@ -295,10 +295,10 @@ const char *mezulobu_field_name(uint32_t field);
  * such format or modifier here, where tiles don't go with the format, or where the bytes don't fit 64 bits: layout is as it
  * was then. MISUSED.
  *
- * It demands a pitch and a height as settings have them, and tests neither: a pitch of at least a row's pixels, which is a multiple of 512 of
- * X tiles and of 128 of Y tiles, and of NV12, P010, I420 and YV12 is even, as is their height. With others the call is DONE all the
- * same: halves are rounded down then, and no plane ends after bytes, but DRM wouldn't take it. The height of tiles may be any: rows
- * has what the last tile adds. */
+ * It demands a pitch and a height as settings have them, and tests neither: a pitch of at least a row's pixels,
+ * which is a multiple of 512 of X tiles and of 128 of Y tiles, and of NV12, P010, I420 and YV12 is even, as is their
+ * height. With others the call is DONE all the same: halves are rounded down then, and no plane ends after bytes,
+ * but DRM wouldn't take it. The height of tiles may be any: rows has what the last tile adds. */
 int mezulobu_planes(uint32_t format, uint64_t modifier, uint32_t pitch, uint32_t height, struct mezulobu_layout *layout);
 
 /* The name of a status, as "TOO_SMALL"; "?" of a number that is none. */

@@ -1,6 +1,8 @@
-// compositor: the start-up of a compositor. A renderer, a display and a recorder share the images that are shown. Ways to show them are tried from the best on;
-// where one has no settings, the refusal says who is in the way and in which field. Then the buffers are made, here by memfd_create in place of a driver's
-// allocator, and each is imported as a dma-buf is, by the offset and the pitch of its plane.
+// compositor: the start-up of a compositor. A renderer, a display and a recorder share the images
+// that are shown. Ways to show them are tried from the best on; where one has no settings, the
+// refusal says who is in the way and in which field. Then the buffers are made, here by
+// memfd_create in place of a driver's allocator, and each is imported as a dma-buf is, by the
+// offset and the pitch of its plane.
 //
 // cc compositor.c $(pkg-config --cflags --libs mezulobu) -o compositor && ./compositor
 #define _GNU_SOURCE
@@ -17,7 +19,8 @@
 enum { RENDERER, DISPLAY, RECORDER, EVERYBODY };
 static const char *const names[EVERYBODY] = {"renderer", "display", "recorder"};
 
-// A way to show the output: what the buffers are to hold, the greatest pitch that the display reads, and how large the images are at least.
+// A way to show the output: what the buffers are to hold, the greatest pitch that the display
+// reads, and how large the images are at least.
 struct way {
     const char *name;
     uint64_t modifier;

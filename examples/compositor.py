@@ -1,5 +1,7 @@
 #!/usr/bin/env python3
-"""The start-up of compositor.c in Python, which needs the shared object alone: its structs are the header's, with the members in the same order.
+"""The start-up of compositor.c in Python, which needs the shared object alone.
+
+Its structs are the header's, with the members in the same order.
 
 usage: compositor.py [LIBRARY]
 """
