@@ -1,6 +1,7 @@
 mod Asking
 mod Counting
 mod Disputing
+mod Fewer
 mod Foreseeing
 mod Lacking
 mod Logs

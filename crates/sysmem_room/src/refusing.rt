@@ -87,6 +87,7 @@ pub(crate) fn unforeseen(known: Option<&Outcome>, kind: ActionKind, refusal: Ref
         → IsAnswer None (option_map (λ o. o.now) known.entry) kind result }
     ensures same { IsUnforeseen (option_map (λ o. o.now) known.entry) kind refusal
         → result ≡ refusal }
+    ensures told { result ≢ Refusal.Strange → result ≡ refusal }
 {
     match (refusal, known) {
         (Refusal::TooManyNodes, _) if kind.makes().is_some() => Refusal::TooManyNodes,

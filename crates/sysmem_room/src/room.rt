@@ -7,7 +7,7 @@ ghost use Rattle.sysmem_alloc.specs.Entry.{Acted, Decided};
 ghost use Rattle.sysmem_alloc.specs.Frozen.{IsStill, frozen_of};
 ghost use Rattle.sysmem_alloc.specs.State.{next_ready};
 ghost use Rattle.sysmem_proof.specs.Claim.{IsTrueClaim};
-ghost use Rattle.sysmem_room.specs.Agreeing.{IsAsKnown, IsOwn, book_log};
+ghost use Rattle.sysmem_room.specs.Agreeing.{IsAsKnown, IsOwn, IsRefusedByBook, book_log};
 ghost use Rattle.sysmem_room.specs.Counting.{actions_in, all_parts, nodes_by};
 ghost use Rattle.sysmem_room.specs.Lacking.{without_memory};
 ghost use Rattle.sysmem_room.specs.Log.{shown_by};
@@ -255,8 +255,8 @@ impl<L: Ledger> Room<L> {
     /// verdict, as `enter` does. It is refused with `Strange` where the book has no node at the
     /// path that was made as the log says, other actions there than the log, or another verdict
     /// than the one that is known; else with what is due by what the handle knows; else with what
-    /// it can't foresee, or with `Strange` where the handle's verdict has its node as a member, and
-    /// the book left it out.
+    /// the book refuses it for, which the handle can't foresee, or with `Strange` where the
+    /// handle's verdict has its node as a member, and the book left it out.
     pub fn act(
         &mut self,
         path: &[u32],
@@ -277,12 +277,17 @@ impl<L: Ledger> Room<L> {
             → IsOwn self.old path.now log.now (option_map (λ o. o.now) known.entry) node
             → IsDisputed self.old path.now (option_map (λ o. o.now) known.entry) node) }
         ensures unchanged { OnErr result (self.new ≡ self.old) }
+        ensures few { OnOk result ((shown_by log.now).state.children < 128) }
         ensures foreseen { OnOk result (due (option_map (λ o. o.now) known.entry) path.now
             (shown_by log.now).state (kind_of (deed_of action)) ≡ None) }
         ensures answers { IfErr result (λ refusal. refusal ≢ Refusal.Strange
             → IsAnswer (due (option_map (λ o. o.now) known.entry) path.now
             (shown_by log.now).state (kind_of (deed_of action)))
             (option_map (λ o. o.now) known.entry) (kind_of (deed_of action)) refusal) }
+        ensures told { IfErr result (λ refusal. refusal ≢ Refusal.Strange
+            → due (option_map (λ o. o.now) known.entry) path.now (shown_by log.now).state
+            (kind_of (deed_of action)) ≡ None → IsRefusedByBook self.old path.now log.now
+            (option_map (λ o. o.now) known.entry) (deed_of action) refusal) }
         ensures parts { mine.new.parts ≡ mine.old.parts }
         ensures counted { OnOk result (mine.new.amount ≡ mine.old.amount + 1) }
         ensures uncounted { OnErr result (mine.new.amount ≡ mine.old.amount) }
@@ -297,6 +302,7 @@ impl<L: Ledger> Room<L> {
         if let Some(refusal) = due(known, path, log.state(), kind) {
             return Err(refusal);
         }
+        self.book.tree().recall_sound();
         self.book.recall_legal();
         legal_agrees();
         match self.enter(Event { node, action }, fresh, mine) {

@@ -3,10 +3,12 @@ use Rattle.std.proofs.Common.{◌≡◌, ◌∙◌, ap, rules, subst, sym}
 use Rattle.std.specs.Prelude.{Err, None, Some, option_map}
 use Rattle.sysmem_alloc.specs.Book.{IsBook}
 use Rattle.sysmem_tree.specs.ActionKind.{deed_of, kind_of}
+use Rattle.sysmem_tree.specs.Nodes.{IsTree}
 use Rattle.sysmem_tree.specs.Tree.{applied}
 use Rattle.sysmem_room.specs.Log.{shown_by}
 use Rattle.sysmem_room.specs.Refusals.{IsUnforeseen, due}
 use Rattle.sysmem_room.proofs.Disputing.{agrees_of, never_due, strange_disputes}
+use Rattle.sysmem_room.proofs.Fewer.{few_logged}
 use Rattle.sysmem_room.proofs.room.Room.act.Goals as goal
 
 pub returns-in-Some-due-clause-strange : goal.returns-in-Some-due-clause-strange
@@ -26,3 +28,8 @@ returns-in-Err-clause-strange g c = λ strange node own.
     strange_disputes c.args.self.now c.args.path.now state deed c.in-Err.refusal c.unforeseen.result known c.in-Some.node node (agrees_of c.legal_agrees.ensures c.args.self.now legal)
     c.in-Some.ensures.there c.in-Some.ensures.own.state c.in-Some.ensures.own.agrees.verdict c.in-Some.ensures.own.agrees.at own.agrees.at none_due refused
     (λ late. c.unforeseen.ensures.same (subst (λ k. IsUnforeseen known k c.in-Err.refusal) (sym c.kind-kind.ensures) late)) strange
+
+pub returns-in-Ok-clause-few : goal.returns-in-Ok-clause-few
+returns-in-Ok-clause-few g c =
+    let tree : IsTree c.args.self.now.state.tree.nodes = search rules in
+    few_logged c.args.self.now.state.tree.nodes c.in-Some.node (shown_by c.args.log.now).state tree c.in-Some.ensures.there c.in-Some.ensures.own.state
