@@ -13,7 +13,8 @@ use std::fmt::Write;
 /// How long the text may be, in bytes, in which calls are looked for: for each it is gone through.
 const LONGEST: usize = 262_144;
 
-/// Puts where lines of the script stand, what is said of them and what helps into an object, as the lines tell it.
+/// Puts where lines of the script stand, what is said of them and what helps into an object, as the
+/// lines tell it.
 pub(crate) fn put_source(
     object: &mut Object,
     scene: &Scene<'_, '_>,
