@@ -109,7 +109,8 @@ fn push_members(
     Ok(())
 }
 
-/// The nodes of a domain, with their kinds and whether they set constraints, as a copy of the tree has them.
+/// The nodes of a domain, with their kinds and whether they set constraints, as a copy of the tree
+/// has them.
 pub(super) fn shape(
     alloc: Global,
     text: &mut String,
