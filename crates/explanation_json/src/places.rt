@@ -70,7 +70,7 @@ fn place_value(
     Ok(place.into_value())
 }
 
-/// What stands behind the carets of a line.
+/// What stands after the carets of a line.
 fn note_in(marked: &str) -> &str {
     match marked.split_once('^') {
         Some((_, more)) => more.trim_start_matches('^').trim_start(),

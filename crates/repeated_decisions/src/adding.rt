@@ -78,7 +78,7 @@ fn participants(alloc: Global, platform: &Platform, tree: &Tree) -> Result<Vec<N
     Ok(tree.participants(domain, prefix.choices())?)
 }
 
-/// The selection of these children, of the groups behind them the first ones.
+/// The selection of these children, of the groups after them the first ones.
 fn selection_by(tree: &Tree, domain: DomainId, choices: &[u8]) -> Prefix
     requires { HasDomain tree.now.nodes domain }
     ensures { IsPrefix (forest_of by_number tree.now.nodes domain []) result }

@@ -1,4 +1,4 @@
-//! Numbers, names and words, each put behind the text so far.
+//! Numbers, names and words, each put after the text so far.
 
 use std::alloc::{AllocError, Global};
 use std::fmt::Write;

@@ -160,7 +160,7 @@ fn with_audit(lines: Lines, audit: Audit) -> Result<String, AllocError>
     Ok(text)
 }
 
-/// Puts the line of an audit behind the text.
+/// Puts the line of an audit after the text.
 fn put_audit(text: &mut String, audit: Audit) -> Result<(), AllocError>
     ensures { Puts result text.old text.new (audit_line audit) }
 {

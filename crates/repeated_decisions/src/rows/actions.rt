@@ -33,7 +33,7 @@ fn cpu(alloc: Global) -> Result<Constraints> {
     }
 }
 
-/// Writes behind a text how each domain stands.
+/// Writes after a text how each domain stands.
 pub(super) fn push_domains(text: &mut String, tree: &Tree) -> Result<(), AllocError> {
     text.push(' ')?;
     for index in 0..tree.domain_count() {
