@@ -1,4 +1,5 @@
-//! A camera and an encoder share buffers, each on a thread of its own; later a recorder is let in, on a third.
+//! A camera and an encoder share buffers, each on a thread of its own; later a recorder is let in,
+//! on a third.
 #![tactic(auto)]
 
 mod asking;

@@ -41,7 +41,8 @@ struct Part<L: Ledger> {
     stub: Stub<L>,
 }
 
-/// A camera and an encoder take part in one collection of buffers, and a recorder is let in once they have their buffers.
+/// A camera and an encoder take part in one collection of buffers, and a recorder is let in once
+/// they have their buffers.
 pub(crate) fn share<L: Ledger + Send + Sync, R: Threads + Wait + Sync>(
     rt: &R,
     alloc: Global,
@@ -90,7 +91,8 @@ pub(crate) fn share<L: Ledger + Send + Sync, R: Threads + Wait + Sync>(
     }
 }
 
-/// What somebody was told who was let in late, if anybody was; what is left of the handle comes to the others' stubs.
+/// What somebody was told who was let in late, if anybody was; what is left of the handle comes to
+/// the others' stubs.
 fn told_to<L: Ledger>(
     stubs: &mut Vec<Stub<L>>,
     late: Option<Part<L>>,

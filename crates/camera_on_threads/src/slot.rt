@@ -7,7 +7,8 @@ use std::thread::Threads;
 use sysmem_participants::Token;
 use sysmem_search::NoGate;
 
-/// A place where one thread leaves a token and another takes it. A closure can't own a token, since a token has to be spent, and a closure may be let go.
+/// A place where one thread leaves a token and another takes it. A closure can't own a token, since
+/// a token has to be spent, and a closure may be let go.
 pub(crate) struct Slot<L: Ledger> {
     offer: Mutex<Offer<L>>,
     changed: Condvar,

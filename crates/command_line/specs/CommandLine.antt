@@ -1,5 +1,6 @@
 -- The command line: what clap is given of it, and which job its entries ask for.
-use Rattle.std.specs.Prelude.{◌≡◌, ◌⊎◌, Bool, List, [], ◌∷◌, true, false, Option, Some, None, Result, Ok, Err, codes, option_map}
+use Rattle.std.specs.Prelude.{◌≡◌, ◌⊎◌, Bool, List, [], ◌∷◌, true, false, Option, Some, None, Result, Ok, Err, codes}
+use Rattle.std.specs.Prelude.{option_map}
 use Rattle.std.specs.Option.{option_map_or}
 use Rattle.std.specs.Str.{bytes_eq}
 use Rattle.clap.specs.declared.builder.action.ArgAction.TheVariants.{SetTrue}
@@ -49,7 +50,8 @@ page_rule = record (new_rule (codes "page")) { long = Some (codes "page"); value
 
 -- explain FILE [--json] [--strict] [--page OUT]
 abbrev pub explain_app : App
-explain_app = with_rule (with_rule (with_rule (with_rule (new_app (codes "explain")) file_rule) json_rule) strict_rule) page_rule
+explain_app =
+    with_rule (with_rule (with_rule (with_rule (new_app (codes "explain")) file_rule) json_rule) strict_rule) page_rule
 
 -- PROOF, which has to be there
 abbrev pub certificate_rule : Rule
@@ -120,14 +122,16 @@ IsCheckOf entries file proof =
 abbrev pub AsksForJob : Text × List Row → Job → Type 0
 AsksForJob entries (Run file is_json proof) = IsRunOf entries file.now is_json (option_map (λ s. s.now) proof)
 AsksForJob entries (Threads file) = IsThreadsOf entries file.now
-AsksForJob entries (Explain file is_json page is_strict) = IsExplainOf entries file.now is_json (option_map (λ s. s.now) page) is_strict
+AsksForJob entries (Explain file is_json page is_strict) =
+    IsExplainOf entries file.now is_json (option_map (λ s. s.now) page) is_strict
 AsksForJob entries (Check file proof) = IsCheckOf entries file.now proof.now
 
 -- they are no job's
 pub record AsksForNone (entries : Text × List Row) : Type 0 where
   pub run : (file : Text) (is_json : Bool) (proof : Option Text) → ¬ IsRunOf entries file is_json proof
   pub threads : (file : Text) → ¬ IsThreadsOf entries file
-  pub explain : (file : Text) (is_json : Bool) (page : Option Text) (is_strict : Bool) → ¬ IsExplainOf entries file is_json page is_strict
+  pub explain : (file : Text) (is_json : Bool) (page : Option Text) (is_strict : Bool)
+      → ¬ IsExplainOf entries file is_json page is_strict
   pub check : (file proof : Text) → ¬ IsCheckOf entries file proof
 
 -- they name this OUT: a run's certificate, or an explanation's page

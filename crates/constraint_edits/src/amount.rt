@@ -13,7 +13,8 @@ pub enum Amount {
     Sides(u64, u64),
 }
 
-/// The middle between a value that does and a greater one that doesn't, above the first; `None` where there is none between.
+/// The middle between a value that does and a greater one that doesn't, above the first; `None`
+/// where there is none between.
 fn between(good: u64, bad: u64) -> Option<u64> {
     let gap = bad.saturating_sub(good);
     if gap < 2 {
@@ -36,7 +37,8 @@ impl Amount {
         }
     }
 
-    /// What is known not to do, where this doesn't: the number itself, but of two sides maybe only one is too great.
+    /// What is known not to do, where this doesn't: the number itself, but of two sides maybe only
+    /// one is too great.
     pub(crate) fn above(self) -> Amount {
         match self {
             Amount::Number(number) => Amount::Number(number),
@@ -55,7 +57,8 @@ impl Amount {
         }
     }
 
-    /// The half: of the width, and once that is 1 of the stated height. `None` where each was halved to 1.
+    /// The half: of the width, and once that is 1 of the stated height. `None` where each was
+    /// halved to 1.
     pub(crate) fn half(self, stated: Amount) -> Option<Amount> {
         match (self, stated) {
             (Amount::Number(n), _) if half_of(n) > 1 => Some(Amount::Number(half_of(n))),
@@ -81,7 +84,8 @@ impl Amount {
         }
     }
 
-    /// What lies between this and a greater value: in the width, and where nothing is left there in the height.
+    /// What lies between this and a greater value: in the width, and where nothing is left there in
+    /// the height.
     pub(crate) fn middle(self, bad: Amount) -> Option<Amount> {
         match (self, bad) {
             (Amount::Number(low), Amount::Number(high)) => {
@@ -152,7 +156,8 @@ pub(crate) fn amount_in(value: &Value, edit: Edit) -> Option<Amount> {
     }
 }
 
-/// The constraints with another value of the field that a change leaves out, of a bound in each entry that has it.
+/// The constraints with another value of the field that a change leaves out, of a bound in each
+/// entry that has it.
 pub(crate) fn with_amount(
     alloc: Global,
     value: &Value,
@@ -182,7 +187,8 @@ pub(crate) fn with_amount(
     })
 }
 
-/// The constraints with another value of the field that a change would leave out; `None` where it isn't there.
+/// The constraints with another value of the field that a change would leave out; `None` where it
+/// isn't there.
 pub fn edited_to(
     alloc: Global,
     value: &Value,

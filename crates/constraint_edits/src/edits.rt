@@ -88,7 +88,8 @@ const LAST: [Edit; 3] = [
     Edit::NoCpu,
 ];
 
-/// The changes that are tried on a platform with these heaps, pairs and colour spaces, those that are mostly meant first.
+/// The changes that are tried on a platform with these heaps, pairs and colour spaces, those that
+/// are mostly meant first.
 pub fn edits_on(
     alloc: Global,
     heaps: usize,

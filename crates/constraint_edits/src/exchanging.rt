@@ -6,7 +6,8 @@ use crate::objects::{MEMORY, entries_of, have, with};
 use serde_json::Value;
 use std::alloc::{AllocError, Global};
 
-/// The constraints with the values of two fields exchanged wherever the first is above the second; `None` where it nowhere is.
+/// The constraints with the values of two fields exchanged wherever the first is above the second;
+/// `None` where it nowhere is.
 pub(crate) fn exchanged(
     alloc: Global,
     value: &Value,

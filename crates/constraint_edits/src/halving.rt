@@ -192,8 +192,8 @@ const LONG: u64 = 1_048_576;
 /// Fewer pixels than so many in a side are few.
 const SMALL: u64 = 16;
 
-/// Whether a decision that a change of constraints gives can't be meant: its row is long beyond all measure of its width; or, where sizes are asked
-/// for, its image is tiny.
+/// Whether a decision that a change of constraints gives can't be meant: its row is long beyond all
+/// measure of its width; or, where sizes are asked for, its image is tiny.
 pub fn is_absurd(line: &str, is_sized: bool) -> bool {
     let said = said_by(line);
     if said.row >= LONG && said.row > said.width.saturating_mul(64) {

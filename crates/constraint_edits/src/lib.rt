@@ -1,5 +1,5 @@
-//! The constraints of a participant with one field changed, as JSON, with the change in words: the field left out, exchanged with another, with
-//! a value more, or with one between.
+//! The constraints of a participant with one field changed, as JSON, with the change in words: the
+//! field left out, exchanged with another, with a value more, or with one between.
 //!
 //! ```
 //! for edit in edits_on(rt.alloc(), heaps.len(), platform.pairs(), platform.colours())? {

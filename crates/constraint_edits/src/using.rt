@@ -8,7 +8,8 @@ use sysmem_counts::Field;
 
 const USAGE: &str = "usage";
 
-/// The constraints without the use by a CPU; `None` where there is none. Nothing else used is the usage `none`.
+/// The constraints without the use by a CPU; `None` where there is none. Nothing else used is the
+/// usage `none`.
 pub(crate) fn without_cpu(alloc: Global, value: &Value) -> Result<Option<Changed>, AllocError> {
     let Some(usages) = value.get(USAGE).and_then(Value::as_array) else {
         return Ok(None);

@@ -9,7 +9,8 @@ use Rattle.script_story.specs.Told.{IsReportedOn}
 
 -- the calls, of which that at a place, from 0, states these constraints
 abbrev pub stating : List CallFacts → ℕ → Data → List CallFacts
-stating rs place stated = option_map_or (λ r. set rs place (record r { act = states (Some stated) })) (slice_get rs place) rs
+stating rs place stated =
+    option_map_or (λ r. set rs place (record r { act = states (Some stated) })) (slice_get rs place) rs
 
 -- with some constraints in one call, the report of the calls says this of the domain at a path
 pub record IsPromised (platform : PlatformFacts) (rs : List CallFacts) (place : ℕ) (path what : List ℕ) : Type 0 where

@@ -6,8 +6,8 @@ use sysmem_formats::{ColourSpace, Pair};
 use sysmem_image::Entry;
 use value_sources::Asked;
 
-/// Whether a change of a participant is worth a try, where at most so many are changed: a format or a colour space that it doesn't take, and that
-/// few others lack; or one that nobody names.
+/// Whether a change of a participant is worth a try, where at most so many are changed: a format or
+/// a colour space that it doesn't take, and that few others lack; or one that nobody names.
 pub fn is_worth(edit: Edit, one: &Asked<'_>, people: &[Asked<'_>], few: usize) -> bool {
     match edit {
         Edit::TakesPair(pair) => {

@@ -61,8 +61,9 @@ fn awaited_host(story: &Story<'_>, domain: &Domain<'_>) -> Option<usize> {
     }
 }
 
-/// Those whose end would let the domain of an index be decided: whom it waits for. Empty where a call on one of them was refused that would
-/// have helped, and where the domain to which it was attached has no verdict.
+/// Those whose end would let the domain of an index be decided: whom it waits for. Empty where a
+/// call on one of them was refused that would have helped, and where the domain to which it was
+/// attached has no verdict.
 pub fn who_holds_up(
     alloc: Global,
     story: &Story<'_>,

@@ -52,7 +52,8 @@ fn tell_chosen(
     tell_choice(items, platform, story, index, domain)
 }
 
-/// The title of a domain's section: `domain / (root): chosen, after call 7 (set_constraints encoder)`.
+/// The title of a domain's section:
+/// `domain / (root): chosen, after call 7 (set_constraints encoder)`.
 fn put_title(items: &mut Items, story: &Story<'_>, domain: &Domain<'_>) -> Result<(), AllocError> {
     let mut title = String::new(items.alloc());
     put_domain(&mut title, story, domain.root)?;
@@ -92,8 +93,8 @@ fn tell_who(
     Ok(())
 }
 
-/// Notes a usage that doesn't go with what a participant is called, or its actor where its constraints may be exchanged with somebody's; and with
-/// whom they may be.
+/// Notes a usage that doesn't go with what a participant is called, or its actor where its
+/// constraints may be exchanged with somebody's; and with whom they may be.
 fn note_usage(items: &mut Items, story: &Story<'_>, one: Asked<'_>) -> Result<(), AllocError> {
     let alloc = items.alloc();
     let Some(usage) = usage_meant(story, one) else {
@@ -117,7 +118,8 @@ fn note_usage(items: &mut Items, story: &Story<'_>, one: Asked<'_>) -> Result<()
     items.say(1, "note", text)
 }
 
-/// Puts with whom the constraints of a participant may be exchanged after a text, of all domains, if somebody is found.
+/// Puts with whom the constraints of a participant may be exchanged after a text, of all domains,
+/// if somebody is found.
 fn put_other(text: &mut String, story: &Story<'_>, one: Asked<'_>) -> Result<(), AllocError> {
     for index in 0..story.domains.len() {
         for other in asked_in(*text.allocator(), story, index, false)? {
@@ -152,7 +154,8 @@ fn put_who(
     put_texts(text, &names, MOST_WHO)
 }
 
-/// A participant with its path, its actor and what it uses the buffers for: `camera /0 (actor camera, usage video)`.
+/// A participant with its path, its actor and what it uses the buffers for:
+/// `camera /0 (actor camera, usage video)`.
 fn who(alloc: Global, story: &Story<'_>, node: usize) -> Result<String, AllocError> {
     let name = story.name(node);
     let path = story.path(node);

@@ -43,7 +43,8 @@ pub(crate) fn states_usage(story: &Story<'_>, one: Asked<'_>, usage: &str) -> bo
     }
 }
 
-/// Whether each of two participants states the usage that is expected of the other, and not its own.
+/// Whether each of two participants states the usage that is expected of the other, and not its
+/// own.
 pub fn are_exchanged(story: &Story<'_>, a: Asked<'_>, b: Asked<'_>) -> bool {
     match (usage_meant(story, a), usage_meant(story, b)) {
         (Some(mine), Some(other)) => {

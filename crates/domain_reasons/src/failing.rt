@@ -1,4 +1,5 @@
-//! Why a domain has no decision that chooses: it failed, has too many selections, or has no settings.
+//! Why a domain has no decision that chooses: it failed, has too many selections, or has no
+//! settings.
 
 use crate::choosing::groups_in;
 use crate::selecting::{Empty, MOST_TOLD, tell_empty};
@@ -171,7 +172,8 @@ fn tell_late(
     tell_unsuited(items, platform, &people, &before, settings)
 }
 
-/// How many buffers all need together who share those of the domain of an index, where that is more than were decided before it.
+/// How many buffers all need together who share those of the domain of an index, where that is more
+/// than were decided before it.
 pub fn room_needed(
     alloc: Global,
     story: &Story<'_>,
@@ -209,7 +211,8 @@ fn tell_unsuited(
     Ok(())
 }
 
-/// The participants of the collection that were accepted before the domain of an index was decided, and not released or closed before that.
+/// The participants of the collection that were accepted before the domain of an index was decided,
+/// and not released or closed before that.
 pub fn accepted_before<'a>(
     alloc: Global,
     story: &Story<'a>,
@@ -251,7 +254,8 @@ fn add_open<'a>(
     Ok(())
 }
 
-/// How many buffers participants need together: what they hold, and no fewer than any of them asks for.
+/// How many buffers participants need together: what they hold, and no fewer than any of them asks
+/// for.
 fn needed_by(people: &[Asked<'_>]) -> u64 {
     let mut held = 0u64;
     let mut shared = 0u32;

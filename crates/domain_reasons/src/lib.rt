@@ -1,5 +1,5 @@
-//! What became of each domain of a script, and why: who is awaited and what helps, what decided each value of a choice, and who is in the way
-//! where nothing is chosen.
+//! What became of each domain of a script, and why: who is awaited and what helps, what decided
+//! each value of a choice, and who is in the way where nothing is chosen.
 //!
 //! ```
 //! tell_domain(&mut items, &script.platform, &story, 0)?;

@@ -9,7 +9,8 @@ use story_parts::asked_by;
 /// How many of them are told.
 const MOST: usize = 3;
 
-/// Tells of the children after the chosen one of each group in a chosen selection why those couldn't have been chosen that nothing meets.
+/// Tells of the children after the chosen one of each group in a chosen selection why those
+/// couldn't have been chosen that nothing meets.
 pub(crate) fn tell_passed_over(items: &mut Items, empty: Empty<'_, '_>) -> Result<(), AllocError> {
     let alloc = items.alloc();
     let mut choices: Vec<Choice> = Vec::new(alloc);

@@ -50,7 +50,8 @@ pub(crate) fn walk(
     Ok(Settled { nodes, open })
 }
 
-/// Puts the nodes below a node that are selected, the last first, and says whether that is settled: of a group a child is chosen.
+/// Puts the nodes below a node that are selected, the last first, and says whether that is settled:
+/// of a group a child is chosen.
 fn put_below(
     left: &mut Vec<usize>,
     story: &Story<'_>,
@@ -93,8 +94,8 @@ pub(crate) struct Empty<'a, 'b> {
     pub(crate) root: usize,
 }
 
-/// Tells why no selection that goes on from these choices has settings; `levels` is more than the groups that may be left, and `told` counts
-/// the failing selections.
+/// Tells why no selection that goes on from these choices has settings; `levels` is more than the
+/// groups that may be left, and `told` counts the failing selections.
 #[cycle(tell_empty)]
 pub(crate) fn tell_empty(
     items: &mut Items,
@@ -238,7 +239,8 @@ fn tell_not(
     tell_empty(items, 3, empty, choices, told, empty.story.nodes.len())
 }
 
-/// The children that the choices of a line on a domain name, as `layouts: tiled`; empty where it names none.
+/// The children that the choices of a line on a domain name, as `layouts: tiled`; empty where it
+/// names none.
 pub fn choices_in(
     alloc: Global,
     story: &Story<'_>,

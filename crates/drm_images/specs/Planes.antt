@@ -21,7 +21,8 @@ colour_plane offset pitch rows = record { offset = offset; pitch = pitch / 2; ro
 
 -- two of these, one after the other
 abbrev pub two_colours : ℕ → ℕ → ℕ → List Plane
-two_colours offset pitch rows = colour_plane offset pitch rows ∷ colour_plane (offset + pitch / 2 * (rows / 2)) pitch rows ∷ []
+two_colours offset pitch rows =
+    colour_plane offset pitch rows ∷ colour_plane (offset + pitch / 2 * (rows / 2)) pitch rows ∷ []
 
 -- the planes of an image whose colours lie so, in the order of DRM, one after the other
 abbrev pub planes_in : Sampling → ℕ → ℕ → List Plane

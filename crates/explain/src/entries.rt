@@ -206,7 +206,8 @@ impl Teller<'_, '_> {
         Ok(text)
     }
 
-    /// Puts which entry of the record that of an index is after a text, with what it takes and its line.
+    /// Puts which entry of the record that of an index is after a text, with what it takes and its
+    /// line.
     fn put_entry(&self, text: &mut String, index: usize) -> Result<(), AllocError> {
         let alloc = *text.allocator();
         let Some(entry) = self.one.asked.entries().get(index) else {

@@ -37,8 +37,9 @@ pub struct Explanation {
     pub items: Vec<Item>,
 }
 
-/// Explains a script: where it has a fault, or what its report means. The file's name, as it was given, stands before lines and columns.
-/// `AllocError` where memory is refused, also where it is within the run.
+/// Explains a script: where it has a fault, or what its report means. The file's name, as it was
+/// given, stands before lines and columns. `AllocError` where memory is refused, also where it is
+/// within the run.
 pub fn explain(alloc: Global, file: &str, bytes: &[u8]) -> Result<Explanation, AllocError> {
     match parse_script(alloc, bytes) {
         Ok(value) => explain_value(alloc, file, bytes, &value),
@@ -91,7 +92,8 @@ fn explain_value(
     }
 }
 
-/// What is told of a fault, with the keys that are given twice before where it stands: one of them may be what is meant.
+/// What is told of a fault, with the keys that are given twice before where it stands: one of them
+/// may be what is meant.
 fn with_repeats(
     alloc: Global,
     document: &Document<'_>,

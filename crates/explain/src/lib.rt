@@ -1,5 +1,5 @@
-//! What a script means, in words: where it has a fault, why calls were refused, who is awaited, what decided each value of a choice, and who is
-//! in the way where nothing is chosen.
+//! What a script means, in words: where it has a fault, why calls were refused, who is awaited,
+//! what decided each value of a choice, and who is in the way where nothing is chosen.
 //!
 //! ```
 //! let explanation = explain(rt.alloc(), "camera.json", bytes)?;

@@ -7,10 +7,11 @@ use script_reading::LONGEST;
 use script_run::RunFault;
 use std::alloc::{AllocError, Global};
 
-/// Reads a script, and writes what it means. The file's name, as it was given, stands before lines and columns.
+/// Reads a script, and writes what it means. The file's name, as it was given, stands before lines
+/// and columns.
 ///
-/// Any failure of the reader is the fault `Read`, and any of the writer the fault `Write`; a script that is refused is explained, and no
-/// fault.
+/// Any failure of the reader is the fault `Read`, and any of the writer the fault `Write`; a script
+/// that is refused is explained, and no fault.
 pub fn explain_file<R: Source, W: Sink>(
     alloc: Global,
     file: &str,

@@ -16,8 +16,8 @@ use script_story::{Effort, Setting, story_of};
 use serde_json::Value;
 use std::alloc::{AllocError, Global};
 
-/// The explanation of a script's bytes as objects of JSON: a line for each item, and one that ends them. The file's name, as it was given, stands in
-/// places. `AllocError` where memory is refused.
+/// The explanation of a script's bytes as objects of JSON: a line for each item, and one that ends
+/// them. The file's name, as it was given, stands in places. `AllocError` where memory is refused.
 pub fn objects_of(
     alloc: Global,
     file: &str,

@@ -13,7 +13,8 @@ use std::fmt::Write;
 /// How long the text may be, in bytes, in which calls are looked for: for each it is gone through.
 const LONGEST: usize = 262_144;
 
-/// Puts where lines of the script stand, what is said of them and what helps into an object, as the lines tell it.
+/// Puts where lines of the script stand, what is said of them and what helps into an object, as the
+/// lines tell it.
 pub(crate) fn put_source(
     object: &mut Object,
     scene: &Scene<'_, '_>,
@@ -69,7 +70,7 @@ fn place_value(
     Ok(place.into_value())
 }
 
-/// What stands behind the carets of a line.
+/// What stands after the carets of a line.
 fn note_in(marked: &str) -> &str {
     match marked.split_once('^') {
         Some((_, more)) => more.trim_start_matches('^').trim_start(),

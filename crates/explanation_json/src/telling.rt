@@ -20,7 +20,8 @@ pub(crate) struct Telling<'a, 'b> {
     scene: Scene<'a, 'b>,
     /// The root of the domain whose section it is, by number.
     root: Option<usize>,
-    /// How deep the item stands that tells of calls made otherwise, if the words below it tell what these would do.
+    /// How deep the item stands that tells of calls made otherwise, if the words below it tell what
+    /// these would do.
     then: Option<usize>,
     /// The changes that no decision followed yet.
     changes: Vec<Value>,
@@ -66,7 +67,8 @@ impl<'a, 'b> Telling<'a, 'b> {
         Ok(object)
     }
 
-    /// Whether these are words on what calls would do that are made otherwise: the numbers and names in them are of another script.
+    /// Whether these are words on what calls would do that are made otherwise: the numbers and
+    /// names in them are of another script.
     fn is_below_then(&mut self, item: &Item) -> bool {
         match self.then {
             Some(depth) if item.depth > depth && item.kind == Kind::Words => true,

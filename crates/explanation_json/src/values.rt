@@ -20,7 +20,8 @@ pub(crate) fn count_value(count: usize) -> Value {
     Value::from(count)
 }
 
-/// The value that words spell: a number, width and height as `1920x1080`, true or false; else a text.
+/// The value that words spell: a number, width and height as `1920x1080`, true or false; else a
+/// text.
 pub(crate) fn spelled(alloc: Global, words: &str) -> Result<Value, AllocError> {
     if let Some(value) = measure(alloc, words)? {
         return Ok(value);

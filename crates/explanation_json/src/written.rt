@@ -14,11 +14,11 @@ use script_reading::LONGEST;
 use script_run::RunFault;
 use std::alloc::{AllocError, Global};
 
-/// Reads a script, and writes what it means as objects of JSON: one for each item, and one that ends them. The file's name, as it was given, stands
-/// in places.
+/// Reads a script, and writes what it means as objects of JSON: one for each item, and one that
+/// ends them. The file's name, as it was given, stands in places.
 ///
-/// Any failure of the reader is the fault `Read`, and any of the writer the fault `Write`; what was written then is a prefix of the objects. A script
-/// that is refused is explained, and no fault.
+/// Any failure of the reader is the fault `Read`, and any of the writer the fault `Write`; what was
+/// written then is a prefix of the objects. A script that is refused is explained, and no fault.
 #[tactic(auto, using(crate::proofs::Ends::tells_unread, crate::proofs::Ends::tells_unmade, crate::proofs::Ends::tells_part, crate::proofs::Ends::tells_done))]
 pub fn explain_as_json<R: Source, W: Sink>(
     alloc: Global,
@@ -46,7 +46,8 @@ pub fn explain_as_json<R: Source, W: Sink>(
     }
 }
 
-/// The same, which then writes the page of the explanation. It is made before anything is written: where memory is refused to it, nothing is.
+/// The same, which then writes the page of the explanation. It is made before anything is written:
+/// where memory is refused to it, nothing is.
 pub fn explain_as_json_to_page<R: Source, W: Sink, P: Sink>(
     alloc: Global,
     file: &str,

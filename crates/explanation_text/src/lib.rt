@@ -1,4 +1,5 @@
-//! What is told, as a list of items, and its text: lines of words, and lines of a source with carets below a part of them.
+//! What is told, as a list of items, and its text: lines of words, and lines of a source with
+//! carets below a part of them.
 //!
 //! ```
 //! let mut items = Items::new(rt.alloc());

@@ -43,7 +43,8 @@ pub fn put_count(text: &mut String, count: usize, one: &str, many: &str) -> Resu
     write!(text, "{count} {word}")
 }
 
-/// The first and the last of each run of characters that can't be seen, or that steer a terminal or the direction of writing.
+/// The first and the last of each run of characters that can't be seen, or that steer a terminal or
+/// the direction of writing.
 const UNSEEN: [(u32, u32); 11] = [
     (0, 0x1F),
     (0x7F, 0x9F),
@@ -66,7 +67,8 @@ fn is_unseen(c: char) -> bool {
         .any(|(first, last)| *first <= code && code <= *last)
 }
 
-/// Puts a text after another, each of its characters as one that can be seen: a tab as a space, and others as U+FFFD.
+/// Puts a text after another, each of its characters as one that can be seen: a tab as a space, and
+/// others as U+FFFD.
 pub fn put_visible(text: &mut String, source: &str) -> Result<(), AllocError> {
     for c in source.chars() {
         if c == '\t' {

@@ -1,5 +1,6 @@
 -- Where a list of participants has no settings any more, and why.
-use Rattle.std.specs.Prelude.{◌≡◌, ℕ, ◌+◌, ◌<◌, ◌⊎◌, Bool, true, false, List, length, take, drop, Option, Some, None, IfSome, IsSomeAnd, option_map, slice_get}
+use Rattle.std.specs.Prelude.{◌≡◌, ℕ, ◌+◌, ◌<◌, ◌⊎◌, Bool, true, false, List, length, take, drop, Option, Some, None}
+use Rattle.std.specs.Prelude.{IfSome, IsSomeAnd, option_map, slice_get}
 use Rattle.std.specs.Option.{unwrap_or}
 use Rattle.sysmem_counts.specs.declared.field.Field.{Field}
 use Rattle.sysmem_formats.specs.declared.offer.Offer.{Offer}
@@ -71,24 +72,28 @@ pub record IsOfferField (whole : Bool) (ps : List Participant) (o : Offer) (fiel
 abbrev pub shared_offer : Stop → Option Offer
 shared_offer stop = option_map (λ s. s.offer) stop.shared
 
--- the offer of which is told: the image that the participant comes nearest to, where it gets none even by itself; else, and where
--- there is no such image, that which those before share
+-- the offer of which is told: the image that the participant comes nearest to, where it gets none even by itself;
+-- else, and where there is no such image, that which those before share
 abbrev pub IsToldOffer : PlatformFacts → List Participant → Stop → Option Reason → Option Offer → Type 0
-IsToldOffer platform ps stop (Some NoOffer) offer = (own : Option Offer) × IsOwnOffer platform (alone stop.who ps) own × (offer ≡ or_else own (shared_offer stop))
+IsToldOffer platform ps stop (Some NoOffer) offer = (own : Option Offer) × IsOwnOffer platform (alone stop.who ps) own
+    × (offer ≡ or_else own (shared_offer stop))
 IsToldOffer platform ps stop why offer = offer ≡ shared_offer stop
 
--- what the field says, by the reason: it is the count's own; or the participant's, which refuses it the place that those
--- before share; or it is told of the first line that is true of the offer
+-- what the field says, by the reason: it is the count's own; or the participant's, which refuses it the place that
+-- those before share; or it is told of the first line that is true of the offer
 abbrev pub IsFieldOf : PlatformFacts → List Participant → Refusal → Reason → Type 0
 IsFieldOf platform ps r (Count own) = r.field ≡ own
-IsFieldOf platform ps r NoPlace = IsSomeAnd (slice_get ps r.stop.who) (λ p. IsSomeAnd r.stop.shared (λ s. IsPlaceField platform p s r.field))
-IsFieldOf platform ps r NoOffer = IsSomeAnd r.offer (λ o. IsOfferField r.stop.whole (told_of r.stop r.lone ps) o r.field)
+IsFieldOf platform ps r NoPlace =
+    IsSomeAnd (slice_get ps r.stop.who) (λ p. IsSomeAnd r.stop.shared (λ s. IsPlaceField platform p s r.field))
+IsFieldOf platform ps r NoOffer =
+    IsSomeAnd r.offer (λ o. IsOfferField r.stop.whole (told_of r.stop r.lone ps) o r.field)
 
 -- the reason that is told: of the participant by itself, where it can't be met so
 abbrev pub told_reason : Refusal → Reason
 told_reason r = unwrap_or r.lone r.stop.reason
 
--- no settings meet them; where they stop having some, whether the participant can be met by itself, and the offer and the field
+-- no settings meet them; where they stop having some, whether the participant can be met by itself, and the offer and
+-- the field
 pub record IsBlamed (platform : PlatformFacts) (ps : List Participant) (refusal : Refusal) : Type 0 where
   pub unmet : IsUnmet true platform ps
   pub stop : IsStop platform ps refusal.stop

@@ -16,7 +16,8 @@ use Rattle.flat_negotiation.specs.Said.{IsParticipantAmiss, IsParticipantSaid, I
 -- where memory wasn't refused, the struct of a participant is amiss
 abbrev pub IsStructAmiss : List FlatParticipant → Unsettled → Type 0
 IsStructAmiss flats why.NoMemory = Unit {0}
-IsStructAmiss flats (why.Participant who amiss) = IsSomeAnd (slice_get flats who) (λ flat. IsParticipantAmiss flat amiss)
+IsStructAmiss flats (why.Participant who amiss) =
+    IsSomeAnd (slice_get flats who) (λ flat. IsParticipantAmiss flat amiss)
 IsStructAmiss flats _ = ⊥
 
 -- where memory wasn't refused, participants on a platform have no settings
@@ -26,7 +27,8 @@ AreUnmet platform ps (why.Unmet refusal) = IsBlamed platform ps refusal
 AreUnmet platform ps _ = ⊥
 
 -- the structs state a platform and participants
-pub record AreSaid (flat : FlatPlatform) (flats : List FlatParticipant) (on : PlatformFacts) (ps : List Participant) : Type 0 where
+pub record AreSaid (flat : FlatPlatform) (flats : List FlatParticipant) (on : PlatformFacts)
+    (ps : List Participant) : Type 0 where
   pub platform : IsPlatformSaid flat on
   pub participants : AllZip IsParticipantSaid flats ps
 

@@ -15,7 +15,9 @@ flat_plane None = record { offset = 0; rows = 0; pitch = 0; reserved = 0 }
 
 -- four of them
 abbrev pub flat_planes : List Plane → List FlatPlane
-flat_planes ps = flat_plane (slice_get ps 0) ∷ flat_plane (slice_get ps 1) ∷ flat_plane (slice_get ps 2) ∷ flat_plane (slice_get ps 3) ∷ []
+flat_planes ps =
+    flat_plane (slice_get ps 0) ∷ flat_plane (slice_get ps 1) ∷ flat_plane (slice_get ps 2)
+    ∷ flat_plane (slice_get ps 3) ∷ []
 
 -- the layout of an image of the pair: its bytes, and each of its planes
 pub record IsPairLayout (pair : Pair) (pitch height : ℕ) (layout : FlatLayout) : Type 0 where
@@ -31,7 +33,8 @@ pub record IsLayout (format modifier pitch height : ℕ) (layout : FlatLayout) :
 
 -- no pair has these codes, or it is a tiled misfit, or its image has more bytes than 64 bits tell
 abbrev pub IsNoLayout : ℕ → ℕ → ℕ → ℕ → Type 0
-IsNoLayout format modifier pitch height = (pair : Pair) → HasCodes format modifier pair → IsTiledMisfit pair ⊎ (2 ^ 64 ≤ bytes_of pair pitch height)
+IsNoLayout format modifier pitch height = (pair : Pair) → HasCodes format modifier pair
+    → IsTiledMisfit pair ⊎ (2 ^ 64 ≤ bytes_of pair pitch height)
 
 -- no image
 abbrev pub no_layout : FlatLayout

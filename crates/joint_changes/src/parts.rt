@@ -12,12 +12,14 @@ pub(crate) struct Part {
     /// Its index among the participants.
     pub(crate) person: usize,
     pub(crate) edit: Edit,
-    /// The value that the field has then; where there is none it is left out, or the change has no value.
+    /// The value that the field has then; where there is none it is left out, or the change has no
+    /// value.
     pub(crate) amount: Option<Amount>,
 }
 
 impl Part {
-    /// Constraints with the change, on a platform with these heaps; `None` where they are so already.
+    /// Constraints with the change, on a platform with these heaps; `None` where they are so
+    /// already.
     pub(crate) fn changed(
         &self,
         alloc: Global,

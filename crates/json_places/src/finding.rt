@@ -146,7 +146,8 @@ fn found_at<'a>(
     Ok(finder.found)
 }
 
-/// Where the value at a path stands in a text that spells this value. `None`: there is none at the path, or it isn't found.
+/// Where the value at a path stands in a text that spells this value. `None`: there is none at the
+/// path, or it isn't found.
 pub fn span_of<'a>(
     alloc: Global,
     bytes: &'a [u8],

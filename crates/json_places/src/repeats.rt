@@ -16,8 +16,9 @@ struct Key {
     span: Span,
 }
 
-/// The first keys, up to a number, that stand in their object before, each as it is written first and again: of these values the last
-/// counts. Of one object the first 64 keys are compared with those that follow.
+/// The first keys, up to a number, that stand in their object before, each as it is written first
+/// and again: of these values the last counts. Of one object the first 64 keys are compared with
+/// those that follow.
 pub fn repeated_keys(
     alloc: Global,
     bytes: &[u8],

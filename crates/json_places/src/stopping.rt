@@ -16,8 +16,8 @@ pub struct Stop {
     pub help: String,
 }
 
-/// The first byte from which on the text is no beginning of JSON, or its end where it is one that isn't complete; `None` where it is JSON. The
-/// text is taken as UTF-8.
+/// The first byte from which on the text is no beginning of JSON, or its end where it is one that
+/// isn't complete; `None` where it is JSON. The text is taken as UTF-8.
 pub fn stop_of(alloc: Global, bytes: &[u8]) -> Result<Option<Stop>, AllocError> {
     let mut machine = Machine::new(alloc);
     for (at, byte) in bytes.iter().enumerate() {

@@ -6,7 +6,8 @@ use Rattle.flat_parts.specs.declared.flat.FlatPlatform.{FlatPlatform}
 use Rattle.flat_negotiation.specs.declared.flat.FlatRefusal.{FlatRefusal}
 use Rattle.flat_negotiation.specs.declared.flat.FlatSettings.{FlatSettings}
 use Rattle.flat_negotiation.specs.declared.unsettled.Unsettled.{Unsettled}
-use Rattle.flat_negotiation.specs.declared.unsettled.Unsettled.TheVariants.{NoMemory, TooMany, Platform, Participant, Unmet}
+use Rattle.flat_negotiation.specs.declared.unsettled.Unsettled.TheVariants.{NoMemory, TooMany, Platform, Participant}
+use Rattle.flat_negotiation.specs.declared.unsettled.Unsettled.TheVariants.{Unmet}
 use Rattle.flat_negotiation.specs.Refusals.{flat_refusal}
 use Rattle.flat_negotiation.specs.Unsettled.{AreSettled, AreUnsettled}
 use Rattle.flat_negotiation.specs.Written.{IsWritten}
@@ -19,10 +20,12 @@ status_of (Platform amiss) = 3
 status_of (Participant who amiss) = 3
 status_of (Unmet refusal) = 6
 
--- the best settings are told (0), and the refusal stays as it was; or the settings stay, and the refusal and the status say
--- why there are none
-pub data Negotiates (platform : FlatPlatform) (participants : List FlatParticipant) (settings told : FlatSettings) (refusal why : FlatRefusal) : ℕ → Type 0 where
+-- the best settings are told (0), and the refusal stays as it was; or the settings stay, and the refusal and the
+-- status say why there are none
+pub data Negotiates (platform : FlatPlatform) (participants : List FlatParticipant)
+    (settings told : FlatSettings) (refusal why : FlatRefusal) : ℕ → Type 0 where
   settles : (s : Settings) → AreSettled platform participants s → IsWritten settings.struct_size s told → why ≡ refusal
       → Negotiates platform participants settings told refusal why 0
-  refuses_them : (unsettled : Unsettled) → AreUnsettled platform participants unsettled → why ≡ flat_refusal refusal.struct_size unsettled → told ≡ settings
+  refuses_them : (unsettled : Unsettled) → AreUnsettled platform participants unsettled
+      → why ≡ flat_refusal refusal.struct_size unsettled → told ≡ settings
       → Negotiates platform participants settings told refusal why (status_of unsettled)

@@ -14,14 +14,18 @@ pub data RunSays (script : List ℕ) : ℕ → List ℕ → Type 0 where
 
 -- a run with a certificate: at 0 the report and the certificate of its decisions, and at 3 no certificate
 pub data ProvedRunSays (script : List ℕ) : ℕ → List ℕ → List ℕ → Type 0 where
-  proves : (text certificate : List ℕ) → CertifiesTo script (Ok (record { text = text; certificate = certificate; starved = false }))
+  proves : (text certificate : List ℕ)
+      → CertifiesTo script (Ok (record { text = text; certificate = certificate; starved = false }))
       → ProvedRunSays script 0 text certificate
   refuses_unproved : (fault : ScriptFault) → RunsTo script (Err fault) → ProvedRunSays script 3 (refusal_words fault) []
 
--- a check: at 0 `yes N`, where each verdict is accepted, at 6 `no Nk domain PATH`, of the first that isn't, and at 3 the
--- words of what is refused: the script, or else the certificate
+-- a check: at 0 `yes N`, where each verdict is accepted, at 6 `no Nk domain PATH`, of the first that isn't, and at 3
+-- the words of what is refused: the script, or else the certificate
 pub data CheckSays (script certificate : List ℕ) : ℕ → List ℕ → Type 0 where
-  accepts : (text : List ℕ) → HasChecked (Ok Done) (Some script) (Some certificate) (Some []) (Some text) → CheckSays script certificate 0 text
-  objects : (text : List ℕ) → HasChecked (Ok CheckedNo) (Some script) (Some certificate) (Some []) (Some text) → CheckSays script certificate 6 text
-  refuses_script : (fault : ScriptFault) → RunsTo script (Err fault) → CheckSays script certificate 3 (refusal_words fault)
+  accepts : (text : List ℕ) → HasChecked (Ok Done) (Some script) (Some certificate) (Some []) (Some text)
+      → CheckSays script certificate 0 text
+  objects : (text : List ℕ) → HasChecked (Ok CheckedNo) (Some script) (Some certificate) (Some []) (Some text)
+      → CheckSays script certificate 6 text
+  refuses_script : (fault : ScriptFault) → RunsTo script (Err fault)
+      → CheckSays script certificate 3 (refusal_words fault)
   refuses_certificate : ProofIsRefused script certificate → CheckSays script certificate 3 (codes "proof refused")

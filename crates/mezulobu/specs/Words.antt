@@ -2,7 +2,9 @@
 use Rattle.std.specs.Prelude.{ℕ, ◌++◌, List, codes}
 use Rattle.std.specs.Fmt.{decimal}
 use Rattle.script_reading.specs.declared.fault.ScriptFault.{ScriptFault}
-use Rattle.script_reading.specs.declared.fault.ScriptFault.TheVariants.{TooLong, NotJson, Misshapen, CallMisshapen, BadName, Platform, TooManyCalls, TooManyActors, SharedName}
+use Rattle.script_reading.specs.declared.fault.ScriptFault.TheVariants.{TooLong, NotJson, Misshapen, CallMisshapen}
+use Rattle.script_reading.specs.declared.fault.ScriptFault.TheVariants.{BadName, Platform, TooManyCalls, TooManyActors}
+use Rattle.script_reading.specs.declared.fault.ScriptFault.TheVariants.{SharedName}
 use Rattle.sysmem_sanitise.specs.Faults.{fault_text}
 
 -- `Q4 at call 7`

@@ -17,15 +17,16 @@ const REFUSED: u32 = 3;
 
 const NO: u32 = 6;
 
-/// An explanation's text, and whether it tells of a call that was refused or of a domain that isn't chosen.
+/// An explanation's text, and whether it tells of a call that was refused or of a domain that isn't
+/// chosen.
 #[derive(Drop)]
 struct Explained {
     is_faulty: bool,
     text: Vec<u8>,
 }
 
-/// What an explanation says; where it is strict, its status tells whether all went well. The file's name stands before lines and columns.
-/// It fails where memory is refused.
+/// What an explanation says; where it is strict, its status tells whether all went well. The file's
+/// name stands before lines and columns. It fails where memory is refused.
 pub(crate) fn explanation_told(
     alloc: Global,
     script: &[u8],

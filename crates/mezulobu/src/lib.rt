@@ -1,5 +1,6 @@
-//! The negotiator for C: the bytes of a script in, the bytes of its report and of its certificate out, or of what it means in words;
-//! and a list of participants as structs in, their settings as a struct out.
+//! The negotiator for C: the bytes of a script in, the bytes of its report and of its certificate
+//! out, or of what it means in words; and a list of participants as structs in, their settings as a
+//! struct out.
 //!
 //! `c/mezulobu.c` is what a program calls: it turns null pointers into what these functions take.
 #![tactic(auto)]
@@ -117,8 +118,9 @@ pub extern "C" fn mezulobu_rt_check_status(alloc: Global, script: &[u8], certifi
     }
 }
 
-/// Explains a script: the text says what it means, or where its first fault stands, in words or as objects of JSON. The name of its file, in which
-/// bytes that are no UTF-8 are replaced, stands before lines and columns.
+/// Explains a script: the text says what it means, or where its first fault stands, in words or as
+/// objects of JSON. The name of its file, in which bytes that are no UTF-8 are replaced, stands
+/// before lines and columns.
 #[unsafe(no_mangle)]
 pub extern "C" fn mezulobu_rt_explain(
     alloc: Global,
@@ -180,7 +182,8 @@ fn status_of(unsettled: &Unsettled) -> u32
     }
 }
 
-/// The planes of an image of a format and a modifier, by their codes, with rows of `pitch` bytes and its height in pixels.
+/// The planes of an image of a format and a modifier, by their codes, with rows of `pitch` bytes
+/// and its height in pixels.
 #[unsafe(no_mangle)]
 pub extern "C" fn mezulobu_rt_planes(
     format: u32,

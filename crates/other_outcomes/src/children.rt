@@ -23,8 +23,8 @@ struct Siblings {
     second: usize,
 }
 
-/// Tells of the children of groups of a chosen domain that come after the chosen one what would be decided if they stood in its place, where they
-/// would be chosen then.
+/// Tells of the children of groups of a chosen domain that come after the chosen one what would be
+/// decided if they stood in its place, where they would be chosen then.
 pub fn tell_later_children(
     items: &mut Items,
     setting: &Setting<'_>,
@@ -92,7 +92,8 @@ fn add_siblings(
     Ok(())
 }
 
-/// What the domain at a path would be if two children's names were exchanged where they are created, if the later one would be chosen then.
+/// What the domain at a path would be if two children's names were exchanged where they are
+/// created, if the later one would be chosen then.
 fn outcome_with(
     alloc: Global,
     setting: &Setting<'_>,

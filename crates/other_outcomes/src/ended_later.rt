@@ -27,8 +27,9 @@ struct End {
     call: usize,
 }
 
-/// Tells who takes room in an attached domain's decision and is released or closed only after it, and what the domain at a path would be if that
-/// came before: of one of them if that is enough, else of all.
+/// Tells who takes room in an attached domain's decision and is released or closed only after it,
+/// and what the domain at a path would be if that came before: of one of them if that is enough,
+/// else of all.
 pub fn tell_ended_later(
     items: &mut Items,
     setting: &Setting<'_>,
@@ -60,7 +61,8 @@ pub fn tell_ended_later(
     items.say(1, "note", text)
 }
 
-/// Those who were accepted before the domain of an index, and whom a call ends after the one that decided it, in the order of these calls.
+/// Those who were accepted before the domain of an index, and whom a call ends after the one that
+/// decided it, in the order of these calls.
 fn later_ends(
     alloc: Global,
     story: &Story<'_>,
@@ -84,7 +86,8 @@ fn later_ends(
     Ok(ends)
 }
 
-/// Puts what is tried: `recorder still counts here, since call 18 releases it only after call 16; with call 18 before call 16 it would be:`.
+/// Puts what is tried:
+/// `recorder still counts here, since call 18 releases it only after call 16; with call 18 before call 16 it would be:`.
 fn put_head(
     items: &mut Items,
     story: &Story<'_>,
@@ -156,7 +159,8 @@ fn put_calls(text: &mut String, ends: &[End]) -> Result<(), AllocError> {
     put_few(text, &words, MOST)
 }
 
-/// What the domain at a path becomes once these calls, in their order, stand before the call of a number, if it is chosen then.
+/// What the domain at a path becomes once these calls, in their order, stand before the call of a
+/// number, if it is chosen then.
 fn outcome_before(
     alloc: Global,
     setting: &Setting<'_>,
@@ -193,7 +197,8 @@ fn put_before<'a>(
     Ok(made)
 }
 
-/// The calls with the one at a place right before that at an earlier one: each of those between is moved after it in turn.
+/// The calls with the one at a place right before that at an earlier one: each of those between is
+/// moved after it in turn.
 fn carried<'a>(
     alloc: Global,
     calls: &[Call<'a>],

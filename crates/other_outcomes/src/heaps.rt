@@ -31,8 +31,9 @@ impl Trait {
     }
 }
 
-/// Tells the first heap with which the domain at a path would have settings if it were contiguous, or secure, where participants need that and
-/// the platform doesn't say it; and what would be decided then.
+/// Tells the first heap with which the domain at a path would have settings if it were contiguous,
+/// or secure, where participants need that and the platform doesn't say it; and what would be
+/// decided then.
 pub fn tell_heaps(
     items: &mut Items,
     setting: &Setting<'_>,
@@ -71,7 +72,8 @@ fn tell_first(
     Ok(())
 }
 
-/// What the domain at a path would be if the heap of an index were so that isn't, if it would be chosen.
+/// What the domain at a path would be if the heap of an index were so that isn't, if it would be
+/// chosen.
 fn outcome_so(
     alloc: Global,
     setting: &Setting<'_>,

@@ -11,8 +11,8 @@ use sysmem_formats::{Offer, Pair};
 /// How many pairs are tried.
 const MOST: usize = 3;
 
-/// Tells of pairs that participants of a chosen domain list before the chosen one, and that stand after it on the platform, what would be
-/// decided if they stood first there.
+/// Tells of pairs that participants of a chosen domain list before the chosen one, and that stand
+/// after it on the platform, what would be decided if they stood first there.
 pub fn tell_later_pairs(
     items: &mut Items,
     setting: &Setting<'_>,
@@ -56,7 +56,8 @@ fn words_of(alloc: Global, pair: Pair, chosen: Pair) -> Result<String, AllocErro
     )
 }
 
-/// What the domain at a path would be if a pair stood first on the platform, if that would be chosen.
+/// What the domain at a path would be if a pair stood first on the platform, if that would be
+/// chosen.
 fn outcome_first(
     alloc: Global,
     setting: &Setting<'_>,

@@ -1,5 +1,6 @@
-//! What would become of a script's domains otherwise: with calls moved that stand too early or too late, without those who are awaited, with a later
-//! child in the place of the chosen one, and on a platform that has a pair more, a pair first, or a heap that is contiguous or secure.
+//! What would become of a script's domains otherwise: with calls moved that stand too early or too
+//! late, without those who are awaited, with a later child in the place of the chosen one, and on a
+//! platform that has a pair more, a pair first, or a heap that is contiguous or secure.
 //!
 //! ```
 //! tell_moved(&mut items, &setting, &value, &story)?;

@@ -15,7 +15,8 @@ use std::alloc::{AllocError, Global};
 use std::fmt::Write;
 use story_parts::{Move, Story, moves_in};
 
-/// Tells what would be refused and pending next, and what each domain would be, once the calls that stand too early are moved.
+/// Tells what would be refused and pending next, and what each domain would be, once the calls that
+/// stand too early are moved.
 pub fn tell_moved(
     items: &mut Items,
     setting: &Setting<'_>,
@@ -58,7 +59,8 @@ fn tell_replayed<'a>(
     tell_story(items, setting, moves, &then)
 }
 
-/// Tells which calls are moved, what the answer is then, which calls are refused, and what has no settings.
+/// Tells which calls are moved, what the answer is then, which calls are refused, and what has no
+/// settings.
 fn tell_story(
     items: &mut Items,
     setting: &Setting<'_>,
@@ -101,7 +103,8 @@ fn reordered(alloc: Global, value: &Value, moves: &[Move]) -> Result<Value, Allo
     Ok(copy)
 }
 
-/// The places of so many calls, from 0, in the order that they have once some are moved, from the last on.
+/// The places of so many calls, from 0, in the order that they have once some are moved, from the
+/// last on.
 fn order_of(alloc: Global, count: usize, moves: &[Move]) -> Result<Vec<usize>, AllocError> {
     let mut order: Vec<usize> = (0..count).collect(alloc)?;
     for one in moves.iter().rev() {
@@ -204,7 +207,8 @@ fn outcome_moved(
     setting.outcome(alloc, &calls, path)
 }
 
-/// Tells what the domain at a path would be once the calls that stand too early are moved, if that is decided then and isn't now.
+/// Tells what the domain at a path would be once the calls that stand too early are moved, if that
+/// is decided then and isn't now.
 pub fn tell_then(
     items: &mut Items,
     setting: &Setting<'_>,

@@ -9,8 +9,8 @@ use std::alloc::{AllocError, Global};
 use std::fmt::Write;
 use story_parts::Story;
 
-/// Tells what the domain of an index would be if nobody who is awaited stated anything. Groups without a child are left out: a child would be
-/// made up.
+/// Tells what the domain of an index would be if nobody who is awaited stated anything. Groups
+/// without a child are left out: a child would be made up.
 pub fn tell_without(
     items: &mut Items,
     setting: &Setting<'_>,

@@ -87,7 +87,8 @@ pub(crate) fn heaps_of(alloc: Global, platform: &Platform) -> Result<Vec<HeapInf
     Ok(heaps)
 }
 
-/// What the domain at a path would be on the platform with these heaps and pairs, if it would be chosen.
+/// What the domain at a path would be on the platform with these heaps and pairs, if it would be
+/// chosen.
 pub(crate) fn outcome_on(
     alloc: Global,
     setting: &Setting<'_>,

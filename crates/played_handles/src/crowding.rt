@@ -34,8 +34,9 @@ pub(crate) struct Crowd<'a> {
     pub(crate) refused: u32,
 }
 
-/// So many collections of 126 participants, one after the other, whose calls are shared out among threads; how many nanoseconds these take.
-/// Each duplicates, binds, states what it asks for, asks what was decided, and is released.
+/// So many collections of 126 participants, one after the other, whose calls are shared out among
+/// threads; how many nanoseconds these take. Each duplicates, binds, states what it asks for, asks
+/// what was decided, and is released.
 pub(crate) fn crowd_on<R: Threads + Wait + Clock + Sync>(
     rt: &R,
     alloc: Global,
@@ -127,8 +128,8 @@ fn longest(spent: &[Option<u64>]) -> Result<u64> {
     Ok(most)
 }
 
-/// Once all threads are there, takes the tokens of the slots that no thread took, one after the other: how many nanoseconds it is until the
-/// last of these is spent, if there is a clock.
+/// Once all threads are there, takes the tokens of the slots that no thread took, one after the
+/// other: how many nanoseconds it is until the last of these is spent, if there is a clock.
 fn take_parts<L: Ledger, R: Threads + Wait + Clock + Sync>(
     rt: &R,
     slots: &Vec<Slot<L>>,

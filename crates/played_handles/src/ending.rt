@@ -8,7 +8,7 @@ use std::sync::ledger::Ledger;
 use std::thread::Threads;
 use sysmem_participants::{Stub, audit};
 
-/// Closes what is still open: what is left of all handles, put behind these.
+/// Closes what is still open: what is left of all handles, put after these.
 pub(crate) fn end<L: Ledger, R: Threads + Wait + Sync>(
     rt: &R,
     hands: Vec<Hand<L>>,
@@ -25,7 +25,7 @@ pub(crate) fn end<L: Ledger, R: Threads + Wait + Sync>(
     stubs
 }
 
-/// Puts the audit's line behind the text.
+/// Puts the audit's line after the text.
 pub(crate) fn put_audit<L: Ledger, R: Threads + Wait + Sync>(
     rt: &R,
     text: &mut String,

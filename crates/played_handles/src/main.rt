@@ -1,10 +1,13 @@
-//! Plays a script through the handles of one collection, on one thread, and prints what they answer; for tests, and for the bench.
+//! Plays a script through the handles of one collection, on one thread, and prints what they
+//! answer; for tests, and for the bench.
 //!
 //! `played_handles FILE`
 //!
-//! Each call has the line that it has in the program's report. A call that is refused for want of memory is made once more, and has a second line then.
-//! `wait` waits where there is a verdict, and else asks as `check` does. Behind the calls each collection that is still open has a line: what it is
-//! shown, in the words of a domain's line, and what the checker says of that. Then all handles are closed, and the last line is the audit's.
+//! Each call has the line that it has in the program's report. A call that is refused for want of
+//! memory is made once more, and has a second line then. `wait` waits where there is a verdict, and
+//! else asks as `check` does. Behind the calls each collection that is still open has a line: what
+//! it is shown, in the words of a domain's line, and what the checker says of that. Then all
+//! handles are closed, and the last line is the audit's.
 //!
 //! `played_handles FILE JOB TIMES` does a job as often as the last word says, and prints nothing.
 //!

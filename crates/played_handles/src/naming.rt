@@ -58,7 +58,7 @@ fn name_of(act: &Act<'_>) -> &'static str {
     }
 }
 
-/// Puts the line of a call behind the text: `7 duplicate root a ok`.
+/// Puts the line of a call after the text: `7 duplicate root a ok`.
 pub(crate) fn put_call(
     text: &mut String,
     number: usize,

@@ -10,7 +10,7 @@ use std::sync::{Arc, Wait};
 use std::thread::Threads;
 use sysmem_tree::Refusal;
 
-/// Plays each call, with what it asks for, and puts its line behind the text.
+/// Plays each call, with what it asks for, and puts its line after the text.
 pub(crate) fn play<L: Ledger, R: Threads + Wait + Sync>(
     rt: &R,
     hands: &mut Vec<Hand<L>>,
@@ -40,7 +40,7 @@ fn is_action(act: &Act<'_>) -> bool {
     !matches!(act, Act::Check | Act::Wait)
 }
 
-/// Keeps a hand behind all others.
+/// Keeps a hand after all others.
 pub(crate) fn keep<L: Ledger, R: Threads + Wait + Sync>(
     rt: &R,
     hands: &mut Vec<Hand<L>>,
@@ -51,7 +51,7 @@ pub(crate) fn keep<L: Ledger, R: Threads + Wait + Sync>(
     }
 }
 
-/// Makes a call: what it makes stands behind all others then.
+/// Makes a call: what it makes stands after all others then.
 pub(crate) fn make<L: Ledger, R: Threads + Wait + Sync>(
     rt: &R,
     hands: &mut Vec<Hand<L>>,

@@ -20,7 +20,8 @@ use sysmem_sanitise::Platform;
 use sysmem_search::NoGate;
 use sysmem_tree::{Action, Event, NodeId};
 
-/// Plays the calls through the handles of so many collections, one after the other, closes them, and audits each if that is asked for.
+/// Plays the calls through the handles of so many collections, one after the other, closes them,
+/// and audits each if that is asked for.
 pub(crate) fn repeat_handles<R: Threads + Wait + Sync>(
     rt: &R,
     alloc: Global,
@@ -45,7 +46,8 @@ pub(crate) fn repeat_handles<R: Threads + Wait + Sync>(
     Ok(())
 }
 
-/// Plays the calls through the handles of one collection, closes them, and audits it if that is asked for.
+/// Plays the calls through the handles of one collection, closes them, and audits it if that is
+/// asked for.
 fn play_once<L: Ledger, R: Threads + Wait + Sync>(
     rt: &R,
     alloc: Global,

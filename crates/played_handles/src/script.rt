@@ -76,7 +76,8 @@ impl<'a> Played<'a> {
         &self.report
     }
 
-    /// Plays the calls on a new collection, and on a second one where memory is refused to the first.
+    /// Plays the calls on a new collection, and on a second one where memory is refused to the
+    /// first.
     pub(crate) fn play<R: Threads + Wait + Sync>(&mut self, rt: &R) -> Result<()> {
         if self.play_on::<Brand, R>(rt, Blank::new(129))? {
             return Ok(());
@@ -86,7 +87,8 @@ impl<'a> Played<'a> {
         Ok(())
     }
 
-    /// Plays the calls on a new collection; `false` where memory is refused to it, and then no call was made.
+    /// Plays the calls on a new collection; `false` where memory is refused to it, and then no call
+    /// was made.
     fn play_on<L: Ledger, R: Threads + Wait + Sync>(&mut self, rt: &R, blank: Blank) -> Result<bool>
         requires name { blank.name ≡ L.name }
         requires ledger { blank.parts ≡ L.parts }

@@ -13,7 +13,7 @@ use sysmem_proof::check;
 use sysmem_sanitise::Platform;
 use sysmem_search::NoGate;
 
-/// Puts a line for each open collection behind the text.
+/// Puts a line for each open collection after the text.
 pub(crate) fn put_open<L: Ledger>(
     text: &mut String,
     hands: &mut [Hand<L>],
@@ -42,7 +42,7 @@ fn name_at<'a>(calls: &'a [Call<'_>], place: usize) -> &'a str {
     "root"
 }
 
-/// Puts what a collection is shown behind the text, or why it isn't.
+/// Puts what a collection is shown after the text, or why it isn't.
 fn put_shown<L: Ledger>(
     text: &mut String,
     collection: &mut Collection<L, NoGate>,
@@ -56,7 +56,7 @@ fn put_shown<L: Ledger>(
     }
 }
 
-/// Puts ` chosen 1 count 2 size 4096 place ram#0 cpu image none checked` behind the text.
+/// Puts ` chosen 1 count 2 size 4096 place ram#0 cpu image none checked` after the text.
 fn put_view(text: &mut String, view: &View<'_>) -> Result<(), AllocError> {
     text.push_str(" chosen ")?;
     put_selection(text, view.selection().choices())?;

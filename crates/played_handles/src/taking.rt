@@ -1,5 +1,6 @@
-//! Measures of the bench: participants of a collection who bind, state what they ask for and are released, each in its turn, through
-//! handles and on a book. Handles and nodes are kept in a list of just these, so that next to nothing but the calls takes time.
+//! Measures of the bench: participants of a collection who bind, state what they ask for and are
+//! released, each in its turn, through handles and on a book. Handles and nodes are kept in a list
+//! of just these, so that next to nothing but the calls takes time.
 
 ghost use Rattle.std.specs.Prelude.{◌≡◌};
 ghost use Rattle.sysmem_room.specs.Counting.{all_parts};
@@ -32,7 +33,8 @@ pub(crate) fn all_asked(
     Ok(all)
 }
 
-/// So many collections, one after the other, of as many participants as ask for anything; the root of each is closed.
+/// So many collections, one after the other, of as many participants as ask for anything; the root
+/// of each is closed.
 pub(crate) fn take_again<R: Threads + Wait + Sync>(
     rt: &R,
     alloc: Global,

@@ -3,8 +3,8 @@
 /// How many words they have to share.
 const FEWEST: usize = 2;
 
-/// The known key that shares the most words at the beginning with a key, if one shares more than all others: `bytes_per_row_divisor` of
-/// `bytes_per_row_alignment`.
+/// The known key that shares the most words at the beginning with a key, if one shares more than
+/// all others: `bytes_per_row_divisor` of `bytes_per_row_alignment`.
 pub(crate) fn begins_alike<'a>(key: &str, keys: &[&'a str]) -> Option<&'a str> {
     let mut most = FEWEST.saturating_sub(1);
     let mut best = None;

@@ -74,7 +74,8 @@ impl Narrowing {
         Ok(found == self.fault)
     }
 
-    /// The same of the record in which the list at a path has its first items alone, as many as are said.
+    /// The same of the record in which the list at a path has its first items alone, as many as are
+    /// said.
     fn has_fault_within(&self, path: &[Step<'_>], most: usize) -> Result<bool, AllocError> {
         let front = cut(self.alloc, &self.record, path, most)?;
         self.has_fault(&front)
@@ -88,8 +89,9 @@ impl Narrowing {
         }
     }
 
-    /// The index of the last item of the shortest front, of at least `least` items, with which the list at a path has the fault, and cuts
-    /// the list after it; `None` where that front is empty, or the fault isn't there. Longer fronts have it too, so halving finds it.
+    /// The index of the last item of the shortest front, of at least `least` items, with which the
+    /// list at a path has the fault, and cuts the list after it; `None` where that front is empty,
+    /// or the fault isn't there. Longer fronts have it too, so halving finds it.
     pub(crate) fn item(
         &mut self,
         path: &[Step<'_>],
@@ -116,7 +118,8 @@ impl Narrowing {
         Ok(high.checked_sub(1))
     }
 
-    /// The path of the faulty item of the list at a path, with the rest after it; or the path itself.
+    /// The path of the faulty item of the list at a path, with the rest after it; or the path
+    /// itself.
     pub(crate) fn in_list<'a>(
         &mut self,
         path: Path<'a>,

@@ -6,7 +6,8 @@ use serde_json::Value;
 use std::alloc::AllocError;
 use sysmem_sanitise::Code;
 
-/// Puts where the value at a path, which its list has twice, stands first after a text, if it is found.
+/// Puts where the value at a path, which its list has twice, stands first after a text, if it is
+/// found.
 pub(crate) fn put_first_like(
     text: &mut String,
     script: &Value,

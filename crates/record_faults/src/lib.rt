@@ -1,4 +1,5 @@
-//! Where the first fault of a script's record stands in its text, and what would be right, in words.
+//! Where the first fault of a script's record stands in its text, and what would be right, in
+//! words.
 #![tactic(auto)]
 
 mod alike;

@@ -242,7 +242,8 @@ fn tell_multiple(
     tell_number(items, faulty, &path, number, (1, 65536), help)
 }
 
-/// A list that is empty, too long or has an item twice, a value that is no object, or a tiled modifier that doesn't go with its format.
+/// A list that is empty, too long or has an item twice, a value that is no object, or a tiled
+/// modifier that doesn't go with its format.
 fn tell_list(items: &mut Items, faulty: Faulty<'_, '_>, value: &Value) -> Result<(), AllocError> {
     let is_empty = matches!(value.as_array(), Some(list) if list.is_empty());
     let note = note_of_list(items.alloc(), faulty.fault.code, value, is_empty)?;

@@ -9,7 +9,8 @@ use std::alloc::{AllocError, Global};
 /// How many unknown keys of one object are looked for in the text.
 const MOST: usize = 16;
 
-/// The path to the first member, as the text has them, of the object at a path whose key isn't one of these.
+/// The path to the first member, as the text has them, of the object at a path whose key isn't one
+/// of these.
 pub fn first_unknown<'a>(
     alloc: Global,
     document: &Document<'a>,

@@ -1,4 +1,5 @@
-//! What is repeated of one aggregate: adding the participants of a selection to it, and asking it for their best settings.
+//! What is repeated of one aggregate: adding the participants of a selection to it, and asking it
+//! for their best settings.
 
 ghost use Rattle.std.specs.Prelude.{◌≤◌, [], All, IfOk, IfSome};
 ghost use Rattle.sysmem_tree.specs.Domain.{HasDomain};
@@ -23,7 +24,8 @@ pub(crate) fn add_again(alloc: Global, platform: &Platform, tree: &Tree, times: 
     Ok(())
 }
 
-/// Asks an aggregate of the participants of the initial domain's selection for their best settings, so many times.
+/// Asks an aggregate of the participants of the initial domain's selection for their best settings,
+/// so many times.
 pub(crate) fn settle_again(
     alloc: Global,
     platform: &Platform,
@@ -62,8 +64,8 @@ fn together<'p>(
     Ok(aggregate)
 }
 
-/// The participants of the initial domain's selection: of the one that is found, and where none can be met, of that of the first child
-/// of each group.
+/// The participants of the initial domain's selection: of the one that is found, and where none can
+/// be met, of that of the first child of each group.
 fn participants(alloc: Global, platform: &Platform, tree: &Tree) -> Result<Vec<NodeId>>
     ensures { IfOk result (λ nodes. All (HasNode tree.now.nodes) nodes.items) }
 {
@@ -76,7 +78,7 @@ fn participants(alloc: Global, platform: &Platform, tree: &Tree) -> Result<Vec<N
     Ok(tree.participants(domain, prefix.choices())?)
 }
 
-/// The selection of these children, of the groups behind them the first ones.
+/// The selection of these children, of the groups after them the first ones.
 fn selection_by(tree: &Tree, domain: DomainId, choices: &[u8]) -> Prefix
     requires { HasDomain tree.now.nodes domain }
     ensures { IsPrefix (forest_of by_number tree.now.nodes domain []) result }

@@ -1,4 +1,5 @@
-//! What is repeated of a decision: the search for a verdict, the making of its proof, and the check of both.
+//! What is repeated of a decision: the search for a verdict, the making of its proof, and the check
+//! of both.
 
 ghost use Rattle.std.specs.Prelude.{None, IfOk, OnOk};
 ghost use Rattle.sysmem_proof.specs.Base.{IsGivenBase};

@@ -1,4 +1,5 @@
-//! The measure of the bench: does a job for the initial domain of a script as often as the last word says, or several, one after the other.
+//! The measure of the bench: does a job for the initial domain of a script as often as the last
+//! word says, or several, one after the other.
 //!
 //! `repeated_decisions FILE search 100`, `repeated_decisions FILE add,settle 100`
 //!

@@ -8,7 +8,8 @@ use std::sync::Arc;
 use sysmem_sanitise::read_constraints;
 use sysmem_tree::{Action, Event, NodeId, Tree};
 
-/// The tree after these calls. A call that is refused, or whose node isn't there, leaves it as it is.
+/// The tree after these calls. A call that is refused, or whose node isn't there, leaves it as it
+/// is.
 pub(crate) fn play(alloc: Global, calls: &[Call<'_>]) -> Result<Tree> {
     let mut tree = Tree::new(alloc)?;
     let mut names = vec![in alloc; Some(tree.root())]?;

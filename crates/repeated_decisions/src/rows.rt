@@ -1,5 +1,5 @@
-//! Plays actions and decisions on trees, one a line of standard input, and prints what each is answered and how the tree's domains
-//! stand after it.
+//! Plays actions and decisions on trees, one a line of standard input, and prints what each is
+//! answered and how the tree's domains stand after it.
 //!
 //! | Line | What it does | What is printed |
 //! |---|---|---|
@@ -12,11 +12,11 @@
 //! | `PATH next PREFIX` | | the path of the group that is next and how many children it has, or `none` |
 //! | `PATH settled PREFIX` | | the paths of the nodes with constraints that the prefix settles, in the order in which they were made |
 //! | `PATH members CHOICES` | | the paths of the nodes that the choices settle, with constraints or without, the shorter first; none where they are no prefix |
-//! | `PATH walk PREFIX` | | over the domain's layout: the nodes that no choice settles, and then those that each choice of the prefix does; behind each the group that is open then, or `whole` |
-//! | `PATH shape` | | the nodes of the domain in the order of their paths, a group with `g`, a token with `t`, a collection with `c`, and `+` behind one that set constraints |
+//! | `PATH walk PREFIX` | | over the domain's layout: the nodes that no choice settles, and then those that each choice of the prefix does; after each the group that is open then, or `whole` |
+//! | `PATH shape` | | the nodes of the domain in the order of their paths, a group with `g`, a token with `t`, a collection with `c`, and `+` after one that set constraints |
 //!
-//! Domains are printed as one letter each, in the order in which their roots were made: `u` neither ready nor decided, `r` ready, `c` decided
-//! for a selection, `n` for none, `f` failed.
+//! Domains are printed as one letter each, in the order in which their roots were made: `u` neither
+//! ready nor decided, `r` ready, `c` decided for a selection, `n` for none, `f` failed.
 
 mod actions;
 mod asking;
@@ -32,7 +32,8 @@ use std::io::{self, BufRead, BufReader, BufWriter, Write};
 use sysmem_tree::Tree;
 
 /// Plays the lines of standard input.
-// What owns memory is made by one function and lent to another that may fail: else each `?` is proved to free it.
+// What owns memory is made by one function and lent to another that may fail: else each `?` is
+// proved to free it.
 pub(crate) fn play_rows(rt: &HostRuntime) -> Result<()> {
     let mut out = BufWriter::new(rt.alloc(), io::writer(rt))?;
     let mut tree = Tree::new(rt.alloc())?;

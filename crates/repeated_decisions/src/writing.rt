@@ -1,4 +1,5 @@
-//! What is repeated of a certificate: the writing of its text, and beside it the serialising of the value that this text spells.
+//! What is repeated of a certificate: the writing of its text, and beside it the serialising of the
+//! value that this text spells.
 
 use crate::deciding::claim_of;
 use anyhow::{Result, bail};

@@ -3,7 +3,8 @@
 use std::alloc::AllocError;
 use std::fmt::Write;
 
-/// What the line of a call says: its number, what it does, on which name, the name that it makes, and the reply.
+/// What the line of a call says: its number, what it does, on which name, the name that it makes,
+/// and the reply.
 #[derive(Clone, Copy)]
 pub(crate) struct Called<'a> {
     pub number: usize,
@@ -39,7 +40,8 @@ fn put_reply(out: &mut String, on: &str, reply: &str) -> Result<(), AllocError> 
     }
 }
 
-/// The reply in a call's line, after its number, what it does, the name that it is made on, and the name that it makes.
+/// The reply in a call's line, after its number, what it does, the name that it is made on, and the
+/// name that it makes.
 pub(crate) fn reply_in(line: &str, makes: bool) -> &str {
     let rest = after_word(after_word(after_word(line)));
     if makes { after_word(rest) } else { rest }

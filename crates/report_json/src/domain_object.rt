@@ -6,7 +6,8 @@ use std::alloc::{AllocError, Global};
 use std::fmt::Write;
 use sysmem_sanitise::Platform;
 
-// Where the words stand in the line of settings: `/ chosen - count 8 size 2402304 place cma#0 ram image NV12 LINEAR REC709 1440x1088 row 1472`.
+// Where the words stand in the line of settings:
+// `/ chosen - count 8 size 2402304 place cma#0 ram image NV12 LINEAR REC709 1440x1088 row 1472`.
 const SELECTION: usize = 2;
 
 const COUNT: usize = 4;
@@ -17,7 +18,8 @@ const HEAP: usize = 8;
 
 const COHERENCY: usize = 9;
 
-/// The object of the domain at a path, whose root has this name, of which a report says this: `chosen - count 8 ..`, or a word.
+/// The object of the domain at a path, whose root has this name, of which a report says this:
+/// `chosen - count 8 ..`, or a word.
 pub fn decision_object(
     alloc: Global,
     platform: &Platform,
@@ -32,7 +34,8 @@ pub fn decision_object(
     Ok(out)
 }
 
-/// Puts the object of a domain by the words of its line: its path, the verdict, and what was chosen.
+/// Puts the object of a domain by the words of its line: its path, the verdict, and what was
+/// chosen.
 pub(crate) fn put_told(
     out: &mut String,
     platform: &Platform,
@@ -46,7 +49,8 @@ pub(crate) fn put_told(
     }
 }
 
-/// Puts the object of a domain of which a word is said: `{"domain":"/0","name":"camera","verdict":"failed"}`.
+/// Puts the object of a domain of which a word is said:
+/// `{"domain":"/0","name":"camera","verdict":"failed"}`.
 fn put_word(
     out: &mut String,
     path: &str,
@@ -125,7 +129,8 @@ fn index_of(platform: &Platform, heap_type: &str, id: u64) -> usize {
     index
 }
 
-/// Puts the chosen child of each group, which a line has as `0.1`, or as `-` where there is no group.
+/// Puts the chosen child of each group, which a line has as `0.1`, or as `-` where there is no
+/// group.
 fn put_selection(out: &mut String, selection: &str) -> Result<(), AllocError> {
     out.push_str(",\"selection\":[")?;
     if selection == "-" {

@@ -10,7 +10,8 @@ use std::alloc::AllocError;
 use std::fmt::Write;
 use sysmem_formats::{Modifier, Pair, PixelFormat};
 
-// Where the words stand in the line of settings: `/ chosen - count 8 size 2402304 place cma#0 ram image NV12 LINEAR REC709 1440x1088 row 1472`.
+// Where the words stand in the line of settings:
+// `/ chosen - count 8 size 2402304 place cma#0 ram image NV12 LINEAR REC709 1440x1088 row 1472`.
 const FORMAT: usize = 11;
 
 const MODIFIER: usize = 12;

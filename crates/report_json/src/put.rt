@@ -1,4 +1,4 @@
-//! Numbers, names and words, each put behind the text so far.
+//! Numbers, names and words, each put after the text so far.
 
 use std::alloc::{AllocError, Global};
 use std::fmt::Write;
@@ -23,7 +23,8 @@ pub(crate) fn put_digits(out: &mut String, digits: &str) -> Result<(), AllocErro
     }
 }
 
-/// Puts a name between quotes, or null. It has letters, digits, `.`, `_` and `-` alone, so nothing in it is escaped.
+/// Puts a name between quotes, or null. It has letters, digits, `.`, `_` and `-` alone, so nothing
+/// in it is escaped.
 pub(crate) fn put_name(out: &mut String, name: Option<&str>) -> Result<(), AllocError> {
     match name {
         Some(name) => write!(out, "\"{name}\""),

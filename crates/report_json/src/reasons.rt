@@ -7,8 +7,8 @@ use serde_json::Value;
 use std::alloc::AllocError;
 use std::fmt::Write;
 
-/// Puts the object of a domain that no settings meet, with the refutation that the certificate has of it. It fails where memory is refused,
-/// and where the certificate has none.
+/// Puts the object of a domain that no settings meet, with the refutation that the certificate has
+/// of it. It fails where memory is refused, and where the certificate has none.
 pub(crate) fn put_empty(
     out: &mut String,
     names: &Names<'_>,
@@ -43,8 +43,8 @@ fn is_about(decision: &Value, path: &str) -> bool {
     }
 }
 
-/// Puts a refutation's text, in which each path becomes an object with the node's name. A path is a text that begins with a slash, and no other
-/// does.
+/// Puts a refutation's text, in which each path becomes an object with the node's name. A path is a
+/// text that begins with a slash, and no other does.
 fn put_reasons(out: &mut String, names: &Names<'_>, text: &str) -> Result<(), AllocError> {
     let mut is_quoted = false;
     for part in text.split('"') {

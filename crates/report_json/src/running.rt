@@ -28,10 +28,12 @@ struct Made {
     certificate: Vec<u8>,
 }
 
-/// Reads a script, makes its calls, and writes an object of JSON for each line of their report, and one that ends them.
+/// Reads a script, makes its calls, and writes an object of JSON for each line of their report, and
+/// one that ends them.
 ///
-/// Any failure of the reader is the fault `Read`, and any of the writer the fault `Write`; what was written then is a
-/// prefix of the objects. No other fault is called so. A script that is refused writes nothing.
+/// Any failure of the reader is the fault `Read`, and any of the writer the fault `Write`; what was
+/// written then is a prefix of the objects. No other fault is called so. A script that is refused
+/// writes nothing.
 #[tactic(auto, using(crate::proofs::Input::refused_input))]
 pub fn run_as_json<R: Source, W: Sink>(
     alloc: Global,
@@ -74,7 +76,8 @@ pub fn run_as_json_with_proof<R: Source, W: Sink, P: Sink>(
     Ok(told.ended)
 }
 
-/// What is told of a script's bytes. It fails where the script is refused, by its first fault, and where memory is refused outside of a decision.
+/// What is told of a script's bytes. It fails where the script is refused, by its first fault, and
+/// where memory is refused outside of a decision.
 fn told_of(alloc: Global, bytes: &[u8]) -> Result<Told, RunFault>
     ensures refused { (fault : FaultOfScript) → result ≡ Err (RunFault.Script fault)
         → RunsTo bytes.now (Err fault) }
@@ -123,7 +126,8 @@ fn told_made(
     }
 }
 
-/// The same as a text. It fails where memory is refused, and where the bytes are no script or these no report and certificate of it.
+/// The same as a text. It fails where memory is refused, and where the bytes are no script or these
+/// no report and certificate of it.
 fn objects_on(
     alloc: Global,
     bytes: &[u8],

@@ -21,7 +21,8 @@ struct Telling<'s, 'a> {
     out: String,
 }
 
-/// The objects of a script's report, by its lines and by the objects of its certificate, and one that ends them.
+/// The objects of a script's report, by its lines and by the objects of its certificate, and one
+/// that ends them.
 pub(crate) fn objects_of(
     alloc: Global,
     script: &Script<'_>,

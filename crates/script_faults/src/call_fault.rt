@@ -67,7 +67,8 @@ impl<'a> Faulty<'a, '_> {
             .advise(items, 1, path, Part::Value, note, help)
     }
 
-    /// Points at the call, which lacks a member; or at a key that it can't have, which is likely meant.
+    /// Points at the call, which lacks a member; or at a key that it can't have, which is likely
+    /// meant.
     fn lacks(&self, items: &mut Items, key: &'static str, help: String) -> Result<(), AllocError> {
         let alloc = items.alloc();
         let path = self.path();

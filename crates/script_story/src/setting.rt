@@ -39,9 +39,9 @@ impl<'a> Setting<'a> {
         Ok(told)
     }
 
-    /// What the report of these calls says last of the domain at a path; `None` where it has no line
-    /// on it, and where nothing more is to be tried. `AllocError` also where memory was refused in a
-    /// reply or a decision.
+    /// What the report of these calls says last of the domain at a path; `None` where it has no
+    /// line on it, and where nothing more is to be tried. `AllocError` also where memory was
+    /// refused in a reply or a decision.
     pub fn outcome(
         &self,
         alloc: Global,

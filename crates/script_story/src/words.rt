@@ -20,7 +20,8 @@ pub(crate) fn said_on<'a>(line: &'a str, path: &str) -> Option<&'a str>
     rest.strip_prefix(" ")
 }
 
-/// The reply in a call's line, after its number, its name and the name that it is made on, and the name that it makes.
+/// The reply in a call's line, after its number, its name and the name that it is made on, and the
+/// name that it makes.
 pub(crate) fn reply_in(line: &str, makes: bool) -> &str {
     let rest = after_word(after_word(after_word(line)));
     if makes { after_word(rest) } else { rest }

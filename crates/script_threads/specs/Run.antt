@@ -79,7 +79,8 @@ pub record Played (result : Result Ended RunFault) (had before after : Option (L
   pub written : (ended : Ended) → result ≡ Ok ended → Writes before after
   pub unchecked : result ≢ Ok CheckedNo
   pub no_proof : result ≢ Err Proof
-  pub refused : (fault : ScriptFault) → result ≡ Err (Script fault) → IfSome had (λ input. SpellsApart input (Err fault))
+  pub refused : (fault : ScriptFault) → result ≡ Err (Script fault)
+      → IfSome had (λ input. SpellsApart input (Err fault))
   pub audited : (found : Disagreement) → result ≡ Err (Audit found) → IfSome had IsPlayable
   pub failed : result ≡ Err Write → IfSome had IsPlayable
   pub front : result ≡ Err Write → WritesPart before after

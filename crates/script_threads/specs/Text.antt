@@ -11,7 +11,8 @@ use Rattle.script_run.specs.Lines.{chosen_text, domain_line}
 -- what the line of a domain can say of it
 pub data Says : List ℕ → Type 0 where
   waits : Says (codes "pending")
-  chose : (platform : PlatformFacts) (chosen : ChosenFacts) (k : Corner) → IsCorner chosen.settings.offer chosen.settings.bounds k
+  chose : (platform : PlatformFacts) (chosen : ChosenFacts) (k : Corner)
+      → IsCorner chosen.settings.offer chosen.settings.bounds k
       → Says (chosen_text platform chosen k)
   none_meet : Says (codes "empty")
   too_many : Says (codes "too_many")
@@ -26,7 +27,8 @@ pub data AreLines : List ℕ → Type 0 where
 -- `audit nodes 3 actions 5 decisions 1`
 abbrev pub audit_line : Audit → List ℕ
 audit_line a =
-    codes "audit nodes " ++ (decimal a.nodes ++ (codes " actions " ++ (decimal a.actions ++ (codes " decisions " ++ (decimal a.decisions ++ codes "\n")))))
+    codes "audit nodes " ++ (decimal a.nodes ++ (codes " actions " ++ (decimal a.actions
+    ++ (codes " decisions " ++ (decimal a.decisions ++ codes "\n")))))
 
 -- lines of domains, and then the line of an audit
 pub record IsText (text : List ℕ) : Type 0 where

@@ -59,7 +59,7 @@ fn roots_of(alloc: Global, tree: &Tree) -> Result<Vec<Rooted>, AllocError> {
     Ok(roots)
 }
 
-/// Puts the line of a domain with this verdict behind the text.
+/// Puts the line of a domain with this verdict after the text.
 fn put_line(
     text: &mut String,
     platform: &Platform,
@@ -79,7 +79,7 @@ fn put_line(
     }
 }
 
-/// Puts the line of a choice behind the text. A choice that was decided has a corner.
+/// Puts the line of a choice after the text. A choice that was decided has a corner.
 fn put_choice(
     text: &mut String,
     platform: &Platform,

@@ -58,7 +58,8 @@ pub(crate) fn play<L: Ledger + Send + Sync, R: Threads + Wait + Sync>(
     play_on(rt, alloc, root, names, stubs, calls)
 }
 
-/// Plays calls that make so many names on the collection of this root, and closes what is left of it.
+/// Plays calls that make so many names on the collection of this root, and closes what is left of
+/// it.
 fn play_on<L: Ledger + Send + Sync, R: Threads + Wait + Sync>(
     rt: &R,
     alloc: Global,
@@ -159,7 +160,7 @@ fn with_audit(lines: Lines, audit: Audit) -> Result<String, AllocError>
     Ok(text)
 }
 
-/// Puts the line of an audit behind the text.
+/// Puts the line of an audit after the text.
 fn put_audit(text: &mut String, audit: Audit) -> Result<(), AllocError>
     ensures { Puts result text.old text.new (audit_line audit) }
 {

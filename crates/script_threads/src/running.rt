@@ -29,8 +29,8 @@ const PARTS: u64 = 129;
 /// became of each domain, and what the audit counts.
 ///
 /// Any failure of the reader is the fault `Read`, and any of the writer the fault `Write`; what was
-/// written then is a prefix of such a text. No other fault is called so, and with another nothing is
-/// written. A thread that can't be started is want of memory, and then no actor makes a call.
+/// written then is a prefix of such a text. No other fault is called so, and with another nothing
+/// is written. A thread that can't be started is want of memory, and then no actor makes a call.
 pub fn run_threads<T: Threads + Wait + Sync, R: Source, W: Sink>(
     rt: &T,
     alloc: Global,

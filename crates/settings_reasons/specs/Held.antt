@@ -21,4 +21,5 @@ is_taken_before before with pair = not (takes with pair) || takes before pair
 
 -- the entry of this index holds for none of the pairs: each that those up to it take, those before it take
 abbrev pub IsNeverUsed : List Pair → List Entry → ℕ → Type 0
-IsNeverUsed pairs entries index = All (λ pair. IsTrue (is_taken_before (take index entries) (take (index + 1) entries) pair)) pairs
+IsNeverUsed pairs entries index =
+    All (λ pair. IsTrue (is_taken_before (take index entries) (take (index + 1) entries) pair)) pairs

@@ -131,8 +131,8 @@ fn tell_offer(
     tell_listed(items, platform, people, settings)
 }
 
-/// Tells who refuses each pair that participants list before the chosen one, where all its offers are refused: such a pair stands later on the
-/// platform.
+/// Tells who refuses each pair that participants list before the chosen one, where all its offers
+/// are refused: such a pair stands later on the platform.
 fn tell_listed(
     items: &mut Items,
     platform: &Platform,

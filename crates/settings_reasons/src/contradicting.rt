@@ -12,7 +12,8 @@ use value_sources::Asked;
 /// How many are told.
 const MOST: usize = 4;
 
-/// The fields of an entry of which the first may not be above the second, in the order in which they are looked at.
+/// The fields of an entry of which the first may not be above the second, in the order in which
+/// they are looked at.
 const ORDERED: &[(Field, Field)] = &[
     (Field::MinSize, Field::MaxSize),
     (Field::MinSize, Field::RequiredMinSize),

@@ -152,7 +152,8 @@ pub fn is_unmet(
     Ok(asked.best_settings(false).is_err())
 }
 
-/// Those who leave no settings by themselves, each of whom is needed for that; `None` where all together leave some.
+/// Those who leave no settings by themselves, each of whom is needed for that; `None` where all
+/// together leave some.
 pub fn in_the_way<'a>(
     alloc: Global,
     platform: &Platform,
@@ -240,7 +241,8 @@ struct Others<'a> {
     kept: Vec<Asked<'a>>,
 }
 
-/// Participants without one of some, and who of them leave no settings; `None` where without each there are some.
+/// Participants without one of some, and who of them leave no settings; `None` where without each
+/// there are some.
 fn without_one<'a>(
     alloc: Global,
     platform: &Platform,

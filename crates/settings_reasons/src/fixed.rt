@@ -44,7 +44,8 @@ const FIELDS: &[Field] = &[
     Field::Usage,
 ];
 
-/// Tells in which fields settings fail participants who come late, and who of those before refuses the images that they take.
+/// Tells in which fields settings fail participants who come late, and who of those before refuses
+/// the images that they take.
 pub fn tell_misfits(
     items: &mut Items,
     platform: &Platform,
@@ -85,7 +86,8 @@ fn tell_misfit(
     Ok(())
 }
 
-/// Tells who of those before refuses the images that a participant takes; or that nobody does, and the platform has what was decided before them.
+/// Tells who of those before refuses the images that a participant takes; or that nobody does, and
+/// the platform has what was decided before them.
 fn tell_refused(
     items: &mut Items,
     platform: &Platform,

@@ -1,5 +1,6 @@
-//! Why participants got the settings that they got, or none: which places and offers of a platform they refuse and by which field, where each
-//! value comes from, who alone is in the way, and in which fields given settings fail one.
+//! Why participants got the settings that they got, or none: which places and offers of a platform
+//! they refuse and by which field, where each value comes from, who alone is in the way, and in
+//! which fields given settings fail one.
 //!
 //! ```
 //! let mut items = Items::new(rt.alloc());

@@ -6,7 +6,8 @@ use sysmem_image::Entry;
 use sysmem_sanitise::Platform;
 use value_sources::Asked;
 
-/// The pairs that stand after one on a platform, and that a participant names in an entry before its first that takes this one.
+/// The pairs that stand after one on a platform, and that a participant names in an entry before
+/// its first that takes this one.
 pub fn listed_before(
     alloc: Global,
     platform: &Platform,

@@ -45,7 +45,8 @@ pub(crate) fn pair_name(
     format!(in alloc; "{format} {modifier}")
 }
 
-/// Puts the sentence of a reason against an offer, with the numbers of all participants, into an empty text.
+/// Puts the sentence of a reason against an offer, with the numbers of all participants, into an
+/// empty text.
 pub(crate) fn put_offer_reason(
     text: &mut String,
     offer: &Offer,
@@ -71,7 +72,8 @@ pub(crate) fn put_offer_reason(
     }
 }
 
-/// Puts who has no entry for an offer after a text, with the modifiers that they take its format with.
+/// Puts who has no entry for an offer after a text, with the modifiers that they take its format
+/// with.
 fn put_no_entry(text: &mut String, offer: &Offer, people: &[Asked<'_>]) -> Result<(), AllocError> {
     let Offer::Image(pair, _) = offer else {
         return put_has(text, people, "takes images only", "take images only");

@@ -72,7 +72,8 @@ fn is_refused(offer: &Offer, people: &[Asked<'_>], whole: bool) -> bool
     read_of(offer, people).first_line(whole).is_some()
 }
 
-/// Whether each of some offers is refused by participants, who are all that there are if `whole` says so.
+/// Whether each of some offers is refused by participants, who are all that there are if `whole`
+/// says so.
 pub(crate) fn are_refused(offers: &[Offer], people: &[Asked<'_>], whole: bool) -> bool {
     for offer in offers {
         if !is_refused(offer, people, whole) {
@@ -153,8 +154,9 @@ fn colour_reasons<'a>(
     Ok(reasons)
 }
 
-/// What is true against an offer: all who have no entry for it; or else all who lack its colour space; or else each line of the bounds, of all;
-/// or else what nobody names, where they are all that there are.
+/// What is true against an offer: all who have no entry for it; or else all who lack its colour
+/// space; or else each line of the bounds, of all; or else what nobody names, where they are all
+/// that there are.
 pub(crate) fn offer_reasons<'a>(
     alloc: Global,
     offer: &Offer,
@@ -176,7 +178,8 @@ pub(crate) fn offer_reasons<'a>(
     line_reasons(alloc, offer, people, whole, UNNAMED)
 }
 
-/// Each of some lines that is true of participants, with all of them; one on names where they are all that there are.
+/// Each of some lines that is true of participants, with all of them; one on names where they are
+/// all that there are.
 fn line_reasons<'a>(
     alloc: Global,
     offer: &Offer,

@@ -176,7 +176,8 @@ fn put_needs(
     write!(text, " {what} memory ({field})")
 }
 
-/// Puts which heaps participants permit after a text; of several with other lists only that it isn't this one.
+/// Puts which heaps participants permit after a text; of several with other lists only that it
+/// isn't this one.
 fn put_permits(text: &mut String, people: &[Asked<'_>]) -> Result<(), AllocError> {
     let [one] = people else {
         return put_has(
@@ -212,7 +213,8 @@ fn states(one: &Asked<'_>, field: &str) -> bool {
     }
 }
 
-/// Puts who says that it doesn't take a coherency domain into an empty text, and who doesn't say that it does.
+/// Puts who says that it doesn't take a coherency domain into an empty text, and who doesn't say
+/// that it does.
 fn put_unsupported(text: &mut String, people: &[Asked<'_>], field: &str) -> Result<(), AllocError> {
     put_stating(text, people, field, true)?;
     put_stating(text, people, field, false)

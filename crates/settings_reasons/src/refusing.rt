@@ -10,8 +10,8 @@ use sysmem_memory::Place;
 use sysmem_sanitise::Platform;
 use value_sources::Asked;
 
-/// Rows of places that participants refuse. Where all reasons of all are asked for, the nearest place has the fewest who refuse it; else the
-/// first reason is enough, and the order stays.
+/// Rows of places that participants refuse. Where all reasons of all are asked for, the nearest
+/// place has the fewest who refuse it; else the first reason is enough, and the order stays.
 pub(crate) fn place_rows(
     alloc: Global,
     platform: &Platform,
@@ -31,7 +31,8 @@ pub(crate) fn place_rows(
     Ok(rows)
 }
 
-/// The reasons against an offer, or against a place where there is none, in words; or the first of them.
+/// The reasons against an offer, or against a place where there is none, in words; or the first of
+/// them.
 fn texts_of(
     alloc: Global,
     offer: Option<&Offer>,
@@ -61,7 +62,8 @@ fn refusals(reasons: &[Reason<'_>]) -> usize {
     count
 }
 
-/// Rows of offers that participants refuse, in the same way. A pair that is refused in each of so many colour spaces for the same reasons is named once.
+/// Rows of offers that participants refuse, in the same way. A pair that is refused in each of so
+/// many colour spaces for the same reasons is named once.
 pub(crate) fn offer_rows(
     alloc: Global,
     offers: &[Offer],

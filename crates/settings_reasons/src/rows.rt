@@ -63,7 +63,8 @@ pub(crate) fn add(
     Ok(())
 }
 
-/// How many of the rows, the nearest first, are told: of those that aren't farther than a distance so many; one more is shown rather than counted.
+/// How many of the rows, the nearest first, are told: of those that aren't farther than a distance
+/// so many; one more is shown rather than counted.
 fn shown(rows: &[Row], far: usize) -> usize {
     let near = rows.iter().filter(|row| row.distance <= far).count();
     let some = if rows.len() <= near.saturating_add(1) {
@@ -78,8 +79,8 @@ fn shown(rows: &[Row], far: usize) -> usize {
     }
 }
 
-/// Tells the rows, the nearest first and else in their order; more than some are counted, with what is said of them, and so are those that are
-/// farther than a distance.
+/// Tells the rows, the nearest first and else in their order; more than some are counted, with what
+/// is said of them, and so are those that are farther than a distance.
 pub(crate) fn tell_rows(
     items: &mut Items,
     depth: usize,

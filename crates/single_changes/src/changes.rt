@@ -83,7 +83,8 @@ pub fn tell_changes(
     Ok(count > 0)
 }
 
-/// Tries that more buffers are asked for in the domain to which one was attached, where those that were decided don't do.
+/// Tries that more buffers are asked for in the domain to which one was attached, where those that
+/// were decided don't do.
 fn try_room(search: &mut Search, group: Group<'_, '_>, index: usize) -> Result<(), AllocError> {
     let alloc = search.found.alloc();
     let story = group.story;

@@ -23,8 +23,9 @@ struct Partner<'a> {
     domain: usize,
 }
 
-/// Tries to exchange the constraints of a participant of the domain of an index and of another one, where that can make a difference: of those
-/// alone who seem to be exchanged if that is asked for, else of the others.
+/// Tries to exchange the constraints of a participant of the domain of an index and of another one,
+/// where that can make a difference: of those alone who seem to be exchanged if that is asked for,
+/// else of the others.
 pub(crate) fn try_exchanges(
     search: &mut Search,
     group: Group<'_, '_>,
@@ -61,8 +62,8 @@ fn partners_in<'a>(alloc: Global, story: &Story<'a>) -> Result<Vec<Partner<'a>>,
     Ok(partners)
 }
 
-/// Whether a participant of the domain of an index can gain by another's constraints: in one domain only where one of them lies below a group, and
-/// each two once.
+/// Whether a participant of the domain of an index can gain by another's constraints: in one domain
+/// only where one of them lies below a group, and each two once.
 fn can_matter(story: &Story<'_>, one: Asked<'_>, partner: Partner<'_>, index: usize) -> bool {
     let other = partner.one;
     partner.domain != index
@@ -85,7 +86,8 @@ fn is_below_group(story: &Story<'_>, node: usize) -> bool {
     false
 }
 
-/// Tries to exchange the constraints of two participants, of which the other one's domain is to have settings too, and tells it where it helps.
+/// Tries to exchange the constraints of two participants, of which the other one's domain is to
+/// have settings too, and tells it where it helps.
 fn try_exchange(
     search: &mut Search,
     group: Group<'_, '_>,
@@ -137,7 +139,8 @@ fn tell_exchange(
     put_choice(&mut search.found, 3, choice)
 }
 
-/// What two participants' calls state once their constraints are exchanged; `None` where they are the same.
+/// What two participants' calls state once their constraints are exchanged; `None` where they are
+/// the same.
 fn exchanged(
     alloc: Global,
     story: &Story<'_>,

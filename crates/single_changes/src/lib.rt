@@ -1,5 +1,5 @@
-//! Single changes that make an empty decision one that chooses: of one participant's constraints, or two participants' exchanged, each found by
-//! trying it.
+//! Single changes that make an empty decision one that chooses: of one participant's constraints,
+//! or two participants' exchanged, each found by trying it.
 //!
 //! ```
 //! let does_one = tell_changes(&mut items, group, 0, &edits)?;

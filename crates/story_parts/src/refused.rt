@@ -25,7 +25,8 @@ struct Row {
     fault: Option<Fault>,
 }
 
-/// How many calls were refused: those whose reply isn't `ok`, the answers of `check` and `wait` left out.
+/// How many calls were refused: those whose reply isn't `ok`, the answers of `check` and `wait`
+/// left out.
 pub fn refused_calls(story: &Story<'_>) -> usize {
     story.calls.iter().filter(|call| is_refused(call)).count()
 }
@@ -139,7 +140,8 @@ fn add_row(rows: &mut Vec<Row>, story: &Story<'_>, row: Row) -> Result<(), Alloc
     Ok(())
 }
 
-/// Whether the calls of two rows have one reply and one cause, and no fault, each of which has a place of its own.
+/// Whether the calls of two rows have one reply and one cause, and no fault, each of which has a
+/// place of its own.
 fn is_like(story: &Story<'_>, a: &Row, b: &Row) -> bool {
     a.fault.is_none()
         && b.fault.is_none()
@@ -451,7 +453,8 @@ fn unbound(
     Ok(text)
 }
 
-/// Puts who was bound before the call of a number and has no constraints after a text, if somebody is, with words before it: it may be meant.
+/// Puts who was bound before the call of a number and has no constraints after a text, if somebody
+/// is, with words before it: it may be meant.
 fn put_unset(
     text: &mut String,
     story: &Story<'_>,
@@ -518,7 +521,8 @@ fn wrong_collection(
     }
 }
 
-/// Constraints on a collection that has some; maybe a node whose name is that of the actor is meant.
+/// Constraints on a collection that has some; maybe a node whose name is that of the actor is
+/// meant.
 fn set_before(
     alloc: Global,
     story: &Story<'_>,

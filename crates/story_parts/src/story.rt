@@ -293,7 +293,8 @@ impl<'a> Story<'a> {
         }
     }
 
-    /// The nodes for which the decision of a domain waits, before the call of a number, in the order in which they were made.
+    /// The nodes for which the decision of a domain waits, before the call of a number, in the
+    /// order in which they were made.
     pub fn awaited(
         &self,
         alloc: Global,

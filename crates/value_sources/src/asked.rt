@@ -16,7 +16,8 @@ pub struct Asked<'a> {
     pub stated: Option<&'a Value>,
 }
 
-/// Puts the names of participants with a word after a text: `camera takes`, `camera and encoder take`.
+/// Puts the names of participants with a word after a text: `camera takes`,
+/// `camera and encoder take`.
 pub fn put_has(
     text: &mut String,
     people: &[Asked<'_>],

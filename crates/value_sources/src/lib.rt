@@ -1,5 +1,6 @@
-//! Where the least values come from that participants need together: how many buffers, how wide and how high an image, how long a row, how many
-//! bytes. Each with the names and fields that make it so, in words.
+//! Where the least values come from that participants need together: how many buffers, how wide and
+//! how high an image, how long a row, how many bytes. Each with the names and fields that make it
+//! so, in words.
 //!
 //! ```
 //! let wishes = Wishes { people: &people, offer };

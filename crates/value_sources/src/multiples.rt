@@ -56,7 +56,8 @@ pub(crate) fn multiple_of(alloc: Global, parts: Vec<Multiple>) -> Result<Derived
     Ok(Derived { value: whole, why })
 }
 
-/// The indices of parts without which the others have the same multiple, from the last to the first.
+/// The indices of parts without which the others have the same multiple, from the last to the
+/// first.
 fn needless(alloc: Global, parts: &[Multiple], whole: u128) -> Result<Vec<usize>, AllocError> {
     let mut left_out: Vec<usize> = Vec::new(alloc);
     for k in (0..parts.len()).rev() {

@@ -61,7 +61,8 @@ fn tile_bytes(offer: &Offer) -> u128 {
 }
 
 impl<'a> Wishes<'a, '_> {
-    /// Puts a multiple that each participant with an entry for the offer asks for after those that are given.
+    /// Puts a multiple that each participant with an entry for the offer asks for after those that
+    /// are given.
     fn add_multiples(
         &self,
         parts: &mut Vec<Multiple>,
@@ -95,7 +96,8 @@ impl<'a> Wishes<'a, '_> {
         u128::from(self.side_asked(side).0)
     }
 
-    /// The least width or height that somebody asks for, with who does and by which field, where it is above 1.
+    /// The least width or height that somebody asks for, with who does and by which field, where it
+    /// is above 1.
     fn side_asked(&self, side: Side) -> (u64, Option<(&'a str, &'static str)>) {
         let wish = self.greatest(Wish::RequiredMost(side));
         match self.greatest(Wish::Least(side)) {
@@ -180,7 +182,8 @@ impl<'a> Wishes<'a, '_> {
         rounded(base, parts, Some(" = "), why)
     }
 
-    /// The least size of a buffer in bytes; where the image's sides come from is said too if that is asked for.
+    /// The least size of a buffer in bytes; where the image's sides come from is said too if that
+    /// is asked for.
     pub fn size(&self, alloc: Global, is_alone: bool) -> Result<Derived, AllocError> {
         let least = self.least_size();
         let stated = match least {
@@ -238,7 +241,8 @@ fn own_multiple(who: String, value: u128) -> Result<Vec<Multiple>, AllocError> {
     Ok(vec![in alloc; Multiple { value, who }]?)
 }
 
-/// A number, rounded up to what it has to be a multiple of; where that changes it, it is shown after a mark, if there is one.
+/// A number, rounded up to what it has to be a multiple of; where that changes it, it is shown
+/// after a mark, if there is one.
 fn rounded(
     base: u128,
     parts: Vec<Multiple>,

@@ -1,4 +1,5 @@
-//! What participants' entries ask of the images of an offer, and who asks for the most or the least.
+//! What participants' entries ask of the images of an offer, and who asks for the most or the
+//! least.
 
 ghost use Rattle.std.specs.Prelude.{◌≡◌, ◌≤◌, ◌<◌, ◌^◌, All, IfSome, IfNone};
 ghost use Rattle.value_sources.specs.Sources.{IsNumberOf, side_of, wish_of, wish_or};
@@ -99,7 +100,8 @@ fn asked_or(one: &Asked<'_>, offer: &Offer, wish: Wish, absent: u64) -> u64
 }
 
 impl<'a> Wishes<'a, '_> {
-    /// The first who asks for the greatest of some numbers, with that, if anybody asks for more than 0.
+    /// The first who asks for the greatest of some numbers, with that, if anybody asks for more
+    /// than 0.
     pub fn greatest(&self, wish: Wish) -> Option<(&'a str, u64)>
         ensures from { IfSome result (λ r.
             IsNumberOf (wish_or 0 self.now.offer wish) self.now.people.now r.0.now r.1) }
@@ -122,7 +124,8 @@ impl<'a> Wishes<'a, '_> {
         Some((one.name, most))
     }
 
-    /// The first who asks for the least of some numbers, with that, if anybody asks for less than the greatest of 64 bits.
+    /// The first who asks for the least of some numbers, with that, if anybody asks for less than
+    /// the greatest of 64 bits.
     pub fn least(&self, wish: Wish) -> Option<(&'a str, u64)>
         ensures from { IfSome result (λ r.
             IsNumberOf (wish_or u64.MAX self.now.offer wish) self.now.people.now r.0.now r.1) }
@@ -143,7 +146,8 @@ impl<'a> Wishes<'a, '_> {
         Some((one.name, least))
     }
 
-    /// The first who states the greatest least size of a buffer, in bytes, with that, if anybody states more than 1.
+    /// The first who states the greatest least size of a buffer, in bytes, with that, if anybody
+    /// states more than 1.
     pub(crate) fn least_size(&self) -> Option<(&'a str, u64)>
         ensures from { IfSome result (λ r. IsNumberOf (λ one. one.asked.now.memory.min_size_bytes)
             self.now.people.now r.0.now r.1) }

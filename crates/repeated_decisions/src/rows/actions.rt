@@ -7,7 +7,8 @@ use std::sync::Arc;
 use sysmem_sanitise::{Constraints, read_constraints};
 use sysmem_tree::{Action, Fate, Tree};
 
-/// The action of this word, if it is one. Constraints are those of a participant with the usage cpu; `set_none` sets none.
+/// The action of this word, if it is one. Constraints are those of a participant with the usage
+/// cpu; `set_none` sets none.
 pub(super) fn action_of(alloc: Global, word: &str) -> Result<Option<Action>> {
     Ok(Some(match word {
         "duplicate" => Action::Duplicate,
@@ -32,7 +33,7 @@ fn cpu(alloc: Global) -> Result<Constraints> {
     }
 }
 
-/// Writes behind a text how each domain stands.
+/// Writes after a text how each domain stands.
 pub(super) fn push_domains(text: &mut String, tree: &Tree) -> Result<(), AllocError> {
     text.push(' ')?;
     for index in 0..tree.domain_count() {

@@ -9,7 +9,7 @@ use super::paths::{all_paths, push_path};
 use std::alloc::{AllocError, Global};
 use sysmem_tree::{DomainId, NodeKind, Path, Prefix, Tree};
 
-/// What `next` or `settled` asks for behind a prefix.
+/// What `next` or `settled` asks for after a prefix.
 pub(super) fn write_of_nodes(
     alloc: Global,
     text: &mut String,
@@ -109,7 +109,8 @@ fn push_members(
     Ok(())
 }
 
-/// The nodes of a domain, with their kinds and whether they set constraints, as a copy of the tree has them.
+/// The nodes of a domain, with their kinds and whether they set constraints, as a copy of the tree
+/// has them.
 pub(super) fn shape(
     alloc: Global,
     text: &mut String,

@@ -66,7 +66,7 @@ fn push_child(
     Ok(())
 }
 
-/// Writes a path behind a text.
+/// Writes a path after a text.
 pub(super) fn push_path(text: &mut String, path: &Path) -> Result<(), AllocError> {
     if path.ordinals().is_empty() {
         text.push('/')?;

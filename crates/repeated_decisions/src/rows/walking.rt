@@ -13,7 +13,8 @@ use sysmem_tree::{
     ChildPlace, DomainId, GroupPlace, Layout, MOST_NODES, Prefix, SettledNodes, Tree,
 };
 
-/// What no choice settles, and then what each choice of the prefix does, in pre-order; behind each the group that is open then.
+/// What no choice settles, and then what each choice of the prefix does, in pre-order; after each
+/// the group that is open then.
 pub(super) fn walk(text: &mut String, tree: &Tree, domain: DomainId, prefix: &Prefix) -> Result<()>
     requires { HasDomain tree.now.nodes domain }
 {
