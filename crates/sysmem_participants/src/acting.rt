@@ -4,8 +4,9 @@ ghost use Rattle.std.specs.Prelude.{◌≡◌, ◌≢◌, ◌<◌, ◌≤◌, �
 ghost use Rattle.std.specs.Arc.{arc_value};
 ghost use Rattle.once_cell.specs.Once.{cell_name};
 ghost use Rattle.sysmem_participants.specs.Held.{Answers, MayEnter, acted, child_of};
-ghost use Rattle.sysmem_room.specs.Agreeing.{HasEntered, IsOwn};
+ghost use Rattle.sysmem_room.specs.Agreeing.{IsOwn};
 ghost use Rattle.sysmem_room.specs.Counting.{nodes_by};
+ghost use Rattle.sysmem_room.specs.Entering.{HasEntered};
 ghost use Rattle.sysmem_room.specs.Log.{shown_by};
 ghost use Rattle.sysmem_room.specs.Refusals.{IsAnswer, IsDisputed, due};
 ghost use Rattle.sysmem_tree.specs.ActionKind.{attaches_token, binds, creates_child, creates_group, deed_of, duplicates, has_all_children, kind_of, sets};

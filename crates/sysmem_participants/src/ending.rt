@@ -2,7 +2,8 @@
 
 ghost use Rattle.std.specs.Prelude.{◌≡◌, ◌≢◌, ◌<◌, ◌+◌, ℕ, None, Some, false, true, option_map, IfErr, IfOk, IfSome, MatchOption, OnErr, OnOk};
 ghost use Rattle.sysmem_participants.specs.Held.{AnswersAtEnd, MayEnter, acted, left_of};
-ghost use Rattle.sysmem_room.specs.Agreeing.{HasEntered, IsOwn};
+ghost use Rattle.sysmem_room.specs.Agreeing.{IsOwn};
+ghost use Rattle.sysmem_room.specs.Entering.{HasEntered};
 ghost use Rattle.sysmem_room.specs.Log.{shown_by};
 ghost use Rattle.sysmem_room.specs.Refusals.{IsDisputed, due};
 ghost use Rattle.sysmem_tree.specs.ActionKind.{closes, deed_of, ends_node, kind_of, releases};

@@ -2,8 +2,9 @@
 
 ghost use Rattle.std.specs.Prelude.{◌≡◌, ◌≢◌, ◌<◌, ◌+◌, ℕ, None, is_some, option_map, IfErr, IfOk, OnErr, OnOk};
 ghost use Rattle.sysmem_alloc.specs.Book.{IsBook};
-ghost use Rattle.sysmem_room.specs.Agreeing.{HasEntered, IsOwn, IsRefusedByBook};
+ghost use Rattle.sysmem_room.specs.Agreeing.{IsOwn};
 ghost use Rattle.sysmem_room.specs.Counting.{nodes_by};
+ghost use Rattle.sysmem_room.specs.Entering.{HasEntered, IsRefusedByBook};
 ghost use Rattle.sysmem_room.specs.Log.{shown_by};
 ghost use Rattle.sysmem_room.specs.Refusals.{IsAnswer, IsDisputed, due};
 ghost use Rattle.sysmem_tree.specs.ActionKind.{deed_of, kind_of};
