@@ -1,6 +1,6 @@
 -- What a handle's refusal says by what the handle knew, where it saw more.
-use Rattle.std.proofs.Common.{◌≡◌, ℕ, Bool, true, false, List, Option, Some, None, refl, sym, ap, subst, Bor}
-use Rattle.std.specs.Prelude.{IfSome, MatchOption, option_map, if◌then◌else◌}
+use Rattle.std.proofs.Common.{◌≡◌, ◌≢◌, ℕ, Bool, true, false, List, Option, Some, None, Result, Ok, Err, refl, sym, ap, subst, Bor}
+use Rattle.std.specs.Prelude.{IfErr, IfSome, MatchOption, OnOk, option_map, if◌then◌else◌}
 use Rattle.once_cell.specs.Once.{Agrees}
 use Rattle.sysmem_proof.specs.declared.verdict.Verdict.{Verdict}
 use Rattle.sysmem_proof.specs.declared.verdict.Verdict.TheVariants as verdicts
@@ -9,11 +9,12 @@ use Rattle.sysmem_tree.specs.declared.action.ActionKind.{ActionKind}
 use Rattle.sysmem_tree.specs.declared.refusal.Refusal.{Refusal}
 use Rattle.sysmem_tree.specs.declared.refusal.Refusal.TheVariants as refusals
 use Rattle.sysmem_tree.specs.declared.state.NodeState.{NodeState}
-use Rattle.sysmem_tree.specs.ActionKind.{ends_node}
+use Rattle.sysmem_tree.specs.ActionKind.{Deed, ends_node, kind_of}
 use Rattle.sysmem_room.specs.declared.outcome.Outcome.{Outcome}
 use Rattle.sysmem_room.specs.declared.outcome.Outcome.TheVariants as outcomes
 use Rattle.sysmem_room.specs.Log.{log_refusal}
 use Rattle.sysmem_room.specs.Refusals.{due, first_of, is_member, known_refusal, refusal_by, outcome_refusal, IsUnforeseen, IsAnswer, MayAnswer}
+use Rattle.sysmem_participants.specs.Held.{Answers, Held, MayEnter, state_of}
 
 -- a verdict's refusal is one of two, of an action that doesn't end its node
 abbrev IsOfVerdict : ActionKind → Option Refusal → Type 0
@@ -133,3 +134,18 @@ pub none_by_known : (known noted : Option Outcome) (o : Option (Bor Outcome)) (p
 none_by_known known noted o p q s t kind nk pq st saw none =
     let one : due noted p s kind ≡ None = unknowing_none noted (option_map (λ (b : Bor Outcome). b.now) o) p s kind saw none in
     subst (λ x. due known q x kind ≡ None) st (subst (λ x. due known x s kind ≡ None) pq (subst (λ x. due x p s kind ≡ None) nk one))
+
+-- the same of all that a call may answer
+pub answers_by_known : {V : Type 0} (result : Result V Refusal) (h : Held) (deed : Deed) (noted : Option Outcome) (o : Option (Bor Outcome)) (p : List ℕ) (s : NodeState) → noted ≡ h.known → p ≡ h.path
+    → s ≡ state_of h → IfSome noted (λ x. option_map (λ (b : Bor Outcome). b.now) o ≡ Some x)
+    → IfErr result (λ r. r ≢ refusals.Strange → IsAnswer (due (option_map (λ (b : Bor Outcome). b.now) o) p s (kind_of deed)) (option_map (λ (b : Bor Outcome). b.now) o) (kind_of deed) r)
+    → IfErr result (Answers h deed)
+answers_by_known (Ok v) h deed noted o p s nk pq st saw answers = tt
+answers_by_known (Err r) h deed noted o p s nk pq st saw answers = λ strange memory.
+    by_known h.known noted o p h.path s (state_of h) (kind_of deed) r nk pq st saw (answers strange)
+
+pub enters_by_known : {V : Type 0} (result : Result V Refusal) (h : Held) (deed : Deed) (noted : Option Outcome) (o : Option (Bor Outcome)) (p : List ℕ) (s : NodeState) → noted ≡ h.known → p ≡ h.path
+    → s ≡ state_of h → IfSome noted (λ x. option_map (λ (b : Bor Outcome). b.now) o ≡ Some x) → OnOk result (due (option_map (λ (b : Bor Outcome). b.now) o) p s (kind_of deed) ≡ None)
+    → OnOk result (MayEnter h deed)
+enters_by_known (Ok v) h deed noted o p s nk pq st saw none = none_by_known h.known noted o p h.path s (state_of h) (kind_of deed) nk pq st saw none
+enters_by_known (Err r) h deed noted o p s nk pq st saw none = tt

@@ -5,4 +5,5 @@ mod Entries
 mod Ruled
 mod Audited
 mod Closing
+mod Ended
 mod TwoAudits

@@ -1,16 +1,19 @@
 //! The actions after which a handle is still there.
 
-ghost use Rattle.std.specs.Prelude.{◌≡◌, ◌≢◌, ◌<◌, ◌≤◌, ◌+◌, ◌++◌, [], ◌∷◌, None, false, true, is_some, length, option_map, IfErr, IfOk, OnErr, OnOk};
+ghost use Rattle.std.specs.Prelude.{◌≡◌, ◌≢◌, ◌<◌, ◌≤◌, ◌+◌, ◌++◌, ℕ, [], ◌∷◌, None, false, true, is_some, length, option_map, IfErr, IfOk, OnErr, OnOk};
 ghost use Rattle.std.specs.Arc.{arc_value};
 ghost use Rattle.once_cell.specs.Once.{cell_name};
 ghost use Rattle.sysmem_participants.specs.Held.{Answers, MayEnter, acted, child_of};
+ghost use Rattle.sysmem_room.specs.Agreeing.{IsOwn};
 ghost use Rattle.sysmem_room.specs.Counting.{nodes_by};
+ghost use Rattle.sysmem_room.specs.Entering.{HasEntered};
 ghost use Rattle.sysmem_room.specs.Log.{shown_by};
-ghost use Rattle.sysmem_room.specs.Refusals.{IsAnswer, due};
+ghost use Rattle.sysmem_room.specs.Refusals.{IsAnswer, IsDisputed, due};
 ghost use Rattle.sysmem_tree.specs.ActionKind.{attaches_token, binds, creates_child, creates_group, deed_of, duplicates, has_all_children, kind_of, sets};
 ghost use Rattle.sysmem_tree.specs.Table.{makes_root};
 
 use crate::deciding::decide;
+use crate::holding::{Hold, in_hold};
 use crate::seat::{Prepared, Seat};
 use crate::shared::{Rules, Shared};
 use once_cell::race::OnceBox;
@@ -18,7 +21,7 @@ use std::alloc::{AllocError, Global};
 use std::sync::ledger::{Ledger, Share};
 use std::sync::{Arc, Wait};
 use std::thread::Threads;
-use sysmem_room::{Entered, FreshCell, Log, Outcome};
+use sysmem_room::{FreshCell, Log, Outcome};
 use sysmem_sanitise::Constraints;
 use sysmem_search::Gate;
 use sysmem_tree::{Action, NodeKind, Refusal};
@@ -34,39 +37,8 @@ fn shared_again(asked: &Option<Arc<Constraints>>) -> Result<Option<Arc<Constrain
     }
 }
 
-/// Enters an action in one hold, and says whether it is this thread's turn to decide.
-fn hold<L: Ledger, R: Wait>(
-    rt: &R,
-    shared: &Shared<L>,
-    path: &[u32],
-    log: &Log,
-    known: Option<&Outcome>,
-    action: Action,
-    fresh: Option<FreshCell>,
-    mine: &mut Share<L>,
-) -> Result<(Entered<L>, bool), Refusal>
-    requires mine { 0 < mine.old.parts }
-    requires fresh { is_some fresh ≡ makes_root (kind_of (deed_of action)) }
-    ensures foreseen { OnOk result (due (option_map (λ o. o.now) known.entry) path.now
-        (shown_by log.now).state (kind_of (deed_of action)) ≡ None) }
-    ensures answers { IfErr result (λ refusal. refusal ≢ Refusal.Strange
-        → IsAnswer (due (option_map (λ o. o.now) known.entry) path.now
-        (shown_by log.now).state (kind_of (deed_of action)))
-        (option_map (λ o. o.now) known.entry) (kind_of (deed_of action)) refusal) }
-    ensures parts { mine.new.parts ≡ mine.old.parts }
-    ensures counted { OnOk result (mine.new.amount ≡ mine.old.amount + 1) }
-    ensures uncounted { OnErr result (mine.new.amount ≡ mine.old.amount) }
-    ensures given { IfOk result (λ done.
-        done.0.share.parts ≡ nodes_by (kind_of (deed_of action))) }
-    ensures empty { IfOk result (λ done. done.0.share.amount ≡ 0) }
-{
-    let mut room = shared.room.lock(rt);
-    let done = room.act(path, log, known, action, fresh, mine)?;
-    let decides = room.begin();
-    Ok((done, decides))
-}
-
-/// Enters an action and logs it, and decides where that is this thread's turn.
+/// Enters an action and logs it, and decides where that is this thread's turn. Beside that the book
+/// as the action found and left it: what is logged is what was entered there.
 fn enter<L: Ledger, G: Gate + Drop + Sync, R: Threads + Wait + Sync>(
     rt: &R,
     shared: &Shared<L>,
@@ -78,35 +50,41 @@ fn enter<L: Ledger, G: Gate + Drop + Sync, R: Threads + Wait + Sync>(
     copy: Action,
     fresh: Option<FreshCell>,
     mine: &mut Share<L>,
-) -> Result<Share<L>, Refusal>
+) -> (Result<Share<L>, Refusal>, Hold<L>)
     requires mine { 0 < mine.old.parts }
     requires room { length log.old.deeds + 2 ≤ log.old.places }
     requires same { deed_of copy ≡ deed_of action }
     requires fresh { is_some fresh ≡ makes_root (kind_of (deed_of action)) }
-    ensures foreseen { OnOk result (due (option_map (λ o. o.now) known.entry) path.now
+    ensures entered { OnOk result.0 (HasEntered result.1.found result.1.left path.now log.old
+        (option_map (λ o. o.now) known.entry) (deed_of action)) }
+    ensures strange { IfErr result.0 (λ refusal. refusal ≡ Refusal.Strange → (node : ℕ)
+        → IsOwn result.1.found path.now log.old (option_map (λ o. o.now) known.entry) node
+        → IsDisputed result.1.found path.now (option_map (λ o. o.now) known.entry) node) }
+    ensures foreseen { OnOk result.0 (due (option_map (λ o. o.now) known.entry) path.now
         (shown_by log.old).state (kind_of (deed_of action)) ≡ None) }
-    ensures answers { IfErr result (λ refusal. refusal ≢ Refusal.Strange
+    ensures answers { IfErr result.0 (λ refusal. refusal ≢ Refusal.Strange
         → IsAnswer (due (option_map (λ o. o.now) known.entry) path.now
         (shown_by log.old).state (kind_of (deed_of action)))
         (option_map (λ o. o.now) known.entry) (kind_of (deed_of action)) refusal) }
     ensures parts { mine.new.parts ≡ mine.old.parts }
-    ensures counted { OnOk result (mine.new.amount ≡ mine.old.amount + 1) }
-    ensures uncounted { OnErr result (mine.new.amount ≡ mine.old.amount) }
+    ensures counted { OnOk result.0 (mine.new.amount ≡ mine.old.amount + 1) }
+    ensures uncounted { OnErr result.0 (mine.new.amount ≡ mine.old.amount) }
     ensures begun { log.new.begun ≡ log.old.begun }
-    ensures logged { OnOk result (log.new.deeds ≡ log.old.deeds ++ deed_of action ∷ []) }
-    ensures unlogged { OnErr result (log.new.deeds ≡ log.old.deeds) }
-    ensures given { IfOk result (λ share. share.parts ≡ nodes_by (kind_of (deed_of action))) }
-    ensures empty { IfOk result (λ share. share.amount ≡ 0) }
+    ensures logged { OnOk result.0 (log.new.deeds ≡ log.old.deeds ++ deed_of action ∷ []) }
+    ensures unlogged { OnErr result.0 (log.new.deeds ≡ log.old.deeds) }
+    ensures given { IfOk result.0 (λ share. share.parts ≡ nodes_by (kind_of (deed_of action))) }
+    ensures empty { IfOk result.0 (λ share. share.amount ≡ 0) }
 {
-    if log.state().children >= 128 {
-        return Err(Refusal::Strange);
-    }
-    let (done, decides) = hold(rt, shared, path, log, known, action, fresh, mine)?;
+    let (entered, hold) = in_hold(rt, shared, path, log, known, action, fresh, mine);
+    let (done, decides) = match entered {
+        Ok(entered) => entered,
+        Err(refusal) => return (Err(refusal), hold),
+    };
     log.push(copy);
     if decides {
         let _none_waits = decide(rt, shared, rules);
     }
-    Ok(done.share)
+    (Ok(done.share), hold)
 }
 
 /// A cell for a domain that is to be made, and one more owner of it for the handle of its root.
@@ -175,7 +153,7 @@ impl<L: Ledger, G: Gate + Drop + Sync> Seat<L, G> {
         }
         let mut seen = self.note.again();
         let known = self.cell.get_as(&mut seen);
-        match enter(
+        let (entered, _hold) = enter(
             rt,
             &self.shared,
             &self.rules,
@@ -186,10 +164,8 @@ impl<L: Ledger, G: Gate + Drop + Sync> Seat<L, G> {
             copy,
             fresh,
             &mut self.share,
-        ) {
-            Ok(share) => Ok(share),
-            Err(refusal) => Err(refusal),
-        }
+        );
+        entered
     }
 
     /// A further token, the last child of a token.

@@ -1,13 +1,16 @@
 //! The actions that spend a handle.
 
-ghost use Rattle.std.specs.Prelude.{◌≡◌, ◌≢◌, ◌<◌, ◌+◌, None, Some, false, option_map, IfErr, IfOk, IfSome, MatchOption, OnErr, OnOk};
+ghost use Rattle.std.specs.Prelude.{◌≡◌, ◌≢◌, ◌<◌, ◌+◌, ℕ, None, Some, false, true, option_map, IfErr, IfOk, IfSome, MatchOption, OnErr, OnOk};
 ghost use Rattle.sysmem_participants.specs.Held.{AnswersAtEnd, MayEnter, acted, left_of};
+ghost use Rattle.sysmem_room.specs.Agreeing.{IsOwn};
+ghost use Rattle.sysmem_room.specs.Entering.{HasEntered};
 ghost use Rattle.sysmem_room.specs.Log.{shown_by};
-ghost use Rattle.sysmem_room.specs.Refusals.{IsAnswer, due};
-ghost use Rattle.sysmem_tree.specs.ActionKind.{closes, deed_of, kind_of, releases};
+ghost use Rattle.sysmem_room.specs.Refusals.{IsDisputed, due};
+ghost use Rattle.sysmem_tree.specs.ActionKind.{closes, deed_of, ends_node, kind_of, releases};
 ghost use Rattle.sysmem_tree.specs.Table.{makes_root};
 
 use crate::deciding::decide;
+use crate::holding::{Hold, in_hold};
 use crate::seat::Seat;
 use crate::shared::{Rules, Shared};
 use crate::stub::Stub;
@@ -21,8 +24,9 @@ use sysmem_tree::{Action, Refusal};
 /// The book's refusal as an action that ends its node answers it: a domain's verdict refuses none
 /// of these.
 fn at_end(refusal: Refusal) -> Refusal
-    ensures { result ≢ Refusal.Strange
+    ensures told { result ≢ Refusal.Strange
         → (result ≡ Refusal.WrongState) × (refusal ≡ Refusal.WrongState) }
+    ensures same { refusal ≡ Refusal.WrongState → result ≡ Refusal.WrongState }
 {
     match refusal {
         Refusal::WrongState => Refusal::WrongState,
@@ -31,6 +35,7 @@ fn at_end(refusal: Refusal) -> Refusal
 }
 
 /// Enters the last action on a node in one hold, and decides where that is this thread's turn.
+/// Beside that the book as the action found and left it.
 fn end<L: Ledger, G: Gate + Drop + Sync, R: Threads + Wait + Sync>(
     rt: &R,
     shared: &Shared<L>,
@@ -40,56 +45,35 @@ fn end<L: Ledger, G: Gate + Drop + Sync, R: Threads + Wait + Sync>(
     known: Option<&Outcome>,
     action: Action,
     mine: &mut Share<L>,
-) -> Result<(), Refusal>
+) -> (Result<(), Refusal>, Hold<L>)
     requires mine { 0 < mine.old.parts }
     requires rootless { makes_root (kind_of (deed_of action)) ≡ false }
-    ensures foreseen { OnOk result (due (option_map (λ o. o.now) known.entry) path.now
+    requires ends { ends_node (kind_of (deed_of action)) ≡ true }
+    ensures entered { OnOk result.0 (HasEntered result.1.found result.1.left path.now log.now
+        (option_map (λ o. o.now) known.entry) (deed_of action)) }
+    ensures strange { IfErr result.0 (λ refusal. refusal ≡ Refusal.Strange → (node : ℕ)
+        → IsOwn result.1.found path.now log.now (option_map (λ o. o.now) known.entry) node
+        → IsDisputed result.1.found path.now (option_map (λ o. o.now) known.entry) node) }
+    ensures foreseen { OnOk result.0 (due (option_map (λ o. o.now) known.entry) path.now
         (shown_by log.now).state (kind_of (deed_of action)) ≡ None) }
-    ensures answers { IfErr result (λ refusal. refusal ≢ Refusal.Strange
+    ensures answers { IfErr result.0 (λ refusal. refusal ≢ Refusal.Strange
         → (refusal ≡ Refusal.WrongState)
         × (due (option_map (λ o. o.now) known.entry) path.now (shown_by log.now).state
         (kind_of (deed_of action)) ≡ Some Refusal.WrongState)) }
     ensures parts { mine.new.parts ≡ mine.old.parts }
-    ensures counted { OnOk result (mine.new.amount ≡ mine.old.amount + 1) }
-    ensures uncounted { OnErr result (mine.new.amount ≡ mine.old.amount) }
+    ensures counted { OnOk result.0 (mine.new.amount ≡ mine.old.amount + 1) }
+    ensures uncounted { OnErr result.0 (mine.new.amount ≡ mine.old.amount) }
 {
-    let decides = match end_in_hold(rt, shared, path, log, known, action, mine) {
-        Ok(decides) => decides,
-        Err(refusal) => return Err(at_end(refusal)),
+    let (entered, hold) = in_hold(rt, shared, path, log, known, action, None, mine);
+    let decides = match entered {
+        Ok((_ended, decides)) => decides,
+        Err(refusal) => return (Err(at_end(refusal)), hold),
     };
     shared.changed.notify_all();
     if decides {
         let _none_waits = decide(rt, shared, rules);
     }
-    Ok(())
-}
-
-/// Enters the last action on a node in one hold, and says whether it is this thread's turn to
-/// decide.
-fn end_in_hold<L: Ledger, R: Wait>(
-    rt: &R,
-    shared: &Shared<L>,
-    path: &[u32],
-    log: &Log,
-    known: Option<&Outcome>,
-    action: Action,
-    mine: &mut Share<L>,
-) -> Result<bool, Refusal>
-    requires mine { 0 < mine.old.parts }
-    requires rootless { makes_root (kind_of (deed_of action)) ≡ false }
-    ensures foreseen { OnOk result (due (option_map (λ o. o.now) known.entry) path.now
-        (shown_by log.now).state (kind_of (deed_of action)) ≡ None) }
-    ensures answers { IfErr result (λ refusal. refusal ≢ Refusal.Strange
-        → IsAnswer (due (option_map (λ o. o.now) known.entry) path.now
-        (shown_by log.now).state (kind_of (deed_of action)))
-        (option_map (λ o. o.now) known.entry) (kind_of (deed_of action)) refusal) }
-    ensures parts { mine.new.parts ≡ mine.old.parts }
-    ensures counted { OnOk result (mine.new.amount ≡ mine.old.amount + 1) }
-    ensures uncounted { OnErr result (mine.new.amount ≡ mine.old.amount) }
-{
-    let mut room = shared.room.lock(rt);
-    room.act(path, log, known, action, None, mine)?;
-    Ok(room.begin())
+    (Ok(()), hold)
 }
 
 impl<L: Ledger, G: Gate + Drop + Sync> Seat<L, G> {
@@ -114,7 +98,7 @@ impl<L: Ledger, G: Gate + Drop + Sync> Seat<L, G> {
         } = self;
         let mut seen = note.again();
         let known = cell.get_as(&mut seen);
-        match end(
+        let (ended, _hold) = end(
             rt,
             &shared,
             &rules,
@@ -123,7 +107,8 @@ impl<L: Ledger, G: Gate + Drop + Sync> Seat<L, G> {
             known,
             Action::Release,
             &mut share,
-        ) {
+        );
+        match ended {
             Ok(()) => {
                 let actions = log.ended(Action::Release);
                 Ok(Stub {
@@ -169,7 +154,7 @@ impl<L: Ledger, G: Gate + Drop + Sync> Seat<L, G> {
         } = self;
         let mut seen = note.again();
         let known = cell.get_as(&mut seen);
-        let ended = end(
+        let (ended, _hold) = end(
             rt,
             &shared,
             &rules,

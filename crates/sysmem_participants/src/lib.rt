@@ -33,6 +33,7 @@ mod ending;
 mod faults;
 mod gathering;
 mod group;
+mod holding;
 pub mod laws;
 mod reading;
 mod seat;

@@ -1,16 +1,14 @@
 -- What a history has of one node, and whether a book has what a handle knows.
-use Rattle.std.specs.Prelude.{◌≡◌, ◌==◌, ℕ, Err, List, [], ◌∷◌, map, Option, Some, IfSome, option_and_then, slice_get, if◌then◌else◌}
-use Rattle.sysmem_alloc.specs.Book.{BookFacts, entered}
+use Rattle.std.specs.Prelude.{◌≡◌, ◌==◌, ℕ, List, [], ◌∷◌, map, Option, Some, IfSome, option_and_then, slice_get, if◌then◌else◌}
+use Rattle.sysmem_alloc.specs.Book.{BookFacts}
 use Rattle.sysmem_alloc.specs.Entry.{BookEntry, Acted, Decided, tree_entry}
 use Rattle.sysmem_alloc.specs.State.{verdict_of}
 use Rattle.sysmem_proof.specs.declared.verdict.Verdict.{Verdict}
 use Rattle.sysmem_proof.specs.declared.verdict.Verdict.TheVariants as verdicts
-use Rattle.sysmem_tree.specs.declared.refusal.Refusal.{Refusal}
 use Rattle.sysmem_tree.specs.ActionKind.{Deed}
 use Rattle.sysmem_tree.specs.History.{log}
 use Rattle.sysmem_tree.specs.Node.{NodeFacts}
 use Rattle.sysmem_tree.specs.Path.{node_at}
-use Rattle.sysmem_tree.specs.Tree.{applied}
 use Rattle.sysmem_room.specs.declared.outcome.Outcome.{Outcome}
 use Rattle.sysmem_room.specs.declared.outcome.Outcome.TheVariants as outcomes
 use Rattle.sysmem_room.specs.Log.{LogFacts, shown_by}
@@ -62,13 +60,3 @@ pub record IsOwn (b : BookFacts) (path : List ℕ) (log : LogFacts) (known : Opt
   pub agrees : AgreesAt b path log.deeds known i
   pub state : IfSome (slice_get b.state.tree.nodes i) (λ n. n.state ≡ (shown_by log).state)
   pub root : IfSome (slice_get b.state.tree.nodes i) (λ n. (n.domain == i) ≡ log.begun.is_domain_root)
-
--- a book has on a handle's own node one action more than before, and nothing else
-abbrev pub HasEntered : BookFacts → BookFacts → List ℕ → LogFacts → Option Outcome → Deed → Type 0
-HasEntered old new path log known deed =
-    (i : ℕ) × IsOwn old path log known i × (new ≡ entered old (Acted i deed))
-
--- a book refuses an action on a handle's own node for this
-abbrev pub IsRefusedByBook : BookFacts → List ℕ → LogFacts → Option Outcome → Deed → Refusal → Type 0
-IsRefusedByBook b path log known deed refusal =
-    (i : ℕ) × IsOwn b path log known i × (applied b.state.tree i deed ≡ Err refusal)

@@ -1,5 +1,6 @@
 pub mod Agreeing
 pub mod Counting
+pub mod Entering
 pub mod Lacking
 pub mod Log
 pub mod Places

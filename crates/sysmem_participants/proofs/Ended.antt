@@ -1,0 +1,89 @@
+-- What an action that ends its node is refused for: the state that the log makes of its node, and else that handle and book disagree.
+use Rattle.std.proofs.Common.{◌≡◌, ◌≢◌, ◌∙◌, ℕ, Bool, true, false, not, List, Option, Some, None, refl, sym, subst}
+use Rattle.std.specs.Prelude.{is_some, if◌then◌else◌}
+use Rattle.std.proofs.lemmas.Option.{same_Some}
+use Rattle.sysmem_tree.specs.declared.action.ActionKind.{ActionKind}
+use Rattle.sysmem_tree.specs.declared.action.ActionKind.TheVariants as kinds
+use Rattle.sysmem_tree.specs.declared.refusal.Refusal.{Refusal}
+use Rattle.sysmem_tree.specs.declared.refusal.Refusal.TheVariants as refusals
+use Rattle.sysmem_tree.specs.declared.state.NodeState.{NodeState}
+use Rattle.sysmem_tree.specs.ActionKind.{ends_node}
+use Rattle.sysmem_tree.specs.Table.{allows, makes, wants_child}
+use Rattle.sysmem_room.specs.declared.outcome.Outcome.{Outcome}
+use Rattle.sysmem_room.specs.Log.{log_refusal}
+use Rattle.sysmem_room.specs.Refusals.{IsAnswer, IsUnforeseen, due, first_of, outcome_refusal}
+
+-- such an action makes no node
+makes_none : (kind : ActionKind) → ends_node kind ≡ true → is_some (makes kind) ≡ true → ⊥
+makes_none kinds.Duplicate ends some = absurd (cc)
+makes_none kinds.CreateGroup ends some = absurd (cc)
+makes_none kinds.Bind ends some = absurd (cc)
+makes_none kinds.CreateChild ends some = absurd (cc)
+makes_none kinds.AllChildrenPresent ends some = absurd (cc)
+makes_none kinds.SetConstraints ends some = absurd (cc)
+makes_none kinds.AttachToken ends some = absurd (cc)
+makes_none kinds.Release ends some = absurd (cc)
+makes_none kinds.Close ends some = absurd (cc)
+
+-- and wants no child
+wants_none : (kind : ActionKind) (s : NodeState) → ends_node kind ≡ true → wants_child kind s ≡ false
+wants_none kinds.Duplicate s ends = refl
+wants_none kinds.CreateGroup s ends = refl
+wants_none kinds.Bind s ends = refl
+wants_none kinds.CreateChild s ends = refl
+wants_none kinds.AllChildrenPresent s ends = absurd (cc)
+wants_none kinds.SetConstraints s ends = refl
+wants_none kinds.AttachToken s ends = refl
+wants_none kinds.Release s ends = refl
+wants_none kinds.Close s ends = refl
+
+by_log : (s : NodeState) (kind : ActionKind) (q : Refusal) → wants_child kind s ≡ false → log_refusal s kind ≡ Some q → q ≡ refusals.WrongState
+by_log s kind q none is = by (allows kind s) (wants_child kind s) none is where
+  by : (a w : Bool) → w ≡ false → ◌≡◌ {A = Option Refusal} (if not a then Some refusals.WrongState else if w then Some refusals.NoChildren else None) (Some q) → q ≡ refusals.WrongState
+  by true true none is = absurd (cc)
+  by true false none is = absurd (cc)
+  by false w none is = sym (same_Some refusals.WrongState q is)
+
+-- by no verdict is it refused
+due_by_log : (known : Option Outcome) (path : List ℕ) (s : NodeState) (kind : ActionKind) → ends_node kind ≡ true → due known path s kind ≡ log_refusal s kind
+due_by_log None path s kind ends = refl
+due_by_log (Some o) path s kind ends = by (ends_node kind) ends where
+  by : (b : Bool) → b ≡ true → first_of (if b then None else outcome_refusal o path) (log_refusal s kind) ≡ log_refusal s kind
+  by true is = refl
+  by false is = absurd (cc)
+
+-- and for nothing that its handle can't foresee
+all_foreseen : (known : Option Outcome) (kind : ActionKind) (r : Refusal) → ends_node kind ≡ true → IsUnforeseen known kind r → ⊥
+all_foreseen known kind refusals.NoMemory ends late = late
+all_foreseen None kind refusals.DomainFailed ends late = absurd (cc)
+all_foreseen (Some o) kind refusals.DomainFailed ends late = late
+all_foreseen None kind refusals.NotSelected ends late = absurd (cc)
+all_foreseen (Some o) kind refusals.NotSelected ends late = late
+all_foreseen known kind refusals.WrongState ends late = late
+all_foreseen known kind refusals.NoChildren ends late = late
+all_foreseen known kind refusals.TooManyNodes ends late = makes_none kind ends late
+all_foreseen known kind refusals.ConstraintsIntersectionEmpty ends late = late
+all_foreseen known kind refusals.TooManyGroupChildCombinations ends late = late
+all_foreseen known kind refusals.Pending ends late = late
+all_foreseen known kind refusals.Strange ends late = late
+
+pub for_its_state : (known : Option Outcome) (path : List ℕ) (s : NodeState) (kind : ActionKind) (r : Refusal) → ends_node kind ≡ true → IsAnswer (due known path s kind) known kind r
+    → r ≡ refusals.WrongState
+for_its_state known path s kind r ends answers = by (log_refusal s kind) refl (subst (λ q. IsAnswer q known kind r) (due_by_log known path s kind ends) answers) where
+  by : (q : Option Refusal) → log_refusal s kind ≡ q → IsAnswer q known kind r → r ≡ refusals.WrongState
+  by None is late = absurd (all_foreseen known kind r ends late)
+  by (Some q) is same = same ∙ by_log s kind q (wants_none kind s ends) is
+
+-- so where `Strange` is answered, the two did disagree
+pub was_strange : (r answer : Refusal) → (r ≢ refusals.Strange → r ≡ refusals.WrongState) → (r ≡ refusals.WrongState → answer ≡ refusals.WrongState) → answer ≡ refusals.Strange
+    → r ≡ refusals.Strange
+was_strange refusals.NoMemory answer one two is = let wrong : refusals.NoMemory ≡ refusals.WrongState = one (λ same. absurd (cc)) in absurd (cc)
+was_strange refusals.DomainFailed answer one two is = let wrong : refusals.DomainFailed ≡ refusals.WrongState = one (λ same. absurd (cc)) in absurd (cc)
+was_strange refusals.NotSelected answer one two is = let wrong : refusals.NotSelected ≡ refusals.WrongState = one (λ same. absurd (cc)) in absurd (cc)
+was_strange refusals.WrongState answer one two is = let wrong : answer ≡ refusals.WrongState = two refl in absurd (cc)
+was_strange refusals.NoChildren answer one two is = let wrong : refusals.NoChildren ≡ refusals.WrongState = one (λ same. absurd (cc)) in absurd (cc)
+was_strange refusals.TooManyNodes answer one two is = let wrong : refusals.TooManyNodes ≡ refusals.WrongState = one (λ same. absurd (cc)) in absurd (cc)
+was_strange refusals.ConstraintsIntersectionEmpty answer one two is = let wrong : refusals.ConstraintsIntersectionEmpty ≡ refusals.WrongState = one (λ same. absurd (cc)) in absurd (cc)
+was_strange refusals.TooManyGroupChildCombinations answer one two is = let wrong : refusals.TooManyGroupChildCombinations ≡ refusals.WrongState = one (λ same. absurd (cc)) in absurd (cc)
+was_strange refusals.Pending answer one two is = let wrong : refusals.Pending ≡ refusals.WrongState = one (λ same. absurd (cc)) in absurd (cc)
+was_strange refusals.Strange answer one two is = refl
