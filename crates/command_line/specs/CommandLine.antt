@@ -1,9 +1,11 @@
 -- The command line: what clap is given of it, and which job its entries ask for.
-use Rattle.std.specs.Prelude.{◌≡◌, ◌⊎◌, Bool, List, [], ◌∷◌, true, false, Option, Some, None, Result, Ok, Err, codes, option_map}
+use Rattle.std.specs.Prelude.{◌≡◌, ◌⊎◌, Bool, List, [], ◌∷◌, true, false, Option, Some, None}
+use Rattle.std.specs.Prelude.{Result, Ok, Err, codes, option_map}
 use Rattle.std.specs.Option.{option_map_or}
 use Rattle.std.specs.Str.{bytes_eq}
 use Rattle.clap.specs.declared.builder.action.ArgAction.TheVariants.{SetTrue}
-use Rattle.clap.specs.Words.{App, HasKind, Kinds, Row, Rule, Shape, Text, first_of, new_app, new_rule, with_rule}
+use Rattle.clap.specs.Words.{App, HasKind, Kinds, Row, Rule, Shape, Text, first_of}
+use Rattle.clap.specs.Words.{new_app, new_rule, with_rule}
 use Rattle.clap.specs.Words.{with_subcommand}
 use Rattle.clap.specs.Lexer.{strip_byte}
 use Rattle.clap.specs.Simple.{on_top}
@@ -49,7 +51,9 @@ page_rule = record (new_rule (codes "page")) { long = Some (codes "page"); value
 
 -- explain FILE [--json] [--strict] [--page OUT]
 abbrev pub explain_app : App
-explain_app = with_rule (with_rule (with_rule (with_rule (new_app (codes "explain")) file_rule) json_rule) strict_rule) page_rule
+explain_app = with_rule
+    (with_rule (with_rule (with_rule (new_app (codes "explain")) file_rule) json_rule) strict_rule)
+    page_rule
 
 -- PROOF, which has to be there
 abbrev pub certificate_rule : Rule
@@ -91,7 +95,8 @@ replay_app = with_subcommand tellers_app check_app.top
 abbrev pub flag_of : Text → List Row → Bool
 flag_of name rows = option_map_or (λ t. bytes_eq t (codes "true")) (first_of name rows) false
 
--- a subcommand's name and entries are `run`, this FILE, whether JSON is asked for, and this OUT or none
+-- a subcommand's name and entries are `run`, this FILE, whether JSON
+-- is asked for, and this OUT or none
 abbrev pub IsRunOf : Text × List Row → Text → Bool → Option Text → Type 0
 IsRunOf entries file is_json proof =
     (entries.0 ≡ codes "run") × (first_of (codes "FILE") entries.1 ≡ Some file)
@@ -100,9 +105,11 @@ IsRunOf entries file is_json proof =
 
 -- they are `threads` and this FILE
 abbrev pub IsThreadsOf : Text × List Row → Text → Type 0
-IsThreadsOf entries file = (entries.0 ≡ codes "threads") × (first_of (codes "FILE") entries.1 ≡ Some file)
+IsThreadsOf entries file =
+    (entries.0 ≡ codes "threads") × (first_of (codes "FILE") entries.1 ≡ Some file)
 
--- they are `explain`, this FILE, whether JSON is asked for, this OUT or none, and whether the status is to tell
+-- they are `explain`, this FILE, whether JSON is asked for, this OUT or none,
+-- and whether the status is to tell
 abbrev pub IsExplainOf : Text × List Row → Text → Bool → Option Text → Bool → Type 0
 IsExplainOf entries file is_json page is_strict =
     (entries.0 ≡ codes "explain") × (first_of (codes "FILE") entries.1 ≡ Some file)
@@ -118,16 +125,20 @@ IsCheckOf entries file proof =
 
 -- they are this job, its files and its flags
 abbrev pub AsksForJob : Text × List Row → Job → Type 0
-AsksForJob entries (Run file is_json proof) = IsRunOf entries file.now is_json (option_map (λ s. s.now) proof)
+AsksForJob entries (Run file is_json proof) =
+    IsRunOf entries file.now is_json (option_map (λ s. s.now) proof)
 AsksForJob entries (Threads file) = IsThreadsOf entries file.now
-AsksForJob entries (Explain file is_json page is_strict) = IsExplainOf entries file.now is_json (option_map (λ s. s.now) page) is_strict
+AsksForJob entries (Explain file is_json page is_strict) =
+    IsExplainOf entries file.now is_json (option_map (λ s. s.now) page) is_strict
 AsksForJob entries (Check file proof) = IsCheckOf entries file.now proof.now
 
 -- they are no job's
 pub record AsksForNone (entries : Text × List Row) : Type 0 where
-  pub run : (file : Text) (is_json : Bool) (proof : Option Text) → ¬ IsRunOf entries file is_json proof
+  pub run : (file : Text) (is_json : Bool) (proof : Option Text)
+      → ¬ IsRunOf entries file is_json proof
   pub threads : (file : Text) → ¬ IsThreadsOf entries file
-  pub explain : (file : Text) (is_json : Bool) (page : Option Text) (is_strict : Bool) → ¬ IsExplainOf entries file is_json page is_strict
+  pub explain : (file : Text) (is_json : Bool) (page : Option Text) (is_strict : Bool)
+      → ¬ IsExplainOf entries file is_json page is_strict
   pub check : (file proof : Text) → ¬ IsCheckOf entries file proof
 
 -- they name this OUT: a run's certificate, or an explanation's page
