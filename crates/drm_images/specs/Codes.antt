@@ -1,9 +1,15 @@
 -- The codes of `drm_fourcc.h`.
 use Rattle.std.specs.Prelude.{ℕ, ◌+◌, ◌*◌, List, [], ◌∷◌, Option, Some, None, codes}
 use Rattle.sysmem_formats.specs.declared.modifier.Modifier.{Modifier}
-use Rattle.sysmem_formats.specs.declared.modifier.Modifier.TheVariants.{Linear, IntelXTiled, IntelYTiled}
+use Rattle.sysmem_formats.specs.declared.modifier.Modifier.TheVariants.{Linear, IntelXTiled}
+use Rattle.sysmem_formats.specs.declared.modifier.Modifier.TheVariants.{IntelYTiled}
 use Rattle.sysmem_formats.specs.declared.pixel_format.PixelFormat.{PixelFormat}
-use Rattle.sysmem_formats.specs.declared.pixel_format.PixelFormat.TheVariants.{R8G8B8A8, B8G8R8A8, R8G8B8X8, B8G8R8X8, R8G8B8, B8G8R8, R5G6B5, R8G8, YUY2, R8, L8, I420, YV12, NV12, P010}
+use Rattle.sysmem_formats.specs.declared.pixel_format.PixelFormat.TheVariants.{R8G8B8A8, B8G8R8A8}
+use Rattle.sysmem_formats.specs.declared.pixel_format.PixelFormat.TheVariants.{R8G8B8X8, B8G8R8X8}
+use Rattle.sysmem_formats.specs.declared.pixel_format.PixelFormat.TheVariants.{R8G8B8, B8G8R8}
+use Rattle.sysmem_formats.specs.declared.pixel_format.PixelFormat.TheVariants.{R5G6B5, R8G8, YUY2}
+use Rattle.sysmem_formats.specs.declared.pixel_format.PixelFormat.TheVariants.{R8, L8, I420, YV12}
+use Rattle.sysmem_formats.specs.declared.pixel_format.PixelFormat.TheVariants.{NV12, P010}
 
 -- letters as a word, the first in its lowest byte
 abbrev pub word_of : List ℕ → ℕ
