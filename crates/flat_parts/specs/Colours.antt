@@ -3,7 +3,12 @@ use Rattle.std.specs.Prelude.{◌≡◌, ℕ, ◌^◌, if◌then◌else◌}
 use Rattle.sysmem_counts.specs.declared.field.Field.{Field}
 use Rattle.sysmem_counts.specs.declared.field.Field.TheVariants.{ColorSpaces}
 use Rattle.sysmem_formats.specs.declared.colour_space.ColourSpace.{ColourSpace}
-use Rattle.sysmem_formats.specs.declared.colour_space.ColourSpace.TheVariants.{Srgb, Rec601Ntsc, Rec601NtscFullRange, Rec601Pal, Rec601PalFullRange, Rec709, Rec2020, Rec2100}
+use Rattle.sysmem_formats.specs.declared.colour_space.ColourSpace.TheVariants.{Srgb, Rec601Ntsc}
+use Rattle.sysmem_formats.specs.declared.colour_space.ColourSpace.TheVariants.{Rec601NtscFullRange}
+use Rattle.sysmem_formats.specs.declared.colour_space.ColourSpace.TheVariants.{Rec601Pal}
+use Rattle.sysmem_formats.specs.declared.colour_space.ColourSpace.TheVariants.{Rec601PalFullRange}
+use Rattle.sysmem_formats.specs.declared.colour_space.ColourSpace.TheVariants.{Rec709, Rec2020}
+use Rattle.sysmem_formats.specs.declared.colour_space.ColourSpace.TheVariants.{Rec2100}
 use Rattle.sysmem_image.specs.declared.colours.ColourSet.{ColourSet}
 use Rattle.sysmem_image.specs.Colours.{no_colours, with_any, with_colour}
 use Rattle.flat_parts.specs.Stated.{has_bit}
@@ -42,5 +47,7 @@ any_listed bits = if has_bit bits 8 then with_any no_colours else no_colours
 
 -- the set of what has its bit set
 abbrev pub set_said : ℕ → ColourSet
-set_said bits = listed bits Rec2100 (listed bits Rec2020 (listed bits Rec709 (listed bits Rec601PalFullRange (listed bits Rec601Pal
-    (listed bits Rec601NtscFullRange (listed bits Rec601Ntsc (listed bits Srgb (any_listed bits))))))))
+set_said bits = listed bits Rec2100 (listed bits Rec2020 (listed bits Rec709
+    (listed bits Rec601PalFullRange (listed bits Rec601Pal
+    (listed bits Rec601NtscFullRange (listed bits Rec601Ntsc
+    (listed bits Srgb (any_listed bits))))))))

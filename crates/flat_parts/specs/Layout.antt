@@ -1,5 +1,6 @@
 -- The bytes of an image, and where its planes lie.
-use Rattle.std.specs.Prelude.{◌≡◌, ℕ, ◌^◌, ◌≤◌, ◌⊎◌, List, [], ◌∷◌, Option, Some, None, length, slice_get}
+use Rattle.std.specs.Prelude.{◌≡◌, ℕ, ◌^◌, ◌≤◌, ◌⊎◌, List, [], ◌∷◌, Option, Some}
+use Rattle.std.specs.Prelude.{None, length, slice_get}
 use Rattle.sysmem_formats.specs.declared.offer.Pair.{Pair}
 use Rattle.sysmem_formats.specs.Layout.{IsTiledMisfit}
 use Rattle.drm_images.specs.declared.plane.Plane.{Plane}
@@ -10,12 +11,14 @@ use Rattle.flat_parts.specs.declared.flat.FlatPlane.{FlatPlane}
 
 -- a plane as C has it, or all 0 where there is none
 abbrev pub flat_plane : Option Plane → FlatPlane
-flat_plane (Some plane) = record { offset = plane.offset; rows = plane.rows; pitch = plane.pitch; reserved = 0 }
+flat_plane (Some plane) =
+    record { offset = plane.offset; rows = plane.rows; pitch = plane.pitch; reserved = 0 }
 flat_plane None = record { offset = 0; rows = 0; pitch = 0; reserved = 0 }
 
 -- four of them
 abbrev pub flat_planes : List Plane → List FlatPlane
-flat_planes ps = flat_plane (slice_get ps 0) ∷ flat_plane (slice_get ps 1) ∷ flat_plane (slice_get ps 2) ∷ flat_plane (slice_get ps 3) ∷ []
+flat_planes ps = flat_plane (slice_get ps 0) ∷ flat_plane (slice_get ps 1)
+    ∷ flat_plane (slice_get ps 2) ∷ flat_plane (slice_get ps 3) ∷ []
 
 -- the layout of an image of the pair: its bytes, and each of its planes
 pub record IsPairLayout (pair : Pair) (pitch height : ℕ) (layout : FlatLayout) : Type 0 where
@@ -31,7 +34,8 @@ pub record IsLayout (format modifier pitch height : ℕ) (layout : FlatLayout) :
 
 -- no pair has these codes, or it is a tiled misfit, or its image has more bytes than 64 bits tell
 abbrev pub IsNoLayout : ℕ → ℕ → ℕ → ℕ → Type 0
-IsNoLayout format modifier pitch height = (pair : Pair) → HasCodes format modifier pair → IsTiledMisfit pair ⊎ (2 ^ 64 ≤ bytes_of pair pitch height)
+IsNoLayout format modifier pitch height = (pair : Pair) → HasCodes format modifier pair
+    → IsTiledMisfit pair ⊎ (2 ^ 64 ≤ bytes_of pair pitch height)
 
 -- no image
 abbrev pub no_layout : FlatLayout

@@ -55,7 +55,8 @@ fn stated_colour(bit: u32) -> Result<ColourSpace, Field>
     }
 }
 
-/// The colour spaces that have these bits. It fails where memory is refused, or where none has a bit.
+/// The colour spaces that have these bits. It fails where memory is
+/// refused, or where none has a bit.
 pub fn colours_of(alloc: Global, bits: &[u32]) -> Result<Vec<ColourSpace>, Unsaid>
     ensures said { IfOk result (λ colours. AllZip IsColourSaid bits.now colours.items) }
     ensures amiss { IfErr result (IfAmiss (IsAmiss ColourUnsaid bits.now)) }

@@ -97,7 +97,8 @@ fn entry_of(flat: &FlatEntry) -> Result<Entry, Field>
     })
 }
 
-/// The entries that the structs state. It fails where memory is refused, or where a struct says no entry.
+/// The entries that the structs state. It fails where memory is refused,
+/// or where a struct says no entry.
 pub fn entries_of(alloc: Global, flats: &[FlatEntry]) -> Result<Vec<Entry>, Unsaid>
     ensures said { IfOk result (λ entries. AllZip IsEntrySaid flats.now entries.items) }
     ensures amiss { IfErr result (IfAmiss (IsAmiss EntryUnsaid flats.now)) }

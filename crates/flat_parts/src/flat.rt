@@ -48,7 +48,8 @@ pub struct FlatEntry {
     pub modifier: u64,
     /// Not read where `any_format` is true.
     pub format: u32,
-    /// A set of colour spaces: bit 0 to 7 are those of the profile in its order, bit 8 is `DO_NOT_CARE`.
+    /// A set of colour spaces: bit 0 to 7 are those of the profile in
+    /// its order, bit 8 is `DO_NOT_CARE`.
     pub colours: u32,
     pub any_format: bool,
     pub any_modifier: bool,
@@ -92,7 +93,8 @@ pub struct FlatParticipant<'a> {
     pub entries: &'a [FlatEntry],
 }
 
-/// Where a plane begins in the image, its rows, and the bytes of a row; all 0 where there is no such plane.
+/// Where a plane begins in the image, its rows, and the bytes of a row;
+/// all 0 where there is no such plane.
 #[repr(C)]
 #[derive(Clone, Copy, Debug)]
 pub struct FlatPlane {

@@ -85,8 +85,8 @@ fn planes_in(pair: Pair, pitch: u32, height: u32, bytes: u64) -> FlatLayout
     }
 }
 
-/// The layout of an image of a pair, with rows of `pitch` bytes, its height in pixels; `None` where it has more bytes than 64
-/// bits tell.
+/// The layout of an image of a pair, with rows of `pitch` bytes, its height in pixels; `None` where
+/// it has more bytes than 64 bits tell.
 pub fn layout_in(pair: Pair, pitch: u32, height: u32) -> Option<FlatLayout>
     ensures layout { IfSome result (IsPairLayout pair pitch height) }
     ensures large { IfNone result (2 ^ 64 ≤ bytes_of pair pitch height) }
@@ -95,8 +95,9 @@ pub fn layout_in(pair: Pair, pitch: u32, height: u32) -> Option<FlatLayout>
     Some(planes_in(pair, pitch, height, bytes))
 }
 
-/// The layout of an image of a pair with these codes, or `None` where there is no such pair, where it is a tiled modifier with
-/// a format that isn't of 4 bytes, or where the image has more bytes than 64 bits tell.
+/// The layout of an image of a pair with these codes, or `None` where there is no such
+/// pair, where it is a tiled modifier with a format that isn't of 4 bytes, or where the
+/// image has more bytes than 64 bits tell.
 pub fn layout_of(format: u32, modifier: u64, pitch: u32, height: u32) -> Option<FlatLayout>
     ensures layout { IfSome result (IsLayout format modifier pitch height) }
     ensures none { IfNone result (IsNoLayout format modifier pitch height) }

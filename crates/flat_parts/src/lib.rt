@@ -1,5 +1,5 @@
-//! What the structs of a C program say: the parts of a platform and of participants, in the terms of DRM, and the planes of
-//! an image.
+//! What the structs of a C program say: the parts of a platform and of participants, in the terms
+//! of DRM, and the planes of an image.
 //!
 //! Where a number is 0, nothing is said of it.
 #![tactic(auto)]

@@ -36,7 +36,8 @@ fn stated_pair(flat: FlatPair) -> Result<Pair, Field>
     Ok(Pair { format, modifier })
 }
 
-/// The pairs that the structs state. It fails where memory is refused, or where no format or no modifier has a code.
+/// The pairs that the structs state. It fails where memory is refused, or where no
+/// format or no modifier has a code.
 pub fn pairs_of(alloc: Global, flats: &[FlatPair]) -> Result<Vec<Pair>, Unsaid>
     ensures said { IfOk result (λ pairs. AllZip IsPairSaid flats.now pairs.items) }
     ensures amiss { IfErr result (IfAmiss (IsAmiss PairUnsaid flats.now)) }
