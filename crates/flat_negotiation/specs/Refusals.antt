@@ -92,7 +92,11 @@ kind_of NoOffer = 6
 -- what is told of an offer that others share
 abbrev pub with_offer : Offer → FlatRefusal → FlatRefusal
 with_offer offer.NoImage r = r
-with_offer (offer.Image pair colour) r = record r { modifier = modifier_bits pair.modifier; format = unwrap_or (fourcc pair.format) 0; colour = colour_bit colour }
+with_offer (offer.Image pair colour) r = record r {
+  modifier = modifier_bits pair.modifier;
+  format = unwrap_or (fourcc pair.format) 0;
+  colour = colour_bit colour;
+}
 
 -- what is told of settings that others share
 abbrev pub with_shared : Option Settings → FlatRefusal → FlatRefusal
@@ -106,16 +110,22 @@ lone_number (Some reason) = 1
 
 -- what is told of who is in the way
 abbrev pub told_refusal : ℕ → Refusal → FlatRefusal
-told_refusal size r = record (refusal_with size (kind_of (told_reason r)) (if r.stop.whole then nobody else r.stop.who) 0 (field_number r.field)) { alone = lone_number r.lone }
+told_refusal size r = record (refusal_with size (kind_of (told_reason r))
+    (if r.stop.whole then nobody else r.stop.who) 0
+    (field_number r.field)) { alone = lone_number r.lone }
 
 -- what is told where no settings meet them
 abbrev pub unmet_refusal : ℕ → Refusal → FlatRefusal
-unmet_refusal size r = option_map_or (λ o. with_offer o (with_shared r.stop.shared (told_refusal size r))) r.offer (with_shared r.stop.shared (told_refusal size r))
+unmet_refusal size r = option_map_or
+    (λ o. with_offer o (with_shared r.stop.shared (told_refusal size r))) r.offer
+    (with_shared r.stop.shared (told_refusal size r))
 
 -- what is told of why there are no settings
 abbrev pub flat_refusal : ℕ → Unsettled → FlatRefusal
 flat_refusal size why.NoMemory = refusal_with size 0 nobody 0 0
-flat_refusal size (why.Platform amiss) = refusal_with size 1 nobody amiss.index (field_number amiss.field)
-flat_refusal size (why.Participant who amiss) = refusal_with size 2 who amiss.index (field_number amiss.field)
+flat_refusal size (why.Platform amiss) =
+    refusal_with size 1 nobody amiss.index (field_number amiss.field)
+flat_refusal size (why.Participant who amiss) =
+    refusal_with size 2 who amiss.index (field_number amiss.field)
 flat_refusal size why.TooMany = refusal_with size 3 nobody 0 0
 flat_refusal size (why.Unmet r) = unmet_refusal size r

@@ -2,8 +2,8 @@
 
 use flat_parts::FlatLayout;
 
-/// An image: its DRM codes, the bit of its colour space, its sides in pixels, and where it lies. All of it is 0 where there is
-/// no image.
+/// An image: its DRM codes, the bit of its colour space, its sides in pixels, and where it lies.
+/// All of it is 0 where there is no image.
 #[repr(C)]
 #[derive(Clone, Copy, Debug)]
 pub struct FlatImage {

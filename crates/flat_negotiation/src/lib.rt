@@ -1,5 +1,5 @@
-//! A list of participants without groups, from the structs of a C program: the best settings for all of them, or who is in
-//! the way.
+//! A list of participants without groups, from the structs of a C program: the best settings for
+//! all of them, or who is in the way.
 #![tactic(auto)]
 
 mod blaming;

@@ -48,7 +48,8 @@ fn pushed(list: &mut Vec<Constraints>, item: Constraints) -> Result<(), AllocErr
     Ok(())
 }
 
-/// The participants that the structs state. It fails where memory is refused, or where one states none.
+/// The participants that the structs state. It fails where memory is
+/// refused, or where one states none.
 pub(crate) fn participants_of(
     alloc: Global,
     flats: &[FlatParticipant<'_>],

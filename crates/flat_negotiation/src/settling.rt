@@ -65,8 +65,8 @@ fn stop_of(
     })
 }
 
-/// The best settings for all of a list of at most 1,024 participants. It fails where memory is refused, and where there are
-/// none.
+/// The best settings for all of a list of at most 1,024 participants. It fails where memory is
+/// refused, and where there are none.
 pub(crate) fn settled(
     alloc: Global,
     platform: &Platform,
@@ -114,7 +114,8 @@ fn blame_of(
     Ok(blamed(platform, asked, stop, lone))
 }
 
-/// Why the participant at whom a list stops can't be met even by itself, if it can't. It fails where memory is refused.
+/// Why the participant at whom a list stops can't be met even by itself, if it can't.
+/// It fails where memory is refused.
 fn lone_reason(
     alloc: Global,
     platform: &Platform,

@@ -11,7 +11,8 @@ use sysmem_merge::{Reason, Settings};
 /// Where a list has no settings any more.
 #[derive(Clone, Copy, Debug)]
 pub struct Stop {
-    /// The first participant with whom there are none, as an index; where nobody is in the way alone, how many there are.
+    /// The first participant with whom there are none, as an index; where nobody is in
+    /// the way alone, how many there are.
     pub who: usize,
     /// Whether all of them could share settings, but that nobody names a part of the image.
     pub whole: bool,
