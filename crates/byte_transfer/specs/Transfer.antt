@@ -2,7 +2,8 @@
 use Rattle.std.specs.Prelude.{ℕ, ◌+◌, ◌≤◌, List, length, take, Option}
 use Rattle.std.specs.Io.KnownBytes.{Appends, Consumes, IsAtEnd}
 
--- The bytes were taken from the reader. They are all that it had, unless they are more than the limit.
+-- The bytes were taken from the reader. They are all that it had,
+-- unless they are more than the limit.
 pub record ReadsToLimit (limit : ℕ) (old new : Option (List ℕ)) (bytes : List ℕ) : Type 0 where
   pub taken : Consumes old new bytes
   pub all : length bytes ≤ limit → IsAtEnd new

@@ -1,4 +1,5 @@
-//! Bytes from a reader up to a limit, and to a writer: whole, or up to the first failure, which is counted.
+//! Bytes from a reader up to a limit, and to a writer: whole, or up to the
+//! first failure, which is counted.
 //!
 //! ```
 //! let mut reader = Counted::new(file);

@@ -15,7 +15,8 @@ pub trait Source {
     /// A number that is another after each failed read, and else stays.
     ghost failures: { Self → ℕ };
 
-    /// Gives the next bytes at the front of `buf`, and says how many. None are the end, unless `buf` has no room.
+    /// Gives the next bytes at the front of `buf`, and says how many. None are
+    /// the end, unless `buf` has no room.
     ///
     /// An `Err` is a failure, and takes no byte.
     fn read(&mut self, buf: &mut [u8]) -> io::Result<usize>

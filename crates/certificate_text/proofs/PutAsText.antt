@@ -120,7 +120,8 @@ list_goes_on done bs ts ds text place =
     ∙ ap (λ s. print ts ++ (separator (ends_value ts) begin_array ++ 91 ∷ s)) (sym (items_printed ds))
     ∙ sym (print_from-append false ts (tokens_of (array ds)))
 
--- what stands before a list that is put as text, and what stands when its text and its bracket are put
+-- what stands before a list that is put as text, and what stands when
+-- its text and its bracket are put
 module _ (w v : Inside) (h : IsOut w) (ds : Items) (numbers : HasNumbers (outline (array ds)))
     (text : v.done.items ++ 93 ∷ [] ≡ (w.done.items ++ print (w.behind.tokens ++ begin_array ∷ [])) ++ items_text false ds)
     (before : v.behind.before ≡ []) (behind : v.behind.tokens ≡ end_array ∷ []) where

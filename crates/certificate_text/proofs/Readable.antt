@@ -22,7 +22,8 @@ use Rattle.certificate_text.specs.Laws.{IsTextOf}
 use Rattle.certificate_text.specs.Told.{list_data}
 use Rattle.certificate_text.proofs.NewLine.{tokens-line}
 
--- lists and objects nest no deeper, each number is of 64 bits, and each object has its keys in order
+-- lists and objects nest no deeper, each number is of 64 bits, and
+-- each object has its keys in order
 pub record IsReadable (n : ℕ) (d : Data) : Type 0 where
   pub numbers : tree.HasNumbers (outline d)
   pub shallow : tree.depth (outline d) ≤ n

@@ -1,4 +1,5 @@
--- The members of a domain's shape have paths that can be read, whatever is chosen, and choices are few.
+-- The members of a domain's shape have paths that can be read,
+-- whatever is chosen, and choices are few.
 use Rattle.std.proofs.Common.{◌≡◌, ℕ, suc, ◌+◌, ◌<◌, ◌≤◌, ◌==◌, ◌++◌, Bool, true, false, List, [], ◌∷◌, length, All, Option, Some, None, IfSome, IsSome, slice_get, option_map, option_and_then, refl, sym, ap, subst, ◌∙◌, arith}
 use Rattle.std.specs.List.{AllByRecursion, cons_option}
 use Rattle.std.specs.Prelude.{if◌then◌else◌}

@@ -18,7 +18,8 @@ size_data width height = object (member (codes "height") (count_data height)
 -- the value of a field: both sides of a size, or a number
 abbrev pub bound_data : ImageBounds → Bound → Data
 bound_data b f =
-    if is_size f then size_data (value f side.Width b) (value f side.Height b) else count_data (value f side.Width b)
+    if is_size f then size_data (value f side.Width b) (value f side.Height b)
+    else count_data (value f side.Width b)
 
 -- these fields, each under its name and in the order of the names
 abbrev pub bounds_members : ImageBounds → List Bound → Members

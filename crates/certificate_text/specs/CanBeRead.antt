@@ -1,5 +1,7 @@
--- Which claims can be read of their text: what they say fits its types, and their settings are the platform's.
-use Rattle.std.specs.Prelude.{◌≡◌, ℕ, ◌-◌, ◌^◌, ◌≤◌, List, [], ◌∷◌, length, All, Contains, IfSome, Option, Some, None}
+-- Which claims can be read of their text: what they say fits its types, and
+-- their settings are the platform's.
+use Rattle.std.specs.Prelude.{◌≡◌, ℕ, ◌-◌, ◌^◌, ◌≤◌, List, [], ◌∷◌, length, All, Contains}
+use Rattle.std.specs.Prelude.{IfSome, Option, Some, None}
 use Rattle.sysmem_formats.specs.declared.offer.Offer.TheVariants.{NoImage}
 use Rattle.sysmem_image.specs.Bounds.{IsInRange, IsOwn}
 use Rattle.sysmem_counts.specs.Bounds.{most_number}
@@ -49,7 +51,8 @@ pub record IsReadableCertificate (certificate : CertificateFacts) : Type 0 where
   pub offers : All NamesNodes certificate.offers
   pub places : All NamesNodes certificate.places
 
--- the platform's offer in one of its places, and numbers that fit; without an image the bounds are those of no entry
+-- the platform's offer in one of its places, and numbers that fit; without an image
+-- the bounds are those of no entry
 pub record AreReadableSettings (platform : PlatformFacts) (s : Settings) : Type 0 where
   pub count : s.count ≤ most_number
   pub size_bytes : s.size_bytes ≤ 2 ^ 64 - 1
@@ -70,14 +73,17 @@ pub record IsReadableChoice (platform : PlatformFacts) (chosen : ChosenFacts)
 
 -- a verdict and a proof of its kind, where what they say can be read
 abbrev pub CanBeRead : PlatformFacts → Verdict → Proof → Type 0
-CanBeRead platform (verdicts.Chosen chosen) (proves.Choice certificate) = IsReadableChoice platform chosen certificate
+CanBeRead platform (verdicts.Chosen chosen) (proves.Choice certificate) =
+    IsReadableChoice platform chosen certificate
 CanBeRead platform verdicts.IntersectionEmpty (proves.Empty items) = IsReadableRefutation items
 CanBeRead platform verdicts.TooMany proves.Nothing = Unit {0}
 CanBeRead platform verdicts.NoMemory proves.Nothing = Unit {0}
 CanBeRead platform verdict proof = ⊥
 
--- what was decided of the domain at a path, where it can be read: a claim, or that memory was refused
-pub record IsReadableDecision (platform : PlatformFacts) (path : List ℕ) (claim : Option Claim) : Type 0 where
+-- what was decided of the domain at a path, where it can be read: a
+-- claim, or that memory was refused
+pub record IsReadableDecision (platform : PlatformFacts) (path : List ℕ)
+    (claim : Option Claim) : Type 0 where
   pub steps : HasSteps path
   pub claimed : IfSome claim (λ c. CanBeRead platform c.verdict c.proof)
 

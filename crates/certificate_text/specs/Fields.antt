@@ -8,17 +8,16 @@ use Rattle.sysmem_sanitise.specs.Reading.Names.{find_named}
 
 -- each field once, those of image bounds last
 abbrev pub all_fields : List Field
-all_fields = field.Usage
-    ∷ field.MinBufferCountForCamping ∷ field.MinBufferCountForDedicatedSlack ∷ field.MinBufferCountForSharedSlack
-    ∷ field.MinBufferCount ∷ field.MaxBufferCount
-    ∷ field.BufferMemoryConstraints ∷ field.ImageFormatConstraints
-    ∷ field.MinSizeBytes ∷ field.MaxSizeBytes ∷ field.PhysicallyContiguousRequired ∷ field.SecureRequired
-    ∷ field.CpuDomainSupported ∷ field.RamDomainSupported ∷ field.InaccessibleDomainSupported ∷ field.PermittedHeaps
-    ∷ field.PixelFormat ∷ field.PixelFormatModifier ∷ field.PixelFormatAndModifiers ∷ field.ColorSpaces
-    ∷ field.RequireBytesPerRowAtPixelBoundary
-    ∷ field.BufferCountLimit ∷ field.UnnamedPixelFormat ∷ field.UnnamedPixelFormatModifier ∷ field.UnnamedColorSpace
-    ∷ field.Heaps ∷ field.Pairs ∷ field.HeapType ∷ field.Id ∷ field.Contiguous ∷ field.Secure ∷ field.Domains
-    ∷ map field_of all_bounds
+all_fields = field.Usage ∷ field.MinBufferCountForCamping ∷ field.MinBufferCountForDedicatedSlack
+    ∷ field.MinBufferCountForSharedSlack ∷ field.MinBufferCount ∷ field.MaxBufferCount
+    ∷ field.BufferMemoryConstraints ∷ field.ImageFormatConstraints ∷ field.MinSizeBytes
+    ∷ field.MaxSizeBytes ∷ field.PhysicallyContiguousRequired ∷ field.SecureRequired
+    ∷ field.CpuDomainSupported ∷ field.RamDomainSupported ∷ field.InaccessibleDomainSupported
+    ∷ field.PermittedHeaps ∷ field.PixelFormat ∷ field.PixelFormatModifier
+    ∷ field.PixelFormatAndModifiers ∷ field.ColorSpaces ∷ field.RequireBytesPerRowAtPixelBoundary
+    ∷ field.BufferCountLimit ∷ field.UnnamedPixelFormat ∷ field.UnnamedPixelFormatModifier
+    ∷ field.UnnamedColorSpace ∷ field.Heaps ∷ field.Pairs ∷ field.HeapType ∷ field.Id
+    ∷ field.Contiguous ∷ field.Secure ∷ field.Domains ∷ map field_of all_bounds
 
 -- the field of this name
 unfoldable pub field_named : List ℕ → Option Field

@@ -12,7 +12,8 @@ use Rattle.sysmem_proof.specs.declared.certificate.Proof.{Proof}
 use Rattle.sysmem_proof.specs.declared.verdict.Verdict.{Verdict}
 use Rattle.sysmem_proof.specs.Base.{BaseFacts}
 use Rattle.sysmem_proof.specs.Claim.{IsTrueClaim}
-use Rattle.certificate_text.specs.CanBeRead.{HasSteps, CanBeRead, IsReadableDecision, HasHeapIds, IsReadableBase}
+use Rattle.certificate_text.specs.CanBeRead.{HasSteps, CanBeRead, IsReadableDecision}
+use Rattle.certificate_text.specs.CanBeRead.{HasHeapIds, IsReadableBase}
 use Rattle.certificate_text.specs.Certificate.{certificate_text}
 use Rattle.certificate_text.specs.Said.{node_said, claim_said}
 use Rattle.certificate_text.specs.Told.{path_data, claim_data, decision_data}
@@ -24,7 +25,8 @@ PathsReadBack = (path : List ℕ) → HasSteps path → node_said (path_data pat
 -- a claim that can be read is read of what is told of it
 abbrev pub ClaimsReadBack : Type 0
 ClaimsReadBack = (platform : PlatformFacts) (path : List ℕ) (verdict : Verdict) (proof : Proof)
-    → IsPlatform platform.heaps platform.pairs platform.colours → HasSteps path → CanBeRead platform verdict proof
+    → IsPlatform platform.heaps platform.pairs platform.colours → HasSteps path
+    → CanBeRead platform verdict proof
     → claim_said platform (claim_data platform path verdict proof)
     ≡ Some (path, record { verdict = verdict; proof = proof })
 
@@ -32,12 +34,12 @@ ClaimsReadBack = (platform : PlatformFacts) (path : List ℕ) (verdict : Verdict
 abbrev pub NodePathsCanBeRead : Type 0
 NodePathsCanBeRead = (nodes : List NodeFacts) (i : ℕ) → IsTree nodes → HasSteps (path_of nodes i)
 
--- a claim that is true of a domain of a tree can be read; of an attached one, where the settings that it is decided on
--- can be read
+-- a claim that is true of a domain of a tree can be read; of an attached one, where the settings
+-- that it is decided on can be read
 abbrev pub TrueClaimsCanBeRead : Type 0
 TrueClaimsCanBeRead = (platform : PlatformFacts) (nodes : List NodeFacts) (domain : ℕ)
-    → (base : Option BaseFacts) (claim : Claim)
-    → HasHeapIds platform → IsTree nodes → IsReadableBase platform base → IsTrueClaim platform nodes domain base claim
+    → (base : Option BaseFacts) (claim : Claim) → HasHeapIds platform → IsTree nodes
+    → IsReadableBase platform base → IsTrueClaim platform nodes domain base claim
     → CanBeRead platform claim.verdict claim.proof
 
 -- a text is UTF-8, and JSON that is read as the data
@@ -47,7 +49,8 @@ pub record IsTextOf (d : Data) (text : List ℕ) : Type 0 where
 
 -- the text of a certificate is that of the list of its decisions' objects, where they can be read
 abbrev pub TextsReadBack : Type 0
-TextsReadBack = (platform : PlatformFacts) (decisions : List (List ℕ × Option Claim)) → All IsHeap platform.heaps
+TextsReadBack = (platform : PlatformFacts) (decisions : List (List ℕ × Option Claim))
+    → All IsHeap platform.heaps
     → All (λ c. IsReadableDecision platform c.0 c.1) decisions
     → IsTextOf (array (items_of (map (λ c. decision_data platform c.0 c.1) decisions)))
     (certificate_text (map (λ c. decision_data platform c.0 c.1) decisions))

@@ -11,7 +11,8 @@ use Rattle.certificate_text.specs.declared.json_writer.Writer.TheInside.{Inside}
 
 -- the tokens are those that a reader finds in the whole text
 abbrev pub out_view : Inside → Written
-out_view w = record { before = []; tokens = tokens (w.done.items ++ print w.behind.tokens); spare = 0 }
+out_view w =
+    record { before = []; tokens = tokens (w.done.items ++ print w.behind.tokens); spare = 0 }
 
 -- the whole text is a print of some tokens, and both of its parts end as those do
 pub record IsOut (w : Inside) : Type 0 where

@@ -1,5 +1,7 @@
 -- Paths as texts.
-use Rattle.std.specs.Prelude.{ℕ, zero, suc, ◌+◌, ◌-◌, ◌*◌, ◌++◌, ◌&&◌, ◌==◌, min, List, [], ◌∷◌, Option, Some, None, codes, nat_le, option_and_then, option_map, if◌then◌else◌}
+use Rattle.std.specs.Prelude.{ℕ, zero, suc, ◌+◌, ◌-◌, ◌*◌, ◌++◌, ◌&&◌, ◌==◌, min, List}
+use Rattle.std.specs.Prelude.{[], ◌∷◌, Option, Some, None, codes, nat_le}
+use Rattle.std.specs.Prelude.{option_and_then, option_map, if◌then◌else◌}
 use Rattle.std.specs.Fmt.{decimal}
 use Rattle.sysmem_counts.specs.Bounds.{most_number}
 
@@ -13,8 +15,8 @@ abbrev pub path_text : List ℕ → List ℕ
 path_text [] = codes "/"
 path_text (ordinal ∷ path) = steps_text (ordinal ∷ path)
 
--- an ordinal with a further digit: none follows a 0. What is above 32 bits is read as their greatest number, where no
--- child is
+-- an ordinal with a further digit: none follows a 0. What is above 32 bits is read as their
+-- greatest number, where no child is
 abbrev pub with_digit : Option ℕ → ℕ → Option ℕ
 with_digit None digit = Some digit
 with_digit (Some zero) digit = None
@@ -28,7 +30,8 @@ with_byte ordinal c = if nat_le 48 c && nat_le c 57 then with_digit ordinal (c -
 abbrev pub steps_said : Option ℕ → List ℕ → Option (List ℕ)
 steps_said ordinal [] = option_map (λ n. n ∷ []) ordinal
 steps_said ordinal (c ∷ text) =
-    if c == 47 then option_and_then (λ n. option_map (λ path. n ∷ path) (steps_said None text)) ordinal
+    if c == 47
+    then option_and_then (λ n. option_map (λ path. n ∷ path) (steps_said None text)) ordinal
     else option_and_then (λ n. steps_said (Some n) text) (with_byte ordinal c)
 
 -- what stands after the first slash: nothing for the root

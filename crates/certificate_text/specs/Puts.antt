@@ -1,4 +1,5 @@
--- What is put after what is written, for private clauses: data, a member, or the members of an object.
+-- What is put after what is written, for private clauses: data, a
+-- member, or the members of an object.
 use Rattle.std.specs.Prelude.{◌≡◌, ℕ, ◌++◌, List, ◌∷◌, OnOk, Result}
 use Rattle.json.specs.Token.{Token, key}
 use Rattle.json.specs.Tree.{members_tokens}
@@ -30,5 +31,6 @@ pub record AddsMembers (old new : Written) (with : Members → Members) : Type 0
   pub before : new.before ≡ old.before
 
 -- where the result is Ok, they were put so
-abbrev pub PutsMembers : {T E : Type 0} → Result T E → Written → Written → (Members → Members) → Type 0
+abbrev pub PutsMembers : {T E : Type 0} → Result T E → Written → Written → (Members → Members)
+    → Type 0
 PutsMembers result old new with = OnOk result (AddsMembers old new with)

@@ -1,5 +1,7 @@
--- What an object of a certificate says: a path and a claim, or nothing where a name, a kind, a key or a range is wrong.
-use Rattle.std.specs.Prelude.{ℕ, ◌-◌, ◌^◌, List, [], ◌∷◌, Bool, Option, Some, None, length, codes, bytes_eq, nat_le, is_some, option_map, if◌then◌else◌}
+-- What an object of a certificate says: a path and a claim, or nothing where a name, a
+-- kind, a key or a range is wrong.
+use Rattle.std.specs.Prelude.{ℕ, ◌-◌, ◌^◌, List, [], ◌∷◌, Bool, Option, Some, None, length, codes}
+use Rattle.std.specs.Prelude.{bytes_eq, nat_le, is_some, option_map, if◌then◌else◌}
 use Rattle.serde_json.specs.Data.{Data}
 use Rattle.serde_json.specs.Find.{get, as_str}
 use Rattle.sysmem_counts.specs.declared.field.Field.{Field}
@@ -16,7 +18,8 @@ use Rattle.sysmem_proof.specs.CertificateFacts.{CertificateFacts}
 use Rattle.sysmem_proof.specs.Line.{LineFacts}
 use Rattle.certificate_text.specs.Fields.{field_named}
 use Rattle.certificate_text.specs.Paths.{path_said}
-use Rattle.certificate_text.specs.Reading.{◌>>=◌, is_object_of, number_to, list_said, at_key, named_at}
+use Rattle.certificate_text.specs.Reading.{◌>>=◌, is_object_of, number_to}
+use Rattle.certificate_text.specs.Reading.{list_said, at_key, named_at}
 use Rattle.certificate_text.specs.SettingsSaid.{settings_said}
 
 -- ---- lines and conflicts
@@ -53,7 +56,8 @@ has_key key d = is_some (get key d)
 abbrev pub conflict_said : Data → Option Conflict
 conflict_said d =
     if has_key (codes "count") d then option_map Count (named_said (codes "count") d)
-    else if has_key (codes "fixed") d then (named_said (codes "fixed") d >>= λ line. fixed_by line.field line.nodes)
+    else if has_key (codes "fixed") d
+    then (named_said (codes "fixed") d >>= λ line. fixed_by line.field line.nodes)
     else if has_key (codes "places") d then option_map Places (lines_said (codes "places") d)
     else option_map Offers (lines_said (codes "offers") d)
 

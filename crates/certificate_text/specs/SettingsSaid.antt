@@ -1,5 +1,7 @@
 -- The settings that an object of a certificate says.
-use Rattle.std.specs.Prelude.{ℕ, ◌-◌, ◌^◌, ◌&&◌, ◌==◌, Bool, List, [], ◌∷◌, length, Option, Some, None, codes, bytes_eq, is_some, option_map, position, slice_get, nat_le, if◌then◌else◌}
+use Rattle.std.specs.Prelude.{ℕ, ◌-◌, ◌^◌, ◌&&◌, ◌==◌, Bool, List, [], ◌∷◌, length, Option}
+use Rattle.std.specs.Prelude.{Some, None, codes, bytes_eq, is_some, option_map, position}
+use Rattle.std.specs.Prelude.{slice_get, nat_le, if◌then◌else◌}
 use Rattle.serde_json.specs.Data.{Data}
 use Rattle.serde_json.specs.Find.{get, as_null, as_str}
 use Rattle.sysmem_counts.specs.declared.field.Field.{Field}
@@ -9,7 +11,8 @@ use Rattle.sysmem_formats.specs.declared.offer.Offer.{Offer}
 use Rattle.sysmem_formats.specs.declared.offer.Offer.TheVariants.{NoImage, Image}
 use Rattle.sysmem_image.specs.declared.bounds.ImageBounds.{ImageBounds}
 use Rattle.sysmem_image.specs.declared.size.Size.{Size}
-use Rattle.sysmem_image.specs.Fields.{Bound, MaxWidthTimesHeight, all_bounds, field_of, is_size, absent, bounds_with, value_among}
+use Rattle.sysmem_image.specs.Fields.{Bound, MaxWidthTimesHeight, all_bounds, field_of, is_size}
+use Rattle.sysmem_image.specs.Fields.{absent, bounds_with, value_among}
 use Rattle.sysmem_image.specs.Size.{square}
 use Rattle.sysmem_counts.specs.Bounds.{most_number}
 use Rattle.sysmem_memory.specs.declared.domain.CoherencyDomain.{CoherencyDomain}
@@ -18,7 +21,8 @@ use Rattle.sysmem_memory.specs.Domain.{has_domain}
 use Rattle.sysmem_memory.specs.Heap.{HeapFacts}
 use Rattle.sysmem_merge.specs.declared.settings.Settings.{Settings}
 use Rattle.sysmem_sanitise.specs.Platform.{PlatformFacts}
-use Rattle.sysmem_sanitise.specs.Reading.Names.{format_named, modifier_named, colour_named, domain_named}
+use Rattle.sysmem_sanitise.specs.Reading.Names.{format_named, modifier_named}
+use Rattle.sysmem_sanitise.specs.Reading.Names.{colour_named, domain_named}
 use Rattle.sysmem_sanitise.specs.Reading.Pairs.{has_pair, lists_colour}
 use Rattle.certificate_text.specs.Reading.{◌>>=◌, is_object_of, number_to, at_key, named_at}
 
@@ -113,7 +117,9 @@ bounds_beside (Image pair colour) d = option_map bounds_by (values_said d)
 abbrev pub offered : PlatformFacts → Offer → Option Offer
 offered platform NoImage = Some NoImage
 offered platform (Image pair colour) =
-    if has_pair platform.pairs pair && lists_colour platform.colours colour then Some (Image pair colour) else None
+    if has_pair platform.pairs pair && lists_colour platform.colours colour
+    then Some (Image pair colour)
+    else None
 
 abbrev pub image_said : Data → Option Offer
 image_said d = do
@@ -125,7 +131,8 @@ image_said d = do
 
 -- null is no image
 abbrev pub offer_said : PlatformFacts → Data → Option Offer
-offer_said platform d = if is_some (as_null d) then Some NoImage else image_said d >>= offered platform
+offer_said platform d =
+    if is_some (as_null d) then Some NoImage else image_said d >>= offered platform
 
 -- a heap's number may be left out, and is 0 then
 abbrev pub id_said : Option Data → Option ℕ
@@ -152,7 +159,8 @@ heap_said platform d = do
 abbrev pub place_at : PlatformFacts → ℕ → CoherencyDomain → Option Place
 place_at platform heap coherency = do
   h ← slice_get platform.heaps heap
-  if has_domain h.domains coherency then Some (record { heap = heap; coherency = coherency }) else None
+  if has_domain h.domains coherency then Some (record { heap = heap; coherency = coherency })
+      else None
 
 abbrev pub place_said : PlatformFacts → Data → Option Place
 place_said platform d = do
@@ -169,4 +177,10 @@ settings_said platform d = do
   place ← place_said platform d
   offer ← at_key (codes "image") (offer_said platform) d
   bounds ← at_key (codes "bounds") (bounds_beside offer) d
-  Some (record { offer = offer; place = place; count = count; size_bytes = size_bytes; bounds = bounds })
+  Some (record {
+    offer = offer;
+    place = place;
+    count = count;
+    size_bytes = size_bytes;
+    bounds = bounds;
+  })

@@ -82,7 +82,8 @@ abbrev pub image_data : Offer → Data
 image_data NoImage = null
 image_data (Image pair colour) = object (member (codes "color_space") (string (colour_name colour))
     (member (field_name field.PixelFormat) (string (format_name pair.format))
-    (member (field_name field.PixelFormatModifier) (string (modifier_name pair.modifier)) no_members)))
+    (member (field_name field.PixelFormatModifier) (string (modifier_name pair.modifier))
+    no_members)))
 
 -- the bounds of images, null without one
 abbrev pub image_bounds_data : Offer → ImageBounds → Data

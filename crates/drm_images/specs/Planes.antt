@@ -2,7 +2,8 @@
 use Rattle.std.specs.Prelude.{ℕ, ◌+◌, ◌*◌, ◌/◌, List, [], ◌∷◌}
 use Rattle.sysmem_formats.specs.declared.offer.Pair.{Pair}
 use Rattle.sysmem_formats.specs.declared.pixel_format.Sampling.{Sampling}
-use Rattle.sysmem_formats.specs.declared.pixel_format.Sampling.TheVariants.{Full, HalfRow, TwoPlanes, ThreePlanes}
+use Rattle.sysmem_formats.specs.declared.pixel_format.Sampling.TheVariants.{Full, HalfRow}
+use Rattle.sysmem_formats.specs.declared.pixel_format.Sampling.TheVariants.{TwoPlanes, ThreePlanes}
 use Rattle.sysmem_formats.specs.Formats.{sampling_of}
 use Rattle.sysmem_formats.specs.Layout.{plane_bytes, rows_of}
 use Rattle.drm_images.specs.declared.plane.Plane.{Plane}
@@ -28,12 +29,14 @@ two_colours offset pitch rows =
 abbrev pub planes_in : Sampling → ℕ → ℕ → List Plane
 planes_in Full pitch rows = first_plane pitch rows ∷ []
 planes_in HalfRow pitch rows = first_plane pitch rows ∷ []
-planes_in TwoPlanes pitch rows = first_plane pitch rows ∷ paired_plane (pitch * rows) pitch rows ∷ []
+planes_in TwoPlanes pitch rows =
+    first_plane pitch rows ∷ paired_plane (pitch * rows) pitch rows ∷ []
 planes_in ThreePlanes pitch rows = first_plane pitch rows ∷ two_colours (pitch * rows) pitch rows
 
 -- the planes of an image of rows of so many bytes, its height in pixels
 abbrev pub planes_of : Pair → ℕ → ℕ → List Plane
-planes_of pair pitch height = planes_in (sampling_of pair.format) pitch (rows_of pair.modifier height)
+planes_of pair pitch height =
+    planes_in (sampling_of pair.format) pitch (rows_of pair.modifier height)
 
 -- the bytes of such an image
 abbrev pub bytes_of : Pair → ℕ → ℕ → ℕ

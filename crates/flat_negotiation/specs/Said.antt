@@ -26,7 +26,8 @@ pub record IsPlatformSaid (flat : FlatPlatform) (platform : PlatformFacts) : Typ
   pub colours : AllZip IsColourSaid flat.colours.now platform.colours
   pub is : IsPlatform platform.heaps platform.pairs platform.colours
 
--- the struct's lists state these pairs and colour spaces, and with its heaps no platform is so in the field
+-- the struct's lists state these pairs and colour spaces, and with its
+-- heaps no platform is so in the field
 pub record ArePartsAmiss (flat : FlatPlatform) (amiss : Amiss) : Type 0 where
   pub pairs : List Pair
   pub pairs_said : AllZip IsPairSaid flat.pairs.now pairs

@@ -11,7 +11,8 @@ use Rattle.flat_negotiation.specs.declared.unsettled.Refusal.{Refusal}
 use Rattle.flat_negotiation.specs.declared.unsettled.Unsettled.{Unsettled}
 use Rattle.flat_negotiation.specs.declared.unsettled.Unsettled.TheVariants as why
 use Rattle.flat_negotiation.specs.Blame.{IsBlamed}
-use Rattle.flat_negotiation.specs.Said.{IsParticipantAmiss, IsParticipantSaid, IsPlatformAmiss, IsPlatformSaid}
+use Rattle.flat_negotiation.specs.Said.{IsParticipantAmiss, IsParticipantSaid}
+use Rattle.flat_negotiation.specs.Said.{IsPlatformAmiss, IsPlatformSaid}
 
 -- where memory wasn't refused, the struct of a participant is amiss
 abbrev pub IsStructAmiss : List FlatParticipant → Unsettled → Type 0
@@ -33,14 +34,16 @@ pub record AreSaid (flat : FlatPlatform) (flats : List FlatParticipant) (on : Pl
   pub participants : AllZip IsParticipantSaid flats ps
 
 -- they are the best for what the structs state
-pub record AreSettled (flat : FlatPlatform) (flats : List FlatParticipant) (s : Settings) : Type 0 where
+pub record AreSettled (flat : FlatPlatform) (flats : List FlatParticipant)
+    (s : Settings) : Type 0 where
   pub platform : PlatformFacts
   pub participants : List Participant
   pub said : AreSaid flat flats platform participants
   pub best : IsBest true platform participants s
 
 -- no settings meet what the structs state
-pub record AreRefused (flat : FlatPlatform) (flats : List FlatParticipant) (refusal : Refusal) : Type 0 where
+pub record AreRefused (flat : FlatPlatform) (flats : List FlatParticipant)
+    (refusal : Refusal) : Type 0 where
   pub platform : PlatformFacts
   pub participants : List Participant
   pub said : AreSaid flat flats platform participants
@@ -51,5 +54,6 @@ abbrev pub AreUnsettled : FlatPlatform → List FlatParticipant → Unsettled �
 AreUnsettled flat flats why.NoMemory = Unit {0}
 AreUnsettled flat flats why.TooMany = 1024 < length flats
 AreUnsettled flat flats (why.Platform amiss) = IsPlatformAmiss flat amiss
-AreUnsettled flat flats (why.Participant who amiss) = IsSomeAnd (slice_get flats who) (λ p. IsParticipantAmiss p amiss)
+AreUnsettled flat flats (why.Participant who amiss) =
+    IsSomeAnd (slice_get flats who) (λ p. IsParticipantAmiss p amiss)
 AreUnsettled flat flats (why.Unmet refusal) = AreRefused flat flats refusal

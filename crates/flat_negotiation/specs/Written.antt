@@ -24,7 +24,8 @@ domain_code Inaccessible = 4
 
 -- no image
 abbrev pub no_image : FlatImage
-no_image = record { modifier = 0; format = 0; colour = 0; width = 0; height = 0; layout = no_layout }
+no_image =
+    record { modifier = 0; format = 0; colour = 0; width = 0; height = 0; layout = no_layout }
 
 -- settings that hold an image of the pair, whose format has a code
 pub record HasImage (pair : Pair) (colour : ColourSpace) (s : Settings) : Type 0 where
@@ -42,7 +43,8 @@ abbrev pub CanBeWritten : Settings → Type 0
 CanBeWritten s = HoldsOffer s.offer s
 
 -- the image of a pair with this corner: its codes, its sides and its planes
-pub record IsLaid (pair : Pair) (colour : ColourSpace) (corner : Corner) (image : FlatImage) : Type 0 where
+pub record IsLaid (pair : Pair) (colour : ColourSpace) (corner : Corner)
+    (image : FlatImage) : Type 0 where
   pub format : fourcc pair.format ≡ Some image.format
   pub modifier : image.modifier ≡ modifier_bits pair.modifier
   pub colour_is : image.colour ≡ colour_bit colour
@@ -51,7 +53,8 @@ pub record IsLaid (pair : Pair) (colour : ColourSpace) (corner : Corner) (image 
   pub layout : IsPairLayout pair corner.bytes_per_row corner.height image.layout
 
 -- the smallest image of the pair in the bounds, which lies in the buffer
-pub record IsImageWritten (pair : Pair) (colour : ColourSpace) (s : Settings) (image : FlatImage) : Type 0 where
+pub record IsImageWritten (pair : Pair) (colour : ColourSpace) (s : Settings)
+    (image : FlatImage) : Type 0 where
   pub corner : Corner
   pub smallest : IsCorner (offer.Image pair colour) s.bounds corner
   pub laid : IsLaid pair colour corner image

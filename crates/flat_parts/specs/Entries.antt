@@ -1,5 +1,6 @@
 -- The entries of a participant.
-use Rattle.std.specs.Prelude.{◌≡◌, ℕ, ◌≤◌, ◌<◌, ◌^◌, ◌-◌, Bool, true, false, Option, Some, None, IsSomeAnd}
+use Rattle.std.specs.Prelude.{◌≡◌, ℕ, ◌≤◌, ◌<◌, ◌^◌, ◌-◌, Bool, true, false, Option}
+use Rattle.std.specs.Prelude.{Some, None, IsSomeAnd}
 use Rattle.drm_images.specs.Codes.{fourcc, modifier_bits}
 use Rattle.sysmem_counts.specs.Bounds.{most_number}
 use Rattle.sysmem_counts.specs.declared.field.Field.{Field}
@@ -50,7 +51,8 @@ pub record IsEntrySaid (flat : FlatEntry) (entry : Entry) : Type 0 where
 -- in this field the struct states no entry
 abbrev pub EntryUnsaid : Field → FlatEntry → Type 0
 EntryUnsaid field.PixelFormat flat = (flat.any_format ≡ false) × IsNoFormat flat.format
-EntryUnsaid field.PixelFormatModifier flat = (flat.any_modifier ≡ false) × IsNoModifier flat.modifier
+EntryUnsaid field.PixelFormatModifier flat =
+    (flat.any_modifier ≡ false) × IsNoModifier flat.modifier
 EntryUnsaid field.ColorSpaces flat = 512 ≤ flat.colours
 EntryUnsaid field.BytesPerRowDivisor flat = most_multiple < flat.pitch_divisor
 EntryUnsaid _ flat = ⊥

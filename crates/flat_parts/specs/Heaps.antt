@@ -25,4 +25,5 @@ heaps_said index (h ∷ hs) = heap_said index h ∷ heaps_said (suc index) hs
 -- the names of those of the first heaps, so many, whose bits are set
 abbrev pub permitted_said : ℕ → ℕ → List HeapName
 permitted_said zero bits = []
-permitted_said (suc index) bits = permitted_said index bits ++ (if has_bit bits index then heap_name index ∷ [] else [])
+permitted_said (suc index) bits =
+    permitted_said index bits ++ (if has_bit bits index then heap_name index ∷ [] else [])

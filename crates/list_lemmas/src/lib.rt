@@ -1,2 +1,3 @@
-//! What the other crates use of lists in general: a word for some of a list, and lemmas for their proofs.
+//! What the other crates use of lists in general: a word for some of a
+//! list, and lemmas for their proofs.
 #![tactic(auto)]

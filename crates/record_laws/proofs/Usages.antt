@@ -1,4 +1,5 @@
--- The families that a record lists are those of the usage, computed for each of the 32 sets of families.
+-- The families that a record lists are those of the usage, computed for
+-- each of the 32 sets of families.
 use Rattle.std.proofs.Common.{◌≡◌, ◌≢◌, ◌⊎◌, inl, inr, ℕ, zero, suc, ◌<◌, ◌==◌, ◌&&◌, ◌||◌, Bool, true, false, not, Result, Ok, Err, refl, ap, subst, arith, rules, tests}
 use Rattle.std.specs.Int.RustNames.{bit_and}
 use Rattle.bitflags.specs.Sets.{find_row}

@@ -1,4 +1,5 @@
--- What a reader answers where memory for one field is refused: what it answers with enough, or that this field wants it.
+-- What a reader answers where memory for one field is refused: what it answers with
+-- enough, or that this field wants it.
 use Rattle.std.proofs.Common.{inl, inr, Bool, true, false, List, [], ◌∷◌, ◌++◌, Option, Some, None, Result, Ok, Err, refl, sym, ap, subst}
 use Rattle.std.specs.Prelude.{if◌then◌else◌, is_some, map, nat_lt, not, length, ◌+◌, ◌-◌, ◌^◌, ◌==◌, ◌||◌}
 use Rattle.serde_json.specs.Data.{Data, Items, no_items, item}

@@ -7,26 +7,32 @@ use Rattle.sysmem_sanitise.specs.declared.fault.Fault.{Fault}
 use Rattle.sysmem_sanitise.specs.Faults.{wrong}
 use Rattle.sysmem_sanitise.specs.Participant.{Participant, IsParticipant}
 use Rattle.sysmem_sanitise.specs.Platform.{PlatformFacts, IsPlatform}
-use Rattle.sysmem_sanitise.specs.Reading.{participant_of, participant_with, platform_of, platform_with}
+use Rattle.sysmem_sanitise.specs.Reading.{participant_of, participant_with}
+use Rattle.sysmem_sanitise.specs.Reading.{platform_of, platform_with}
 use Rattle.record_laws.specs.Ranges.{IsParticipantInRange, IsPlatformInRange}
 use Rattle.record_laws.specs.Records.{participant_record, platform_record}
 
 -- all that a participant may ask can be stated: its record is taken, and states it
 abbrev pub EachParticipantIsStated : Type 0
-EachParticipantIsStated = (p : Participant) → IsParticipant p.usage p.memory p.entries → IsParticipantInRange p → participant_of (participant_record p) ≡ Ok p
+EachParticipantIsStated = (p : Participant) → IsParticipant p.usage p.memory p.entries
+    → IsParticipantInRange p → participant_of (participant_record p) ≡ Ok p
 
 -- all that a platform may have can be stated: its record is taken, and states it
 abbrev pub EachPlatformIsStated : Type 0
-EachPlatformIsStated = (p : PlatformFacts) → IsPlatform p.heaps p.pairs p.colours → IsPlatformInRange p → platform_of (platform_record p) ≡ Ok p
+EachPlatformIsStated = (p : PlatformFacts) → IsPlatform p.heaps p.pairs p.colours
+    → IsPlatformInRange p → platform_of (platform_record p) ≡ Ok p
 
 -- the answer is the same as with enough memory, or that memory was refused for the field
 abbrev pub IsOrWants : {A : Type 0} → Field → Result A Fault → Result A Fault → Type 0
 IsOrWants lack answer full = (answer ≡ full) ⊎ (answer ≡ Err (wrong WantOfMemory lack))
 
--- where memory for one field is refused, a participant's record says what it says with enough, or that this field wants it
+-- where memory for one field is refused, a participant's record says what it says with
+-- enough, or that this field wants it
 abbrev pub ParticipantOrWants : Type 0
-ParticipantOrWants = (lack : Field) (d : Data) → IsOrWants lack (participant_with (Some lack) d) (participant_of d)
+ParticipantOrWants = (lack : Field) (d : Data)
+    → IsOrWants lack (participant_with (Some lack) d) (participant_of d)
 
 -- the same of a platform's record
 abbrev pub PlatformOrWants : Type 0
-PlatformOrWants = (lack : Field) (d : Data) → IsOrWants lack (platform_with (Some lack) d) (platform_of d)
+PlatformOrWants = (lack : Field) (d : Data)
+    → IsOrWants lack (platform_with (Some lack) d) (platform_of d)

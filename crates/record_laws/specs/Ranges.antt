@@ -1,4 +1,5 @@
--- Participants and platforms whose numbers are of their types: the facts' numbers are bare, and a record states none beyond these.
+-- Participants and platforms whose numbers are of their types: the facts' numbers are bare, and a
+-- record states none beyond these.
 use Rattle.std.specs.Prelude.{ℕ, ◌≤◌, ◌-◌, ◌^◌, All}
 use Rattle.sysmem_counts.specs.declared.constraints.CountConstraints.{CountConstraints}
 use Rattle.sysmem_image.specs.Bounds.{IsInRange}

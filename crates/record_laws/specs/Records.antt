@@ -1,7 +1,10 @@
--- The record of a participant and of a platform: the value that states it, with each field that it can have.
-use Rattle.std.specs.Prelude.{ℕ, Bool, true, false, List, [], ◌∷◌, ◌++◌, map, ◌==◌, Option, Some, None, codes, if◌then◌else◌}
+-- The record of a participant and of a platform: the value that states it,
+-- with each field that it can have.
+use Rattle.std.specs.Prelude.{ℕ, Bool, true, false, List, [], ◌∷◌, ◌++◌, map, ◌==◌, Option, Some}
+use Rattle.std.specs.Prelude.{None, codes, if◌then◌else◌}
 use Rattle.std.specs.Int.RustNames.{bit_and}
-use Rattle.serde_json.specs.Data.{Data, unsigned, boolean, number, string, array, object, Items, no_items, item, Members, no_members, put}
+use Rattle.serde_json.specs.Data.{Data, unsigned, boolean, number, string, array, object, Items}
+use Rattle.serde_json.specs.Data.{no_items, item, Members, no_members, put}
 use Rattle.serde_json.specs.View.{items_of}
 use Rattle.sysmem_counts.specs.declared.constraints.CountConstraints.{CountConstraints}
 use Rattle.sysmem_counts.specs.declared.field.Field.{Field}
@@ -11,7 +14,12 @@ use Rattle.sysmem_counts.specs.Families.{families}
 use Rattle.sysmem_counts.specs.Field.{field_name}
 use Rattle.sysmem_counts.specs.Usage.{usage_bits}
 use Rattle.sysmem_formats.specs.declared.colour_space.ColourSpace.{ColourSpace}
-use Rattle.sysmem_formats.specs.declared.colour_space.ColourSpace.TheVariants.{Srgb, Rec601Ntsc, Rec601NtscFullRange, Rec601Pal, Rec601PalFullRange, Rec709, Rec2020, Rec2100}
+use Rattle.sysmem_formats.specs.declared.colour_space.ColourSpace.TheVariants.{Srgb, Rec601Ntsc}
+use Rattle.sysmem_formats.specs.declared.colour_space.ColourSpace.TheVariants.{Rec601NtscFullRange}
+use Rattle.sysmem_formats.specs.declared.colour_space.ColourSpace.TheVariants.{Rec601Pal}
+use Rattle.sysmem_formats.specs.declared.colour_space.ColourSpace.TheVariants.{Rec601PalFullRange}
+use Rattle.sysmem_formats.specs.declared.colour_space.ColourSpace.TheVariants.{Rec709, Rec2020}
+use Rattle.sysmem_formats.specs.declared.colour_space.ColourSpace.TheVariants.{Rec2100}
 use Rattle.sysmem_formats.specs.declared.offer.Pair.{Pair}
 use Rattle.sysmem_formats.specs.Names.{format_name, modifier_name, colour_name}
 use Rattle.sysmem_image.specs.declared.bounds.ImageBounds.{ImageBounds}
@@ -58,7 +66,8 @@ choice name_of (Some x) = string (name_of x)
 -- the families whose bits are among these
 abbrev pub family_items : ℕ → List (List ℕ × ℕ) → Items
 family_items bits [] = no_items
-family_items bits (family ∷ rest) = item_if (bit_and bits family.1 == family.1) (string family.0) (family_items bits rest)
+family_items bits (family ∷ rest) =
+    item_if (bit_and bits family.1 == family.1) (string family.0) (family_items bits rest)
 
 -- the names of a usage's families
 abbrev pub usage_record : Usage → Data
@@ -74,21 +83,26 @@ heap_name_record h = fields (name_members h)
 
 -- the names of the domains that are in a set
 abbrev pub domain_items : CoherencyDomains → Items
-domain_items s = item_if s.cpu (string (domain_name Cpu)) (item_if s.ram (string (domain_name Ram)) (item_if s.inaccessible (string (domain_name Inaccessible)) no_items))
+domain_items s = item_if s.cpu (string (domain_name Cpu)) (item_if s.ram (string (domain_name Ram))
+    (item_if s.inaccessible (string (domain_name Inaccessible)) no_items))
 
 -- a platform's heap
 abbrev pub heap_record : HeapFacts → Data
-heap_record h = fields (name_members h.heap ++ (field.Contiguous, boolean h.contiguous) ∷ (field.Secure, boolean h.secure) ∷ (field.Domains, array (domain_items h.domains)) ∷ [])
+heap_record h = fields (name_members h.heap ++ (field.Contiguous, boolean h.contiguous)
+    ∷ (field.Secure, boolean h.secure) ∷ (field.Domains, array (domain_items h.domains)) ∷ [])
 
 abbrev pub pair_record : Pair → Data
-pair_record pair = fields ((field.PixelFormat, string (format_name pair.format)) ∷ (field.PixelFormatModifier, string (modifier_name pair.modifier)) ∷ [])
+pair_record pair = fields ((field.PixelFormat, string (format_name pair.format))
+    ∷ (field.PixelFormatModifier, string (modifier_name pair.modifier)) ∷ [])
 
 abbrev pub colour_record : ColourSpace → Data
 colour_record colour = string (colour_name colour)
 
 -- the record of a platform
 abbrev pub platform_record : PlatformFacts → Data
-platform_record p = fields ((field.Heaps, list heap_record p.heaps) ∷ (field.Pairs, list pair_record p.pairs) ∷ (field.ColorSpaces, list colour_record p.colours) ∷ [])
+platform_record p = fields ((field.Heaps, list heap_record p.heaps)
+    ∷ (field.Pairs, list pair_record p.pairs) ∷ (field.ColorSpaces, list colour_record p.colours)
+    ∷ [])
 
 -- the memory constraints, no field left out
 abbrev pub memory_record : MemoryWishes → Data
@@ -118,15 +132,19 @@ colour_items set =
     no_items))))))))
 
 abbrev pub size_record : Size → Data
-size_record size = object (put (codes "width") (natural size.width) (put (codes "height") (natural size.height) no_members))
+size_record size = object (put (codes "width") (natural size.width)
+    (put (codes "height") (natural size.height) no_members))
 
 -- the value of a bound: a size, or a number
 abbrev pub bound_record : ImageBounds → Bound → Data
-bound_record b f = if is_size f then size_record (record { width = value f Width b; height = value f Height b }) else natural (value f Width b)
+bound_record b f =
+    if is_size f then size_record (record { width = value f Width b; height = value f Height b })
+    else natural (value f Width b)
 
 -- the fields of bounds, none of them left out
 abbrev pub bounds_fields : EntryBounds → List (Field × Data)
-bounds_fields b = map (λ f. (field_of f, bound_record b.asked f)) all_bounds ++ (field.RequireBytesPerRowAtPixelBoundary, boolean b.at_pixel_boundary) ∷ []
+bounds_fields b = map (λ f. (field_of f, bound_record b.asked f)) all_bounds
+    ++ (field.RequireBytesPerRowAtPixelBoundary, boolean b.at_pixel_boundary) ∷ []
 
 -- an image entry, with no further pairs
 abbrev pub entry_record : Entry → Data

@@ -1,4 +1,5 @@
--- What the calls that are left stand for after those so far, where on each name one actor alone makes calls.
+-- What the calls that are left stand for after those so far, where on each
+-- name one actor alone makes calls.
 use Rattle.std.proofs.Common.{◌≡◌, ℕ, ◌+◌, ◌<◌, ◌≤◌, ◌==◌, ◌&&◌, ◌||◌, not, List, [], ◌∷◌, ◌++◌, Result, Ok, Err, Bool, true, false, if◌then◌else◌, length, get_or, drop, map, refl, sym, ap, ◌∙◌}
 use Rattle.std.specs.List.{list_any}
 use Rattle.std.proofs.lemmas.List.{drop_all, map-append}

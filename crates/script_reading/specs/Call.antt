@@ -1,5 +1,6 @@
 -- The form of one call of a script: what its object says, apart from the other calls.
-use Rattle.std.specs.Prelude.{ℕ, ◌&&◌, ◌||◌, Bool, List, bytes_eq, codes, Option, Some, None, option_map, option_and_then, if◌then◌else◌}
+use Rattle.std.specs.Prelude.{ℕ, ◌&&◌, ◌||◌, Bool, List, bytes_eq, codes, Option, Some, None}
+use Rattle.std.specs.Prelude.{option_map, option_and_then, if◌then◌else◌}
 use Rattle.std.specs.List.{list_all}
 use Rattle.std.specs.Option.{option_map_or}
 use Rattle.serde_json.specs.Data.{Data, null}
@@ -93,8 +94,8 @@ makes_name name = bytes_eq name (codes "duplicate") || bytes_eq name (codes "cre
 
 -- a call of this name may have this key
 unfoldable pub may_have : List ℕ → List ℕ → Bool
-may_have name key = bytes_eq key (codes "call") || bytes_eq key (codes "on") || bytes_eq key (codes "actor")
-    || (bytes_eq key (codes "as") && makes_name name)
+may_have name key = bytes_eq key (codes "call") || bytes_eq key (codes "on")
+    || bytes_eq key (codes "actor") || (bytes_eq key (codes "as") && makes_name name)
     || (bytes_eq key (codes "constraints") && bytes_eq name (codes "set_constraints"))
 
 -- the form of a call: it is an object with no further keys
@@ -105,4 +106,6 @@ form_of call = do
   on ← text_at (codes "on") call
   actor ← actor_of call
   act ← act_of name call
-  if list_all (may_have name) (keys_of members) then Some (record { act = act; on = on; actor = actor }) else None
+  if list_all (may_have name) (keys_of members)
+      then Some (record { act = act; on = on; actor = actor })
+      else None

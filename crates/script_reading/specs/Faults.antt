@@ -5,7 +5,8 @@ use Rattle.script_reading.specs.declared.fault.ParseFault.TheVariants.{NoMemory,
 use Rattle.script_reading.specs.declared.fault.ScriptFault.{ScriptFault}
 
 -- The result, seen by `view`, is one of those that are said, or memory was refused.
-abbrev pub GivesOneOf : {X A : Type 0} → (X → A) → Result X ParseFault → (Result A ScriptFault → Type 0) → Type 0
+abbrev pub GivesOneOf : {X A : Type 0} → (X → A) → Result X ParseFault
+    → (Result A ScriptFault → Type 0) → Type 0
 GivesOneOf view (Ok x) IsSaid = IsSaid (Ok (view x))
 GivesOneOf view (Err NoMemory) IsSaid = ⊤
 GivesOneOf view (Err (Refused fault)) IsSaid = IsSaid (Err fault)

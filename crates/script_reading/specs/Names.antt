@@ -1,11 +1,12 @@
 -- Names of tokens and of actors.
-use Rattle.std.specs.Prelude.{ℕ, ◌∷◌, ◌++◌, [], ◌&&◌, ◌||◌, Bool, List, length, nat_eq, nat_le, bytes_eq, codes, if◌then◌else◌}
+use Rattle.std.specs.Prelude.{ℕ, ◌∷◌, ◌++◌, [], ◌&&◌, ◌||◌, Bool, List, length, nat_eq, nat_le}
+use Rattle.std.specs.Prelude.{bytes_eq, codes, if◌then◌else◌}
 use Rattle.std.specs.List.{list_all, list_any}
 
 -- an ASCII letter or digit, `_` or `-`
 abbrev pub is_name_byte : ℕ → Bool
-is_name_byte b = (nat_le 97 b && nat_le b 122) || (nat_le 65 b && nat_le b 90) || (nat_le 48 b && nat_le b 57)
-    || nat_eq b 95 || nat_eq b 45
+is_name_byte b = (nat_le 97 b && nat_le b 122) || (nat_le 65 b && nat_le b 90)
+    || (nat_le 48 b && nat_le b 57) || nat_eq b 95 || nat_eq b 45
 
 -- a name has 1 to 32 of them
 abbrev pub is_name : List ℕ → Bool

@@ -1,18 +1,22 @@
 -- The script that a value stands for, or its first fault.
-use Rattle.std.specs.Prelude.{ℕ, ◌+◌, ◌∷◌, ◌++◌, [], ◌&&◌, ◌||◌, not, Bool, List, length, nat_le, position, bytes_eq, codes, Option, Some, None, option_and_then, option_map, ok_or, unwrap_or, Result, Ok, Err, if◌then◌else◌}
+use Rattle.std.specs.Prelude.{ℕ, ◌+◌, ◌∷◌, ◌++◌, [], ◌&&◌, ◌||◌, not, Bool, List, length, nat_le}
+use Rattle.std.specs.Prelude.{position, bytes_eq, codes, Option, Some, None, option_and_then}
+use Rattle.std.specs.Prelude.{option_map, ok_or, unwrap_or, Result, Ok, Err, if◌then◌else◌}
 use Rattle.std.specs.List.{list_all}
 use Rattle.serde_json.specs.Data.{Data, Items, no_items, item}
 use Rattle.serde_json.specs.Find.{get, as_array, as_object}
 use Rattle.script_reading.specs.declared.fault.ScriptFault.{ScriptFault}
-use Rattle.script_reading.specs.declared.fault.ScriptFault.TheVariants.{Misshapen, CallMisshapen, BadName, TooManyCalls, TooManyActors}
+use Rattle.script_reading.specs.declared.fault.ScriptFault.TheVariants.{Misshapen, CallMisshapen}
+use Rattle.script_reading.specs.declared.fault.ScriptFault.TheVariants.{BadName, TooManyCalls}
+use Rattle.script_reading.specs.declared.fault.ScriptFault.TheVariants.{TooManyActors}
 use Rattle.script_reading.specs.Call.{ActFacts, name_made, FormFacts, form_of}
 use Rattle.sysmem_sanitise.specs.Reading.Fields.{keys_of}
 use Rattle.script_reading.specs.Names.{is_name, is_among, with_actor, root}
 use Rattle.script_reading.specs.Platform.{platform_said}
 use Rattle.sysmem_sanitise.specs.Platform.{PlatformFacts}
 
--- A call: what it does, on which name, the place of that name among the names that were made before, and by which
--- actor, in order of their first calls.
+-- A call: what it does, on which name, the place of that name among the names that were made
+-- before, and by which actor, in order of their first calls.
 pub record CallFacts : Type 0 where
   pub act : ActFacts
   pub on : List ℕ
@@ -37,14 +41,16 @@ Err fault >>= next = Err fault
 
 -- the names after one that a call makes, if it makes one: it is a good one, and was not made before
 abbrev pub names_after : Option (List ℕ) → List (List ℕ) → Option (List (List ℕ))
-names_after (Some name) names = if is_name name && not (is_among name names) then Some (names ++ name ∷ []) else None
+names_after (Some name) names =
+    if is_name name && not (is_among name names) then Some (names ++ name ∷ []) else None
 names_after None names = Some names
 
 -- the place of the name that a call is made on, and the names after it
 abbrev pub names_found : List (List ℕ) → FormFacts → Option (ℕ × List (List ℕ))
 names_found names form =
     if is_name form.actor
-    then option_and_then (λ place. option_map (λ after. (place, after)) (names_after (name_made form.act) names))
+    then option_and_then
+    (λ place. option_map (λ after. (place, after)) (names_after (name_made form.act) names))
     (position (bytes_eq form.on) names)
     else None
 
@@ -64,7 +70,12 @@ call_of n known call = do
   found ← ok_or (names_found known.names form) (BadName n)
   actors ← ok_or (actors_after form.actor known.actors) (TooManyActors n)
   Ok (
-    record { act = form.act; on = form.on; place = found.0; actor = actor_number form.actor known.actors },
+    record {
+      act = form.act;
+      on = form.on;
+      place = found.0;
+      actor = actor_number form.actor known.actors;
+    },
     record { names = found.1; actors = actors },
   )
 
@@ -97,14 +108,16 @@ abbrev pub parts_of : Data → Option (Data × Items)
 parts_of script =
     option_and_then (λ members. option_and_then (λ platform. option_and_then (λ calls.
     if list_all is_part (keys_of members) then Some (platform, calls) else None)
-    (option_and_then as_array (get (codes "calls") script))) (get (codes "platform") script)) (as_object script)
+    (option_and_then as_array (get (codes "calls") script)))
+    (get (codes "platform") script)) (as_object script)
 
 -- the calls of a script, which are 4,096 at most
 abbrev pub few_calls : Items → Option Items
 few_calls calls = if nat_le (items_len calls) 4096 then Some calls else None
 
 -- the script that a value stands for, where its calls are read so
-abbrev pub script_by : (Items → Result (List CallFacts) ScriptFault) → Data → Result ScriptFacts ScriptFault
+abbrev pub script_by : (Items → Result (List CallFacts) ScriptFault) → Data
+    → Result ScriptFacts ScriptFault
 script_by calls_said value = do
   parts ← ok_or (parts_of value) Misshapen
   platform ← platform_said parts.0

@@ -2,11 +2,16 @@
 use Rattle.std.specs.Prelude.{map, option_map}
 use Rattle.serde_json.specs.View.{view}
 use Rattle.script_reading.specs.declared.call.Act.{Act}
-use Rattle.script_reading.specs.declared.call.Act.TheVariants.{Duplicate, Bind, SetConstraints, CreateGroup, CreateChild, AllChildrenPresent, AttachToken, Release, Close, Check, Wait}
+use Rattle.script_reading.specs.declared.call.Act.TheVariants.{Duplicate, Bind, SetConstraints}
+use Rattle.script_reading.specs.declared.call.Act.TheVariants.{CreateGroup, CreateChild}
+use Rattle.script_reading.specs.declared.call.Act.TheVariants.{AllChildrenPresent, AttachToken}
+use Rattle.script_reading.specs.declared.call.Act.TheVariants.{Release, Close, Check, Wait}
 use Rattle.script_reading.specs.declared.call.Call.{Call}
 use Rattle.script_reading.specs.declared.form.Form.{Form}
 use Rattle.script_reading.specs.declared.script.Script.{Script}
-use Rattle.script_reading.specs.Call.{ActFacts, duplicates, binds, states, creates_group, creates_child, has_all_children, attaches_token, releases, closes, checks, waits, FormFacts}
+use Rattle.script_reading.specs.Call.{ActFacts, duplicates, binds, states, creates_group}
+use Rattle.script_reading.specs.Call.{creates_child, has_all_children, attaches_token, releases}
+use Rattle.script_reading.specs.Call.{closes, checks, waits, FormFacts}
 use Rattle.script_reading.specs.Script.{CallFacts, ScriptFacts}
 
 abbrev pub act_seen : Act → ActFacts

@@ -18,9 +18,10 @@ pub record IsJson (bytes : List ℕ) (value : Data) : Type 0 where
 pub data Outcome {A : Type 0} (IsSaid : Data → Result A ScriptFault → Type 0)
     (bytes : List ℕ) : Result A ScriptFault → Type 0 where
   too_long : longest < length bytes → Outcome IsSaid bytes (Err TooLong)
-  not_json : length bytes ≤ longest → ((value : Data) → ¬ IsJson bytes value) → Outcome IsSaid bytes (Err NotJson)
-  spelled : (value : Data) → length bytes ≤ longest → IsJson bytes value → (answer : Result A ScriptFault)
-      → IsSaid value answer → Outcome IsSaid bytes answer
+  not_json : length bytes ≤ longest → ((value : Data) → ¬ IsJson bytes value)
+      → Outcome IsSaid bytes (Err NotJson)
+  spelled : (value : Data) → length bytes ≤ longest → IsJson bytes value
+      → (answer : Result A ScriptFault) → IsSaid value answer → Outcome IsSaid bytes answer
 
 -- The answer is the value itself.
 abbrev pub IsValue : Data → Result Data ScriptFault → Type 0

@@ -58,7 +58,8 @@ where_at P [] ys k r all is = inr (refl, all_at P ys k r all is)
 where_at P (x ∷ xs) ys zero r all is = inl is
 where_at P (x ∷ xs) ys (suc k) r all is = where_at P xs ys k r all is
 
--- marks of the domains that had failed are marks of what comes after, where the new domains hadn't failed
+-- marks of the domains that had failed are marks of what comes after,
+-- where the new domains hadn't failed
 pub marks_after : (old new : TreeFacts) (marks : List Bool) (more : List ℕ) → ((k : ℕ) → get_or marks k false ≡ failed_at old k)
     → roots_of new ≡ roots_of old ++ more → AllByRecursion (λ r. has_failed old r ≡ false) more → AreMarksOf old new marks
 marks_after old new marks more marked roots fresh k r here =

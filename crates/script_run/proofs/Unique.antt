@@ -213,8 +213,8 @@ module _ (one : OneAnswer) (least : CornerIsLeast) where
   not_both : (s : RunState) (r : ℕ) → next_ready s.book ≡ None → next_ready s.book ≡ Some r → ⊥
   not_both s r none some = absurd (cc)
 
-  -- the same calls lead on to one state and give one text, as far as domains that wait are decided and memory is not
-  -- refused
+  -- the same calls lead on to one state and give one text, as far as domains that wait are
+  -- decided and memory is not refused
   one_way : (number : ℕ) (s t u : RunState) (rs : List CallFacts) (a b : List ℕ) (cs ds : List Certified) → Goes number s rs a cs t → Goes number s rs b ds u
       → next_ready t.book ≡ None → next_ready u.book ≡ None → t.starved ≡ false → u.starved ≡ false → (t ≡ u) × (a ≡ b)
   one_way _ _ _ _ _ _ _ _ _ (stays number s) (stays _ _) x y e f = (refl, refl)

@@ -1,10 +1,12 @@
 -- What a call asks, and its reply.
-use Rattle.std.specs.Prelude.{◌≡◌, ℕ, List, Bool, true, false, ◌&&◌, Option, Some, None, Ok, Err, slice_get, if◌then◌else◌}
+use Rattle.std.specs.Prelude.{◌≡◌, ℕ, List, Bool, true, false, ◌&&◌, Option, Some, None, Ok}
+use Rattle.std.specs.Prelude.{Err, slice_get, if◌then◌else◌}
 use Rattle.serde_json.specs.Data.{Data}
 use Rattle.sysmem_alloc.specs.Entry.{Acted}
 use Rattle.sysmem_alloc.specs.State.{State as BookState, verdict_of}
 use Rattle.sysmem_proof.specs.declared.verdict.Verdict.{Verdict}
-use Rattle.sysmem_proof.specs.declared.verdict.Verdict.TheVariants.{Chosen, IntersectionEmpty, TooMany, Failed}
+use Rattle.sysmem_proof.specs.declared.verdict.Verdict.TheVariants.{Chosen, IntersectionEmpty}
+use Rattle.sysmem_proof.specs.declared.verdict.Verdict.TheVariants.{TooMany, Failed}
 use Rattle.sysmem_proof.specs.declared.verdict.Verdict.TheVariants as verdicts
 use Rattle.sysmem_sanitise.specs.declared.fault.Code.{Code}
 use Rattle.sysmem_sanitise.specs.declared.fault.Code.TheVariants.{WantOfMemory}
@@ -21,7 +23,9 @@ use Rattle.sysmem_tree.specs.ActionKind as deeds
 use Rattle.sysmem_tree.specs.Domain.{TreeFacts, is_selected}
 use Rattle.sysmem_tree.specs.Node.{NodeFacts}
 use Rattle.sysmem_tree.specs.Tree.{applied}
-use Rattle.script_reading.specs.Call.{ActFacts, duplicates, binds, states, creates_group, creates_child, has_all_children, attaches_token, releases, closes, checks, waits}
+use Rattle.script_reading.specs.Call.{ActFacts, duplicates, binds, states, creates_group}
+use Rattle.script_reading.specs.Call.{creates_child, has_all_children, attaches_token, releases}
+use Rattle.script_reading.specs.Call.{closes, checks, waits}
 use Rattle.script_reading.specs.Script.{CallFacts}
 use Rattle.script_run.specs.declared.reply.Reply.{Reply}
 use Rattle.script_run.specs.declared.reply.Reply.TheVariants.{Accepted, Refused, Misread, Skipped}
@@ -46,7 +50,8 @@ pub data AsksVerdict : ActFacts → Type 0 where
   to_check : AsksVerdict checks
   to_wait : AsksVerdict waits
 
--- the answer by the verdict of a node's domain, where the node is among those that settings were chosen for, or isn't
+-- the answer by the verdict of a node's domain, where the node is among those that
+-- settings were chosen for, or isn't
 abbrev pub told_by : Bool → Option Verdict → Reply
 told_by selected None = Refused refusals.Pending
 told_by selected (Some Failed) = Refused refusals.DomainFailed
@@ -64,7 +69,8 @@ is_collection _ = false
 abbrev pub told_at : BookState → Option NodeFacts → Reply
 told_at b None = Refused refusals.WrongState
 told_at b (Some n) = if is_collection n.state.kind && n.state.is_open
-    then told_by (is_selected b.tree.domains n) (verdict_of b n.domain) else Refused refusals.WrongState
+    then told_by (is_selected b.tree.domains n) (verdict_of b n.domain)
+    else Refused refusals.WrongState
 
 -- what node k is told
 abbrev pub told : BookState → ℕ → Reply
@@ -75,8 +81,8 @@ pub data Replies (s : RunState) (r : CallFacts) : Reply → RunState → Type 0 
   skips : node_named s r ≡ None → Replies s r Skipped (unmade s r.act)
   misreads : (k : ℕ) (d : Data) (fault : Fault) → node_named s r ≡ Some k
       → r.act ≡ states (Some d) → participant_of d ≡ Err fault → Replies s r (Misread fault) s
-  starves : (k : ℕ) (d : Data) (fault : Fault) → node_named s r ≡ Some k
-      → r.act ≡ states (Some d) → fault.code ≡ WantOfMemory → participant_with (lack_of fault) d ≡ Err fault
+  starves : (k : ℕ) (d : Data) (fault : Fault) → node_named s r ≡ Some k → r.act ≡ states (Some d)
+      → fault.code ≡ WantOfMemory → participant_with (lack_of fault) d ≡ Err fault
       → Replies s r (Misread fault) (record s { starved = true })
   lacks : (k : ℕ) (d : Data) (asked : Participant) → node_named s r ≡ Some k
       → r.act ≡ states (Some d) → participant_of d ≡ Ok asked
@@ -85,7 +91,8 @@ pub data Replies (s : RunState) (r : CallFacts) : Reply → RunState → Type 0 
       → AsksFor r.act deed → applied (collection_tree s) k deed ≡ Err refusal
       → Replies s r (Refused refusal) (unmade s r.act)
   accepts : (k made : ℕ) (deed : Deed) (tree : TreeFacts) → node_named s r ≡ Some k
-      → AsksFor r.act deed → applied (collection_tree s) k deed ≡ Ok (record { tree = tree; node = made })
+      → AsksFor r.act deed
+      → applied (collection_tree s) k deed ≡ Ok (record { tree = tree; node = made })
       → Replies s r Accepted (acted s r.act (Acted k deed) made)
   tells : (k : ℕ) → node_named s r ≡ Some k → AsksVerdict r.act → Replies s r (told s.book k) s
 

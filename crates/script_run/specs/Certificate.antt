@@ -27,7 +27,8 @@ abbrev pub certificate_of : PlatformFacts → List Certified → List ℕ
 certificate_of platform decisions = certificate_text (data_of platform decisions)
 
 -- a text is that of the decisions, and each that has a claim has its proof
-pub record IsCertifiedBy (certificate : List ℕ) (platform : PlatformFacts) (decisions : List Certified) : Type 0 where
+pub record IsCertifiedBy (certificate : List ℕ) (platform : PlatformFacts)
+    (decisions : List Certified) : Type 0 where
   pub text : certificate ≡ certificate_of platform decisions
   pub proved : AreProved decisions
 
@@ -40,7 +41,11 @@ pub record CertifiedFacts : Type 0 where
 -- what the program's stands for
 abbrev pub certified_seen : CertifiedReport → CertifiedFacts
 certified_seen c =
-    record { text = string_bytes c.report.text; certificate = c.certificate.items; starved = c.report.starved }
+    record {
+      text = string_bytes c.report.text;
+      certificate = c.certificate.items;
+      starved = c.report.starved;
+    }
 
 -- what the bytes of a script give: a fault of theirs, or a report with its certificate
 abbrev pub CertifiesTo : List ℕ → Result CertifiedFacts ScriptFault → Type 0

@@ -22,26 +22,29 @@ use Rattle.script_run.specs.declared.decider.Objection.{Objection}
 use Rattle.script_run.specs.Report.{Certified, Goes, IsReported}
 use Rattle.script_run.specs.State.{RunState, first_run_state}
 
--- an object makes the claim that was taken as a decision, with its proof, for the domain at its path
+-- an object makes the claim that was taken as a decision, with its
+-- proof, for the domain at its path
 pub record IsOf (platform : PlatformFacts) (object : Data) (c : Certified) : Type 0 where
   pub claim : Claim
   pub says : claim_said platform object ≡ Some (c.0, claim)
   pub taken : c.1 ≡ Some claim
   pub proved : HasProof claim
 
--- the decisions of a report in which memory is not refused are the claims of these objects, one after the other
-pub record AreTaken (platform : PlatformFacts) (rs : List CallFacts) (objects : List Data) : Type 0 where
+-- the decisions of a report in which memory is not refused are the claims of
+-- these objects, one after the other
+pub record AreTaken (platform : PlatformFacts) (rs : List CallFacts)
+    (objects : List Data) : Type 0 where
   pub text : List ℕ
   pub report : IsReported platform rs (AllZip (IsOf platform) objects) text false
 
--- what fails first of what an object says, for the domain that this node roots: it says nothing, it is about another
--- domain, or the first test that its claim fails
+-- what fails first of what an object says, for the domain that this node roots: it says nothing, it
+-- is about another domain, or the first test that its claim fails
 abbrev pub SaidFails : PlatformFacts → BookState → ℕ → Option (List ℕ × Claim) → Faults
 SaidFails platform b r None why = why ≡ WrongShape
 SaidFails platform b r (Some c) why =
     First (c.0 ≡ path_of b.tree.nodes r) (Fails (c.0 ≡ path_of b.tree.nodes r) WrongShape)
-    (VerdictFaults platform (option_map (terms_of b.tree.nodes) (base_of b r)) (shape_of b.tree.nodes r)
-    c.1.verdict c.1.proof) why
+    (VerdictFaults platform (option_map (terms_of b.tree.nodes) (base_of b r))
+    (shape_of b.tree.nodes r) c.1.verdict c.1.proof) why
 
 abbrev pub ClaimFails : PlatformFacts → BookState → ℕ → Data → Faults
 ClaimFails platform b r one = SaidFails platform b r (claim_said platform one)
@@ -57,8 +60,8 @@ pub record FailsNext (left : List Data) (platform : PlatformFacts) (b : BookStat
   pub path : objection.path ≡ path_of b.tree.nodes r
   pub no : NextFails platform b r left objection.no
 
--- some of the calls are made, with the claims of the first objects as decisions, where memory is not refused; then the
--- next object fails at the first domain that waits
+-- some of the calls are made, with the claims of the first objects as decisions, where memory is
+-- not refused; then the next object fails at the first domain that waits
 pub record FailsAtDomain (platform : PlatformFacts) (rs : List CallFacts) (objects : List Data)
     (objection : Objection) : Type 0 where
   pub made : List CallFacts
@@ -81,19 +84,21 @@ pub record FailsAtDomain (platform : PlatformFacts) (rs : List CallFacts) (objec
 abbrev pub too_many : CheckAnswer
 too_many = answers.No (record { no = WrongShape; path = [] })
 
--- what a certificate's objects answer for calls on a platform: yes, the first that fails, or that more are there than
--- decisions
-pub data Answers (platform : PlatformFacts) (rs : List CallFacts) (objects : List Data) : CheckAnswer → Type 0 where
+-- what a certificate's objects answer for calls on a platform: yes, the first that fails, or
+-- that more are there than decisions
+pub data Answers (platform : PlatformFacts) (rs : List CallFacts)
+    (objects : List Data) : CheckAnswer → Type 0 where
   accepts : AreTaken platform rs objects → Answers platform rs objects answers.Yes
   objects_to : (objection : Objection) → FailsAtDomain platform rs objects objection
       → Answers platform rs objects (answers.No objection)
-  has_more : (taken left : List Data) (object : Data) → objects ≡ taken ++ object ∷ left → AreTaken platform rs taken
-      → Answers platform rs objects too_many
+  has_more : (taken left : List Data) (object : Data) → objects ≡ taken ++ object ∷ left
+      → AreTaken platform rs taken → Answers platform rs objects too_many
 
 -- ---- what the parts of the checker say
 
 -- the claim of an object is true of the domain that this node roots, and is about it
-pub record TakesClaim (platform : PlatformFacts) (b : BookState) (r : ℕ) (object : Data) (claim : Claim) : Type 0 where
+pub record TakesClaim (platform : PlatformFacts) (b : BookState) (r : ℕ) (object : Data)
+    (claim : Claim) : Type 0 where
   pub says : claim_said platform object ≡ Some (path_of b.tree.nodes r, claim)
   pub true_of : IsTrueClaim platform b.tree.nodes r (base_of b r) claim
 

@@ -1,5 +1,6 @@
 -- The lines of a report. Each ends with a newline.
-use Rattle.std.specs.Prelude.{◌≡◌, ℕ, ◌++◌, List, [], ◌∷◌, Option, Some, None, OnOk, Result, String, codes, slice_get, string_bytes}
+use Rattle.std.specs.Prelude.{◌≡◌, ℕ, ◌++◌, List, [], ◌∷◌, Option, Some, None, OnOk, Result, String}
+use Rattle.std.specs.Prelude.{codes, slice_get, string_bytes}
 use Rattle.std.specs.declared.alloc.Global.{Global}
 use Rattle.std.specs.Fmt.{decimal}
 use Rattle.sysmem_memory.specs.Domain.{domain_name}
@@ -18,7 +19,9 @@ use Rattle.sysmem_tree.specs.Refusal.{refusal_text}
 use Rattle.certificate_text.specs.Paths.{path_text}
 use Rattle.script_run.specs.declared.reply.Reply.{Reply}
 use Rattle.script_run.specs.declared.reply.Reply.TheVariants.{Accepted, Refused, Misread, Skipped}
-use Rattle.script_reading.specs.Call.{ActFacts, duplicates, binds, states, creates_group, creates_child, has_all_children, attaches_token, releases, closes, checks, waits, name_made}
+use Rattle.script_reading.specs.Call.{ActFacts, duplicates, binds, states, creates_group}
+use Rattle.script_reading.specs.Call.{creates_child, has_all_children, attaches_token, releases}
+use Rattle.script_reading.specs.Call.{closes, checks, waits, name_made}
 use Rattle.script_reading.specs.Script.{CallFacts}
 
 abbrev pub reply_text : Reply → List ℕ
@@ -52,8 +55,8 @@ new_name act = spaced (name_made act)
 
 -- `7 duplicate root a ok`
 abbrev pub call_line : ℕ → CallFacts → Reply → List ℕ
-call_line number r reply = decimal number ++ codes " " ++ act_name r.act ++ codes " " ++ r.on ++ new_name r.act
-    ++ codes " " ++ reply_text reply ++ codes "\n"
+call_line number r reply = decimal number ++ codes " " ++ act_name r.act ++ codes " " ++ r.on
+    ++ new_name r.act ++ codes " " ++ reply_text reply ++ codes "\n"
 
 -- `ram#0`, of the heap of a place
 abbrev pub heap_text : Option HeapFacts → List ℕ
@@ -62,12 +65,13 @@ heap_text None = []
 
 -- `NV12 LINEAR REC709 `
 abbrev pub format_text : Pair → ColourSpace → List ℕ
-format_text pair colour = format_name pair.format ++ codes " " ++ modifier_name pair.modifier ++ codes " "
-    ++ colour_name colour ++ codes " "
+format_text pair colour = format_name pair.format ++ codes " " ++ modifier_name pair.modifier
+    ++ codes " " ++ colour_name colour ++ codes " "
 
 -- `1920x1088 row 1920`: width and height in pixels, the row in bytes
 abbrev pub corner_text : Corner → List ℕ
-corner_text k = decimal k.width ++ codes "x" ++ decimal k.height ++ codes " row " ++ decimal k.bytes_per_row
+corner_text k =
+    decimal k.width ++ codes "x" ++ decimal k.height ++ codes " row " ++ decimal k.bytes_per_row
 
 -- `NV12 LINEAR REC709 1920x1088 row 1920`, of the smallest image, or `none`
 abbrev pub image_text : Offer → Corner → List ℕ
@@ -94,7 +98,8 @@ selection_text (choice ∷ choices) = decimal choice ++ marked (codes ".") choic
 -- `chosen 0.1 count 2 size 4096 place ram#0 cpu image none`
 abbrev pub chosen_text : PlatformFacts → ChosenFacts → Corner → List ℕ
 chosen_text platform chosen k =
-    codes "chosen " ++ selection_text chosen.selection ++ codes " " ++ settings_text platform chosen.settings
+    codes "chosen " ++ selection_text chosen.selection ++ codes " "
+    ++ settings_text platform chosen.settings
     ++ image_text chosen.settings.offer k
 
 -- `domain /0/1 empty`: what became of the domain whose root is at this path

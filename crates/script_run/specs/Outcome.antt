@@ -22,7 +22,8 @@ report_seen report = record { text = string_bytes report.text; starved = report.
 abbrev pub SaysOf : Type 1
 SaysOf = PlatformFacts → Gave
 
--- what the value of a script gives: its first fault, or a report of its calls, with decisions of which this is said
+-- what the value of a script gives: its first fault, or a report of its calls,
+-- with decisions of which this is said
 pub data ValueRunsTo (says : SaysOf) (value : Data) : Result ReportFacts ScriptFault → Type 0 where
   refused : (fault : ScriptFault) → script_of value ≡ Err fault → ValueRunsTo says value (Err fault)
   reported : (script : ScriptFacts) (report : ReportFacts) → script_of value ≡ Ok script

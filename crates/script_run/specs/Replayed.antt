@@ -11,8 +11,10 @@ use Rattle.script_run.specs.State.{RunState}
 abbrev pub end_of : Replayed → RunState
 end_of replayed = state_of replayed.runner
 
--- a text is the report of calls on a new collection, which they and their decisions leave in this state
-pub record LeavesIn (platform : PlatformFacts) (rs : List CallFacts) (text : List ℕ) (last : RunState) : Type 0 where
+-- a text is the report of calls on a new collection, which they and
+-- their decisions leave in this state
+pub record LeavesIn (platform : PlatformFacts) (rs : List CallFacts) (text : List ℕ)
+    (last : RunState) : Type 0 where
   pub decisions : List Certified
   pub report : IsReport platform rs text decisions last.starved
   pub stands : report.last ≡ last

@@ -1,5 +1,6 @@
 -- What a run has done, by how it ended.
-use Rattle.std.specs.Prelude.{◌≡◌, ◌≢◌, ◌↔◌, ℕ, List, [], Bool, true, false, Option, None, Result, Ok, Err, IfSome}
+use Rattle.std.specs.Prelude.{◌≡◌, ◌≢◌, ◌↔◌, ℕ, List, [], Bool, true, false, Option, None}
+use Rattle.std.specs.Prelude.{Result, Ok, Err, IfSome}
 use Rattle.std.specs.Io.KnownBytes.{Appends}
 use Rattle.byte_transfer.specs.Transfer.{WritesFront}
 use Rattle.script_reading.specs.declared.fault.ScriptFault.{ScriptFault}
@@ -13,8 +14,8 @@ use Rattle.script_run.specs.Outcome.{RunsTo}
 
 -- ---- texts that are written
 
--- a text was written, and then perhaps a second one to another writer, of which this is said. Where there is no second
--- writer, nothing is known of what it holds
+-- a text was written, and then perhaps a second one to another writer, of which this is said. Where
+-- there is no second writer, nothing is known of what it holds
 pub record Writes (says : List ℕ → List ℕ → Type 0)
     (before after proof_before proof_after : Option (List ℕ)) : Type 0 where
   pub text : List ℕ
@@ -24,7 +25,8 @@ pub record Writes (says : List ℕ → List ℕ → Type 0)
   pub proved : Appends proof_before proof_after certificate
 
 -- a prefix of a text was written and nothing of another, or all of it and a prefix of the other
-pub data WritesFronts (before after other_before other_after : Option (List ℕ)) (text other : List ℕ) : Type 0 where
+pub data WritesFronts (before after other_before other_after : Option (List ℕ))
+    (text other : List ℕ) : Type 0 where
   in_first : WritesFront before after text → Appends other_before other_after []
       → WritesFronts before after other_before other_after text other
   in_other : Appends before after text → WritesFront other_before other_after other
@@ -51,8 +53,8 @@ WritesTextPart says before after = WritesPart (λ text _. says text) before afte
 abbrev pub GivesTexts : Type 1
 GivesTexts = List ℕ → Bool → List ℕ → List ℕ → Type 0
 
--- a run that writes such texts: what the reader had, where it tells it, and what each writer held before and after,
--- where it tells that
+-- a run that writes such texts: what the reader had, where it tells it, and what each writer held
+-- before and after, where it tells that
 pub record RanFor (gives : GivesTexts) (result : Result Ended RunFault)
     (had before after proof_before proof_after : Option (List ℕ)) : Type 0 where
   pub done : result ≡ Ok Done
@@ -62,9 +64,11 @@ pub record RanFor (gives : GivesTexts) (result : Result Ended RunFault)
   pub unchecked : result ≢ Ok CheckedNo
   pub no_proof : result ≢ Err Proof
   pub no_audit : (found : Disagreement) → result ≢ Err (Audit found)
-  pub refused : (fault : ScriptFault) → result ≡ Err (Script fault) → IfSome had (λ input. RunsTo input (Err fault))
+  pub refused : (fault : ScriptFault) → result ≡ Err (Script fault)
+      → IfSome had (λ input. RunsTo input (Err fault))
   pub front : result ≡ Err Write → IfSome had (λ input. WritesPart
-      (λ text other. (starved : Bool) × gives input starved text other) before after proof_before proof_after)
+      (λ text other. (starved : Bool) × gives input starved text other)
+      before after proof_before proof_after)
   pub unwritten : (fault : RunFault) → result ≡ Err fault → fault ≢ Write
       → Appends before after [] × Appends proof_before proof_after []
 
@@ -78,11 +82,13 @@ GivesProvedReport input starved text certificate =
     CertifiesTo input (Ok (record { text = text; certificate = certificate; starved = starved }))
 
 -- a run that writes its report
-abbrev pub Ran : Result Ended RunFault → Option (List ℕ) → Option (List ℕ) → Option (List ℕ) → Type 0
+abbrev pub Ran : Result Ended RunFault → Option (List ℕ) → Option (List ℕ) → Option (List ℕ)
+    → Type 0
 Ran result had before after = RanFor GivesReport result had before after None None
 
 -- a run that writes its report, and then a certificate
-abbrev pub RanWithProof : Result Ended RunFault → (had before after proof_before proof_after : Option (List ℕ)) → Type 0
+abbrev pub RanWithProof : Result Ended RunFault
+    → (had before after proof_before proof_after : Option (List ℕ)) → Type 0
 RanWithProof result had before after proof_before proof_after =
     RanFor GivesProvedReport result had before after proof_before proof_after
 

@@ -3,4 +3,9 @@ use Rattle.script_run.specs.declared.runner.Runner.{Runner}
 use Rattle.script_run.specs.State.{RunState}
 
 abbrev pub state_of : Runner → RunState
-state_of r = record { platform = r.book.platform; book = r.book.state; names = r.names.items; starved = r.starved }
+state_of r = record {
+  platform = r.book.platform;
+  book = r.book.state;
+  names = r.names.items;
+  starved = r.starved;
+}

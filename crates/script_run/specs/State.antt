@@ -1,5 +1,6 @@
 -- How a script stands: its collection, and what its names stand for.
-use Rattle.std.specs.Prelude.{◌≡◌, ℕ, ◌++◌, List, [], ◌∷◌, Bool, false, Option, Some, None, slice_get, unwrap_or}
+use Rattle.std.specs.Prelude.{◌≡◌, ℕ, ◌++◌, List, [], ◌∷◌, Bool, false, Option, Some}
+use Rattle.std.specs.Prelude.{None, slice_get, unwrap_or}
 use Rattle.sysmem_alloc.specs.Entry.{BookEntry}
 use Rattle.sysmem_alloc.specs.History.{after_entry}
 use Rattle.sysmem_alloc.specs.State.{State as BookState}
@@ -11,8 +12,9 @@ use Rattle.sysmem_tree.specs.Nodes.{HasNode}
 use Rattle.script_reading.specs.Call.{ActFacts, name_made}
 use Rattle.script_reading.specs.Script.{CallFacts}
 
--- the platform; how the collection stands, without what proves its decisions; for each name, in the order of the calls
--- that make one, the node that it names, or None where that call was not made; and whether memory was refused so far
+-- the platform; how the collection stands, without what proves its decisions; for each name, in the
+-- order of the calls that make one, the node that it names, or None where that call was not made;
+-- and whether memory was refused so far
 pub record RunState : Type 0 where
   pub platform : PlatformFacts
   pub book : BookState
@@ -46,7 +48,8 @@ unmade s act = record s { names = s.names ++ names_given act None }
 
 -- an accepted action was entered, and its name stands for this node
 abbrev pub acted : RunState → ActFacts → BookEntry → ℕ → RunState
-acted s act entry made = record s { book = after_entry s.book entry; names = s.names ++ names_given act (Some made) }
+acted s act entry made =
+    record s { book = after_entry s.book entry; names = s.names ++ names_given act (Some made) }
 
 -- each name that stands for a node stands for one of the tree's
 abbrev pub AreThere : List NodeFacts → List (Option ℕ) → Type 0

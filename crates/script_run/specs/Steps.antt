@@ -1,17 +1,19 @@
--- What the parts of a runner say, for private clauses: from a state to another, with the lines that are put after a text.
+-- What the parts of a runner say, for private clauses: from a state to another, with the
+-- lines that are put after a text.
 use Rattle.std.specs.Prelude.{◌≡◌, ℕ, ◌++◌, List, [], ◌∷◌}
 use Rattle.sysmem_alloc.specs.Decision.{Claimed, answer_of}
 use Rattle.sysmem_alloc.specs.Entry.{Decided}
 use Rattle.sysmem_alloc.specs.History.{Allows}
 use Rattle.script_reading.specs.Script.{CallFacts}
 use Rattle.script_run.specs.Answer.{Replies}
-use Rattle.script_run.specs.Report.{Certified, Gave, Goes, Tells, call_lines, certified, decision_lines, with_decision}
+use Rattle.script_run.specs.Report.{Certified, Gave, Goes, Tells, call_lines}
+use Rattle.script_run.specs.Report.{certified, decision_lines, with_decision}
 use Rattle.script_run.specs.State.{RunState}
 use Rattle.script_run.specs.declared.reply.Reply.{Reply}
 
 -- calls and decisions from a state to another, whose lines are put after a text
-pub record GoesIn (number : ℕ) (s : RunState) (rs : List CallFacts) (t : RunState) (before after : List ℕ)
-    (old new : Gave) : Type 0 where
+pub record GoesIn (number : ℕ) (s : RunState) (rs : List CallFacts) (t : RunState)
+    (before after : List ℕ) (old new : Gave) : Type 0 where
   pub lines : List ℕ
   pub decisions : List Certified
   pub goes : Goes number s rs lines decisions t
@@ -33,7 +35,8 @@ pub record DecidesIn (s t : RunState) (before after : List ℕ) (old new : Gave)
   pub gave : (cs : List Certified) → old cs → new (cs ++ certified s claimed ∷ [])
 
 -- a reply, whose lines are put after a text
-pub record RepliesIn (number : ℕ) (s : RunState) (r : CallFacts) (t : RunState) (before after : List ℕ) : Type 0 where
+pub record RepliesIn (number : ℕ) (s : RunState) (r : CallFacts) (t : RunState)
+    (before after : List ℕ) : Type 0 where
   pub reply : Reply
   pub replies : Replies s r reply t
   pub put : after ≡ before ++ call_lines number s r reply t

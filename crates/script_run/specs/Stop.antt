@@ -18,10 +18,10 @@ IfObjects (Refused objection) P = P objection
 abbrev pub Objects : Type 1
 Objects = PlatformFacts → BookState → ℕ → Objection → Type 0
 
--- some of the calls were made, with decisions, and lead to a state in which there is an objection at the first domain
--- that waits
-pub record StopsIn (number : ℕ) (s : RunState) (rs : List CallFacts) (t : RunState) (old new : Gave) (objects : Objects)
-    (objection : Objection) : Type 0 where
+-- some of the calls were made, with decisions, and lead to a state in which there is an
+-- objection at the first domain that waits
+pub record StopsIn (number : ℕ) (s : RunState) (rs : List CallFacts) (t : RunState) (old new : Gave)
+    (objects : Objects) (objection : Objection) : Type 0 where
   pub made : List CallFacts
   pub left : List CallFacts
   pub split : rs ≡ made ++ left
@@ -34,8 +34,8 @@ pub record StopsIn (number : ℕ) (s : RunState) (rs : List CallFacts) (t : RunS
   pub object : objects t.platform t.book domain objection
 
 -- the calls of a script come to an objection, where memory was not refused before
-pub record IsStopped (platform : PlatformFacts) (rs : List CallFacts) (old new : Gave) (objects : Objects)
-    (objection : Objection) : Type 0 where
+pub record IsStopped (platform : PlatformFacts) (rs : List CallFacts) (old new : Gave)
+    (objects : Objects) (objection : Objection) : Type 0 where
   pub last : RunState
   pub stops : StopsIn 1 (first_run_state platform) rs last old new objects objection
   pub fed : last.starved ≡ false

@@ -1,4 +1,5 @@
--- Where each domain has one decision at most, any decision of a domain that stands among the entries is the one that was entered for it.
+-- Where each domain has one decision at most, any decision of a domain that stands among the
+-- entries is the one that was entered for it.
 use Rattle.std.proofs.Common.{◌≡◌, ◌≢◌, ◌<◌, ◌==◌, ℕ, zero, suc, Bool, true, false, List, [], ◌∷◌, length, Option, Some, None, get_or, refl, sym, ◌∙◌, ap, subst, arith, eq-eqb, rules, tests}
 use Rattle.std.specs.Prelude.{map, if◌then◌else◌}
 use Rattle.std.specs.List.{AllByRecursion, filter_map, cons_option}

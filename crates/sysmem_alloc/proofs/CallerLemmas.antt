@@ -1,5 +1,5 @@
--- What callers need of books: that events leave the domains in their order, that each has its root, that what is claimed is optimal where
--- the claim is right, and which claims are true.
+-- What callers need of books: that events leave the domains in their order, that each has its root,
+-- that what is claimed is optimal where the claim is right, and which claims are true.
 pub use Rattle.sysmem_alloc.proofs.Marked.{many_roots}
 pub use Rattle.sysmem_alloc.proofs.Trees.{added, acted_roots, decided_roots, domains_there}
 pub use Rattle.sysmem_alloc.proofs.Stepping.{claims_optimal}

@@ -35,7 +35,8 @@ bound Token = 0
 bound Group = 0
 bound Collection = 1
 
--- how many actions a node's state tells of, but for those that made its children: its bind, its set_constraints or its completion, its end
+-- how many actions a node's state tells of, but for those that made its children: its bind, its
+-- set_constraints or its completion, its end
 abbrev pub own : NodeState → ℕ
 own s = bound s.kind + (one s.is_set + (one s.is_complete + one (not s.is_open)))
 

@@ -44,7 +44,8 @@ apart_filter p (x ∷ xs) a = at (p x) (apart_filter p xs a.1) where
   at true rest = (all_kept (λ y. x ≢ y) p xs a.0, rest)
   at false rest = rest
 
--- how many pass a second test that passes whatever passes a first one: as many as pass that, and those that pass the second alone
+-- how many pass a second test that passes whatever passes a first one: as many as pass that, and
+-- those that pass the second alone
 pub pass_more : (p q : ℕ → Bool) (xs : List ℕ) → AllByRecursion (λ x. p x ≡ true → q x ≡ true) xs
     → length (filter q xs) ≡ length (filter p xs) + length (filter (λ x. q x && not (p x)) xs)
 pass_more p q [] a = refl

@@ -1,4 +1,5 @@
--- What a node was set to stays, so that an entry is read from a later tree as from the one that it made.
+-- What a node was set to stays, so that an entry is read from a later
+-- tree as from the one that it made.
 use Rattle.std.proofs.Common.{◌≡◌, ℕ, zero, suc, ◌+◌, Bool, true, false, not, ◌&&◌, List, [], ◌∷◌, ◌++◌, length, Option, Some, None, Result, Ok, Err, slice_get, slice_set, refl, sym, ◌∙◌, ap, subst}
 use Rattle.std.specs.Prelude.{IsOk, IsSomeAnd, map, option_and_then}
 use Rattle.std.proofs.lemmas.Option.{same_Some}

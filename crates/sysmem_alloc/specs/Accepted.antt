@@ -13,4 +13,5 @@ marked_of marks ns = filter (λ i. get_or marks i false) ns
 -- a decision of a domain of these nodes, whose choices lead on in it
 pub record IsChosenIn (nodes : List NodeFacts) (d : Decision) : Type 0 where
   pub there : HasDomain nodes d.domain
-  pub prefix : IfSome (choices_of d.verdict) (λ cs. IsPrefix (forest_of by_number nodes d.domain []) cs)
+  pub prefix : IfSome (choices_of d.verdict)
+      (λ cs. IsPrefix (forest_of by_number nodes d.domain []) cs)

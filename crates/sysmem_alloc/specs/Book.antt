@@ -29,10 +29,12 @@ book_of platform es = record { platform = platform; history = es; state = replay
 
 -- a book with one more entry
 abbrev pub entered : BookFacts → BookEntry → BookFacts
-entered b e = record { platform = b.platform; history = b.history ++ e ∷ []; state = after_entry b.state e }
+entered b e =
+    record { platform = b.platform; history = b.history ++ e ∷ []; state = after_entry b.state e }
 
--- what stands for a book: the tree, the entries as they are kept, the domains that wait, and, as long as one does, which nodes were open
--- when the accepted participants were taken for the first of them; while none waits, those are accepted who are open in the tree
+-- what stands for a book: the tree, the entries as they are kept, the domains that wait, and, as
+-- long as one does, which nodes were open when the accepted participants were taken for the first
+-- of them; while none waits, those are accepted who are open in the tree
 abbrev pub kept_book : PlatformFacts → TreeFacts → List Entry → List ℕ → List Bool → BookFacts
 kept_book platform t raw waiting were_open = record {
   platform = platform;
@@ -41,7 +43,8 @@ kept_book platform t raw waiting were_open = record {
     tree = t;
     decisions = filter_map decision_in raw;
     waiting = waiting;
-    accepted = kept_for waiting (filter (λ i. get_or were_open i false) (chosen_in t.nodes (filter_map decision_in raw)))
+    accepted = kept_for waiting
+        (filter (λ i. get_or were_open i false) (chosen_in t.nodes (filter_map decision_in raw)))
         (open_in t.nodes (filter_map decision_in raw));
   };
 }

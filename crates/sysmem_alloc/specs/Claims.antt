@@ -17,7 +17,9 @@ IsBare claim = claim.proof ≡ Nothing
 abbrev pub HasProof : Claim → Type 0
 HasProof claim = IsBare claim → claim.verdict ≡ TooMany
 
--- a claim is right for a domain of a tree: its verdict is optimal, and it is bare or its proof proves the verdict
-pub record IsRightClaim (platform : PlatformFacts) (nodes : List NodeFacts) (domain : ℕ) (base : Option BaseFacts) (claim : Claim) : Type 0 where
+-- a claim is right for a domain of a tree: its verdict is optimal, and it is
+-- bare or its proof proves the verdict
+pub record IsRightClaim (platform : PlatformFacts) (nodes : List NodeFacts) (domain : ℕ)
+    (base : Option BaseFacts) (claim : Claim) : Type 0 where
   pub optimal : IsOptimalIn platform nodes domain base claim.verdict
   pub proved : IsBare claim ⊎ IsProofIn platform nodes domain base claim.verdict claim.proof

@@ -1,5 +1,6 @@
 -- Decisions as a book enters them, and what they gave.
-use Rattle.std.specs.Prelude.{◌==◌, ℕ, List, [], ◌∷◌, Option, Some, None, option_and_then, option_map, if◌then◌else◌}
+use Rattle.std.specs.Prelude.{◌==◌, ℕ, List, [], ◌∷◌, Option, Some, None}
+use Rattle.std.specs.Prelude.{option_and_then, option_map, if◌then◌else◌}
 use Rattle.sysmem_merge.specs.declared.settings.Settings.{Settings}
 use Rattle.sysmem_proof.specs.declared.certificate.Claim.{Claim}
 use Rattle.sysmem_proof.specs.declared.verdict.Verdict.{Verdict}
@@ -10,7 +11,8 @@ pub record Decision : Type 0 where
   pub domain : ℕ
   pub verdict : Option Verdict
 
--- a decision with its claim: the domain that this node roots, and the claim, or none where memory was wanted
+-- a decision with its claim: the domain that this node roots, and the
+-- claim, or none where memory was wanted
 pub record Claimed : Type 0 where
   pub domain : ℕ
   pub claim : Option Claim

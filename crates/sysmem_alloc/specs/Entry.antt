@@ -8,7 +8,8 @@ use Rattle.sysmem_sanitise.specs.Participant.{Participant}
 use Rattle.sysmem_proof.specs.Asked.{asks_at}
 use Rattle.sysmem_tree.specs.declared.action.ActionKind.{ActionKind}
 use Rattle.sysmem_tree.specs.declared.action.ActionKind.TheVariants as kinds
-use Rattle.sysmem_tree.specs.ActionKind.{Deed, duplicates, creates_group, binds, creates_child, has_all_children, sets, attaches_token, releases, closes}
+use Rattle.sysmem_tree.specs.ActionKind.{Deed, duplicates, creates_group, binds, creates_child}
+use Rattle.sysmem_tree.specs.ActionKind.{has_all_children, sets, attaches_token, releases, closes}
 use Rattle.sysmem_tree.specs.History.{HistoryEntry}
 use Rattle.sysmem_tree.specs.History as trees
 use Rattle.sysmem_tree.specs.Node.{NodeFacts}
@@ -38,9 +39,11 @@ deed_with set kinds.Close = closes
 -- an entry as it is kept, without the constraints that it set: the tree has them at its node
 abbrev pub entry_in : List NodeFacts → Entry → BookEntry
 entry_in nodes (entries.Acted i kind) = Acted i (deed_with (asks_at nodes i) kind)
-entry_in nodes (entries.Decided r claim) = Decided (record { domain = r; claim = option_map (λ shared. arc_value shared) claim })
+entry_in nodes (entries.Decided r claim) =
+    Decided (record { domain = r; claim = option_map (λ shared. arc_value shared) claim })
 
 -- the decision that it is, if it is one, without what proves it
 abbrev pub decision_in : Entry → Option Decision
 decision_in (entries.Acted i _) = None
-decision_in (entries.Decided r claim) = Some (answer_of (record { domain = r; claim = option_map (λ shared. arc_value shared) claim }))
+decision_in (entries.Decided r claim) =
+    Some (answer_of (record { domain = r; claim = option_map (λ shared. arc_value shared) claim }))

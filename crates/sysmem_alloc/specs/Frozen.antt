@@ -22,11 +22,16 @@ pub record IsFrozen (f : FrozenFacts) : Type 0 where
 
 -- what a book has for the decision of the domain that is next; none where no domain waits
 abbrev pub frozen_of : BookFacts → Option FrozenFacts
-frozen_of b = option_map (λ r. record { platform = b.platform; tree = b.state.tree; domain = r; base = base_of b.state r }) (next_ready b.state)
+frozen_of b = option_map
+    (λ r.
+    record { platform = b.platform; tree = b.state.tree; domain = r; base = base_of b.state r })
+    (next_ready b.state)
 
--- what was frozen still is what a book has for the decision of the domain that is next: the platform, the domain with its shape, and its terms
+-- what was frozen still is what a book has for the decision of the domain that is next: the
+-- platform, the domain with its shape, and its terms
 pub record IsStill (b : BookFacts) (f : FrozenFacts) : Type 0 where
   pub next : next_ready b.state ≡ Some f.domain
   pub platform : b.platform ≡ f.platform
   pub shape : shape_of b.state.tree.nodes f.domain ≡ shape_of f.tree.nodes f.domain
-  pub terms : option_map (terms_of b.state.tree.nodes) (base_of b.state f.domain) ≡ option_map (terms_of f.tree.nodes) f.base
+  pub terms : option_map (terms_of b.state.tree.nodes) (base_of b.state f.domain)
+      ≡ option_map (terms_of f.tree.nodes) f.base

@@ -1,5 +1,7 @@
 -- How a collection stands with its domains, and what actions and decisions make of it.
-use Rattle.std.specs.Prelude.{ℕ, ◌++◌, Bool, false, ◌&&◌, not, List, [], ◌∷◌, Option, Some, map, filter, flat_map, option_map, option_and_then, unwrap_or, slice_get, drop, if◌then◌else◌}
+use Rattle.std.specs.Prelude.{ℕ, ◌++◌, Bool, false, ◌&&◌, not, List, [], ◌∷◌, Option, Some, map}
+use Rattle.std.specs.Prelude.{filter, flat_map, option_map, option_and_then, unwrap_or}
+use Rattle.std.specs.Prelude.{slice_get, drop, if◌then◌else◌}
 use Rattle.sysmem_proof.specs.declared.verdict.Verdict.{Verdict}
 use Rattle.sysmem_proof.specs.declared.verdict.Verdict.TheVariants as verdicts
 use Rattle.sysmem_proof.specs.Base.{BaseFacts}
@@ -9,8 +11,9 @@ use Rattle.sysmem_tree.specs.Shape.{participants_of}
 use Rattle.sysmem_tree.specs.Tree.{first_tree}
 use Rattle.sysmem_alloc.specs.Decision.{Decision, choices_of, decision_for, settings_for}
 
--- the tree; the decisions in their order; the domains that wait for one, in the order in which they became ready; and the participants that
--- are accepted for the first of them or, while none waits, those whose collection is open
+-- the tree; the decisions in their order; the domains that wait for one, in the order in which
+-- they became ready; and the participants that are accepted for the first of them or, while none
+-- waits, those whose collection is open
 pub record State : Type 0 where
   pub tree : TreeFacts
   pub decisions : List Decision
@@ -27,11 +30,15 @@ next_ready s = slice_get s.waiting 0
 
 -- the verdict of a domain, none before it has one
 abbrev pub verdict_of : State → ℕ → Option Verdict
-verdict_of s r = if has_failed s.tree r then Some verdicts.Failed else option_map (λ d. unwrap_or d.verdict verdicts.NoMemory) (decision_for s.decisions r)
+verdict_of s r =
+    if has_failed s.tree r then Some verdicts.Failed
+    else option_map (λ d. unwrap_or d.verdict verdicts.NoMemory) (decision_for s.decisions r)
 
--- the domains that one event made ready, in order of creation of their roots: those that are ready now and weren't before
+-- the domains that one event made ready, in order of creation of their roots: those that
+-- are ready now and weren't before
 abbrev pub newly_ready : TreeFacts → TreeFacts → List ℕ
-newly_ready old new = filter (λ r. is_ready new r && not (is_ready old r)) (map (λ d. d.root) new.domains)
+newly_ready old new =
+    filter (λ r. is_ready new r && not (is_ready old r)) (map (λ d. d.root) new.domains)
 
 -- whether a node is open
 abbrev pub is_open : List NodeFacts → ℕ → Bool
@@ -39,7 +46,8 @@ is_open nodes i = unwrap_or (option_map (λ n. n.state.is_open) (slice_get nodes
 
 -- the participants of what a decision chose, in pre-order
 abbrev pub chosen_by : List NodeFacts → Decision → List ℕ
-chosen_by nodes d = unwrap_or (option_map (participants_of nodes d.domain) (choices_of d.verdict)) []
+chosen_by nodes d =
+    unwrap_or (option_map (participants_of nodes d.domain) (choices_of d.verdict)) []
 
 -- the participants of the collection's Chosen domains, in the order of the decisions
 abbrev pub chosen_in : List NodeFacts → List Decision → List ℕ
@@ -63,7 +71,8 @@ after_action s t = record {
   accepted = kept_for s.waiting s.accepted (open_in t.nodes s.decisions);
 }
 
--- after a decision of the first domain that waits, which made this tree: what is accepted is taken anew
+-- after a decision of the first domain that waits, which made this
+-- tree: what is accepted is taken anew
 abbrev pub after_decision : State → Decision → TreeFacts → State
 after_decision s d t = record {
   tree = t;
@@ -72,8 +81,10 @@ after_decision s d t = record {
   accepted = open_in t.nodes (s.decisions ++ d ∷ []);
 }
 
--- what the first domain that waits is decided on: an attached one on the settings of its host's domain and the accepted participants
+-- what the first domain that waits is decided on: an attached one on the settings of its host's
+-- domain and the accepted participants
 abbrev pub base_of : State → ℕ → Option BaseFacts
 base_of s r = option_and_then
-    (λ host. option_map (λ settings. record { settings = settings; accepted = s.accepted }) (settings_for s.decisions host.domain))
+    (λ host. option_map (λ settings. record { settings = settings; accepted = s.accepted })
+    (settings_for s.decisions host.domain))
     (host_node s.tree.nodes r)

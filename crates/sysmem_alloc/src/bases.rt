@@ -41,7 +41,8 @@ pub(crate) fn settings_for(history: &[Entry], domain: DomainId) -> Option<Settin
     settings_of(entered_for(history, domain)?)
 }
 
-/// Adds the participants that a decision chooses, if it chooses any, in pre-order. It takes no memory.
+/// Adds the participants that a decision chooses, if it chooses any,
+/// in pre-order. It takes no memory.
 pub(crate) fn add_chosen(
     tree: &Tree,
     domain: DomainId,

@@ -46,8 +46,8 @@ pub struct Book {
     waiting: Vec<DomainId>,
     /// The participants that the decisions chose, in the order of the decisions.
     chosen: Vec<NodeId>,
-    /// As long as a domain waits, the nodes that were open when the accepted participants were taken for the first one, marked by their
-    /// numbers.
+    /// As long as a domain waits, the nodes that were open when the accepted participants were
+    /// taken for the first one, marked by their numbers.
     were_open: [bool; 128],
     /// What `verdict_of` lends for a domain that failed.
     failed: Verdict,
@@ -86,8 +86,8 @@ pub struct Done {
 }
 
 impl Book {
-    /// The book of a root token, with an empty history, that decides for this platform. It reserves all the memory that its other
-    /// calls need. `AllocError` where memory is refused.
+    /// The book of a root token, with an empty history, that decides for this platform. It reserves
+    /// all the memory that its other calls need. `AllocError` where memory is refused.
     pub fn new(alloc: Global, platform: Platform) -> Result<Book, AllocError>
         ensures { IfOk result (λ book. book ≡ new_book platform) }
     {
@@ -129,7 +129,8 @@ impl Book {
         &self.tree
     }
 
-    /// All that was entered, the oldest first: a legal history, of which the book's state is the replay.
+    /// All that was entered, the oldest first: a legal history, of
+    /// which the book's state is the replay.
     pub fn history(&self) -> &[Entry]
         ensures entries { map (entry_in self.now.state.tree.nodes) result.now ≡ self.now.history }
         ensures book { IsBook self.now }
@@ -137,8 +138,9 @@ impl Book {
         &self.history
     }
 
-    /// The domain that is to be decided next: the first of those that are ready and undecided, in the order in which they became
-    /// ready, those of one event in order of creation of their roots.
+    /// The domain that is to be decided next: the first of those that are ready and
+    /// undecided, in the order in which they became ready, those of one event in
+    /// order of creation of their roots.
     pub fn next_ready(&self) -> Option<DomainId>
         ensures next { result ≡ next_ready self.now.state }
         ensures waits { IfSome result (MayWait self.now.state.tree) }
@@ -147,8 +149,9 @@ impl Book {
         self.waiting.first().copied()
     }
 
-    /// What the domain that is to be decided next is decided on, in memory of the book's allocator: for an attached one the settings of its
-    /// host's domain, with the participants that were accepted when it became the first to be decided; `None` for the initial one.
+    /// What the domain that is to be decided next is decided on, in memory of the book's
+    /// allocator: for an attached one the settings of its host's domain, with the participants
+    /// that were accepted when it became the first to be decided; `None` for the initial one.
     /// `AllocError` where memory is refused.
     pub fn base(&self, domain: DomainId) -> Result<Option<Base>, AllocError>
         requires { next_ready self.now.state ≡ Some domain }
@@ -162,8 +165,9 @@ impl Book {
         self.entered_base(domain)
     }
 
-    /// Copies of the platform and the tree, with the domain that is to be decided next and what it is decided on, in memory of their own;
-    /// `None` exactly where no domain waits. `AllocError` where memory is refused.
+    /// Copies of the platform and the tree, with the domain that is to be decided next and what
+    /// it is decided on, in memory of their own; `None` exactly where no domain waits.
+    /// `AllocError` where memory is refused.
     pub fn frozen(&self) -> Result<Option<Frozen>, AllocError>
         ensures { IfOk result (λ frozen. frozen ≡ frozen_of self.now) }
     {
@@ -284,8 +288,9 @@ impl Book {
         }
     }
 
-    /// Makes an action on a node, enters it, and answers the node that was made, or else the node itself, and whether a domain waits
-    /// for a decision now; or the tree's first refusal, and then nothing has changed. Each node and each domain that was there stays
+    /// Makes an action on a node, enters it, and answers the node that was made, or else the
+    /// node itself, and whether a domain waits for a decision now; or the tree's first
+    /// refusal, and then nothing has changed. Each node and each domain that was there stays
     /// there, by its number. It takes no memory.
     pub fn apply(&mut self, event: Event) -> Result<Done, Refusal>
         ensures accepted { IfOk result (λ done.
@@ -319,9 +324,9 @@ impl Book {
         Ok(Done { node, ready })
     }
 
-    /// Enters the decision of the domain that is to be decided next: a verdict that is optimal for it, with what proves it or with
-    /// `Proof::Nothing`, or `None` where memory was refused to it. Each node and each domain stays there, by its number. It takes no
-    /// memory.
+    /// Enters the decision of the domain that is to be decided next: a verdict that is optimal for
+    /// it, with what proves it or with `Proof::Nothing`, or `None` where memory was refused to it.
+    /// Each node and each domain stays there, by its number. It takes no memory.
     pub fn decide(&mut self, domain: DomainId, claim: Option<Arc<Claim>>)
         requires next { next_ready self.old.state ≡ Some domain }
         requires right { IfSome claim (λ shared.

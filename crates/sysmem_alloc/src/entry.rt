@@ -13,7 +13,8 @@ use sysmem_tree::{ActionKind, DomainId, NodeId};
 pub enum Entry {
     /// An accepted action on a node; the constraints that it set stand in the tree.
     Acted(NodeId, ActionKind),
-    /// The decision of a domain, with its verdict and what proves it, if anything does; `None` where memory was refused to it.
+    /// The decision of a domain, with its verdict and what proves it, if anything does;
+    /// `None` where memory was refused to it.
     Decided(DomainId, Option<Arc<Claim>>),
 }
 

@@ -9,7 +9,8 @@ use sysmem_proof::Base;
 use sysmem_sanitise::Platform;
 use sysmem_tree::{DomainId, Tree};
 
-/// Copies of a book's platform and tree, with the domain that is to be decided next and what it is decided on.
+/// Copies of a book's platform and tree, with the domain that is to be
+/// decided next and what it is decided on.
 #[derive(Debug, Drop)]
 pub struct Frozen {
     platform: Platform,

@@ -9,8 +9,8 @@ use sysmem_tree::laws::{
     ready_stays, sound_stays,
 };
 
-/// The state of each legal history: its tree is sound, each domain that waits is ready, undecided and there once, and what was decided is
-/// ready.
+/// The state of each legal history: its tree is sound, each domain that waits is ready, undecided
+/// and there once, and what was decided is ready.
 pub fn legal_is_sound()
     ensures { LegalIsSound }
 {
@@ -20,7 +20,8 @@ pub fn legal_is_sound()
     maps_of_logs();
 }
 
-/// The decisions of each legal history agree with its tree: each domain has there what was entered for it.
+/// The decisions of each legal history agree with its tree: each domain
+/// has there what was entered for it.
 pub fn legal_agrees()
     ensures { LegalAgrees }
 {
@@ -37,8 +38,9 @@ pub fn ready_waits()
     legal_agrees();
 }
 
-/// What the domain that is to be decided next is decided on is a base for it, as a search wants one: given exactly for an attached domain,
-/// with settings that fit and accepted nodes of other domains, each once.
+/// What the domain that is to be decided next is decided on is a base for it, as a search
+/// wants one: given exactly for an attached domain, with settings that fit and accepted
+/// nodes of other domains, each once.
 pub fn base_is_given()
     ensures { BaseIsGiven }
 {
@@ -54,7 +56,8 @@ pub fn few_entries()
     legal_is_sound();
 }
 
-/// The initial domain's shape, and whether its nodes are complete, depend on nothing but the actions at its own paths.
+/// The initial domain's shape, and whether its nodes are complete, depend on nothing
+/// but the actions at its own paths.
 pub fn initial_shape()
     ensures { InitialShape }
 {
@@ -66,8 +69,9 @@ pub fn initial_shape()
     laws::initial_shape();
 }
 
-/// Histories with the same actions at each path, in which no node is closed before the initial domain's decision, leave it ready both or
-/// neither, and of one shape; and where both decide it, with memory, they give it one answer.
+/// Histories with the same actions at each path, in which no node is closed before the initial
+/// domain's decision, leave it ready both or neither, and of one shape; and where both decide it,
+/// with memory, they give it one answer.
 pub fn confluence()
     ensures { Confluence }
 {
@@ -80,7 +84,8 @@ pub fn confluence()
     one_answer();
 }
 
-/// Each node keeps its number, its path, its parent and its domain, and each domain its root, whatever is entered.
+/// Each node keeps its number, its path, its parent and its domain, and each
+/// domain its root, whatever is entered.
 pub fn numbers_stay()
     ensures { NumbersStay }
 {
@@ -99,8 +104,9 @@ pub fn verdict_stays()
     one_forest();
 }
 
-/// The domain that is to be decided next stays so until it is: actions, however many, change neither its forest nor the settings and the
-/// accepted nodes that it is decided on; so a verdict that is optimal for it stays so, and what proves it goes on proving it.
+/// The domain that is to be decided next stays so until it is: actions, however many, change
+/// neither its forest nor the settings and the accepted nodes that it is decided on; so a verdict
+/// that is optimal for it stays so, and what proves it goes on proving it.
 pub fn next_stays()
     ensures { NextStays }
 {
@@ -110,28 +116,29 @@ pub fn next_stays()
     members_stay();
 }
 
-/// What was frozen and still is what a book has for the decision of the domain that is next stays so until that decision, however many
-/// actions come.
+/// What was frozen and still is what a book has for the decision of the domain that is next stays
+/// so until that decision, however many actions come.
 pub fn fit_stays()
     ensures { FitStays }
 {
     next_stays();
 }
 
-/// A claim that is true of what was frozen is true for each book that `fits` tells to have it still, and one that is right is right.
+/// A claim that is true of what was frozen is true for each book that `fits` tells to have it
+/// still, and one that is right is right.
 pub fn fit_is_right()
     ensures { FitIsRight }
 {}
 
-/// A claim is true exactly where it is right, as a book takes it, and has its proof. So what was entered with its proof is a claim to which
-/// `check` of `sysmem_proof` says yes.
+/// A claim is true exactly where it is right, as a book takes it, and has its proof. So what was
+/// entered with its proof is a claim to which `check` of `sysmem_proof` says yes.
 pub fn proved_claims_are_true()
     ensures { ProvedClaimsAreTrue }
 {}
 
-/// Each verdict that a legal history decided has a certificate: with some proof it is a true claim of
-/// its domain as it stood then, one to which `check` of `sysmem_proof` says yes, whether or not it was
-/// entered with a proof.
+/// Each verdict that a legal history decided has a certificate: with some proof it is a true
+/// claim of its domain as it stood then, one to which `check` of `sysmem_proof` says yes, whether
+/// or not it was entered with a proof.
 pub fn decisions_have_proofs()
     ensures { DecisionsHaveProofs }
 {

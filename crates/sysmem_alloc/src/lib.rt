@@ -1,4 +1,5 @@
-//! The book of a collection: its tree, the domains that wait for a decision, their verdicts, and the history of all that was entered.
+//! The book of a collection: its tree, the domains that wait for a decision, their verdicts, and
+//! the history of all that was entered.
 //!
 //! ```
 //! let mut book = Book::new(alloc, platform)?;

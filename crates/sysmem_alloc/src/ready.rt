@@ -19,8 +19,8 @@ fn is_ready_at(tree: &Tree, index: u32) -> bool
     }
 }
 
-/// The domains that are ready, marked in order of creation of their roots. Whether a single one is ends at the first of its nodes that
-/// is awaited; several are asked for at once.
+/// The domains that are ready, marked in order of creation of their roots. Whether a single one is
+/// ends at the first of its nodes that is awaited; several are asked for at once.
 pub(crate) fn ready_domains(tree: &Tree) -> [bool; 128]
     ensures { (k : ℕ) → get_or result k false ≡ ready_at tree.now k }
 {
@@ -101,7 +101,8 @@ pub(crate) fn open_nodes(tree: &Tree) -> [bool; 128]
     marks
 }
 
-/// Marks the nodes that are open where a domain has come to wait and none did before; as long as one does, the marks stay.
+/// Marks the nodes that are open where a domain has come to wait and none did before; as
+/// long as one does, the marks stay.
 pub(crate) fn mark_for_first(
     tree: &Tree,
     none_waited: bool,

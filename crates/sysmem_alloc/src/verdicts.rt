@@ -43,8 +43,8 @@ pub(crate) fn choices_of(claim: &Option<Arc<Claim>>) -> Option<&[u8]>
     }
 }
 
-/// The claim that was entered for a domain, if any was: at most one is, so the entries are read from the last to the first, as the
-/// decisions that are asked for are mostly late ones.
+/// The claim that was entered for a domain, if any was: at most one is, so the entries are read
+/// from the last to the first, as the decisions that are asked for are mostly late ones.
 pub(crate) fn entered_for(history: &[Entry], domain: DomainId) -> Option<&Option<Arc<Claim>>>
     requires { AreDistinct (map (λ d. d.domain) (filter_map decision_in history.now)) }
     ensures { option_map

@@ -130,7 +130,8 @@ needs_above kept (p ∷ ps) stands = (
   one_above kept (p ∷ ps) (needed (p ∷ ps)) stands,
 )
 
--- a number suits participants exactly where it is from what they need to the least maximum and the limit
+-- a number suits participants exactly where it is from what they need
+-- to the least maximum and the limit
 pub suits_between : (kept : Tally) (ps : List CountConstraints) (count : ℕ) → IsTallyOf kept ps → needed ps ≤ count → count ≤ kept.maximum → count ≤ 128 → IsCounted ps count
 suits_between kept ps count stands enough within limit = record {
   some = omega (arith, enough);

@@ -2,7 +2,8 @@
 use Rattle.std.specs.Prelude.{ℕ, ◌+◌, ◌≤◌, ◌<◌, max, List, [], ◌∷◌, All, Any, sum_by}
 use Rattle.sysmem_counts.specs.declared.constraints.CountConstraints.{CountConstraints}
 use Rattle.sysmem_counts.specs.declared.field.Field.{Field}
-use Rattle.sysmem_counts.specs.declared.field.Field.TheVariants.{MinBufferCount, MaxBufferCount, BufferCountLimit}
+use Rattle.sysmem_counts.specs.declared.field.Field.TheVariants.{MinBufferCount, MaxBufferCount}
+use Rattle.sysmem_counts.specs.declared.field.Field.TheVariants.{BufferCountLimit}
 
 -- the greatest of these numbers, 0 of none
 abbrev pub greatest : {X : Type 0} → (X → ℕ) → List X → ℕ
@@ -38,18 +39,21 @@ HasNoCount ps = (count : ℕ) → IsCounted ps count → ⊥
 abbrev pub needed : List CountConstraints → ℕ
 needed ps = max 1 (max (held_together ps) (greatest (λ p. p.min_buffer_count) ps))
 
--- a count line is true of participants: they need more than a maximum of theirs, or more than the limit
+-- a count line is true of participants: they need more than a maximum
+-- of theirs, or more than the limit
 abbrev pub IsCountLine : Field → List CountConstraints → Type 0
 IsCountLine MaxBufferCount ps = Any (λ p. p.max_buffer_count < needed ps) ps
 IsCountLine BufferCountLimit ps = 128 < needed ps
 IsCountLine _ ps = ⊥
 
--- why participants have no count, with the first line that is true of them: a maximum before the limit
+-- why participants have no count, with the first line that is true of
+-- them: a maximum before the limit
 abbrev pub IsCountFault : List CountConstraints → Field → Type 0
 IsCountFault ps BufferCountLimit = All (λ p. needed ps ≤ p.max_buffer_count) ps × (128 < needed ps)
 IsCountFault ps field = IsCountLine field ps
 
--- a line is true of participants where the count is fixed: they need more than it, or a maximum of theirs is below it
+-- a line is true of participants where the count is fixed: they need more than it,
+-- or a maximum of theirs is below it
 abbrev pub IsFixedCountLine : ℕ → Field → List CountConstraints → Type 0
 IsFixedCountLine count MinBufferCount ps = count < needed ps
 IsFixedCountLine count MaxBufferCount ps = Any (λ p. p.max_buffer_count < count) ps

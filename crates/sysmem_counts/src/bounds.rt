@@ -75,8 +75,8 @@ impl CountBounds {
         self.maximum = self.maximum.min(asked.max_buffer_count);
     }
 
-    /// Joins the bounds of more participants: they are those of both together. The two sums of camping and dedicated
-    /// slack must be below 2^62 together.
+    /// Joins the bounds of more participants: they are those of both together. The two sums of
+    /// camping and dedicated slack must be below 2^62 together.
     pub fn join(&mut self, more: &CountBounds)
         requires { sum_of self.old + sum_of more.now < 2 ^ 62 }
         ensures joined { (ps qs : List Asked) → IsTallyOf self.old ps → IsTallyOf more.now qs
@@ -89,8 +89,9 @@ impl CountBounds {
         self.maximum = self.maximum.min(more.maximum);
     }
 
-    /// The least number of buffers, 1 to 128, that suits all participants. Where none does, the field that
-    /// says so: `MaxBufferCount` if they need more than one of their maximums, else `BufferCountLimit`.
+    /// The least number of buffers, 1 to 128, that suits all participants. Where none does,
+    /// the field that says so: `MaxBufferCount` if they need more than one of their
+    /// maximums, else `BufferCountLimit`.
     pub fn least_count(&self) -> Result<u32, Field>
         ensures cases { (ps : List Asked) → IsTallyOf self.now ps
             → MatchResult result (IsLeastCount ps) (IsCountFault ps) }
@@ -109,8 +110,9 @@ impl CountBounds {
         Ok(needed as u32)
     }
 
-    /// Whether a count line is true of the participants: `MaxBufferCount` where they need more than one
-    /// of their maximums, `BufferCountLimit` where they need more than 128; no other field is one.
+    /// Whether a count line is true of the participants: `MaxBufferCount` where they
+    /// need more than one of their maximums, `BufferCountLimit` where they need more
+    /// than 128; no other field is one.
     pub fn is_line(&self, field: Field) -> bool
         ensures { (ps : List Asked) → IsTallyOf self.now ps → IsTrue result ↔ IsCountLine field ps }
     {
@@ -121,8 +123,9 @@ impl CountBounds {
         }
     }
 
-    /// Whether a line is true of the participants where the count is fixed: `MinBufferCount` where they need
-    /// more, `MaxBufferCount` where one of their maximums is below it; no other field is one.
+    /// Whether a line is true of the participants where the count is fixed:
+    /// `MinBufferCount` where they need more, `MaxBufferCount` where one of their maximums
+    /// is below it; no other field is one.
     pub fn is_fixed_line(&self, count: u32, field: Field) -> bool
         ensures { (ps : List Asked) → IsTallyOf self.now ps → IsTrue result
             ↔ IsFixedCountLine count field ps }

@@ -2,7 +2,8 @@
 
 ghost use Rattle.std.specs.Prelude.{◌≡◌, ◌↔◌};
 
-/// A field of the constraints, a limit, or a key of the platform, in the order in which records are read.
+/// A field of the constraints, a limit, or a key of the platform, in the
+/// order in which records are read.
 #[derive(Clone, Copy, Debug, PartialEq, Eq)]
 pub enum Field {
     /// What the buffers are used for.

@@ -18,8 +18,9 @@ pub fn one_least_count()
     ensures { OneLeastCount }
 {}
 
-/// Where the count is fixed, a line that is true of some participants means that it doesn't suit all of them; and where a
-/// count up to 128 doesn't suit participants, one of the two lines is true of them.
+/// Where the count is fixed, a line that is true of some participants means that it
+/// doesn't suit all of them; and where a count up to 128 doesn't suit participants, one
+/// of the two lines is true of them.
 pub fn fixed_count_lines()
     ensures holds { FixedCountLineHolds }
     ensures some { UnsuitedCountHasLine }

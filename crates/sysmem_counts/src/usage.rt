@@ -5,8 +5,9 @@ ghost use Rattle.sysmem_counts.specs.Families.{families};
 
 use bitflags::{Flag, Flags};
 
-/// What a participant uses the buffers for: a set of the families none, cpu, vulkan, display and video.
-/// `Usage::from_name` reads a family's name, and `insert` unites two usages (both of `bitflags::Flags`).
+/// What a participant uses the buffers for: a set of the families none, cpu, vulkan,
+/// display and video. `Usage::from_name` reads a family's name, and `insert` unites two
+/// usages (both of `bitflags::Flags`).
 #[derive(Clone, Copy, Debug, PartialEq, Eq)]
 pub struct Usage(u8);
 

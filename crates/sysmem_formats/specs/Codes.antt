@@ -2,7 +2,8 @@
 use Rattle.std.specs.Prelude.{ℕ}
 pub use Rattle.sysmem_formats.specs.Formats.{format_code}
 use Rattle.sysmem_formats.specs.declared.modifier.Modifier.{Modifier}
-use Rattle.sysmem_formats.specs.declared.modifier.Modifier.TheVariants.{Linear, IntelXTiled, IntelYTiled}
+use Rattle.sysmem_formats.specs.declared.modifier.Modifier.TheVariants.{Linear, IntelXTiled}
+use Rattle.sysmem_formats.specs.declared.modifier.Modifier.TheVariants.{IntelYTiled}
 
 -- a number for each modifier, by which definitions compare two of them
 abbrev pub modifier_code : Modifier → ℕ

@@ -2,10 +2,12 @@
 use Rattle.std.specs.Prelude.{◌≢◌, ℕ, ◌+◌, ◌-◌, ◌*◌, ◌/◌}
 use Rattle.sysmem_formats.specs.declared.pixel_format.PixelFormat.{PixelFormat}
 use Rattle.sysmem_formats.specs.declared.pixel_format.Sampling.{Sampling}
-use Rattle.sysmem_formats.specs.declared.pixel_format.Sampling.TheVariants.{Full, HalfRow, TwoPlanes, ThreePlanes}
+use Rattle.sysmem_formats.specs.declared.pixel_format.Sampling.TheVariants.{Full, HalfRow}
+use Rattle.sysmem_formats.specs.declared.pixel_format.Sampling.TheVariants.{TwoPlanes, ThreePlanes}
 pub use Rattle.sysmem_formats.specs.Formats.{pixel_bytes, sampling_of}
 use Rattle.sysmem_formats.specs.declared.modifier.Modifier.{Modifier}
-use Rattle.sysmem_formats.specs.declared.modifier.Modifier.TheVariants.{Linear, IntelXTiled, IntelYTiled}
+use Rattle.sysmem_formats.specs.declared.modifier.Modifier.TheVariants.{Linear, IntelXTiled}
+use Rattle.sysmem_formats.specs.declared.modifier.Modifier.TheVariants.{IntelYTiled}
 use Rattle.sysmem_formats.specs.declared.offer.Pair.{Pair}
 use Rattle.sysmem_formats.specs.declared.offer.Offer.{Offer}
 use Rattle.sysmem_formats.specs.declared.offer.Offer.TheVariants.{NoImage, Image}
@@ -36,7 +38,8 @@ rows_of Linear height = height
 rows_of IntelXTiled height = up_to 8 height
 rows_of IntelYTiled height = up_to 32 height
 
--- the bytes of all planes, where the first or only one has n: planes of subsampled colour add a half
+-- the bytes of all planes, where the first or only one has n:
+-- planes of subsampled colour add a half
 abbrev pub sampled_bytes : Sampling → ℕ → ℕ
 sampled_bytes Full n = n
 sampled_bytes HalfRow n = n
@@ -50,7 +53,8 @@ plane_bytes format n = sampled_bytes (sampling_of format) n
 -- image bytes of a row in bytes and a height in pixels
 abbrev pub image_bytes_of : Offer → ℕ → ℕ → ℕ
 image_bytes_of NoImage row height = 0
-image_bytes_of (Image pair _) row height = plane_bytes pair.format (row * rows_of pair.modifier height)
+image_bytes_of (Image pair _) row height =
+    plane_bytes pair.format (row * rows_of pair.modifier height)
 
 -- how many pixels of a row share their colours
 abbrev pub pixels_sharing : Sampling → ℕ
@@ -95,6 +99,7 @@ abbrev pub row_divisor_of : Offer → ℕ
 row_divisor_of NoImage = 1
 row_divisor_of (Image pair _) = row_divisor pair.format pair.modifier
 
--- a tiled modifier with a format that isn't of 4 bytes, which no constraints and no platform may name
+-- a tiled modifier with a format that isn't of 4 bytes, which no
+-- constraints and no platform may name
 abbrev pub IsTiledMisfit : Pair → Type 0
 IsTiledMisfit pair = (pair.modifier ≢ Linear) × (pixel_bytes pair.format ≢ 4)

@@ -20,7 +20,8 @@ use crate::modifier::Modifier;
 use crate::offer::{Offer, Pair};
 use crate::pixel_format::{PixelFormat, Sampling};
 
-/// Bytes of one pixel in a row, 1 to 4; for subsampled colour, of the first plane's row; 1 for no image.
+/// Bytes of one pixel in a row, 1 to 4; for subsampled colour, of the
+/// first plane's row; 1 for no image.
 pub fn bytes_per_pixel(offer: &Offer) -> u32
     ensures value { result ≡ bytes_per_pixel_of offer.now }
     ensures some { 1 ≤ result }
@@ -59,15 +60,16 @@ pub fn wide_row_bytes(offer: &Offer, width: u64) -> u64
     }
 }
 
-/// Bytes of an image of `height` rows of `bytes_per_row` bytes, all planes and a tile's rows included;
-/// 0 for no image.
+/// Bytes of an image of `height` rows of `bytes_per_row` bytes, all planes and a
+/// tile's rows included; 0 for no image.
 pub fn image_bytes(offer: &Offer, bytes_per_row: u32, height: u32) -> u128
     ensures { result ≡ image_bytes_of offer.now bytes_per_row height }
 {
     wide_image_bytes(offer, u64::from(bytes_per_row), u64::from(height))
 }
 
-/// The same of a row and a height that may be above 32 bits: a row below 2^40 bytes, a height below 2^33.
+/// The same of a row and a height that may be above 32 bits: a row below
+/// 2^40 bytes, a height below 2^33.
 pub fn wide_image_bytes(offer: &Offer, bytes_per_row: u64, height: u64) -> u128
     requires row { bytes_per_row < 2 ^ 40 }
     requires height { height < 2 ^ 33 }

@@ -1,4 +1,5 @@
-//! Names and layout of image formats: which bytes an image of a format, a modifier and a size takes.
+//! Names and layout of image formats: which bytes an image of a
+//! format, a modifier and a size takes.
 //!
 //! ```
 //! let pair = Pair { format: PixelFormat::NV12, modifier: Modifier::Linear };

@@ -6,8 +6,8 @@ ghost use Rattle.sysmem_formats.specs.Offers.{offers, images};
 use crate::colour_space::ColourSpace;
 use crate::offer::{Offer, Pair};
 
-/// The offer at this place of a platform's order, or `None` after the last one: first no image, then
-/// each pair with each colour space, pairs before colour spaces.
+/// The offer at this place of a platform's order, or `None` after the last one: first no image,
+/// then each pair with each colour space, pairs before colour spaces.
 pub fn offer_at(pairs: &[Pair], colours: &[ColourSpace], index: usize) -> Option<Offer>
     ensures { result ≡ slice_get (offers pairs.now colours.now) index }
 {

@@ -74,7 +74,8 @@ met_with : (f : Bound) (o : Offer) (es fs : List ImageBounds) (b : ImageBounds) 
     → (¬ (¬ MeetsIn f o (es ++ b ∷ []))) → ¬ (¬ MeetsIn f o (es ++ fs))
 met_with f o es fs b old met unmet = met (λ meet. unmet ((meets_with f o es fs b old).1 meet))
 
--- the first field whose common multiple is above the limit heads the first line that is true of both lists
+-- the first field whose common multiple is above the limit heads the
+-- first line that is true of both lists
 pub above_both : (f : Field) (o : Offer) (es fs : List ImageBounds) (a b : ImageBounds) → IsFirstAbove f a b → MergedOf o es a → MergedOf o fs b → IsFirstLine f o (es ++ fs)
 above_both SizeAlignment o es fs a b above left right = let l = above_line SizeAlignment o es a b above left in record {
   line = unmet_with bound.SizeAlignment o es fs b (right.each bound.SizeAlignment) l.line;

@@ -134,7 +134,8 @@ pub keeps_each : (fs : List Bound) (a b : ImageBounds) → IsTighter a b → Kee
 keeps_each [] a b t = tt
 keeps_each (f ∷ fs) a b t = (t f, keeps_each fs a b t)
 
--- numbers equal to the offer's own divide the bounds' alignments and divisor exactly where these suit the offer
+-- numbers equal to the offer's own divide the bounds' alignments and divisor
+-- exactly where these suit the offer
 pub suits_from : (o : Offer) (b : ImageBounds) (w h r : ℕ) → w ≡ width_alignment_of o → h ≡ height_alignment_of o → r ≡ row_divisor_of o → (DividesSize (record { width = w; height = h }) b.size_alignment × (r ∣ b.bytes_per_row_divisor)) ↔ Suits o b
 suits_from o b w h r is_width is_height is_row = (
   λ both. record {

@@ -32,7 +32,8 @@ joins_rest p d k q r = divides_remainder (p * d) k d p (joins_right p d k q) (jo
 joins_next : (p d k : ℕ) → p ∣ k → d ∣ k → p * d ∣ k * (p % (d % p))
 joins_next p d k q r = divides_remainder (p * d) k p (d % p) (joins_left p d k r) (joins_rest p d k q r)
 
--- a common multiple of both is one of the divisor times the pixel's bytes, divided by what they share
+-- a common multiple of both is one of the divisor times the pixel's
+-- bytes, divided by what they share
 least_of : (p d k : ℕ) → p ∣ k → d ∣ k → (g : ℕ) → p * d ∣ k * g → g ≡ 1 → p * d ∣ k
 least_of p d k q r g joins one = let e : k * g ≡ k = rw one (omega arith) in subst (λ z. p * d ∣ z) e joins
 
@@ -118,7 +119,8 @@ pixel_some (Image pair colour) = of_format pair.format where
   of_format NV12 = (omega arith, omega arith)
   of_format P010 = (omega arith, omega arith)
 
--- a multiple of the row divisor that an entry puts on an offer is one of its own, and of a pixel's bytes where it asks for them
+-- a multiple of the row divisor that an entry puts on an offer is one of its own, and of a
+-- pixel's bytes where it asks for them
 divisor_asked : (o : Offer) (e : EntryBounds) (n : ℕ) → (max (row_divisor_asked o e) 1 ∣ n) ↔ ((e.asked.bytes_per_row_divisor ∣ n) × (e.at_pixel_boundary ≡ true → bytes_per_pixel_of o ∣ n))
 divisor_asked o e n = by_flag e.at_pixel_boundary where
   by_flag : (b : Bool) → (max (if b then pixel_multiple (bytes_per_pixel_of o) e.asked.bytes_per_row_divisor else e.asked.bytes_per_row_divisor) 1 ∣ n)
@@ -136,7 +138,8 @@ divisor_asked o e n = by_flag e.at_pixel_boundary where
         λ both. subst (λ z. z ∣ n) (sym same) (is.least n (both.1 refl) both.0),
       )
 
--- what keeps to the bounds that an entry puts on an offer keeps to its own, with whole pixels in a row where it asks for them
+-- what keeps to the bounds that an entry puts on an offer keeps to its own, with whole
+-- pixels in a row where it asks for them
 pub effective_keeps : EffectiveKeeps
 effective_keeps o e s =
     let rows = divisor_asked o e.bounds s.bytes_per_row_divisor in (

@@ -107,7 +107,8 @@ pub item_copied : {X : Type 0} (xs : List X) (i : ℕ) (r : Option (Bor X)) → 
 item_copied xs i None item = slice_get_past xs i item.3
 item_copied xs i (Some x) item = slice_get_read xs _ i x.now refl item.3.0 item.1
 
--- no entry of the first i that stands before place n passes the test, and the one at n does; n is the number of entries where none is known
+-- no entry of the first i that stands before place n passes the test, and the one at n does; n is
+-- the number of entries where none is known
 pub record IsFirstUpTo (es : List Entry) (i : ℕ) (p : Entry → Bool) (n : ℕ) : Type 0 where
   pub within : n ≤ length es
   pub before : (k : ℕ) (e : Entry) → k < i → k < n → slice_get es k ≡ Some e → p e ≡ false

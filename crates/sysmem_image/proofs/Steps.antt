@@ -33,7 +33,8 @@ common_more own f es e m old has =
       },
     )
 
--- the common multiples of a merged number and one more are above the limit: so are those of the list
+-- the common multiples of a merged number and one more are above
+-- the limit: so are those of the list
 pub none_above : (own : ℕ) (f : ImageBounds → ℕ) (es : List ImageBounds) (e : ImageBounds) (m : ℕ) → IsMergeOf (Keeps Multiple) own f es m → IsAboveLimit m (f e) → ¬ HasCommon own f (es ++ e ∷ [])
 none_above own f es e m old above = λ common.
     let parts = both_pop (λ x. f x ∣ common.0) es e common.1.each in

@@ -5,9 +5,11 @@ use Rattle.sysmem_counts.specs.declared.field.Field.{Field}
 use Rattle.sysmem_formats.specs.declared.offer.Offer.{Offer}
 use Rattle.sysmem_formats.specs.Layout.{width_alignment_of, height_alignment_of, row_divisor_of}
 use Rattle.sysmem_image.specs.declared.bounds.ImageBounds.{ImageBounds}
-use Rattle.sysmem_image.specs.Fields.{Bound, Side, field_of, value, most, own_value, fields_before, KeepsIn, KeepsEach}
+use Rattle.sysmem_image.specs.Fields.{Bound, Side, field_of, value, most, own_value}
+use Rattle.sysmem_image.specs.Fields.{fields_before, KeepsIn, KeepsEach}
 
--- the bounds a keep to the bounds b: merged to the greatest at least, to the least at most, multiples of
+-- the bounds a keep to the bounds b: merged to the greatest at least,
+-- to the least at most, multiples of
 abbrev pub IsTighter : ImageBounds → ImageBounds → Type 0
 IsTighter a b = (f : Bound) → KeepsIn f a b
 

@@ -1,7 +1,12 @@
 -- The colour spaces that an entry lists.
 use Rattle.std.specs.Prelude.{Bool, true, false, ◌||◌}
 use Rattle.sysmem_formats.specs.declared.colour_space.ColourSpace.{ColourSpace}
-use Rattle.sysmem_formats.specs.declared.colour_space.ColourSpace.TheVariants.{Srgb, Rec601Ntsc, Rec601NtscFullRange, Rec601Pal, Rec601PalFullRange, Rec709, Rec2020, Rec2100}
+use Rattle.sysmem_formats.specs.declared.colour_space.ColourSpace.TheVariants.{Srgb, Rec601Ntsc}
+use Rattle.sysmem_formats.specs.declared.colour_space.ColourSpace.TheVariants.{Rec601NtscFullRange}
+use Rattle.sysmem_formats.specs.declared.colour_space.ColourSpace.TheVariants.{Rec601Pal}
+use Rattle.sysmem_formats.specs.declared.colour_space.ColourSpace.TheVariants.{Rec601PalFullRange}
+use Rattle.sysmem_formats.specs.declared.colour_space.ColourSpace.TheVariants.{Rec709, Rec2020}
+use Rattle.sysmem_formats.specs.declared.colour_space.ColourSpace.TheVariants.{Rec2100}
 use Rattle.sysmem_image.specs.declared.colours.ColourSet.{ColourSet}
 
 -- whether DO_NOT_CARE is listed
@@ -25,7 +30,17 @@ accepts set colour = lists_any set || lists set colour
 
 -- nothing is listed
 abbrev pub no_colours : ColourSet
-no_colours = record { any = false; srgb = false; rec601_ntsc = false; rec601_ntsc_full_range = false; rec601_pal = false; rec601_pal_full_range = false; rec709 = false; rec2020 = false; rec2100 = false }
+no_colours = record {
+  any = false;
+  srgb = false;
+  rec601_ntsc = false;
+  rec601_ntsc_full_range = false;
+  rec601_pal = false;
+  rec601_pal_full_range = false;
+  rec709 = false;
+  rec2020 = false;
+  rec2100 = false;
+}
 
 -- DO_NOT_CARE is listed too
 abbrev pub with_any : ColourSet → ColourSet

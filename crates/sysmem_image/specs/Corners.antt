@@ -2,7 +2,9 @@
 use Rattle.std.specs.Prelude.{◌≡◌, ℕ, ◌*◌, ◌≤◌, ◌<◌, ◌⊎◌}
 use Rattle.std.specs.Int.{◌∣◌}
 use Rattle.sysmem_counts.specs.declared.field.Field.{Field}
-use Rattle.sysmem_counts.specs.declared.field.Field.TheVariants.{RequiredMinSize, MaxSize, MaxWidthTimesHeight, MaxBytesPerRow}
+use Rattle.sysmem_counts.specs.declared.field.Field.TheVariants.{RequiredMinSize, MaxSize}
+use Rattle.sysmem_counts.specs.declared.field.Field.TheVariants.{MaxWidthTimesHeight}
+use Rattle.sysmem_counts.specs.declared.field.Field.TheVariants.{MaxBytesPerRow}
 use Rattle.sysmem_formats.specs.declared.offer.Offer.{Offer}
 use Rattle.sysmem_formats.specs.Layout.{row_bytes_of, image_bytes_of}
 use Rattle.sysmem_image.specs.declared.bounds.ImageBounds.{ImageBounds}
@@ -22,7 +24,8 @@ pub record IsHeight (b : ImageBounds) (h : ℕ) : Type 0 where
   pub from : b.min_size.height ≤ h
   pub required : b.required_max_size.height ≤ h
 
--- a row of the bounds' divisor for a width, not below their lower bound; it may be above the maximum
+-- a row of the bounds' divisor for a width, not below their lower
+-- bound; it may be above the maximum
 pub record IsRow (o : Offer) (b : ImageBounds) (w r : ℕ) : Type 0 where
   pub divisor : b.bytes_per_row_divisor ∣ r
   pub from : b.min_bytes_per_row ≤ r
@@ -41,7 +44,8 @@ pub record IsCorner (o : Offer) (b : ImageBounds) (k : Corner) : Type 0 where
   pub least_width : (w : ℕ) → IsWidth b w → k.width ≤ w
   pub least_height : (h : ℕ) → IsHeight b h → k.height ≤ h
   pub least_row : (w r : ℕ) → IsWidth b w → IsRow o b w r → k.bytes_per_row ≤ r
-  pub least_bytes : (w h r : ℕ) → IsWidth b w → IsHeight b h → IsRow o b w r → k.bytes ≤ image_bytes_of o r h
+  pub least_bytes : (w h r : ℕ) → IsWidth b w → IsHeight b h → IsRow o b w r
+      → k.bytes ≤ image_bytes_of o r h
 
 -- no width that the alignment and lower bounds allow is up to max_size
 abbrev pub HasNoWidth : ImageBounds → Type 0
@@ -55,7 +59,8 @@ HasNoHeight b = (h : ℕ) → IsHeight b h → b.max_size.height < h
 abbrev pub RefusesCorner : Field → Offer → ImageBounds → Type 0
 RefusesCorner RequiredMinSize o b = ¬ IsSizeUpTo b.min_size b.required_min_size
 RefusesCorner MaxSize o b = HasNoWidth b ⊎ HasNoHeight b
-RefusesCorner MaxWidthTimesHeight o b = (w h : ℕ) → IsWidth b w → IsHeight b h → b.max_width_times_height < w * h
+RefusesCorner MaxWidthTimesHeight o b = (w h : ℕ) → IsWidth b w → IsHeight b h
+    → b.max_width_times_height < w * h
 RefusesCorner MaxBytesPerRow o b = (w r : ℕ) → IsWidth b w → IsRow o b w r → b.max_bytes_per_row < r
 RefusesCorner _ o b = ⊥
 

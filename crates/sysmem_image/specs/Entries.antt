@@ -1,5 +1,6 @@
 -- A participant's entry for an offer, and the bounds that it puts on it.
-use Rattle.std.specs.Prelude.{ℕ, ◌*◌, ◌%◌, ◌≤◌, max, Bool, true, false, ◌&&◌, ◌==◌, find, List, map, Option, Some, None, if◌then◌else◌}
+use Rattle.std.specs.Prelude.{ℕ, ◌*◌, ◌%◌, ◌≤◌, max, Bool, true, false, ◌&&◌, ◌==◌, find, List, map}
+use Rattle.std.specs.Prelude.{Option, Some, None, if◌then◌else◌}
 use Rattle.std.proofs.Common.{arith}
 use Rattle.sysmem_formats.specs.declared.pixel_format.PixelFormat.{PixelFormat}
 use Rattle.sysmem_formats.specs.declared.modifier.Modifier.{Modifier}
@@ -25,7 +26,8 @@ agrees_modifier own (Some modifier) = modifier_code modifier == modifier_code ow
 -- whether the entry is one for the offer; no entry is one for no image
 abbrev pub matches : Offer → Entry → Bool
 matches NoImage entry = false
-matches (Image pair _) entry = agrees_format pair.format entry.format && agrees_modifier pair.modifier entry.modifier
+matches (Image pair _) entry =
+    agrees_format pair.format entry.format && agrees_modifier pair.modifier entry.modifier
 
 -- a participant's entry for the offer: the first of its list that matches
 abbrev pub first_match : Offer → List Entry → Option Entry
@@ -43,16 +45,22 @@ pixel_multiple pixel divisor =
     else if 2 * divisor % pixel == 0 then 2 * divisor
     else pixel * divisor
 
--- what the bytes of a row are a multiple of for an entry: its divisor, and of a pixel's bytes too where a row must end at one
+-- what the bytes of a row are a multiple of for an entry: its divisor, and of a pixel's
+-- bytes too where a row must end at one
 abbrev pub row_divisor_asked : Offer → EntryBounds → ℕ
-row_divisor_asked o e = if e.at_pixel_boundary then pixel_multiple (bytes_per_pixel_of o) e.asked.bytes_per_row_divisor else e.asked.bytes_per_row_divisor
+row_divisor_asked o e =
+    if e.at_pixel_boundary then pixel_multiple (bytes_per_pixel_of o) e.asked.bytes_per_row_divisor
+    else e.asked.bytes_per_row_divisor
 
 pub some_max : (n : ℕ) → 1 ≤ max n 1
 some_max n = omega arith
 
 -- the bounds that an entry puts on an offer, whose row divisor is 1 or more, as all are
 abbrev pub effective : Offer → Entry → ImageBounds
-effective o entry = record entry.bounds.asked { bytes_per_row_divisor = max (row_divisor_asked o entry.bounds) 1; row_divisor_some = some_max (row_divisor_asked o entry.bounds) }
+effective o entry = record entry.bounds.asked {
+  bytes_per_row_divisor = max (row_divisor_asked o entry.bounds) 1;
+  row_divisor_some = some_max (row_divisor_asked o entry.bounds);
+}
 
 -- the bounds that each entry of a list puts on an offer
 abbrev pub effective_all : Offer → List Entry → List ImageBounds

@@ -1,5 +1,6 @@
 -- The table of image bounds: its fields, and in a column each what it says of them.
-use Rattle.std.specs.Prelude.{ℕ, ◌≤◌, ◌-◌, max, Bool, true, false, List, [], ◌∷◌, get_or, map, nat_lt}
+use Rattle.std.specs.Prelude.{ℕ, ◌≤◌, ◌-◌, max, Bool, true, false, List, []}
+use Rattle.std.specs.Prelude.{◌∷◌, get_or, map, nat_lt}
 use Rattle.std.specs.Int.{◌∣◌}
 use Rattle.std.specs.List.{filter}
 use Rattle.sysmem_counts.specs.declared.field.Field.{Field}
@@ -37,7 +38,8 @@ pub data Rule : Type 0 where
   Least : Rule
   Multiple : Rule
 
--- which values are read: any of its type; some, where 0 is read as 1; a multiple, 1 to 65,536; or all from 1
+-- which values are read: any of its type; some, where 0 is read as 1; a
+-- multiple, 1 to 65,536; or all from 1
 pub data Range : Type 0 where
   AnyValue : Range
   SomeValue : Range
@@ -46,8 +48,9 @@ pub data Range : Type 0 where
 
 -- the fields in the table's order
 abbrev pub all_bounds : List Bound
-all_bounds = MinSize ∷ MaxSize ∷ SizeAlignment ∷ MinBytesPerRow ∷ MaxBytesPerRow ∷ BytesPerRowDivisor
-    ∷ StartOffsetDivisor ∷ DisplayRectAlignment ∷ RequiredMinSize ∷ RequiredMaxSize ∷ MaxWidthTimesHeight ∷ []
+all_bounds = MinSize ∷ MaxSize ∷ SizeAlignment ∷ MinBytesPerRow ∷ MaxBytesPerRow
+    ∷ BytesPerRowDivisor ∷ StartOffsetDivisor ∷ DisplayRectAlignment ∷ RequiredMinSize
+    ∷ RequiredMaxSize ∷ MaxWidthTimesHeight ∷ []
 
 -- its number in the table
 abbrev pub number_of : Bound → ℕ

@@ -1,14 +1,17 @@
--- The lines of the conflict table that speak of bounds, read from a list of them in exact arithmetic.
+-- The lines of the conflict table that speak of bounds, read from a
+-- list of them in exact arithmetic.
 use Rattle.std.specs.Prelude.{ℕ, ◌*◌, ◌≤◌, ◌⊎◌, List, [], ◌∷◌, ◌++◌, map, All}
 use Rattle.std.specs.Int.{◌∣◌}
 use Rattle.std.specs.List.{filter}
 use Rattle.sysmem_counts.specs.declared.field.Field.{Field}
 use Rattle.sysmem_counts.specs.declared.field.Field.TheVariants as field
 use Rattle.sysmem_formats.specs.declared.offer.Offer.{Offer}
-use Rattle.sysmem_formats.specs.Layout.{width_alignment_of, height_alignment_of, row_divisor_of, row_bytes_of}
+use Rattle.sysmem_formats.specs.Layout.{width_alignment_of, height_alignment_of}
+use Rattle.sysmem_formats.specs.Layout.{row_divisor_of, row_bytes_of}
 use Rattle.sysmem_image.specs.declared.bounds.ImageBounds.{ImageBounds}
 use Rattle.sysmem_image.specs.Fields as bound
-use Rattle.sysmem_image.specs.Fields.{Bound, Side, all_bounds, field_of, rule_of, wants_multiple, value, own_value, KeepsEach}
+use Rattle.sysmem_image.specs.Fields.{Bound, Side, all_bounds, field_of, rule_of, wants_multiple}
+use Rattle.sysmem_image.specs.Fields.{value, own_value, KeepsEach}
 use Rattle.sysmem_counts.specs.Bounds.{most_number}
 
 -- n is a common multiple, up to the limit, of the own number and those of a list
@@ -26,8 +29,8 @@ HasCommon first f es = (n : ℕ) × IsCommon first f es n
 abbrev pub MeetsIn : Bound → Offer → List ImageBounds → Type 0
 MeetsIn f o es = (side : Side) → HasCommon (own_value o f side) (value f side) es
 
--- a width of the offer's and the list's alignments, not below what the list asks for; it may be of any
--- number of bits
+-- a width of the offer's and the list's alignments, not below what the list asks
+-- for; it may be of any number of bits
 pub record FitsWidth (o : Offer) (es : List ImageBounds) (w : ℕ) : Type 0 where
   pub some : 1 ≤ w
   pub own : width_alignment_of o ∣ w
@@ -61,31 +64,39 @@ DivisorsMeet o es = MeetsIn bound.BytesPerRowDivisor o es
 
 -- the greatest min_size of a list is above its least required_min_size in the dimension
 abbrev pub MinAboveRequired : (ImageBounds → ℕ) → (ImageBounds → ℕ) → List ImageBounds → Type 0
-MinAboveRequired min required es = (n : ℕ) → 1 ≤ n → n ≤ most_number → All (λ e. min e ≤ n) es → All (λ e. n ≤ required e) es → ⊥
+MinAboveRequired min required es = (n : ℕ) → 1 ≤ n → n ≤ most_number → All (λ e. min e ≤ n) es
+    → All (λ e. n ≤ required e) es → ⊥
 
 -- the corner's width is above the least max_size
 abbrev pub WidthAbove : Offer → List ImageBounds → Type 0
-WidthAbove o es = (w : ℕ) → w ≤ most_number → FitsWidth o es w → All (λ e. w ≤ e.max_size.width) es → ⊥
+WidthAbove o es = (w : ℕ) → w ≤ most_number → FitsWidth o es w → All (λ e. w ≤ e.max_size.width) es
+    → ⊥
 
 -- the corner's height is above the least max_size
 abbrev pub HeightAbove : Offer → List ImageBounds → Type 0
-HeightAbove o es = (h : ℕ) → h ≤ most_number → FitsHeight o es h → All (λ e. h ≤ e.max_size.height) es → ⊥
+HeightAbove o es = (h : ℕ) → h ≤ most_number → FitsHeight o es h
+    → All (λ e. h ≤ e.max_size.height) es → ⊥
 
 -- the corner's width times height is above the least max_width_times_height
 abbrev pub AreaAbove : Offer → List ImageBounds → Type 0
-AreaAbove o es = (w h : ℕ) → w * h ≤ 18446744073709551615 → FitsWidth o es w → FitsHeight o es h → All (λ e. w * h ≤ e.max_width_times_height) es → ⊥
+AreaAbove o es = (w h : ℕ) → w * h ≤ 18446744073709551615 → FitsWidth o es w → FitsHeight o es h
+    → All (λ e. w * h ≤ e.max_width_times_height) es → ⊥
 
 -- the corner's row is above the least max_bytes_per_row, where the corner may be wider than 32 bits
 abbrev pub RowAbove : Offer → List ImageBounds → Type 0
-RowAbove o es = (w r : ℕ) → r ≤ most_number → FitsWidth o es w → FitsRow o es w r → All (λ e. r ≤ e.max_bytes_per_row) es → ⊥
+RowAbove o es = (w r : ℕ) → r ≤ most_number → FitsWidth o es w → FitsRow o es w r
+    → All (λ e. r ≤ e.max_bytes_per_row) es → ⊥
 
--- the line of the conflict table that the field heads is true of the bounds of a list, in exact arithmetic
+-- the line of the conflict table that the field heads is true of the
+-- bounds of a list, in exact arithmetic
 abbrev pub IsBoundsLine : Field → Offer → List ImageBounds → Type 0
 IsBoundsLine field.SizeAlignment o es = ¬ MeetsIn bound.SizeAlignment o es
 IsBoundsLine field.BytesPerRowDivisor o es = ¬ MeetsIn bound.BytesPerRowDivisor o es
 IsBoundsLine field.StartOffsetDivisor o es = ¬ MeetsIn bound.StartOffsetDivisor o es
 IsBoundsLine field.DisplayRectAlignment o es = ¬ MeetsIn bound.DisplayRectAlignment o es
-IsBoundsLine field.RequiredMinSize o es = MinAboveRequired (λ e. e.min_size.width) (λ e. e.required_min_size.width) es ⊎ MinAboveRequired (λ e. e.min_size.height) (λ e. e.required_min_size.height) es
+IsBoundsLine field.RequiredMinSize o es =
+    MinAboveRequired (λ e. e.min_size.width) (λ e. e.required_min_size.width) es
+    ⊎ MinAboveRequired (λ e. e.min_size.height) (λ e. e.required_min_size.height) es
 IsBoundsLine field.MaxSize o es = AlignmentsMeet o es × (WidthAbove o es ⊎ HeightAbove o es)
 IsBoundsLine field.MaxWidthTimesHeight o es = AlignmentsMeet o es × AreaAbove o es
 IsBoundsLine field.MaxBytesPerRow o es = AlignmentsMeet o es × DivisorsMeet o es × RowAbove o es
@@ -97,17 +108,20 @@ multiple_lines = map field_of (filter (λ f. wants_multiple (rule_of f)) all_bou
 
 -- the lines of bounds, in the order of the conflict table
 abbrev pub bounds_lines : List Field
-bounds_lines = multiple_lines ++ field.RequiredMinSize ∷ field.MaxSize ∷ field.MaxWidthTimesHeight ∷ field.MaxBytesPerRow ∷ []
+bounds_lines = multiple_lines ++ field.RequiredMinSize ∷ field.MaxSize ∷ field.MaxWidthTimesHeight
+    ∷ field.MaxBytesPerRow ∷ []
 
 -- the lines of bounds that stand before that of the field in the conflict table
 abbrev pub lines_before : Field → List Field
 lines_before field.BytesPerRowDivisor = field.SizeAlignment ∷ []
 lines_before field.StartOffsetDivisor = field.SizeAlignment ∷ field.BytesPerRowDivisor ∷ []
-lines_before field.DisplayRectAlignment = field.SizeAlignment ∷ field.BytesPerRowDivisor ∷ field.StartOffsetDivisor ∷ []
+lines_before field.DisplayRectAlignment =
+    field.SizeAlignment ∷ field.BytesPerRowDivisor ∷ field.StartOffsetDivisor ∷ []
 lines_before field.RequiredMinSize = multiple_lines
 lines_before field.MaxSize = field.RequiredMinSize ∷ multiple_lines
 lines_before field.MaxWidthTimesHeight = field.MaxSize ∷ field.RequiredMinSize ∷ multiple_lines
-lines_before field.MaxBytesPerRow = field.MaxWidthTimesHeight ∷ field.MaxSize ∷ field.RequiredMinSize ∷ multiple_lines
+lines_before field.MaxBytesPerRow =
+    field.MaxWidthTimesHeight ∷ field.MaxSize ∷ field.RequiredMinSize ∷ multiple_lines
 lines_before _ = []
 
 -- none of these lines is true
@@ -130,7 +144,8 @@ IsSteady _ = ⊥
 
 -- the fields that the corner reads
 abbrev pub corner_reads : List Bound
-corner_reads = bound.MinSize ∷ bound.SizeAlignment ∷ bound.MinBytesPerRow ∷ bound.BytesPerRowDivisor ∷ bound.RequiredMaxSize ∷ []
+corner_reads = bound.MinSize ∷ bound.SizeAlignment ∷ bound.MinBytesPerRow ∷ bound.BytesPerRowDivisor
+    ∷ bound.RequiredMaxSize ∷ []
 
 -- the fields that a line reads; that an entry's rows end at a pixel is read as its row divisor
 abbrev pub reads : Field → List Bound
@@ -139,8 +154,10 @@ reads field.BytesPerRowDivisor = bound.BytesPerRowDivisor ∷ []
 reads field.StartOffsetDivisor = bound.StartOffsetDivisor ∷ []
 reads field.DisplayRectAlignment = bound.DisplayRectAlignment ∷ []
 reads field.RequiredMinSize = bound.MinSize ∷ bound.RequiredMinSize ∷ []
-reads field.MaxSize = bound.MinSize ∷ bound.MaxSize ∷ bound.SizeAlignment ∷ bound.RequiredMaxSize ∷ []
-reads field.MaxWidthTimesHeight = bound.MinSize ∷ bound.SizeAlignment ∷ bound.RequiredMaxSize ∷ bound.MaxWidthTimesHeight ∷ []
+reads field.MaxSize =
+    bound.MinSize ∷ bound.MaxSize ∷ bound.SizeAlignment ∷ bound.RequiredMaxSize ∷ []
+reads field.MaxWidthTimesHeight =
+    bound.MinSize ∷ bound.SizeAlignment ∷ bound.RequiredMaxSize ∷ bound.MaxWidthTimesHeight ∷ []
 reads field.MaxBytesPerRow = bound.MaxBytesPerRow ∷ corner_reads
 reads _ = []
 

@@ -6,7 +6,8 @@ use Rattle.sysmem_image.specs.declared.bounds.ImageBounds.{ImageBounds}
 use Rattle.sysmem_image.specs.declared.read.BoundsRead.{BoundsRead}
 use Rattle.sysmem_image.specs.declared.size.Size.{Size}
 use Rattle.sysmem_image.specs.Fields as bound
-use Rattle.sysmem_image.specs.Fields.{Bound, Side, Width, Height, Keeps, rule_of, most, value, own_value}
+use Rattle.sysmem_image.specs.Fields.{Bound, Side, Width, Height, Keeps, rule_of}
+use Rattle.sysmem_image.specs.Fields.{most, value, own_value}
 use Rattle.sysmem_image.specs.Lines.{MeetsIn, FitsWidth, FitsHeight, FitsRow}
 use Rattle.sysmem_image.specs.Merged.{IsMergeOf}
 
@@ -19,7 +20,8 @@ size_in s Height = s.height
 abbrev pub number_in : ℕ → Side → ℕ
 number_in n _ = n
 
--- what is kept of a field, in each dimension; nothing where its common multiples are above the limit
+-- what is kept of a field, in each dimension; nothing where its
+-- common multiples are above the limit
 abbrev pub kept_of : Bound → BoundsRead → Option (Side → ℕ)
 kept_of bound.MinSize k = Some (size_in k.min_size)
 kept_of bound.MaxSize k = Some (size_in k.max_size)
@@ -36,7 +38,8 @@ kept_of bound.MaxWidthTimesHeight k = Some (number_in k.max_width_times_height)
 -- the numbers stand for the offer's own of a field and those of a list; without any, there are no
 -- common multiples up to the limit
 abbrev pub IsRead : Bound → Offer → List ImageBounds → Option (Side → ℕ) → Type 0
-IsRead f o es (Some m) = (side : Side) → IsMergeOf (Keeps (rule_of f)) (own_value o f side) (value f side) es (m side)
+IsRead f o es (Some m) = (side : Side)
+    → IsMergeOf (Keeps (rule_of f)) (own_value o f side) (value f side) es (m side)
 IsRead f o es None = ¬ MeetsIn f o es
 
 -- what is kept stands for the offer's own bounds and those of a list, field by field

@@ -25,6 +25,8 @@ slot format modifier = format_row format * COLUMNS + modifier_column modifier
 abbrev pub has_slot : ℕ → Entry → Bool
 has_slot s entry = slot entry.format entry.modifier == s
 
--- each slot has the place of the first entry with its names, or the number of entries where none has them
+-- each slot has the place of the first entry with its names, or the
+-- number of entries where none has them
 abbrev pub AreFirst : List Entry → List ℕ → Type 0
-AreFirst entries first = (s : ℕ) → s < SLOTS → slice_index first s ≡ position_or_len (has_slot s) entries
+AreFirst entries first = (s : ℕ) → s < SLOTS
+    → slice_index first s ≡ position_or_len (has_slot s) entries

@@ -38,8 +38,8 @@ impl ImageBounds {
     ghost use Rattle.sysmem_image.specs.Bounds.{IsOwn};
     ghost use Rattle.sysmem_image.specs.Merged.{MergedOf};
 
-    /// The bounds of an offer where no entry asks for anything: the absent values, with the offer's own
-    /// alignments and row divisor.
+    /// The bounds of an offer where no entry asks for anything: the absent values, with the
+    /// offer's own alignments and row divisor.
     pub fn of(offer: &Offer) -> ImageBounds
         ensures own { IsOwn offer.now result }
         ensures merged { MergedOf offer.now [] result }

@@ -8,8 +8,8 @@ use crate::bounds::ImageBounds;
 use crate::entry::Entry;
 use sysmem_formats::{Offer, bytes_per_pixel};
 
-/// The bounds that an entry puts on an offer: its own, whose row divisor is a multiple of the bytes of a
-/// pixel too where a row must end at one.
+/// The bounds that an entry puts on an offer: its own, whose row divisor is a multiple of the bytes
+/// of a pixel too where a row must end at one.
 pub(crate) fn effective(entry: &Entry, offer: &Offer) -> ImageBounds
     ensures { result ≡ effective offer.now entry.now }
 {

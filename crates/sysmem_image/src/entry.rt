@@ -18,8 +18,8 @@ pub struct Entry {
     pub bounds: EntryBounds,
 }
 
-/// What an entry asks of images: its own bounds, and whether a row must end at a whole pixel, so that its
-/// bytes are a multiple of a pixel's too. Its row divisor is at most 65,536.
+/// What an entry asks of images: its own bounds, and whether a row must end at a whole pixel, so
+/// that its bytes are a multiple of a pixel's too. Its row divisor is at most 65,536.
 #[derive(Clone, Copy, Debug, PartialEq, Eq)]
 pub struct EntryBounds {
     pub asked: ImageBounds,

@@ -81,8 +81,8 @@ impl<'a> FirstMatches<'a> {
         self.entries.is_empty()
     }
 
-    /// The participant's entry for an offer: the first whose format and modifier match, or `None`. No
-    /// entry is one for no image.
+    /// The participant's entry for an offer: the first whose format and modifier match, or
+    /// `None`. No entry is one for no image.
     pub fn entry_for(&self, offer: &Offer) -> Option<&'a Entry>
         ensures { option_copied result ≡ first_match offer.now self.now }
     {
@@ -107,7 +107,8 @@ impl<'a> FirstMatches<'a> {
         named.min(any)
     }
 
-    /// The index of the first entry with these names themselves, or the number of entries where none has them.
+    /// The index of the first entry with these names themselves, or the
+    /// number of entries where none has them.
     fn first_with(&self, format: Option<PixelFormat>, modifier: Option<Modifier>) -> usize
         ensures { result ≡ position_or_len (has_slot (slot format modifier)) self.now }
     {

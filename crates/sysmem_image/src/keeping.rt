@@ -45,8 +45,8 @@ macro_rules! keeps_field {
     (size multiple $a:expr, $b:expr) => { divides_size($b, $a) };
 }
 
-/// The first field, in the table's order, in which bounds of an offer don't keep to what an entry for it
-/// asks for, or `None` where they keep to all of it.
+/// The first field, in the table's order, in which bounds of an offer don't keep to what an entry
+/// for it asks for, or `None` where they keep to all of it.
 pub fn first_failing(bounds: &ImageBounds, entry: &Entry, offer: &Offer) -> Option<Field>
     ensures kept { IfNone result (IsTighter bounds.now (effective offer.now entry.now)) }
     ensures failing { IfSome result
@@ -56,8 +56,8 @@ pub fn first_failing(bounds: &ImageBounds, entry: &Entry, offer: &Offer) -> Opti
     failing_field(bounds, &asked)
 }
 
-/// Whether bounds of an offer keep to what an entry for it asks for in one field. True of a field that
-/// isn't one of bounds.
+/// Whether bounds of an offer keep to what an entry for it asks for in one field. True of
+/// a field that isn't one of bounds.
 pub fn keeps_field(field: Field, bounds: &ImageBounds, entry: &Entry, offer: &Offer) -> bool
     ensures { IsTrue result ↔ KeepsField field bounds.now (effective offer.now entry.now) }
 {

@@ -19,12 +19,14 @@ ghost use Rattle.sysmem_image.specs.Laws.{
   MergedReads,
 };
 
-/// Merged bounds admit an image exactly where the offer's own bounds and each merged entry admit it.
+/// Merged bounds admit an image exactly where the offer's own
+/// bounds and each merged entry admit it.
 pub fn merge_is_intersection()
     ensures { MergeIsIntersection }
 {}
 
-/// The bounds that an entry puts on an offer are its own, with whole pixels in a row where it asks for them.
+/// The bounds that an entry puts on an offer are its own, with whole pixels
+/// in a row where it asks for them.
 pub fn effective_bounds()
     ensures keeps { EffectiveKeeps }
     ensures admits { EffectiveAdmits }

@@ -7,8 +7,8 @@ ghost use Rattle.sysmem_image.specs.Entries.{matches, agrees_format, agrees_modi
 use crate::entry::Entry;
 use sysmem_formats::{Modifier, Offer, PixelFormat};
 
-/// A participant's entry for an offer: the first whose format and modifier match, or `None`. No entry
-/// is one for no image.
+/// A participant's entry for an offer: the first whose format and modifier match, or
+/// `None`. No entry is one for no image.
 pub fn entry_for<'a>(entries: &'a [Entry], offer: &Offer) -> Option<&'a Entry>
     ensures { option_copied result ≡ first_match offer.now entries.now }
 {

@@ -1,4 +1,5 @@
-//! What entries ask of an offer's images, kept so that each line of the conflict table can be asked.
+//! What entries ask of an offer's images, kept so that each line of
+//! the conflict table can be asked.
 
 ghost use Rattle.std.specs.Prelude.{◌≡◌, ◌↔◌, ◌≤◌, ◌<◌, ◌^◌, ℕ, List, [], ◌∷◌, ◌++◌, IsTrue, IfSome, IfNone};
 ghost use Rattle.std.proofs.Props.{props};
@@ -27,8 +28,8 @@ use sysmem_formats::{Offer, wide_row_bytes};
 
 /// What entries ask of an offer's images, merged field by field.
 ///
-/// Alignments and divisors are `None` once their least common multiple is above 4,294,967,295, while the
-/// other fields go on.
+/// Alignments and divisors are `None` once their least common multiple is above
+/// 4,294,967,295, while the other fields go on.
 #[derive(Clone, Copy, Debug)]
 pub struct BoundsRead {
     min_size: Size,
@@ -132,8 +133,8 @@ impl BoundsRead {
         }
     }
 
-    /// The bounds that stand for the offer's own and those of the entries. `None` where an alignment or a
-    /// divisor has no common multiple up to 4,294,967,295, so that its line is true.
+    /// The bounds that stand for the offer's own and those of the entries. `None` where an
+    /// alignment or a divisor has no common multiple up to 4,294,967,295, so that its line is true.
     pub fn merged(&self) -> Option<ImageBounds>
         ensures merged { (o : Offer) (es : List ImageBounds) → AreRead o es self.now →
             IfSome result (MergedOf o es) }
@@ -143,8 +144,8 @@ impl BoundsRead {
         bounds_table!(merged_bounds!(self))
     }
 
-    /// The least width and the least height that the entries allow, in pixels, below 2^33 each. `None`
-    /// where their alignments have no common multiple up to 4,294,967,295.
+    /// The least width and the least height that the entries allow, in pixels, below 2^33 each.
+    /// `None` where their alignments have no common multiple up to 4,294,967,295.
     pub fn least_sides(&self) -> Option<(u64, u64)>
         ensures least { (o : Offer) (es : List ImageBounds) → AreRead o es self.now →
             IfSome result (λ s. FitLeast o es s.0 s.1) }
@@ -162,8 +163,8 @@ impl BoundsRead {
         Some((width, height))
     }
 
-    /// The least row of the least width, in bytes, below 2^40. `None` where the row divisors have no common
-    /// multiple up to 4,294,967,295.
+    /// The least row of the least width, in bytes, below 2^40. `None` where the row divisors have
+    /// no common multiple up to 4,294,967,295.
     pub fn least_row(&self, offer: &Offer, width: u64) -> Option<u64>
         requires { width < 2 ^ 33 }
         ensures least { (es : List ImageBounds) (h : ℕ) → AreRead offer.now es self.now →
@@ -260,7 +261,8 @@ fn joined_size(kept: Option<Size>, more: Size) -> Option<Size>
     Some(Size { width, height })
 }
 
-/// The least multiple of a side's alignment that isn't below its two lower bounds; it may be above 32 bits.
+/// The least multiple of a side's alignment that isn't below its two lower
+/// bounds; it may be above 32 bits.
 fn least_side(alignment: u32, low: u32, large: u32) -> u64
     requires { 1 ≤ alignment }
     ensures least { IsLeastAbove alignment low large result }

@@ -17,8 +17,8 @@ use sysmem_formats::{Offer, image_bytes, row_bytes};
 
 /// The smallest image that the bounds admit and that is at least `required_max_size`.
 ///
-/// Refuses where there is none, or where `min_size` is above `required_min_size`, with the field whose
-/// line in the table of conflicts is the first that fails.
+/// Refuses where there is none, or where `min_size` is above `required_min_size`, with the field
+/// whose line in the table of conflicts is the first that fails.
 pub fn corner(bounds: &ImageBounds, offer: &Offer) -> Result<Corner, Field>
     ensures corner { IfOk result (λ k. IsCorner offer.now bounds.now k) }
     ensures required { IfOk result
@@ -95,7 +95,8 @@ fn least_side(alignment: u32, low: u32, large: u32, max: u32) -> Result<u32, Fie
     least_within(alignment, low, u64::from(large), max, Field::MaxSize)
 }
 
-/// The least multiple of a divisor that isn't below two numbers, or the field where it is above a third.
+/// The least multiple of a divisor that isn't below two numbers, or the
+/// field where it is above a third.
 fn least_within(divisor: u32, low: u32, other: u64, max: u32, field: Field) -> Result<u32, Field>
     requires divisor { 1 ≤ divisor }
     requires other { other < 2 ^ 40 }

@@ -1,16 +1,17 @@
 /// The table of the fields of image bounds, one row a field, in the table's order.
 ///
-/// `bounds_table!(callback!(arguments))` expands to `callback! { (arguments) row, row, .. }`. A row is
-/// `name: shape rule Field absent range`:
+/// `bounds_table!(callback!(arguments))` expands to `callback! { (arguments) row, row, .. }`. A row
+/// is `name: shape rule Field absent range`:
 ///
 /// - `name` of the field of `ImageBounds`, and in JSON;
 /// - `shape`: a `number` of 32 bits, a `large` one of 64, or a `size` of two numbers;
 /// - `rule` by which two are merged: `greatest`, `least` or `multiple`;
 /// - `Field`, the name's variant of `sysmem_counts::Field`;
-/// - `absent`, the value of a field that isn't given, of a size in both dimensions: `zero`, `one`, `most`
-///   of its type, or `own_alignment` and `own_divisor`, which are 1 in an entry and an offer's own without one;
-/// - `range` of the values that are read: `any` of the shape; `some`, where 0 is read as 1; `multiple`,
-///   from 1 to 65,536; `from_one`, which has no 0.
+/// - `absent`, the value of a field that isn't given, of a size in both dimensions: `zero`,
+///   `one`, `most` of its type, or `own_alignment` and `own_divisor`, which are 1 in an
+///   entry and an offer's own without one;
+/// - `range` of the values that are read: `any` of the shape; `some`, where 0 is read as 1;
+///   `multiple`, from 1 to 65,536; `from_one`, which has no 0.
 #[macro_export]
 macro_rules! bounds_table {
     ($do:ident!($($args:tt)*)) => {
@@ -30,11 +31,11 @@ macro_rules! bounds_table {
     };
 }
 
-/// The fields of the table in the order of the bytes of their names, in which certificates have them; the proof
-/// of their printer refuses any other list.
+/// The fields of the table in the order of the bytes of their names, in which certificates have
+/// them; the proof of their printer refuses any other list.
 ///
-/// `bounds_by_name!(callback!(arguments))` expands to `callback! { (arguments) row, row, .. }`. A row is
-/// `name: shape Field`, as in the table.
+/// `bounds_by_name!(callback!(arguments))` expands to `callback! { (arguments) row, row, .. }`. A
+/// row is `name: shape Field`, as in the table.
 #[macro_export]
 macro_rules! bounds_by_name {
     ($do:ident!($($args:tt)*)) => {
@@ -63,8 +64,8 @@ macro_rules! absent_bound {
     (number $one:ident) => { 1 };
 }
 
-/// The fields that head lines of bounds in the conflict table, in its order: those of common multiples, from
-/// the table above, and then the limits.
+/// The fields that head lines of bounds in the conflict table, in its order: those of common
+/// multiples, from the table above, and then the limits.
 ///
 /// `bounds_table!(bounds_lines!(callback))` expands to `callback! { Field Field .. }`.
 #[macro_export]

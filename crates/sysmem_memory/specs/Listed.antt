@@ -19,7 +19,8 @@ places_from i [] = []
 places_from i (h ∷ hs) =
     put_if h.domains.cpu (record { place = record { heap = i; coherency = Cpu }; heap = h })
     (put_if h.domains.ram (record { place = record { heap = i; coherency = Ram }; heap = h })
-    (put_if h.domains.inaccessible (record { place = record { heap = i; coherency = Inaccessible }; heap = h })
+    (put_if h.domains.inaccessible
+    (record { place = record { heap = i; coherency = Inaccessible }; heap = h })
     (places_from (i + 1) hs)))
 
 -- the places of a platform with these heaps

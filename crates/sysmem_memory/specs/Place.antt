@@ -1,5 +1,6 @@
 -- The places of a platform, their order, and the first one that nobody refuses.
-use Rattle.std.specs.Prelude.{◌≡◌, ◌⊎◌, ℕ, ◌<◌, ◌≤◌, Bool, ◌&&◌, List, length, Some, IsTrue, All, is_none, slice_get}
+use Rattle.std.specs.Prelude.{◌≡◌, ◌⊎◌, ℕ, ◌<◌, ◌≤◌, Bool, ◌&&◌, List, length, Some, IsTrue}
+use Rattle.std.specs.Prelude.{All, is_none, slice_get}
 use Rattle.std.specs.List.{list_all}
 use Rattle.sysmem_counts.specs.declared.field.Field.{Field}
 use Rattle.sysmem_memory.specs.declared.domain.CoherencyDomain.{CoherencyDomain}
@@ -27,7 +28,8 @@ pub record IsFirstPlace (heaps : List HeapFacts) (ps : List PlaceDemand) (p : Pl
   pub info : HeapFacts
   pub place : IsPlace heaps p info
   pub allowed : All (λ d. AllowsPlace d.memory d.usage info p.coherency) ps
-  pub earlier : (q : Place) (h : HeapFacts) → IsPlace heaps q h → IsEarlier q p → IsRefused h q.coherency ps
+  pub earlier : (q : Place) (h : HeapFacts) → IsPlace heaps q h → IsEarlier q p
+      → IsRefused h q.coherency ps
 
 -- each place of the platform is refused by somebody
 abbrev pub HasNoPlace : List HeapFacts → List PlaceDemand → Type 0
@@ -35,9 +37,12 @@ HasNoPlace heaps ps = (q : Place) (h : HeapFacts) → IsPlace heaps q h → IsRe
 
 -- the heap has the domain, and nobody refuses it
 abbrev pub is_left : HeapFacts → List PlaceDemand → CoherencyDomain → Bool
-is_left h ps d = has_domain h.domains d && list_all (λ p. is_none (first_refusing p.memory p.usage h d)) ps
+is_left h ps d =
+    has_domain h.domains d && list_all (λ p. is_none (first_refusing p.memory p.usage h d)) ps
 
 -- what is kept of each heap is the domains that nobody of the list refuses
-pub record AreDomainsLeft (kept : List CoherencyDomains) (heaps : List HeapFacts) (ps : List PlaceDemand) : Type 0 where
+pub record AreDomainsLeft (kept : List CoherencyDomains) (heaps : List HeapFacts)
+    (ps : List PlaceDemand) : Type 0 where
   pub limit : length heaps ≤ 64
-  pub exactly : (k : ℕ) (h : HeapFacts) (s : CoherencyDomains) (d : CoherencyDomain) → slice_get heaps k ≡ Some h → slice_get kept k ≡ Some s → has_domain s d ≡ is_left h ps d
+  pub exactly : (k : ℕ) (h : HeapFacts) (s : CoherencyDomains) (d : CoherencyDomain)
+      → slice_get heaps k ≡ Some h → slice_get kept k ≡ Some s → has_domain s d ≡ is_left h ps d

@@ -1,10 +1,15 @@
 -- The fields that can refuse a place, in their order.
-use Rattle.std.specs.Prelude.{◌≡◌, ◌==◌, Bool, true, false, not, ◌&&◌, ◌||◌, List, [], ◌∷◌, ◌++◌, length, Option, None, Any}
+use Rattle.std.specs.Prelude.{◌≡◌, ◌==◌, Bool, true, false, not, ◌&&◌, ◌||◌, List, [], ◌∷◌, ◌++◌}
+use Rattle.std.specs.Prelude.{length, Option, None, Any}
 use Rattle.std.specs.List.{list_any, find}
 use Rattle.sysmem_counts.specs.Usage.{uses_cpu}
 use Rattle.sysmem_counts.specs.declared.usage.Usage as usage
 use Rattle.sysmem_counts.specs.declared.field.Field.{Field}
-use Rattle.sysmem_counts.specs.declared.field.Field.TheVariants.{PermittedHeaps, PhysicallyContiguousRequired, SecureRequired, CpuDomainSupported, RamDomainSupported, InaccessibleDomainSupported, Usage}
+use Rattle.sysmem_counts.specs.declared.field.Field.TheVariants.{PermittedHeaps}
+use Rattle.sysmem_counts.specs.declared.field.Field.TheVariants.{PhysicallyContiguousRequired}
+use Rattle.sysmem_counts.specs.declared.field.Field.TheVariants.{SecureRequired, CpuDomainSupported}
+use Rattle.sysmem_counts.specs.declared.field.Field.TheVariants.{RamDomainSupported}
+use Rattle.sysmem_counts.specs.declared.field.Field.TheVariants.{InaccessibleDomainSupported, Usage}
 use Rattle.sysmem_memory.specs.declared.domain.CoherencyDomain.{CoherencyDomain}
 use Rattle.sysmem_memory.specs.declared.domain.CoherencyDomain.TheVariants.{Cpu, Ram, Inaccessible}
 use Rattle.sysmem_memory.specs.Heap.{HeapName, HeapFacts, same_heap}
@@ -19,10 +24,12 @@ abbrev pub is_inaccessible : CoherencyDomain → Bool
 is_inaccessible Inaccessible = true
 is_inaccessible _ = false
 
--- the field refuses the coherency domain of the heap, to a participant of these wishes and this usage
+-- the field refuses the coherency domain of the heap, to a
+-- participant of these wishes and this usage
 abbrev pub refuses_by : Field → MemoryWishes → usage.Usage → HeapFacts → CoherencyDomain → Bool
 refuses_by PermittedHeaps m u h d = not (permits m.permitted_heaps h.heap)
-refuses_by PhysicallyContiguousRequired m u h d = m.physically_contiguous_required && not h.contiguous
+refuses_by PhysicallyContiguousRequired m u h d =
+    m.physically_contiguous_required && not h.contiguous
 refuses_by SecureRequired m u h d = m.secure_required && not h.secure
 refuses_by CpuDomainSupported m u h Cpu = not m.cpu_domain_supported
 refuses_by RamDomainSupported m u h Ram = not m.ram_domain_supported

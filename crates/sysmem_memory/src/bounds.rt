@@ -14,7 +14,8 @@ use crate::refusal::{domain_refuses, heap_refuses};
 use std::marker::Model;
 use sysmem_counts::Usage;
 
-/// The coherency domains of each heap that nobody who was added refuses. A platform has at most 64 heaps.
+/// The coherency domains of each heap that nobody who was added refuses.
+/// A platform has at most 64 heaps.
 #[derive(Clone, Copy, Debug)]
 pub struct MemoryBounds {
     left: [CoherencyDomains; 64],
@@ -50,7 +51,8 @@ impl MemoryBounds {
         MemoryBounds { left }
     }
 
-    /// Adds a participant: what it refuses is no longer left. The heaps are those that `new` was given.
+    /// Adds a participant: what it refuses is no longer left. The
+    /// heaps are those that `new` was given.
     pub fn add(&mut self, heaps: &[HeapInfo], memory: &MemoryConstraints, usage: Usage)
         requires { length heaps.now ≤ 64 }
         ensures { (ps : List PlaceDemand) → AreDomainsLeft self.old heaps.now ps
@@ -62,8 +64,8 @@ impl MemoryBounds {
         }
     }
 
-    /// Joins the bounds of more participants: what any of both refuses is no longer left. The heaps are those that `new`
-    /// was given, of both.
+    /// Joins the bounds of more participants: what any of both refuses is no longer left. The heaps
+    /// are those that `new` was given, of both.
     pub fn join(&mut self, heaps: &[HeapInfo], more: &MemoryBounds)
         requires { length heaps.now ≤ 64 }
         ensures { (ps qs : List PlaceDemand) → AreDomainsLeft self.old heaps.now ps
@@ -74,8 +76,8 @@ impl MemoryBounds {
         }
     }
 
-    /// The first place that nobody who was added refuses, or `None` where each place is refused by somebody.
-    /// The heaps are those that `new` was given.
+    /// The first place that nobody who was added refuses, or `None` where each place is refused by
+    /// somebody. The heaps are those that `new` was given.
     pub fn first_place(&self, heaps: &[HeapInfo]) -> Option<Place>
         requires { length heaps.now ≤ 64 }
         ensures first { (ps : List PlaceDemand) → AreDomainsLeft self.now heaps.now ps
@@ -126,7 +128,8 @@ fn still_left(
     }
 }
 
-/// Whether the domain is in `left` and no field of such a participant refuses it on a heap that is itself accepted.
+/// Whether the domain is in `left` and no field of such a participant refuses it
+/// on a heap that is itself accepted.
 fn domain_left(
     left: CoherencyDomains,
     domain: CoherencyDomain,

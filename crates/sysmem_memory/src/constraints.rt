@@ -38,8 +38,9 @@ impl Model for MemoryConstraints {
 }
 
 impl MemoryConstraints {
-    /// Constraints that permit these heaps, with no heaps every heap, take the coherency domain `cpu` alone, and ask
-    /// for nothing else. A participant that names no constraints has these, with no heaps.
+    /// Constraints that permit these heaps, with no heaps every heap, take the coherency
+    /// domain `cpu` alone, and ask for nothing else. A participant that names no
+    /// constraints has these, with no heaps.
     pub fn permitting(permitted_heaps: Vec<Heap>) -> MemoryConstraints
         ensures { result ≡ permitting permitted_heaps.items }
     {

@@ -15,7 +15,8 @@ pub fn places_are_ordered()
     ensures total { PlacesAreInOneOrder }
 {}
 
-/// A field that refuses a place to one participant leaves that place to no list that has the participant.
+/// A field that refuses a place to one participant leaves that place to
+/// no list that has the participant.
 pub fn a_true_line_leaves_no_place()
     ensures { TrueLineLeavesNoPlace }
 {}

@@ -1,4 +1,5 @@
-//! Which places of a platform a participant's memory constraints allow, and the first place that all of them allow.
+//! Which places of a platform a participant's memory constraints allow, and the
+//! first place that all of them allow.
 //!
 //! ```
 //! let mut bounds = MemoryBounds::new(&heaps);

@@ -13,9 +13,9 @@ use crate::domain::CoherencyDomain;
 use crate::heap::{Heap, HeapInfo};
 use sysmem_counts::{Field, Usage};
 
-/// The first field that refuses a participant of these constraints and this usage the coherency domain of the heap:
-/// permitted_heaps, physically_contiguous_required, secure_required, the domain's own field or usage, in this order.
-/// `None` where the participant accepts it.
+/// The first field that refuses a participant of these constraints and this usage the coherency
+/// domain of the heap: permitted_heaps, physically_contiguous_required, secure_required, the
+/// domain's own field or usage, in this order. `None` where the participant accepts it.
 pub fn refuses(
     memory: &MemoryConstraints,
     usage: Usage,
@@ -34,8 +34,8 @@ pub fn refuses(
     domain_refuses(memory, usage, heap, domain)
 }
 
-/// Whether this field refuses a participant of these constraints and this usage the coherency domain of the heap,
-/// be it the first that does or a later one.
+/// Whether this field refuses a participant of these constraints and this usage the coherency
+/// domain of the heap, be it the first that does or a later one.
 pub fn refuses_in(
     field: Field,
     memory: &MemoryConstraints,
@@ -109,7 +109,8 @@ pub(crate) fn domain_refuses(
     None
 }
 
-/// Whether a usage of the CPU is refused the coherency domain of the heap, to whose memory it has no access.
+/// Whether a usage of the CPU is refused the coherency domain of the heap,
+/// to whose memory it has no access.
 fn is_hidden(usage: Usage, heap: &HeapInfo, domain: CoherencyDomain) -> bool
     ensures { result ≡ (uses_cpu usage && (is_inaccessible domain || heap.now.secure)) }
 {

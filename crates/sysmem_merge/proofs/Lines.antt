@@ -28,7 +28,8 @@ bounds_line_clash field t ds line sound covers =
     line_holds field t.offer (bounds_asked t.offer ds) line t.bounds sound.holds.image sound.holds.bounds
     (All-weaker (IsTighter t.bounds) (KeepsLine field t.bounds) (λ e. keeps_each (reads field) t.bounds e) (bounds_asked t.offer ds) (tighter_asked t ds covers))
 
--- the size's line leaves no sound fit whose size suits the participants and whose bounds keep to theirs in the fields that the corner reads
+-- the size's line leaves no sound fit whose size suits the participants and whose bounds keep to
+-- theirs in the fields that the corner reads
 pub size_line_holds : SizeLineHolds
 size_line_holds t ds line sound keeps mins maxs =
     let fits : FitsImage t.offer (bounds_asked t.offer ds) sound.holds.image = fits_image t.offer (bounds_asked t.offer ds) t.bounds sound.holds.image sound.holds.bounds keeps in

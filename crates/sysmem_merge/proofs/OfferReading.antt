@@ -152,7 +152,8 @@ line_else ColorSpaces o ds format colour size = absurd (colour refl)
 line_else MaxSizeBytes o ds format colour size = absurd (size refl)
 line_else field o ds format colour size = (λ line. line, λ line. line)
 
--- the least size that holds the least image is above the greatest exactly where the size's line is true
+-- the least size that holds the least image is above the greatest
+-- exactly where the size's line is true
 size_exact : (o : Offer) (ds : List OfferDemand) (least greatest w h r bytes : ℕ) → AreSizes ds least greatest → greatest < 2 ^ 64 → FitLeast o (bounds_asked o ds) w h
     → FitsLeastRow o (bounds_asked o ds) w r → AlignmentsMeet o (bounds_asked o ds) → DivisorsMeet o (bounds_asked o ds) → bytes ≡ image_bytes_of o r h
     → (greatest < max (max bytes least) 1) ↔ IsOfferLine MaxSizeBytes o ds
@@ -252,7 +253,8 @@ none_refuses whole o ds none UnnamedPixelFormatModifier line = all_at (λ f. ¬ 
 none_refuses whole o ds none UnnamedColorSpace line = all_at (λ f. ¬ IsRefusingLine whole o ds f) offer_lines 13 UnnamedColorSpace refl none line
 none_refuses whole o ds none _ line = elim line as (λ _. ⊥) [ inl offer ↦ offer | inr unnamed ↦ unnamed.1 ]
 
--- so where there is no fit, or a name that is wanted isn't there, some line of the table is refusing
+-- so where there is no fit, or a name that is wanted isn't there,
+-- some line of the table is refusing
 pub refused_clash : (whole : Bool) (o : Offer) (ds : List OfferDemand) → All (λ f. ¬ IsRefusingLine whole o ds f) offer_lines
     → ((field : Field) × IsOfferLine field o ds) ⊎ ((whole ≡ true) × (is_named o ds ≡ false)) → ⊥
 refused_clash whole o ds none refused = elim refused as (λ _. ⊥) [

@@ -107,7 +107,8 @@ module _ (whole : Bool) (ds : List OfferDemand) where
   refused_more i pairs colours pair here before now =
       subst (λ os. AreOffersRefused whole os ds) (sym (images_more i pairs colours pair here)) (refused_both whole (images (take i pairs) colours) (map (Image pair) colours) ds before now)
 
-  -- the first of a pair's offers is the first of all with an image, where those of the pairs before are refused
+  -- the first of a pair's offers is the first of all with an image, where
+  -- those of the pairs before are refused
   pub first_image : (i : ℕ) (pairs : List Pair) (colours : List ColourSpace) (pair : Pair) (s : Fit) → slice_get pairs i ≡ Some pair → AreOffersRefused whole (images (take i pairs) colours) ds
       → IsFirstFit whole (map (Image pair) colours) ds s → IsFirstFit whole (images pairs colours) ds s
   first_image i pairs colours pair s here before first =

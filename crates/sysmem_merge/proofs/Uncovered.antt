@@ -145,7 +145,8 @@ first_behind xs ys field heap s p none first = record {
   before = All-append (λ f. ¬ FailsIn f heap s p) xs first.earlier none first.before;
 }
 
--- where a test of each field of a list is exact, the first that passes it is the first that fails the participant
+-- where a test of each field of a list is exact, the first that passes it is the
+-- first that fails the participant
 found_first : (test : Field → Bool) (fields : List Field) (heap : HeapFacts) (s : Settings) (p : Participant) → All (λ f. FailsIn f heap s p ↔ (test f ≡ true)) fields
     → IfSome (find test fields) (λ field. IsFirstOf (λ f. FailsIn f heap s p) fields field)
 found_first test [] heap s p exact = tt

@@ -12,7 +12,8 @@ use Rattle.sysmem_merge.specs.declared.kept.KeptBounds.TheVariants.{Merged, Refu
 use Rattle.sysmem_merge.specs.declared.kept.KeptOffer.{KeptOffer}
 use Rattle.sysmem_merge.specs.Demands.{OfferDemand, counts_asked, place_demands, offer_demands}
 use Rattle.sysmem_merge.specs.Kept.{Kept}
-use Rattle.sysmem_merge.specs.Offers.{has_format, has_colour, bounds_asked, is_format_named, is_modifier_named, is_colour_named}
+use Rattle.sysmem_merge.specs.Offers.{has_format, has_colour, bounds_asked}
+use Rattle.sysmem_merge.specs.Offers.{is_format_named, is_modifier_named, is_colour_named}
 use Rattle.sysmem_merge.specs.Reasons.{IsOfferLine}
 use Rattle.sysmem_sanitise.specs.Participant.{Participant}
 use Rattle.sysmem_sanitise.specs.Platform.{PlatformFacts, offers_of}
@@ -48,7 +49,8 @@ pub record IsKept (o : Offer) (ds : List OfferDemand) (kept : KeptOffer) : Type 
 -- what is kept of each offer of a list, in its order
 pub record AreKept (os : List Offer) (ds : List OfferDemand) (kept : List KeptOffer) : Type 0 where
   pub many : length kept ≡ length os
-  pub each : (k : ℕ) (o : Offer) (one : KeptOffer) → slice_get os k ≡ Some o → slice_get kept k ≡ Some one → IsKept o ds one
+  pub each : (k : ℕ) (o : Offer) (one : KeptOffer) → slice_get os k ≡ Some o
+      → slice_get kept k ≡ Some one → IsKept o ds one
 
 -- what is kept stands for these participants on the platform, part by part
 pub record StandsFor (kept : Kept) (platform : PlatformFacts) (ps : List Participant) : Type 0 where

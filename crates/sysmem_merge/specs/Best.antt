@@ -14,8 +14,8 @@ pub record IsEarlierOffer (offers : List Offer) (a b : Offer) : Type 0 where
   pub here : slice_get offers index ≡ Some a
   pub before : (k : ℕ) → slice_get offers k ≡ Some b → index < k
 
--- t is no better than s: no earlier offer, with the same offer no earlier place, no smaller count, and with the same offer in the
--- same place no smaller size and no bounds that ask for less
+-- t is no better than s: no earlier offer, with the same offer no earlier place, no smaller count,
+-- and with the same offer in the same place no smaller size and no bounds that ask for less
 pub record IsNoBetter (platform : PlatformFacts) (t s : Settings) : Type 0 where
   pub offer : ¬ (IsEarlierOffer (offers_of platform) t.offer s.offer)
   pub place : t.offer ≡ s.offer → ¬ (IsEarlier t.place s.place)
@@ -23,7 +23,8 @@ pub record IsNoBetter (platform : PlatformFacts) (t s : Settings) : Type 0 where
   pub fit : t.offer ≡ s.offer → t.place ≡ s.place → IsNoBetterFit (fit_of t) (fit_of s)
 
 -- settings that meet these participants, and than which no others that do are better
-pub record IsBest (whole : Bool) (platform : PlatformFacts) (ps : List Participant) (s : Settings) : Type 0 where
+pub record IsBest (whole : Bool) (platform : PlatformFacts) (ps : List Participant)
+    (s : Settings) : Type 0 where
   pub meets : MeetsAs whole platform ps s
   pub best : (t : Settings) → MeetsAs whole platform ps t → IsNoBetter platform t s
 

@@ -25,7 +25,11 @@ pub record OfferDemand : Type 0 where
 
 -- what a participant asks of an offer
 abbrev pub offer_demand : Participant → OfferDemand
-offer_demand p = record { entries = p.entries; min_size_bytes = p.memory.min_size_bytes; max_size_bytes = p.memory.max_size_bytes }
+offer_demand p = record {
+  entries = p.entries;
+  min_size_bytes = p.memory.min_size_bytes;
+  max_size_bytes = p.memory.max_size_bytes;
+}
 
 -- what the participants ask of an offer
 abbrev pub offer_demands : List Participant → List OfferDemand

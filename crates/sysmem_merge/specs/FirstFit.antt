@@ -8,8 +8,10 @@ use Rattle.sysmem_merge.specs.Fit.{IsBestFit}
 use Rattle.sysmem_merge.specs.Offers.{is_named}
 use Rattle.sysmem_merge.specs.Reasons.{IsOfferRefused}
 
--- the first offer of a list that suits these participants, with its least size and bounds; each before it is refused
-pub record IsFirstFit (whole : Bool) (os : List Offer) (ds : List OfferDemand) (s : Fit) : Type 0 where
+-- the first offer of a list that suits these participants, with its least size and
+-- bounds; each before it is refused
+pub record IsFirstFit (whole : Bool) (os : List Offer) (ds : List OfferDemand)
+    (s : Fit) : Type 0 where
   pub offered : Contains os s.offer
   pub best : IsBestFit s.offer ds s
   pub named : whole ≡ true → is_named s.offer ds ≡ true

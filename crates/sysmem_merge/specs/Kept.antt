@@ -5,7 +5,8 @@ use Rattle.sysmem_memory.specs.declared.domain.CoherencyDomains.{CoherencyDomain
 use Rattle.sysmem_merge.specs.declared.kept.KeptOffer.{KeptOffer}
 use Rattle.sysmem_sanitise.specs.Platform.{PlatformFacts}
 
--- the platform; what is kept of counts, of places (the coherency domains that are left of each heap), of offers and of sizes; how many were added
+-- the platform; what is kept of counts, of places (the coherency domains that are left of each
+-- heap), of offers and of sizes; how many were added
 pub record Kept : Type 0 where
   pub platform : PlatformFacts
   pub counts : Tally

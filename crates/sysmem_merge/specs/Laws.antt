@@ -33,29 +33,37 @@ OneFit = (a b : Fit) → a.offer ≡ b.offer → IsNoBetterFit a b → IsNoBette
 
 -- a reason that is true of participants leaves them no settings
 abbrev pub ReasonLeavesNone : Type 0
-ReasonLeavesNone = (whole : Bool) (platform : PlatformFacts) (ps : List Participant) (reason : Reason)
-    → IsReason whole platform ps reason → IsUnmet whole platform ps
+ReasonLeavesNone = (whole : Bool) (platform : PlatformFacts) (ps : List Participant)
+    (reason : Reason) → IsReason whole platform ps reason → IsUnmet whole platform ps
 
--- nor does it leave any to more participants, whatever their order, if it doesn't rest on what none of them names
+-- nor does it leave any to more participants, whatever their order, if it
+-- doesn't rest on what none of them names
 abbrev pub ReasonOfSomeLeavesNone : Type 0
-ReasonOfSomeLeavesNone = (whole : Bool) (platform : PlatformFacts) (some all : List Participant) (reason : Reason)
-    → AreSomeOf some all → IsReason false platform some reason → IsUnmet whole platform all
+ReasonOfSomeLeavesNone = (whole : Bool) (platform : PlatformFacts) (some all : List Participant)
+    (reason : Reason) → AreSomeOf some all → IsReason false platform some reason
+    → IsUnmet whole platform all
 
--- a line that is true of some of the participants for an offer leaves no settings with that offer to all of them
+-- a line that is true of some of the participants for an offer leaves no
+-- settings with that offer to all of them
 abbrev pub OfferLineLeavesNone : Type 0
-OfferLineLeavesNone = (whole : Bool) (platform : PlatformFacts) (some all : List Participant) (field : Field) (t : Settings)
-    → AreSomeOf some all → IsOfferLine field t.offer (offer_demands some) → ¬ (MeetsAs whole platform all t)
+OfferLineLeavesNone = (whole : Bool) (platform : PlatformFacts) (some all : List Participant)
+    (field : Field) (t : Settings) → AreSomeOf some all
+    → IsOfferLine field t.offer (offer_demands some) → ¬ (MeetsAs whole platform all t)
 
--- a place that a field refuses to one of some of the participants is the place of no settings for all of them
+-- a place that a field refuses to one of some of the participants is the
+-- place of no settings for all of them
 abbrev pub PlaceLineLeavesNone : Type 0
-PlaceLineLeavesNone = (whole : Bool) (platform : PlatformFacts) (some all : List Participant) (field : Field) (heap : HeapFacts) (t : Settings)
-    → AreSomeOf some all → IsPlace platform.heaps t.place heap → IsPlaceLine field heap t.place.coherency (place_demands some)
+PlaceLineLeavesNone = (whole : Bool) (platform : PlatformFacts) (some all : List Participant)
+    (field : Field) (heap : HeapFacts) (t : Settings) → AreSomeOf some all
+    → IsPlace platform.heaps t.place heap
+    → IsPlaceLine field heap t.place.coherency (place_demands some)
     → ¬ (MeetsAs whole platform all t)
 
 -- a count line that is true of some of the participants leaves no settings to all of them
 abbrev pub CountLineLeavesNone : Type 0
-CountLineLeavesNone = (whole : Bool) (platform : PlatformFacts) (some all : List Participant) (field : Field)
-    → AreSomeOf some all → IsCountLine field (counts_asked some) → IsUnmet whole platform all
+CountLineLeavesNone = (whole : Bool) (platform : PlatformFacts) (some all : List Participant)
+    (field : Field) → AreSomeOf some all → IsCountLine field (counts_asked some)
+    → IsUnmet whole platform all
 
 -- settings that meet participants meet some of them, but for the names
 abbrev pub SomeAreMet : Type 0
@@ -69,15 +77,18 @@ UnmetBySome = (whole : Bool) (platform : PlatformFacts) (some all : List Partici
 
 -- what none of the participants names leaves no settings with that offer to them
 abbrev pub UnnamedLineLeavesNone : Type 0
-UnnamedLineLeavesNone = (platform : PlatformFacts) (ps : List Participant) (field : Field) (t : Settings)
-    → IsUnnamedLine field t.offer (offer_demands ps) → ¬ (Meets platform ps t)
+UnnamedLineLeavesNone = (platform : PlatformFacts) (ps : List Participant) (field : Field)
+    (t : Settings) → IsUnnamedLine field t.offer (offer_demands ps) → ¬ (Meets platform ps t)
 
 -- what stands for participants stands for them in any order
 abbrev pub StandsInAnyOrder : Type 0
 StandsInAnyOrder = (kept : Kept) (platform : PlatformFacts) (ps qs : List Participant)
     → IsPermutation ps qs → StandsFor kept platform ps → StandsFor kept platform qs
 
--- the size's line that is true of participants leaves them no size, with bounds that keep to theirs in the fields that it reads
+-- the size's line that is true of participants leaves them no size, with bounds that keep to
+-- theirs in the fields that it reads
 abbrev pub SizeLineHolds : Type 0
-SizeLineHolds = (t : Fit) (ds : List OfferDemand) → IsOfferLine MaxSizeBytes t.offer ds → IsSoundFit t
-    → All (KeepsCorner t.bounds) (bounds_asked t.offer ds) → All (λ d. d.min_size_bytes ≤ t.size_bytes) ds → All (λ d. t.size_bytes ≤ d.max_size_bytes) ds → ⊥
+SizeLineHolds = (t : Fit) (ds : List OfferDemand) → IsOfferLine MaxSizeBytes t.offer ds
+    → IsSoundFit t → All (KeepsCorner t.bounds) (bounds_asked t.offer ds)
+    → All (λ d. d.min_size_bytes ≤ t.size_bytes) ds → All (λ d. t.size_bytes ≤ d.max_size_bytes) ds
+    → ⊥

@@ -2,14 +2,18 @@
 use Rattle.std.specs.Prelude.{◌≡◌, ◌⊎◌, not, Bool, true, List, [], ◌∷◌, ◌++◌}
 use Rattle.std.specs.List.{list_any}
 use Rattle.sysmem_counts.specs.declared.field.Field.{Field}
-use Rattle.sysmem_counts.specs.declared.field.Field.TheVariants.{PixelFormat, ColorSpaces, MaxSizeBytes, UnnamedPixelFormat, UnnamedPixelFormatModifier, UnnamedColorSpace}
+use Rattle.sysmem_counts.specs.declared.field.Field.TheVariants.{PixelFormat, ColorSpaces}
+use Rattle.sysmem_counts.specs.declared.field.Field.TheVariants.{MaxSizeBytes, UnnamedPixelFormat}
+use Rattle.sysmem_counts.specs.declared.field.Field.TheVariants.{UnnamedPixelFormatModifier}
+use Rattle.sysmem_counts.specs.declared.field.Field.TheVariants.{UnnamedColorSpace}
 use Rattle.sysmem_formats.specs.declared.offer.Offer.{Offer}
 use Rattle.sysmem_image.specs.Lines.{bounds_lines}
 use Rattle.sysmem_image.specs.Read.{AreRead}
 use Rattle.sysmem_merge.specs.declared.offer_read.OfferRead.{OfferRead}
 use Rattle.sysmem_merge.specs.Aggregate.{AreSizes}
 use Rattle.sysmem_merge.specs.Demands.{OfferDemand}
-use Rattle.sysmem_merge.specs.Offers.{has_format, has_colour, bounds_asked, is_format_named, is_modifier_named, is_colour_named}
+use Rattle.sysmem_merge.specs.Offers.{has_format, has_colour, bounds_asked}
+use Rattle.sysmem_merge.specs.Offers.{is_format_named, is_modifier_named, is_colour_named}
 use Rattle.sysmem_merge.specs.Reasons.{IsOfferLine, IsUnnamedLine}
 
 -- what is read of an offer stands for these participants
@@ -25,8 +29,12 @@ pub record IsOfferRead (o : Offer) (ds : List OfferDemand) (read : OfferRead) : 
 
 -- the lines of the conflict table about an offer, in its order
 abbrev pub offer_lines : List Field
-offer_lines = PixelFormat ∷ ColorSpaces ∷ (bounds_lines ++ MaxSizeBytes ∷ UnnamedPixelFormat ∷ UnnamedPixelFormatModifier ∷ UnnamedColorSpace ∷ [])
+offer_lines = PixelFormat ∷ ColorSpaces
+    ∷ (bounds_lines ++ MaxSizeBytes ∷ UnnamedPixelFormat ∷ UnnamedPixelFormatModifier
+    ∷ UnnamedColorSpace ∷ [])
 
--- the line is true of the participants for the offer; an unnamed one counts where they are all that a decision has
+-- the line is true of the participants for the offer; an unnamed one counts where
+-- they are all that a decision has
 abbrev pub IsRefusingLine : Bool → Offer → List OfferDemand → Field → Type 0
-IsRefusingLine whole o ds field = IsOfferLine field o ds ⊎ ((whole ≡ true) × IsUnnamedLine field o ds)
+IsRefusingLine whole o ds field =
+    IsOfferLine field o ds ⊎ ((whole ≡ true) × IsUnnamedLine field o ds)

@@ -1,9 +1,15 @@
 -- What is kept of the offers of a pair, of which there is one for each colour space.
-use Rattle.std.specs.Prelude.{◌≡◌, ◌==◌, ◌++◌, ◌∷◌, [], ℕ, List, length, Bool, true, false, Some, slice_get}
+use Rattle.std.specs.Prelude.{◌≡◌, ◌==◌, ◌++◌, ◌∷◌, [], ℕ, List, length, Bool, true}
+use Rattle.std.specs.Prelude.{false, Some, slice_get}
 use Rattle.std.specs.Int.{bit_at}
 use Rattle.sysmem_counts.specs.declared.field.Field.TheVariants.{ColorSpaces}
 use Rattle.sysmem_formats.specs.declared.colour_space.ColourSpace.{ColourSpace}
-use Rattle.sysmem_formats.specs.declared.colour_space.ColourSpace.TheVariants.{Srgb, Rec601Ntsc, Rec601NtscFullRange, Rec601Pal, Rec601PalFullRange, Rec709, Rec2020, Rec2100}
+use Rattle.sysmem_formats.specs.declared.colour_space.ColourSpace.TheVariants.{Srgb, Rec601Ntsc}
+use Rattle.sysmem_formats.specs.declared.colour_space.ColourSpace.TheVariants.{Rec601NtscFullRange}
+use Rattle.sysmem_formats.specs.declared.colour_space.ColourSpace.TheVariants.{Rec601Pal}
+use Rattle.sysmem_formats.specs.declared.colour_space.ColourSpace.TheVariants.{Rec601PalFullRange}
+use Rattle.sysmem_formats.specs.declared.colour_space.ColourSpace.TheVariants.{Rec709, Rec2020}
+use Rattle.sysmem_formats.specs.declared.colour_space.ColourSpace.TheVariants.{Rec2100}
 use Rattle.sysmem_formats.specs.declared.offer.Offer.{Offer}
 use Rattle.sysmem_formats.specs.declared.offer.Offer.TheVariants.{Image}
 use Rattle.sysmem_formats.specs.declared.offer.Pair.{Pair}
@@ -59,8 +65,12 @@ in_colour kept c = record {
 
 -- bounds that were merged with those of an entry, or the line of a common multiple that there isn't
 abbrev pub IsMergedWith : Offer → Entry → ImageBounds → KeptBounds → Type 0
-IsMergedWith o entry b (Merged new) = (es : List ImageBounds) → MergedOf o es b → MergedOf o (es ++ effective o entry ∷ []) new
-IsMergedWith o entry b (Refused field) = IsSteady field × ((es : List ImageBounds) → MergedOf o es b → IsFirstLine field o (es ++ effective o entry ∷ []))
+IsMergedWith o entry b (Merged new) = (es : List ImageBounds) → MergedOf o es b
+    → MergedOf o (es ++ effective o entry ∷ []) new
+IsMergedWith o entry b (Refused field) =
+    IsSteady field
+    × ((es : List ImageBounds) → MergedOf o es b
+    → IsFirstLine field o (es ++ effective o entry ∷ []))
 
 -- the bounds are the pair's own in each colour space
 pub record ArePlain (pair : Pair) (kept : KeptBounds) : Type 0 where
@@ -74,6 +84,8 @@ pub record IsPairKept (pair : Pair) (ds : List OfferDemand) (kept : KeptPair) : 
   pub plain : kept.is_plain ≡ true → ArePlain pair kept.bounds
 
 -- what is kept of each pair of a list, in its order
-pub record ArePairsKept (pairs : List Pair) (ds : List OfferDemand) (kept : List KeptPair) : Type 0 where
+pub record ArePairsKept (pairs : List Pair) (ds : List OfferDemand)
+    (kept : List KeptPair) : Type 0 where
   pub many : length kept ≡ length pairs
-  pub each : (k : ℕ) (pair : Pair) (one : KeptPair) → slice_get pairs k ≡ Some pair → slice_get kept k ≡ Some one → IsPairKept pair ds one
+  pub each : (k : ℕ) (pair : Pair) (one : KeptPair) → slice_get pairs k ≡ Some pair
+      → slice_get kept k ≡ Some one → IsPairKept pair ds one

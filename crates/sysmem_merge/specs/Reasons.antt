@@ -1,22 +1,30 @@
 -- Why no settings meet participants: a conflict that is true of them.
-use Rattle.std.specs.Prelude.{◌≡◌, ◌⊎◌, ◌≢◌, ℕ, ◌^◌, ◌<◌, ◌≤◌, List, All, Any, Bool, true, false, Contains}
+use Rattle.std.specs.Prelude.{◌≡◌, ◌⊎◌, ◌≢◌, ℕ, ◌^◌, ◌<◌, ◌≤◌, List, All, Any, Bool}
+use Rattle.std.specs.Prelude.{true, false, Contains}
 use Rattle.sysmem_counts.specs.Counts.{IsCountLine}
 use Rattle.sysmem_counts.specs.declared.field.Field.{Field}
-use Rattle.sysmem_counts.specs.declared.field.Field.TheVariants.{MaxBufferCount, PixelFormat, ColorSpaces, MaxSizeBytes, UnnamedPixelFormat, UnnamedPixelFormatModifier, UnnamedColorSpace}
+use Rattle.sysmem_counts.specs.declared.field.Field.TheVariants.{MaxBufferCount, PixelFormat}
+use Rattle.sysmem_counts.specs.declared.field.Field.TheVariants.{ColorSpaces, MaxSizeBytes}
+use Rattle.sysmem_counts.specs.declared.field.Field.TheVariants.{UnnamedPixelFormat}
+use Rattle.sysmem_counts.specs.declared.field.Field.TheVariants.{UnnamedPixelFormatModifier}
+use Rattle.sysmem_counts.specs.declared.field.Field.TheVariants.{UnnamedColorSpace}
 use Rattle.sysmem_formats.specs.declared.offer.Offer.{Offer}
 use Rattle.sysmem_formats.specs.declared.offer.Offer.TheVariants.{NoImage}
 use Rattle.sysmem_formats.specs.Layout.{image_bytes_of}
 use Rattle.sysmem_image.specs.declared.bounds.ImageBounds.{ImageBounds}
-use Rattle.sysmem_image.specs.Lines.{FitsWidth, FitsHeight, FitsRow, AlignmentsMeet, DivisorsMeet, IsBoundsLine}
+use Rattle.sysmem_image.specs.Lines.{FitsWidth, FitsHeight, FitsRow}
+use Rattle.sysmem_image.specs.Lines.{AlignmentsMeet, DivisorsMeet, IsBoundsLine}
 use Rattle.sysmem_memory.specs.Place.{HasNoPlace}
 use Rattle.sysmem_merge.specs.declared.reason.Reason.{Reason}
 use Rattle.sysmem_merge.specs.declared.reason.Reason.TheVariants.{Count, NoPlace, NoOffer}
 use Rattle.sysmem_merge.specs.Demands.{OfferDemand, counts_asked, place_demands, offer_demands}
-use Rattle.sysmem_merge.specs.Offers.{has_format, has_colour, bounds_asked, is_format_named, is_modifier_named, is_colour_named}
+use Rattle.sysmem_merge.specs.Offers.{has_format, has_colour, bounds_asked}
+use Rattle.sysmem_merge.specs.Offers.{is_format_named, is_modifier_named, is_colour_named}
 use Rattle.sysmem_sanitise.specs.Participant.{Participant}
 use Rattle.sysmem_sanitise.specs.Platform.{PlatformFacts, offers_of}
 
--- no size holds the corner of these bounds, is large enough for each participant and small enough for each
+-- no size holds the corner of these bounds, is large enough for each
+-- participant and small enough for each
 abbrev pub SizeAbove : Offer → List ImageBounds → List OfferDemand → Type 0
 SizeAbove o es ds = (w h r n : ℕ) → FitsWidth o es w → FitsHeight o es h → FitsRow o es w r
     → image_bytes_of o r h ≤ n → 1 ≤ n → n < 2 ^ 64
@@ -26,7 +34,8 @@ SizeAbove o es ds = (w h r n : ℕ) → FitsWidth o es w → FitsHeight o es h �
 abbrev pub IsOfferLine : Field → Offer → List OfferDemand → Type 0
 IsOfferLine PixelFormat o ds = Any (λ d. has_format o d ≡ false) ds
 IsOfferLine ColorSpaces o ds = Any (λ d. has_colour o d ≡ false) ds
-IsOfferLine MaxSizeBytes o ds = AlignmentsMeet o (bounds_asked o ds) × DivisorsMeet o (bounds_asked o ds) × SizeAbove o (bounds_asked o ds) ds
+IsOfferLine MaxSizeBytes o ds = AlignmentsMeet o (bounds_asked o ds)
+    × DivisorsMeet o (bounds_asked o ds) × SizeAbove o (bounds_asked o ds) ds
 IsOfferLine field o ds = IsBoundsLine field o (bounds_asked o ds)
 
 -- no participant names the format, the modifier or the colour space of an image
@@ -36,9 +45,12 @@ IsUnnamedLine UnnamedPixelFormatModifier o ds = (o ≢ NoImage) × (is_modifier_
 IsUnnamedLine UnnamedColorSpace o ds = (o ≢ NoImage) × (is_colour_named o ds ≡ false)
 IsUnnamedLine _ o ds = ⊥
 
--- a line is true of the participants for the offer; an unnamed one counts where they are all that a decision has
+-- a line is true of the participants for the offer; an unnamed one counts where
+-- they are all that a decision has
 abbrev pub IsOfferRefused : Bool → Offer → List OfferDemand → Type 0
-IsOfferRefused whole o ds = ((field : Field) × IsOfferLine field o ds) ⊎ ((whole ≡ true) × ((field : Field) × IsUnnamedLine field o ds))
+IsOfferRefused whole o ds =
+    ((field : Field) × IsOfferLine field o ds)
+    ⊎ ((whole ≡ true) × ((field : Field) × IsUnnamedLine field o ds))
 
 -- each offer of a list is refused
 abbrev pub AreOffersRefused : Bool → List Offer → List OfferDemand → Type 0
@@ -58,6 +70,8 @@ reason_rank NoPlace = 2
 reason_rank NoOffer = 3
 
 -- a reason that is true of the participants, where none before it is
-pub record IsFirstReason (whole : Bool) (platform : PlatformFacts) (ps : List Participant) (reason : Reason) : Type 0 where
+pub record IsFirstReason (whole : Bool) (platform : PlatformFacts) (ps : List Participant)
+    (reason : Reason) : Type 0 where
   pub holds : IsReason whole platform ps reason
-  pub first : (other : Reason) → reason_rank other < reason_rank reason → ¬ (IsReason whole platform ps other)
+  pub first : (other : Reason) → reason_rank other < reason_rank reason
+      → ¬ (IsReason whole platform ps other)

@@ -1,4 +1,5 @@
--- When settings meet participants. Settings in a definition are any numbers, so what fits their types is said.
+-- When settings meet participants. Settings in a definition are any numbers,
+-- so what fits their types is said.
 use Rattle.std.specs.Prelude.{◌≡◌, List, All, Bool, true, false, Some, Contains, slice_get}
 use Rattle.sysmem_counts.specs.Counts.{IsCounted}
 use Rattle.sysmem_formats.specs.declared.offer.Offer.{Offer}
@@ -12,8 +13,8 @@ use Rattle.sysmem_merge.specs.Offers.{is_named}
 use Rattle.sysmem_sanitise.specs.Participant.{Participant}
 use Rattle.sysmem_sanitise.specs.Platform.{PlatformFacts, offers_of}
 
--- settings that the platform can provide: its offer, one of its places, in this heap, and a size that holds an image
--- which the bounds admit and which is as large as they ask for
+-- settings that the platform can provide: its offer, one of its places, in this heap, and a size
+-- that holds an image which the bounds admit and which is as large as they ask for
 pub record IsSound (platform : PlatformFacts) (heap : HeapFacts) (s : Settings) : Type 0 where
   pub offer : Contains (offers_of platform) s.offer
   pub place : IsPlace platform.heaps s.place heap
@@ -30,12 +31,14 @@ pub record CoversOn (platform : PlatformFacts) (s : Settings) (p : Participant) 
   pub has : slice_get platform.heaps s.place.heap ≡ Some heap
   pub covers : Covers heap s p
 
--- no image needs no name: an image's format, modifier and colour space each need a participant that names it
+-- no image needs no name: an image's format, modifier and colour space each
+-- need a participant that names it
 abbrev pub IsNamed : Offer → List Participant → Type 0
 IsNamed o ps = is_named o (offer_demands ps) ≡ true
 
 -- settings that meet all of these participants, but for the names of the image
-pub record MeetsLoosely (platform : PlatformFacts) (ps : List Participant) (s : Settings) : Type 0 where
+pub record MeetsLoosely (platform : PlatformFacts) (ps : List Participant)
+    (s : Settings) : Type 0 where
   pub heap : HeapFacts
   pub sound : IsSound platform heap s
   pub covers : All (Covers heap s) ps
@@ -46,7 +49,8 @@ pub record Meets (platform : PlatformFacts) (ps : List Participant) (s : Setting
   pub loosely : MeetsLoosely platform ps s
   pub named : IsNamed s.offer ps
 
--- whole: the participants are all that a decision has, so that each part of the image's name has to be named by some of them
+-- whole: the participants are all that a decision has, so that each part of the image's
+-- name has to be named by some of them
 abbrev pub MeetsAs : Bool → PlatformFacts → List Participant → Settings → Type 0
 MeetsAs true = Meets
 MeetsAs false = MeetsLoosely

@@ -9,5 +9,6 @@ pub record ShareFacts : Type 0 where
   pub sum : SumFacts
 
 -- the share is that of these participants on the platform
-pub record IsShareOf (share : ShareFacts) (platform : PlatformFacts) (ps : List Participant) : Type 0 where
+pub record IsShareOf (share : ShareFacts) (platform : PlatformFacts)
+    (ps : List Participant) : Type 0 where
   pub sums : SumsUp share.sum platform ps

@@ -1,4 +1,5 @@
--- What is kept of participants apart from their platform: of those that a prefix settles, and of those that one choice does.
+-- What is kept of participants apart from their platform: of those that a prefix settles,
+-- and of those that one choice does.
 use Rattle.std.specs.Prelude.{◌≡◌, ℕ, List, length, Bool, IsPermutation}
 use Rattle.sysmem_counts.specs.Bounds as counts
 use Rattle.sysmem_counts.specs.Tally.{Tally}
@@ -15,7 +16,8 @@ use Rattle.sysmem_merge.specs.Settings.{MeetsAs}
 use Rattle.sysmem_sanitise.specs.Participant.{Participant}
 use Rattle.sysmem_sanitise.specs.Platform.{PlatformFacts}
 
--- what is kept of counts, of places, of the offer of no image, of pairs and of sizes; how many participants they are
+-- what is kept of counts, of places, of the offer of no image, of pairs and of
+-- sizes; how many participants they are
 pub record SumFacts : Type 0 where
   pub counts : Tally
   pub places : List CoherencyDomains

@@ -75,7 +75,8 @@ impl<'p> Aggregate<'p> {
         self.platform
     }
 
-    /// An aggregate that is equal to this one, in memory of its own. It fails where memory is refused.
+    /// An aggregate that is equal to this one, in memory of its own.
+    /// It fails where memory is refused.
     pub fn copy(&self) -> Result<Aggregate<'p>, AllocError>
         ensures { IfOk result (λ copy. copy ≡ self.now) }
     {
@@ -91,7 +92,8 @@ impl<'p> Aggregate<'p> {
         })
     }
 
-    /// Adds one more participant, where fewer than 1,024 were added. It takes no memory, so it isn't refused.
+    /// Adds one more participant, where fewer than 1,024 were added. It
+    /// takes no memory, so it isn't refused.
     pub fn add(&mut self, asked: &Constraints) -> Result<(), AllocError>
         requires { self.old.added < 1024 }
         ensures ok { (platform : PlatformFacts) (ps : List Participant)
@@ -111,10 +113,11 @@ impl<'p> Aggregate<'p> {
         Ok(())
     }
 
-    /// The best settings for the participants that were added: the first offer, then the first place, the least count, and for
-    /// these the least size and the merged bounds. Where no settings meet them, the first reason that is true of them.
-    /// `whole` says that they are all that a decision has, so that an image's format, modifier and colour space must each be
-    /// named by some of them.
+    /// The best settings for the participants that were added: the first offer, then the
+    /// first place, the least count, and for these the least size and the merged bounds.
+    /// Where no settings meet them, the first reason that is true of them. `whole` says that
+    /// they are all that a decision has, so that an image's format, modifier and colour space
+    /// must each be named by some of them.
     pub fn best_settings(&self, whole: bool) -> Result<Settings, Reason>
         ensures best { (platform : PlatformFacts) (ps : List Participant)
             → StandsFor self.now platform ps

@@ -8,7 +8,8 @@ ghost use Rattle.sysmem_merge.specs.Pairs.{colour_bit, has, says_format, says_mo
 use sysmem_formats::ColourSpace;
 use sysmem_image::ColourSet;
 
-/// Some of the eight colour spaces, a bit each; above them, whether somebody names a pair's format and its modifier.
+/// Some of the eight colour spaces, a bit each; above them, whether somebody names
+/// a pair's format and its modifier.
 #[derive(Clone, Copy, Debug, PartialEq, Eq)]
 pub(crate) struct Colours {
     bits: u32,

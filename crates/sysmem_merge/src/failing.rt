@@ -17,9 +17,9 @@ use sysmem_image::{Entry, entry_for, first_failing, keeps_field, takes_colour};
 use sysmem_memory::{HeapInfo, MemoryConstraints, refuses, refuses_in};
 use sysmem_sanitise::{Constraints, Platform};
 
-/// The first field in which the settings fail the participant: its entries' formats, their colour spaces, the bounds of
-/// its entry for the offer in their table's order, its least and its greatest size, then what refuses their place.
-/// `None` where the participant accepts them.
+/// The first field in which the settings fail the participant: its entries' formats, their colour
+/// spaces, the bounds of its entry for the offer in their table's order, its least and its greatest
+/// size, then what refuses their place. `None` where the participant accepts them.
 ///
 /// The platform must have the settings' heap.
 pub fn first_uncovered(
@@ -49,7 +49,8 @@ pub fn first_uncovered(
     )
 }
 
-/// Whether the settings fail the participant in the field. False where the platform has no heap of their index.
+/// Whether the settings fail the participant in the field. False where the
+/// platform has no heap of their index.
 pub fn fails_in(field: Field, platform: &Platform, settings: &Settings, asked: &Constraints) -> bool
     ensures { IsTrue result ↔ FailsOn field platform.now settings.now asked.now }
 {
@@ -84,7 +85,8 @@ fn has_format(settings: &Settings, entries: &[Entry]) -> bool
     entries.is_empty() || entry_for(entries, &settings.offer).is_some()
 }
 
-/// Whether the participant's entry for the settings' offer, if it has one, takes the offer's colour space.
+/// Whether the participant's entry for the settings' offer, if it has
+/// one, takes the offer's colour space.
 fn has_colour(settings: &Settings, entries: &[Entry]) -> bool
     ensures { (d : OfferDemand) → d.entries ≡ entries.now
         → result ≡ has_colour settings.now.offer d }
@@ -95,7 +97,8 @@ fn has_colour(settings: &Settings, entries: &[Entry]) -> bool
     }
 }
 
-/// Whether the settings fail the participant's entry for their offer, if it has one, in the bound of this name.
+/// Whether the settings fail the participant's entry for their offer, if it
+/// has one, in the bound of this name.
 fn fails_bound_of(field: Field, settings: &Settings, entries: &[Entry]) -> bool
     ensures { (d : OfferDemand) → d.entries ≡ entries.now
         → IsTrue result ↔ IsSomeAnd (entry_bounds settings.now.offer d)
@@ -107,7 +110,8 @@ fn fails_bound_of(field: Field, settings: &Settings, entries: &[Entry]) -> bool
     }
 }
 
-/// The first of the offer's fields and bounds in which the settings fail a participant with these entries.
+/// The first of the offer's fields and bounds in which the settings fail
+/// a participant with these entries.
 fn failing_offer(settings: &Settings, entries: &[Entry]) -> Option<Field>
     ensures first { (heap : HeapFacts) (p : Participant) → p.entries ≡ entries.now
         → IfSome result (λ field.

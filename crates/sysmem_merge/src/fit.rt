@@ -11,7 +11,8 @@ use sysmem_counts::Field;
 use sysmem_formats::Offer;
 use sysmem_image::{ImageBounds, corner};
 
-/// What settings say of images: an offer, the bounds on its images, and a buffer's size for it in bytes.
+/// What settings say of images: an offer, the bounds on its images, and
+/// a buffer's size for it in bytes.
 #[derive(Clone, Copy, Debug, PartialEq, Eq)]
 pub struct Fit {
     pub offer: Offer,
@@ -19,9 +20,9 @@ pub struct Fit {
     pub size_bytes: u64,
 }
 
-/// The offer with the participants' merged bounds and the least size in bytes, at least 1, that holds the bounds' corner and
-/// that the participants take, from `least_size` to `greatest_size`. Where nothing of the offer suits them, the field
-/// whose line in the table of conflicts is true.
+/// The offer with the participants' merged bounds and the least size in bytes, at least 1, that
+/// holds the bounds' corner and that the participants take, from `least_size` to `greatest_size`.
+/// Where nothing of the offer suits them, the field whose line in the table of conflicts is true.
 pub(crate) fn best_fit(
     kept: &KeptBounds,
     offer: &Offer,

@@ -121,7 +121,8 @@ impl KeptBounds {
         }
     }
 
-    /// Keeps the bounds of one more participant's entry for the offer, whatever its colour spaces are.
+    /// Keeps the bounds of one more participant's entry for the
+    /// offer, whatever its colour spaces are.
     pub(crate) fn merge(&mut self, offer: &Offer, entry: &Entry)
         ensures merged { (b : ImageBounds) → self.old ≡ Merged b
             → IsMergedWith offer.now entry.now b self.new }
@@ -135,7 +136,8 @@ impl KeptBounds {
         }
     }
 
-    /// Joins the bounds for more participants; refused where those of either are, or have no common multiple.
+    /// Joins the bounds for more participants; refused where those of either
+    /// are, or have no common multiple.
     pub(crate) fn join(&mut self, more: &KeptBounds)
         ensures { (o : Offer) (ds es : List OfferDemand) → AreKeptBounds o ds self.old
             → AreKeptBounds o es more.now → AreKeptBounds o (ds ++ es) self.new }
@@ -177,7 +179,8 @@ impl KeptBounds {
         }
     }
 
-    /// Becomes refused for a field, whatever it was. Where it is refused already, only the field is written.
+    /// Becomes refused for a field, whatever it was. Where it is refused
+    /// already, only the field is written.
     fn become_refused(&mut self, field: Field)
         ensures { self.new ≡ Refused field }
     {

@@ -15,19 +15,21 @@ pub fn one_fit()
     ensures { OneFit }
 {}
 
-/// A reason that is true of participants leaves them no settings; nor to more participants, whatever their order, if it
-/// doesn't rest on what none of them names.
+/// A reason that is true of participants leaves them no settings; nor to more participants,
+/// whatever their order, if it doesn't rest on what none of them names.
 pub fn reason_leaves_none()
     ensures these { ReasonLeavesNone }
     ensures more { ReasonOfSomeLeavesNone }
 {}
 
-/// A line that is true of some of the participants for an offer leaves no settings with that offer to all of them.
+/// A line that is true of some of the participants for an offer leaves no
+/// settings with that offer to all of them.
 pub fn offer_line_leaves_none()
     ensures { OfferLineLeavesNone }
 {}
 
-/// A place that a field refuses to one of some of the participants is the place of no settings for all of them.
+/// A place that a field refuses to one of some of the participants is the
+/// place of no settings for all of them.
 pub fn place_line_leaves_none()
     ensures { PlaceLineLeavesNone }
 {}
@@ -57,13 +59,14 @@ pub fn unmet_by_some()
     ensures { UnmetBySome }
 {}
 
-/// A true line of `max_size_bytes` leaves the participants no size, with bounds that keep to theirs in the fields that it
-/// reads.
+/// A true line of `max_size_bytes` leaves the participants no size, with bounds that keep to
+/// theirs in the fields that it reads.
 pub fn size_line_holds()
     ensures { SizeLineHolds }
 {}
 
-/// A sum of participants is their sum in any order, so that a search may join the shares of choices in the order of choices.
+/// A sum of participants is their sum in any order, so that a search may join the shares of
+/// choices in the order of choices.
 pub fn sums_in_any_order()
     ensures { SumsInAnyOrder }
 {}

@@ -1,4 +1,5 @@
-//! The best settings for a flat list of participants on a platform, or the reason why none meet them.
+//! The best settings for a flat list of participants on a platform,
+//! or the reason why none meet them.
 //!
 //! ```
 //! let mut aggregate = Aggregate::new(rt.alloc(), &platform)?;

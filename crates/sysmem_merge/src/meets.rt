@@ -11,10 +11,11 @@ use sysmem_image::{Entry, entry_for, first_failing, takes_colour};
 use sysmem_memory::{HeapInfo, MemoryConstraints, refuses};
 use sysmem_sanitise::{Constraints, Platform};
 
-/// Whether the participant accepts the settings: it has an entry for their offer, with its colour space, or no entries at
-/// all; their bounds keep to that entry's; nothing that it says of memory, nor its usage, refuses their place, and their
-/// size is from its least to its greatest. False where the platform has no heap of that index. How many buffers
-/// there are isn't one participant's to accept, nor is it tested whether the platform can provide them.
+/// Whether the participant accepts the settings: it has an entry for their offer, with its colour
+/// space, or no entries at all; their bounds keep to that entry's; nothing that it says of memory,
+/// nor its usage, refuses their place, and their size is from its least to its greatest. False
+/// where the platform has no heap of that index. How many buffers there are isn't one participant's
+/// to accept, nor is it tested whether the platform can provide them.
 pub fn meets_one(platform: &Platform, settings: &Settings, asked: &Constraints) -> bool
     ensures { IsTrue result ↔ CoversOn platform.now settings.now asked.now }
 {
@@ -26,7 +27,8 @@ pub fn meets_one(platform: &Platform, settings: &Settings, asked: &Constraints) 
         && accepts_offer(settings, asked.entries())
 }
 
-/// Whether nothing that the participant says of memory, nor its usage, refuses the settings' coherency domain of the heap.
+/// Whether nothing that the participant says of memory, nor its usage, refuses the
+/// settings' coherency domain of the heap.
 fn accepts_place(settings: &Settings, heap: &HeapInfo, asked: &Constraints) -> bool
     ensures { IsTrue result
         ↔ AllowsPlace asked.now.memory asked.now.usage heap.now settings.now.place.coherency }
@@ -43,7 +45,8 @@ fn accepts_size(size_bytes: u64, memory: &MemoryConstraints) -> bool
     memory.min_size_bytes <= size_bytes && size_bytes <= memory.max_size_bytes
 }
 
-/// Whether the participant's entries take the settings' offer, with its colour space, and their bounds.
+/// Whether the participant's entries take the settings' offer, with
+/// its colour space, and their bounds.
 fn accepts_offer(settings: &Settings, entries: &[Entry]) -> bool
     ensures { (d : OfferDemand) → d.entries ≡ entries.now
         → IsTrue result ↔ AcceptsOffer settings.now.offer settings.now.bounds d }

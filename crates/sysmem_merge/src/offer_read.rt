@@ -36,8 +36,8 @@ macro_rules! offer_lines {
     };
 }
 
-/// What participants ask of one offer, of which each line of the conflict table can be asked: also the lines
-/// behind the first that is true, as a certificate may give any of them.
+/// What participants ask of one offer, of which each line of the conflict table can be asked: also
+/// the lines behind the first that is true, as a certificate may give any of them.
 #[derive(Clone, Copy, Debug)]
 pub struct OfferRead {
     offer: Offer,
@@ -85,8 +85,9 @@ impl OfferRead {
         }
     }
 
-    /// Whether the line of the conflict table that the field heads is true of the participants, in exact
-    /// arithmetic. False of a field that heads no line of an offer; of unnamed lines see `is_unnamed`.
+    /// Whether the line of the conflict table that the field heads is true of the
+    /// participants, in exact arithmetic. False of a field that heads no line of an offer;
+    /// of unnamed lines see `is_unnamed`.
     pub fn is_line(&self, field: Field) -> bool
         ensures { (o : Offer) (ds : List OfferDemand) → IsOfferRead o ds self.now
             → IsTrue result ↔ IsOfferLine field o ds }
@@ -100,8 +101,8 @@ impl OfferRead {
     }
 
     /// Whether no participant names the part of an image's name that the field speaks of:
-    /// `UnnamedPixelFormat`, `UnnamedPixelFormatModifier` or `UnnamedColorSpace`. False of another field, and
-    /// where there is no image.
+    /// `UnnamedPixelFormat`, `UnnamedPixelFormatModifier` or `UnnamedColorSpace`. False of another
+    /// field, and where there is no image.
     pub fn is_unnamed(&self, field: Field) -> bool
         ensures { (o : Offer) (ds : List OfferDemand) → IsOfferRead o ds self.now
             → IsTrue result ↔ IsUnnamedLine field o ds }
@@ -117,10 +118,10 @@ impl OfferRead {
         }
     }
 
-    /// The first line, in the table's order, that is true of the participants, or `None` where some size and
-    /// bounds of the offer suit all of them. `whole` says that they are all that a decision has, so that an
-    /// image's format, modifier and colour space must each be named by some of them: then the lines of what
-    /// nobody names count too.
+    /// The first line, in the table's order, that is true of the participants, or `None` where some
+    /// size and bounds of the offer suit all of them. `whole` says that they are all that a
+    /// decision has, so that an image's format, modifier and colour space must each be named by
+    /// some of them: then the lines of what nobody names count too.
     pub fn first_line(&self, whole: bool) -> Option<Field>
         ensures first { (o : Offer) (ds : List OfferDemand) → IsOfferRead o ds self.now
             → IfSome result (IsFirstOf (IsRefusingLine whole o ds) offer_lines) }
@@ -136,8 +137,8 @@ impl OfferRead {
         self.first_of(&lines, whole)
     }
 
-    /// The least size, and the least bounds, of the offer that suit the participants, but for the names of
-    /// the image. `None` where a line is true of them.
+    /// The least size, and the least bounds, of the offer that suit the participants, but for the
+    /// names of the image. `None` where a line is true of them.
     pub fn least_fit(&self) -> Option<Fit>
         ensures best { (o : Offer) (ds : List OfferDemand) → IsOfferRead o ds self.now
             → IfSome result (IsBestFit o ds) }
@@ -177,7 +178,8 @@ impl OfferRead {
         self.colour_named = self.colour_named || names_colour(&offer, entry);
     }
 
-    /// Whether each size that holds the least image and that all find large enough is too large for one.
+    /// Whether each size that holds the least image and that all find
+    /// large enough is too large for one.
     fn is_too_large(&self) -> bool
         ensures { (o : Offer) (ds : List OfferDemand) → IsOfferRead o ds self.now
             → IsTrue result ↔ IsOfferLine MaxSizeBytes o ds }

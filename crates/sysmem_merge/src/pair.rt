@@ -1,4 +1,5 @@
-//! What is kept of a pair for the participants that were added: of its offers, one for each colour space.
+//! What is kept of a pair for the participants that were added: of its
+//! offers, one for each colour space.
 
 ghost use Rattle.std.specs.Prelude.{◌≡◌, ◌&&◌, [], ◌++◌, ◌∷◌, List, Some, true};
 ghost use Rattle.sysmem_formats.specs.declared.colour_space.ColourSpace.{ColourSpace as Colour};
@@ -19,7 +20,8 @@ use sysmem_counts::Field;
 use sysmem_formats::{ColourSpace, Offer, Pair};
 use sysmem_image::{Entry, FirstMatches, ImageBounds};
 
-/// What is kept of a pair: the bounds on its images, and the colour spaces and the parts of its name that participants take or name.
+/// What is kept of a pair: the bounds on its images, and the colour spaces and the parts of its
+/// name that participants take or name.
 #[derive(Clone, Copy, Debug)]
 pub(crate) struct KeptPair {
     /// The bounds in each colour space that everybody takes.
@@ -28,7 +30,8 @@ pub(crate) struct KeptPair {
     pub is_plain: bool,
     /// The colour spaces that everybody takes.
     pub taken: Colours,
-    /// The colour spaces that somebody names, and whether somebody names its format and its modifier.
+    /// The colour spaces that somebody names, and whether somebody
+    /// names its format and its modifier.
     pub named: Colours,
 }
 
@@ -96,8 +99,8 @@ impl KeptPair {
         self.named.has_pair() && self.named.has(colour)
     }
 
-    /// Becomes what is kept for the participants above, then more, whatever was kept of the pair. Where all three have plain
-    /// bounds, these are as they are to be.
+    /// Becomes what is kept for the participants above, then more, whatever was kept of the pair.
+    /// Where all three have plain bounds, these are as they are to be.
     pub(crate) fn join_of(&mut self, above: &KeptPair, more: &KeptPair)
         ensures { (pair : APair) (others ds es : List OfferDemand)
             → IsPairKept pair others self.old → IsPairKept pair ds above.now
@@ -110,7 +113,8 @@ impl KeptPair {
         self.named = above.named.in_either(&more.named);
     }
 
-    /// Takes the bounds of the participants above, then more, whatever they were. Bounds that are plain add nothing.
+    /// Takes the bounds of the participants above, then more, whatever they were.
+    /// Bounds that are plain add nothing.
     fn join_bounds(&mut self, above: &KeptPair, more: &KeptPair)
         ensures bounds { (pair : APair) (ds es : List OfferDemand) (c : Colour)
             → IsPairKept pair es more.now → AreKeptBounds (Image pair c) ds above.now.bounds
@@ -135,7 +139,8 @@ fn any_offer(pair: Pair) -> Offer
     Offer::Image(pair, ColourSpace::Srgb)
 }
 
-/// Whether the bounds that an entry puts on an offer, whichever it is, are the absent values, to which any others keep.
+/// Whether the bounds that an entry puts on an offer, whichever it is, are the absent
+/// values, to which any others keep.
 fn asks_nothing(entry: &Entry) -> bool
     ensures { result ≡ true → (o : AnOffer) → IsOwn NoImage (effective o entry.now) }
 {

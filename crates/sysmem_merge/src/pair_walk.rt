@@ -107,8 +107,8 @@ fn fit_of_pair(
     None
 }
 
-/// The least size and bounds of the pair's offer in a colour space that suit the participants, if it is named where
-/// that is asked for.
+/// The least size and bounds of the pair's offer in a colour space that suit the participants, if
+/// it is named where that is asked for.
 fn fit_in_colour(
     kept: &KeptPair,
     pair: Pair,

@@ -32,7 +32,8 @@ impl Share {
         Ok(Share { sum })
     }
 
-    /// Adds one more participant, where fewer than 1,024 were added. The platform is that of `new`. It takes no memory.
+    /// Adds one more participant, where fewer than 1,024 were added. The platform is
+    /// that of `new`. It takes no memory.
     pub fn add(&mut self, platform: &Platform, asked: &Constraints)
         requires { self.old.sum.added < 1024 }
         ensures asks { (ps : List Participant) → IsShareOf self.old platform.now ps

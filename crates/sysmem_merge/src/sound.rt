@@ -15,9 +15,9 @@ use sysmem_image::{ImageBounds, corner, suits};
 use sysmem_memory::Place;
 use sysmem_sanitise::Platform;
 
-/// Whether the platform can provide the settings: their offer is one of its own and their place one of its
-/// places, their size is at least 1 and holds an image which their bounds admit and which is as large as
-/// these ask for, and without an image their bounds are those of no entry.
+/// Whether the platform can provide the settings: their offer is one of its own and their place one
+/// of its places, their size is at least 1 and holds an image which their bounds admit and which is
+/// as large as these ask for, and without an image their bounds are those of no entry.
 pub fn is_sound(platform: &Platform, settings: &Settings) -> bool
     ensures { IsTrue result
         ↔ ((heap : HeapFacts) × IsSound platform.now heap settings.now) }
@@ -63,8 +63,8 @@ fn is_own(offer: &Offer, bounds: &ImageBounds) -> bool
     }
 }
 
-/// Whether the bounds suit the offer and admit an image that is as large as they ask for, and that lies in
-/// the size.
+/// Whether the bounds suit the offer and admit an image that is as large as they
+/// ask for, and that lies in the size.
 fn holds_image(offer: &Offer, bounds: &ImageBounds, size_bytes: u64) -> bool
     ensures { IsTrue result ↔ HoldsImage offer.now bounds.now size_bytes }
 {

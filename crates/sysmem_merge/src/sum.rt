@@ -1,4 +1,5 @@
-//! What participants ask for together, apart from their platform: what a search keeps of each prefix of choices.
+//! What participants ask for together, apart from their platform: what a search
+//! keeps of each prefix of choices.
 
 ghost use Rattle.std.specs.Prelude.{◌≡◌, ◌+◌, ◌<◌, ◌≤◌, ◌++◌, List, [], ◌∷◌, IfOk, IfErr, OnOk};
 ghost use Rattle.sysmem_merge.specs.Best.{IsBest, IsUnmet};
@@ -22,7 +23,8 @@ use sysmem_image::FirstMatches;
 use sysmem_memory::MemoryBounds;
 use sysmem_sanitise::{Constraints, Platform};
 
-/// What participants ask for together. A search reserves one for each level of choices, so that a prefix takes no memory.
+/// What participants ask for together. A search reserves one for each level of choices,
+/// so that a prefix takes no memory.
 #[derive(Debug, Drop)]
 pub struct Sum {
     counts: CountBounds,
@@ -90,8 +92,9 @@ impl Sum {
         self.added += 1;
     }
 
-    /// Becomes the sum of the participants above, then those of a share, whatever it was the sum of. All three were made for
-    /// this platform, and the participants are at most 1,024. It takes no memory.
+    /// Becomes the sum of the participants above, then those of a share, whatever it
+    /// was the sum of. All three were made for this platform, and the participants are
+    /// at most 1,024. It takes no memory.
     pub fn join_of(&mut self, platform: &Platform, above: &Sum, share: &Share)
         requires { above.now.added + share.now.sum.added ≤ 1024 }
         ensures sums { (others ps qs : List Participant) → SumsUp self.old platform.now others
@@ -111,8 +114,9 @@ impl Sum {
         self.added = above.added + more.added;
     }
 
-    /// The best settings for the participants, or the first reason why none meet them: those that an aggregate of the same
-    /// participants gives. The platform is the one that it was made for. It takes no memory.
+    /// The best settings for the participants, or the first reason why none meet them:
+    /// those that an aggregate of the same participants gives. The platform is the one that
+    /// it was made for. It takes no memory.
     pub fn best_settings(&self, platform: &Platform, whole: bool) -> Result<Settings, Reason>
         ensures best { (ps : List Participant) → SumsUp self.now platform.now ps
             → IfOk result (IsBest whole platform.now ps) }
@@ -148,9 +152,10 @@ impl Sum {
         })
     }
 
-    /// Whether some settings meet the participants; where none do, the first reason that is true of them. `whole` says
-    /// that they are all that a decision has, so that an image's format, modifier and colour space must each be named by
-    /// some of them. The platform is the one that it was made for. It takes no memory.
+    /// Whether some settings meet the participants; where none do, the first reason that is true of
+    /// them. `whole` says that they are all that a decision has, so that an image's format,
+    /// modifier and colour space must each be named by some of them. The platform is the one that
+    /// it was made for. It takes no memory.
     pub fn ask(&self, platform: &Platform, whole: bool) -> Result<(), Reason>
         ensures met { (ps : List Participant) → SumsUp self.now platform.now ps
             → OnOk result (IsMet whole platform.now ps) }

@@ -61,7 +61,8 @@ fn fit_at(
     fit_of(kept, &offer, least_size, greatest_size, whole)
 }
 
-/// The least size and bounds of an offer that suit the participants, if it is named where that is asked for.
+/// The least size and bounds of an offer that suit the participants, if it
+/// is named where that is asked for.
 pub(crate) fn fit_of(
     kept: &KeptOffer,
     offer: &Offer,

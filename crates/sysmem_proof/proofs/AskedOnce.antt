@@ -1,4 +1,5 @@
--- What is kept of a participant's answer is what the participant says, and what the participant says may be kept.
+-- What is kept of a participant's answer is what the participant says, and what
+-- the participant says may be kept.
 use Rattle.std.proofs.Common.{◌≡◌, ◌<◌, ℕ, List, Option, Some, None, length, slice_get, sym, subst}
 use Rattle.std.specs.Prelude.{IfSome}
 use Rattle.std.proofs.lemmas.Option.{same_Some}

@@ -1,4 +1,5 @@
--- What callers need of verdicts: what a search by recursion over the choices for the first group shows.
+-- What callers need of verdicts: what a search by recursion over the
+-- choices for the first group shows.
 use Rattle.std.proofs.Common.{◌≡◌, inl, inr, arith, ℕ, ◌+◌, ◌<◌, List, [], ◌∷◌, ◌++◌, length, Some, None, slice_get, refl, sym, ◌∙◌, ap, subst}
 use Rattle.std.proofs.lemmas.Bool.{cases_order}
 use Rattle.std.proofs.lemmas.Option.{same_Some}

@@ -86,7 +86,8 @@ module _ (laws : LineLaws) (platform : PlatformFacts) where
       (stands_before platform.heaps t.place m.heap refuse.places.each.before refuse.places.each.behind refuse.places.at m.sound.place refuse.places.each.there (rw refuse.places.same earlier)) in
       place_refused laws platform true ms ms p line.0 t (sub_itself ms) m.sound.place refl line.1 met
 
-  -- the least settings of their offer in their place are the best, where all offers and places before are refused
+  -- the least settings of their offer in their place are the best, where all
+  -- offers and places before are refused
   least_is_best : (ms : List Member) (s : Settings) (c : CertificateFacts) → IsLeastAt platform (participants ms) s → RefuseBefore platform ms s c
       → IsBest true platform (participants ms) s
   least_is_best ms s c least refuse = record {

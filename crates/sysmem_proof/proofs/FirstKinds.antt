@@ -1,4 +1,5 @@
--- Which kind of conflict comes first: a count line, a line for each place, or a line for each offer.
+-- Which kind of conflict comes first: a count line, a line for each
+-- place, or a line for each offer.
 use Rattle.std.proofs.Common.{◌≡◌, ◌<◌, ◌≤◌, inl, inr, ℕ, zero, suc, Bool, true, false, List, [], ◌∷◌, Option, Some, None, slice_get, refl, sym, subst, arith}
 use Rattle.std.specs.Prelude.{◌↔◌, Any, Contains, IfSome, IsSomeAnd, IsTrue, is_none}
 use Rattle.std.specs.List.{AllZip, cons_option}
@@ -154,7 +155,8 @@ refusals_weaker R Q weaker End xs (UpTo lines) e = record {
   end = e.end;
 }
 
--- what is found of an initial domain: lines of all places, where a count suits; or lines of all offers, where lines of places end at one that is shared
+-- what is found of an initial domain: lines of all places, where a count suits; or lines of all
+-- offers, where lines of places end at one that is shared
 module _ (platform : PlatformFacts) (d : Forest Member) (count : ℕ) (counted : IsCounted (counts_asked (participants (settled d))) count) where
   pub places_found : (lines : List LineFacts) → AllZip (IsPlaceLineGiven (settled d)) (places_of platform.heaps) lines → IsFirstConflict platform d (Places lines)
   places_found lines zip = (places_first (is_none (choices d)) platform (settled d) count counted lines zip, zip)

@@ -112,7 +112,8 @@ module _ (one other : Offer) (pair : AreOfPair one other) (whole : Bool) (ds : L
   still_untrue none f passes untrue line = untrue (back f (λ e. none (subst (IsRefusingLine whole other ds) e line))
       (λ e. (let h : not (names_colour UnnamedColorSpace) ≡ true = subst (λ g. not (names_colour g) ≡ true) e passes in absurd (cc))) line)
 
-  -- so the first line for one offer of a pair is the first for another in whose colour space all take theirs
+  -- so the first line for one offer of a pair is the first for another in
+  -- whose colour space all take theirs
   pub first_again : (field : Field) → field ≢ ColorSpaces → field ≢ UnnamedColorSpace → ¬ (IsRefusingLine whole other ds ColorSpaces)
       → IsFirstOf (IsRefusingLine whole one ds) offer_lines field → IsFirstOf (IsRefusingLine whole other ds) offer_lines field
   first_again field takes names none first = record {

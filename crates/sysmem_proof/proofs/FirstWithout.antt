@@ -1,4 +1,5 @@
--- The first of some participants without a property: by their nodes, and among all members for whom these stand.
+-- The first of some participants without a property: by their nodes, and among
+-- all members for whom these stand.
 use Rattle.std.proofs.Common.{◌≡◌, ◌<◌, ◌≤◌, ℕ, zero, suc, ◌+◌, List, [], ◌∷◌, ◌++◌, length, Option, Some, None, take, drop, get_or, slice_get, refl, sym, ◌∙◌, ap, subst, arith}
 use Rattle.std.specs.Prelude.{All, IfSome, IsSomeAnd, option_map}
 use Rattle.std.specs.List.{cons_option}

@@ -1,4 +1,5 @@
--- Which nodes a walk over a layout gives, and those that choices settle, one choice after the other.
+-- Which nodes a walk over a layout gives, and those that choices
+-- settle, one choice after the other.
 use Rattle.std.proofs.Common.{◌≡◌, ◌<◌, ◌≤◌, ℕ, ◌+◌, List, [], ◌∷◌, ◌++◌, Option, Some, length, take, drop, get_or, refl, sym, ◌∙◌, ap, subst, arith, append_assoc, length-append}
 use Rattle.std.specs.Prelude.{All, IsPermutation, MatchOption, option_map, unwrap_or}
 use Rattle.std.proofs.lemmas.List.{take_more, take-append-drop}

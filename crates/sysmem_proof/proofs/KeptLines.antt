@@ -1,4 +1,5 @@
--- Lines that are kept for those who come again, and pairs that are known to be taken in every colour space.
+-- Lines that are kept for those who come again, and pairs that are known
+-- to be taken in every colour space.
 use Rattle.std.proofs.Common.{◌≡◌, ℕ, true, List, [], ◌∷◌, Option, Some, None, sym, ◌∙◌, ap, subst}
 use Rattle.std.specs.Prelude.{◌||◌, All}
 use Rattle.std.specs.Option.{option_map_or}

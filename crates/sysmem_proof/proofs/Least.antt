@@ -35,7 +35,8 @@ no_offer_before_itself os a b same earlier = let below = earlier.before earlier.
 
 module _ (platform : PlatformFacts) (ps : List Participant) (s r : Settings) (place : r.place ≡ s.place) (met : Meets platform ps s) (fit : IsBestFit s.offer (offer_demands ps) (fit_of r))
     (count : IsLeastCount (counts_asked ps) r.count) where
-  -- the best fit and the least count meet participants, in a place in which some settings of the offer do
+  -- the best fit and the least count meet participants, in a place in
+  -- which some settings of the offer do
   by_parts : Meets platform ps r
   by_parts =
       let mine : MeetsLoosely platform ps s = met.loosely in

@@ -1,4 +1,5 @@
--- A line for each of the first of a list, and what fails where one is missing, fails or is too many.
+-- A line for each of the first of a list, and what fails where one
+-- is missing, fails or is too many.
 use Rattle.std.proofs.Common.{◌≡◌, ◌<◌, ◌≤◌, ℕ, zero, suc, ◌+◌, List, [], ◌∷◌, ◌++◌, Some, length, take, get_or, slice_get, inl, inr, refl, sym, ◌∙◌, ap, subst, arith}
 use Rattle.std.specs.List.{AllZip}
 use Rattle.std.proofs.lemmas.List.{take_more, take_all}

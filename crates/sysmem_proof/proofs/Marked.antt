@@ -1,4 +1,5 @@
--- Nodes that are marked by their numbers: who is told of them all, and which paths lead to some of them.
+-- Nodes that are marked by their numbers: who is told of them all, and
+-- which paths lead to some of them.
 use Rattle.std.proofs.Common.{◌≡◌, ◌<◌, ℕ, zero, suc, ◌+◌, Bool, true, false, List, [], ◌∷◌, ◌++◌, Option, Some, None, length, get_or, slice_get, eqb-true, eq-eqb, refl, sym, ◌∙◌, ap, subst, arith, inl, inr}
 use Rattle.std.specs.Prelude.{◌==◌, ◌||◌, ◌⊎◌, if◌then◌else◌, option_and_then}
 use Rattle.std.specs.List.{cons_option, filter_map, list_any}

@@ -38,7 +38,8 @@ named_same (Image pair colour) ds es order =
     ∙ ap (λ t. is_format_named o es && is_modifier_named o es && t) (any_in_order (λ (d : OfferDemand). names_colour o (first_match o d.entries)) ds es order))
 
 module _ (platform : PlatformFacts) (s : Settings) where
-  -- sound settings that each participant accepts, with a count that suits all, and an image that is named
+  -- sound settings that each participant accepts, with a count that
+  -- suits all, and an image that is named
   pub meets_parts : (ps : List Participant) → (heap : HeapFacts) × IsSound platform heap s → All (CoversOn platform s) ps → IsCounted (counts_asked ps) s.count → IsNamed s.offer ps → Meets platform ps s
   meets_parts ps (heap, sound) all counted named = record {
     loosely = record {

@@ -41,7 +41,8 @@ module _ (one two : List ℕ) (first : AreOfPaths one) (second : AreOfPaths two)
   pub joined_are : AreOfPaths (one ++ two)
   joined_are = together ∙ ap numbers_of (sym joined)
 
--- what stands behind the first of some numbers of paths: that many steps, and numbers of the other paths
+-- what stands behind the first of some numbers of paths: that many
+-- steps, and numbers of the other paths
 pub record Begins (many : ℕ) (behind : List ℕ) : Type 0 where
   pub path : List ℕ
   pub paths : List (List ℕ)

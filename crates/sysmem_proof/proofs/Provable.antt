@@ -32,7 +32,8 @@ proved platform terms d verdicts.Failed fit apart optimal = absurd optimal
 proved platform terms d verdicts.NoMemory fit apart optimal = absurd optimal
 
 module _ (one_path : OnePath) (one_forest : OneForest) (members : MembersStandOnce) where
-  -- who is settled in a domain of a tree, and who was accepted before elsewhere, have paths of their own
+  -- who is settled in a domain of a tree, and who was accepted before
+  -- elsewhere, have paths of their own
   apart_in : (nodes : List NodeFacts) (domain : ℕ) (tree : IsTree nodes) (there : HasDomain nodes domain) (platform : PlatformFacts) (base : Option BaseFacts)
       → IsGivenBase platform nodes domain base → Apart (option_map (terms_of nodes) base) (shape_of nodes domain)
   apart_in nodes domain tree there platform None given cs e leads =

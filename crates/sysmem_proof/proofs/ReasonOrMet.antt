@@ -68,7 +68,8 @@ all_greatest f [] = All-nil (λ x. f x ≤ 0)
 all_greatest f (x ∷ xs) = All-cons (λ y. f y ≤ max (f x) (greatest f xs)) x xs (omega arith)
     (All-weaker (λ y. f y ≤ greatest f xs) (λ y. f y ≤ max (f x) (greatest f xs)) (λ y h. omega (arith, h)) xs (all_greatest f xs))
 
--- a number that is neither below what they need nor above a maximum of theirs or the limit suits them
+-- a number that is neither below what they need nor above a maximum
+-- of theirs or the limit suits them
 counted_by : (ps : List CountConstraints) (count : ℕ) → needed ps ≤ count → All (λ p. count ≤ p.max_buffer_count) ps → count ≤ 128 → IsCounted ps count
 counted_by ps count enough within small = record {
   some = omega (arith, enough);

@@ -1,4 +1,5 @@
--- What a line says of an offer in one colour space it says in each, unless it speaks of colour spaces; and what nobody names.
+-- What a line says of an offer in one colour space it says in each, unless it speaks of
+-- colour spaces; and what nobody names.
 use Rattle.std.proofs.Common.{◌≡◌, ◌<◌, ℕ, zero, suc, ◌+◌, Bool, true, false, List, [], ◌∷◌, ◌++◌, Option, refl, sym, subst, arith, inl, inr}
 use Rattle.std.specs.Prelude.{◌≢◌, ◌||◌, ◌⊎◌, ◌↔◌}
 use Rattle.std.specs.List.{cons_option, filter_map, list_any}

@@ -1,4 +1,5 @@
--- Of bounds that a list asks for a line is true, or there is a least image that keeps within all of them.
+-- Of bounds that a list asks for a line is true, or there is a least
+-- image that keeps within all of them.
 use Rattle.std.proofs.Common.{◌⊎◌, inl, inr, arith, ℕ, suc, ◌+◌, ◌*◌, ◌<◌, ◌≤◌, min, List, All, slice_index_or}
 use Rattle.std.specs.Int.{◌∣◌}
 use Rattle.std.proofs.lemmas.List.Elements.{All-weaker}
@@ -56,7 +57,8 @@ told_meets f o es = by (told_common (own_value o f Width) (value f Width) es) (t
   by (inl w) (inr fails) = inr (λ meets. fails (meets Height))
   by (inr fails) h = inr (λ meets. fails (meets Width))
 
--- a number from 1 on of the own number and those of a list, not below others of the list nor below `low`
+-- a number from 1 on of the own number and those of a list, not below
+-- others of the list nor below `low`
 module _ (own : ℕ) (f g h : ImageBounds → ℕ) (low : ℕ) (es : List ImageBounds) where
   abbrev pub Above : ℕ → Type 0
   Above n = (1 ≤ n) × ((own ∣ n) × (All (λ e. f e ∣ n) es × (All (λ e. g e ≤ n) es × (All (λ e. h e ≤ n) es × (low ≤ n)))))

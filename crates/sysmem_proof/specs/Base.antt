@@ -1,5 +1,6 @@
 -- What an attached domain is decided on.
-use Rattle.std.specs.Prelude.{◌≡◌, ◌≢◌, ◌^◌, ◌<◌, ◌≤◌, ℕ, List, length, Option, Some, None, All, AllPairs, IsSome, IsSomeAnd, slice_get}
+use Rattle.std.specs.Prelude.{◌≡◌, ◌≢◌, ◌^◌, ◌<◌, ◌≤◌, ℕ, List, length, Option, Some, None, All}
+use Rattle.std.specs.Prelude.{AllPairs, IsSome, IsSomeAnd, slice_get}
 use Rattle.sysmem_image.specs.Bounds.{IsInRange}
 use Rattle.sysmem_merge.specs.declared.settings.Settings.{Settings}
 use Rattle.sysmem_sanitise.specs.Platform.{PlatformFacts}
@@ -13,7 +14,8 @@ pub record BaseFacts : Type 0 where
   pub settings : Settings
   pub accepted : List ℕ
 
--- the same without numbers: the settings are fixed, and the members that were accepted before take part in their count
+-- the same without numbers: the settings are fixed, and the members that were
+-- accepted before take part in their count
 pub record Terms : Type 0 where
   pub settings : Settings
   pub accepted : List Member
@@ -26,9 +28,10 @@ terms_of nodes base = record { settings = base.settings; accepted = members_at n
 abbrev pub IsElsewhere : List NodeFacts → ℕ → ℕ → Type 0
 IsElsewhere nodes domain i = IsSomeAnd (slice_get nodes i) (λ n. n.domain ≢ domain)
 
--- a base for a domain: settings that fit their types, with a count from 1 to 128 and a heap of the platform; and nodes of the tree, each
--- once and none of that domain
-pub record IsBase (platform : PlatformFacts) (nodes : List NodeFacts) (domain : ℕ) (base : BaseFacts) : Type 0 where
+-- a base for a domain: settings that fit their types, with a count from 1 to 128 and a heap of the
+-- platform; and nodes of the tree, each once and none of that domain
+pub record IsBase (platform : PlatformFacts) (nodes : List NodeFacts) (domain : ℕ)
+    (base : BaseFacts) : Type 0 where
   pub some : 1 ≤ base.settings.count
   pub few : base.settings.count ≤ 128
   pub heap : base.settings.place.heap < length platform.heaps
@@ -40,4 +43,5 @@ pub record IsBase (platform : PlatformFacts) (nodes : List NodeFacts) (domain : 
 -- a base is given exactly for an attached domain
 abbrev pub IsGivenBase : PlatformFacts → List NodeFacts → ℕ → Option BaseFacts → Type 0
 IsGivenBase platform nodes domain None = host_number nodes domain ≡ None
-IsGivenBase platform nodes domain (Some base) = IsSome (host_number nodes domain) × IsBase platform nodes domain base
+IsGivenBase platform nodes domain (Some base) =
+    IsSome (host_number nodes domain) × IsBase platform nodes domain base

@@ -1,5 +1,6 @@
 -- What proves that a verdict is optimal.
-use Rattle.std.specs.Prelude.{◌≡◌, ◌≢◌, ℕ, true, All, List, [], ◌∷◌, ◌++◌, Option, Some, None, length, take, IsSomeAnd, slice_get}
+use Rattle.std.specs.Prelude.{◌≡◌, ◌≢◌, ℕ, true, All, List, [], ◌∷◌, ◌++◌, Option, Some, None}
+use Rattle.std.specs.Prelude.{length, take, IsSomeAnd, slice_get}
 use Rattle.std.specs.List.{AllZip}
 use Rattle.sysmem_memory.specs.Listed.{HeapPlace, places_of}
 use Rattle.sysmem_merge.specs.declared.settings.Settings.{Settings}
@@ -25,7 +26,8 @@ Refutes L [] [] = Unit {0}
 Refutes L [] (d ∷ ds) = ⊥
 Refutes L (item ∷ items) [] = ⊥
 Refutes L (Leaf conflict ∷ items) (d ∷ ds) = L d conflict × Refutes L items ds
-Refutes L (Split n ∷ items) (d ∷ ds) = IsSomeAnd (choices d) (λ es. (length es ≡ n) × Refutes L items (es ++ ds))
+Refutes L (Split n ∷ items) (d ∷ ds) =
+    IsSomeAnd (choices d) (λ es. (length es ≡ n) × Refutes L items (es ++ ds))
 
 -- for each of the choices in turn, refutations of the choices before it
 abbrev pub RefutesEarlier : Conflicts → Forest Member → List ℕ → List (List (List Item)) → Type 0
@@ -33,10 +35,12 @@ RefutesEarlier L d [] [] = Unit {0}
 RefutesEarlier L d [] (rs ∷ rss) = ⊥
 RefutesEarlier L d (c ∷ cs) [] = ⊥
 RefutesEarlier L d (c ∷ cs) (rs ∷ rss) = IsSomeAnd (choices d) (λ es.
-    AllZip (λ e items. Refutes L items (e ∷ [])) (take c es) rs × IsSomeAnd (slice_get es c) (λ e. RefutesEarlier L e cs rss))
+    AllZip (λ e items. Refutes L items (e ∷ [])) (take c es) rs
+    × IsSomeAnd (slice_get es c) (λ e. RefutesEarlier L e cs rss))
 
 -- R holds of a line for each of xs before the first x
-pub record HoldBefore {X : Type 0} (R : X → LineFacts → Type 0) (xs : List X) (x : X) (lines : List LineFacts) : Type 0 where
+pub record HoldBefore {X : Type 0} (R : X → LineFacts → Type 0) (xs : List X) (x : X)
+    (lines : List LineFacts) : Type 0 where
   pub before : List X
   pub behind : List X
   pub there : xs ≡ before ++ x ∷ behind
@@ -44,13 +48,15 @@ pub record HoldBefore {X : Type 0} (R : X → LineFacts → Type 0) (xs : List X
   pub each : AllZip R before lines
 
 -- each place before that of the settings is refused to the members by its line
-pub record RefusePlacesBefore (platform : PlatformFacts) (ms : List Member) (s : Settings) (lines : List LineFacts) : Type 0 where
+pub record RefusePlacesBefore (platform : PlatformFacts) (ms : List Member) (s : Settings)
+    (lines : List LineFacts) : Type 0 where
   pub at : HeapPlace
   pub same : at.place ≡ s.place
   pub each : HoldBefore (RefusesPlace ms) (places_of platform.heaps) at lines
 
 -- each offer and each place is
-pub record RefuseBefore (platform : PlatformFacts) (ms : List Member) (s : Settings) (certificate : CertificateFacts) : Type 0 where
+pub record RefuseBefore (platform : PlatformFacts) (ms : List Member) (s : Settings)
+    (certificate : CertificateFacts) : Type 0 where
   pub offers : HoldBefore (RefusesOffer true ms) (offers_of platform) s.offer certificate.offers
   pub places : RefusePlacesBefore platform ms s certificate.places
 
@@ -60,12 +66,15 @@ pub record HasNoLines (certificate : CertificateFacts) : Type 0 where
   pub places : certificate.places ≡ []
 
 -- of both kinds of domain
-abbrev pub RefuseBeforeFor : PlatformFacts → Option Terms → List Member → Settings → CertificateFacts → Type 0
+abbrev pub RefuseBeforeFor : PlatformFacts → Option Terms → List Member → Settings
+    → CertificateFacts → Type 0
 RefuseBeforeFor platform None ms s certificate = RefuseBefore platform ms s certificate
 RefuseBeforeFor platform (Some terms) ms s certificate = HasNoLines certificate
 
--- the choices are a selection, all before it is refuted, and so is each offer and place before those of the settings
-pub record IsCertificate (platform : PlatformFacts) (terms : Option Terms) (d : Forest Member) (selection : List ℕ) (s : Settings) (certificate : CertificateFacts) : Type 0 where
+-- the choices are a selection, all before it is refuted, and so is each offer and
+-- place before those of the settings
+pub record IsCertificate (platform : PlatformFacts) (terms : Option Terms) (d : Forest Member)
+    (selection : List ℕ) (s : Settings) (certificate : CertificateFacts) : Type 0 where
   pub members : Forest Member
   pub selects : IsSelection d selection members
   pub earlier : RefutesEarlier (IsConflictFor platform terms) d selection certificate.earlier

@@ -10,18 +10,25 @@ use Rattle.sysmem_proof.specs.Certificate.{IsCertificate, RefutesEarlier}
 use Rattle.sysmem_proof.specs.CertificateFacts.{CertificateFacts}
 use Rattle.sysmem_proof.specs.Check.{IsFit}
 use Rattle.sysmem_proof.specs.Conflict.{IsConflictFor}
-use Rattle.sysmem_proof.specs.Fault.{AreFew, EarlierFaults, Fails, Faults, First, HasFittingLines, IsSelected, LinesFaults, MembersFault, SettingsFaults}
+use Rattle.sysmem_proof.specs.Fault.{AreFew, EarlierFaults, Fails, Faults, First, HasFittingLines}
+use Rattle.sysmem_proof.specs.Fault.{IsSelected, LinesFaults, MembersFault, SettingsFaults}
 
 -- its form
 abbrev pub FormFaults : Option Terms → Forest Member → List ℕ → CertificateFacts → Faults
 FormFaults terms d selection certificate = First (AreFew d) (Fails (AreFew d) WrongShape)
-    (First (IsSelected d selection) (Fails (IsSelected d selection) WrongShape) (Fails (HasFittingLines terms certificate) WrongShape))
+    (First (IsSelected d selection) (Fails (IsSelected d selection) WrongShape)
+    (Fails (HasFittingLines terms certificate) WrongShape))
 
 -- its settings are the least for its members, and its certificate is one
-abbrev pub SelectedPasses : PlatformFacts → Option Terms → Forest Member → List ℕ → Settings → CertificateFacts → Type 0
-SelectedPasses platform terms d selection s certificate = IsFit platform terms d selection s × IsCertificate platform terms d selection s certificate
+abbrev pub SelectedPasses : PlatformFacts → Option Terms → Forest Member → List ℕ → Settings
+    → CertificateFacts → Type 0
+SelectedPasses platform terms d selection s certificate =
+    IsFit platform terms d selection s × IsCertificate platform terms d selection s certificate
 
-abbrev pub SelectedFaults : PlatformFacts → Option Terms → Forest Member → List ℕ → Settings → CertificateFacts → Faults
-SelectedFaults platform terms d selection s certificate = MembersFault d selection (λ ms. SettingsFaults platform terms ms s
-    (First (RefutesEarlier (IsConflictFor platform terms) d selection certificate.earlier) (EarlierFaults platform terms d selection certificate.earlier)
+abbrev pub SelectedFaults : PlatformFacts → Option Terms → Forest Member → List ℕ → Settings
+    → CertificateFacts → Faults
+SelectedFaults platform terms d selection s certificate = MembersFault d selection
+    (λ ms. SettingsFaults platform terms ms s
+    (First (RefutesEarlier (IsConflictFor platform terms) d selection certificate.earlier)
+    (EarlierFaults platform terms d selection certificate.earlier)
     (LinesFaults platform terms ms s certificate)))

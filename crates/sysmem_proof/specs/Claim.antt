@@ -11,10 +11,13 @@ use Rattle.sysmem_proof.specs.Check.{IsProof}
 use Rattle.sysmem_proof.specs.Verdict.{IsOptimalIn}
 
 -- what proves a verdict of its kind, of a domain of a tree
-abbrev pub IsProofIn : PlatformFacts → List NodeFacts → ℕ → Option BaseFacts → Verdict → Proof → Type 0
-IsProofIn platform nodes domain base = IsProof platform (option_map (terms_of nodes) base) (shape_of nodes domain)
+abbrev pub IsProofIn : PlatformFacts → List NodeFacts → ℕ → Option BaseFacts → Verdict → Proof
+    → Type 0
+IsProofIn platform nodes domain base =
+    IsProof platform (option_map (terms_of nodes) base) (shape_of nodes domain)
 
 -- a claim is true of a domain of a tree: its verdict is optimal, and its proof proves it
-pub record IsTrueClaim (platform : PlatformFacts) (nodes : List NodeFacts) (domain : ℕ) (base : Option BaseFacts) (claim : AClaim) : Type 0 where
+pub record IsTrueClaim (platform : PlatformFacts) (nodes : List NodeFacts) (domain : ℕ)
+    (base : Option BaseFacts) (claim : AClaim) : Type 0 where
   pub optimal : IsOptimalIn platform nodes domain base claim.verdict
   pub proved : IsProofIn platform nodes domain base claim.verdict claim.proof

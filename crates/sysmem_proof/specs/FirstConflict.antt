@@ -1,5 +1,7 @@
--- Which conflict a finder gives: count before places before offers, and of each place and each offer the first line that is true.
-use Rattle.std.specs.Prelude.{◌≡◌, ℕ, Bool, List, [], ◌∷◌, ◌++◌, Option, Some, None, All, IfSome, IsSomeAnd, is_none, slice_get, take}
+-- Which conflict a finder gives: count before places before offers, and of each place and each
+-- offer the first line that is true.
+use Rattle.std.specs.Prelude.{◌≡◌, ℕ, Bool, List, [], ◌∷◌, ◌++◌, Option, Some, None, All, IfSome}
+use Rattle.std.specs.Prelude.{IsSomeAnd, is_none, slice_get, take}
 use Rattle.std.specs.List.{AllZip}
 use Rattle.sysmem_counts.specs.Counts.{IsCounted, IsFixedCountLine}
 use Rattle.sysmem_counts.specs.declared.field.Field.{Field}
@@ -28,8 +30,10 @@ use Rattle.sysmem_proof.specs.Conflict.{RefusesOffer, RefusesPlace}
 use Rattle.sysmem_proof.specs.Line.{LineFacts}
 use Rattle.sysmem_proof.specs.Members.{participants}
 
--- at the path stands the first of some members who says this, and who stand before him have a property, or ask nothing
-pub record IsFirstWithout (Has Says : Participant → Type 0) (ms : List Member) (path : List ℕ) : Type 0 where
+-- at the path stands the first of some members who says this, and who stand before
+-- him have a property, or ask nothing
+pub record IsFirstWithout (Has Says : Participant → Type 0) (ms : List Member)
+    (path : List ℕ) : Type 0 where
   pub index : ℕ
   pub first : Member
   pub here : slice_get ms index ≡ Some first
@@ -37,12 +41,15 @@ pub record IsFirstWithout (Has Says : Participant → Type 0) (ms : List Member)
   pub before : All (λ m. IfSome m.constraints Has) (take index ms)
   pub says : IsSomeAnd first.constraints Says
 
--- the field is the first that refuses the place, to the first participant at all to whom it is refused
+-- the field is the first that refuses the place, to the first
+-- participant at all to whom it is refused
 abbrev pub IsFirstRefused : HeapPlace → List Member → Field → List ℕ → Type 0
-IsFirstRefused p ms field path = IsFirstWithout (λ one. AllowsPlace one.memory one.usage p.heap p.place.coherency)
+IsFirstRefused p ms field path =
+    IsFirstWithout (λ one. AllowsPlace one.memory one.usage p.heap p.place.coherency)
     (λ one. first_refusing one.memory one.usage p.heap p.place.coherency ≡ Some field) ms path
 
--- the line refuses the place, and names the first participant to whom it is refused, and nobody else, by the first field that does it
+-- the line refuses the place, and names the first participant to whom it is refused, and nobody
+-- else, by the first field that does it
 pub record IsPlaceLineGiven (ms : List Member) (p : HeapPlace) (line : LineFacts) : Type 0 where
   pub refuses : RefusesPlace ms p line
   pub path : List ℕ
@@ -58,26 +65,37 @@ pub record AreOfPair (one other : Offer) : Type 0 where
   pub second : other ≡ Image pair own
 
 -- the line refuses the offer, and is the first of the table that is true of the participants for it
-pub record IsOfferLineGiven (whole : Bool) (ms : List Member) (o : Offer) (line : LineFacts) : Type 0 where
+pub record IsOfferLineGiven (whole : Bool) (ms : List Member) (o : Offer)
+    (line : LineFacts) : Type 0 where
   pub refuses : RefusesOffer whole ms o line
-  pub first : IsFirstOf (IsRefusingLine whole o (offer_demands (participants ms))) offer_lines line.field
+  pub first : IsFirstOf (IsRefusingLine whole o (offer_demands (participants ms))) offer_lines
+      line.field
 
--- of an initial domain: a line of the count, the maximum's before the limit's; without one a line for each place; without these one for each offer
+-- of an initial domain: a line of the count, the maximum's before the limit's; without one a line
+-- for each place; without these one for each offer
 abbrev pub IsFirstConflict : PlatformFacts → Forest Member → Conflict → Type 0
-IsFirstConflict platform d (Count line) = IsFirstReason (is_none (choices d)) platform (participants (settled d)) (reasons.Count line.field)
-IsFirstConflict platform d (Places lines) = IsFirstReason (is_none (choices d)) platform (participants (settled d)) reasons.NoPlace
+IsFirstConflict platform d (Count line) = IsFirstReason (is_none (choices d)) platform
+    (participants (settled d)) (reasons.Count line.field)
+IsFirstConflict platform d (Places lines) =
+    IsFirstReason (is_none (choices d)) platform (participants (settled d)) reasons.NoPlace
     × AllZip (IsPlaceLineGiven (settled d)) (places_of platform.heaps) lines
-IsFirstConflict platform d (Offers lines) = IsFirstReason (is_none (choices d)) platform (participants (settled d)) reasons.NoOffer
+IsFirstConflict platform d (Offers lines) =
+    IsFirstReason (is_none (choices d)) platform (participants (settled d)) reasons.NoOffer
     × AllZip (IsOfferLineGiven (is_none (choices d)) (settled d)) (offers_of platform) lines
 IsFirstConflict platform d (Fixed field node) = ⊥
 
--- of an attached domain: a line of the count, too few before too many; without one the first participant whom the settings fail, with the
--- first field in which they do
+-- of an attached domain: a line of the count, too few before too many; without one the first
+-- participant whom the settings fail, with the first field in which they do
 abbrev pub IsFirstFixedConflict : PlatformFacts → Terms → Forest Member → Conflict → Type 0
 IsFirstFixedConflict platform terms d (Count line) =
-    IsFirstOf (λ field. IsFixedCountLine terms.settings.count field (counts_asked (participants (terms.accepted ++ settled d)))) (MinBufferCount ∷ MaxBufferCount ∷ []) line.field
-IsFirstFixedConflict platform terms d (Fixed field node) = IsCounted (counts_asked (participants (terms.accepted ++ settled d))) terms.settings.count
-    × IsFirstWithout (CoversOn platform terms.settings) (IsFirstUncovered field platform terms.settings) (settled d) node
+    IsFirstOf
+    (λ field. IsFixedCountLine terms.settings.count field
+    (counts_asked (participants (terms.accepted ++ settled d))))
+    (MinBufferCount ∷ MaxBufferCount ∷ []) line.field
+IsFirstFixedConflict platform terms d (Fixed field node) =
+    IsCounted (counts_asked (participants (terms.accepted ++ settled d))) terms.settings.count
+    × IsFirstWithout (CoversOn platform terms.settings)
+    (IsFirstUncovered field platform terms.settings) (settled d) node
 IsFirstFixedConflict platform terms d (Places lines) = ⊥
 IsFirstFixedConflict platform terms d (Offers lines) = ⊥
 

@@ -13,13 +13,16 @@ use Rattle.sysmem_proof.specs.Refusals.{StandFor}
 use Rattle.sysmem_proof.specs.Verdict.{IsBestFor}
 
 -- the choices are a selection, for whose members the settings are the best
-pub record IsBestChoice (platform : PlatformFacts) (terms : Option Terms) (d : Forest Member) (selection : List ℕ) (s : Settings) : Type 0 where
+pub record IsBestChoice (platform : PlatformFacts) (terms : Option Terms) (d : Forest Member)
+    (selection : List ℕ) (s : Settings) : Type 0 where
   pub members : Forest Member
   pub selects : IsSelection d selection members
   pub best : IsBestFor platform terms (settled members) s
 
 -- behind those accepted before, these nodes are the participants that are settled
-pub record AreSettledAt (nodes : List NodeFacts) (d : Forest Member) (accepted found : List ℕ) : Type 0 where
+pub record AreSettledAt (nodes : List NodeFacts) (d : Forest Member)
+    (accepted found : List ℕ) : Type 0 where
   pub there : All (HasNode nodes) (accepted ++ found)
   pub few : length (accepted ++ found) ≤ 128
-  pub stand : StandFor (members_at nodes (accepted ++ found)) (members_at nodes accepted ++ settled d)
+  pub stand : StandFor (members_at nodes (accepted ++ found))
+      (members_at nodes accepted ++ settled d)

@@ -6,7 +6,9 @@ use Rattle.sysmem_proof.specs.declared.finding.learnt.Learnt.{Learnt}
 use Rattle.sysmem_proof.specs.AloneLines.{AreAlone}
 use Rattle.sysmem_proof.specs.PlacesAsked.{AreAsked}
 
--- it is what those of this tree say of places with these heaps, and lines that name one of them each
-pub record IsLearnt (nodes : List NodeFacts) (heaps : List HeapFacts) (learnt : Learnt) : Type 0 where
+-- it is what those of this tree say of places with these heaps, and
+-- lines that name one of them each
+pub record IsLearnt (nodes : List NodeFacts) (heaps : List HeapFacts)
+    (learnt : Learnt) : Type 0 where
   pub asked : AreAsked nodes heaps learnt.asked
   pub alone : AreAlone nodes learnt.alone

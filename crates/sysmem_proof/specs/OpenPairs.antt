@@ -11,7 +11,8 @@ use Rattle.sysmem_proof.specs.declared.finding.open_pairs.OpenPair.{OpenPair}
 
 -- who has these entries takes images of the pair in the colour space, if an entry is for them
 abbrev pub takes_in : Pair → ColourSpace → List Entry → Bool
-takes_in pair colour entries = option_map_or (takes_colour (Image pair colour)) (first_match (Image pair colour) entries) true
+takes_in pair colour entries =
+    option_map_or (takes_colour (Image pair colour)) (first_match (Image pair colour) entries) true
 
 -- the participant takes the pair in every colour space
 abbrev pub TakesEach : Pair → Participant → Type 0

@@ -18,8 +18,10 @@ place_if there place heap = put_if there (record { place = place; heap = heap })
 
 -- the places of one heap, by its index, in these domains
 abbrev pub places_in : ℕ → HeapFacts → CoherencyDomains → List HeapPlace
-places_in i heap domains = place_if domains.cpu (record { heap = i; coherency = Cpu }) heap
-    ++ (place_if domains.ram (record { heap = i; coherency = Ram }) heap ++ place_if domains.inaccessible (record { heap = i; coherency = Inaccessible }) heap)
+places_in i heap domains =
+    place_if domains.cpu (record { heap = i; coherency = Cpu }) heap
+    ++ (place_if domains.ram (record { heap = i; coherency = Ram }) heap
+    ++ place_if domains.inaccessible (record { heap = i; coherency = Inaccessible }) heap)
 
 -- the domains of a set that come before one
 abbrev pub domains_before : CoherencyDomains → CoherencyDomain → CoherencyDomains
@@ -29,13 +31,17 @@ domains_before s Inaccessible = record { cpu = s.cpu; ram = s.ram; inaccessible 
 
 -- the places before one that is in this heap
 abbrev pub places_before : List HeapFacts → HeapFacts → Place → List HeapPlace
-places_before heaps heap place = places_of (take place.heap heaps) ++ places_in place.heap heap (domains_before heap.domains place.coherency)
+places_before heaps heap place =
+    places_of (take place.heap heaps)
+    ++ places_in place.heap heap (domains_before heap.domains place.coherency)
 
 -- the first lines, so many, refuse these places
-pub record AreTold (ms : List Member) (places : List HeapPlace) (lines : List LineFacts) (many : ℕ) : Type 0 where
+pub record AreTold (ms : List Member) (places : List HeapPlace) (lines : List LineFacts)
+    (many : ℕ) : Type 0 where
   pub each : AllZip (RefusesPlace ms) places (take many lines)
   pub within : many ≤ length lines
 
 -- what fails of a line for each of these places
 abbrev pub PlaceLinesFault : List Member → List HeapPlace → List LineFacts → Faults
-PlaceLinesFault ms places lines = EachFaults (RefusesPlace ms) (λ p line. LineFaults ms (RefusesPlace ms p line) line) places lines
+PlaceLinesFault ms places lines = EachFaults (RefusesPlace ms)
+    (λ p line. LineFaults ms (RefusesPlace ms p line) line) places lines

@@ -19,12 +19,16 @@ TakesIn PixelFormat o d = has_format o d ≡ true
 TakesIn ColorSpaces o d = has_colour o d ≡ true
 TakesIn _ o d = Unit {0}
 
--- the field is the first of the table that is true of what is asked of the offer, also where the lines of what nobody names count
+-- the field is the first of the table that is true of what is asked of the offer, also where the
+-- lines of what nobody names count
 abbrev pub HeadsFirst : Offer → List OfferDemand → Field → Type 0
 HeadsFirst o ds field = (whole : Bool) → IsFirstOf (IsRefusingLine whole o ds) offer_lines field
 
--- what participants of a tree ask of the offer was read, or the line is the first that is true of them, and true of one of them alone
+-- what participants of a tree ask of the offer was read, or the line is the first that is true of
+-- them, and true of one of them alone
 abbrev pub IsReading : List NodeFacts → List ℕ → Offer → Reading → Type 0
-IsReading nodes ns o (Refused field node) = Contains ns node × IsOfferLine field o (offer_demands (participants (members_at nodes (node ∷ []))))
+IsReading nodes ns o (Refused field node) = Contains ns node
+    × IsOfferLine field o (offer_demands (participants (members_at nodes (node ∷ []))))
     × HeadsFirst o (offer_demands (participants (members_at nodes ns))) field
-IsReading nodes ns o (Read read) = IsOfferRead o (offer_demands (participants (members_at nodes ns))) read
+IsReading nodes ns o (Read read) =
+    IsOfferRead o (offer_demands (participants (members_at nodes ns))) read

@@ -17,15 +17,21 @@ pub record IsLeft (All Rest : Type 0) (all rest : Faults) : Type 0 where
   pub fails : (why : No) → rest why → all why
 
 -- items that are to refute some forests, where the rest of them is to refute the others
-abbrev pub AreLeft : PlatformFacts → Option Terms → List Item → List (Forest Member) → List Item → List (Forest Member) → Type 0
-AreLeft platform terms items ds rest es = IsLeft (Refutes (IsConflictFor platform terms) items ds) (Refutes (IsConflictFor platform terms) rest es)
+abbrev pub AreLeft : PlatformFacts → Option Terms → List Item → List (Forest Member) → List Item
+    → List (Forest Member) → Type 0
+AreLeft platform terms items ds rest es = IsLeft (Refutes (IsConflictFor platform terms) items ds)
+    (Refutes (IsConflictFor platform terms) rest es)
     (RefutationFaults platform terms items ds) (RefutationFaults platform terms rest es)
 
 -- for each choice before one a refutation
-abbrev pub RefuteBefore : PlatformFacts → Option Terms → List (Forest Member) → List (List Item) → Type 0
-RefuteBefore platform terms es rs = AllZip (λ e items. Refutes (IsConflictFor platform terms) items (e ∷ [])) es rs
+abbrev pub RefuteBefore : PlatformFacts → Option Terms → List (Forest Member) → List (List Item)
+    → Type 0
+RefuteBefore platform terms es rs =
+    AllZip (λ e items. Refutes (IsConflictFor platform terms) items (e ∷ [])) es rs
 
 -- the first test that those fail
-abbrev pub FaultsBefore : PlatformFacts → Option Terms → List (Forest Member) → List (List Item) → Faults
+abbrev pub FaultsBefore : PlatformFacts → Option Terms → List (Forest Member) → List (List Item)
+    → Faults
 FaultsBefore platform terms es rs =
-    EachFaults (λ e items. Refutes (IsConflictFor platform terms) items (e ∷ [])) (λ e items. RefutationFaults platform terms items (e ∷ [])) es rs
+    EachFaults (λ e items. Refutes (IsConflictFor platform terms) items (e ∷ []))
+    (λ e items. RefutationFaults platform terms items (e ∷ [])) es rs

@@ -8,7 +8,8 @@ use Rattle.sysmem_tree.specs.Node.{NodeFacts}
 use Rattle.sysmem_tree.specs.Shape.{Member}
 use Rattle.sysmem_proof.specs.declared.finding.whom.Named.{Named}
 use Rattle.sysmem_proof.specs.declared.finding.whom.Whom.{Whom}
-use Rattle.sysmem_proof.specs.declared.finding.whom.Whom.TheVariants.{All, WithCount, WithEntries, Nobody}
+use Rattle.sysmem_proof.specs.declared.finding.whom.Whom.TheVariants.{All, WithCount}
+use Rattle.sysmem_proof.specs.declared.finding.whom.Whom.TheVariants.{WithEntries, Nobody}
 use Rattle.sysmem_proof.specs.Finder.{has_count}
 use Rattle.sysmem_proof.specs.Line.{LineFacts}
 use Rattle.sysmem_proof.specs.Members.{members_at}
@@ -30,7 +31,8 @@ members_named whom ms = filter (λ m. option_map_or (names whom) m.constraints f
 
 -- the line that names them among these nodes
 abbrev pub line_on : List NodeFacts → List ℕ → Field → Whom → LineFacts
-line_on nodes ns field whom = record { field = field; nodes = map (λ m. m.path) (members_named whom (members_at nodes ns)) }
+line_on nodes ns field whom =
+    record { field = field; nodes = map (λ m. m.path) (members_named whom (members_at nodes ns)) }
 
 -- the line is one that names them among these nodes
 abbrev pub NamesThose : List NodeFacts → List ℕ → Named → Type 0

@@ -6,8 +6,8 @@ use std::marker::Model;
 use sysmem_merge::Settings;
 use sysmem_tree::NodeId;
 
-/// The settings of the domain to which an attached domain belongs, and the participants of the collection that were accepted when it
-/// became the first domain to be decided.
+/// The settings of the domain to which an attached domain belongs, and the participants of the
+/// collection that were accepted when it became the first domain to be decided.
 #[derive(Debug, Drop)]
 pub struct Base {
     settings: Settings,
@@ -40,7 +40,8 @@ impl Base {
         self.settings
     }
 
-    /// The nodes that were accepted before, in the order of their domains' decisions, within a domain in pre-order.
+    /// The nodes that were accepted before, in the order of their domains'
+    /// decisions, within a domain in pre-order.
     pub fn accepted(&self) -> &[NodeId]
         ensures { result.now ≡ self.now.accepted }
     {

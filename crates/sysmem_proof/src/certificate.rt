@@ -59,8 +59,9 @@ impl Model for Certificate {
 }
 
 impl Certificate {
-    /// For each group refutations of the choices before the chosen one, and for each offer and each place before those of the settings a
-    /// line. Any are a certificate; whether they prove something is a checker's matter.
+    /// For each group refutations of the choices before the chosen one, and for each offer and each
+    /// place before those of the settings a line. Any are a certificate; whether they prove
+    /// something is a checker's matter.
     pub fn new(earlier: Vec<EarlierChoices>, offers: Lines, places: Lines) -> Certificate
         ensures { result ≡ record { earlier = earlier.items; offers = offers; places = places } }
     {
@@ -100,7 +101,8 @@ pub enum Proof {
     Choice(Certificate),
     /// That no settings meet any selection.
     Empty(Refutation),
-    /// Of more selections than a decision goes through, which need no proof, of what isn't a decision, and where no proof was asked for.
+    /// Of more selections than a decision goes through, which need no proof, of what isn't a
+    /// decision, and where no proof was asked for.
     Nothing,
 }
 

@@ -70,10 +70,12 @@ fn claim_fault(checker: &Checker<'_>, claim: &Claim) -> Result<(), No>
     }
 }
 
-/// Whether a claim is true of a domain of the tree, for an attached one on the base that is given: whether its verdict is the one that a
-/// decision of the domain gives, and its proof shows so. Nothing is searched for, and no memory is taken. A claim may come from anybody:
-/// `Ok` exactly where the verdict is optimal and its proof proves it, else the first test that fails: the form (N1), of what was chosen the
-/// settings (N4, then N6), then the items, the offers and the places as they are listed, at each N5, N1, N2, N3.
+/// Whether a claim is true of a domain of the tree, for an attached one on the base that is given:
+/// whether its verdict is the one that a decision of the domain gives, and its proof shows so.
+/// Nothing is searched for, and no memory is taken. A claim may come from anybody: `Ok` exactly
+/// where the verdict is optimal and its proof proves it, else the first test that fails: the form
+/// (N1), of what was chosen the settings (N4, then N6), then the items, the offers and the places
+/// as they are listed, at each N5, N1, N2, N3.
 ///
 /// ```
 /// let claim = Claim { verdict, proof };

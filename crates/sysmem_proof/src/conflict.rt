@@ -7,7 +7,8 @@ use sysmem_tree::Path;
 /// A conflict of participants that are settled by choices.
 #[derive(Debug, Drop)]
 pub enum Conflict {
-    /// No count suits them; of an attached domain, its base's count doesn't, where those accepted before take part.
+    /// No count suits them; of an attached domain, its base's count doesn't, where
+    /// those accepted before take part.
     Count(Line),
     /// Each place of the platform is refused by some of them: a line for each.
     Places(Lines),

@@ -10,15 +10,16 @@ use sysmem_merge::laws::{
 };
 use sysmem_tree::laws::{members_stand_once, one_forest, one_path};
 
-/// Two optimal verdicts of one domain, initial or attached on the same base, are equal in kind, selection and settings.
+/// Two optimal verdicts of one domain, initial or attached on the same base, are equal
+/// in kind, selection and settings.
 pub fn one_answer()
     ensures { OneAnswer }
 {
     one_best();
 }
 
-/// Where nothing meets the participants that are settled, but for the names of an image, nothing meets a selection that goes on from
-/// there.
+/// Where nothing meets the participants that are settled, but for the names of an image, nothing
+/// meets a selection that goes on from there.
 pub fn cuts_lose_nothing()
     ensures { CutsLoseNothing }
 {
@@ -30,7 +31,8 @@ pub fn selections_split()
     ensures { SelectionsSplit }
 {}
 
-/// What is earlier than a selection takes a smaller child somewhere, where it chose as the selection before.
+/// What is earlier than a selection takes a smaller child somewhere, where
+/// it chose as the selection before.
 pub fn earlier_goes_by()
     ensures { EarlierGoesBy }
 {}
@@ -45,7 +47,8 @@ pub fn conflicts_are_true()
     unnamed_line_leaves_none();
 }
 
-/// What is tested of a verdict and its certificate is exactly that the verdict is optimal and the certificate one.
+/// What is tested of a verdict and its certificate is exactly that the verdict is
+/// optimal and the certificate one.
 pub fn tests_are_exact()
     ensures { TestsAreExact }
 {
@@ -60,8 +63,8 @@ pub fn lines_say()
     ensures { LinesSay }
 {}
 
-/// Who has a count field makes a count line true, of a fixed count too, and who has an entry for an offer a line of its bounds; and settled participants are
-/// named by their paths.
+/// Who has a count field makes a count line true, of a fixed count too, and who has an entry for an
+/// offer a line of its bounds; and settled participants are named by their paths.
 pub fn some_are_named()
     ensures counts { CountsAreOfSome }
     ensures fixed_counts { FixedCountsAreOfSome }
@@ -69,9 +72,9 @@ pub fn some_are_named()
     ensures named { SomeAreNamed }
 {}
 
-/// Where there is a reason why no settings meet the settled participants of an initial domain, a
-/// conflict of its kind is true of them: of a count line the same field, else a line for each place,
-/// or one for each offer.
+/// Where there is a reason why no settings meet the settled participants of an initial domain,
+/// a conflict of its kind is true of them: of a count line the same field, else a line for
+/// each place, or one for each offer.
 pub fn reasons_are_conflicts()
     ensures { ReasonsAreConflicts }
 {}
@@ -81,22 +84,23 @@ pub fn faults_are_first()
     ensures { FaultsAreFirst }
 {}
 
-/// Refutations of a group's choices, behind a split on it, refute what it stands in; and what refutes the choices before the chosen one goes in
-/// front of what refutes the earlier ones after it.
+/// Refutations of a group's choices, behind a split on it, refute what it stands
+/// in; and what refutes the choices before the chosen one goes in front of what
+/// refutes the earlier ones after it.
 pub fn refutations_grow()
     ensures { AllRefutationsGrow }
 {}
 
-/// Settings that meet participants are the least of their offer in their place exactly where they are those of the offer's best fit and the
-/// least count.
+/// Settings that meet participants are the least of their offer in their place exactly where they
+/// are those of the offer's best fit and the least count.
 pub fn least_is_computed()
     ensures { LeastIsComputed }
 {
     one_fit();
 }
 
-/// For each optimal verdict on a domain of a tree, initial or attached on its base, there is a proof
-/// that proves it.
+/// For each optimal verdict on a domain of a tree, initial or attached on its base,
+/// there is a proof that proves it.
 pub fn optimal_has_proof()
     ensures { OptimalHasProof }
 {

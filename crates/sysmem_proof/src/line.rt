@@ -8,11 +8,12 @@ use std::marker::Model;
 use std::sync::Arc;
 use sysmem_counts::Field;
 
-/// Among how many lines before it a line looks for its paths. A platform's colours go by under each of its pairs, and from one to the
-/// next it is often the same few lists that come again.
+/// Among how many lines before it a line looks for its paths. A platform's colours go by under each
+/// of its pairs, and from one to the next it is often the same few lists that come again.
 const NEAR: usize = 4;
 
-/// A field that fails for the participants at some paths, in any order. Lines with the same paths may keep them once.
+/// A field that fails for the participants at some paths, in any order. Lines with
+/// the same paths may keep them once.
 #[derive(Debug, Drop)]
 pub struct Line {
     field: Field,
@@ -32,8 +33,8 @@ impl Model for Line {
 }
 
 impl Line {
-    /// This field, for the participants at these paths. Any are a line; whether it is true is a checker's matter. `AllocError` where
-    /// memory is refused.
+    /// This field, for the participants at these paths. Any are a line; whether it is true is a
+    /// checker's matter. `AllocError` where memory is refused.
     pub fn new(alloc: Global, field: Field, nodes: PathList) -> Result<Line, AllocError>
         ensures { IfOk result (λ line. line ≡ record { field = field; nodes = nodes }) }
     {
@@ -41,7 +42,8 @@ impl Line {
         Ok(Line { field, nodes })
     }
 
-    /// The same, behind these lines: where one of the last of them has the paths, it keeps them for both.
+    /// The same, behind these lines: where one of the last of them has
+    /// the paths, it keeps them for both.
     pub fn behind(
         alloc: Global,
         lines: &[Line],

@@ -11,8 +11,8 @@ ghost use Rattle.sysmem_tree.specs.Shape.{Member};
 use sysmem_counts::Field;
 use sysmem_formats::{Offer, Pair};
 
-/// Whether each line with this field that refuses the one offer refuses the other: they are of one pair, and no such line speaks of the
-/// colour space.
+/// Whether each line with this field that refuses the one offer refuses the other: they are of one
+/// pair, and no such line speaks of the colour space.
 pub(crate) fn is_shared(field: Field, one: &Offer, other: &Offer) -> bool
     ensures image { IsTrue result → one.now ≢ NoImage }
     ensures shared { IsTrue result → (whole : Bool) (ms : List Member) (line : LineFacts)

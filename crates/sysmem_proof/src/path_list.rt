@@ -6,8 +6,8 @@ use smallvec::SmallVec;
 use std::alloc::{AllocError, Global};
 use std::marker::Model;
 
-/// Paths in one list of numbers: how many steps a path has, and behind that its ordinals. Up to 4 numbers (one path of 3 steps) take
-/// no memory beside the list, and more take one block.
+/// Paths in one list of numbers: how many steps a path has, and behind that its ordinals. Up to 4
+/// numbers (one path of 3 steps) take no memory beside the list, and more take one block.
 #[derive(Debug, Drop)]
 pub struct PathList {
     numbers: SmallVec<u32, 4>,
@@ -51,7 +51,8 @@ impl PathList {
         Ok(PathList { numbers })
     }
 
-    /// These paths and behind them that of these ordinals. `AllocError` where memory is refused, and for a path of 2^32 steps or more.
+    /// These paths and behind them that of these ordinals. `AllocError` where memory is refused,
+    /// and for a path of 2^32 steps or more.
     pub fn with(self, ordinals: &[u32]) -> Result<PathList, AllocError>
         ensures { IfOk result (λ list. list ≡ self ++ ordinals.now ∷ []) }
     {
@@ -65,7 +66,8 @@ impl PathList {
         Ok(PathList { numbers })
     }
 
-    /// The same paths, without room that isn't used. `AllocError` where the smaller room is refused.
+    /// The same paths, without room that isn't used. `AllocError`
+    /// where the smaller room is refused.
     pub(crate) fn fitted(self) -> Result<PathList, AllocError>
         ensures { IfOk result (λ list. list ≡ self) }
     {

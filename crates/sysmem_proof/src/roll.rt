@@ -21,7 +21,8 @@ use sysmem_tree::laws::{one_forest, one_path};
 use sysmem_tree::layout_laws::choices_leave_one_forest;
 use sysmem_tree::{DomainId, Layout, NodeId, Prefix, Tree};
 
-/// The participants that choices settle in a domain of a tree, and those that were accepted before where they may be named too.
+/// The participants that choices settle in a domain of a tree, and those that were accepted
+/// before where they may be named too.
 #[derive(Drop)]
 pub(crate) struct Roll<'a> {
     tree: &'a Tree,

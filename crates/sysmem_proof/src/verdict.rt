@@ -15,15 +15,16 @@ pub enum Verdict {
     IntersectionEmpty,
     /// There are more than 4,096 selections.
     TooMany,
-    /// The domain has no decision: a node was closed before it was ready, or the collection to which its root was attached isn't given the
-    /// settings of its own domain.
+    /// The domain has no decision: a node was closed before it was ready, or the collection to
+    /// which its root was attached isn't given the settings of its own domain.
     Failed,
     /// Memory was refused to the decision.
     NoMemory,
 }
 
 impl Verdict {
-    /// Whether the other is the same: equal in kind, and where it chose in its selection and its settings.
+    /// Whether the other is the same: equal in kind, and where it chose
+    /// in its selection and its settings.
     pub fn is_same(&self, other: &Verdict) -> bool
         ensures { IsTrue result ↔ (self.now ≡ other.now) }
     {

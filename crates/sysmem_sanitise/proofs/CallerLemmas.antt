@@ -1,5 +1,5 @@
--- What callers need of the definitions of records: what names name, that what `==` calls equal is equal, and that a platform's record
--- states a platform.
+-- What callers need of the definitions of records: what names name, that what `==` calls equal is
+-- equal, and that a platform's record states a platform.
 pub use Rattle.sysmem_sanitise.proofs.Names.{named_by, format_found, modifier_found, colour_found, domain_found, own_format_name, own_modifier_name, own_colour_name, own_domain_name}
 pub use Rattle.sysmem_sanitise.proofs.Same.{same_pair, same_colour, same_bounds}
 use Rattle.std.proofs.Common.{◌≡◌, ◌≤◌, ◌-◌, ◌^◌, Ok}

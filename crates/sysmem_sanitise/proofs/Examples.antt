@@ -1,4 +1,5 @@
--- What the definitions say of some records, computed: a record with each fault, records with two, and some that are taken.
+-- What the definitions say of some records, computed: a record with each fault, records
+-- with two, and some that are taken.
 use Rattle.std.proofs.Common.{◌≡◌, ℕ, zero, suc, ◌^◌, Bool, true, false, List, [], ◌∷◌, Some, None, Ok, Err, refl}
 use Rattle.std.specs.Prelude.{codes, map}
 use Rattle.bitflags.specs.Sets.{find_row}

@@ -26,7 +26,8 @@ none_named name_of [] name none = refl
 none_named name_of (x ∷ xs) name none =
     not_first _ _ _ _ (bytes_eq-Decides (name_of x) name) (λ e. none x (sym e)) ∙ none_named name_of xs name none
 
--- what is found for exactly its own name is the one that has the name, where each is found by its own name
+-- what is found for exactly its own name is the one that has the name,
+-- where each is found by its own name
 pub named_by : {X : Type 0} (name_of : X → List ℕ) (xs : List X) (name : List ℕ) (found : Option X)
     → ((x : X) → find_named name_of xs (name_of x) ≡ Some x) → ((x : X) → (found ≡ Some x) ↔ (name ≡ name_of x)) → found ≡ find_named name_of xs name
 named_by name_of xs name (Some x) own exact = sym (ap (find_named name_of xs) ((exact x).0 refl) ∙ own x)

@@ -1,4 +1,5 @@
--- What readers answer where memory for one field is refused: what they answer else, or the want of that field.
+-- What readers answer where memory for one field is refused: what they answer
+-- else, or the want of that field.
 use Rattle.std.proofs.Common.{◌≡◌, ℕ, ◌+◌, ◌-◌, ◌^◌, ◌<◌, Bool, true, false, not, ◌||◌, List, [], ◌++◌, length, get_or, drop, Option, Some, None, Result, Ok, Err, ap, sym, ◌∙◌, refl, inl, inr}
 use Rattle.std.specs.Prelude.{nat_lt, cond, map}
 use Rattle.serde_json.specs.Data.{Data, Items, no_items, item}

@@ -1,7 +1,15 @@
 -- What is amiss with the parts of a platform or of a participant, by the field that has it.
-use Rattle.std.specs.Prelude.{◌≡◌, ◌≢◌, ◌<◌, ◌≤◌, List, length, true, false, Some, All, AllPairs, Any}
+use Rattle.std.specs.Prelude.{◌≡◌, ◌≢◌, ◌<◌, ◌≤◌, List, length, true, false}
+use Rattle.std.specs.Prelude.{Some, All, AllPairs, Any}
 use Rattle.sysmem_counts.specs.declared.field.Field.{Field}
-use Rattle.sysmem_counts.specs.declared.field.Field.TheVariants.{Usage, PermittedHeaps, ImageFormatConstraints, PixelFormatModifier, ColorSpaces, SizeAlignment, StartOffsetDivisor, DisplayRectAlignment, RequiredMinSize, MaxWidthTimesHeight, Heaps, Pairs, HeapType, Domains}
+use Rattle.sysmem_counts.specs.declared.field.Field.TheVariants.{Usage, PermittedHeaps}
+use Rattle.sysmem_counts.specs.declared.field.Field.TheVariants.{ImageFormatConstraints}
+use Rattle.sysmem_counts.specs.declared.field.Field.TheVariants.{PixelFormatModifier, ColorSpaces}
+use Rattle.sysmem_counts.specs.declared.field.Field.TheVariants.{SizeAlignment, StartOffsetDivisor}
+use Rattle.sysmem_counts.specs.declared.field.Field.TheVariants.{DisplayRectAlignment}
+use Rattle.sysmem_counts.specs.declared.field.Field.TheVariants.{RequiredMinSize}
+use Rattle.sysmem_counts.specs.declared.field.Field.TheVariants.{MaxWidthTimesHeight, Heaps, Pairs}
+use Rattle.sysmem_counts.specs.declared.field.Field.TheVariants.{HeapType, Domains}
 use Rattle.sysmem_counts.specs.declared.usage.Usage.{Usage as Families}
 use Rattle.sysmem_formats.specs.declared.colour_space.ColourSpace.{ColourSpace}
 use Rattle.sysmem_formats.specs.declared.offer.Pair.{Pair}
@@ -16,7 +24,8 @@ use Rattle.sysmem_sanitise.specs.Reading.Heaps.{IsHeapName, has_domains}
 
 -- 1 to 64 heaps, none of them twice
 abbrev pub AreHeaps : List HeapFacts → Type 0
-AreHeaps heaps = (1 ≤ length heaps) × (length heaps ≤ 64) × AllPairs (λ a b. same_heap a.heap b.heap ≡ false) heaps
+AreHeaps heaps = (1 ≤ length heaps) × (length heaps ≤ 64)
+    × AllPairs (λ a b. same_heap a.heap b.heap ≡ false) heaps
 
 -- some items, none of them twice
 abbrev pub AreListed : {X : Type 0} → List X → Type 0
@@ -28,7 +37,8 @@ PlatformAmiss Heaps heaps pairs colours = AreHeaps heaps → ⊥
 PlatformAmiss HeapType heaps pairs colours = All (λ h. IsHeapName h.heap) heaps → ⊥
 PlatformAmiss Domains heaps pairs colours = All (λ h. has_domains h.domains ≡ true) heaps → ⊥
 PlatformAmiss Pairs heaps pairs colours = AreListed pairs → ⊥
-PlatformAmiss PixelFormatModifier heaps pairs colours = All (λ pair. IsTiledMisfit pair → ⊥) pairs → ⊥
+PlatformAmiss PixelFormatModifier heaps pairs colours =
+    All (λ pair. IsTiledMisfit pair → ⊥) pairs → ⊥
 PlatformAmiss ColorSpaces heaps pairs colours = AreListed colours → ⊥
 PlatformAmiss _ _ _ _ = ⊥
 
@@ -42,7 +52,8 @@ AreEntries entries = (length entries ≤ 64) × AllPairs AreApart entries
 
 -- the entry asks for a tiled misfit
 abbrev pub AsksMisfit : Entry → Type 0
-AsksMisfit entry = (pair : Pair) × (entry.format ≡ Some pair.format) × (entry.modifier ≡ Some pair.modifier) × IsTiledMisfit pair
+AsksMisfit entry = (pair : Pair) × (entry.format ≡ Some pair.format)
+    × (entry.modifier ≡ Some pair.modifier) × IsTiledMisfit pair
 
 -- in this field no entry is so
 abbrev pub EntryAmiss : Field → Entry → Type 0
@@ -50,8 +61,10 @@ EntryAmiss PixelFormatModifier entry = AsksMisfit entry
 EntryAmiss ColorSpaces entry = entry.colours ≡ no_colours
 EntryAmiss SizeAlignment entry = HasSidesUpTo most_multiple entry.bounds.asked.size_alignment → ⊥
 EntryAmiss StartOffsetDivisor entry = most_multiple < entry.bounds.asked.start_offset_divisor
-EntryAmiss DisplayRectAlignment entry = HasSidesUpTo most_multiple entry.bounds.asked.display_rect_alignment → ⊥
-EntryAmiss RequiredMinSize entry = (1 ≤ entry.bounds.asked.required_min_size.width) × (1 ≤ entry.bounds.asked.required_min_size.height) → ⊥
+EntryAmiss DisplayRectAlignment entry =
+    HasSidesUpTo most_multiple entry.bounds.asked.display_rect_alignment → ⊥
+EntryAmiss RequiredMinSize entry = (1 ≤ entry.bounds.asked.required_min_size.width)
+    × (1 ≤ entry.bounds.asked.required_min_size.height) → ⊥
 EntryAmiss MaxWidthTimesHeight entry = entry.bounds.asked.max_width_times_height ≡ 0
 EntryAmiss _ _ = ⊥
 

@@ -3,7 +3,12 @@ use Rattle.std.specs.Prelude.{ℕ, ◌++◌, List, Option, Some, None, codes}
 use Rattle.sysmem_counts.specs.declared.field.Field.{Field}
 use Rattle.sysmem_counts.specs.Field.{field_name}
 use Rattle.sysmem_sanitise.specs.declared.fault.Code.{Code}
-use Rattle.sysmem_sanitise.specs.declared.fault.Code.TheVariants.{NotAnObject, UnknownField, WrongKind, UnknownName, BadUsage, NoColourSpaces, BadMultiple, RepeatedPair, TooMany, RepeatedHeap, BadPlatformList, TiledMisfit, WantOfMemory}
+use Rattle.sysmem_sanitise.specs.declared.fault.Code.TheVariants.{NotAnObject, UnknownField}
+use Rattle.sysmem_sanitise.specs.declared.fault.Code.TheVariants.{WrongKind, UnknownName, BadUsage}
+use Rattle.sysmem_sanitise.specs.declared.fault.Code.TheVariants.{NoColourSpaces, BadMultiple}
+use Rattle.sysmem_sanitise.specs.declared.fault.Code.TheVariants.{RepeatedPair, TooMany}
+use Rattle.sysmem_sanitise.specs.declared.fault.Code.TheVariants.{RepeatedHeap, BadPlatformList}
+use Rattle.sysmem_sanitise.specs.declared.fault.Code.TheVariants.{TiledMisfit, WantOfMemory}
 use Rattle.sysmem_sanitise.specs.declared.fault.Fault.{Fault}
 use Rattle.sysmem_sanitise.specs.declared.fault.FaultPlace.{FaultPlace}
 use Rattle.sysmem_sanitise.specs.declared.fault.FaultPlace.TheVariants.{Whole, At}

@@ -31,11 +31,12 @@ pub record IsUsage (usage : Usage) : Type 0 where
 abbrev pub HasSidesUpTo : ℕ → Size → Type 0
 HasSidesUpTo n size = (size.width ≤ n) × (size.height ≤ n)
 
--- what an entry may ask: no tiled modifier with a format that isn't of 4 bytes, some colour spaces, alignments and
--- divisors up to 65,536, a required_min_size and a max_width_times_height from 1. What else is 1 or more its bounds say
--- themselves, and how great a row divisor is.
+-- what an entry may ask: no tiled modifier with a format that isn't of 4 bytes, some colour spaces,
+-- alignments and divisors up to 65,536, a required_min_size and a max_width_times_height from 1.
+-- What else is 1 or more its bounds say themselves, and how great a row divisor is.
 pub record IsEntry (entry : Entry) : Type 0 where
-  pub fitting : (pair : Pair) → entry.format ≡ Some pair.format → entry.modifier ≡ Some pair.modifier → IsTiledMisfit pair → ⊥
+  pub fitting : (pair : Pair) → entry.format ≡ Some pair.format
+      → entry.modifier ≡ Some pair.modifier → IsTiledMisfit pair → ⊥
   pub some_colours : entry.colours ≢ no_colours
   pub size_alignment : HasSidesUpTo most_multiple entry.bounds.asked.size_alignment
   pub start_offset_divisor : entry.bounds.asked.start_offset_divisor ≤ most_multiple
@@ -48,9 +49,10 @@ pub record IsEntry (entry : Entry) : Type 0 where
 abbrev pub AreApart : Entry → Entry → Type 0
 AreApart a b = a.format ≡ b.format → a.modifier ≢ b.modifier
 
--- what a participant may ask: a usage, at most 64 permitted heaps and at most 64 entries, none of them twice. Counts
--- and sizes may be any of their types.
-pub record IsParticipant (usage : Usage) (memory : MemoryWishes) (entries : List Entry) : Type 0 where
+-- what a participant may ask: a usage, at most 64 permitted heaps and at most 64 entries, none of
+-- them twice. Counts and sizes may be any of their types.
+pub record IsParticipant (usage : Usage) (memory : MemoryWishes)
+    (entries : List Entry) : Type 0 where
   pub families : IsUsage usage
   pub few_heaps : length memory.permitted_heaps ≤ 64
   pub distinct_heaps : AllPairs (λ a b. same_heap a b ≡ false) memory.permitted_heaps

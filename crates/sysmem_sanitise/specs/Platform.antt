@@ -8,7 +8,8 @@ use Rattle.sysmem_formats.specs.Offers.{offers}
 use Rattle.sysmem_memory.specs.Heap.{HeapFacts, same_heap}
 use Rattle.sysmem_sanitise.specs.Reading.Heaps.{IsHeapName, has_domains}
 
--- a platform's heaps, its pairs of a format and a modifier, and its colour spaces, each in its order
+-- a platform's heaps, its pairs of a format and a modifier, and its
+-- colour spaces, each in its order
 pub record PlatformFacts : Type 0 where
   pub heaps : List HeapFacts
   pub pairs : List Pair
@@ -18,9 +19,10 @@ pub record PlatformFacts : Type 0 where
 abbrev pub IsHeap : HeapFacts → Type 0
 IsHeap h = IsHeapName h.heap × (has_domains h.domains ≡ true)
 
--- what a platform may have: 1 to 64 heaps, some pairs and some colour spaces, none of them twice, and no tiled
--- modifier with a format that isn't of 4 bytes
-pub record IsPlatform (heaps : List HeapFacts) (pairs : List Pair) (colours : List ColourSpace) : Type 0 where
+-- what a platform may have: 1 to 64 heaps, some pairs and some colour spaces, none of them twice,
+-- and no tiled modifier with a format that isn't of 4 bytes
+pub record IsPlatform (heaps : List HeapFacts) (pairs : List Pair)
+    (colours : List ColourSpace) : Type 0 where
   pub some_heaps : 1 ≤ length heaps
   pub few_heaps : length heaps ≤ 64
   pub distinct_heaps : AllPairs (λ a b. same_heap a.heap b.heap ≡ false) heaps

@@ -43,7 +43,8 @@ pub taken_part : (platform : PlatformFacts) (base : Option BaseFacts) (b : BaseF
     → TakesBase platform settings [] kept ps → IsPart platform base (part_as.OnBase kept) ps
 taken_part platform base b settings kept ps some is h = subst (λ o. IsPart platform o (part_as.OnBase kept) ps) (sym some) (subst (λ s. TakesBase platform s [] kept ps) is h)
 
--- settings that the participants take behind those accepted before are settings that meet the members
+-- settings that the participants take behind those accepted before
+-- are settings that meet the members
 pub fixed_met : (platform : PlatformFacts) (nodes : List NodeFacts) (b : BaseFacts) (ms : List Member) (met : Bool)
     → IsTrue met ↔ (All (CoversOn platform b.settings) (participants ms) × IsCounted (counts_asked (asked_in nodes b.accepted) ++ counts_asked (participants ms)) b.settings.count)
     → IsTrue met ↔ MeetsFixed platform (terms_of nodes b) ms b.settings

@@ -1,4 +1,5 @@
--- Refutations that end where they can, by the conflict that comes first there: no choice is gone on with after which nothing meets what is settled.
+-- Refutations that end where they can, by the conflict that comes first there: no choice is gone on
+-- with after which nothing meets what is settled.
 use Rattle.std.specs.Prelude.{ℕ, List, [], ◌∷◌, ◌++◌, IfSome, slice_get, take}
 use Rattle.std.specs.List.{AllZip}
 use Rattle.sysmem_proof.specs.CertificateFacts.{CertificateFacts}
@@ -17,26 +18,32 @@ use Rattle.sysmem_search.specs.Question.{MeetsSoFar}
 use Rattle.sysmem_tree.specs.Forest.{Forest, choices}
 use Rattle.sysmem_tree.specs.Shape.{Member}
 
--- of items that refute forests in turn: each split stands where some settings meet what is settled, and each leaf has the conflict that comes first
+-- of items that refute forests in turn: each split stands where some settings meet what is settled,
+-- and each leaf has the conflict that comes first
 abbrev pub AreFirstItems : Meeting → Conflicts → List Item → List (Forest Member) → Type 0
 AreFirstItems Met First [] ds = Unit {0}
 AreFirstItems Met First (item ∷ items) [] = Unit {0}
-AreFirstItems Met First (Leaf conflict ∷ items) (d ∷ ds) = First d conflict × AreFirstItems Met First items ds
-AreFirstItems Met First (Split n ∷ items) (d ∷ ds) = SomeMeet Met d × IfSome (choices d) (λ es. AreFirstItems Met First items (es ++ ds))
+AreFirstItems Met First (Leaf conflict ∷ items) (d ∷ ds) =
+    First d conflict × AreFirstItems Met First items ds
+AreFirstItems Met First (Split n ∷ items) (d ∷ ds) =
+    SomeMeet Met d × IfSome (choices d) (λ es. AreFirstItems Met First items (es ++ ds))
 
 -- of items that refute a forest
 abbrev pub IsCut : Matter → Forest Member → List Item → Type 0
-IsCut m d items = AreFirstItems (MeetsSoFar m) (IsFirstConflictFor m.platform (terms m)) items (d ∷ [])
+IsCut m d items =
+    AreFirstItems (MeetsSoFar m) (IsFirstConflictFor m.platform (terms m)) items (d ∷ [])
 
 -- of items that refute, for each of the choices in turn, the choices before it
 abbrev pub AreCut : Matter → Forest Member → List ℕ → List (List (List Item)) → Type 0
 AreCut m d [] rss = Unit {0}
 AreCut m d (c ∷ cs) [] = Unit {0}
-AreCut m d (c ∷ cs) (rs ∷ rss) = IfSome (choices d) (λ es. AllZip (IsCut m) (take c es) rs × IfSome (slice_get es c) (λ e. AreCut m e cs rss))
+AreCut m d (c ∷ cs) (rs ∷ rss) = IfSome (choices d)
+    (λ es. AllZip (IsCut m) (take c es) rs × IfSome (slice_get es c) (λ e. AreCut m e cs rss))
 
 -- of a certificate of a verdict that chose
 abbrev pub IsCutFor : Matter → Verdict → CertificateFacts → Type 0
-IsCutFor m (verdicts.Chosen chosen) certificate = AreCut m (forest m) chosen.selection certificate.earlier
+IsCutFor m (verdicts.Chosen chosen) certificate =
+    AreCut m (forest m) chosen.selection certificate.earlier
 IsCutFor m verdict certificate = Unit {0}
 
 -- of what proves a verdict

@@ -1,5 +1,6 @@
 -- For which participants that stands which a search keeps of them.
-use Rattle.std.specs.Prelude.{◌≤◌, ◌<◌, ◌+◌, ◌*◌, ◌^◌, ◌↔◌, ◌++◌, List, [], All, IsTrue, Option, Some, None, length}
+use Rattle.std.specs.Prelude.{◌≤◌, ◌<◌, ◌+◌, ◌*◌, ◌^◌, ◌↔◌, ◌++◌, List, [], All, IsTrue}
+use Rattle.std.specs.Prelude.{Option, Some, None, length}
 use Rattle.sysmem_counts.specs.Bounds as counts
 use Rattle.sysmem_counts.specs.Tally.{sum_of}
 use Rattle.sysmem_merge.specs.declared.settings.Settings.{Settings}
@@ -18,17 +19,21 @@ use Rattle.sysmem_search.specs.declared.on_base.OnBase.{OnBase}
 use Rattle.sysmem_proof.specs.Asked.{asked_in}
 use Rattle.sysmem_tree.specs.Node.{NodeFacts}
 
--- what is asked of the number of buffers by participants and by those accepted before them, and whether each of the participants accepts
--- the settings
-pub record TakesBase (platform : PlatformFacts) (settings : Settings) (earlier : List Participant) (kept : OnBase) (ps : List Participant) : Type 0 where
+-- what is asked of the number of buffers by participants and by those accepted before them, and
+-- whether each of the participants accepts the settings
+pub record TakesBase (platform : PlatformFacts) (settings : Settings) (earlier : List Participant)
+    (kept : OnBase) (ps : List Participant) : Type 0 where
   pub counts : counts.IsTallyOf kept.counts (counts_asked earlier ++ counts_asked ps)
   pub small : sum_of kept.counts ≤ (length earlier + length ps) * 2 ^ 33
   pub accept : IsTrue kept.all_accept ↔ All (CoversOn platform settings) ps
 
--- what is kept of a prefix stands for these participants: without a base their sum, else how they take it behind those accepted before
-abbrev pub IsKeptOf : PlatformFacts → List NodeFacts → Option BaseFacts → Kept → List Participant → Type 0
+-- what is kept of a prefix stands for these participants: without a base their sum, else how they
+-- take it behind those accepted before
+abbrev pub IsKeptOf : PlatformFacts → List NodeFacts → Option BaseFacts → Kept → List Participant
+    → Type 0
 IsKeptOf platform nodes None (kept_as.Sum sum) ps = SumsUp sum platform ps
-IsKeptOf platform nodes (Some base) (kept_as.OnBase kept) ps = TakesBase platform base.settings (asked_in nodes base.accepted) kept ps
+IsKeptOf platform nodes (Some base) (kept_as.OnBase kept) ps =
+    TakesBase platform base.settings (asked_in nodes base.accepted) kept ps
 IsKeptOf platform nodes _ _ ps = ⊥
 
 -- what is kept of one choice stands for these participants, whatever was accepted before
@@ -45,5 +50,6 @@ HasRoom (part_as.OnBase kept) = sum_of kept.counts < 2 ^ 62
 -- the participants of both fit together
 abbrev pub HaveRoom : Kept → Part → Type 0
 HaveRoom (kept_as.Sum sum) (part_as.Share share) = sum.added + share.sum.added ≤ 1024
-HaveRoom (kept_as.OnBase above) (part_as.OnBase kept) = sum_of above.counts + sum_of kept.counts < 2 ^ 62
+HaveRoom (kept_as.OnBase above) (part_as.OnBase kept) =
+    sum_of above.counts + sum_of kept.counts < 2 ^ 62
 HaveRoom _ _ = Unit {0}

@@ -21,4 +21,5 @@ IsCutRefutation m d items = IsRefutation m.platform (terms m) d items × IsCut m
 
 -- refutations of the first choices for the first group, so many, one of each
 abbrev pub RefutesFirst : Matter → Forest Member → ℕ → List (List Item) → Type 0
-RefutesFirst m d c refutations = IsSomeAnd (choices d) (λ es. AllZip (IsCutRefutation m) (take c es) refutations)
+RefutesFirst m d c refutations =
+    IsSomeAnd (choices d) (λ es. AllZip (IsCutRefutation m) (take c es) refutations)

@@ -1,5 +1,6 @@
 -- Where a search stands, and what it keeps there.
-use Rattle.std.specs.Prelude.{◌≡◌, ◌≤◌, ◌+◌, ℕ, List, [], Option, Some, IsSomeAnd, length, slice_get, take}
+use Rattle.std.specs.Prelude.{◌≡◌, ◌≤◌, ◌+◌, ℕ, List, [], Option, Some, IsSomeAnd}
+use Rattle.std.specs.Prelude.{length, slice_get, take}
 use Rattle.sysmem_proof.specs.Base.{BaseFacts}
 use Rattle.sysmem_proof.specs.Members.{participants}
 use Rattle.sysmem_sanitise.specs.Participant.{Participant}
@@ -32,7 +33,8 @@ pub record LaysOut (m : Matter) (layout : Layout) : Type 0 where
   pub lays : IsLayout layout (numbers m)
   pub nodes : HoldsNodes layout m.nodes
 
--- a level is that of these choices: the first group that is open after them, and what is kept of the participants that they settle
+-- a level is that of these choices: the first group that is open after them, and what is kept of
+-- the participants that they settle
 pub record IsLevel (m : Matter) (layout : Layout) (cs : List ℕ) (level : Level) : Type 0 where
   pub left : Forest Member
   pub leads : after (forest m) cs ≡ Some left
@@ -41,23 +43,29 @@ pub record IsLevel (m : Matter) (layout : Layout) (cs : List ℕ) (level : Level
 
 -- there is a level for each front of the choices
 abbrev pub AreLevels : Matter → Layout → List ℕ → List Level → Type 0
-AreLevels m layout cs levels = (k : ℕ) → k ≤ length cs → IsSomeAnd (slice_get levels k) (IsLevel m layout (take k cs))
+AreLevels m layout cs levels = (k : ℕ) → k ≤ length cs
+    → IsSomeAnd (slice_get levels k) (IsLevel m layout (take k cs))
 
 -- each level stands for some participants
 abbrev pub AreMade : PlatformFacts → List NodeFacts → Option BaseFacts → List Level → Type 0
-AreMade platform nodes base levels = (k : ℕ) (level : Level) → slice_get levels k ≡ Some level → (ps : List Participant) × IsKeptOf platform nodes base level.kept ps
+AreMade platform nodes base levels = (k : ℕ) (level : Level) → slice_get levels k ≡ Some level
+    → (ps : List Participant) × IsKeptOf platform nodes base level.kept ps
 
 -- what is kept of the child at a place stands in this slot: the last place has the first slot
 abbrev pub IsSlot : ℕ → ℕ → Type 0
 IsSlot place slot = slot + place ≡ 127
 
--- what is kept in a slot is of the child whose slot it is: of the participants that the choice of it settles
-abbrev pub AreParts : PlatformFacts → List NodeFacts → Option BaseFacts → Layout → List (Option Part) → Type 0
-AreParts platform nodes base layout parts = (place slot : ℕ) (part : Part) → IsSlot place slot → slice_get parts slot ≡ Some (Some part)
+-- what is kept in a slot is of the child whose slot it is: of the
+-- participants that the choice of it settles
+abbrev pub AreParts : PlatformFacts → List NodeFacts → Option BaseFacts → Layout
+    → List (Option Part) → Type 0
+AreParts platform nodes base layout parts = (place slot : ℕ) (part : Part) → IsSlot place slot
+    → slice_get parts slot ≡ Some (Some part)
     → IsPart platform base part (asked_in nodes (share_of layout place))
 
 -- what a search keeps where it stands
-pub record StandsAt (m : Matter) (layout : Layout) (parts : List (Option Part)) (levels : List Level) (cs : List ℕ) : Type 0 where
+pub record StandsAt (m : Matter) (layout : Layout) (parts : List (Option Part))
+    (levels : List Level) (cs : List ℕ) : Type 0 where
   pub given : HasBase m
   pub laid : LaysOut m layout
   pub shares : AreParts m.platform m.nodes m.base layout parts

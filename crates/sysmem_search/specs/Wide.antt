@@ -1,5 +1,6 @@
 -- What several workers find, each of whom has a share of the choices for the first group.
-use Rattle.std.specs.Prelude.{◌≡◌, ◌<◌, ◌≤◌, ◌+◌, ◌*◌, ◌/◌, ℕ, List, ◌∷◌, Option, Some, None, Result, IfOk, IfSome, IsSomeAnd, length, slice_index_or}
+use Rattle.std.specs.Prelude.{◌≡◌, ◌<◌, ◌≤◌, ◌+◌, ◌*◌, ◌/◌, ℕ, List, ◌∷◌, Option, Some, None}
+use Rattle.std.specs.Prelude.{Result, IfOk, IfSome, IsSomeAnd, length, slice_index_or}
 use Rattle.sysmem_proof.specs.Chosen.{ChosenFacts}
 use Rattle.sysmem_proof.specs.Matter.{Matter, forest}
 use Rattle.sysmem_proof.specs.Verdict.{IsForestUnmet, IsChosen}

@@ -23,11 +23,13 @@ pub struct Found {
     pub visits: u64,
 }
 
-/// Decides a domain of the tree that is ready, for an attached one on the base that is given: the first selection that any settings meet,
-/// with the best settings for it. Where there are more than 4,096 selections it answers `TooMany`, and visits none. It goes through prefixes
-/// of choices, the first child first, and not beyond one of which nothing meets the settled participants; that nobody names an image's
-/// format, modifier or colour space is asked of whole selections alone. The gate is told of each visit. A visit takes memory only where what
-/// it reads is read for the first time. `AllocError` where memory is refused.
+/// Decides a domain of the tree that is ready, for an attached one on the base that is given: the
+/// first selection that any settings meet, with the best settings for it. Where there are more than
+/// 4,096 selections it answers `TooMany`, and visits none. It goes through prefixes of choices, the
+/// first child first, and not beyond one of which nothing meets the settled participants; that
+/// nobody names an image's format, modifier or colour space is asked of whole selections alone. The
+/// gate is told of each visit. A visit takes memory only where what it reads is read for the first
+/// time. `AllocError` where memory is refused.
 pub fn search<G: Gate>(
     alloc: Global,
     platform: &Platform,

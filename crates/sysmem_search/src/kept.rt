@@ -1,4 +1,5 @@
-//! What a search keeps of participants, so that each is read once and not again at each prefix that settles it.
+//! What a search keeps of participants, so that each is read once and not
+//! again at each prefix that settles it.
 
 ghost use Rattle.std.specs.Prelude.{◌≡◌, ◌↔◌, ◌++◌, List, [], ◌∷◌, IfOk, IsTrue, MatchOption, Option, is_some, option_map};
 ghost use Rattle.sysmem_merge.specs.declared.settings.Settings.{Settings as Settled};
@@ -92,7 +93,8 @@ impl Kept {
         }
     }
 
-    /// Becomes what is kept of the participants above, then those of a part, whatever it was. It takes no memory.
+    /// Becomes what is kept of the participants above, then those of a part,
+    /// whatever it was. It takes no memory.
     pub(crate) fn join_of(&mut self, platform: &Platform, above: &Kept, part: &Part)
         requires { HaveRoom above.now part.now }
         ensures { (nodes : List NodeFacts) (base : Option BaseFacts)
@@ -125,7 +127,8 @@ impl Kept {
         }
     }
 
-    /// The best settings for the participants, who are all that there are; `None` where none meet them. It takes no memory.
+    /// The best settings for the participants, who are all that there are; `None` where
+    /// none meet them. It takes no memory.
     // In line, a caller that asks only whether there are any copies no settings.
     #[inline(always)]
     pub(crate) fn best(&self, platform: &Platform, base: Option<&Base>) -> Option<Settings>
@@ -149,7 +152,8 @@ impl Kept {
         }
     }
 
-    /// Whether there are best settings for the participants, who are all that there are. It takes no memory.
+    /// Whether there are best settings for the participants, who are all
+    /// that there are. It takes no memory.
     pub(crate) fn has_best(&self, platform: &Platform, base: Option<&Base>) -> bool
         ensures { (best : Option Settled) × (result ≡ is_some best)
             × ((nodes : List NodeFacts) (ms : List Member) → IsKeptOf platform.now nodes

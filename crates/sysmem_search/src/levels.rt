@@ -20,7 +20,8 @@ use sysmem_proof::Base;
 use sysmem_sanitise::Platform;
 use sysmem_tree::{ChildPlace, DomainId, GroupPlace, Layout, MOST_NODES, Tree};
 
-/// What is kept at a prefix. Those of longer prefixes are written over, so that a visit takes no memory.
+/// What is kept at a prefix. Those of longer prefixes are written over,
+/// so that a visit takes no memory.
 #[derive(Drop)]
 pub(crate) struct Level {
     /// The first group that is open after the choices.
@@ -29,7 +30,8 @@ pub(crate) struct Level {
     pub(crate) kept: Kept,
 }
 
-/// Makes the level below this depth that of one choice more, which settles a part and leaves this group open.
+/// Makes the level below this depth that of one choice more, which settles a
+/// part and leaves this group open.
 pub(crate) fn join_level(
     levels: &mut Vec<Level>,
     platform: &Platform,
@@ -116,7 +118,8 @@ pub(crate) fn reserve_level(
     Ok(())
 }
 
-/// The slot in which what is kept of a child stands. The places of a domain are the last ones, so that those of its children need few slots.
+/// The slot in which what is kept of a child stands. The places of a domain are the last ones, so
+/// that those of its children need few slots.
 pub(crate) fn slot_of(child: ChildPlace) -> usize
     requires { child < 128 }
     ensures { IsSlot child result }
@@ -169,8 +172,8 @@ pub(crate) fn keep_part(
     read_part(parts, slot, child, alloc, platform, tree, base, layout)
 }
 
-/// Reads what the choice of a child settles, and keeps it in its slot. A visit that needn't read it isn't burdened with the memory
-/// that a new part takes on the stack.
+/// Reads what the choice of a child settles, and keeps it in its slot. A visit that needn't read it
+/// isn't burdened with the memory that a new part takes on the stack.
 #[cold]
 #[inline(never)]
 fn read_part(

@@ -1,4 +1,5 @@
-//! The decision of a domain: the first selection of children that any settings can meet; and what proves it, where that is asked for.
+//! The decision of a domain: the first selection of children that any settings can meet; and what
+//! proves it, where that is asked for.
 //!
 //! ```
 //! let found = search(rt.alloc(), &platform, &tree, domain, None, &NoGate)?;

@@ -20,8 +20,8 @@ use sysmem_merge::{Settings, meets_one};
 use sysmem_sanitise::{Constraints, Platform};
 use sysmem_tree::{NodeId, Tree};
 
-/// What participants ask of the number of buffers together with those accepted before them, and whether each of them accepts the
-/// base's settings.
+/// What participants ask of the number of buffers together with those accepted before them, and
+/// whether each of them accepts the base's settings.
 #[derive(Clone, Copy)]
 pub(crate) struct OnBase {
     counts: CountBounds,

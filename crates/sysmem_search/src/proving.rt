@@ -17,10 +17,12 @@ use sysmem_sanitise::Platform;
 use sysmem_tree::layout_laws::few_choices;
 use sysmem_tree::{DomainId, Tree};
 
-/// What proves a verdict that is optimal for a domain, for an attached one on the base that is given: of a choice refutations of each choice
-/// before those of its selection, and lines that refuse each offer and each place before those of its settings; where no settings meet any
-/// selection a refutation of the whole domain; of more than 4,096 selections nothing. A refutation is no longer than it needs to be: it
-/// splits a group only where settings meet what was chosen before. `AllocError` where memory is refused.
+/// What proves a verdict that is optimal for a domain, for an attached one on the base that is
+/// given: of a choice refutations of each choice before those of its selection, and lines that
+/// refuse each offer and each place before those of its settings; where no settings meet any
+/// selection a refutation of the whole domain; of more than 4,096 selections nothing. A refutation
+/// is no longer than it needs to be: it splits a group only where settings meet what was chosen
+/// before. `AllocError` where memory is refused.
 pub fn prove(
     alloc: Global,
     platform: &Platform,

@@ -22,8 +22,9 @@ use sysmem_sanitise::Platform;
 use sysmem_tree::layout_laws::{choice_settles_share, none_open_is_selection};
 use sysmem_tree::{DomainId, Layout, Prefix, Tree};
 
-/// A domain of a tree on a platform, with its base where it is an attached one, and a prefix of choices at which a search stands. What a
-/// choice settles is read once, when the choice is first made; each prefix on the way is kept by what its participants ask together.
+/// A domain of a tree on a platform, with its base where it is an attached one, and a prefix of
+/// choices at which a search stands. What a choice settles is read once, when the choice is first
+/// made; each prefix on the way is kept by what its participants ask together.
 #[derive(Drop)]
 pub(crate) struct Question<'a> {
     alloc: Global,
@@ -141,7 +142,8 @@ impl<'a> Question<'a> {
         }
     }
 
-    /// Whether some settings meet the participants that the choices settle, as long as more may come. It takes no memory.
+    /// Whether some settings meet the participants that the choices settle, as long as
+    /// more may come. It takes no memory.
     pub(crate) fn is_met(&self) -> bool
         ensures { IfSome (after (forest self.now.matter) self.now.choices)
             (λ d. IsTrue result ↔ SomeMeet (MeetsSoFar self.now.matter) d) }
@@ -150,7 +152,8 @@ impl<'a> Question<'a> {
         level.kept.is_met(self.platform, self.base)
     }
 
-    /// The best settings for the participants of a selection; `None` where none meet them. It takes no memory.
+    /// The best settings for the participants of a selection; `None` where
+    /// none meet them. It takes no memory.
     pub(crate) fn best(&self) -> Option<Settings>
         ensures { IfSome (after (forest self.now.matter) self.now.choices) (λ d. MatchOption result
             ((t : Settled) → ¬ (MeetsOf self.now.matter (settled d) t))
@@ -171,7 +174,8 @@ impl<'a> Question<'a> {
         level.kept.has_best(self.platform, self.base)
     }
 
-    /// The conflict of the participants that the choices settle which comes first, where no settings meet them.
+    /// The conflict of the participants that the choices settle which comes
+    /// first, where no settings meet them.
     pub(crate) fn conflict(&mut self) -> Result<Conflict, AllocError>
         requires prefix { IsPrefix (forest self.old.matter) self.old.choices }
         requires unmet { IfSome (after (forest self.old.matter) self.old.choices)
@@ -202,7 +206,8 @@ impl<'a> Question<'a> {
         }
     }
 
-    /// Makes one choice more. It takes memory where a choice of this child, or so many choices, are made for the first time.
+    /// Makes one choice more. It takes memory where a choice of this child, or so many
+    /// choices, are made for the first time.
     pub(crate) fn enter(&mut self, choice: u8) -> Result<(), AllocError>
         requires room { length self.old.choices < 128 }
         requires prefix { IsPrefix (forest self.old.matter) (self.old.choices ++ choice ∷ []) }

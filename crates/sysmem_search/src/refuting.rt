@@ -16,7 +16,8 @@ use std::alloc::{AllocError, Global};
 use sysmem_proof::{EarlierChoices, Item, Refutation};
 use sysmem_tree::Prefix;
 
-/// Adds a conflict of what the question's choices settle, where no settings meet it: it refutes all that goes on from there.
+/// Adds a conflict of what the question's choices settle, where no settings meet it: it
+/// refutes all that goes on from there.
 fn refute_here(question: &mut Question<'_>, items: &mut Vec<Item>) -> Result<(), AllocError>
     requires prefix { IsPrefix (forest question.old.matter) question.old.choices }
     requires unmet { IfSome (after (forest question.old.matter) question.old.choices)
@@ -30,9 +31,10 @@ fn refute_here(question: &mut Question<'_>, items: &mut Vec<Item>) -> Result<(),
     Ok(())
 }
 
-/// Adds a refutation of all that goes on from the question's choices, where no settings meet any selection there: a conflict where they are
-/// a selection or what they settle can't be met, else a split and a refutation of each choice for the next group. The choices are as before.
-/// So each split stands where what is settled can be met.
+/// Adds a refutation of all that goes on from the question's choices, where no settings meet any
+/// selection there: a conflict where they are a selection or what they settle can't be met, else a
+/// split and a refutation of each choice for the next group. The choices are as before. So each
+/// split stands where what is settled can be met.
 pub(crate) fn refute_from(
     question: &mut Question<'_>,
     items: &mut Vec<Item>,
@@ -61,8 +63,8 @@ pub(crate) fn refute_from(
     Ok(())
 }
 
-/// Refutes each choice for the next group before this one, where no settings meet a selection that makes it. The question's choices are as
-/// before.
+/// Refutes each choice for the next group before this one, where no settings meet a selection that
+/// makes it. The question's choices are as before.
 fn refute_before(
     alloc: Global,
     question: &mut Question<'_>,
@@ -88,8 +90,8 @@ fn refute_before(
     Ok(EarlierChoices::new(refutations))
 }
 
-/// Goes from no choice on to this selection, where no settings meet an earlier one, and at each group on the way refutes each choice before
-/// the one that it makes.
+/// Goes from no choice on to this selection, where no settings meet an earlier one, and at each
+/// group on the way refutes each choice before the one that it makes.
 pub(crate) fn refute_earlier(
     alloc: Global,
     question: &mut Question<'_>,

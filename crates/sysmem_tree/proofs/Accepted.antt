@@ -19,7 +19,8 @@ let_through false false true true room x y e = absurd (cc)
 let_through false false true false false x y e = absurd (cc)
 let_through false false true false true x y e = (refl, refl, refl, cc)
 
--- an accepted action: its node is there and allows it, there is room, and the tree and the node are those after it
+-- an accepted action: its node is there and allows it, there is room, and the
+-- tree and the node are those after it
 pub record IsAccepted (t : TreeFacts) (i : ℕ) (deed : Deed) (after : Applied) (n : NodeFacts) : Type 0 where
   pub there : slice_get t.nodes i ≡ Some n
   pub allowed : allows (kind_of deed) n.state ≡ true

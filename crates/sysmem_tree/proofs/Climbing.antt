@@ -16,8 +16,8 @@ use Rattle.sysmem_tree.proofs.Soundness.{root_there}
 use Rattle.sysmem_tree.proofs.Steps.{domain_up}
 use Rattle.sysmem_tree.proofs.Upwards.{fails_within, failed_here, failed_nowhere, failed_above}
 
--- the climb from domain r has come to this host: its domain stands before this index, and whether that was decided without the host, or it or
--- one above it fails, decides
+-- the climb from domain r has come to this host: its domain stands before this index, and whether
+-- that was decided without the host, or it or one above it fails, decides
 pub record IsClimbed (t : TreeFacts) (r index : ℕ) (h : NodeFacts) : Type 0 where
   pub many : ℕ
   pub below : h.domain < many
@@ -91,7 +91,8 @@ domain_at [] k r e = absurd (cc)
 domain_at (d ∷ ds) zero r e = (d, refl, same_Some d.root r e)
 domain_at (d ∷ ds) (suc k) r e = domain_at ds k r e
 
--- where the roots rise, the one entry of a root says whether it was closed early and what was decided
+-- where the roots rise, the one entry of a root says whether it was
+-- closed early and what was decided
 differs : (a b : ℕ) → a < b → (a == b) ≡ false
 differs a b less = by (a == b) refl where
   by : (c : Bool) → (a == b) ≡ c → (a == b) ≡ false

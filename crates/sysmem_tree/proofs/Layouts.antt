@@ -82,7 +82,8 @@ goes_group : (g : Bool) (s : Spot) (kids rest : Forest Spot) (next : Option ℕ)
 goes_group true s kids rest next = refl
 goes_group false s kids rest next = refl
 
--- a child is laid out in front of the others: below it come its own children, laid out before the others
+-- a child is laid out in front of the others: below it come its own
+-- children, laid out before the others
 module _ (g : Bool) (ps qs : List Place) (i to : ℕ) (next : Option ℕ) (a b : Forest ℕ) (own others : Laid)
     (rest : Lays g ps b others to next) (kept : (k : ℕ) → others.start ≤ k → slice_get qs k ≡ slice_get ps k)
     (place : ℕ) (before : suc place ≡ own.start) (room : place < length qs) where

@@ -18,7 +18,8 @@ use Rattle.sysmem_tree.proofs.Labelled.{one_forest}
 use Rattle.sysmem_tree.proofs.Once.{Leads, is_shown, labels_lead, labels_relabel}
 use Rattle.sysmem_tree.proofs.Places.{there}
 
--- the nodes of a forest have paths of this length, their children of one more; and groups are groups
+-- the nodes of a forest have paths of this length, their children
+-- of one more; and groups are groups
 abbrev IsLevel : ℕ → Forest Member → Type 0
 IsLevel n Empty = Unit {0}
 IsLevel n (Plain m kids rest) = (length m.path ≡ n) × (is_group m.kind ≡ false) × IsLevel (suc n) kids × IsLevel n rest

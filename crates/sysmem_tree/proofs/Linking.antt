@@ -123,7 +123,8 @@ abbrev pub left_from : ℕ → Option ℕ → ℕ
 left_from many None = 0
 left_from many (Some i) = many - i
 
--- what the links tell of a node: its first child and its next sibling come after it, and lead to what is below it and behind it
+-- what the links tell of a node: its first child and its next sibling come after it, and lead
+-- to what is below it and behind it
 pub record IsLinked (nodes : List NodeFacts) (r i : ℕ) (n : NodeFacts) (kids next : Option ℕ) : Type 0 where
   pub kids_below : IfSome kids (λ k. (i < k) × IsBelow nodes r k)
   pub next_below : IfSome next (λ k. (i < k) × IsBelow nodes r k)

@@ -70,7 +70,8 @@ born_length : (o : Option NodeState) (deed : Deed) → makes (kind_of deed) ≡ 
 born_length None deed e = rw e refl
 born_length (Some s) deed e = rw e refl
 
--- the map that goes with logs; each node's children are counted by its log, and nothing was asked where there is no node
+-- the map that goes with logs; each node's children are counted by its log, and nothing
+-- was asked where there is no node
 pub record IsKept (log : List ℕ → List Deed) (at : Map) : Type 0 where
   pub map : IsMapOf log at
   pub counted : (q : List ℕ) (z : Shown) → at q ≡ Some z → z.state.children ≡ length (filter_map made_by (log q))
@@ -192,7 +193,8 @@ module _ (log log' : List ℕ → List Deed) (at at' : Map) (m : IsMapOf log at)
     m'.kid path k ∙ ap (option_map (λ z. shown_after_all z (log' (path ++ k ∷ [])))) (ap (λ l. slice_get (filter_map made_by l) k) (sym (same path initial)) ∙ e),
   )
 
-  -- a kid of a path of the initial domain: none in both, another domain's root in both, or the same node of the initial domain
+  -- a kid of a path of the initial domain: none in both, another domain's root in both, or
+  -- the same node of the initial domain
   pub same_kid : (path : List ℕ) (k : ℕ) → IsInitial at path → SameKid (IsInitial at (path ++ k ∷ [])) (at (path ++ k ∷ [])) (at' (path ++ k ∷ []))
   same_kid path k initial = by (slice_get (filter_map made_by (log path)) k) (kid_slot path k initial _ refl) where
     by : (o : Option Shown) → (at (path ++ k ∷ []) ≡ option_map (λ z. shown_after_all z (log (path ++ k ∷ []))) o) × (at' (path ++ k ∷ []) ≡ option_map (λ z. shown_after_all z (log' (path ++ k ∷ []))) o)

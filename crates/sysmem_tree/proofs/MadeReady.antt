@@ -1,4 +1,5 @@
--- An action makes no domain ready but its own, and that only where it can end the waiting for its node.
+-- An action makes no domain ready but its own, and that only where it
+-- can end the waiting for its node.
 use Rattle.std.proofs.Common.{◌≡◌, ◌≢◌, ◌⊎◌, ◌==◌, ◌&&◌, ◌||◌, not, ℕ, zero, suc, Bool, true, false, List, [], ◌∷◌, ◌++◌, length, Option, Some, None, slice_get, slice_set, refl, sym, ◌∙◌, ap, subst, arith, inl, inr}
 use Rattle.std.specs.Prelude.{IsOk, Ok, option_and_then, if◌then◌else◌}
 use Rattle.std.proofs.lemmas.Bool.{cases_Bool, cases_eq, ne_eqb}
@@ -124,7 +125,8 @@ not_true : (a : Bool) → not a ≡ true → a ≡ false
 not_true true e = absurd (cc)
 not_true false e = refl
 
--- what is ready after an action was so, but for its own domain where it can end the waiting for its node
+-- what is ready after an action was so, but for its own domain where it
+-- can end the waiting for its node
 pub was_ready : (t : TreeFacts) (i : ℕ) (n : NodeFacts) (deed : Deed) (made : Applied) → IsSoundTree t → applied t i deed ≡ Ok made → IsAccepted t i deed made n → (r : ℕ) → HasDomain t.nodes r
     → (ends_wait (kind_of deed) ≡ false) ⊎ (n.domain ≢ r) → is_ready made.tree r ≡ true → is_ready t r ≡ true
 was_ready t i n deed made sound ok fine r has other ready =

@@ -180,7 +180,8 @@ module _ {A : Type 0} (label : Labels A) (d : ℕ) where
       ∙ ap (λ y. tree_of x.state.kind (label s (path ++ o ∷ []) x) (kids_from label d (s + 1) xs s (path ++ o ∷ [])) y) (kids_push xs (s + 1) p path t away))
       (kids_push xs (s + 1) p path t away)
 
-  -- the forest of domain d after an action that leaves the looks of its nodes, and makes a node elsewhere or none
+  -- the forest of domain d after an action that leaves the looks of its nodes,
+  -- and makes a node elsewhere or none
   module _ (nodes : List NodeFacts) (i : ℕ) (n : NodeFacts) (deed : Deed) (here : slice_get nodes i ≡ Some n) (looks : n.domain ≡ d → Looks (node_after deed n) n)
       (elsewhere : (s : NodeState) → makes (kind_of deed) ≡ Some s → (new_node (length nodes) i n (kind_of deed) s).domain ≢ d) where
     kids_made : (o : Option NodeState) → makes (kind_of deed) ≡ o → (p : ℕ) (path : List ℕ)

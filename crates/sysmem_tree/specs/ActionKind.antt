@@ -5,7 +5,11 @@ use Rattle.sysmem_sanitise.specs.Participant.{Participant}
 use Rattle.sysmem_tree.specs.declared.action.Action.{Action}
 use Rattle.sysmem_tree.specs.declared.action.Action.TheVariants as actions
 use Rattle.sysmem_tree.specs.declared.action.ActionKind.{ActionKind}
-use Rattle.sysmem_tree.specs.declared.action.ActionKind.TheVariants.{Duplicate, CreateGroup, Bind, CreateChild, AllChildrenPresent, SetConstraints, AttachToken, Release, Close}
+use Rattle.sysmem_tree.specs.declared.action.ActionKind.TheVariants.{Duplicate, CreateGroup}
+use Rattle.sysmem_tree.specs.declared.action.ActionKind.TheVariants.{Bind, CreateChild}
+use Rattle.sysmem_tree.specs.declared.action.ActionKind.TheVariants.{AllChildrenPresent}
+use Rattle.sysmem_tree.specs.declared.action.ActionKind.TheVariants.{SetConstraints, AttachToken}
+use Rattle.sysmem_tree.specs.declared.action.ActionKind.TheVariants.{Release, Close}
 
 -- an action, with the constraints that it sets, if any
 pub data Deed : Type 0 where

@@ -1,7 +1,9 @@
 -- Which domain an action can make ready.
-use Rattle.std.specs.Prelude.{ℕ, Bool, true, false, Option, Some, None, option_and_then, slice_get, if◌then◌else◌}
+use Rattle.std.specs.Prelude.{ℕ, Bool, true, false, Option, Some, None}
+use Rattle.std.specs.Prelude.{option_and_then, slice_get, if◌then◌else◌}
 use Rattle.sysmem_tree.specs.declared.action.ActionKind.{ActionKind}
-use Rattle.sysmem_tree.specs.declared.action.ActionKind.TheVariants.{AllChildrenPresent, SetConstraints, Release, Close}
+use Rattle.sysmem_tree.specs.declared.action.ActionKind.TheVariants.{AllChildrenPresent}
+use Rattle.sysmem_tree.specs.declared.action.ActionKind.TheVariants.{SetConstraints, Release, Close}
 use Rattle.sysmem_tree.specs.Domain.{TreeFacts, is_ready}
 use Rattle.sysmem_tree.specs.Node.{NodeFacts}
 
@@ -17,6 +19,8 @@ ends_wait _ = false
 abbrev pub unready_of : TreeFacts → NodeFacts → Option ℕ
 unready_of t n = if is_ready t n.domain then None else Some n.domain
 
--- the domain that an action of this kind on what is node i can make ready: its node's, unless it is ready
+-- the domain that an action of this kind on what is node i can make
+-- ready: its node's, unless it is ready
 abbrev pub can_make_ready : TreeFacts → ℕ → ActionKind → Option ℕ
-can_make_ready t i kind = if ends_wait kind then option_and_then (unready_of t) (slice_get t.nodes i) else None
+can_make_ready t i kind =
+    if ends_wait kind then option_and_then (unready_of t) (slice_get t.nodes i) else None

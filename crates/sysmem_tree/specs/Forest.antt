@@ -15,15 +15,18 @@ each (Plain n kids rest) = Plain n kids Empty ∷ each rest
 each (Group n kids rest) = Group n kids Empty ∷ each rest
 
 -- the first of two options, each put back where it was taken from
-abbrev pub kids_else_rest : {A : Type 0} → (Forest A → Forest A) → (Forest A → Forest A) → Option (List (Forest A)) → Option (List (Forest A)) → Option (List (Forest A))
+abbrev pub kids_else_rest : {A : Type 0} → (Forest A → Forest A) → (Forest A → Forest A)
+    → Option (List (Forest A)) → Option (List (Forest A)) → Option (List (Forest A))
 kids_else_rest here after (Some ks) rs = Some (map here ks)
 kids_else_rest here after None (Some rs) = Some (map after rs)
 kids_else_rest here after None None = None
 
--- what the forest becomes by each choice for its first group in pre-order, which keeps the chosen child alone; none without a group
+-- what the forest becomes by each choice for its first group in pre-order, which keeps the chosen
+-- child alone; none without a group
 abbrev pub choices : {A : Type 0} → Forest A → Option (List (Forest A))
 choices Empty = None
-choices (Plain n kids rest) = kids_else_rest (λ k. Plain n k rest) (λ r. Plain n kids r) (choices kids) (choices rest)
+choices (Plain n kids rest) =
+    kids_else_rest (λ k. Plain n k rest) (λ r. Plain n kids r) (choices kids) (choices rest)
 choices (Group n kids rest) = Some (map (λ kid. Plain n kid rest) (each kids))
 
 -- the nodes that no group has yet to choose, in pre-order

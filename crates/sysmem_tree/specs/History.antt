@@ -1,5 +1,7 @@
 -- Histories of actions and decisions, the trees that they lead to, and the logs of nodes.
-use Rattle.std.specs.Prelude.{◌≡◌, ◌≢◌, ℕ, ◌==◌, Bool, true, false, List, [], ◌∷◌, Option, Some, None, Result, Ok, Err, IsOk, IfSome, option_map, unwrap_or, filter_map, if◌then◌else◌}
+use Rattle.std.specs.Prelude.{◌≡◌, ◌≢◌, ℕ, ◌==◌, Bool, true, false, List, [], ◌∷◌, Option}
+use Rattle.std.specs.Prelude.{Some, None, Result, Ok, Err, IsOk, IfSome, option_map}
+use Rattle.std.specs.Prelude.{unwrap_or, filter_map, if◌then◌else◌}
 use Rattle.sysmem_tree.specs.declared.action.ActionKind.{ActionKind}
 use Rattle.sysmem_tree.specs.declared.action.ActionKind.TheVariants.{Close}
 use Rattle.sysmem_tree.specs.declared.refusal.Refusal.{Refusal}
@@ -12,7 +14,8 @@ use Rattle.sysmem_tree.specs.Selection.{IsSelection}
 use Rattle.sysmem_tree.specs.Shape.{forest_of, by_number}
 use Rattle.sysmem_tree.specs.Tree.{first_tree, Applied, applied, decided}
 
--- an action on a node, or a decision of the domain that a node roots: for the selection that these choices make, or for none
+-- an action on a node, or a decision of the domain that a node roots: for the selection
+-- that these choices make, or for none
 pub data HistoryEntry : Type 0 where
   Acted : ℕ → Deed → HistoryEntry
   Decided : ℕ → Option (List ℕ) → HistoryEntry
@@ -22,7 +25,8 @@ pub record IsDecidable (t : TreeFacts) (r : ℕ) (choices : Option (List ℕ)) :
   pub there : HasDomain t.nodes r
   pub ready : is_ready t r ≡ true
   pub undecided : is_undecided (decision_of t.domains r) ≡ true
-  pub selects : IfSome choices (λ cs. (e : Forest ℕ) × IsSelection (forest_of by_number t.nodes r []) cs e)
+  pub selects : IfSome choices
+      (λ cs. (e : Forest ℕ) × IsSelection (forest_of by_number t.nodes r []) cs e)
 
 -- a tree accepts an entry
 abbrev pub Accepts : TreeFacts → HistoryEntry → Type 0

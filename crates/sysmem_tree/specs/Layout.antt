@@ -1,5 +1,6 @@
 -- A domain's forest laid out in a list of places, in pre-order.
-use Rattle.std.specs.Prelude.{◌≡◌, ◌≤◌, ◌<◌, ℕ, suc, ◌+◌, Bool, true, false, List, Option, Some, None, length, slice_get}
+use Rattle.std.specs.Prelude.{◌≡◌, ◌≤◌, ◌<◌, ℕ, suc, ◌+◌, Bool, true, false, List, Option, Some}
+use Rattle.std.specs.Prelude.{None, length, slice_get}
 use Rattle.std.specs.Option.{option_or}
 use Rattle.sysmem_tree.specs.declared.layout.Layout.{Layout}
 use Rattle.sysmem_tree.specs.declared.layout.Place.{Place}
@@ -43,32 +44,47 @@ first_place Empty = None
 first_place (Plain s kids rest) = option_or (first_place kids) (first_place rest)
 first_place (forest.Group s kids rest) = Some s.place
 
--- the first group behind a tree whose neighbours are alternatives, or are all there, where `next` is the first one behind them
+-- the first group behind a tree whose neighbours are alternatives, or are all there, where
+-- `next` is the first one behind them
 abbrev pub behind : Bool → Forest Spot → Option ℕ → Option ℕ
 behind true rest next = next
 behind false rest next = option_or (first_place rest) next
 
--- the place of a node: its children start just behind it and end before `to`, and `next` is the first group once the way to it is chosen
-pub record IsLaidPlace (places : List Place) (s : Spot) (is_group : Bool) (kids : Forest Spot) (to : ℕ) (next : Option ℕ) : Type 0 where
-  pub here : slice_get places s.place ≡ Some (record { node = s.node; is_group = is_group; children = length (each kids); end = to; next = next })
+-- the place of a node: its children start just behind it and end before `to`, and `next` is the
+-- first group once the way to it is chosen
+pub record IsLaidPlace (places : List Place) (s : Spot) (is_group : Bool) (kids : Forest Spot)
+    (to : ℕ) (next : Option ℕ) : Type 0 where
+  pub here : slice_get places s.place
+      ≡ Some (record {
+        node = s.node;
+        is_group = is_group;
+        children = length (each kids);
+        end = to;
+        next = next;
+      })
   pub kids_here : start kids to ≡ s.place + 1
 
--- the places before `to` hold a forest of nodes that are all there, or of alternatives, in pre-order; `next` is the first group behind them
+-- the places before `to` hold a forest of nodes that are all there, or of alternatives, in
+-- pre-order; `next` is the first group behind them
 abbrev pub AreLaid : Bool → List Place → Forest Spot → ℕ → Option ℕ → Type 0
 AreLaid alternatives places Empty to next = Unit {0}
 AreLaid alternatives places (Plain s kids rest) to next =
-    IsLaidPlace places s false kids (start rest to) (option_or (first_place kids) (behind alternatives rest next))
-    × AreLaid false places kids (start rest to) (behind alternatives rest next) × AreLaid alternatives places rest to next
+    IsLaidPlace places s false kids (start rest to)
+    (option_or (first_place kids) (behind alternatives rest next))
+    × AreLaid false places kids (start rest to) (behind alternatives rest next)
+    × AreLaid alternatives places rest to next
 AreLaid alternatives places (forest.Group s kids rest) to next =
     IsLaidPlace places s true kids (start rest to) (Some s.place)
-    × AreLaid true places kids (start rest to) (behind alternatives rest next) × AreLaid alternatives places rest to next
+    × AreLaid true places kids (start rest to) (behind alternatives rest next)
+    × AreLaid alternatives places rest to next
 
 -- the places name no nodes but the first so many
 abbrev pub HoldNumbers : ℕ → List Place → Type 0
 HoldNumbers many places = (k : ℕ) (p : Place) → slice_get places k ≡ Some p → p.node < many
 
 -- the forest of these numbers of nodes was laid out before `to`
-pub record Lays (alternatives : Bool) (places : List Place) (d : Forest ℕ) (laid : Laid) (to : ℕ) (next : Option ℕ) : Type 0 where
+pub record Lays (alternatives : Bool) (places : List Place) (d : Forest ℕ) (laid : Laid) (to : ℕ)
+    (next : Option ℕ) : Type 0 where
   pub spots : Forest Spot
   pub numbers : relabel (λ (s : Spot). s.node) spots ≡ d
   pub starts : start spots to ≡ laid.start

@@ -1,5 +1,6 @@
 -- Links from node to node within a domain, and the forest that they lead through.
-use Rattle.std.specs.Prelude.{◌≡◌, ◌≤◌, ◌<◌, ◌==◌, ℕ, ◌+◌, true, List, [], ◌∷◌, Option, Some, None, IsSomeAnd, is_some, option_map, drop, slice_get, if◌then◌else◌}
+use Rattle.std.specs.Prelude.{◌≡◌, ◌≤◌, ◌<◌, ◌==◌, ℕ, ◌+◌, true, List, [], ◌∷◌, Option, Some, None}
+use Rattle.std.specs.Prelude.{IsSomeAnd, is_some, option_map, drop, slice_get, if◌then◌else◌}
 use Rattle.sysmem_tree.specs.declared.links.Links.{Links}
 use Rattle.sysmem_tree.specs.declared.node.Birth.{Birth}
 use Rattle.sysmem_tree.specs.Forest.{Forest, Empty}
@@ -15,10 +16,12 @@ abbrev pub first_kid : ℕ → ℕ → ℕ → List NodeFacts → Option ℕ
 first_kid r p i [] = None
 first_kid r p i (n ∷ nodes) = if is_some (kid_of r p n) then Some i else first_kid r p (i + 1) nodes
 
--- for each node its first child in the domain that r roots, and for each child its next sibling there, among the nodes from number i on
+-- for each node its first child in the domain that r roots, and for each child its next sibling
+-- there, among the nodes from number i on
 pub record AreLinks (nodes : List NodeFacts) (r i : ℕ) (links : Links) : Type 0 where
   pub first : (p : ℕ) → p < 128 → slice_get links.first p ≡ Some (first_kid r p i (drop i nodes))
-  pub next : (k p : ℕ) (n : NodeFacts) → i ≤ k → slice_get nodes k ≡ Some n → is_some (kid_of r p n) ≡ true
+  pub next : (k p : ℕ) (n : NodeFacts) → i ≤ k → slice_get nodes k ≡ Some n
+      → is_some (kid_of r p n) ≡ true
       → slice_get links.next k ≡ Some (first_kid r p (k + 1) (drop (k + 1) nodes))
 
 -- node i is one of the domain that r roots, but not r
@@ -34,7 +37,8 @@ parent_of (Some b) = b.parent
 -- node i, if it is there, and the siblings that follow it in its domain, each with what is below it
 abbrev pub with_siblings : List NodeFacts → ℕ → Option NodeFacts → Forest ℕ
 with_siblings nodes i None = Empty
-with_siblings nodes i (Some n) = kids_from by_number n.domain i (drop i nodes) (parent_of n.birth) []
+with_siblings nodes i (Some n) =
+    kids_from by_number n.domain i (drop i nodes) (parent_of n.birth) []
 
 -- the same of the node that a link names, if it names one
 abbrev pub siblings_from : List NodeFacts → Option ℕ → Forest ℕ

@@ -1,5 +1,7 @@
--- What a search reads off a domain's layout: the first open group after choices, the place of each of its children, and what that settles.
-use Rattle.std.specs.Prelude.{◌≡◌, ◌<◌, ℕ, zero, suc, ◌+◌, List, [], ◌∷◌, Option, Some, None, length, nat_lt, slice_get, if◌then◌else◌}
+-- What a search reads off a domain's layout: the first open group after choices, the place of each
+-- of its children, and what that settles.
+use Rattle.std.specs.Prelude.{◌≡◌, ◌<◌, ℕ, zero, suc, ◌+◌, List, [], ◌∷◌, Option, Some, None}
+use Rattle.std.specs.Prelude.{length, nat_lt, slice_get, if◌then◌else◌}
 use Rattle.sysmem_tree.specs.declared.layout.Layout.{Layout}
 use Rattle.sysmem_tree.specs.declared.layout.Place.{Place}
 use Rattle.sysmem_tree.specs.declared.open_groups.SettledNodes.{SettledNodes}
@@ -22,7 +24,8 @@ pub record Leaves (layout : Layout) (d : Forest ℕ) (cs : List ℕ) (left : For
   pub leads : after d cs ≡ Some (relabel node_of left)
   pub stands : AreOpen layout.places left None
 
--- the place of the group that is the first open one after these choices; none where they are a selection
+-- the place of the group that is the first open one after these
+-- choices; none where they are a selection
 pub record IsFirstOpen (layout : Layout) (d : Forest ℕ) (cs : List ℕ) (at : Option ℕ) : Type 0 where
   pub left : Forest Spot
   pub leaves : Leaves layout d cs left
@@ -52,12 +55,15 @@ pub record HasChild (layout : Layout) (at : ℕ) : Type 0 where
 abbrev pub with_below : (ℕ → ℕ → Forest ℕ) → ℕ → ℕ → Option Place → Forest ℕ
 with_below between at to None = Empty
 with_below between at to (Some p) =
-    if p.is_group then Group p.node (between (at + 1) p.end) (between p.end to) else Plain p.node (between (at + 1) p.end) (between p.end to)
+    if p.is_group then Group p.node (between (at + 1) p.end) (between p.end to)
+    else Plain p.node (between (at + 1) p.end) (between p.end to)
 
 -- the forest that stands from a place on, before `to`, where those are at most so many places
 abbrev pub forest_between : ℕ → List Place → ℕ → ℕ → Forest ℕ
 forest_between zero places at to = Empty
-forest_between (suc many) places at to = if nat_lt at to then with_below (forest_between many places) at to (slice_get places at) else Empty
+forest_between (suc many) places at to =
+    if nat_lt at to then with_below (forest_between many places) at to (slice_get places at)
+    else Empty
 
 -- the place behind all that is below the node at a place
 abbrev pub end_of : Option Place → ℕ
@@ -68,7 +74,8 @@ end_of (Some p) = p.end
 abbrev pub tree_at : Layout → ℕ → Forest ℕ
 tree_at layout at = forest_between 128 layout.places at (end_of (slice_get layout.places at))
 
--- the nodes that the choice of the child at this place settles, in pre-order, whatever was chosen elsewhere
+-- the nodes that the choice of the child at this place settles, in
+-- pre-order, whatever was chosen elsewhere
 abbrev pub share_of : Layout → ℕ → List ℕ
 share_of layout at = settled (tree_at layout at)
 
@@ -80,7 +87,9 @@ place_after p at = if p.is_group then p.end else at + 1
 abbrev pub WalksTo : List Place → ℕ → ℕ → List ℕ → Type 0
 WalksTo places at to [] = at ≡ to
 WalksTo places at to (n ∷ ns) =
-    (at < to) × ((p : Place) × (slice_get places at ≡ Some p) × (p.node ≡ n) × (at < place_after p at) × WalksTo places (place_after p at) to ns)
+    (at < to)
+    × ((p : Place) × (slice_get places at ≡ Some p) × (p.node ≡ n) × (at < place_after p at)
+    × WalksTo places (place_after p at) to ns)
 
 -- the nodes that a walk over the layout has yet to give
 abbrev pub HasLeft : Layout → SettledNodes → List ℕ → Type 0

@@ -19,9 +19,12 @@ next_alternatives (Group n kids rest) = Some (record { group = n; kids = kids })
 -- the groups that are left stand in the layout; `next` is the first one behind them
 abbrev pub AreOpen : List Place → Forest Spot → Option ℕ → Type 0
 AreOpen places Empty next = Unit {0}
-AreOpen places (Plain s kids rest) next = AreOpen places kids (option_or (first_place rest) next) × AreOpen places rest next
+AreOpen places (Plain s kids rest) next =
+    AreOpen places kids (option_or (first_place rest) next) × AreOpen places rest next
 AreOpen places (Group s kids rest) next =
-    ((to : ℕ) × (to ≤ 128) × IsLaidPlace places s true kids to (Some s.place) × AreLaid true places kids to (option_or (first_place rest) next)) × AreOpen places rest next
+    ((to : ℕ) × (to ≤ 128) × IsLaidPlace places s true kids to (Some s.place)
+    × AreLaid true places kids to (option_or (first_place rest) next))
+    × AreOpen places rest next
 
 -- alternatives that stand from a place on
 pub record AreAlternatives (places : List Place) (at : ℕ) (kids : Forest Spot) : Type 0 where

@@ -1,7 +1,12 @@
 -- Refusals as reports print them.
 use Rattle.std.specs.Prelude.{ℕ, List, codes}
 use Rattle.sysmem_tree.specs.declared.refusal.Refusal.{Refusal}
-use Rattle.sysmem_tree.specs.declared.refusal.Refusal.TheVariants.{NoMemory, WrongState, TooManyNodes, NoChildren, NotSelected, DomainFailed, ConstraintsIntersectionEmpty, TooManyGroupChildCombinations, Pending, Strange}
+use Rattle.sysmem_tree.specs.declared.refusal.Refusal.TheVariants.{NoMemory, WrongState}
+use Rattle.sysmem_tree.specs.declared.refusal.Refusal.TheVariants.{TooManyNodes, NoChildren}
+use Rattle.sysmem_tree.specs.declared.refusal.Refusal.TheVariants.{NotSelected, DomainFailed}
+use Rattle.sysmem_tree.specs.declared.refusal.Refusal.TheVariants.{ConstraintsIntersectionEmpty}
+use Rattle.sysmem_tree.specs.declared.refusal.Refusal.TheVariants.{TooManyGroupChildCombinations}
+use Rattle.sysmem_tree.specs.declared.refusal.Refusal.TheVariants.{Pending, Strange}
 
 abbrev pub refusal_text : Refusal → List ℕ
 refusal_text NoMemory = codes "E1 NoMemory"

@@ -1,11 +1,14 @@
 -- Selections of a forest, their prefixes and their order.
-use Rattle.std.specs.Prelude.{◌≡◌, ◌<◌, ◌⊎◌, ℕ, List, [], ◌∷◌, Option, Some, None, IsSome, option_map, option_and_then, slice_get}
+use Rattle.std.specs.Prelude.{◌≡◌, ◌<◌, ◌⊎◌, ℕ, List, [], ◌∷◌, Option, Some, None, IsSome}
+use Rattle.std.specs.Prelude.{option_map, option_and_then, slice_get}
 use Rattle.sysmem_tree.specs.Forest.{Forest, choices, settled}
 
--- the forest after these choices, each for the first group that is left; none where a choice is no child, or no group is left
+-- the forest after these choices, each for the first group that is left; none where a choice
+-- is no child, or no group is left
 abbrev pub after : {A : Type 0} → Forest A → List ℕ → Option (Forest A)
 after d [] = Some d
-after d (c ∷ cs) = option_and_then (λ e. after e cs) (option_and_then (λ es. slice_get es c) (choices d))
+after d (c ∷ cs) =
+    option_and_then (λ e. after e cs) (option_and_then (λ es. slice_get es c) (choices d))
 
 -- choices for the first groups in effect
 abbrev pub IsPrefix : {A : Type 0} → Forest A → List ℕ → Type 0

@@ -1,5 +1,6 @@
 -- The forest of a domain, read off the nodes, and its shape.
-use Rattle.std.specs.Prelude.{ℕ, ◌+◌, ◌++◌, ◌==◌, List, [], ◌∷◌, Option, Some, None, is_some, option_and_then, unwrap_or, filter, slice_get, if◌then◌else◌}
+use Rattle.std.specs.Prelude.{ℕ, ◌+◌, ◌++◌, ◌==◌, List, [], ◌∷◌, Option, Some, None, is_some}
+use Rattle.std.specs.Prelude.{option_and_then, unwrap_or, filter, slice_get, if◌then◌else◌}
 use Rattle.sysmem_sanitise.specs.Participant.{Participant}
 use Rattle.sysmem_tree.specs.declared.state.NodeKind.{NodeKind}
 use Rattle.sysmem_tree.specs.declared.state.NodeKind.TheVariants as kinds
@@ -28,18 +29,22 @@ abbrev pub before : {A : Type 0} → Option ℕ → (ℕ → Forest A → Forest
 before None kid rest = rest
 before (Some o) kid rest = kid o rest
 
--- the children of p in the domain among the nodes from number i on, in order of creation, each with its own; path is p's
+-- the children of p in the domain among the nodes from number i on, in order of
+-- creation, each with its own; path is p's
 abbrev pub kids_from : {A : Type 0} → Labels A → ℕ → ℕ → List NodeFacts → ℕ → List ℕ → Forest A
 kids_from label domain i [] p path = Empty
 kids_from label domain i (n ∷ nodes) p path = before
     (kid_of domain p n)
-    (λ o. tree_of n.state.kind (label i (path ++ o ∷ []) n) (kids_from label domain (i + 1) nodes i (path ++ o ∷ [])))
+    (λ o. tree_of n.state.kind (label i (path ++ o ∷ []) n)
+    (kids_from label domain (i + 1) nodes i (path ++ o ∷ [])))
     (kids_from label domain (i + 1) nodes p path)
 
 -- a root with its children
-abbrev pub rooted : {A : Type 0} → Labels A → List NodeFacts → ℕ → List ℕ → Option NodeFacts → Forest A
+abbrev pub rooted : {A : Type 0} → Labels A → List NodeFacts → ℕ → List ℕ → Option NodeFacts
+    → Forest A
 rooted label nodes r path None = Empty
-rooted label nodes r path (Some n) = tree_of n.state.kind (label r path n) (kids_from label r 0 nodes r path) Empty
+rooted label nodes r path (Some n) =
+    tree_of n.state.kind (label r path n) (kids_from label r 0 nodes r path) Empty
 
 -- the forest of the domain that node r, at this path, roots
 abbrev pub forest_of : {A : Type 0} → Labels A → List NodeFacts → ℕ → List ℕ → Forest A
@@ -49,13 +54,16 @@ forest_of label nodes r path = rooted label nodes r path (slice_get nodes r)
 abbrev pub by_number : Labels ℕ
 by_number i path n = i
 
--- the members of the selection that these choices make in the domain of r, by number: the nodes that no group choice excludes
+-- the members of the selection that these choices make in the domain of r, by number: the
+-- nodes that no group choice excludes
 abbrev pub members_of : List NodeFacts → ℕ → List ℕ → List ℕ
 members_of nodes r cs = unwrap_or (settled_by (forest_of by_number nodes r []) cs) []
 
 -- those of them with constraints
 abbrev pub participants_of : List NodeFacts → ℕ → List ℕ → List ℕ
-participants_of nodes r cs = filter (λ i. is_some (option_and_then (λ n. n.constraints) (slice_get nodes i))) (members_of nodes r cs)
+participants_of nodes r cs = filter
+    (λ i. is_some (option_and_then (λ n. n.constraints) (slice_get nodes i)))
+    (members_of nodes r cs)
 
 -- what a shape shows of a node
 pub record Member : Type 0 where

@@ -1,8 +1,13 @@
--- The table of actions: which states of a node allow each, what it makes of its node, and which node it makes below it.
+-- The table of actions: which states of a node allow each, what it makes of its node,
+-- and which node it makes below it.
 use Rattle.std.specs.Prelude.{◌+◌, ◌==◌, Bool, true, false, ◌&&◌, not, Option, Some, None}
 use Rattle.sysmem_sanitise.specs.Participant.{Participant}
 use Rattle.sysmem_tree.specs.declared.action.ActionKind.{ActionKind}
-use Rattle.sysmem_tree.specs.declared.action.ActionKind.TheVariants.{Duplicate, CreateGroup, Bind, CreateChild, AllChildrenPresent, SetConstraints, AttachToken, Release, Close}
+use Rattle.sysmem_tree.specs.declared.action.ActionKind.TheVariants.{Duplicate, CreateGroup}
+use Rattle.sysmem_tree.specs.declared.action.ActionKind.TheVariants.{Bind, CreateChild}
+use Rattle.sysmem_tree.specs.declared.action.ActionKind.TheVariants.{AllChildrenPresent}
+use Rattle.sysmem_tree.specs.declared.action.ActionKind.TheVariants.{SetConstraints, AttachToken}
+use Rattle.sysmem_tree.specs.declared.action.ActionKind.TheVariants.{Release, Close}
 use Rattle.sysmem_tree.specs.declared.state.NodeKind.{NodeKind}
 use Rattle.sysmem_tree.specs.declared.state.NodeKind.TheVariants.{Token, Group, Collection}
 use Rattle.sysmem_tree.specs.declared.state.NodeState.{NodeState}

@@ -66,7 +66,8 @@ pub fn members_stand_once()
     ensures { MembersStandOnce }
 {}
 
-/// Where a domain's forest stays, each member of a selection keeps its path, its kind and its constraints.
+/// Where a domain's forest stays, each member of a selection keeps its
+/// path, its kind and its constraints.
 pub fn members_stay()
     ensures { MembersStay }
 {}

@@ -19,9 +19,9 @@ use crate::tree::{MOST_NODES, Tree};
 use std::alloc::AllocError;
 
 impl Tree {
-    /// The participants of the selection that these choices make in a domain of the tree: its members
-    /// that set constraints, in pre-order; in memory of the tree's allocator. `AllocError` where that is
-    /// refused.
+    /// The participants of the selection that these choices make in a domain of the tree: its
+    /// members that set constraints, in pre-order; in memory of the tree's allocator.
+    /// `AllocError` where that is refused.
     pub fn participants(&self, domain: DomainId, choices: &[u8]) -> Result<Vec<NodeId>, AllocError>
         requires domain { HasDomain self.now.nodes domain }
         requires prefix { IsPrefix (forest_of by_number self.now.nodes domain []) choices.now }
@@ -51,8 +51,9 @@ impl Tree {
         Ok(nodes)
     }
 
-    /// Adds the participants of the selection that these choices make in a domain of the tree, in
-    /// pre-order, to nodes that have room for them. It takes no memory, and one pass over the nodes.
+    /// Adds the participants of the selection that these choices make in a domain
+    /// of the tree, in pre-order, to nodes that have room for them. It takes no
+    /// memory, and one pass over the nodes.
     pub fn add_participants(&self, domain: DomainId, choices: &[u8], nodes: &mut Vec<NodeId>)
         requires domain { HasDomain self.now.nodes domain }
         requires prefix { IsPrefix (forest_of by_number self.now.nodes domain []) choices.now }

@@ -96,7 +96,8 @@ impl<'a> Checker<'a> {
         self.base
     }
 
-    /// How many children the group has that is next after these choices; `None` where they are a selection.
+    /// How many children the group has that is next after these choices;
+    /// `None` where they are a selection.
     pub(crate) fn children(&self, prefix: &Prefix) -> Option<u8>
         requires { IsPrefix (forest self.now) prefix.now }
         ensures number { (d : Forest Member) → after (forest self.now) prefix.now ≡ Some d

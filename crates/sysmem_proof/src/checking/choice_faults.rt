@@ -31,7 +31,8 @@ fn has_no_lines(certificate: &Certificate) -> bool
     certificate.offers().as_slice().is_empty() && certificate.places().as_slice().is_empty()
 }
 
-/// Whether the certificate has lines only where a choice in the domain has some: an attached one has none.
+/// Whether the certificate has lines only where a choice in the domain
+/// has some: an attached one has none.
 fn has_fitting_lines(checker: &Checker<'_>, certificate: &Certificate) -> bool
     ensures { IsTrue result ↔ HasFittingLines (terms checker.now) certificate.now }
 {
@@ -41,7 +42,8 @@ fn has_fitting_lines(checker: &Checker<'_>, certificate: &Certificate) -> bool
     }
 }
 
-/// Of a choice's form: there are few enough selections, it is one, and it has no lines where the settings are given.
+/// Of a choice's form: there are few enough selections, it is one, and it has no
+/// lines where the settings are given.
 fn form_fault(
     checker: &Checker<'_>,
     selection: &Prefix,
@@ -64,7 +66,8 @@ fn form_fault(
     Ok(())
 }
 
-/// Of the lines of a choice in an initial domain, where the roll has all participants of the decision.
+/// Of the lines of a choice in an initial domain, where the roll has
+/// all participants of the decision.
 fn lines_fault(
     roll: &Roll<'_>,
     platform: &Platform,

@@ -48,7 +48,8 @@ fn places_fault(platform: &Platform, roll: &Roll<'_>, lines: &[Line]) -> Result<
     Ok(())
 }
 
-/// Of lines for all offers of the platform; `whole` says that those on the roll are all that a decision has.
+/// Of lines for all offers of the platform; `whole` says that those on the
+/// roll are all that a decision has.
 fn offers_fault(platform: &Platform, roll: &Roll<'_>, whole: bool, lines: &[Line]) -> Result<(), No>
     ensures { MatchResult result
         (λ _. AllZip (RefusesOffer whole (listed roll.now)) (offers_of platform.now) lines.now)
@@ -68,7 +69,8 @@ fn offers_fault(platform: &Platform, roll: &Roll<'_>, whole: bool, lines: &[Line
     Ok(())
 }
 
-/// Of a field in which settings fail a participant, where no settings are given: it is no conflict, whomever it names.
+/// Of a field in which settings fail a participant, where no settings are given: it
+/// is no conflict, whomever it names.
 fn unfixed_fault(roll: &Roll<'_>, path: &[u32]) -> No
     ensures { First (AreNamed (listed roll.now) (path.now ∷ []))
         (Fails (AreNamed (listed roll.now) (path.now ∷ [])) WrongNode) (Fails ⊥ Untrue) result }

@@ -28,7 +28,8 @@ fn no_list(choice: u8) -> No
     }
 }
 
-/// Of refutations for each choice for the next group before this one; the choices are as before, unless a test fails.
+/// Of refutations for each choice for the next group before this one; the choices
+/// are as before, unless a test fails.
 fn before_fault(
     checker: &Checker<'_>,
     prefix: &mut Prefix,

@@ -71,7 +71,8 @@ pub(crate) fn all_named(roll: &Roll<'_>, lines: &[Line]) -> bool
     true
 }
 
-/// Whether the line names participants, each once, where each line before it does. The paths of the one before aren't looked up again.
+/// Whether the line names participants, each once, where each line before it does. The paths of the
+/// one before aren't looked up again.
 fn names_behind(roll: &Roll<'_>, before: &[Line], line: &Line) -> bool
     requires { All (λ line. AreNamed (listed roll.now) line.nodes) before.now }
     ensures { IsTrue result ↔ AreNamed (listed roll.now) line.now.nodes }
@@ -97,8 +98,8 @@ fn misplaced_fault(roll: &Roll<'_>, lines: &[Line]) -> No
     }
 }
 
-/// Of a conflict in an attached domain, on a base with these settings. The roll has those whom choices settle, the wider one also those
-/// accepted before.
+/// Of a conflict in an attached domain, on a base with these settings. The roll has those whom
+/// choices settle, the wider one also those accepted before.
 pub(crate) fn fixed_conflict_fault(
     platform: &Platform,
     settings: &Settings,

@@ -1,4 +1,5 @@
-//! The first test that a line fails: that it names participants, each once, and that it is true of them.
+//! The first test that a line fails: that it names participants, each
+//! once, and that it is true of them.
 
 ghost use Rattle.std.specs.Prelude.{◌≡◌, [], ◌∷◌, Any, MatchResult};
 ghost use Rattle.sysmem_counts.specs.Counts.{IsCountLine, IsFixedCountLine};

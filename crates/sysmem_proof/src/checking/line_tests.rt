@@ -41,7 +41,8 @@ pub(crate) fn is_fixed_count_line(roll: &Roll<'_>, count: u32, line: &Line) -> b
     counts_of(roll, nodes).is_fixed_line(count, line.field())
 }
 
-/// Whether the line's field refuses the coherency domain of the heap to some participant whom it names.
+/// Whether the line's field refuses the coherency domain of the heap
+/// to some participant whom it names.
 pub(crate) fn is_place_line(
     roll: &Roll<'_>,
     heap: &HeapInfo,
@@ -55,7 +56,8 @@ pub(crate) fn is_place_line(
     refuse_place(roll, line.field(), heap, domain, line.nodes())
 }
 
-/// Whether the offer doesn't suit the participants whom the line names, by its field; whatever is named.
+/// Whether the offer doesn't suit the participants whom the line names,
+/// by its field; whatever is named.
 pub(crate) fn is_offer_line(roll: &Roll<'_>, offer: &Offer, line: &Line) -> bool
     requires { AreNamed (listed roll.now) line.now.nodes }
     ensures { IsTrue result ↔ IsTrueOf (listed roll.now) line.now.nodes

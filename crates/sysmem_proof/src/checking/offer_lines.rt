@@ -22,8 +22,8 @@ use sysmem_formats::{Offer, offer_at};
 use sysmem_image::{Entry, entry_for};
 use sysmem_sanitise::{Constraints, Platform};
 
-/// Whether one, if there is one, doesn't name the part of the offer's name that the field speaks of. False of another field, and of no
-/// image.
+/// Whether one, if there is one, doesn't name the part of the offer's name that the field speaks
+/// of. False of another field, and of no image.
 fn is_silent(asked: Option<&Constraints>, offer: &Offer, field: Field) -> bool
     ensures { IsTrue result ↔ IsUnnamedLine field offer.now
         (offer_demands (cons_option (option_map (λ one. one.now) asked.entry) [])) }
@@ -70,7 +70,8 @@ fn lists_colour(entry: Option<&Entry>, offer: &Offer) -> bool
     }
 }
 
-/// Whether nobody on the roll names the part of the offer's name that the field speaks of. Another field reads nobody.
+/// Whether nobody on the roll names the part of the offer's name that the field
+/// speaks of. Another field reads nobody.
 fn is_unnamed(roll: &Roll<'_>, offer: &Offer, field: Field) -> bool
     ensures { IsTrue result
         ↔ IsUnnamedLine field offer.now (offer_demands (participants (listed roll.now))) }
@@ -87,7 +88,8 @@ fn is_unnamed(roll: &Roll<'_>, offer: &Offer, field: Field) -> bool
     true
 }
 
-/// Whether a line refuses an offer because it is the line of another offer of the same pair, and doesn't speak of the colour space.
+/// Whether a line refuses an offer because it is the line of another offer of the same pair, and
+/// doesn't speak of the colour space.
 fn is_as_before(earlier: &Offer, before: &Line, offer: &Offer, line: &Line) -> bool
     ensures { IsTrue result → (whole : Bool) (ms : List Member)
         → (earlier.now ≢ NoImage → RefusesOffer whole ms earlier.now before.now)
@@ -107,7 +109,8 @@ fn is_same_field(one: Field, other: Field) -> bool
     one == other
 }
 
-/// Whether the line refuses the offer. Where those on the roll are all that a decision has, it may do so for want of a name, too.
+/// Whether the line refuses the offer. Where those on the roll are all that a decision has, it
+/// may do so for want of a name, too.
 pub(crate) fn refuses_offer(roll: &Roll<'_>, whole: bool, offer: &Offer, line: &Line) -> bool
     requires { AreNamed (listed roll.now) line.now.nodes }
     ensures { IsTrue result ↔ RefusesOffer whole (listed roll.now) offer.now line.now }

@@ -25,7 +25,8 @@ fn is_offer_at(platform: &Platform, index: usize, offer: &Offer) -> bool
     }
 }
 
-/// Of a line for each offer before that of the settings, where the roll has all participants of the decision.
+/// Of a line for each offer before that of the settings, where the roll has
+/// all participants of the decision.
 pub(crate) fn offers_before_fault(
     roll: &Roll<'_>,
     platform: &Platform,

@@ -14,7 +14,8 @@ use crate::line::Line;
 use crate::roll::Roll;
 use sysmem_memory::{CoherencyDomain, HeapInfo};
 
-/// Goes past the line of a coherency domain of a heap, if the heap has it; `None` where that line is missing or doesn't refuse it.
+/// Goes past the line of a coherency domain of a heap, if the heap has it; `None` where that line
+/// is missing or doesn't refuse it.
 fn past_place(
     roll: &Roll<'_>,
     heap: &HeapInfo,
@@ -40,7 +41,8 @@ fn past_place(
     Some(at + 1)
 }
 
-/// Goes past the lines of a heap's places; `None` where one of them is missing or doesn't refuse its place.
+/// Goes past the lines of a heap's places; `None` where one of them is
+/// missing or doesn't refuse its place.
 fn past_heap(roll: &Roll<'_>, heap: &HeapInfo, lines: &[Line], at: usize) -> Option<usize>
     requires { All (λ line. AreNamed (listed roll.now) line.nodes) lines.now }
     ensures { (i : ℕ) (heaps : List HeapFacts) → GoesPast (RefusesPlace (listed roll.now))

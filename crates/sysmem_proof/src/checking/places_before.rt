@@ -36,7 +36,8 @@ fn domains_before(domains: CoherencyDomains, domain: CoherencyDomain) -> Coheren
     }
 }
 
-/// Of the line at an index, which is to refuse a place, if it is there. Answers how many lines were read so far.
+/// Of the line at an index, which is to refuse a place, if it is there. Answers
+/// how many lines were read so far.
 fn line_fault(
     roll: &Roll<'_>,
     is_there: bool,
@@ -61,7 +62,8 @@ fn line_fault(
     Ok(many + 1)
 }
 
-/// Of a line for each place of a heap, given by its index, in these domains. Answers how many lines were read so far.
+/// Of a line for each place of a heap, given by its index, in these domains. Answers
+/// how many lines were read so far.
 fn heap_lines_fault(
     roll: &Roll<'_>,
     index: usize,

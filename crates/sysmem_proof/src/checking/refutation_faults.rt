@@ -31,8 +31,8 @@ fn so_many_children(checker: &Checker<'_>, prefix: &Prefix, many: u64) -> Result
     }
 }
 
-/// Reads the items from `start` on that are to refute what the choices leave, and answers where they end, and then the choices are as
-/// before; or the first test that they fail.
+/// Reads the items from `start` on that are to refute what the choices leave, and answers where
+/// they end, and then the choices are as before; or the first test that they fail.
 fn refuted_to(
     checker: &Checker<'_>,
     prefix: &mut Prefix,
@@ -71,7 +71,8 @@ fn refuted_to(
     }
 }
 
-/// Of items that are to refute what the choices leave; the choices are as before, unless a test fails.
+/// Of items that are to refute what the choices leave; the choices
+/// are as before, unless a test fails.
 pub(crate) fn refutation_fault(
     checker: &Checker<'_>,
     prefix: &mut Prefix,

@@ -48,7 +48,8 @@ fn is_met(tree: &Tree, nodes: &[NodeId], platform: &Platform, settings: &Setting
         && is_named(&read_nodes(tree, &settings.offer, nodes))
 }
 
-/// Whether settings that meet the participants among these nodes are the least of their offer in their place.
+/// Whether settings that meet the participants among these nodes are the
+/// least of their offer in their place.
 fn is_least(tree: &Tree, nodes: &[NodeId], platform: &Platform, settings: &Settings) -> bool
     requires there { All (HasNode tree.now.nodes) nodes.now }
     requires few { length nodes.now ≤ 128 }
@@ -75,7 +76,8 @@ fn is_least(tree: &Tree, nodes: &[NodeId], platform: &Platform, settings: &Setti
     *settings == least
 }
 
-/// Of the settings of an initial domain, for all participants of the decision, which are those among these nodes.
+/// Of the settings of an initial domain, for all participants of the decision,
+/// which are those among these nodes.
 pub(crate) fn initial_fault(
     tree: &Tree,
     nodes: &[NodeId],
@@ -98,8 +100,8 @@ pub(crate) fn initial_fault(
     Ok(())
 }
 
-/// Whether the settings are those given, the participants among these nodes accept them, and their count suits these with those accepted
-/// before.
+/// Whether the settings are those given, the participants among these nodes accept them, and their
+/// count suits these with those accepted before.
 fn is_kept(
     tree: &Tree,
     accepted: &[NodeId],
@@ -124,7 +126,8 @@ fn is_kept(
         && count_nodes(tree, accepted, nodes).suits(settings.count)
 }
 
-/// Of the settings of an attached domain, on a base with these settings and these nodes accepted before.
+/// Of the settings of an attached domain, on a base with these settings
+/// and these nodes accepted before.
 pub(crate) fn attached_fault(
     tree: &Tree,
     accepted: &[NodeId],

@@ -20,7 +20,8 @@ pub(crate) struct Alone {
     line: Line,
 }
 
-/// Such lines of participants of a tree, by the numbers of their nodes. There are slots up to the greatest of those that are kept.
+/// Such lines of participants of a tree, by the numbers of their nodes. There are slots up to the
+/// greatest of those that are kept.
 #[derive(Drop)]
 pub(crate) struct AloneLines {
     slots: Vec<Option<Alone>>,
@@ -89,7 +90,8 @@ fn line_at(alloc: Global, tree: &Tree, node: NodeId, field: Field) -> Result<Lin
     Line::new(alloc, field, paths.fitted()?)
 }
 
-/// The line of this field that names the participant at a node of the tree. Where a line is kept that names him, both have one path.
+/// The line of this field that names the participant at a node of the tree. Where a line is kept
+/// that names him, both have one path.
 pub(crate) fn line_alone(
     alloc: Global,
     tree: &Tree,

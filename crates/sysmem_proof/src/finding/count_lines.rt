@@ -29,8 +29,8 @@ pub(crate) fn counts_at(tree: &Tree, nodes: &[NodeId]) -> CountBounds
     counts
 }
 
-/// The first line of a fixed count, up to 128, that is true of the participants: they need more than it, or a maximum of theirs is below it.
-/// `None` where it suits them.
+/// The first line of a fixed count, up to 128, that is true of the participants: they need more
+/// than it, or a maximum of theirs is below it. `None` where it suits them.
 pub(crate) fn fixed_line(counts: &CountBounds, count: u32) -> Option<Field>
     requires { count ≤ 128 }
     ensures line { (ps : List Counted) → IsTallyOf counts.now ps

@@ -127,7 +127,8 @@ fn find_initial(
     }
 }
 
-/// Looks for a conflict of the participants at these nodes, which are settled in an attached domain; in counts those of its base take part.
+/// Looks for a conflict of the participants at these nodes, which are settled in an attached
+/// domain; in counts those of its base take part.
 fn find_on_base(
     alloc: Global,
     platform: &Platform,
@@ -179,8 +180,9 @@ fn find_on_base(
     }
 }
 
-/// Looks for a conflict of the participants that these choices settle in a domain of the tree, for an attached one on the base that is given.
-/// `None` where some settings meet them; that nobody names an image's format, modifier or colour space counts where no group is left.
+/// Looks for a conflict of the participants that these choices settle in a domain of the tree,
+/// for an attached one on the base that is given. `None` where some settings meet them; that
+/// nobody names an image's format, modifier or colour space counts where no group is left.
 /// `AllocError` where memory is refused.
 pub fn find_conflict(
     alloc: Global,
@@ -224,8 +226,8 @@ pub fn find_conflict(
     )
 }
 
-/// As `find_conflict`, for a caller who has the domain's layout, knows whether the choices are a selection, so that no group is left
-/// (`whole`), and keeps what is learnt of participants.
+/// As `find_conflict`, for a caller who has the domain's layout, knows whether the choices are a
+/// selection, so that no group is left (`whole`), and keeps what is learnt of participants.
 pub fn find_conflict_as(
     alloc: Global,
     platform: &Platform,
@@ -268,8 +270,9 @@ pub fn find_conflict_as(
     }
 }
 
-/// Lines that refuse each offer and each place before those of the settings to the members of a selection for which they are the best;
-/// none in an attached domain, whose settings are given. `AllocError` where memory is refused.
+/// Lines that refuse each offer and each place before those of the settings to the members of a
+/// selection for which they are the best; none in an attached domain, whose settings are given.
+/// `AllocError` where memory is refused.
 pub fn lines_before(
     alloc: Global,
     platform: &Platform,

@@ -61,7 +61,8 @@ fn has_colour(entries: &[Entry], offer: &Offer) -> bool
     }
 }
 
-/// Whether a participant, if there is one, doesn't take the offer, by this field: its format or its colour space.
+/// Whether a participant, if there is one, doesn't take the offer, by this
+/// field: its format or its colour space.
 fn lacks_offer(field: Field, asked: Option<&Constraints>, offer: &Offer) -> bool
     ensures line { IsTrue result → IsOfferLine field offer.now
         (offer_demands (cons_option (option_map (λ one. one.now) asked.entry) [])) }
@@ -114,8 +115,9 @@ fn read_all(tree: &Tree, nodes: &[NodeId], offer: &Offer) -> OfferRead
     read
 }
 
-/// Reads what the participants at these nodes ask of an offer. The first who doesn't take its format ends it; where nobody is that, the first
-/// who doesn't take its colour space; neither's bounds are read.
+/// Reads what the participants at these nodes ask of an offer. The first who doesn't
+/// take its format ends it; where nobody is that, the first who doesn't take its colour
+/// space; neither's bounds are read.
 pub(crate) fn read_offer(
     tree: &Tree,
     nodes: &[NodeId],
@@ -138,7 +140,8 @@ pub(crate) fn read_offer(
     Reading::Read(read_all(tree, nodes, offer))
 }
 
-/// The first of the participants at these nodes to whom the place is refused, with the first field that does it.
+/// The first of the participants at these nodes to whom the place is refused,
+/// with the first field that does it.
 pub(crate) fn first_refused(
     platform: &Platform,
     tree: &Tree,
@@ -191,7 +194,8 @@ fn failing_field(
     first_uncovered(platform, settings, asked?)
 }
 
-/// The first of the participants at these nodes whom the settings fail, with the first field in which they do.
+/// The first of the participants at these nodes whom the settings fail, with
+/// the first field in which they do.
 pub(crate) fn first_failing(
     platform: &Platform,
     settings: &Settings,

@@ -26,7 +26,8 @@ pub(crate) struct OpenPair {
     is_open: bool,
 }
 
-/// Whether a participant's entry for the pair, if these have one, lists `DO_NOT_CARE` as a colour space.
+/// Whether a participant's entry for the pair, if these have one, lists
+/// `DO_NOT_CARE` as a colour space.
 fn names_no_colour(entries: &[Entry], pair: Pair) -> bool
     ensures { IsTrue result → (colour : Colour) → takes_in pair colour entries.now ≡ true }
 {
@@ -81,8 +82,9 @@ fn known_of(tree: &Tree, nodes: &[NodeId], pair: Pair, known: Option<OpenPair>) 
     }
 }
 
-/// Whether each of the participants at these nodes is seen at once to take the offer's colour space, since all take its pair in every
-/// one. It is asked once for the offers of a pair that come one after another.
+/// Whether each of the participants at these nodes is seen at once to take the offer's
+/// colour space, since all take its pair in every one. It is asked once for the offers of a
+/// pair that come one after another.
 fn is_open(tree: &Tree, nodes: &[NodeId], offer: &Offer, known: &mut Option<OpenPair>) -> bool
     requires there { All (HasNode tree.now.nodes) nodes.now }
     requires known { IfSome known.old
@@ -100,8 +102,8 @@ fn is_open(tree: &Tree, nodes: &[NodeId], offer: &Offer, known: &mut Option<Open
     one.is_open
 }
 
-/// The first of the participants at these nodes who doesn't take the offer's colour space. Nobody is asked where all take its pair in
-/// every one.
+/// The first of the participants at these nodes who doesn't take the offer's colour space. Nobody
+/// is asked where all take its pair in every one.
 pub(crate) fn first_without_colour(
     tree: &Tree,
     nodes: &[NodeId],

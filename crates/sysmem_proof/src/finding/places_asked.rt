@@ -17,7 +17,8 @@ use sysmem_tree::{NodeId, Tree};
 /// For how many participants there are slots.
 const MANY: usize = 64;
 
-/// What the participant at the node of this number said of a place: the first field that refuses it, if one does.
+/// What the participant at the node of this number said of a place: the first
+/// field that refuses it, if one does.
 #[derive(Clone, Copy)]
 pub(crate) struct Asked {
     number: u32,
@@ -25,7 +26,8 @@ pub(crate) struct Asked {
     refused: Option<Field>,
 }
 
-/// What participants of a tree said of places of a platform. Where two questions share a slot, the last answer stands there.
+/// What participants of a tree said of places of a platform. Where two questions share a
+/// slot, the last answer stands there.
 #[derive(Drop)]
 pub(crate) struct PlacesAsked {
     /// Whether a conflict was looked for before.
@@ -44,7 +46,8 @@ impl PlacesAsked {
         }
     }
 
-    /// Looks for one more conflict. Answers are kept from the second one on: of one alone none comes again.
+    /// Looks for one more conflict. Answers are kept from the second one
+    /// on: of one alone none comes again.
     pub(crate) fn begin(&mut self, platform: &Platform) -> Result<(), AllocError>
         ensures { (nodes : List NodeFacts) (heaps : List HeapFacts)
             → AreAsked nodes heaps self.old → AreAsked nodes heaps self.new }
@@ -57,7 +60,8 @@ impl PlacesAsked {
         Ok(())
     }
 
-    /// The first field that refuses the place to the participant at a node, of whom these constraints are, if there is one.
+    /// The first field that refuses the place to the participant at a node, of whom these
+    /// constraints are, if there is one.
     pub(crate) fn answer(
         &mut self,
         platform: &Platform,
@@ -137,7 +141,8 @@ fn refused_place(
     refuses(one.memory(), one.usage(), heap, domain)
 }
 
-/// How many slots a platform needs: for each heap one for each of so many participants, which the domains of a heap share.
+/// How many slots a platform needs: for each heap one for each of so many participants,
+/// which the domains of a heap share.
 fn slots_for(platform: &Platform) -> usize
     ensures { 0 < result }
 {

@@ -56,7 +56,8 @@ impl Refusals {
     }
 }
 
-/// Whom the line of this field names, of participants of whom it is true for an offer whose format all take.
+/// Whom the line of this field names, of participants of whom it is true
+/// for an offer whose format all take.
 fn whom_for(field: Field) -> Whom
     ensures { (whole : _) (o : Offered) (ps : List Participant)
         → IsRefusingLine whole o (offer_demands ps) field
@@ -71,8 +72,8 @@ fn whom_for(field: Field) -> Whom
     }
 }
 
-/// The line before, if it refuses this offer too and is the first that does: they are of one pair, and nobody refuses the colour space
-/// for which it would come first.
+/// The line before, if it refuses this offer too and is the first that does: they are of one pair,
+/// and nobody refuses the colour space for which it would come first.
 fn line_again(
     tree: &Tree,
     nodes: &[NodeId],
@@ -105,7 +106,8 @@ fn line_again(
     Ok(Some(line))
 }
 
-/// Whether no line of the colour space comes before one with this field: it is that of the format, or all take the offer's colour space.
+/// Whether no line of the colour space comes before one with this field: it is that of the format,
+/// or all take the offer's colour space.
 fn is_before_colour(
     tree: &Tree,
     nodes: &[NodeId],
@@ -128,7 +130,8 @@ fn is_before_colour(
     }
 }
 
-/// The first line of the table that is true for the offer of the participants at these nodes, `None` where they share it.
+/// The first line of the table that is true for the offer of the participants at these
+/// nodes, `None` where they share it.
 fn offer_line(
     alloc: Global,
     tree: &Tree,
@@ -170,7 +173,8 @@ fn offer_line(
     }
 }
 
-/// The same, where the last of the lines so far is that of an earlier offer: it is taken again where it is the offer's own.
+/// The same, where the last of the lines so far is that of an earlier offer: it is taken
+/// again where it is the offer's own.
 fn next_line(
     alloc: Global,
     tree: &Tree,
@@ -206,8 +210,9 @@ fn next_line(
     offer_line(alloc, tree, nodes, offer, whole, before, kept, known, alone)
 }
 
-/// Lines that refuse each offer of the platform to the participants at these nodes, or each before the first that they share; where it
-/// is given, at most those before `until`. `whole` says that they are all that a decision has.
+/// Lines that refuse each offer of the platform to the participants at these nodes, or each before
+/// the first that they share; where it is given, at most those before `until`. `whole` says that
+/// they are all that a decision has.
 pub(crate) fn refused_offers(
     alloc: Global,
     platform: &Platform,
@@ -244,7 +249,8 @@ pub(crate) fn refused_offers(
     Ok(Refusals::Whole(Lines::fitted(lines)?))
 }
 
-/// The line of the first of the participants at these nodes to whom the place is refused, `None` where they share it or it is `until`.
+/// The line of the first of the participants at these nodes to whom the place is refused, `None`
+/// where they share it or it is `until`.
 fn place_line(
     alloc: Global,
     platform: &Platform,
@@ -279,7 +285,8 @@ fn place_line(
     Ok(Some(line))
 }
 
-/// Puts the line for a place behind the lines so far, if the heap has it; false where they end at it.
+/// Puts the line for a place behind the lines so far, if the heap
+/// has it; false where they end at it.
 fn push_place(
     alloc: Global,
     platform: &Platform,
@@ -318,7 +325,8 @@ fn push_place(
     Ok(true)
 }
 
-/// Puts the lines for the places of a heap behind the lines so far; false where they end at one of them.
+/// Puts the lines for the places of a heap behind the lines so far;
+/// false where they end at one of them.
 fn push_heap(
     alloc: Global,
     platform: &Platform,
@@ -381,8 +389,8 @@ fn push_heap(
     )
 }
 
-/// Lines that refuse each place of the platform to the participants at these nodes, or each before the first that they share; where it
-/// is given, at most those before `until`.
+/// Lines that refuse each place of the platform to the participants at these nodes, or each before
+/// the first that they share; where it is given, at most those before `until`.
 pub(crate) fn refused_places(
     alloc: Global,
     platform: &Platform,

@@ -23,7 +23,8 @@ pub(crate) enum Whom {
     All,
     /// Those with a count field that isn't its absent value.
     WithCount,
-    /// Those with entries. Where each participant takes a pair, they are those with an entry for it.
+    /// Those with entries. Where each participant takes a pair,
+    /// they are those with an entry for it.
     WithEntries,
     /// None of them.
     Nobody,
@@ -64,7 +65,8 @@ pub(crate) fn is_named(whom: Whom, asked: Option<&Constraints>) -> bool
     }
 }
 
-/// The line of this field that names them among the participants at these nodes of the tree, behind the lines before it.
+/// The line of this field that names them among the participants at these nodes of the
+/// tree, behind the lines before it.
 pub(crate) fn line_of(
     alloc: Global,
     tree: &Tree,
@@ -96,7 +98,8 @@ pub(crate) struct Named {
     line: Line,
 }
 
-/// As `line_of`. Where the line that named several last names the same, it keeps their paths for both.
+/// As `line_of`. Where the line that named several last names the
+/// same, it keeps their paths for both.
 pub(crate) fn next_line_of(
     alloc: Global,
     tree: &Tree,

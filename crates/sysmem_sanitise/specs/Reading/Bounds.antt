@@ -1,5 +1,6 @@
 -- The bounds that an entry puts on images.
-use Rattle.std.specs.Prelude.{ℕ, ◌≤◌, ◌-◌, ◌^◌, ◌&&◌, ◌||◌, max, min, List, [], ◌∷◌, Bool, false, Result, Ok, Err, codes, bytes_eq, nat_le, if◌then◌else◌}
+use Rattle.std.specs.Prelude.{ℕ, ◌≤◌, ◌-◌, ◌^◌, ◌&&◌, ◌||◌, max, min, List, [], ◌∷◌, Bool, false}
+use Rattle.std.specs.Prelude.{Result, Ok, Err, codes, bytes_eq, nat_le, if◌then◌else◌}
 use Rattle.std.proofs.Common.{arith}
 use Rattle.std.specs.List.{list_all}
 use Rattle.serde_json.specs.Data.{Data, object}
@@ -8,13 +9,16 @@ use Rattle.sysmem_counts.specs.declared.field.Field.{Field}
 use Rattle.sysmem_counts.specs.declared.field.Field.TheVariants as field
 use Rattle.sysmem_image.specs.declared.entry.EntryBounds.{EntryBounds}
 use Rattle.sysmem_image.specs.declared.size.Size.{Size}
-use Rattle.sysmem_image.specs.Fields.{Bound, Range, BytesPerRowDivisor, AnyValue, SomeValue, MultipleValue, FromOne, all_bounds, field_of, is_size, absent, range_of, bounds_with, values_of, value_among}
+use Rattle.sysmem_image.specs.Fields.{Bound, Range, BytesPerRowDivisor, AnyValue, SomeValue}
+use Rattle.sysmem_image.specs.Fields.{MultipleValue, FromOne, all_bounds, field_of, is_size, absent}
+use Rattle.sysmem_image.specs.Fields.{range_of, bounds_with, values_of, value_among}
 use Rattle.sysmem_image.specs.Size.{most_multiple, square, some_sides}
 use Rattle.sysmem_counts.specs.Bounds.{most_number}
 use Rattle.sysmem_sanitise.specs.declared.fault.Code.TheVariants as code
 use Rattle.sysmem_sanitise.specs.declared.fault.Fault.{Fault}
 use Rattle.sysmem_sanitise.specs.Faults.{wrong}
-use Rattle.sysmem_sanitise.specs.Reading.Fields.{◌>>=◌, passing, keys_of, read_or, optional, number_up_to, flag_or}
+use Rattle.sysmem_sanitise.specs.Reading.Fields.{◌>>=◌, passing, keys_of, read_or}
+use Rattle.sysmem_sanitise.specs.Reading.Fields.{optional, number_up_to, flag_or}
 
 -- 0 to the greatest
 abbrev pub any_number : Field → Data → Result ℕ Fault
@@ -48,12 +52,14 @@ is_side key = bytes_eq key (codes "width") || bytes_eq key (codes "height")
 
 -- an object that has no other keys than width and height
 abbrev pub sides_of : Field → Data → Result Data Fault
-sides_of field (object ms) = if list_all is_side (keys_of ms) then Ok (object ms) else Err (wrong code.UnknownField field)
+sides_of field (object ms) =
+    if list_all is_side (keys_of ms) then Ok (object ms) else Err (wrong code.UnknownField field)
 sides_of field _ = Err (wrong code.WrongKind field)
 
 -- one side, which must be there
 abbrev pub side : Field → ℕ → List ℕ → Data → Result ℕ Fault
-side field greatest name d = read_or (Err (wrong code.WrongKind field)) (number_up_to field greatest) (get name d)
+side field greatest name d =
+    read_or (Err (wrong code.WrongKind field)) (number_up_to field greatest) (get name d)
 
 -- a width and a height, each from 0 to the greatest
 abbrev pub size_to : Field → ℕ → Data → Result Size Fault
@@ -77,7 +83,8 @@ some_size field d = do
 abbrev pub multiple_size : Field → Data → Result Size Fault
 multiple_size field d = do
   size ← size_to field (2 ^ 64 - 1) d
-  passing (wrong code.BadMultiple field) (λ size. is_multiple size.width && is_multiple size.height) size
+  passing (wrong code.BadMultiple field) (λ size. is_multiple size.width && is_multiple size.height)
+      size
 
 -- a number that is read so, or its absent value
 abbrev pub bound_or : (Field → Data → Result ℕ Fault) → Field → ℕ → Data → Result ℕ Fault
@@ -108,7 +115,9 @@ number_stated f d = do
 
 -- what an entry's bounds state of a field: its value, or its absent one
 abbrev pub stated_in : Bound → Data → Result Size Fault
-stated_in f d = if is_size f then size_or (size_in (range_of f)) (field_of f) (absent f) d else number_stated f d
+stated_in f d =
+    if is_size f then size_or (size_in (range_of f)) (field_of f) (absent f) d
+    else number_stated f d
 
 -- the same of each field of a list, in its order
 abbrev pub stated_each : List Bound → Data → Result (List Size) Fault

@@ -1,5 +1,6 @@
 -- What a participant's record says.
-use Rattle.std.specs.Prelude.{◌-◌, ◌^◌, ◌&&◌, ◌||◌, ◌==◌, List, [], ◌∷◌, Bool, true, false, not, Option, None, Result, Ok}
+use Rattle.std.specs.Prelude.{◌-◌, ◌^◌, ◌&&◌, ◌||◌, ◌==◌, List, [], ◌∷◌, Bool, true, false, not}
+use Rattle.std.specs.Prelude.{Option, None, Result, Ok}
 use Rattle.std.specs.Int.RustNames.{bit_and, bit_or}
 use Rattle.serde_json.specs.Data.{Data}
 use Rattle.sysmem_counts.specs.declared.constraints.CountConstraints.{CountConstraints}
@@ -16,7 +17,8 @@ use Rattle.sysmem_sanitise.specs.Faults.{wrong}
 use Rattle.sysmem_sanitise.specs.Participant.{Participant}
 use Rattle.sysmem_counts.specs.Bounds.{most_number}
 use Rattle.sysmem_sanitise.specs.Reading.Entries.{entries_of}
-use Rattle.sysmem_sanitise.specs.Reading.Fields.{◌>>=◌, passing, read_each, object_of, optional, stated, number_or, flag_or, list_of, named}
+use Rattle.sysmem_sanitise.specs.Reading.Fields.{◌>>=◌, passing, read_each, object_of, optional}
+use Rattle.sysmem_sanitise.specs.Reading.Fields.{stated, number_or, flag_or, list_of, named}
 use Rattle.sysmem_sanitise.specs.Reading.Heaps.{permitted_of}
 
 -- before the first item
@@ -31,7 +33,9 @@ with_family usage d = do
 
 -- some families, and none alone or absent
 abbrev pub is_usage : Usage → Bool
-is_usage usage = usage_bits usage == 1 || (not (usage_bits usage == 0) && not (bit_and (usage_bits usage) 1 == 1))
+is_usage usage =
+    usage_bits usage == 1
+    || (not (usage_bits usage == 0) && not (bit_and (usage_bits usage) 1 == 1))
 
 -- a list of families
 abbrev pub usage_of : Data → Result Usage Fault
@@ -58,8 +62,9 @@ counts_of d = do
 
 -- the fields of memory constraints
 abbrev pub memory_fields : List Field
-memory_fields = field.MinSizeBytes ∷ field.MaxSizeBytes ∷ field.PhysicallyContiguousRequired ∷ field.SecureRequired
-    ∷ field.CpuDomainSupported ∷ field.RamDomainSupported ∷ field.InaccessibleDomainSupported ∷ field.PermittedHeaps ∷ []
+memory_fields = field.MinSizeBytes ∷ field.MaxSizeBytes ∷ field.PhysicallyContiguousRequired
+    ∷ field.SecureRequired ∷ field.CpuDomainSupported ∷ field.RamDomainSupported
+    ∷ field.InaccessibleDomainSupported ∷ field.PermittedHeaps ∷ []
 
 -- what is asked of memory: where nothing is said, any size, the domain cpu alone, and every heap
 abbrev pub memory_of : Option Field → Data → Result MemoryWishes Fault
@@ -86,10 +91,13 @@ memory_of lack d = do
 
 -- the fields of a participant's constraints
 abbrev pub constraints_fields : List Field
-constraints_fields = field.Usage ∷ field.MinBufferCountForCamping ∷ field.MinBufferCountForDedicatedSlack ∷ field.MinBufferCountForSharedSlack
-    ∷ field.MinBufferCount ∷ field.MaxBufferCount ∷ field.BufferMemoryConstraints ∷ field.ImageFormatConstraints ∷ []
+constraints_fields = field.Usage ∷ field.MinBufferCountForCamping
+    ∷ field.MinBufferCountForDedicatedSlack ∷ field.MinBufferCountForSharedSlack
+    ∷ field.MinBufferCount ∷ field.MaxBufferCount ∷ field.BufferMemoryConstraints
+    ∷ field.ImageFormatConstraints ∷ []
 
--- the participant that a value states, or its first fault, while memory for one field, or for none, is refused
+-- the participant that a value states, or its first fault, while memory for
+-- one field, or for none, is refused
 abbrev pub participant_with : Option Field → Data → Result Participant Fault
 participant_with lack d = do
   _ ← object_of Whole constraints_fields d

@@ -1,5 +1,7 @@
 -- The image entries of a participant's record. One with further pairs stands for several.
-use Rattle.std.specs.Prelude.{◌+◌, ◌&&◌, ◌||◌, ◌==◌, ◌++◌, List, [], ◌∷◌, length, map, Bool, false, not, Option, Some, None, Result, Ok, nat_lt, option_map, option_and_then, is_some, if◌then◌else◌}
+use Rattle.std.specs.Prelude.{◌+◌, ◌&&◌, ◌||◌, ◌==◌, ◌++◌, List, [], ◌∷◌, length, map, Bool, false}
+use Rattle.std.specs.Prelude.{not, Option, Some, None, Result, Ok, nat_lt, option_map}
+use Rattle.std.specs.Prelude.{option_and_then, is_some, if◌then◌else◌}
 use Rattle.std.specs.List.{list_any}
 use Rattle.std.specs.Option.{option_eq}
 use Rattle.serde_json.specs.Data.{Data, Items}
@@ -23,8 +25,11 @@ use Rattle.sysmem_sanitise.specs.declared.fault.Fault.{Fault}
 use Rattle.sysmem_sanitise.specs.declared.fault.FaultPlace.TheVariants.{At}
 use Rattle.sysmem_sanitise.specs.Faults.{wrong}
 use Rattle.sysmem_sanitise.specs.Reading.Bounds.{bounds_of}
-use Rattle.sysmem_sanitise.specs.Reading.Fields.{◌>>=◌, passing, kept, read_each, object_of, optional, required, stated, list_of, has_items, named}
-use Rattle.sysmem_sanitise.specs.Reading.Names.{format_named, modifier_named, colour_named, choice_named}
+use Rattle.sysmem_sanitise.specs.Reading.Fields.{◌>>=◌, passing, kept, read_each}
+use Rattle.sysmem_sanitise.specs.Reading.Fields.{object_of, optional, required, stated}
+use Rattle.sysmem_sanitise.specs.Reading.Fields.{list_of, has_items, named}
+use Rattle.sysmem_sanitise.specs.Reading.Names.{format_named, modifier_named}
+use Rattle.sysmem_sanitise.specs.Reading.Names.{colour_named, choice_named}
 use Rattle.sysmem_sanitise.specs.Reading.Pairs.{pair_fields, is_tiled_misfit}
 
 -- DO_NOT_CARE is the same as itself alone
@@ -40,12 +45,14 @@ same_asked a b = same_format a.format b.format && same_modifier a.modifier b.mod
 
 -- a tiled modifier with a named format that isn't of 4 bytes
 abbrev pub asks_misfit : Option PixelFormat → Option Modifier → Bool
-asks_misfit (Some format) (Some modifier) = is_tiled_misfit (record { format = format; modifier = modifier })
+asks_misfit (Some format) (Some modifier) =
+    is_tiled_misfit (record { format = format; modifier = modifier })
 asks_misfit _ _ = false
 
 -- the modifier beside a format: if it is missing, LINEAR, or DO_NOT_CARE if the format is
 abbrev pub modifier_beside : Option PixelFormat → Data → Result (Option Modifier) Fault
-modifier_beside format d = optional field.PixelFormatModifier (option_map (λ _. Linear) format) (named (choice_named modifier_named) field.PixelFormatModifier) d
+modifier_beside format d = optional field.PixelFormatModifier (option_map (λ _. Linear) format)
+    (named (choice_named modifier_named) field.PixelFormatModifier) d
 
 -- the format and the modifier that an object states
 abbrev pub asked_of : Data → Result AskedPair Fault
@@ -66,12 +73,17 @@ is_asked_already entries new = list_any (λ entry. same_asked (pair_asked entry)
 abbrev pub has_asked : List AskedPair → AskedPair → Bool
 has_asked pairs new = list_any (λ pair. same_asked pair new) pairs
 
--- the pairs of an entry, and one more that a field gives: none of them or of the entries before asks for the same
-abbrev pub with_asked : Option Field → Field → List Entry → List AskedPair → AskedPair → Result (List AskedPair) Fault
+-- the pairs of an entry, and one more that a field gives: none of them or of the
+-- entries before asks for the same
+abbrev pub with_asked : Option Field → Field → List Entry → List AskedPair → AskedPair
+    → Result (List AskedPair) Fault
 with_asked lack field entries pairs asked = do
-  fitting ← passing (wrong code.TiledMisfit field) (λ pair. not (asks_misfit pair.format pair.modifier)) asked
-  roomy ← passing (wrong code.TooMany field) (λ _. nat_lt (length entries + length pairs) 64) fitting
-  new ← passing (wrong code.RepeatedPair field) (λ pair. not (is_asked_already entries pair || has_asked pairs pair)) roomy
+  fitting ← passing (wrong code.TiledMisfit field)
+      (λ pair. not (asks_misfit pair.format pair.modifier)) asked
+  roomy ← passing (wrong code.TooMany field) (λ _. nat_lt (length entries + length pairs) 64)
+      fitting
+  new ← passing (wrong code.RepeatedPair field)
+      (λ pair. not (is_asked_already entries pair || has_asked pairs pair)) roomy
   kept lack field (pairs ++ new ∷ [])
 
 -- there is a list, and an item in it
@@ -81,7 +93,8 @@ is_filled (Some items) = has_items items
 
 -- there is a list of further pairs that isn't empty
 abbrev pub has_further : Data → Bool
-has_further d = is_filled (option_and_then as_array (get (field_name field.PixelFormatAndModifiers) d))
+has_further d =
+    is_filled (option_and_then as_array (get (field_name field.PixelFormatAndModifiers) d))
 
 -- an entry without a format has further pairs, and no pair of its own, whatever its modifier is
 abbrev pub no_pair : Data → Result (List AskedPair) Fault
@@ -93,18 +106,21 @@ no_pair d = do
 -- the entry's own pair
 abbrev pub own_pair : Option Field → List Entry → Data → Result (List AskedPair) Fault
 own_pair lack entries d =
-    if is_some (get (field_name field.PixelFormat) d) then asked_of d >>= with_asked lack field.PixelFormat entries []
+    if is_some (get (field_name field.PixelFormat) d)
+    then asked_of d >>= with_asked lack field.PixelFormat entries []
     else no_pair d
 
 -- the pairs of an entry, and the one that an item of its further pairs states
-abbrev pub with_further : Option Field → List Entry → List AskedPair → Data → Result (List AskedPair) Fault
+abbrev pub with_further : Option Field → List Entry → List AskedPair → Data
+    → Result (List AskedPair) Fault
 with_further lack entries pairs d = do
   _ ← object_of (At field.PixelFormatAndModifiers) pair_fields d
   asked ← asked_of d
   with_asked lack field.PixelFormatAndModifiers entries pairs asked
 
 -- the pairs of an entry, and those that its further pairs state
-abbrev pub further_of : Option Field → List Entry → List AskedPair → Data → Result (List AskedPair) Fault
+abbrev pub further_of : Option Field → List Entry → List AskedPair → Data
+    → Result (List AskedPair) Fault
 further_of lack entries own d = do
   items ← list_of field.PixelFormatAndModifiers d
   read_each (with_further lack entries) own items
@@ -135,8 +151,8 @@ colour_set_of d = do
 
 -- the fields of an entry
 abbrev pub entry_fields : List Field
-entry_fields = field.PixelFormat ∷ field.PixelFormatModifier ∷ field.PixelFormatAndModifiers ∷ field.ColorSpaces
-    ∷ (map field_of all_bounds ++ field.RequireBytesPerRowAtPixelBoundary ∷ [])
+entry_fields = field.PixelFormat ∷ field.PixelFormatModifier ∷ field.PixelFormatAndModifiers
+    ∷ field.ColorSpaces ∷ (map field_of all_bounds ++ field.RequireBytesPerRowAtPixelBoundary ∷ [])
 
 -- an object with no other fields than an entry's
 abbrev pub entry_object : Data → Result Data Fault
@@ -144,9 +160,11 @@ entry_object d = object_of (At field.ImageFormatConstraints) entry_fields d
 
 -- the entry of one of an item's pairs
 abbrev pub entry_with : ColourSet → EntryBounds → AskedPair → Entry
-entry_with colours bounds pair = record { format = pair.format; modifier = pair.modifier; colours = colours; bounds = bounds }
+entry_with colours bounds pair =
+    record { format = pair.format; modifier = pair.modifier; colours = colours; bounds = bounds }
 
--- the entries, and those that an item stands for: one for each of its pairs, which share its other fields
+-- the entries, and those that an item stands for: one for each of its
+-- pairs, which share its other fields
 abbrev pub with_entry : Option Field → List Entry → Data → Result (List Entry) Fault
 with_entry lack entries d = do
   _ ← entry_object d

@@ -1,12 +1,16 @@
 -- Reading one field of a record: the value that it states, or what is wrong with it.
-use Rattle.std.specs.Prelude.{◌≡◌, ℕ, List, [], ◌∷◌, Bool, true, false, Option, Some, None, ◌⊎◌, Result, Ok, Err, nat_le, bytes_eq, ok_or, option_and_then, if◌then◌else◌}
+use Rattle.std.specs.Prelude.{◌≡◌, ℕ, List, [], ◌∷◌, Bool, true, false, Option}
+use Rattle.std.specs.Prelude.{Some, None, ◌⊎◌, Result, Ok, Err, nat_le, bytes_eq}
+use Rattle.std.specs.Prelude.{ok_or, option_and_then, if◌then◌else◌}
 use Rattle.std.specs.List.{list_all, list_any}
 use Rattle.serde_json.specs.Data.{Data, object, Items, no_items, item, Members, no_members, member}
 use Rattle.serde_json.specs.Find.{get, as_array, as_bool, as_number, as_str, as_u64}
 use Rattle.sysmem_counts.specs.declared.field.Field.{Field}
 use Rattle.sysmem_counts.specs.Field.{field_name}
 use Rattle.sysmem_sanitise.specs.declared.fault.Code.{Code}
-use Rattle.sysmem_sanitise.specs.declared.fault.Code.TheVariants.{NotAnObject, UnknownField, WrongKind, UnknownName, WantOfMemory}
+use Rattle.sysmem_sanitise.specs.declared.fault.Code.TheVariants.{NotAnObject, UnknownField}
+use Rattle.sysmem_sanitise.specs.declared.fault.Code.TheVariants.{WrongKind, UnknownName}
+use Rattle.sysmem_sanitise.specs.declared.fault.Code.TheVariants.{WantOfMemory}
 use Rattle.sysmem_sanitise.specs.declared.fault.Fault.{Fault}
 use Rattle.sysmem_sanitise.specs.declared.fault.FaultPlace.{FaultPlace}
 use Rattle.sysmem_sanitise.specs.Faults.{wrong, lack_of}
@@ -37,7 +41,8 @@ object_of place fields (object ms) =
 object_of place fields _ = Err (record { code = NotAnObject; at = place })
 
 -- what a value reads as, or what stands for a missing one
-abbrev pub read_or : {A : Type 0} → Result A Fault → (Data → Result A Fault) → Option Data → Result A Fault
+abbrev pub read_or : {A : Type 0} → Result A Fault → (Data → Result A Fault) → Option Data
+    → Result A Fault
 read_or absent read None = absent
 read_or absent read (Some d) = read d
 
@@ -109,7 +114,8 @@ abbrev pub kept : {A : Type 0} → Option Field → Field → A → Result A Fau
 kept None field a = Ok a
 kept (Some lack) field a = if same_field lack field then Err (wrong WantOfMemory lack) else Ok a
 
--- the answer is what the record says where memory is refused for the field of an S13, and for no other
+-- the answer is what the record says where memory is refused for the
+-- field of an S13, and for no other
 abbrev pub Reads : {A : Type 0} → (Option Field → Result A Fault) → Result A Fault → Type 0
 Reads said (Ok a) = said None ≡ Ok a
 Reads said (Err fault) = said (lack_of fault) ≡ Err fault

@@ -1,5 +1,6 @@
 -- What a heap's name says, and what a platform's heap says.
-use Rattle.std.specs.Prelude.{◌≡◌, ℕ, ◌-◌, ◌^◌, ◌&&◌, ◌||◌, ◌++◌, ◌==◌, List, [], ◌∷◌, length, Bool, true, false, not, Option, Result, Ok, nat_eq, nat_le, nat_lt}
+use Rattle.std.specs.Prelude.{◌≡◌, ℕ, ◌-◌, ◌^◌, ◌&&◌, ◌||◌, ◌++◌, ◌==◌, List, [], ◌∷◌, length, Bool}
+use Rattle.std.specs.Prelude.{true, false, not, Option, Result, Ok, nat_eq, nat_le, nat_lt}
 use Rattle.std.specs.List.{list_all, list_any}
 use Rattle.serde_json.specs.Data.{Data}
 use Rattle.sysmem_counts.specs.declared.field.Field.{Field}
@@ -13,12 +14,15 @@ use Rattle.sysmem_sanitise.specs.declared.fault.Code.TheVariants as code
 use Rattle.sysmem_sanitise.specs.declared.fault.Fault.{Fault}
 use Rattle.sysmem_sanitise.specs.declared.fault.FaultPlace.TheVariants.{At}
 use Rattle.sysmem_sanitise.specs.Faults.{wrong}
-use Rattle.sysmem_sanitise.specs.Reading.Fields.{◌>>=◌, passing, kept, read_each, object_of, required, number_or, flag_or, text_of, list_of, named}
+use Rattle.sysmem_sanitise.specs.Reading.Fields.{◌>>=◌, passing, kept, read_each}
+use Rattle.sysmem_sanitise.specs.Reading.Fields.{object_of, required, number_or, flag_or}
+use Rattle.sysmem_sanitise.specs.Reading.Fields.{text_of, list_of, named}
 use Rattle.sysmem_sanitise.specs.Reading.Names.{domain_named}
 
 -- an ASCII letter or digit, `.`, `_` or `-`
 abbrev pub is_heap_byte : ℕ → Bool
-is_heap_byte b = (nat_le 97 b && nat_le b 122) || (nat_le 65 b && nat_le b 90) || (nat_le 48 b && nat_le b 57) || nat_eq b 46 || nat_eq b 95 || nat_eq b 45
+is_heap_byte b = (nat_le 97 b && nat_le b 122) || (nat_le 65 b && nat_le b 90)
+    || (nat_le 48 b && nat_le b 57) || nat_eq b 46 || nat_eq b 95 || nat_eq b 45
 
 -- 1 to 128 of them
 abbrev pub is_heap_type : List ℕ → Bool
@@ -56,7 +60,8 @@ with_domain s Inaccessible = record s { inaccessible = true }
 abbrev pub with_named : CoherencyDomains → Data → Result CoherencyDomains Fault
 with_named s d = do
   domain ← named domain_named field.Domains d
-  new ← passing (wrong code.BadPlatformList field.Domains) (λ domain. not (has_domain s domain)) domain
+  new ← passing (wrong code.BadPlatformList field.Domains) (λ domain. not (has_domain s domain))
+      domain
   Ok (with_domain s new)
 
 -- some domain is among them
@@ -122,7 +127,8 @@ abbrev pub with_permitted : Option Field → List HeapName → Data → Result (
 with_permitted lack heaps d = do
   heap ← permitted_heap lack d
   roomy ← passing (wrong code.TooMany field.PermittedHeaps) (λ _. nat_lt (length heaps) 64) heap
-  new ← passing (wrong code.RepeatedHeap field.PermittedHeaps) (λ heap. not (has_permitted heaps heap)) roomy
+  new ← passing (wrong code.RepeatedHeap field.PermittedHeaps)
+      (λ heap. not (has_permitted heaps heap)) roomy
   kept lack field.PermittedHeaps (heaps ++ new ∷ [])
 
 -- a list of at most 64 heaps, with none twice; an empty list permits every heap

@@ -1,9 +1,16 @@
 -- What the names in a record name.
-use Rattle.std.specs.Prelude.{ℕ, List, [], ◌∷◌, Option, Some, None, codes, bytes_eq, find, option_map, if◌then◌else◌}
+use Rattle.std.specs.Prelude.{ℕ, List, [], ◌∷◌, Option, Some, None, codes, bytes_eq}
+use Rattle.std.specs.Prelude.{find, option_map, if◌then◌else◌}
 use Rattle.sysmem_formats.specs.declared.colour_space.ColourSpace.{ColourSpace}
-use Rattle.sysmem_formats.specs.declared.colour_space.ColourSpace.TheVariants.{Srgb, Rec601Ntsc, Rec601NtscFullRange, Rec601Pal, Rec601PalFullRange, Rec709, Rec2020, Rec2100}
+use Rattle.sysmem_formats.specs.declared.colour_space.ColourSpace.TheVariants.{Srgb, Rec601Ntsc}
+use Rattle.sysmem_formats.specs.declared.colour_space.ColourSpace.TheVariants.{Rec601NtscFullRange}
+use Rattle.sysmem_formats.specs.declared.colour_space.ColourSpace.TheVariants.{Rec601Pal}
+use Rattle.sysmem_formats.specs.declared.colour_space.ColourSpace.TheVariants.{Rec601PalFullRange}
+use Rattle.sysmem_formats.specs.declared.colour_space.ColourSpace.TheVariants.{Rec709, Rec2020}
+use Rattle.sysmem_formats.specs.declared.colour_space.ColourSpace.TheVariants.{Rec2100}
 use Rattle.sysmem_formats.specs.declared.modifier.Modifier.{Modifier}
-use Rattle.sysmem_formats.specs.declared.modifier.Modifier.TheVariants.{Linear, IntelXTiled, IntelYTiled}
+use Rattle.sysmem_formats.specs.declared.modifier.Modifier.TheVariants.{Linear, IntelXTiled}
+use Rattle.sysmem_formats.specs.declared.modifier.Modifier.TheVariants.{IntelYTiled}
 use Rattle.sysmem_formats.specs.declared.pixel_format.PixelFormat.{PixelFormat}
 pub use Rattle.sysmem_formats.specs.Formats.{formats}
 use Rattle.sysmem_formats.specs.Names.{format_name, modifier_name, colour_name}
@@ -21,7 +28,8 @@ modifiers = Linear ∷ IntelXTiled ∷ IntelYTiled ∷ []
 
 -- every colour space
 abbrev pub colours : List ColourSpace
-colours = Srgb ∷ Rec601Ntsc ∷ Rec601NtscFullRange ∷ Rec601Pal ∷ Rec601PalFullRange ∷ Rec709 ∷ Rec2020 ∷ Rec2100 ∷ []
+colours = Srgb ∷ Rec601Ntsc ∷ Rec601NtscFullRange ∷ Rec601Pal ∷ Rec601PalFullRange ∷ Rec709
+    ∷ Rec2020 ∷ Rec2100 ∷ []
 
 -- every coherency domain
 abbrev pub domains : List CoherencyDomain
@@ -41,4 +49,5 @@ domain_named name = find_named domain_name domains name
 
 -- DO_NOT_CARE, which is None, or what the name names
 abbrev pub choice_named : {X : Type 0} → (List ℕ → Option X) → List ℕ → Option (Option X)
-choice_named find name = if bytes_eq name (codes "DO_NOT_CARE") then Some None else option_map Some (find name)
+choice_named find name =
+    if bytes_eq name (codes "DO_NOT_CARE") then Some None else option_map Some (find name)

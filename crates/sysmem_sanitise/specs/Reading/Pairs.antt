@@ -15,7 +15,9 @@ abbrev pub pair_fields : List Field
 pair_fields = field.PixelFormat ∷ field.PixelFormatModifier ∷ []
 
 abbrev pub same_pair : Pair → Pair → Bool
-same_pair a b = format_code a.format == format_code b.format && modifier_code a.modifier == modifier_code b.modifier
+same_pair a b =
+    format_code a.format == format_code b.format
+    && modifier_code a.modifier == modifier_code b.modifier
 
 -- the pair is among these
 abbrev pub has_pair : List Pair → Pair → Bool
@@ -30,4 +32,5 @@ lists_colour colours new = list_any (λ colour. same_colour colour new) colours
 
 -- a tiled modifier with a format that isn't of 4 bytes: the test of IsTiledMisfit
 abbrev pub is_tiled_misfit : Pair → Bool
-is_tiled_misfit pair = not (modifier_code pair.modifier == modifier_code Linear) && not (pixel_bytes pair.format == 4)
+is_tiled_misfit pair =
+    not (modifier_code pair.modifier == modifier_code Linear) && not (pixel_bytes pair.format == 4)

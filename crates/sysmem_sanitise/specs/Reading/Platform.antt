@@ -11,17 +11,20 @@ use Rattle.sysmem_sanitise.specs.declared.fault.Fault.{Fault}
 use Rattle.sysmem_sanitise.specs.declared.fault.FaultPlace.TheVariants.{Whole, At}
 use Rattle.sysmem_sanitise.specs.Faults.{wrong}
 use Rattle.sysmem_sanitise.specs.Platform.{PlatformFacts}
-use Rattle.sysmem_sanitise.specs.Reading.Fields.{◌>>=◌, passing, kept, read_each, object_of, optional, required, list_of, named}
+use Rattle.sysmem_sanitise.specs.Reading.Fields.{◌>>=◌, passing, kept, read_each, object_of}
+use Rattle.sysmem_sanitise.specs.Reading.Fields.{optional, required, list_of, named}
 use Rattle.sysmem_sanitise.specs.Reading.Heaps.{heaps_of}
 use Rattle.sysmem_sanitise.specs.Reading.Names.{format_named, modifier_named, colour_named}
-use Rattle.sysmem_sanitise.specs.Reading.Pairs.{pair_fields, has_pair, lists_colour, is_tiled_misfit}
+use Rattle.sysmem_sanitise.specs.Reading.Pairs.{pair_fields, has_pair}
+use Rattle.sysmem_sanitise.specs.Reading.Pairs.{lists_colour, is_tiled_misfit}
 
 -- a format and its modifier, LINEAR if it is missing
 abbrev pub pair_of : Data → Result Pair Fault
 pair_of d = do
   _ ← object_of (At field.Pairs) pair_fields d
   format ← required field.PixelFormat (named format_named field.PixelFormat) d
-  modifier ← optional field.PixelFormatModifier Linear (named modifier_named field.PixelFormatModifier) d
+  modifier ← optional field.PixelFormatModifier Linear
+      (named modifier_named field.PixelFormatModifier) d
   Ok (record { format = format; modifier = modifier })
 
 -- the pairs, and the one that an item states: no tiled misfit, and not there yet
@@ -40,10 +43,12 @@ pairs_of lack d = do
   passing (wrong code.BadPlatformList field.Pairs) (λ pairs. not (length pairs == 0)) pairs
 
 -- the colour spaces, and the one that an item names, which isn't there yet
-abbrev pub with_new_colour : Option Field → List ColourSpace → Data → Result (List ColourSpace) Fault
+abbrev pub with_new_colour : Option Field → List ColourSpace → Data
+    → Result (List ColourSpace) Fault
 with_new_colour lack colours d = do
   colour ← named colour_named field.ColorSpaces d
-  new ← passing (wrong code.BadPlatformList field.ColorSpaces) (λ colour. not (lists_colour colours colour)) colour
+  new ← passing (wrong code.BadPlatformList field.ColorSpaces)
+      (λ colour. not (lists_colour colours colour)) colour
   kept lack field.ColorSpaces (colours ++ new ∷ [])
 
 -- a list of colour spaces that isn't empty, with none twice
@@ -51,13 +56,15 @@ abbrev pub colours_of : Option Field → Data → Result (List ColourSpace) Faul
 colours_of lack d = do
   items ← list_of field.ColorSpaces d
   colours ← read_each (with_new_colour lack) [] items
-  passing (wrong code.BadPlatformList field.ColorSpaces) (λ colours. not (length colours == 0)) colours
+  passing (wrong code.BadPlatformList field.ColorSpaces) (λ colours. not (length colours == 0))
+      colours
 
 -- the fields of a platform
 abbrev pub platform_fields : List Field
 platform_fields = field.Heaps ∷ field.Pairs ∷ field.ColorSpaces ∷ []
 
--- the platform that a value states, or its first fault, while memory for one field, or for none, is refused
+-- the platform that a value states, or its first fault, while memory for
+-- one field, or for none, is refused
 abbrev pub platform_with : Option Field → Data → Result PlatformFacts Fault
 platform_with lack d = do
   _ ← object_of Whole platform_fields d

@@ -1,4 +1,5 @@
--- The bytes so far were taken from the reader, which has not failed, and are at most one more than the limit.
+-- The bytes so far were taken from the reader, which has not failed, and are
+-- at most one more than the limit.
 use Rattle.std.proofs.Common.{◌≡◌, ◌+◌, ◌-◌, ◌≤◌, vec_len}
 use Rattle.std.specs.Io.KnownBytes.{Consumes}
 use Rattle.byte_transfer.proofs.transfer.read_up_to_limit.Given as goal

@@ -1,4 +1,5 @@
--- The offers that are left want the lines that are left; the line before refuses the offer before, if there is one.
+-- The offers that are left want the lines that are left; the line before refuses
+-- the offer before, if there is one.
 use Rattle.std.proofs.Common.{◌≡◌, ◌-◌, drop, get_or}
 use Rattle.std.specs.Prelude.{◌↔◌, ◌≢◌}
 use Rattle.std.specs.List.{AllZip}

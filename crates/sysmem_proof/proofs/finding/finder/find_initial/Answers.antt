@@ -1,4 +1,5 @@
--- A count line of all, or settings of the count, the first place and the first offer that are shared.
+-- A count line of all, or settings of the count, the first place and
+-- the first offer that are shared.
 use Rattle.std.proofs.Common.{None, sym, refl, subst}
 use Rattle.std.specs.Prelude.{is_none}
 use Rattle.sysmem_merge.specs.declared.reason.Reason.TheVariants as reasons
