@@ -16,6 +16,6 @@ returns-in-Err-clause-strange g c = λ strange.
     let state = (shown_by c.args.log.now).state in
     let told : c.in-Err.refusal ≢ Strange → IsAnswer (due known c.args.path.now state kind) known kind c.in-Err.refusal = search rules in
     let held : c.in-Err.refusal ≡ Strange → (node : ℕ) → IsOwn c.in_hold-entered.result.1.found c.args.path.now c.args.log.now known node
-        → IsDisputed c.in_hold-entered.result.1.found c.args.path.now known node = search rules in
+    → IsDisputed c.in_hold-entered.result.1.found c.args.path.now known node = search rules in
     held (was_strange c.in-Err.refusal c.at_end.result (λ not_strange. for_its_state known c.args.path.now state kind c.in-Err.refusal c.requires.ends (told not_strange))
     c.at_end.ensures.same strange)
