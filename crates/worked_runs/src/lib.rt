@@ -1,6 +1,5 @@
-//! Readers and writers that fail, what runs over them write, and who makes a script's calls; and collections through their
-//! handles. It is a crate of tests alone, so that neither the transfer of bytes nor the run of a script nor the handles are
-//! proved again with its tests.
+//! Readers and writers that fail, and who makes a script's calls; and collections through their handles. It is a crate of tests
+//! alone, so that neither the transfer of bytes nor the reading of a script nor the handles are proved again with its tests.
 #![tactic(auto)]
 
 #[cfg(test)]
@@ -10,10 +9,6 @@ mod counted;
 #[cfg(test)]
 mod equal;
 #[cfg(test)]
-mod failing;
-#[cfg(test)]
 mod handles;
-#[cfg(test)]
-mod runs;
 #[cfg(test)]
 mod transfers;
