@@ -1,43 +1,8 @@
-//! The texts of fields and usages.
+//! The texts of usages.
 
 use crate::values::rows::are_equal;
 use bitflags::Flags;
-use sysmem_counts::{Field, Usage};
-
-const NAMES: [(Field, &str); 10] = [
-    (Field::Usage, "usage"),
-    (
-        Field::MinBufferCountForCamping,
-        "min_buffer_count_for_camping",
-    ),
-    (Field::ImageFormatConstraints, "image_format_constraints"),
-    (Field::RequiredMaxSize, "required_max_size"),
-    (Field::MaxWidthTimesHeight, "max_width_times_height"),
-    (
-        Field::RequireBytesPerRowAtPixelBoundary,
-        "require_bytes_per_row_at_pixel_boundary",
-    ),
-    (Field::BufferCountLimit, "buffer_count_limit"),
-    (
-        Field::UnnamedPixelFormatModifier,
-        "unnamed_pixel_format_modifier",
-    ),
-    (Field::HeapType, "heap_type"),
-    (Field::Domains, "domains"),
-];
-
-const NO_NAMES: [&str; 5] = ["", "Usage", "usage ", "min_buffer", "colour_spaces"];
-
-#[test]
-fn field_names(rt: HostRuntime) {
-    for (field, text) in NAMES.iter() {
-        let answered = (field.name(), Field::from_name(text));
-        are_equal(&rt, &[(answered, (*text, Some(*field)))]);
-    }
-    for text in NO_NAMES.iter() {
-        are_equal(&rt, &[((*text, Field::from_name(text)), (*text, None))]);
-    }
-}
+use sysmem_counts::Usage;
 
 // The usage that is read from this, and whether it uses the processor.
 fn read(name: &str) -> Option<(Usage, bool)> {

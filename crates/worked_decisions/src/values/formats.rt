@@ -1,4 +1,4 @@
-//! Names, and how many offers there are.
+//! How many offers there are, and what stands for no image.
 
 use crate::values::rows::are_equal;
 use sysmem_formats::{
@@ -10,45 +10,6 @@ const BGRA: PixelFormat = PixelFormat::B8G8R8A8;
 
 fn pair(format: PixelFormat, modifier: Modifier) -> Pair {
     Pair { format, modifier }
-}
-
-#[test]
-fn names(rt: HostRuntime) {
-    are_equal(
-        &rt,
-        &[
-            (PixelFormat::from_name("B8G8R8A8"), Some(BGRA)),
-            (PixelFormat::from_name("DO_NOT_CARE"), None),
-        ],
-    );
-    are_equal(
-        &rt,
-        &[
-            (
-                Modifier::from_name("INTEL_I915_Y_TILED"),
-                Some(Modifier::IntelYTiled),
-            ),
-            (Modifier::from_name("linear"), None),
-        ],
-    );
-    are_equal(
-        &rt,
-        &[
-            (
-                ColourSpace::from_name("REC601_PAL_FULL_RANGE"),
-                Some(ColourSpace::Rec601PalFullRange),
-            ),
-            (ColourSpace::from_name(""), None),
-        ],
-    );
-    are_equal(
-        &rt,
-        &[
-            (PixelFormat::P010.name(), "P010"),
-            (Modifier::IntelXTiled.name(), "INTEL_I915_X_TILED"),
-            (ColourSpace::Rec2020.name(), "REC2020"),
-        ],
-    );
 }
 
 // The offer of this index, of two pairs and these colour spaces.

@@ -3,8 +3,8 @@
 ghost use Rattle.std.specs.Prelude.{◌≡◌};
 ghost use Rattle.sysmem_room.specs.Counting.{all_parts};
 
+use crate::equal::is_equal;
 use crate::handles::asking::{CAMPS_ON_2, CAMPS_ON_3, allocator, asked};
-use crate::handles::equal::is_equal;
 use crate::handles::handling::{bound, child, closed, counted, released, root, waits_for};
 use std::alloc::Global;
 use std::marker::Brand;

@@ -1,7 +1,7 @@
 //! Which calls are failures: no clause of std's readers and writers says that a call failed.
 ghost use Rattle.std.specs.Prelude.{◌≤◌, IfOk};
 
-use crate::equal::is_equal;
+use crate::runs::equal::is_equal;
 use byte_transfer::{Counted, Sink, Source};
 use std::io::{self, ErrorKind, Read, Write};
 

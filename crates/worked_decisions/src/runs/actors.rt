@@ -1,7 +1,7 @@
 //! Who makes the calls of a script, and what is refused where actors are threads: that two of them
 //! make calls on one name.
 
-use crate::equal::is_equal;
+use crate::runs::equal::is_equal;
 use script_reading::{ParseFault, Script, parse_script, read_script, read_script_apart};
 use std::alloc::Global;
 use std::test::Fail;

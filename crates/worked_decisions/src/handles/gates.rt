@@ -3,9 +3,9 @@
 ghost use Rattle.std.specs.Prelude.{◌≡◌};
 ghost use Rattle.sysmem_room.specs.Counting.{all_parts};
 
+use crate::equal::is_equal;
 use crate::handles::actors::{emptied, take_part};
 use crate::handles::asking::{CAMPS_ON_2, CAMPS_ON_3, asked, platform};
-use crate::handles::equal::is_equal;
 use crate::handles::handling::{
     accepted, bound, child, closed, counted, released, root, waits_for,
 };

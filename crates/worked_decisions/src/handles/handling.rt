@@ -3,7 +3,7 @@
 ghost use Rattle.std.specs.Prelude.{◌≡◌};
 ghost use Rattle.sysmem_room.specs.Counting.{all_parts};
 
-use crate::handles::equal::is_equal;
+use crate::equal::is_equal;
 use std::process::Abort;
 use std::sync::ledger::{Blank, Ledger};
 use std::sync::{Arc, Wait};

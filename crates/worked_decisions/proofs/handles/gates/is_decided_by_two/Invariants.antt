@@ -1,4 +1,4 @@
-use Rattle.worked_runs.proofs.handles.gates.is_decided_by_two.Given as goal
+use Rattle.worked_decisions.proofs.handles.gates.is_decided_by_two.Given as goal
 
 abbrev pub ghosts-choose : goal.ghosts-choose
 ghosts-choose g a = record { name = a.blank.name; parts = a.blank.parts }

@@ -1,6 +1,6 @@
 //! How much is taken from a reader.
 
-use crate::equal::is_equal;
+use crate::runs::equal::is_equal;
 use byte_transfer::{Counted, ReadFault, read_up_to_limit};
 use std::alloc::Global;
 use std::io::{self, Read};

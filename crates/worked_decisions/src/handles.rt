@@ -2,7 +2,6 @@
 
 mod actors;
 mod asking;
-mod equal;
 mod gates;
 mod handling;
 mod slack;
