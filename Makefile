@@ -31,6 +31,7 @@ program-test: proved
 
 # The same where `make test` or `make proved` has just built the program.
 built-test:
+	docs/columns --check
 	docs/definitions --check
 	tests/reports
 	tests/json_reports
