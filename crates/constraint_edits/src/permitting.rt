@@ -27,7 +27,13 @@ fn id_in(item: &Value) -> u64 {
 }
 
 fn is_heap(item: &Value, heap: &Heap) -> bool {
-    type_in(item) == heap.heap_type.as_str() && id_in(item) == heap.id
+    id_in(item) == heap.id && type_in(item) == heap.heap_type.as_str()
+}
+
+/// Whether the heap that an item names is one of a platform's.
+fn is_among(item: &Value, heaps: &[HeapInfo]) -> bool {
+    let (name, id) = (type_in(item), id_in(item));
+    heaps.iter().any(|info| info.heap.id == id && info.heap.heap_type.as_str() == name)
 }
 
 fn heap_value(alloc: Global, heap: &Heap) -> Result<Value, AllocError> {
@@ -82,8 +88,7 @@ fn near_in(
 ) -> Result<Option<usize>, AllocError> {
     let known = [heap.heap_type.as_str()];
     for (index, item) in list.iter().enumerate() {
-        let is_there = heaps.iter().any(|info| is_heap(item, &info.heap));
-        if !is_there && nearest(alloc, type_in(item), &known)?.is_some() {
+        if !is_among(item, heaps) && nearest(alloc, type_in(item), &known)?.is_some() {
             return Ok(Some(index));
         }
     }
