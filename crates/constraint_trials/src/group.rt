@@ -26,6 +26,30 @@ pub struct Group<'a, 'b> {
 }
 
 impl Group<'_, '_> {
+    /// The index of the domain.
+    pub(crate) fn domain(&self) -> usize {
+        self.story
+            .nodes
+            .get(self.root)
+            .map_or(0, |node| node.domain)
+    }
+
+    /// Whether a node is in the domain.
+    pub(crate) fn is_inside(&self, node: usize) -> bool {
+        match self.story.nodes.get(node) {
+            Some(known) => known.domain == self.domain(),
+            None => false,
+        }
+    }
+
+    /// The number among all of the participant whose constraints the call at a place, from 0,
+    /// states, if it is one of them.
+    pub(crate) fn stating(&self, place: usize) -> Option<usize> {
+        let number = Some(place.saturating_add(1));
+        let is_it = |one: &&Asked<'_>| self.story.deed(one.node, Deed::SetConstraints) == number;
+        Some(self.people.iter().find(is_it)?.node)
+    }
+
     /// A participant, with the call that states its constraints and its line: `camera (call 5, line 14)`.
     pub fn who(&self, alloc: Global, one: &Asked<'_>) -> Result<String, AllocError> {
         let number = self.story.deed(one.node, Deed::SetConstraints).unwrap_or(0);

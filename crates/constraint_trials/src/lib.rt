@@ -12,6 +12,8 @@
 mod changed_lines;
 mod entries;
 mod group;
+mod need;
+mod parties;
 mod promising;
 mod restating;
 mod trying;
@@ -20,8 +22,9 @@ mod worth;
 
 pub use entries::{EntryPlace, entries_behind, entry_place, takes};
 pub use group::{Group, line_at};
+pub use parties::{Party, parties_of};
 pub use promising::{put_choice, put_line};
 pub use restating::{Stated, restated};
 pub use trying::{Found, MOST_HALVINGS, Trial, chosen_with};
-pub use unmet::{has_groups, leaves_none};
+pub use unmet::{Read, has_groups, leave_none, leaves_none, read_asked};
 pub use worth::{are_sized, is_worth};

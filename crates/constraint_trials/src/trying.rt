@@ -8,7 +8,8 @@ ghost use Rattle.script_story.specs.Told.{IsReportedOn};
 ghost use Rattle.constraint_trials.specs.Edited.{IsPromised, stating};
 
 use crate::group::Group;
-use crate::unmet::{has_groups, least_met};
+use crate::parties::Party;
+use crate::unmet::least_met;
 use constraint_edits::{Changed, Edit, Halving, is_absurd};
 use script_reading::{Act, Call};
 use script_story::Setting;
@@ -49,11 +50,12 @@ impl Trial<'_, '_> {
     }
 
     /// The least change of the field that an edit leaves out, where leaving it out does, for the
-    /// domain of a group.
+    /// domain of a group, whose parties these are.
     pub fn least(
         &self,
         alloc: Global,
         group: Group<'_, '_>,
+        parties: &[Party<'_>],
         value: &Value,
         edit: Edit,
         found: Found,
@@ -65,10 +67,8 @@ impl Trial<'_, '_> {
             (map call_seen self.now.setting.now.calls.now) self.now.place self.now.path.now
             (string_bytes best.line)) }
     {
-        if has_groups(group.story) {
-            return self.least_run(alloc, value, edit, found);
-        }
-        let Some(change) = least_met(alloc, group, self.place, value, edit, &found.line)? else {
+        let Some(change) = least_met(alloc, group, parties, self.place, value, edit, &found.line)?
+        else {
             return Ok(found);
         };
         match self.promised(alloc, change)? {

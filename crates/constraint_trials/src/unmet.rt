@@ -1,6 +1,8 @@
 //! Other constraints of participants that leave no settings, as is seen without a run.
 
 use crate::group::Group;
+use crate::need::need_too_many;
+use crate::parties::Party;
 use crate::restating::Stated;
 use crate::trying::MOST_HALVINGS;
 use constraint_edits::{Changed, Edit, Halving};
@@ -8,15 +10,16 @@ use serde_json::Value;
 use settings_reasons::is_unmet;
 use std::alloc::{AllocError, Global};
 use std::slice::from_ref;
-use story_parts::{Deed, Story};
+use story_parts::Story;
 use sysmem_sanitise::{Code, Constraints, read_constraints};
 use value_sources::Asked;
 
-/// Constraints that the call at a place, from 0, would state.
-#[derive(Drop)]
-struct Read {
-    place: usize,
-    asked: Constraints,
+/// What a participant asks in the place of what it states.
+#[derive(Clone, Copy)]
+pub struct Read<'a> {
+    /// Its number among all.
+    pub node: usize,
+    pub asked: &'a Constraints,
 }
 
 /// Whether the script has groups of tokens.
@@ -24,56 +27,88 @@ pub fn has_groups(story: &Story<'_>) -> bool {
     (0..story.nodes.len()).any(|node| story.is_group(node))
 }
 
-/// Whether those of a group have no settings where calls state these constraints, so that no run is
-/// needed to tell that their domain isn't chosen then. Only a yes says something: there is none where
-/// the script has groups of tokens, of which a domain can leave children out, nor where such
-/// constraints have a fault.
+/// Whether those of a group, whose parties these are, have no settings where calls state these
+/// constraints, so that no run is needed to tell that their domain isn't chosen then. Only a yes says
+/// something: there is none where such constraints have a fault.
 pub fn leaves_none(
     alloc: Global,
     group: Group<'_, '_>,
+    parties: &[Party<'_>],
     stated: &[Stated],
 ) -> Result<bool, AllocError> {
-    if has_groups(group.story) {
-        return Ok(false);
-    }
-    match all_read(alloc, stated)? {
-        Some(read) => is_unmet_with(alloc, group, &read),
-        None => Ok(false),
-    }
-}
-
-/// The constraints that are stated; `None` where some have a fault.
-fn all_read(alloc: Global, stated: &[Stated]) -> Result<Option<Vec<Read>>, AllocError> {
-    let mut read = Vec::new(alloc);
+    let mut asked = Vec::new(alloc);
     for one in stated {
-        match read_constraints(alloc, &one.value) {
-            Ok(asked) => read.push(Read {
-                place: one.place,
-                asked,
-            })?,
-            Err(fault) if matches!(fault.code, Code::WantOfMemory) => return Err(AllocError),
-            Err(_) => return Ok(None),
+        match read_asked(alloc, &one.value)? {
+            Some(constraints) => asked.push(constraints)?,
+            None => return Ok(false),
         }
     }
-    Ok(Some(read))
-}
-
-/// Whether those of a group have no settings, of whom some ask what was read.
-fn is_unmet_with(alloc: Global, group: Group<'_, '_>, read: &[Read]) -> Result<bool, AllocError> {
-    let mut people = Vec::new(alloc);
-    for one in group.people {
-        let number = group.story.deed(one.node, Deed::SetConstraints);
-        people.push(with_read(one, number, read))?;
+    let mut read = Vec::new(alloc);
+    for (one, constraints) in stated.iter().zip(&asked) {
+        if let Some(node) = group.stating(one.place) {
+            read.push(Read {
+                node,
+                asked: constraints,
+            })?;
+        }
     }
-    is_unmet(alloc, group.setting.platform, &people)
+    leave_none(alloc, group, parties, &read)
 }
 
-/// A participant that asks what was read for the call of a number, if something was.
-fn with_read<'a>(one: &Asked<'a>, number: Option<usize>, read: &'a [Read]) -> Asked<'a> {
-    let mut other = *one;
+/// The constraints of a record; `None` where it has a fault.
+pub fn read_asked(alloc: Global, value: &Value) -> Result<Option<Constraints>, AllocError> {
+    match read_constraints(alloc, value) {
+        Ok(asked) => Ok(Some(asked)),
+        Err(fault) if matches!(fault.code, Code::WantOfMemory) => Err(AllocError),
+        Err(_) => Ok(None),
+    }
+}
+
+/// Whether those of a group, whose parties these are, have no settings, of whom some ask what was
+/// read: whatever is selected they need too many buffers, or one party of them is asked, each of
+/// which leaves none. Only a yes says something.
+pub fn leave_none(
+    alloc: Global,
+    group: Group<'_, '_>,
+    parties: &[Party<'_>],
+    read: &[Read<'_>],
+) -> Result<bool, AllocError> {
+    if has_groups(group.story) {
+        let people = all_with(alloc, group.people, read)?;
+        if need_too_many(alloc, group, &people)? {
+            return Ok(true);
+        }
+    }
+    for party in parties {
+        if party.is_changed(read) {
+            let people = all_with(alloc, &party.people, read)?;
+            if !is_unmet(alloc, group.setting.platform, &people)? {
+                return Ok(false);
+            }
+        }
+    }
+    Ok(!parties.is_empty())
+}
+
+/// Participants, of whom some ask what was read.
+fn all_with<'a>(
+    alloc: Global,
+    people: &[Asked<'a>],
+    read: &[Read<'a>],
+) -> Result<Vec<Asked<'a>>, AllocError> {
+    let mut others = Vec::new(alloc);
+    for one in people {
+        others.push(with_read(*one, read))?;
+    }
+    Ok(others)
+}
+
+/// A participant that asks what was read for it, if something was.
+fn with_read<'a>(one: Asked<'a>, read: &[Read<'a>]) -> Asked<'a> {
+    let mut other = one;
     for known in read {
-        if number == Some(known.place.saturating_add(1)) {
-            other.asked = &known.asked;
+        if known.node == one.node {
+            other.asked = known.asked;
         }
     }
     other
@@ -85,6 +120,7 @@ fn with_read<'a>(one: &Asked<'a>, number: Option<usize>, read: &'a [Read]) -> As
 pub(crate) fn least_met(
     alloc: Global,
     group: Group<'_, '_>,
+    parties: &[Party<'_>],
     place: usize,
     value: &Value,
     edit: Edit,
@@ -100,7 +136,7 @@ pub(crate) fn least_met(
         };
         let Changed { value, words } = halving.changed(alloc, value, amount)?;
         let stated = Stated { place, value };
-        let does = !leaves_none(alloc, group, from_ref(&stated))?;
+        let does = !leaves_none(alloc, group, parties, from_ref(&stated))?;
         halving.learn(amount, does);
         if does {
             best = Some(Changed {

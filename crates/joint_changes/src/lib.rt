@@ -7,6 +7,7 @@
 //! ```
 #![tactic(auto)]
 
+mod known;
 mod parts;
 mod together;
 mod walk;

@@ -1,7 +1,7 @@
 //! Changes that are made together.
 
 use crate::walk::Run;
-use constraint_edits::{Amount, Changed, Edit, edited, edited_to};
+use constraint_edits::{Amount, Changed, Edit, edited, edited_to, leave_out};
 use serde_json::Value;
 use std::alloc::{AllocError, Global};
 use sysmem_memory::HeapInfo;
@@ -52,7 +52,7 @@ pub(crate) fn after(
 ) -> Result<Value, AllocError> {
     let mut now = value.clone()?;
     for part in parts {
-        if part.person != person {
+        if part.person != person || (part.amount.is_none() && leave_out(&mut now, part.edit)) {
             continue;
         }
         if let Some(change) = part.changed(alloc, &now, heaps)? {

@@ -5,12 +5,13 @@ ghost use Rattle.std.specs.String.{string_bytes};
 ghost use Rattle.script_reading.specs.Seen.{call_seen};
 ghost use Rattle.constraint_trials.specs.Edited.{IsPromisedSo};
 
+use crate::known::Known;
 use crate::parts::{Part, after, all_but, set_amount};
 use crate::walk::Walk;
-use constraint_edits::{Edit, Halving, edited, is_absurd};
+use constraint_edits::{Amount, Edit, Halving, edited, is_absurd};
 use constraint_trials::{
-    Group, MOST_HALVINGS, Stated, are_sized, chosen_with, is_worth, leaves_none, put_choice,
-    put_line, restated,
+    Group, MOST_HALVINGS, Party, Read, Stated, are_sized, chosen_with, is_worth, leave_none,
+    leaves_none, parties_of, put_choice, put_line, read_asked, restated,
 };
 use domain_reasons::choices_in;
 use explanation_text::{Items, Kind};
@@ -34,7 +35,11 @@ pub fn tell_together(
     edits: &[Edit],
 ) -> Result<(), AllocError> {
     let alloc = items.alloc();
-    let joint = Joint { group };
+    let parties = parties_of(alloc, group)?;
+    let joint = Joint {
+        group,
+        parties: &parties,
+    };
     let all = joint.parts(alloc, edits)?;
     let mut plain: Vec<Part> = Vec::new(alloc);
     for part in &all {
@@ -67,8 +72,13 @@ fn tell_parts(
     }
     let alloc = items.alloc();
     let mut parts = Vec::from_slice(alloc, fewest)?;
+    let Some(mut line) = joint.outcome(alloc, &parts)? else {
+        return Ok(());
+    };
     for index in 0..parts.len() {
-        joint.lessen(alloc, &mut parts, index)?;
+        if let Some(other) = joint.lessen(alloc, &mut parts, index, &line)? {
+            line = other;
+        }
     }
     joint.tell(items, &parts, before)
 }
@@ -77,6 +87,7 @@ fn tell_parts(
 #[derive(Clone, Copy)]
 struct Joint<'a, 'b> {
     group: Group<'a, 'b>,
+    parties: &'b [Party<'a>],
 }
 
 impl Joint<'_, '_> {
@@ -125,12 +136,19 @@ impl Joint<'_, '_> {
 
     /// What is left of changes that help together, once each is taken back without which the rest
     /// do: from the last on, or from the first. Several are taken back at once as long as that goes.
+    /// That the rest do is run once for all, and each time only where that isn't so.
     fn needed(
         &self,
         alloc: Global,
         all: &[Part],
         from_last: bool,
     ) -> Result<Vec<Part>, AllocError> {
+        if let Some(mut known) = self.known(alloc, all)? {
+            let kept = self.needed_unrun(alloc, all, from_last, &mut known)?;
+            if self.outcome(alloc, &kept)?.is_some() {
+                return Ok(kept);
+            }
+        }
         let mut kept = Vec::from_slice(alloc, all)?;
         let mut walk = Walk::over(all.len(), from_last);
         for _step in 0..MOST_STEPS {
@@ -147,47 +165,181 @@ impl Joint<'_, '_> {
         Ok(kept)
     }
 
-    /// Finds the least change of the part of an index with which all do still.
-    fn lessen(&self, alloc: Global, parts: &mut [Part], index: usize) -> Result<(), AllocError> {
-        let Some(mut halving) = self.halving(alloc, parts, index)? else {
-            return Ok(());
+    /// The same, where the rest do if they aren't known to leave no settings: what participants
+    /// ask after all the parts is known, and once some are taken back is read anew of those whose
+    /// parts they are.
+    fn needed_unrun(
+        &self,
+        alloc: Global,
+        all: &[Part],
+        from_last: bool,
+        known: &mut Known,
+    ) -> Result<Vec<Part>, AllocError> {
+        let mut kept = Vec::from_slice(alloc, all)?;
+        let mut walk = Walk::over(all.len(), from_last);
+        for _step in 0..MOST_STEPS {
+            let Some(run) = walk.next(kept.len()) else {
+                break;
+            };
+            let others = all_but(alloc, &kept, run)?;
+            let back = kept.get(run.start..run.end).unwrap_or(&[]);
+            let does = match self.known_of(alloc, back, &others)? {
+                Some(changed) => self.are_kept(alloc, known, changed)?,
+                None => false,
+            };
+            walk.learn(run, does);
+            if does {
+                kept = others;
+            }
+        }
+        Ok(kept)
+    }
+
+    /// Whether participants aren't known to leave no settings where some ask otherwise than is
+    /// known; that is known then.
+    fn are_kept(
+        &self,
+        alloc: Global,
+        known: &mut Known,
+        changed: Known,
+    ) -> Result<bool, AllocError> {
+        let does = {
+            let read = self.read(alloc, known, &changed)?;
+            !leave_none(alloc, self.group, self.parties, &read)?
         };
+        if does {
+            known.learn(changed);
+        }
+        Ok(does)
+    }
+
+    /// What participants ask, of whom some ask otherwise than is known.
+    fn read<'c>(
+        &self,
+        alloc: Global,
+        known: &'c Known,
+        changed: &'c Known,
+    ) -> Result<Vec<Read<'c>>, AllocError> {
+        let mut read = Vec::new(alloc);
+        for (person, one) in self.group.people.iter().enumerate() {
+            if let Some(asked) = changed.asked(person).or(known.asked(person)) {
+                let node = one.node;
+                read.push(Read { node, asked })?;
+            }
+        }
+        Ok(read)
+    }
+
+    /// What each participant asks after some parts; `None` where that has a fault.
+    fn known(&self, alloc: Global, parts: &[Part]) -> Result<Option<Known>, AllocError> {
+        self.known_of(alloc, parts, parts)
+    }
+
+    /// The same, of those alone who have one of some other parts.
+    fn known_of(
+        &self,
+        alloc: Global,
+        others: &[Part],
+        parts: &[Part],
+    ) -> Result<Option<Known>, AllocError> {
+        let heaps = self.group.setting.platform.heaps();
+        let mut known = Known::new(alloc);
+        for (person, one) in self.group.people.iter().enumerate() {
+            let mut asked = None;
+            if let (true, Some(value)) = (
+                others.iter().any(|part| part.person == person),
+                one.stated,
+            ) {
+                let changed = after(alloc, value, person, parts, heaps)?;
+                asked = read_asked(alloc, &changed)?;
+                if asked.is_none() {
+                    return Ok(None);
+                }
+            }
+            known.push(asked)?;
+        }
+        Ok(Some(known))
+    }
+
+    /// Finds the least change of the part of an index with which all do still, where leaving its
+    /// field out gives this line; and what comes then, if it can be less.
+    fn lessen(
+        &self,
+        alloc: Global,
+        parts: &mut [Part],
+        index: usize,
+        line: &str,
+    ) -> Result<Option<String>, AllocError> {
+        let known = self.known(alloc, parts)?;
+        for others in [known.as_ref(), None] {
+            let best = self.least(alloc, parts, index, line, others)?;
+            set_amount(parts, index, best);
+            if best.is_none() {
+                return Ok(None);
+            }
+            if let Some(other) = self.outcome(alloc, parts)? {
+                return Ok(Some(other));
+            }
+        }
+        set_amount(parts, index, None);
+        Ok(None)
+    }
+
+    /// The least value of the part of an index with which all do: where it is known what others
+    /// ask, with which they aren't known to leave no settings.
+    fn least(
+        &self,
+        alloc: Global,
+        parts: &mut [Part],
+        index: usize,
+        line: &str,
+        others: Option<&Known>,
+    ) -> Result<Option<Amount>, AllocError> {
         let mut best = None;
+        let Some(mut halving) = self.halving(parts, index, line) else {
+            return Ok(best);
+        };
         for _halving in 0..MOST_HALVINGS {
             let Some(amount) = halving.next() else {
                 break;
             };
             set_amount(parts, index, Some(amount));
-            let does = self.outcome(alloc, parts)?.is_some();
+            let does = match others {
+                Some(known) => self.does_unrun(alloc, parts, index, known)?,
+                None => self.outcome(alloc, parts)?.is_some(),
+            };
             halving.learn(amount, does);
             if does {
                 best = Some(amount);
             }
         }
-        set_amount(parts, index, best);
-        Ok(())
+        Ok(best)
     }
 
-    /// The values between of the part of an index, if it leaves a field out.
-    fn halving(
+    /// Whether participants aren't known to leave no settings with the part of an index, where it
+    /// is known what others ask.
+    fn does_unrun(
         &self,
         alloc: Global,
         parts: &[Part],
         index: usize,
-    ) -> Result<Option<Halving>, AllocError> {
-        let Some(line) = self.outcome(alloc, parts)? else {
-            return Ok(None);
-        };
-        let Some(part) = parts.get(index) else {
-            return Ok(None);
-        };
-        match self.group.people.get(part.person) {
-            Some(one) => match one.stated {
-                Some(value) => Ok(Halving::of(value, part.edit, &line)),
-                None => Ok(None),
-            },
-            None => Ok(None),
+        known: &Known,
+    ) -> Result<bool, AllocError> {
+        let own = parts.get(index..index.saturating_add(1)).unwrap_or(&[]);
+        match self.known_of(alloc, own, parts)? {
+            Some(changed) => {
+                let read = self.read(alloc, known, &changed)?;
+                Ok(!leave_none(alloc, self.group, self.parties, &read)?)
+            }
+            None => Ok(false),
         }
+    }
+
+    /// The values between of the part of an index, if it leaves a field out, which gives this line.
+    fn halving(&self, parts: &[Part], index: usize, line: &str) -> Option<Halving> {
+        let part = parts.get(index)?;
+        let value = self.group.people.get(part.person)?.stated?;
+        Halving::of(value, part.edit, line)
     }
 
     /// What the domain becomes by some changes, if it is chosen then with a row that may be meant.
@@ -197,7 +349,7 @@ impl Joint<'_, '_> {
             self.now.group.path.now (string_bytes what))) }
     {
         let stated = self.stated(alloc, parts)?;
-        if leaves_none(alloc, self.group, &stated)? {
+        if leaves_none(alloc, self.group, self.parties, &stated)? {
             return Ok(None);
         }
         let calls = restated(alloc, self.group.setting.calls, &stated)?;

@@ -8,8 +8,8 @@ ghost use Rattle.constraint_trials.specs.Edited.{IsPromised};
 use crate::exchanges::try_exchanges;
 use constraint_edits::{Edit, edited, is_absurd};
 use constraint_trials::{
-    Found, Group, Stated, Trial, are_sized, entries_behind, has_groups, is_worth, leaves_none,
-    put_choice,
+    Found, Group, Party, Stated, Trial, are_sized, entries_behind, has_groups, is_worth,
+    leaves_none, parties_of, put_choice,
 };
 use domain_reasons::{choices_in, room_needed};
 use explanation_text::{Items, Kind};
@@ -28,8 +28,10 @@ const LABELS: [&str; 5] = ["1.", "2.", "3.", "4.", "5."];
 
 /// What was found of changes so far.
 #[derive(Drop)]
-pub(crate) struct Search {
+pub(crate) struct Search<'a, 'b> {
     pub(crate) found: Items,
+    /// Those of the group of whom one is asked whatever is selected.
+    pub(crate) parties: &'b [Party<'a>],
     count: usize,
     pub(crate) tried: usize,
     /// How many help and can't be meant.
@@ -38,7 +40,7 @@ pub(crate) struct Search {
     is_sized: bool,
 }
 
-impl Search {
+impl Search<'_, '_> {
     /// Whether enough were found or tried.
     pub(crate) fn is_done(&self, effort: &Effort) -> bool {
         self.count >= MOST || self.tried >= TRIES || effort.is_spent()
@@ -61,8 +63,10 @@ pub fn tell_changes(
     index: usize,
     edits: &[Edit],
 ) -> Result<bool, AllocError> {
+    let parties = parties_of(items.alloc(), group)?;
     let mut search = Search {
         found: Items::new(items.alloc()),
+        parties: &parties,
         count: 0,
         tried: 0,
         absurd: 0,
@@ -84,7 +88,11 @@ pub fn tell_changes(
 }
 
 /// Tries that more buffers are asked for in the domain to which one was attached, where those that were decided don't do.
-fn try_room(search: &mut Search, group: Group<'_, '_>, index: usize) -> Result<(), AllocError> {
+fn try_room(
+    search: &mut Search<'_, '_>,
+    group: Group<'_, '_>,
+    index: usize,
+) -> Result<(), AllocError> {
     let alloc = search.found.alloc();
     let story = group.story;
     let Some(count) = room_needed(alloc, story, index)? else {
@@ -108,7 +116,7 @@ fn try_room(search: &mut Search, group: Group<'_, '_>, index: usize) -> Result<(
 /// Tries to put an entry of a participant first, behind another that takes a pair of the platform
 /// which it takes, until one helps.
 fn try_entries(
-    search: &mut Search,
+    search: &mut Search<'_, '_>,
     group: Group<'_, '_>,
     one: &Asked<'_>,
 ) -> Result<(), AllocError> {
@@ -123,7 +131,11 @@ fn try_entries(
 }
 
 /// Tries an edit of each participant's constraints.
-fn try_edit(search: &mut Search, group: Group<'_, '_>, edit: Edit) -> Result<(), AllocError> {
+fn try_edit(
+    search: &mut Search<'_, '_>,
+    group: Group<'_, '_>,
+    edit: Edit,
+) -> Result<(), AllocError> {
     let few = if has_groups(group.story) {
         group.people.len()
     } else {
@@ -142,7 +154,7 @@ fn try_edit(search: &mut Search, group: Group<'_, '_>, edit: Edit) -> Result<(),
 
 /// Tries an edit of a participant's constraints, if it has stated some.
 fn try_one(
-    search: &mut Search,
+    search: &mut Search<'_, '_>,
     group: Group<'_, '_>,
     one: &Asked<'_>,
     edit: Edit,
@@ -160,7 +172,7 @@ fn try_one(
 
 /// Tries an edit of a participant's constraints, and tells it where it helps.
 fn try_change(
-    search: &mut Search,
+    search: &mut Search<'_, '_>,
     group: Group<'_, '_>,
     trial: Trial<'_, '_>,
     one: &Asked<'_>,
@@ -178,7 +190,7 @@ fn try_change(
         place: trial.place,
         value: change.value,
     };
-    if leaves_none(alloc, group, from_ref(&stated))? {
+    if leaves_none(alloc, group, search.parties, from_ref(&stated))? {
         return Ok(());
     }
     let Some(line) = trial.outcome(alloc, &stated.value)? else {
@@ -189,7 +201,7 @@ fn try_change(
         line,
         value: stated.value,
     };
-    let least = trial.least(alloc, group, value, edit, found)?;
+    let least = trial.least(alloc, group, search.parties, value, edit, found)?;
     if is_absurd(&least.line, search.is_sized) {
         search.absurd = search.absurd.saturating_add(1);
         return Ok(());
@@ -201,7 +213,7 @@ fn try_change(
     put_choice(&mut search.found, 3, choice)
 }
 
-fn put_head(items: &mut Items, search: &Search, effort: &Effort) -> Result<(), AllocError> {
+fn put_head(items: &mut Items, search: &Search<'_, '_>, effort: &Effort) -> Result<(), AllocError> {
     let mut text = head_of(items.alloc(), search)?;
     if search.count == 0 && effort.is_spent() {
         text.push_str("; to try more would take long")?;
@@ -209,7 +221,7 @@ fn put_head(items: &mut Items, search: &Search, effort: &Effort) -> Result<(), A
     items.say(1, "change", text)
 }
 
-fn head_of(alloc: Global, search: &Search) -> Result<String, AllocError> {
+fn head_of(alloc: Global, search: &Search<'_, '_>) -> Result<String, AllocError> {
     let (tried, absurd) = (search.tried, search.absurd);
     match search.count {
         0 if absurd > 0 => format!(in alloc;

@@ -26,7 +26,7 @@ struct Partner<'a> {
 /// Tries to exchange the constraints of a participant of the domain of an index and of another one, where that can make a difference: of those
 /// alone who seem to be exchanged if that is asked for, else of the others.
 pub(crate) fn try_exchanges(
-    search: &mut Search,
+    search: &mut Search<'_, '_>,
     group: Group<'_, '_>,
     index: usize,
     are_meant: bool,
@@ -87,7 +87,7 @@ fn is_below_group(story: &Story<'_>, node: usize) -> bool {
 
 /// Tries to exchange the constraints of two participants, of which the other one's domain is to have settings too, and tells it where it helps.
 fn try_exchange(
-    search: &mut Search,
+    search: &mut Search<'_, '_>,
     group: Group<'_, '_>,
     one: Asked<'_>,
     partner: Partner<'_>,
@@ -97,7 +97,7 @@ fn try_exchange(
         return Ok(());
     };
     search.tried = search.tried.saturating_add(1);
-    if leaves_none(alloc, group, &stated)? {
+    if leaves_none(alloc, group, search.parties, &stated)? {
         return Ok(());
     }
     let Some(line) = outcome(alloc, group.setting, &stated, group.path)? else {
@@ -117,7 +117,7 @@ fn try_exchange(
 
 /// Tells that two participants' constraints exchanged help, and the decision that comes so.
 fn tell_exchange(
-    search: &mut Search,
+    search: &mut Search<'_, '_>,
     group: Group<'_, '_>,
     one: Asked<'_>,
     other: Asked<'_>,
