@@ -25,7 +25,7 @@ test:
 # and as objects, refusals, records, worked values, small trees beside each of their selections,
 # participants in each order of their calls, certificates and their checks, files that fail, each
 # allocation refused in turn, scripts played through handles, scripts on threads, and
-# explanations.
+# explanations. Before these, the pages and the lists of names that stand beside definitions.
 program-test: proved
 	@$(MAKE) --no-print-directory built-test
 
@@ -33,6 +33,7 @@ program-test: proved
 built-test:
 	docs/columns --check
 	docs/definitions --check
+	tests/names
 	tests/reports
 	tests/json_reports
 	tests/refusals
