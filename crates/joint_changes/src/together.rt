@@ -8,10 +8,10 @@ ghost use Rattle.constraint_trials.specs.Edited.{IsPromisedSo};
 use crate::known::Known;
 use crate::parts::{Part, after, all_but, set_amount};
 use crate::walk::Walk;
-use constraint_edits::{Amount, Edit, Halving, edited, is_absurd};
+use constraint_edits::{Amount, Edit, Halving, is_absurd};
 use constraint_trials::{
-    Group, MOST_HALVINGS, Party, Read, Stated, are_sized, chosen_with, is_worth, leave_none,
-    leaves_none, parties_of, put_choice, put_line, read_asked, restated,
+    Group, MOST_HALVINGS, Party, Read, Stated, are_sized, chosen_with, is_change, is_worth,
+    leave_none, leaves_none, parties_of, put_choice, put_line, read_asked, restated,
 };
 use domain_reasons::choices_in;
 use explanation_text::{Items, Kind};
@@ -109,7 +109,7 @@ impl Joint<'_, '_> {
             };
             if parts.len() < MOST
                 && is_worth(edit, one, self.group.people, FEW)
-                && edited(alloc, value, edit, heaps)?.is_some()
+                && is_change(alloc, value, edit, heaps)?
             {
                 parts.push(Part {
                     person,
