@@ -6,6 +6,8 @@ use serde_json::Value;
 use std::alloc::{AllocError, Global};
 use sysmem_memory::HeapInfo;
 
+const MEMORY: &str = "buffer_memory_constraints";
+
 /// A change of a participant.
 #[derive(Clone, Copy)]
 pub(crate) struct Part {
@@ -57,11 +59,31 @@ pub(crate) fn after(
         if part.person != person || (part.amount.is_none() && leave_out(&mut now, part.edit)) {
             continue;
         }
+        if support(alloc, &mut now, part.edit)? {
+            continue;
+        }
         if let Some(change) = part.changed(alloc, &now, heaps)? {
             now = change.value;
         }
     }
     Ok(now)
+}
+
+/// Has a domain supported by constraints in their place, if an edit says that and they have some of
+/// memory; says whether it has.
+fn support(alloc: Global, value: &mut Value, edit: Edit) -> Result<bool, AllocError> {
+    let Edit::Supports(field) = edit else {
+        return Ok(false);
+    };
+    let Some(memory) = value.get_mut(MEMORY) else {
+        return Ok(false);
+    };
+    let Some(members) = memory.as_object_mut() else {
+        return Ok(false);
+    };
+    let key = String::from_str(alloc, field.name())?;
+    let _before = members.insert(key, Value::Bool(true))?;
+    Ok(true)
 }
 
 /// Gives the part of an index another value.
