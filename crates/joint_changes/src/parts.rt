@@ -9,7 +9,7 @@ use sysmem_memory::HeapInfo;
 const MEMORY: &str = "buffer_memory_constraints";
 
 /// A change of a participant.
-#[derive(Clone, Copy)]
+#[derive(Clone, Copy, PartialEq, Eq)]
 pub(crate) struct Part {
     /// Its index among the participants.
     pub(crate) person: usize,
@@ -44,6 +44,21 @@ pub(crate) fn all_but(alloc: Global, parts: &[Part], run: Run) -> Result<Vec<Par
         }
     }
     Ok(others)
+}
+
+/// Those of some parts that are a participant's own.
+pub(crate) fn own_of(
+    alloc: Global,
+    parts: &[Part],
+    person: usize,
+) -> Result<Vec<Part>, AllocError> {
+    let mut own = Vec::new(alloc);
+    for part in parts {
+        if part.person == person {
+            own.push(*part)?;
+        }
+    }
+    Ok(own)
 }
 
 /// A participant's constraints after those of some changes that are its own.
