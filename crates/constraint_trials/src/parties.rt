@@ -24,9 +24,13 @@ pub struct Party<'a> {
 impl Party<'_> {
     /// Whether somebody of those who leave no settings by themselves asks something else.
     pub(crate) fn is_changed(&self, read: &[Read<'_>]) -> bool {
-        self.needed
-            .iter()
-            .any(|one| read.iter().any(|other| other.node == one.node))
+        read.iter().any(|other| self.needs(other.node))
+    }
+
+    /// Whether a participant, by its number among all, is one of those who leave no settings by
+    /// themselves.
+    pub(crate) fn needs(&self, node: usize) -> bool {
+        self.needed.iter().any(|one| one.node == node)
     }
 }
 

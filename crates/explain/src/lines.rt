@@ -109,20 +109,13 @@ fn add_lines(
         return Ok(());
     };
     let alloc = *lined.allocator();
-    let mut rows: Vec<String> = Vec::new(alloc);
-    let told = lined.get(section.start..).unwrap_or(&[]);
-    for (node, known) in story.nodes.iter().enumerate() {
-        if known.domain != domain || rows.len() >= MOST || !is_named(told, known.name) {
-            continue;
-        }
-        if let Some(number) = story.deed(node, Deed::SetConstraints) {
-            let text = lines_of(alloc, document, told, number)?;
-            if !text.is_empty() {
-                let name = known.name;
-                rows.push(format!(in alloc; "{name}: {text}")?)?;
-            }
-        }
-    }
+    let rows = rows_of(
+        alloc,
+        document,
+        story,
+        domain,
+        lined.get(section.start..).unwrap_or(&[]),
+    )?;
     for text in rows {
         lined.push(Item {
             label: "lines",
@@ -134,90 +127,133 @@ fn add_lines(
     Ok(())
 }
 
-/// Whether a word stands in items other than those that list who has constraints.
-fn is_named(told: &[Item], word: &str) -> bool {
-    told.iter()
-        .any(|item| item.label != "who" && has_word(&item.text, word))
+/// The lines of each participant of a domain that its section names.
+fn rows_of(
+    alloc: Global,
+    document: &Document<'_>,
+    story: &Story<'_>,
+    domain: usize,
+    told: &[Item],
+) -> Result<Vec<String>, AllocError> {
+    let mut rows: Vec<String> = Vec::new(alloc);
+    let words = words_in(alloc, told)?;
+    let fields = fields_in(alloc, &words)?;
+    for (node, known) in story.nodes.iter().enumerate() {
+        if known.domain != domain || rows.len() >= MOST || !words.contains(&known.name) {
+            continue;
+        }
+        if let Some(number) = story.deed(node, Deed::SetConstraints) {
+            let text = lines_of(alloc, document, &fields, number)?;
+            if !text.is_empty() {
+                let name = known.name;
+                rows.push(format!(in alloc; "{name}: {text}")?)?;
+            }
+        }
+    }
+    Ok(rows)
 }
 
-/// Whether a word stands in a text by itself, apart from marks beside it.
-fn has_word(text: &str, word: &str) -> bool {
+/// The words of items other than those that list who has constraints, each apart from marks beside
+/// it.
+fn words_in<'a>(alloc: Global, told: &'a [Item]) -> Result<Vec<&'a str>, AllocError> {
+    let mut words = Vec::new(alloc);
+    for item in told {
+        if item.label != "who" {
+            add_words(&mut words, &item.text)?;
+        }
+    }
+    Ok(words)
+}
+
+fn add_words<'a>(words: &mut Vec<&'a str>, text: &'a str) -> Result<(), AllocError> {
     for part in text.split(' ') {
         let end = part.trim_end_matches(';').trim_end_matches(':');
         let inner = end.trim_end_matches(',').trim_end_matches(')');
-        if inner.trim_start_matches('(') == word {
-            return true;
-        }
-    }
-    false
-}
-
-/// The fields that are told and that the constraints of a call state, each with its line.
-fn lines_of(
-    alloc: Global,
-    document: &Document<'_>,
-    told: &[Item],
-    number: usize,
-) -> Result<String, AllocError> {
-    let mut text = String::new(alloc);
-    let call = number.saturating_sub(1);
-    for field in FIELDS {
-        if is_named(told, field) {
-            put_lines(&mut text, document, call, field)?;
-        }
-    }
-    Ok(text)
-}
-
-/// Puts in which lines the constraints of a call state a field after a text.
-fn put_lines(
-    text: &mut String,
-    document: &Document<'_>,
-    call: usize,
-    field: &str,
-) -> Result<(), AllocError> {
-    let calls = Step::Key("calls");
-    let record = Step::Key("constraints");
-    let own = [calls, Step::Item(call), record, Step::Key(field)];
-    put_line(text, document, &own, field, 0)?;
-    let memory = [
-        calls,
-        Step::Item(call),
-        record,
-        Step::Key("buffer_memory_constraints"),
-        Step::Key(field),
-    ];
-    put_line(text, document, &memory, field, 0)?;
-    for entry in 0..MOST_ENTRIES {
-        let path = [
-            calls,
-            Step::Item(call),
-            record,
-            Step::Key("image_format_constraints"),
-            Step::Item(entry),
-            Step::Key(field),
-        ];
-        put_line(text, document, &path, field, entry)?;
+        words.push(inner.trim_start_matches('('))?;
     }
     Ok(())
 }
 
-/// Puts in which line the member at a path stands after a text, if there is one; an entry but the
-/// first is named.
+/// The fields that are among some words.
+fn fields_in(alloc: Global, words: &[&str]) -> Result<Vec<&'static str>, AllocError> {
+    let mut fields = Vec::new(alloc);
+    for field in FIELDS {
+        if words.contains(&field) {
+            fields.push(field)?;
+        }
+    }
+    Ok(fields)
+}
+
+/// The fields of some that the constraints of a call state, each with its line.
+fn lines_of(
+    alloc: Global,
+    document: &Document<'_>,
+    fields: &[&str],
+    number: usize,
+) -> Result<String, AllocError> {
+    let mut text = String::new(alloc);
+    let call = number.saturating_sub(1);
+    let path = [
+        Step::Key("calls"),
+        Step::Item(call),
+        Step::Key("constraints"),
+    ];
+    let span = document.span(alloc, &path, Part::Value)?;
+    let (Some(value), Some(span)) = (document.at(&path), span) else {
+        return Ok(text);
+    };
+    let record = Document {
+        file: document.file,
+        bytes: span.within(document.bytes),
+        value,
+    };
+    let begin = line_of(document.bytes, span.start.min(document.bytes.len()));
+    for field in fields {
+        put_lines(&mut text, &record, begin, field)?;
+    }
+    Ok(text)
+}
+
+/// Puts in which lines constraints, which begin in a line of the text, state a field after a text.
+fn put_lines(
+    text: &mut String,
+    record: &Document<'_>,
+    begin: usize,
+    field: &str,
+) -> Result<(), AllocError> {
+    put_line(text, record, begin, &[Step::Key(field)], field, 0)?;
+    let memory = [Step::Key("buffer_memory_constraints"), Step::Key(field)];
+    put_line(text, record, begin, &memory, field, 0)?;
+    for entry in 0..MOST_ENTRIES {
+        let path = [
+            Step::Key("image_format_constraints"),
+            Step::Item(entry),
+            Step::Key(field),
+        ];
+        put_line(text, record, begin, &path, field, entry)?;
+    }
+    Ok(())
+}
+
+/// Puts in which line the member at a path of constraints stands, which begin in a line of the
+/// text, after a text, if there is one; an entry but the first is named.
 fn put_line(
     text: &mut String,
-    document: &Document<'_>,
+    record: &Document<'_>,
+    begin: usize,
     path: &[Step<'_>],
     field: &str,
     entry: usize,
 ) -> Result<(), AllocError> {
-    if document.at(path).is_none() {
+    if record.at(path).is_none() {
         return Ok(());
     }
-    let Some(span) = document.span(*text.allocator(), path, Part::Key)? else {
+    let Some(span) = record.span(*text.allocator(), path, Part::Key)? else {
         return Ok(());
     };
-    let line = line_of(document.bytes, span.start.min(document.bytes.len()));
+    let within = line_of(record.bytes, span.start.min(record.bytes.len()));
+    let line = begin.saturating_add(within).saturating_sub(1);
     if !text.is_empty() {
         text.push_str(", ")?;
     }

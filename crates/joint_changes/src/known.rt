@@ -1,13 +1,69 @@
 //! What participants ask after changes.
 
+use crate::parts::Part;
 use std::alloc::{AllocError, Global};
 use sysmem_sanitise::Constraints;
 
-/// What participants ask in the place of what they state, by index; nothing of those who ask what
-/// they state.
+/// What a participant asks after some changes of its own.
+#[derive(Drop)]
+struct Row {
+    person: usize,
+    parts: Vec<Part>,
+    asked: Constraints,
+}
+
+/// What participants ask after changes, each read once.
+#[derive(Drop)]
+pub(crate) struct Shelf {
+    rows: Vec<Row>,
+}
+
+impl Shelf {
+    /// One on which nothing is kept.
+    pub(crate) fn new(alloc: Global) -> Shelf {
+        Shelf {
+            rows: Vec::new(alloc),
+        }
+    }
+
+    /// Where it is kept what the participant of an index asks after these changes, if it is.
+    pub(crate) fn place_of(&self, person: usize, parts: &[Part]) -> Option<usize> {
+        for (place, row) in self.rows.iter().enumerate() {
+            if row.person == person && row.parts.as_slice() == parts {
+                return Some(place);
+            }
+        }
+        None
+    }
+
+    /// Keeps what the participant of an index asks after these changes, and says where.
+    pub(crate) fn keep(
+        &mut self,
+        person: usize,
+        parts: Vec<Part>,
+        asked: Constraints,
+    ) -> Result<usize, AllocError> {
+        let place = self.rows.len();
+        self.rows.push(Row {
+            person,
+            parts,
+            asked,
+        })?;
+        Ok(place)
+    }
+
+    /// What is kept at a place.
+    pub(crate) fn asked(&self, place: usize) -> Option<&Constraints> {
+        let row = self.rows.get(place)?;
+        Some(&row.asked)
+    }
+}
+
+/// Where it is kept what participants ask in the place of what they state, by index; nothing of
+/// those who ask what they state.
 #[derive(Drop)]
 pub(crate) struct Known {
-    people: Vec<Option<Constraints>>,
+    people: Vec<Option<usize>>,
 }
 
 impl Known {
@@ -19,16 +75,16 @@ impl Known {
     }
 
     /// Adds one more participant.
-    pub(crate) fn push(&mut self, asked: Option<Constraints>) -> Result<(), AllocError> {
-        self.people.push(asked)?;
+    pub(crate) fn push(&mut self, place: Option<usize>) -> Result<(), AllocError> {
+        self.people.push(place)?;
         Ok(())
     }
 
-    /// What the participant of an index asks, if that isn't what it states.
-    pub(crate) fn asked(&self, person: usize) -> Option<&Constraints> {
+    /// Where it is kept what the participant of an index asks, if that isn't what it states.
+    pub(crate) fn place(&self, person: usize) -> Option<usize> {
         match self.people.get(person) {
-            Some(Some(asked)) => Some(asked),
-            _ => None,
+            Some(place) => *place,
+            None => None,
         }
     }
 

@@ -6,8 +6,10 @@ use serde_json::Value;
 use std::alloc::{AllocError, Global};
 use sysmem_memory::HeapInfo;
 
+const MEMORY: &str = "buffer_memory_constraints";
+
 /// A change of a participant.
-#[derive(Clone, Copy)]
+#[derive(Clone, Copy, PartialEq, Eq)]
 pub(crate) struct Part {
     /// Its index among the participants.
     pub(crate) person: usize,
@@ -44,6 +46,21 @@ pub(crate) fn all_but(alloc: Global, parts: &[Part], run: Run) -> Result<Vec<Par
     Ok(others)
 }
 
+/// Those of some parts that are a participant's own.
+pub(crate) fn own_of(
+    alloc: Global,
+    parts: &[Part],
+    person: usize,
+) -> Result<Vec<Part>, AllocError> {
+    let mut own = Vec::new(alloc);
+    for part in parts {
+        if part.person == person {
+            own.push(*part)?;
+        }
+    }
+    Ok(own)
+}
+
 /// A participant's constraints after those of some changes that are its own.
 pub(crate) fn after(
     alloc: Global,
@@ -57,11 +74,31 @@ pub(crate) fn after(
         if part.person != person || (part.amount.is_none() && leave_out(&mut now, part.edit)) {
             continue;
         }
+        if support(alloc, &mut now, part.edit)? {
+            continue;
+        }
         if let Some(change) = part.changed(alloc, &now, heaps)? {
             now = change.value;
         }
     }
     Ok(now)
+}
+
+/// Has a domain supported by constraints in their place, if an edit says that and they have some of
+/// memory; says whether it has.
+fn support(alloc: Global, value: &mut Value, edit: Edit) -> Result<bool, AllocError> {
+    let Edit::Supports(field) = edit else {
+        return Ok(false);
+    };
+    let Some(memory) = value.get_mut(MEMORY) else {
+        return Ok(false);
+    };
+    let Some(members) = memory.as_object_mut() else {
+        return Ok(false);
+    };
+    let key = String::from_str(alloc, field.name())?;
+    let _before = members.insert(key, Value::Bool(true))?;
+    Ok(true)
 }
 
 /// Gives the part of an index another value.

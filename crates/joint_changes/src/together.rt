@@ -5,16 +5,17 @@ ghost use Rattle.std.specs.String.{string_bytes};
 ghost use Rattle.script_reading.specs.Seen.{call_seen};
 ghost use Rattle.constraint_trials.specs.Edited.{IsPromisedSo};
 
-use crate::known::Known;
-use crate::parts::{Part, after, all_but, set_amount};
+use crate::known::{Known, Shelf};
+use crate::parts::{Part, after, all_but, own_of, set_amount};
 use crate::walk::Walk;
-use constraint_edits::{Amount, Edit, Halving, edited, is_absurd};
+use constraint_edits::{Amount, Edit, Halving, is_absurd};
 use constraint_trials::{
-    Group, MOST_HALVINGS, Party, Read, Stated, are_sized, chosen_with, is_worth, leave_none,
-    leaves_none, parties_of, put_choice, put_line, read_asked, restated,
+    Group, MOST_HALVINGS, Party, Read, Stated, are_sized, chosen_with, is_change, is_worth,
+    leave_none, leaves_none, parties_of, put_choice, put_line, read_asked, restated,
 };
 use domain_reasons::choices_in;
 use explanation_text::{Items, Kind};
+use serde_json::Value;
 use std::alloc::{AllocError, Global};
 use story_parts::Deed;
 
@@ -47,15 +48,16 @@ pub fn tell_together(
             plain.push(*part)?;
         }
     }
-    if let Some(fewest) = joint.fewest(alloc, &plain)? {
-        tell_parts(items, joint, &fewest, "")?;
+    let mut shelf = Shelf::new(alloc);
+    if let Some(fewest) = joint.fewest(&mut shelf, alloc, &plain)? {
+        tell_parts(items, joint, &mut shelf, &fewest, "")?;
     }
     if plain.len() == all.len() || joint.outcome(alloc, &all)?.is_none() {
         return Ok(());
     }
-    let others = joint.needed(alloc, &all, false)?;
+    let others = joint.needed(&mut shelf, alloc, &all, false)?;
     if others.iter().any(|part| part.edit == Edit::NoCpu) {
-        tell_parts(items, joint, &others, "or ")?;
+        tell_parts(items, joint, &mut shelf, &others, "or ")?;
     }
     Ok(())
 }
@@ -64,6 +66,7 @@ pub fn tell_together(
 fn tell_parts(
     items: &mut Items,
     joint: Joint<'_, '_>,
+    shelf: &mut Shelf,
     fewest: &[Part],
     before: &str,
 ) -> Result<(), AllocError> {
@@ -76,7 +79,7 @@ fn tell_parts(
         return Ok(());
     };
     for index in 0..parts.len() {
-        if let Some(other) = joint.lessen(alloc, &mut parts, index, &line)? {
+        if let Some(other) = joint.lessen(shelf, alloc, &mut parts, index, &line)? {
             line = other;
         }
     }
@@ -109,7 +112,7 @@ impl Joint<'_, '_> {
             };
             if parts.len() < MOST
                 && is_worth(edit, one, self.group.people, FEW)
-                && edited(alloc, value, edit, heaps)?.is_some()
+                && is_change(alloc, value, edit, heaps)?
             {
                 parts.push(Part {
                     person,
@@ -122,12 +125,17 @@ impl Joint<'_, '_> {
     }
 
     /// Of changes that help together some without each of which the others don't; `None` where all together don't help.
-    fn fewest(&self, alloc: Global, all: &[Part]) -> Result<Option<Vec<Part>>, AllocError> {
+    fn fewest(
+        &self,
+        shelf: &mut Shelf,
+        alloc: Global,
+        all: &[Part],
+    ) -> Result<Option<Vec<Part>>, AllocError> {
         if self.outcome(alloc, all)?.is_none() {
             return Ok(None);
         }
-        let likely = self.needed(alloc, all, true)?;
-        let others = self.needed(alloc, all, false)?;
+        let likely = self.needed(shelf, alloc, all, true)?;
+        let others = self.needed(shelf, alloc, all, false)?;
         if others.len() < likely.len() {
             return Ok(Some(others));
         }
@@ -139,12 +147,13 @@ impl Joint<'_, '_> {
     /// That the rest do is run once for all, and each time only where that isn't so.
     fn needed(
         &self,
+        shelf: &mut Shelf,
         alloc: Global,
         all: &[Part],
         from_last: bool,
     ) -> Result<Vec<Part>, AllocError> {
-        if let Some(mut known) = self.known(alloc, all)? {
-            let kept = self.needed_unrun(alloc, all, from_last, &mut known)?;
+        if let Some(mut known) = self.known(shelf, alloc, all)? {
+            let kept = self.needed_unrun(shelf, alloc, all, from_last, &mut known)?;
             if self.outcome(alloc, &kept)?.is_some() {
                 return Ok(kept);
             }
@@ -170,6 +179,7 @@ impl Joint<'_, '_> {
     /// parts they are.
     fn needed_unrun(
         &self,
+        shelf: &mut Shelf,
         alloc: Global,
         all: &[Part],
         from_last: bool,
@@ -183,8 +193,8 @@ impl Joint<'_, '_> {
             };
             let others = all_but(alloc, &kept, run)?;
             let back = kept.get(run.start..run.end).unwrap_or(&[]);
-            let does = match self.known_of(alloc, back, &others)? {
-                Some(changed) => self.are_kept(alloc, known, changed)?,
+            let does = match self.known_of(shelf, alloc, back, &others)? {
+                Some(changed) => self.are_kept(shelf, alloc, known, changed)?,
                 None => false,
             };
             walk.learn(run, does);
@@ -199,14 +209,13 @@ impl Joint<'_, '_> {
     /// known; that is known then.
     fn are_kept(
         &self,
+        shelf: &Shelf,
         alloc: Global,
         known: &mut Known,
         changed: Known,
     ) -> Result<bool, AllocError> {
-        let does = {
-            let read = self.read(alloc, known, &changed)?;
-            !leave_none(alloc, self.group, self.parties, &read)?
-        };
+        let read = self.read(shelf, alloc, known, &changed)?;
+        let does = !leave_none(alloc, self.group, self.parties, &read)?;
         if does {
             known.learn(changed);
         }
@@ -216,13 +225,15 @@ impl Joint<'_, '_> {
     /// What participants ask, of whom some ask otherwise than is known.
     fn read<'c>(
         &self,
+        shelf: &'c Shelf,
         alloc: Global,
-        known: &'c Known,
-        changed: &'c Known,
+        known: &Known,
+        changed: &Known,
     ) -> Result<Vec<Read<'c>>, AllocError> {
         let mut read = Vec::new(alloc);
         for (person, one) in self.group.people.iter().enumerate() {
-            if let Some(asked) = changed.asked(person).or(known.asked(person)) {
+            let place = changed.place(person).or(known.place(person));
+            if let Some(asked) = place.and_then(|place| shelf.asked(place)) {
                 let node = one.node;
                 read.push(Read { node, asked })?;
             }
@@ -231,48 +242,75 @@ impl Joint<'_, '_> {
     }
 
     /// What each participant asks after some parts; `None` where that has a fault.
-    fn known(&self, alloc: Global, parts: &[Part]) -> Result<Option<Known>, AllocError> {
-        self.known_of(alloc, parts, parts)
+    fn known(
+        &self,
+        shelf: &mut Shelf,
+        alloc: Global,
+        parts: &[Part],
+    ) -> Result<Option<Known>, AllocError> {
+        self.known_of(shelf, alloc, parts, parts)
     }
 
     /// The same, of those alone who have one of some other parts.
     fn known_of(
         &self,
+        shelf: &mut Shelf,
         alloc: Global,
         others: &[Part],
         parts: &[Part],
     ) -> Result<Option<Known>, AllocError> {
-        let heaps = self.group.setting.platform.heaps();
         let mut known = Known::new(alloc);
         for (person, one) in self.group.people.iter().enumerate() {
-            let mut asked = None;
+            let mut place = None;
             if let (true, Some(value)) = (
                 others.iter().any(|part| part.person == person),
                 one.stated,
             ) {
-                let changed = after(alloc, value, person, parts, heaps)?;
-                asked = read_asked(alloc, &changed)?;
-                if asked.is_none() {
+                place = self.place_after(shelf, alloc, person, value, parts)?;
+                if place.is_none() {
                     return Ok(None);
                 }
             }
-            known.push(asked)?;
+            known.push(place)?;
         }
         Ok(Some(known))
+    }
+
+    /// Where it is kept what a participant asks after those of some parts that are its own, once it
+    /// is read; `None` where that has a fault.
+    fn place_after(
+        &self,
+        shelf: &mut Shelf,
+        alloc: Global,
+        person: usize,
+        value: &Value,
+        parts: &[Part],
+    ) -> Result<Option<usize>, AllocError> {
+        let own = own_of(alloc, parts, person)?;
+        if let Some(place) = shelf.place_of(person, &own) {
+            return Ok(Some(place));
+        }
+        let heaps = self.group.setting.platform.heaps();
+        let changed = after(alloc, value, person, &own, heaps)?;
+        match read_asked(alloc, &changed)? {
+            Some(asked) => Ok(Some(shelf.keep(person, own, asked)?)),
+            None => Ok(None),
+        }
     }
 
     /// Finds the least change of the part of an index with which all do still, where leaving its
     /// field out gives this line; and what comes then, if it can be less.
     fn lessen(
         &self,
+        shelf: &mut Shelf,
         alloc: Global,
         parts: &mut [Part],
         index: usize,
         line: &str,
     ) -> Result<Option<String>, AllocError> {
-        let known = self.known(alloc, parts)?;
+        let known = self.known(shelf, alloc, parts)?;
         for others in [known.as_ref(), None] {
-            let best = self.least(alloc, parts, index, line, others)?;
+            let best = self.least(shelf, alloc, parts, index, line, others)?;
             set_amount(parts, index, best);
             if best.is_none() {
                 return Ok(None);
@@ -289,6 +327,7 @@ impl Joint<'_, '_> {
     /// ask, with which they aren't known to leave no settings.
     fn least(
         &self,
+        shelf: &mut Shelf,
         alloc: Global,
         parts: &mut [Part],
         index: usize,
@@ -305,7 +344,7 @@ impl Joint<'_, '_> {
             };
             set_amount(parts, index, Some(amount));
             let does = match others {
-                Some(known) => self.does_unrun(alloc, parts, index, known)?,
+                Some(known) => self.does_unrun(shelf, alloc, parts, index, known)?,
                 None => self.outcome(alloc, parts)?.is_some(),
             };
             halving.learn(amount, does);
@@ -320,15 +359,16 @@ impl Joint<'_, '_> {
     /// is known what others ask.
     fn does_unrun(
         &self,
+        shelf: &mut Shelf,
         alloc: Global,
         parts: &[Part],
         index: usize,
         known: &Known,
     ) -> Result<bool, AllocError> {
         let own = parts.get(index..index.saturating_add(1)).unwrap_or(&[]);
-        match self.known_of(alloc, own, parts)? {
+        match self.known_of(shelf, alloc, own, parts)? {
             Some(changed) => {
-                let read = self.read(alloc, known, &changed)?;
+                let read = self.read(shelf, alloc, known, &changed)?;
                 Ok(!leave_none(alloc, self.group, self.parties, &read)?)
             }
             None => Ok(false),

@@ -8,8 +8,8 @@ ghost use Rattle.constraint_trials.specs.Edited.{IsPromised};
 use crate::exchanges::try_exchanges;
 use constraint_edits::{Edit, edited, is_absurd};
 use constraint_trials::{
-    Found, Group, Party, Stated, Trial, are_sized, entries_behind, has_groups, is_worth,
-    leaves_none, parties_of, put_choice,
+    Found, Group, Party, Stated, Trial, are_sized, can_help, entries_behind, has_groups,
+    is_plain_change, is_worth, leaves_none, parties_of, put_choice,
 };
 use domain_reasons::{choices_in, room_needed};
 use explanation_text::{Items, Kind};
@@ -183,6 +183,13 @@ fn try_change(
     let Some(value) = one.stated else {
         return Ok(());
     };
+    if let (Some(does), false) = (
+        is_plain_change(value, edit),
+        can_help(search.parties, one.node),
+    ) {
+        search.tried = search.tried.saturating_add(usize::from(does));
+        return Ok(());
+    }
     let Some(change) = edited(alloc, value, edit, trial.setting.platform.heaps())? else {
         return Ok(());
     };
