@@ -1,6 +1,6 @@
 //! The actions that spend a handle.
 
-ghost use Rattle.std.specs.Prelude.{◌≡◌, ◌≢◌, ◌<◌, ◌+◌, ℕ, None, Some, false, true, option_map, IfErr, IfOk, IfSome, MatchOption, OnErr, OnOk};
+ghost use Rattle.std.specs.Prelude.{◌≡◌, ◌≢◌, ◌<◌, ◌+◌, ◌++◌, ℕ, [], ◌∷◌, None, Some, false, true, map, option_map, IfErr, IfOk, IfSome, MatchOption, OnErr, OnOk};
 ghost use Rattle.sysmem_participants.specs.Held.{AnswersAtEnd, MayEnter, acted, left_of};
 ghost use Rattle.sysmem_room.specs.Agreeing.{IsOwn};
 ghost use Rattle.sysmem_room.specs.Entering.{HasEntered};
@@ -34,46 +34,52 @@ fn at_end(refusal: Refusal) -> Refusal
     }
 }
 
-/// Enters the last action on a node in one hold, and decides where that is this thread's turn.
+/// Enters the last action on a node in one hold and logs it, and decides where that is this thread's
+/// turn: all actions, what is logged being what was entered; or the log as it was, and why not.
 /// Beside that the book as the action found and left it.
 fn end<L: Ledger, G: Gate + Drop + Sync, R: Threads + Wait + Sync>(
     rt: &R,
     shared: &Shared<L>,
     rules: &Rules<G>,
     path: &[u32],
-    log: &Log,
+    log: Log,
     known: Option<&Outcome>,
     action: Action,
+    copy: Action,
     mine: &mut Share<L>,
-) -> (Result<(), Refusal>, Hold<L>)
+) -> (Result<Vec<Action>, (Log, Refusal)>, Hold<L>)
     requires mine { 0 < mine.old.parts }
+    requires same { deed_of copy ≡ deed_of action }
     requires rootless { makes_root (kind_of (deed_of action)) ≡ false }
     requires ends { ends_node (kind_of (deed_of action)) ≡ true }
-    ensures entered { OnOk result.0 (HasEntered result.1.found result.1.left path.now log.now
+    ensures entered { OnOk result.0 (HasEntered result.1.found result.1.left path.now log
         (option_map (λ o. o.now) known.entry) (deed_of action)) }
-    ensures strange { IfErr result.0 (λ refusal. refusal ≡ Refusal.Strange → (node : ℕ)
-        → IsOwn result.1.found path.now log.now (option_map (λ o. o.now) known.entry) node
+    ensures logged { IfOk result.0 (λ actions.
+        map deed_of actions.items ≡ log.deeds ++ deed_of action ∷ []) }
+    ensures back { IfErr result.0 (λ refused. refused.0 ≡ log) }
+    ensures strange { IfErr result.0 (λ refused. refused.1 ≡ Refusal.Strange → (node : ℕ)
+        → IsOwn result.1.found path.now log (option_map (λ o. o.now) known.entry) node
         → IsDisputed result.1.found path.now (option_map (λ o. o.now) known.entry) node) }
     ensures foreseen { OnOk result.0 (due (option_map (λ o. o.now) known.entry) path.now
-        (shown_by log.now).state (kind_of (deed_of action)) ≡ None) }
-    ensures answers { IfErr result.0 (λ refusal. refusal ≢ Refusal.Strange
-        → (refusal ≡ Refusal.WrongState)
-        × (due (option_map (λ o. o.now) known.entry) path.now (shown_by log.now).state
+        (shown_by log).state (kind_of (deed_of action)) ≡ None) }
+    ensures answers { IfErr result.0 (λ refused. refused.1 ≢ Refusal.Strange
+        → (refused.1 ≡ Refusal.WrongState)
+        × (due (option_map (λ o. o.now) known.entry) path.now (shown_by log).state
         (kind_of (deed_of action)) ≡ Some Refusal.WrongState)) }
     ensures parts { mine.new.parts ≡ mine.old.parts }
     ensures counted { OnOk result.0 (mine.new.amount ≡ mine.old.amount + 1) }
     ensures uncounted { OnErr result.0 (mine.new.amount ≡ mine.old.amount) }
 {
-    let (entered, hold) = in_hold(rt, shared, path, log, known, action, None, mine);
+    let (entered, hold) = in_hold(rt, shared, path, &log, known, action, None, mine);
     let decides = match entered {
         Ok((_ended, decides)) => decides,
-        Err(refusal) => return (Err(at_end(refusal)), hold),
+        Err(refusal) => return (Err((log, at_end(refusal))), hold),
     };
     shared.changed.notify_all();
     if decides {
         let _none_waits = decide(rt, shared, rules);
     }
-    (Ok(()), hold)
+    (Ok(log.ended(copy)), hold)
 }
 
 impl<L: Ledger, G: Gate + Drop + Sync> Seat<L, G> {
@@ -103,24 +109,22 @@ impl<L: Ledger, G: Gate + Drop + Sync> Seat<L, G> {
             &shared,
             &rules,
             &path,
-            &log,
+            log,
             known,
+            Action::Release,
             Action::Release,
             &mut share,
         );
         match ended {
-            Ok(()) => {
-                let actions = log.ended(Action::Release);
-                Ok(Stub {
-                    shared,
-                    path,
-                    actions,
-                    share,
-                    cell,
-                    note,
-                })
-            }
-            Err(refusal) => Err((
+            Ok(actions) => Ok(Stub {
+                shared,
+                path,
+                actions,
+                share,
+                cell,
+                note,
+            }),
+            Err((log, refusal)) => Err((
                 Seat {
                     shared,
                     rules,
@@ -159,14 +163,15 @@ impl<L: Ledger, G: Gate + Drop + Sync> Seat<L, G> {
             &shared,
             &rules,
             &path,
-            &log,
+            log,
             known,
+            Action::Close,
             Action::Close,
             &mut share,
         );
         let (actions, refused) = match ended {
-            Ok(()) => (log.ended(Action::Close), None),
-            Err(_) => (log.into_actions(), Some(Refusal::Strange)),
+            Ok(actions) => (actions, None),
+            Err((log, _)) => (log.into_actions(), Some(Refusal::Strange)),
         };
         (
             Stub {
