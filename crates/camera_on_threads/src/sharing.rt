@@ -87,7 +87,7 @@ pub(crate) fn share<L: Ledger + Send + Sync, R: Threads + Wait + Sync>(
             recorder,
             audit,
         }),
-        Err(fault) => bail!("the audit says {}", fault.name()),
+        Err((fault, _seen)) => bail!("the audit says {}", fault.name()),
     }
 }
 

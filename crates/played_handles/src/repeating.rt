@@ -77,7 +77,7 @@ fn play_once<L: Ledger, R: Threads + Wait + Sync>(
     }
     match audit(rt, left) {
         Ok(_found) => Ok(()),
-        Err(fault) => bail!("the audit says {}", fault.name()),
+        Err((fault, _seen)) => bail!("the audit says {}", fault.name()),
     }
 }
 

@@ -142,7 +142,10 @@ fn tell<L: Ledger, R: Wait>(
     let Ok(lines) = lines else {
         return Err(AuditFault::NoMemory);
     };
-    let (audit, _seen) = audit(rt, remains.stubs)?;
+    let audit = match audit(rt, remains.stubs) {
+        Ok((audit, _seen)) => audit,
+        Err((fault, _seen)) => return Err(fault),
+    };
     let is_starved = lines.is_starved || remains.is_starved;
     match with_audit(lines, audit) {
         Ok(text) => Ok(Told { text, is_starved }),

@@ -1,16 +1,19 @@
 -- What an action that ends its node is refused for: the state that the log makes of its node, and else that handle and book disagree.
-use Rattle.std.proofs.Common.{◌≡◌, ◌≢◌, ◌∙◌, ℕ, Bool, true, false, not, List, Option, Some, None, refl, sym, subst}
-use Rattle.std.specs.Prelude.{is_some, if◌then◌else◌}
+use Rattle.std.proofs.Common.{◌≡◌, ◌≢◌, ◌∙◌, ℕ, Bool, true, false, not, List, [], ◌∷◌, ◌++◌, ◌+◌, Option, Some, None, Result, Ok, Err, length, arith, refl, sym, ap, subst}
+use Rattle.std.specs.Prelude.{OnErr, OnOk, is_some, if◌then◌else◌}
+use Rattle.std.proofs.lemmas.List.{length-append}
 use Rattle.std.proofs.lemmas.Option.{same_Some}
 use Rattle.sysmem_tree.specs.declared.action.ActionKind.{ActionKind}
 use Rattle.sysmem_tree.specs.declared.action.ActionKind.TheVariants as kinds
 use Rattle.sysmem_tree.specs.declared.refusal.Refusal.{Refusal}
 use Rattle.sysmem_tree.specs.declared.refusal.Refusal.TheVariants as refusals
 use Rattle.sysmem_tree.specs.declared.state.NodeState.{NodeState}
-use Rattle.sysmem_tree.specs.ActionKind.{ends_node}
-use Rattle.sysmem_tree.specs.Table.{allows, makes, wants_child}
+use Rattle.sysmem_tree.specs.ActionKind.{Deed, ends_node, kind_of}
+use Rattle.sysmem_tree.specs.Path.{Shown}
+use Rattle.sysmem_tree.specs.Step.{shown_after, shown_after_all}
+use Rattle.sysmem_tree.specs.Table.{allows, makes, state_after, wants_child}
 use Rattle.sysmem_room.specs.declared.outcome.Outcome.{Outcome}
-use Rattle.sysmem_room.specs.Log.{log_refusal}
+use Rattle.sysmem_room.specs.Log.{LogFacts, log_refusal, shown_by}
 use Rattle.sysmem_room.specs.Refusals.{IsAnswer, IsUnforeseen, due, first_of, outcome_refusal}
 
 -- such an action makes no node
@@ -87,3 +90,34 @@ was_strange refusals.ConstraintsIntersectionEmpty answer one two is = let wrong 
 was_strange refusals.TooManyGroupChildCombinations answer one two is = let wrong : refusals.TooManyGroupChildCombinations ≡ refusals.WrongState = one (λ same. absurd (cc)) in absurd (cc)
 was_strange refusals.Pending answer one two is = let wrong : refusals.Pending ≡ refusals.WrongState = one (λ same. absurd (cc)) in absurd (cc)
 was_strange refusals.Strange answer one two is = refl
+
+-- one that doesn't end its node leaves it open
+stays_open : (kind : ActionKind) (s : NodeState) → ends_node kind ≡ false → s.is_open ≡ true → (state_after kind s).is_open ≡ true
+stays_open kinds.Duplicate s stays opened = opened
+stays_open kinds.CreateGroup s stays opened = opened
+stays_open kinds.Bind s stays opened = opened
+stays_open kinds.CreateChild s stays opened = opened
+stays_open kinds.AllChildrenPresent s stays opened = opened
+stays_open kinds.SetConstraints s stays opened = opened
+stays_open kinds.AttachToken s stays opened = opened
+stays_open kinds.Release s stays opened = absurd (cc)
+stays_open kinds.Close s stays opened = absurd (cc)
+
+open_after : (z : Shown) (ds : List Deed) (d : Deed) → ends_node (kind_of d) ≡ false → (shown_after_all z ds).state.is_open ≡ true
+    → (shown_after_all z (ds ++ d ∷ [])).state.is_open ≡ true
+open_after z [] d stays opened = stays_open (kind_of d) z.state stays opened
+open_after z (x ∷ ds) d stays opened = open_after (shown_after x z) ds d stays opened
+
+-- so a log that gets it, if it is accepted, has its node open still
+pub open_still : {V : Type 0} (entered : Result V Refusal) (old new : LogFacts) (d : Deed) → ends_node (kind_of d) ≡ false → new.begun ≡ old.begun
+    → OnOk entered (new.deeds ≡ old.deeds ++ d ∷ []) → OnErr entered (new.deeds ≡ old.deeds) → (shown_by old).state.is_open ≡ true → (shown_by new).state.is_open ≡ true
+open_still entered old new d stays begun logged unlogged opened = subst (λ z. (shown_after_all z new.deeds).state.is_open ≡ true) (sym begun) (by entered logged unlogged) where
+  by : {V : Type 0} (o : Result V Refusal) → OnOk o (new.deeds ≡ old.deeds ++ d ∷ []) → OnErr o (new.deeds ≡ old.deeds) → (shown_after_all old.begun new.deeds).state.is_open ≡ true
+  by (Ok v) more same = subst (λ ds. (shown_after_all old.begun ds).state.is_open ≡ true) (sym more) (open_after old.begun old.deeds d stays opened)
+  by (Err r) more same = subst (λ ds. (shown_after_all old.begun ds).state.is_open ≡ true) (sym same) opened
+
+-- and as many actions as are counted
+pub counted_still : {V : Type 0} (entered : Result V Refusal) (was is : ℕ) (old new : LogFacts) (d : Deed) → OnOk entered (is ≡ was + 1) → OnErr entered (is ≡ was)
+    → OnOk entered (new.deeds ≡ old.deeds ++ d ∷ []) → OnErr entered (new.deeds ≡ old.deeds) → was ≡ length old.deeds → is ≡ length new.deeds
+counted_still (Ok v) was is old new d more same logged unlogged counted = omega (arith, more, counted, ap length logged, length-append old.deeds (d ∷ []))
+counted_still (Err r) was is old new d more same logged unlogged counted = same ∙ counted ∙ sym (ap length unlogged)

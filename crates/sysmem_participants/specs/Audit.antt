@@ -1,6 +1,6 @@
 -- What stubs and a book say of one another.
 use Rattle.std.specs.Prelude.{◌≡◌, ◌<◌, ◌+◌, ◌⊎◌, ℕ, List, [], ◌∷◌, Some, IfSome, codes, length, slice_index_or, sum_by}
-use Rattle.sysmem_alloc.specs.Book.{BookFacts, IsBook}
+use Rattle.sysmem_alloc.specs.Book.{BookFacts}
 use Rattle.sysmem_alloc.specs.Entry.{BookEntry, Acted, Decided}
 use Rattle.sysmem_sanitise.specs.Platform.{PlatformFacts}
 use Rattle.sysmem_room.specs.Agreeing.{AgreesAt, IsKnown, book_log}
@@ -97,10 +97,6 @@ pub record AgreesWith (b : BookFacts) (stubs : List Left) (a : Audit) : Type 0 w
 abbrev pub IsFaultOf : BookFacts → List Left → AuditFault → Type 0
 IsFaultOf b stubs fault = ((fault ≡ faults.Stubs) × (AreFor b.platform stubs → ⊥))
     ⊎ (AreFor b.platform stubs × ((read : List Left) × AreRead stubs read × IsFirstFault b read fault))
-
--- the stubs have this fault by a legal book
-abbrev pub SomeBookRefuses : List Left → AuditFault → Type 0
-SomeBookRefuses stubs fault = (b : BookFacts) × IsBook b × IsFaultOf b stubs fault
 
 -- faults as the program prints them; a want of memory is told as that refusal
 abbrev pub fault_text : AuditFault → List ℕ

@@ -1,5 +1,6 @@
 -- What a handle holds, and what a call makes of it.
 use Rattle.std.specs.Prelude.{◌≡◌, ◌≢◌, ◌++◌, ℕ, Bool, true, List, [], ◌∷◌, Option, None, Some, IfSome}
+use Rattle.sysmem_alloc.specs.Book.{BookFacts}
 use Rattle.sysmem_sanitise.specs.Platform.{PlatformFacts}
 use Rattle.sysmem_tree.specs.declared.refusal.Refusal.{Refusal}
 use Rattle.sysmem_tree.specs.declared.refusal.Refusal.TheVariants.{NoMemory, Strange, WrongState}
@@ -9,8 +10,9 @@ use Rattle.sysmem_tree.specs.declared.state.NodeState.{NodeState}
 use Rattle.sysmem_tree.specs.ActionKind.{Deed, kind_of}
 use Rattle.sysmem_tree.specs.Path.{Shown}
 use Rattle.sysmem_tree.specs.Step.{shown_after_all}
-use Rattle.sysmem_room.specs.Log.{begun_as}
-use Rattle.sysmem_room.specs.Refusals.{MayAnswer, due}
+use Rattle.sysmem_room.specs.Agreeing.{IsOwn}
+use Rattle.sysmem_room.specs.Log.{LogFacts, begun_as}
+use Rattle.sysmem_room.specs.Refusals.{IsDisputed, MayAnswer, due}
 use Rattle.sysmem_room.specs.declared.outcome.Outcome.{Outcome}
 
 -- its node's path, how the node began, the accepted actions on it, its domain's cell and what it
@@ -83,6 +85,15 @@ Answers h deed r = r ≢ Strange → r ≢ NoMemory
 abbrev pub AnswersAtEnd : Held → Deed → Refusal → Type 0
 AnswersAtEnd h deed r = r ≢ Strange
     → (r ≡ WrongState) × (due h.known h.path (state_of h) (kind_of deed) ≡ Some WrongState)
+
+-- the log of a handle; for how many more actions it has room is left out
+abbrev pub log_of : Held → LogFacts
+log_of h = record { begun = h.begun; deeds = h.deeds; places = 0 }
+
+-- a handle that saw this in its cell and a book disagree: the book has no node that is the handle's own, or left it out though
+-- by what was seen it is a member
+abbrev pub IsStrangeTo : BookFacts → Held → Option Outcome → Type 0
+IsStrangeTo b h seen = (node : ℕ) → IsOwn b h.path (log_of h) seen node → IsDisputed b h.path seen node
 
 -- the same but for what it knows of the cell
 abbrev pub IsSameBut : Held → Held → Type 0

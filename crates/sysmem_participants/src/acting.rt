@@ -9,7 +9,7 @@ ghost use Rattle.sysmem_room.specs.Counting.{nodes_by};
 ghost use Rattle.sysmem_room.specs.Entering.{HasEntered};
 ghost use Rattle.sysmem_room.specs.Log.{shown_by};
 ghost use Rattle.sysmem_room.specs.Refusals.{IsAnswer, IsDisputed, due};
-ghost use Rattle.sysmem_tree.specs.ActionKind.{attaches_token, binds, creates_child, creates_group, deed_of, duplicates, has_all_children, kind_of, sets};
+ghost use Rattle.sysmem_tree.specs.ActionKind.{attaches_token, binds, creates_child, creates_group, deed_of, duplicates, ends_node, has_all_children, kind_of, sets};
 ghost use Rattle.sysmem_tree.specs.Table.{makes_root};
 
 use crate::deciding::decide;
@@ -100,6 +100,7 @@ impl<L: Ledger, G: Gate + Drop> Prepared<L, G> {
         requires part { share.parts ≡ 1 }
         requires uncounted { share.amount ≡ 0 }
         requires empty { self.log.deeds ≡ [] }
+        requires is_open { self.log.begun.state.is_open ≡ true }
         ensures { result ≡ record {
           path = self.path.items;
           begun = self.log.begun;
@@ -141,6 +142,7 @@ impl<L: Ledger, G: Gate + Drop + Sync> Seat<L, G> {
     ) -> Result<Share<L>, Refusal>
         requires same { deed_of copy ≡ deed_of action }
         requires fresh { is_some fresh ≡ makes_root (kind_of (deed_of action)) }
+        requires stays { ends_node (kind_of (deed_of action)) ≡ false }
         ensures entered { OnOk result (self.new ≡ acted self.old (deed_of action)) }
         ensures unchanged { OnErr result (self.new ≡ self.old) }
         ensures foreseen { OnOk result (MayEnter self.old (deed_of action)) }

@@ -150,6 +150,7 @@ impl<L: Ledger, G: Gate + Drop + Sync> Collection<L, G> {
         ensures strange { IfSome result.1 (λ refusal. refusal ≡ Refusal.Strange) }
     {
         let Collection { seat } = self;
-        seat.close(rt)
+        let (stub, refused, _hold, _seen) = seat.close(rt);
+        (stub, refused)
     }
 }

@@ -1,7 +1,7 @@
 //! The actions that spend a handle.
 
-ghost use Rattle.std.specs.Prelude.{◌≡◌, ◌≢◌, ◌<◌, ◌+◌, ℕ, None, Some, false, true, option_map, IfErr, IfOk, IfSome, MatchOption, OnErr, OnOk};
-ghost use Rattle.sysmem_participants.specs.Held.{AnswersAtEnd, MayEnter, acted, left_of};
+ghost use Rattle.std.specs.Prelude.{◌≡◌, ◌≢◌, ◌<◌, ◌+◌, ◌++◌, ℕ, [], ◌∷◌, None, Some, false, true, map, option_map, IfErr, IfOk, IfSome, MatchOption, OnErr, OnOk};
+ghost use Rattle.sysmem_participants.specs.Held.{AnswersAtEnd, IsStrangeTo, MayEnter, acted, left_of, state_of};
 ghost use Rattle.sysmem_room.specs.Agreeing.{IsOwn};
 ghost use Rattle.sysmem_room.specs.Entering.{HasEntered};
 ghost use Rattle.sysmem_room.specs.Log.{shown_by};
@@ -14,6 +14,7 @@ use crate::holding::{Hold, in_hold};
 use crate::seat::Seat;
 use crate::shared::{Rules, Shared};
 use crate::stub::Stub;
+use once_cell::race::Note;
 use std::sync::Wait;
 use std::sync::ledger::{Ledger, Share};
 use std::thread::Threads;
@@ -34,49 +35,149 @@ fn at_end(refusal: Refusal) -> Refusal
     }
 }
 
-/// Enters the last action on a node in one hold, and decides where that is this thread's turn.
+/// Enters the last action on a node in one hold and logs it, and decides where that is this thread's
+/// turn: all actions, what is logged being what was entered; or the log as it was, and why not.
 /// Beside that the book as the action found and left it.
 fn end<L: Ledger, G: Gate + Drop + Sync, R: Threads + Wait + Sync>(
     rt: &R,
     shared: &Shared<L>,
     rules: &Rules<G>,
     path: &[u32],
-    log: &Log,
+    log: Log,
     known: Option<&Outcome>,
     action: Action,
+    copy: Action,
     mine: &mut Share<L>,
-) -> (Result<(), Refusal>, Hold<L>)
+) -> (Result<Vec<Action>, (Log, Refusal)>, Hold<L>)
     requires mine { 0 < mine.old.parts }
+    requires same { deed_of copy ≡ deed_of action }
     requires rootless { makes_root (kind_of (deed_of action)) ≡ false }
     requires ends { ends_node (kind_of (deed_of action)) ≡ true }
-    ensures entered { OnOk result.0 (HasEntered result.1.found result.1.left path.now log.now
+    ensures entered { OnOk result.0 (HasEntered result.1.found result.1.left path.now log
         (option_map (λ o. o.now) known.entry) (deed_of action)) }
-    ensures strange { IfErr result.0 (λ refusal. refusal ≡ Refusal.Strange → (node : ℕ)
-        → IsOwn result.1.found path.now log.now (option_map (λ o. o.now) known.entry) node
+    ensures logged { IfOk result.0 (λ actions.
+        map deed_of actions.items ≡ log.deeds ++ deed_of action ∷ []) }
+    ensures back { IfErr result.0 (λ refused. refused.0 ≡ log) }
+    ensures strange { IfErr result.0 (λ refused. refused.1 ≡ Refusal.Strange → (node : ℕ)
+        → IsOwn result.1.found path.now log (option_map (λ o. o.now) known.entry) node
         → IsDisputed result.1.found path.now (option_map (λ o. o.now) known.entry) node) }
     ensures foreseen { OnOk result.0 (due (option_map (λ o. o.now) known.entry) path.now
-        (shown_by log.now).state (kind_of (deed_of action)) ≡ None) }
-    ensures answers { IfErr result.0 (λ refusal. refusal ≢ Refusal.Strange
-        → (refusal ≡ Refusal.WrongState)
-        × (due (option_map (λ o. o.now) known.entry) path.now (shown_by log.now).state
+        (shown_by log).state (kind_of (deed_of action)) ≡ None) }
+    ensures answers { IfErr result.0 (λ refused. refused.1 ≢ Refusal.Strange
+        → (refused.1 ≡ Refusal.WrongState)
+        × (due (option_map (λ o. o.now) known.entry) path.now (shown_by log).state
         (kind_of (deed_of action)) ≡ Some Refusal.WrongState)) }
     ensures parts { mine.new.parts ≡ mine.old.parts }
     ensures counted { OnOk result.0 (mine.new.amount ≡ mine.old.amount + 1) }
     ensures uncounted { OnErr result.0 (mine.new.amount ≡ mine.old.amount) }
 {
-    let (entered, hold) = in_hold(rt, shared, path, log, known, action, None, mine);
+    let (entered, hold) = in_hold(rt, shared, path, &log, known, action, None, mine);
     let decides = match entered {
         Ok((_ended, decides)) => decides,
-        Err(refusal) => return (Err(at_end(refusal)), hold),
+        Err(refusal) => return (Err((log, at_end(refusal))), hold),
     };
     shared.changed.notify_all();
     if decides {
         let _none_waits = decide(rt, shared, rules);
     }
-    (Ok(()), hold)
+    (Ok(log.ended(copy)), hold)
+}
+
+impl<L: Ledger, G: Gate + Drop> Seat<L, G> {
+    /// What is left of the handle.
+    fn left(self) -> Stub<L>
+        ensures { result ≡ left_of self }
+    {
+        let Seat {
+            shared,
+            rules: _rules,
+            path,
+            log,
+            share,
+            cell,
+            note,
+        } = self;
+        let actions = log.into_actions();
+        Stub {
+            shared,
+            path,
+            actions,
+            share,
+            cell,
+            note,
+        }
+    }
 }
 
 impl<L: Ledger, G: Gate + Drop + Sync> Seat<L, G> {
+    /// Ends the node by an action: what is left of the handle, or the handle as it was, and why.
+    /// `copy` is the same action, for the log. Beside that the book as the action found and left it,
+    /// and what it saw in the cell before.
+    fn spend<R: Threads + Wait + Sync>(
+        self,
+        rt: &R,
+        action: Action,
+        copy: Action,
+    ) -> (
+        Result<Stub<L>, (Seat<L, G>, Refusal)>,
+        Hold<L>,
+        Note<Outcome>,
+    )
+        requires same { deed_of copy ≡ deed_of action }
+        requires rootless { makes_root (kind_of (deed_of action)) ≡ false }
+        requires ends { ends_node (kind_of (deed_of action)) ≡ true }
+        ensures left { IfOk result.0 (λ stub. stub ≡ left_of (acted self (deed_of action))) }
+        ensures back { IfErr result.0 (λ refused. refused.0 ≡ self) }
+        ensures was_open { (state_of self).is_open ≡ true }
+        ensures foreseen { OnOk result.0 (MayEnter self (deed_of action)) }
+        ensures answers { IfErr result.0 (λ refused.
+            AnswersAtEnd self (deed_of action) refused.1) }
+        ensures saw { (result.2.cell ≡ self.cell)
+            × IfSome self.known (λ known. result.2.known ≡ Some known) }
+        ensures strange { IfErr result.0 (λ refused. refused.1 ≡ Refusal.Strange
+            → IsStrangeTo result.1.found self result.2.known) }
+    {
+        let Seat {
+            shared,
+            rules,
+            path,
+            log,
+            mut share,
+            cell,
+            mut note,
+        } = self;
+        let mut seen = note.again();
+        let known = cell.get_as(&mut seen);
+        let (ended, hold) = end(
+            rt, &shared, &rules, &path, log, known, action, copy, &mut share,
+        );
+        match ended {
+            Ok(actions) => {
+                let stub = Stub {
+                    shared,
+                    path,
+                    actions,
+                    share,
+                    cell,
+                    note,
+                };
+                (Ok(stub), hold, seen)
+            }
+            Err((log, refusal)) => {
+                let seat = Seat {
+                    shared,
+                    rules,
+                    path,
+                    log,
+                    share,
+                    cell,
+                    note,
+                };
+                (Err((seat, refusal)), hold, seen)
+            }
+        }
+    }
+
     /// Releases the node.
     pub(crate) fn release<R: Threads + Wait + Sync>(
         self,
@@ -87,97 +188,29 @@ impl<L: Ledger, G: Gate + Drop + Sync> Seat<L, G> {
         ensures foreseen { OnOk result (MayEnter self releases) }
         ensures answers { IfErr result (λ refused. AnswersAtEnd self releases refused.1) }
     {
-        let Seat {
-            shared,
-            rules,
-            path,
-            log,
-            mut share,
-            cell,
-            mut note,
-        } = self;
-        let mut seen = note.again();
-        let known = cell.get_as(&mut seen);
-        let (ended, _hold) = end(
-            rt,
-            &shared,
-            &rules,
-            &path,
-            &log,
-            known,
-            Action::Release,
-            &mut share,
-        );
-        match ended {
-            Ok(()) => {
-                let actions = log.ended(Action::Release);
-                Ok(Stub {
-                    shared,
-                    path,
-                    actions,
-                    share,
-                    cell,
-                    note,
-                })
-            }
-            Err(refusal) => Err((
-                Seat {
-                    shared,
-                    rules,
-                    path,
-                    log,
-                    share,
-                    cell,
-                    note,
-                },
-                refusal,
-            )),
-        }
+        let (spent, _hold, _seen) = self.spend(rt, Action::Release, Action::Release);
+        spent
     }
 
     /// Closes the node, as a channel that ends: what is left of the handle, and that the close was
-    /// refused, if it was: since a handle's node is open, that the two disagree.
-    pub(crate) fn close<R: Threads + Wait + Sync>(self, rt: &R) -> (Stub<L>, Option<Refusal>)
+    /// refused, if it was: since a handle's node is open by its log, that the two disagree. Beside
+    /// that the book as the close found and left it, and what it saw in the cell before.
+    pub(crate) fn close<R: Threads + Wait + Sync>(
+        self,
+        rt: &R,
+    ) -> (Stub<L>, Option<Refusal>, Hold<L>, Note<Outcome>)
         ensures left { MatchOption result.1 (result.0 ≡ left_of (acted self closes))
             (λ _. result.0 ≡ left_of self) }
         ensures foreseen { MatchOption result.1 (MayEnter self closes) (λ _. Unit {0}) }
-        ensures strange { IfSome result.1 (λ refusal. refusal ≡ Refusal.Strange) }
+        ensures saw { (result.3.cell ≡ self.cell)
+            × IfSome self.known (λ known. result.3.known ≡ Some known) }
+        ensures strange { IfSome result.1 (λ refusal. (refusal ≡ Refusal.Strange)
+            × IsStrangeTo result.2.found self result.3.known) }
     {
-        let Seat {
-            shared,
-            rules,
-            path,
-            log,
-            mut share,
-            cell,
-            mut note,
-        } = self;
-        let mut seen = note.again();
-        let known = cell.get_as(&mut seen);
-        let (ended, _hold) = end(
-            rt,
-            &shared,
-            &rules,
-            &path,
-            &log,
-            known,
-            Action::Close,
-            &mut share,
-        );
-        let (actions, refused) = match ended {
-            Ok(()) => (log.ended(Action::Close), None),
-            Err(_) => (log.into_actions(), Some(Refusal::Strange)),
-        };
-        (
-            Stub {
-                shared,
-                path,
-                actions,
-                share,
-                cell,
-                note,
-            },
-            refused,
-        )
+        let (spent, hold, seen) = self.spend(rt, Action::Close, Action::Close);
+        match spent {
+            Ok(stub) => (stub, None, hold, seen),
+            Err((seat, refusal)) => (seat.left(), Some(refusal), hold, seen),
+        }
     }
 }

@@ -1,8 +1,8 @@
 //! The audit of a collection whose handles are all spent.
 
-ghost use Rattle.std.specs.Prelude.{◌≡◌, ◌≢◌, ◌<◌, ◌+◌, ◌↔◌, Err, length, sum_by, vec_len, IfErr, IfOk, IsTrue};
+ghost use Rattle.std.specs.Prelude.{◌≡◌, ◌≢◌, ◌<◌, ◌+◌, ◌↔◌, Err, None, length, sum_by, vec_len, IfErr, IfOk, IsSomeAnd, IsTrue, MatchResult};
 ghost use Rattle.sysmem_alloc.specs.Book.{IsBook};
-ghost use Rattle.sysmem_participants.specs.Audit.{AgreesWith, AreFor, IsFaultOf, SomeBookRefuses};
+ghost use Rattle.sysmem_participants.specs.Audit.{AgreesWith, AreFor, IsFaultOf};
 ghost use Rattle.sysmem_room.specs.Counting.{actions_in};
 
 use crate::agreeing::stubs_agree;
@@ -52,16 +52,17 @@ fn are_for<L: Ledger>(platform: &Platform, stubs: &[Stub<L>]) -> bool
 
 /// What is found of a collection by the stubs of all its handles, once these are spent: its book,
 /// which stays as it is, has what they have, for their platform, and as many actions as they have
-/// together.
+/// together. Else the first fault. Beside both stands the book.
 fn audited<L: Ledger>(
     room: &mut Room<L>,
     stubs: Vec<Stub<L>>,
-) -> Result<(Audit, Seen<L>), AuditFault>
+) -> Result<(Audit, Seen<L>), (AuditFault, Seen<L>)>
     ensures same { room.new ≡ room.old }
     ensures legal { IsBook room.old }
-    ensures seen { IfOk result (λ found. found.1 ≡ room.old) }
+    ensures seen { MatchResult result (λ found. found.1 ≡ room.old)
+        (λ refused. refused.1 ≡ room.old) }
     ensures agree { IfOk result (λ found. AgreesWith found.1 stubs.items found.0) }
-    ensures fault { IfErr result (IsFaultOf room.old stubs.items) }
+    ensures fault { IfErr result (λ refused. IsFaultOf refused.1 stubs.items refused.0) }
     ensures sum { IfOk result (λ found.
         found.0.actions ≡ sum_by (λ s. length s.deeds) stubs.items) }
 {
@@ -69,9 +70,12 @@ fn audited<L: Ledger>(
     let mut stubs = stubs;
     let is_for = are_for(room.book().platform(), &stubs);
     if !is_for {
-        return Err(AuditFault::Stubs);
+        return Err((AuditFault::Stubs, seen));
     }
-    let audit = stubs_agree(room.book(), &mut stubs)?;
+    let audit = match stubs_agree(room.book(), &mut stubs) {
+        Ok(audit) => audit,
+        Err(fault) => return Err((fault, seen)),
+    };
     count(room, stubs);
     Ok((audit, seen))
 }
@@ -92,22 +96,30 @@ fn shared_of<L: Ledger>(stubs: &[Stub<L>]) -> Result<Arc<Shared<L>>, AuditFault>
 }
 
 /// Joins the stubs of a collection, once all its handles are spent: whether they and its book say
-/// the same, and what there is to count. Beside that stands the book as it was seen under its lock:
-/// it is legal, and for the stubs' platform, and as many actions as the handles made stand in it. Of
-/// no stubs, and of some for another platform, it answers `Stubs`.
+/// the same, and what there is to count; or the first fault. Beside that stands the book as it was
+/// seen under its lock, which is legal. Where they say the same, it is for the stubs' platform, and
+/// as many actions as the handles made stand in it. Of no stubs, and of some for another platform,
+/// it answers `Stubs`; of no stubs, and where memory is refused, it sees no book.
 pub fn audit<L: Ledger, R: Wait>(
     rt: &R,
     stubs: Vec<Stub<L>>,
-) -> Result<(Audit, Seen<L>), AuditFault>
+) -> Result<(Audit, Seen<L>), (AuditFault, Option<Seen<L>>)>
     ensures book { IfOk result (λ found. IsBook found.1) }
     ensures agree { IfOk result (λ found. AgreesWith found.1 stubs.items found.0) }
-    ensures empty { vec_len stubs ≡ 0 → result ≡ Err AuditFault.Stubs }
-    ensures fault { IfErr result (λ fault. 0 < vec_len stubs → fault ≢ AuditFault.NoMemory
-        → SomeBookRefuses stubs.items fault) }
+    ensures empty { vec_len stubs ≡ 0 → result ≡ Err (AuditFault.Stubs, None) }
+    ensures fault { IfErr result (λ refused.
+        0 < vec_len stubs → refused.0 ≢ AuditFault.NoMemory → IsSomeAnd refused.1
+        (λ book. IsBook book × IsFaultOf book stubs.items refused.0)) }
     ensures sum { IfOk result (λ found.
         found.0.actions ≡ sum_by (λ s. length s.deeds) stubs.items) }
 {
-    let shared = shared_of(&stubs)?;
+    let shared = match shared_of(&stubs) {
+        Ok(shared) => shared,
+        Err(fault) => return Err((fault, None)),
+    };
     let mut room = shared.room.lock(rt);
-    audited(&mut room, stubs)
+    match audited(&mut room, stubs) {
+        Ok(found) => Ok(found),
+        Err((fault, seen)) => Err((fault, Some(seen))),
+    }
 }

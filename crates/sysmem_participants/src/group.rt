@@ -88,6 +88,7 @@ impl<L: Ledger, G: Gate + Drop + Sync> Group<L, G> {
         ensures strange { IfSome result.1 (λ refusal. refusal ≡ Refusal.Strange) }
     {
         let Group { seat } = self;
-        seat.close(rt)
+        let (stub, refused, _hold, _seen) = seat.close(rt);
+        (stub, refused)
     }
 }

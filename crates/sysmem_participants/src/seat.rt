@@ -21,7 +21,7 @@ use sysmem_room::{Log, Outcome};
 use sysmem_search::Gate;
 use sysmem_tree::{NodeKind, Refusal};
 
-/// What each kind of handle holds.
+/// What each kind of handle holds; its node is open by its log.
 pub(crate) struct Seat<L: Ledger, G: Gate + Drop> {
     pub(crate) shared: Arc<Shared<L>>,
     pub(crate) rules: Arc<Rules<G>>,
@@ -37,10 +37,11 @@ pub(crate) struct Seat<L: Ledger, G: Gate + Drop> {
 }
 
 impl<L: Ledger, G: Gate + Drop> Model for Seat<L, G> {
-    ghost use Rattle.std.specs.Prelude.{◌≡◌, length};
+    ghost use Rattle.std.specs.Prelude.{◌≡◌, length, true};
     ghost use Rattle.std.specs.Arc.{arc_value};
     ghost use Rattle.once_cell.specs.Once.{cell_name};
     ghost use Rattle.sysmem_participants.specs.Held.{Held};
+    ghost use Rattle.sysmem_room.specs.Log.{shown_by};
 
     ghost Value = { Held };
 
@@ -55,7 +56,8 @@ impl<L: Ledger, G: Gate + Drop> Model for Seat<L, G> {
 
     ghost invariant = { λ s. (s.share.parts ≡ 1)
         × (s.share.amount ≡ length s.log.deeds)
-        × (s.note.cell ≡ cell_name (arc_value s.cell)) };
+        × (s.note.cell ≡ cell_name (arc_value s.cell))
+        × ((shown_by s.log).state.is_open ≡ true) };
 }
 
 /// What the handle of a further node will hold, taken before the lock.

@@ -113,7 +113,8 @@ impl<L: Ledger, G: Gate + Drop + Sync> Token<L, G> {
         ensures strange { IfSome result.1 (λ refusal. refusal ≡ Refusal.Strange) }
     {
         let Token { seat } = self;
-        seat.close(rt)
+        let (stub, refused, _hold, _seen) = seat.close(rt);
+        (stub, refused)
     }
 
     /// What reads the collection's book. `AllocError` where memory is refused.

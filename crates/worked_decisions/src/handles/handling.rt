@@ -93,8 +93,10 @@ pub(crate) fn closed<L: Ledger, G: Gate + Drop + Sync, R: Threads + Wait + Abort
 
 /// What an audit of the stubs counts.
 pub(crate) fn counted<L: Ledger>(rt: &impl Wait, stubs: Vec<Stub<L>>) -> Result<Audit, AuditFault> {
-    let (found, _seen) = audit(rt, stubs)?;
-    Ok(found)
+    match audit(rt, stubs) {
+        Ok((found, _seen)) => Ok(found),
+        Err((fault, _seen)) => Err(fault),
+    }
 }
 
 /// What is shown has this count, and the checker's yes.

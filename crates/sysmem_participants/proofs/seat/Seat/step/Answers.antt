@@ -1,10 +1,21 @@
 -- What is due by what the call sees in the cell, said by what the handle knew.
-use Rattle.std.proofs.Common.{◌≡◌, rules}
+use Rattle.std.proofs.Common.{◌≡◌, true, length, rules}
 use Rattle.sysmem_room.specs.Log.{shown_by}
 use Rattle.sysmem_tree.specs.ActionKind.{deed_of}
 use Rattle.sysmem_participants.specs.Held.{state_of}
 use Rattle.sysmem_participants.proofs.Answering.{answers_by_known, enters_by_known, read_known}
+use Rattle.sysmem_participants.proofs.Ended.{counted_still, open_still}
 use Rattle.sysmem_participants.proofs.seat.Seat.step.Goals as goal
+
+pub invariant_of-self-2 : goal.invariant_of-self-2
+invariant_of-self-2 g c =
+    let opened : (shown_by c.reserve.new.self).state.is_open ≡ true = search rules in
+    let amount : c.self.inside.share.amount ≡ length c.reserve.new.self.deeds = search rules in (
+      search rules,
+      counted_still c.enter-entered.result.0 c.self.inside.share.amount c.enter-entered.new.mine.amount c.reserve.new.self c.enter-entered.new.log (deed_of c.args.action) c.enter-entered.ensures.counted c.enter-entered.ensures.uncounted c.enter-entered.ensures.logged c.enter-entered.ensures.unlogged amount,
+      search rules,
+      open_still c.enter-entered.result.0 c.reserve.new.self c.enter-entered.new.log (deed_of c.args.action) c.requires.stays c.enter-entered.ensures.begun c.enter-entered.ensures.logged c.enter-entered.ensures.unlogged opened,
+    )
 
 pub returns-clause-foreseen : goal.returns-clause-foreseen
 returns-clause-foreseen g c =
