@@ -14,7 +14,7 @@ run:
 # Proves the program and all that it stands on, and builds it.
 proved:
 	cd $(PROGRAM) && rt run -- run $(abspath examples/one_participant.json)
-	cd crates/played_handles && rt run -- data/attached.json
+	cd crates/workbench && rt run -- handles data/attached.json
 
 # The whole gate: every proof, the must-fail edits, the tests, the program. A kit that keeps what
 # passed proves only what changed the next time.
@@ -74,7 +74,7 @@ wrong-bodies:
 # Times the proved program beside the reading of the same bytes as a JSON value, and calls on
 # small and large trees; counts instructions of runs, certificates and checks.
 bench: proved
-	cd crates/repeated_decisions && rt run -- data/groups_share_nv12.json read,search,together,add,settle,prove,check,write,serialise 3
+	cd crates/workbench && rt run -- decisions data/groups_share_nv12.json read,search,together,add,settle,prove,check,write,serialise 3
 	bench/run
 	bench/library
 	bench/trees

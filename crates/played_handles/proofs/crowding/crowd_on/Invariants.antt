@@ -1,4 +1,0 @@
-use Rattle.played_handles.proofs.crowding.crowd_on.Given as goal
-
-abbrev pub ghosts-gather : goal.ghosts-gather
-ghosts-gather g a = record { name = a.blank.name; parts = a.blank.parts }

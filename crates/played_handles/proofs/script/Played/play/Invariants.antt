@@ -1,4 +1,0 @@
-use Rattle.played_handles.proofs.script.Played.play.Given as goal
-
-abbrev pub ghosts-play_on : goal.ghosts-play_on
-ghosts-play_on g a = record { name = a.blank.name; parts = a.blank.parts }

@@ -1,0 +1,134 @@
+//! Plays a script through the handles of one collection, on one thread, and prints what they
+//! answer; and does a job of handles as often as it is told.
+//!
+//! Each call has the line that it has in the program's report. A call that is refused for want of
+//! memory is made once more, and has a second line then. `wait` waits where there is a verdict, and
+//! else asks as `check` does. After the calls each collection that is still open has a line: what
+//! it is shown, in the words of a domain's line, and what the checker says of that. Then all
+//! handles are closed, and the last line is the audit's. A job prints nothing but where it says so.
+//!
+//! | Job | What is repeated |
+//! |---|---|
+//! | `handles` | playing the calls through the handles of a new collection, and closing these |
+//! | `audited` | the same, and an audit of what is left |
+//! | `book` | applying the calls to a new book, without a decision |
+//! | `calls` | the calls of participants of a new collection, one for each `set_constraints` of the script (`taking.rt`) |
+//! | `applied` | the same calls on a new book |
+//! | `alone` | the calls of 126 participants of a new collection, on one thread (`crowding.rt`); how many nanoseconds they take is printed |
+//! | `crowd` | the same, shared out among 16 threads that begin together |
+//! | `refused_alone` | the same as `alone`, once, with so many calls more of each participant that are refused |
+//! | `refused_crowd` | the same on 16 threads |
+
+mod crowding;
+mod ending;
+mod hand;
+mod naming;
+mod playing;
+mod repeating;
+mod script;
+mod showing;
+mod taking;
+mod tokens;
+
+use anyhow::{Result, bail};
+use crowding::{Crowd, crowd_on};
+use repeating::{repeat_book, repeat_handles};
+use script::{Played, all_stated};
+use script_reading::{Script, parse_script, read_script};
+use std::alloc::Global;
+use std::sync::{Arc, Wait};
+use std::thread::Threads;
+use std::time::Clock;
+use sysmem_sanitise::{Constraints, Platform};
+use taking::{all_asked, apply_again, take_again};
+
+/// Plays the script of these bytes, and prints what the handles answer.
+pub(crate) fn play_script<R: Threads + Wait + Sync>(
+    host: &HostRuntime,
+    rt: &R,
+    bytes: &[u8],
+) -> Result<()> {
+    let Ok(value) = parse_script(host.alloc(), bytes) else {
+        bail!("the script is refused");
+    };
+    let Ok(script) = read_script(host.alloc(), &value) else {
+        bail!("the script is refused");
+    };
+    let mut played = Played::new(host.alloc(), script)?;
+    played.play(rt)?;
+    let report = played.report();
+    print!(host; "{report}")?;
+    Ok(())
+}
+
+/// Does the job of this name for the script of these bytes, so many times.
+pub(crate) fn repeat_job<R: Threads + Wait + Clock + Sync>(
+    host: &HostRuntime,
+    rt: &R,
+    bytes: &[u8],
+    job: &str,
+    times: u32,
+) -> Result<()> {
+    let Ok(value) = parse_script(host.alloc(), bytes) else {
+        bail!("the script is refused");
+    };
+    let Ok(script) = read_script(host.alloc(), &value) else {
+        bail!("the script is refused");
+    };
+    repeat(host, rt, script, job, times)
+}
+
+/// Does the job of this name so many times.
+fn repeat<R: Threads + Wait + Clock + Sync>(
+    host: &HostRuntime,
+    rt: &R,
+    script: Script<'_>,
+    job: &str,
+    times: u32,
+) -> Result<()> {
+    let alloc = host.alloc();
+    let Script { platform, calls } = script;
+    let asked = all_stated(alloc, &calls)?;
+    match job {
+        "handles" => return repeat_handles(rt, alloc, platform, &calls, &asked, false, times),
+        "audited" => return repeat_handles(rt, alloc, platform, &calls, &asked, true, times),
+        "book" => return repeat_book(alloc, &platform, &calls, &asked, times),
+        _ => {}
+    }
+    let asked = all_asked(alloc, asked)?;
+    match job {
+        "calls" => return take_again(rt, alloc, platform, &asked, times),
+        "applied" => return apply_again(alloc, &platform, &asked, times),
+        _ => {}
+    }
+    let nanos = crowd(rt, alloc, platform, &asked, job, times)?;
+    println!(host; "{nanos}")?;
+    Ok(())
+}
+
+/// How many nanoseconds the calls of 126 participants take, who ask for what the first asks for.
+fn crowd<R: Threads + Wait + Clock + Sync>(
+    rt: &R,
+    alloc: Global,
+    platform: Platform,
+    asked: &[Arc<Constraints>],
+    job: &str,
+    times: u32,
+) -> Result<u64> {
+    let Some(asked) = asked.first() else {
+        bail!("nobody asks for anything");
+    };
+    let (threads, collections, refused) = match job {
+        "alone" => (1, times, 0),
+        "crowd" => (16, times, 0),
+        "refused_alone" => (1, 1, times),
+        "refused_crowd" => (16, 1, times),
+        _ => bail!("{job:?} is no job"),
+    };
+    let crowd = Crowd {
+        asked,
+        threads,
+        refused,
+    };
+    crowd_on(rt, alloc, platform, &crowd, collections)
+}

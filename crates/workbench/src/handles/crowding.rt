@@ -1,0 +1,199 @@
+//! A measure of the bench: many participants of one collection, on so many threads.
+
+ghost use Rattle.std.specs.Prelude.{◌≡◌};
+ghost use Rattle.sysmem_room.specs.Counting.{all_parts};
+
+use super::tokens::release;
+use anyhow::{Result, bail};
+use std::alloc::Global;
+use std::marker::Brand;
+use std::sync::atomic::{AtomicUsize, Ordering};
+use std::sync::ledger::{Blank, Ledger};
+use std::sync::{Arc, Mutex, Wait};
+use std::thread;
+use std::thread::Threads;
+use std::time::{Clock, Duration, Instant};
+use sysmem_participants::{Allocator, Token};
+use sysmem_sanitise::{Constraints, Platform};
+use sysmem_search::NoGate;
+
+/// Where a thread takes a token.
+type Slot<L> = Mutex<Option<Token<L, NoGate>>>;
+
+/// Each of them duplicates its token, so that there are 126 participants.
+const PAIRS: usize = 63;
+/// How often a thread lets others go first at most, before it begins without them.
+const TURNS: u32 = 1_000_000;
+
+/// Who takes part in a collection, and how.
+#[derive(Drop)]
+pub(crate) struct Crowd<'a> {
+    pub(crate) asked: &'a Arc<Constraints>,
+    pub(crate) threads: usize,
+    /// How often each says again, once it is set, that it asks for nothing, which is refused.
+    pub(crate) refused: u32,
+}
+
+/// So many collections of 126 participants, one after the other, whose calls are shared out among
+/// threads; how many nanoseconds these take. Each duplicates, binds, states what it asks for, asks
+/// what was decided, and is released.
+pub(crate) fn crowd_on<R: Threads + Wait + Clock + Sync>(
+    rt: &R,
+    alloc: Global,
+    platform: Platform,
+    crowd: &Crowd<'_>,
+    collections: u32,
+) -> Result<u64> {
+    let allocator = Allocator::new(alloc, platform, NoGate)?;
+    let mut all: u64 = 0;
+    for _ in 0..collections {
+        let one = gather::<Brand, R>(rt, alloc, &allocator, Blank::new(129), crowd)?;
+        all = all.saturating_add(one);
+    }
+    Ok(all)
+}
+
+fn gather<L: Ledger + Send + Sync, R: Threads + Wait + Clock + Sync>(
+    rt: &R,
+    alloc: Global,
+    allocator: &Allocator<NoGate>,
+    blank: Blank,
+    crowd: &Crowd<'_>,
+) -> Result<u64>
+    requires name { blank.name ≡ L.name }
+    requires ledger { blank.parts ≡ L.parts }
+    requires parts { blank.parts ≡ all_parts }
+{
+    let Ok(mut root) = allocator.allocate_shared::<L>(blank) else {
+        bail!("memory is refused to a collection");
+    };
+    let slots = lay_out(rt, alloc, &mut root);
+    let (there, next) = (AtomicUsize::new(0), AtomicUsize::new(0));
+    let spent = thread::map_indices(
+        rt,
+        alloc,
+        crowd.threads,
+        &|_| { take_parts(rt, &slots, crowd, &there, &next) },
+    );
+    close_all(rt, slots);
+    let _stub = root.close(rt);
+    longest(&spent?)
+}
+
+/// Duplicates of a token, each in a slot; fewer where one is refused.
+fn lay_out<L: Ledger, R: Threads + Wait + Sync>(
+    rt: &R,
+    alloc: Global,
+    root: &mut Token<L, NoGate>,
+) -> Vec<Slot<L>> {
+    let mut slots = Vec::new(alloc);
+    for _ in 0..PAIRS {
+        if let Ok(token) = root.duplicate(rt) {
+            keep(rt, &mut slots, Mutex::new(Some(token)));
+        }
+    }
+    slots
+}
+
+fn keep<L: Ledger, R: Threads + Wait + Sync>(rt: &R, slots: &mut Vec<Slot<L>>, slot: Slot<L>) {
+    if let Err(refused) = slots.push(slot) {
+        empty(rt, refused.value);
+    }
+}
+
+/// Closes the token that nobody took, if there is one.
+fn empty<L: Ledger, R: Threads + Wait + Sync>(rt: &R, slot: Slot<L>) {
+    if let Some(token) = slot.into_inner() {
+        let _stub = token.close(rt);
+    }
+}
+
+fn close_all<L: Ledger, R: Threads + Wait + Sync>(rt: &R, slots: Vec<Slot<L>>) {
+    let mut slots = slots;
+    while let Some(slot) = slots.pop() {
+        empty(rt, slot);
+    }
+    slots.destroy_empty();
+}
+
+/// The longest of these times.
+fn longest(spent: &[Option<u64>]) -> Result<u64> {
+    let mut most = 0;
+    for one in spent {
+        let Some(nanos) = *one else {
+            bail!("the clock can't be read");
+        };
+        most = most.max(nanos);
+    }
+    Ok(most)
+}
+
+/// Once all threads are there, takes the tokens of the slots that no thread took, one after the
+/// other: how many nanoseconds it is until the last of these is spent, if there is a clock.
+fn take_parts<L: Ledger, R: Threads + Wait + Clock + Sync>(
+    rt: &R,
+    slots: &Vec<Slot<L>>,
+    crowd: &Crowd<'_>,
+    there: &AtomicUsize,
+    next: &AtomicUsize,
+) -> Option<u64> {
+    meet(there, crowd.threads);
+    let start = Instant::now(rt).ok()?;
+    let mut spent = Duration::ZERO;
+    for _ in 0..PAIRS {
+        let Some(slot) = slots.get(next.fetch_add(1, Ordering::SeqCst)) else {
+            break;
+        };
+        let taken = slot.lock(rt).take();
+        if let Some(token) = taken {
+            take_two(rt, token, crowd);
+        }
+        spent = start.elapsed(rt).ok()?;
+    }
+    u64::try_from(spent.as_nanos()).ok()
+}
+
+/// Waits until so many are there.
+fn meet(there: &AtomicUsize, wanted: usize) {
+    there.fetch_add(1, Ordering::SeqCst);
+    for _ in 0..TURNS {
+        if there.load(Ordering::SeqCst) >= wanted {
+            break;
+        }
+        thread::yield_now();
+    }
+}
+
+/// The parts of a token and of its duplicate.
+fn take_two<L: Ledger, R: Threads + Wait + Sync>(
+    rt: &R,
+    token: Token<L, NoGate>,
+    crowd: &Crowd<'_>,
+) {
+    let mut token = token;
+    let second = token.duplicate(rt);
+    take_part(rt, token, crowd);
+    if let Ok(other) = second {
+        take_part(rt, other, crowd);
+    }
+}
+
+fn take_part<L: Ledger, R: Threads + Wait + Sync>(
+    rt: &R,
+    token: Token<L, NoGate>,
+    crowd: &Crowd<'_>,
+) {
+    match token.bind(rt) {
+        Ok(mut collection) => {
+            let _set = collection.set_constraints(rt, Arc::try_clone(crowd.asked).ok());
+            let _told = collection.check().err();
+            for _ in 0..crowd.refused {
+                let _refused = collection.set_constraints(rt, None);
+            }
+            if let Err((collection, _refusal)) = collection.release(rt) {
+                let _stub = collection.close(rt);
+            }
+        }
+        Err((token, _refusal)) => release(rt, token),
+    }
+}

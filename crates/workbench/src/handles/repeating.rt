@@ -1,0 +1,153 @@
+//! Measures of the bench: what is done again and again.
+
+ghost use Rattle.std.specs.Prelude.{◌≡◌};
+ghost use Rattle.sysmem_room.specs.Counting.{all_parts};
+
+use super::ending::end;
+use super::hand::Hand;
+use super::playing::{keep, make};
+use super::script::Asked;
+use anyhow::{Result, bail};
+use script_reading::{Act, Call};
+use std::alloc::Global;
+use std::marker::Brand;
+use std::sync::ledger::{Blank, Ledger};
+use std::sync::{Arc, Wait};
+use std::thread::Threads;
+use sysmem_alloc::Book;
+use sysmem_participants::{Allocator, audit};
+use sysmem_sanitise::Platform;
+use sysmem_search::NoGate;
+use sysmem_tree::{Action, Event, NodeId};
+
+/// Plays the calls through the handles of so many collections, one after the other, closes them,
+/// and audits each if that is asked for.
+pub(crate) fn repeat_handles<R: Threads + Wait + Sync>(
+    rt: &R,
+    alloc: Global,
+    platform: Platform,
+    calls: &[Call<'_>],
+    asked: &[Asked],
+    is_audited: bool,
+    times: u32,
+) -> Result<()> {
+    let allocator = Allocator::new(alloc, platform, NoGate)?;
+    for _ in 0..times {
+        play_once::<Brand, R>(
+            rt,
+            alloc,
+            &allocator,
+            Blank::new(129),
+            calls,
+            asked,
+            is_audited,
+        )?;
+    }
+    Ok(())
+}
+
+/// Plays the calls through the handles of one collection, closes them, and audits it if that is
+/// asked for.
+fn play_once<L: Ledger, R: Threads + Wait + Sync>(
+    rt: &R,
+    alloc: Global,
+    allocator: &Allocator<NoGate>,
+    blank: Blank,
+    calls: &[Call<'_>],
+    asked: &[Asked],
+    is_audited: bool,
+) -> Result<()>
+    requires name { blank.name ≡ L.name }
+    requires ledger { blank.parts ≡ L.parts }
+    requires parts { blank.parts ≡ all_parts }
+{
+    let stubs = Vec::with_capacity(alloc, 129)?;
+    let Ok(root) = allocator.allocate_shared::<L>(blank) else {
+        bail!("memory is refused to a collection");
+    };
+    let mut hands = Vec::new(alloc);
+    let _room = hands.reserve(129);
+    keep(rt, &mut hands, Hand::Token(root));
+    for (call, asked) in calls.iter().zip(asked) {
+        let _reply = make(rt, &mut hands, call, asked);
+    }
+    let left = end(rt, hands, stubs);
+    if !is_audited {
+        return Ok(());
+    }
+    match audit(rt, left) {
+        Ok(_found) => Ok(()),
+        Err((fault, _seen)) => bail!("the audit says {}", fault.name()),
+    }
+}
+
+/// Plays the calls on so many books, one after the other, and closes the root of each.
+pub(crate) fn repeat_book(
+    alloc: Global,
+    platform: &Platform,
+    calls: &[Call<'_>],
+    asked: &[Asked],
+    times: u32,
+) -> Result<()> {
+    for _ in 0..times {
+        apply_once(alloc, platform.copy()?, calls, asked)?;
+    }
+    Ok(())
+}
+
+fn apply_once(
+    alloc: Global,
+    platform: Platform,
+    calls: &[Call<'_>],
+    asked: &[Asked],
+) -> Result<()> {
+    let mut book = Book::new(alloc, platform)?;
+    let root = book.tree().root();
+    let mut names = vec![in alloc; Some(root)]?;
+    for (call, asked) in calls.iter().zip(asked) {
+        let made = apply(&mut book, &names, call, asked)?;
+        if call.act.name_made().is_some() {
+            names.push(made)?;
+        }
+    }
+    let _closed = book.apply(Event {
+        node: root,
+        action: Action::Close,
+    });
+    Ok(())
+}
+
+/// The node that a call makes or is made on; `None` where it is refused.
+fn apply(
+    book: &mut Book,
+    names: &[Option<NodeId>],
+    call: &Call<'_>,
+    asked: &Asked,
+) -> Result<Option<NodeId>> {
+    let Some(Some(node)) = names.get(call.place).copied() else {
+        return Ok(None);
+    };
+    let action = match call.act {
+        Act::Duplicate(_) => Action::Duplicate,
+        Act::Bind => Action::Bind,
+        Act::SetConstraints(_) => setting(asked)?,
+        Act::CreateGroup(_) => Action::CreateGroup,
+        Act::CreateChild(_) => Action::CreateChild,
+        Act::AllChildrenPresent => Action::AllChildrenPresent,
+        Act::AttachToken(_) => Action::AttachToken,
+        Act::Release => Action::Release,
+        Act::Close => Action::Close,
+        Act::Check | Act::Wait => return Ok(None),
+    };
+    match book.apply(Event { node, action }) {
+        Ok(done) => Ok(Some(done.node)),
+        Err(_refusal) => Ok(None),
+    }
+}
+
+fn setting(asked: &Asked) -> Result<Action> {
+    match asked {
+        Ok(Some(shared)) => Ok(Action::SetConstraints(Some(Arc::try_clone(shared)?))),
+        _ => Ok(Action::SetConstraints(None)),
+    }
+}
