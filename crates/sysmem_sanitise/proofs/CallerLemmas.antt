@@ -1,13 +1,13 @@
 -- What callers need of the definitions of records: what names name, that what `==` calls equal is
 -- equal, and that a platform's record states a platform.
 pub use Rattle.sysmem_sanitise.proofs.Names.{named_by, format_found, modifier_found, colour_found, domain_found, own_format_name, own_modifier_name, own_colour_name, own_domain_name}
-pub use Rattle.sysmem_sanitise.proofs.Same.{same_pair, same_colour, same_bounds}
+pub use Rattle.negotiation_inputs.proofs.CallerLemmas.{same_pair, same_colour, same_bounds}
 use Rattle.std.proofs.Common.{◌≡◌, ◌≤◌, ◌-◌, ◌^◌, Ok}
 use Rattle.std.specs.Prelude.{All}
 use Rattle.serde_json.specs.Data.{Data}
 use Rattle.sysmem_image.specs.declared.entry.EntryBounds.{EntryBounds}
 use Rattle.sysmem_sanitise.specs.Reading.Bounds.{stated_by, bounds_by}
-use Rattle.sysmem_sanitise.specs.Platform.{PlatformFacts, IsPlatform}
+use Rattle.negotiation_inputs.specs.Platform.{PlatformFacts, IsPlatform}
 use Rattle.sysmem_sanitise.specs.Reading.{platform_of}
 use Rattle.sysmem_sanitise.proofs.Bounds as bounds
 use Rattle.sysmem_sanitise.proofs.Platforms.{platform_of-is}

@@ -16,7 +16,7 @@ use Rattle.sysmem_image.specs.Size.{square}
 use Rattle.sysmem_sanitise.specs.declared.fault.Code.TheVariants as code
 use Rattle.sysmem_sanitise.specs.declared.fault.FaultPlace.TheVariants.{Whole}
 use Rattle.sysmem_sanitise.specs.Faults.{wrong}
-use Rattle.sysmem_sanitise.specs.Participant.{Participant}
+use Rattle.negotiation_inputs.specs.Participant.{Participant}
 use Rattle.sysmem_sanitise.specs.Reading.{participant_of, participant_with, platform_of, platform_with}
 use Rattle.sysmem_sanitise.specs.Reading.Bounds.{stated_by}
 use Rattle.sysmem_sanitise.specs.Reading.Entries.{pair_asked}

@@ -10,7 +10,7 @@ use Rattle.sysmem_memory.specs.Heap.{HeapName, HeapFacts}
 use Rattle.sysmem_sanitise.specs.declared.fault.Code.TheVariants as code
 use Rattle.sysmem_sanitise.specs.declared.fault.FaultPlace.TheVariants.{At}
 use Rattle.sysmem_sanitise.specs.Faults.{wrong}
-use Rattle.sysmem_sanitise.specs.Platform.{IsHeap}
+use Rattle.negotiation_inputs.specs.Platform.{IsHeap}
 use Rattle.sysmem_sanitise.specs.Reading.Fields.{passing, read_each, object_of, stated, required, number_up_to, number_or, flag_or, text_of, list_of}
 use Rattle.sysmem_sanitise.specs.Reading.Heaps.{IsHeapName, is_heap_type, heap_type_of, heap_name_of, no_domains, with_named, has_domains, domains_of, heap_info_fields, heap_of}
 use Rattle.sysmem_sanitise.proofs.Steps.{bind-ok, bind-then, ok-same, passing-ok, optional-keeps}

@@ -1,5 +1,5 @@
 -- What a participant's record states is what a participant may ask.
-use Rattle.std.proofs.Common.{nat_le, ◌≡◌, ◌≢◌, ℕ, zero, suc, ◌^◌, ◌-◌, ◌<◌, ◌≤◌, ◌+◌, ◌==◌, Bool, true, false, not, ◌||◌, ◌&&◌, List, [], ◌∷◌, ◌++◌, length, get_or, Option, Some, None, Ok, refl, sym, ap, ◌∙◌, subst, arith, rules, tests, length-append, append_assoc, append-nil}
+use Rattle.std.proofs.Common.{nat_le, ◌≡◌, ◌≢◌, ℕ, zero, suc, ◌^◌, ◌-◌, ◌<◌, ◌≤◌, ◌+◌, Bool, true, false, not, ◌||◌, ◌&&◌, List, [], ◌∷◌, ◌++◌, length, get_or, Option, Some, None, Ok, refl, sym, ap, ◌∙◌, subst, arith, rules, tests, length-append, append_assoc, append-nil}
 use Rattle.std.specs.Prelude.{All, AllPairs, map, max, nat_lt, cond}
 use Rattle.std.specs.List.{list_any}
 use Rattle.std.specs.Int.RustNames.{bit_and}
@@ -31,9 +31,9 @@ use Rattle.sysmem_image.specs.declared.size.Size.{Size}
 use Rattle.sysmem_image.specs.Colours.{no_colours, with_colour}
 use Rattle.sysmem_memory.specs.Heap.{HeapName, same_heap}
 use Rattle.sysmem_memory.specs.Wishes.{MemoryWishes, no_wishes}
-use Rattle.sysmem_sanitise.specs.declared.reading.asked.AskedPair.{AskedPair}
+use Rattle.negotiation_inputs.specs.declared.asked.AskedPair.{AskedPair}
 use Rattle.sysmem_sanitise.specs.declared.fault.FaultPlace.TheVariants.{At}
-use Rattle.sysmem_sanitise.specs.Participant.{IsUsage, HasSidesUpTo, IsEntry, AreApart}
+use Rattle.negotiation_inputs.specs.Participant.{IsUsage, HasSidesUpTo, IsEntry, AreApart}
 use Rattle.sysmem_image.specs.Fields.{Bound, all_bounds, field_of, absent, range_of, value_among, MinSize, SizeAlignment, StartOffsetDivisor, DisplayRectAlignment, RequiredMinSize, MaxWidthTimesHeight}
 use Rattle.sysmem_image.specs.Size.{most_multiple, square, some_sides}
 use Rattle.sysmem_sanitise.specs.Reading.Bounds.{is_multiple, multiple, multiple_size, any_size, some_size, size_to, size_or, bound_or, large_number, number_in, number_stated, stated_in, stated_each, stated_bounds, bounds_by, bounds_of}
@@ -41,9 +41,10 @@ use Rattle.sysmem_sanitise.specs.Reading.Constraints.{no_usage, with_family, is_
 use Rattle.sysmem_sanitise.specs.Reading.Entries.{same_format, same_modifier, same_asked, asks_misfit, asked_of, pair_asked, has_further, modifier_beside, is_asked_already, has_asked, with_asked, no_pair, own_pair, with_further, further_of, asked_pairs, with_colour_or_any, with_listed, colour_set_of, entry_object, entry_with, with_entry, entries_of}
 use Rattle.sysmem_sanitise.specs.Reading.Fields.{◌>>=◌, passing, list_of, named, number_up_to, number_or, flag_or, optional, stated, text_of, object_of, has_items, read_each}
 use Rattle.sysmem_sanitise.specs.Reading.Heaps.{IsHeapName, permitted_heap, has_permitted, with_permitted, permitted_of}
+use Rattle.negotiation_inputs.proofs.CallerLemmas.{none_passes, usage-by}
 use Rattle.sysmem_sanitise.proofs.Heaps.{heap_name_of-is}
 use Rattle.sysmem_sanitise.proofs.Platforms.{fitting}
-use Rattle.sysmem_sanitise.proofs.Steps.{bind-ok, bind-then, ok-same, passing-ok, not-true, and-true, none_passes, each-keeps, optional-keeps, below}
+use Rattle.sysmem_sanitise.proofs.Steps.{bind-ok, bind-then, ok-same, passing-ok, not-true, and-true, each-keeps, optional-keeps, below}
 
 -- a family's bit is one of five
 family-few : (name : List ℕ) (bits : ℕ) → family_named name ≡ Some bits → bits < 2 ^ 5
@@ -55,9 +56,6 @@ with_family-keeps before after d few gives =
     let (family, read, made) = bind-ok (named family_named _ d) _ after gives in
     let (name, text, found) = bind-ok (text_of _ d) _ family read in
     subst (λ u. usage_bits u < 2 ^ 5) (ok-same _ after made) (or_lt 5 (usage_bits before) family few (family-few name family (search (rules, tests))))
-
-pub usage-by : (n m : ℕ) → (n == 1 || (not (n == 0) && not (m == 1))) ≡ true → (n ≢ 0) × (m ≡ 1 → n ≡ 1)
-usage-by n m h = search (rules, tests)
 
 pub usage_of-is : (d : Data) (u : Usage) → usage_of d ≡ Ok u → IsUsage u
 usage_of-is d u gives =

@@ -1,11 +1,10 @@
 -- What a platform's record states is what a platform may have.
-use Rattle.std.proofs.Common.{◌≡◌, ◌≢◌, ◌≤◌, ◌==◌, ◌-◌, ◌^◌, true, false, not, List, [], ◌∷◌, ◌++◌, length, None, Ok, refl, subst, arith, rules, tests, length-append, Decides, ◌∙◌}
+use Rattle.std.proofs.Common.{◌≡◌, ◌≢◌, ◌≤◌, ◌==◌, ◌-◌, ◌^◌, true, false, not, List, [], ◌∷◌, ◌++◌, length, None, Ok, subst, arith, length-append, ◌∙◌}
 use Rattle.std.specs.Prelude.{All, AllPairs, nat_lt}
 use Rattle.std.proofs.lemmas.List.Elements.{All-push}
 use Rattle.std.proofs.lemmas.List.Quantifiers.{all_pairs_push}
 use Rattle.serde_json.specs.Data.{Data}
 use Rattle.sysmem_formats.specs.declared.colour_space.ColourSpace.{ColourSpace}
-use Rattle.sysmem_formats.specs.declared.colour_space.ColourSpace.TheVariants.{Srgb, Rec601Ntsc, Rec601NtscFullRange, Rec601Pal, Rec601PalFullRange, Rec709, Rec2020, Rec2100}
 use Rattle.sysmem_formats.specs.declared.offer.Pair.{Pair}
 use Rattle.sysmem_formats.specs.Layout.{IsTiledMisfit}
 use Rattle.sysmem_memory.specs.Heap.{HeapFacts, same_heap}
@@ -17,9 +16,10 @@ use Rattle.sysmem_sanitise.specs.Reading.Heaps.{heap_of, has_heap, with_heap, he
 use Rattle.sysmem_sanitise.specs.Reading.Names.{colour_named}
 use Rattle.sysmem_sanitise.specs.Reading.Pairs.{same_pair, has_pair, same_colour, lists_colour, is_tiled_misfit}
 use Rattle.sysmem_sanitise.specs.Reading.Platform.{pair_of, with_pair, pairs_of, with_new_colour, colours_of, platform_fields, platform_of}
-use Rattle.sysmem_sanitise.specs.Platform.{PlatformFacts, IsHeap, IsPlatform}
+use Rattle.negotiation_inputs.specs.Platform.{PlatformFacts, IsHeap, IsPlatform}
+use Rattle.negotiation_inputs.proofs.CallerLemmas.{colour-told, misfit-told, none_passes, pair-told}
 use Rattle.sysmem_sanitise.proofs.Heaps.{heap_of-is, heap_of-id}
-use Rattle.sysmem_sanitise.proofs.Steps.{bind-ok, bind-then, ok-same, passing-ok, not-true, none_passes, each-keeps, some, below}
+use Rattle.sysmem_sanitise.proofs.Steps.{bind-ok, bind-then, ok-same, passing-ok, not-true, each-keeps, some, below}
 
 -- its id is of 64 bits
 abbrev HasId : HeapFacts → Type 0
@@ -75,32 +75,14 @@ heaps_of-are d ts gives =
     let kept = subst Heaps passed.same (each-keeps (with_heap None) Heaps with_heap-keeps items [] hs no_heaps each) in
     record { some = some ts passed.holds; few = kept.few; distinct = kept.distinct; each = kept.each; ids = kept.ids }
 
--- a pair is the same as itself
-same_pair-itself : (a : Pair) → same_pair a a ≡ true
-same_pair-itself a = search (rules, tests)
-
 distinct_pair : (a b : Pair) → same_pair a b ≡ false → a ≢ b
-distinct_pair a b h e = let t : same_pair a b ≡ true = subst (λ (x : Pair). same_pair a x ≡ true) e (same_pair-itself a) in absurd (cc)
-
-same_colour-itself : (a : ColourSpace) → same_colour a a ≡ true
-same_colour-itself Srgb = refl
-same_colour-itself Rec601Ntsc = refl
-same_colour-itself Rec601NtscFullRange = refl
-same_colour-itself Rec601Pal = refl
-same_colour-itself Rec601PalFullRange = refl
-same_colour-itself Rec709 = refl
-same_colour-itself Rec2020 = refl
-same_colour-itself Rec2100 = refl
+distinct_pair a b h e = let t : same_pair a b ≡ true = (pair-told a b).1 e in absurd (cc)
 
 distinct_colour : (a b : ColourSpace) → same_colour a b ≡ false → a ≢ b
-distinct_colour a b h e = let t : same_colour a b ≡ true = subst (λ (x : ColourSpace). same_colour a x ≡ true) e (same_colour-itself a) in absurd (cc)
-
--- the test tells what is a tiled misfit
-is_tiled_misfit-decides : (p : Pair) → Decides (is_tiled_misfit p) (IsTiledMisfit p)
-is_tiled_misfit-decides p = search (rules, tests)
+distinct_colour a b h e = let t : same_colour a b ≡ true = (colour-told a b).1 e in absurd (cc)
 
 pub fitting : (p : Pair) → is_tiled_misfit p ≡ false → IsTiledMisfit p → ⊥
-fitting p h misfit = let holds = (is_tiled_misfit-decides p).1 misfit in absurd (cc)
+fitting p h misfit = let holds = (misfit-told p).1 misfit in absurd (cc)
 
 -- the pairs so far
 record Pairs (ps : List Pair) : Type 0 where

@@ -24,8 +24,8 @@ use Rattle.sysmem_sanitise.specs.declared.fault.FaultPlace.{FaultPlace}
 use Rattle.sysmem_sanitise.specs.declared.fault.FaultPlace.TheVariants.{Whole, At}
 use Rattle.sysmem_sanitise.specs.Faults.{wrong, lack_at, lack_of}
 use Rattle.sysmem_sanitise.specs.Reading.Fields.{◌>>=◌, passing, kept, same_field, object_of, stated, required, optional, read_or, number_or, flag_or, text_of, named, list_of, read_each, Reads, IsOr, IsSteadyReader}
-use Rattle.sysmem_sanitise.specs.declared.reading.asked.AskedPair.{AskedPair}
-use Rattle.sysmem_sanitise.specs.Platform.{PlatformFacts}
+use Rattle.negotiation_inputs.specs.declared.asked.AskedPair.{AskedPair}
+use Rattle.negotiation_inputs.specs.Platform.{PlatformFacts}
 use Rattle.sysmem_sanitise.specs.Reading.Bounds.{bounds_of}
 use Rattle.sysmem_sanitise.specs.Reading.Constraints.{usage_of, counts_of, memory_fields, memory_of, constraints_fields, participant_with}
 use Rattle.sysmem_sanitise.specs.Reading.Entries.{asks_misfit, asked_of, is_asked_already, has_asked, with_asked, no_pair, own_pair, with_further, further_of, asked_pairs, colour_set_of, entry_object, entry_with, with_entry, entries_of}

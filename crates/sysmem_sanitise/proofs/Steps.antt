@@ -1,7 +1,6 @@
 -- What the steps of a reader give where all of them give something.
-use Rattle.std.proofs.Common.{◌≡◌, ℕ, zero, suc, ◌<◌, ◌≤◌, ◌==◌, Bool, true, false, not, ◌||◌, ◌&&◌, List, [], ◌∷◌, length, get_or, Option, Some, None, Result, Ok, Err, refl, subst, arith, rules, tests}
+use Rattle.std.proofs.Common.{◌≡◌, ℕ, ◌<◌, ◌≤◌, ◌==◌, Bool, true, false, not, ◌&&◌, List, [], ◌∷◌, length, Option, Some, None, Result, Ok, Err, refl, subst, arith, rules, tests}
 use Rattle.std.specs.Prelude.{nat_lt}
-use Rattle.std.specs.List.{list_any}
 use Rattle.serde_json.specs.Data.{Data, Items, no_items, item}
 use Rattle.sysmem_counts.specs.declared.field.Field.{Field}
 use Rattle.sysmem_sanitise.specs.declared.fault.Fault.{Fault}
@@ -36,16 +35,6 @@ passing-ok fault test a b gives =
 pub not-true : (b : Bool) → not b ≡ true → b ≡ false
 not-true true h = absurd (cc)
 not-true false h = refl
-
-or-false : (a b : Bool) → (a || b) ≡ false → (a ≡ false) × (b ≡ false)
-or-false true b h = absurd (cc)
-or-false false b h = (refl, h)
-
--- an element of a list of which none passes
-pub none_passes : {X : Type 0} (p : X → Bool) (xs : List X) (k : ℕ) (d : X) → list_any p xs ≡ false → k < length xs → p (get_or xs k d) ≡ false
-none_passes p [] k d none within = absurd (omega arith)
-none_passes p (x ∷ xs) zero d none within = (or-false (p x) (list_any p xs) none).0
-none_passes p (x ∷ xs) (suc k) d none within = none_passes p xs k d (or-false (p x) (list_any p xs) none).1 (omega arith)
 
 -- what each item keeps, all items keep
 pub each-keeps : {S : Type 0} (read : S → Data → Result S Fault) (Kept : S → Type 0)

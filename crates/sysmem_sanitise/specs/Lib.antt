@@ -1,8 +1,8 @@
-pub mod Amiss
-pub mod Equal
-pub mod EqualLaws
 pub mod Faults
-pub mod Laws
-pub mod Participant
-pub mod Platform
 pub mod Reading
+pub use Rattle.negotiation_inputs.specs.Amiss
+pub use Rattle.negotiation_inputs.specs.Equal
+pub use Rattle.negotiation_inputs.specs.EqualLaws
+pub use Rattle.negotiation_inputs.specs.Laws
+pub use Rattle.negotiation_inputs.specs.Participant
+pub use Rattle.negotiation_inputs.specs.Platform

@@ -1,4 +1,4 @@
-//! What participants and platforms state in their records: exactly the profile's, or the first
+//! What the records of participants and platforms state: exactly the profile's, or the first
 //! fault.
 //!
 //! ```
@@ -7,17 +7,9 @@
 //! ```
 #![tactic(auto)]
 
-mod amiss;
-mod constraints;
-mod copying;
-mod distinct;
-mod equal;
 mod fault;
-pub mod laws;
-mod platform;
 mod reading;
 
-pub use constraints::Constraints;
 pub use fault::{Code, Fault, FaultPlace};
-pub use platform::Platform;
+pub use negotiation_inputs::{Constraints, Platform, laws};
 pub use reading::{read_constraints, read_platform};

@@ -1,7 +1,6 @@
 -- What a participant's record says.
-use Rattle.std.specs.Prelude.{◌-◌, ◌^◌, ◌&&◌, ◌||◌, ◌==◌, List, [], ◌∷◌, Bool, true, false, not}
-use Rattle.std.specs.Prelude.{Option, None, Result, Ok}
-use Rattle.std.specs.Int.RustNames.{bit_and, bit_or}
+use Rattle.std.specs.Prelude.{◌-◌, ◌^◌, List, [], ◌∷◌, true, false, Option, None, Result, Ok}
+use Rattle.std.specs.Int.RustNames.{bit_or}
 use Rattle.serde_json.specs.Data.{Data}
 use Rattle.sysmem_counts.specs.declared.constraints.CountConstraints.{CountConstraints}
 use Rattle.sysmem_counts.specs.declared.field.Field.{Field}
@@ -14,7 +13,8 @@ use Rattle.sysmem_sanitise.specs.declared.fault.Code.TheVariants as code
 use Rattle.sysmem_sanitise.specs.declared.fault.Fault.{Fault}
 use Rattle.sysmem_sanitise.specs.declared.fault.FaultPlace.TheVariants.{Whole, At}
 use Rattle.sysmem_sanitise.specs.Faults.{wrong}
-use Rattle.sysmem_sanitise.specs.Participant.{Participant}
+use Rattle.negotiation_inputs.specs.Participant.{Participant}
+pub use Rattle.negotiation_inputs.specs.Usage.{is_usage}
 use Rattle.sysmem_counts.specs.Bounds.{most_number}
 use Rattle.sysmem_sanitise.specs.Reading.Entries.{entries_of}
 use Rattle.sysmem_sanitise.specs.Reading.Fields.{◌>>=◌, passing, read_each, object_of, optional}
@@ -30,12 +30,6 @@ abbrev pub with_family : Usage → Data → Result Usage Fault
 with_family usage d = do
   family ← named family_named field.Usage d
   Ok (record { 0 = bit_or (usage_bits usage) family })
-
--- some families, and none alone or absent
-abbrev pub is_usage : Usage → Bool
-is_usage usage =
-    usage_bits usage == 1
-    || (not (usage_bits usage == 0) && not (bit_and (usage_bits usage) 1 == 1))
 
 -- a list of families
 abbrev pub usage_of : Data → Result Usage Fault

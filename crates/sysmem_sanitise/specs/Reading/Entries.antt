@@ -1,9 +1,8 @@
 -- The image entries of a participant's record. One with further pairs stands for several.
-use Rattle.std.specs.Prelude.{◌+◌, ◌&&◌, ◌||◌, ◌==◌, ◌++◌, List, [], ◌∷◌, length, map, Bool, false}
+use Rattle.std.specs.Prelude.{◌+◌, ◌||◌, ◌++◌, List, [], ◌∷◌, length, map, Bool, false}
 use Rattle.std.specs.Prelude.{not, Option, Some, None, Result, Ok, nat_lt, option_map}
 use Rattle.std.specs.Prelude.{option_and_then, is_some, if◌then◌else◌}
 use Rattle.std.specs.List.{list_any}
-use Rattle.std.specs.Option.{option_eq}
 use Rattle.serde_json.specs.Data.{Data, Items}
 use Rattle.serde_json.specs.Find.{get, as_array}
 use Rattle.sysmem_counts.specs.declared.field.Field.{Field}
@@ -13,13 +12,14 @@ use Rattle.sysmem_formats.specs.declared.colour_space.ColourSpace.{ColourSpace}
 use Rattle.sysmem_formats.specs.declared.modifier.Modifier.{Modifier}
 use Rattle.sysmem_formats.specs.declared.modifier.Modifier.TheVariants.{Linear}
 use Rattle.sysmem_formats.specs.declared.pixel_format.PixelFormat.{PixelFormat}
-use Rattle.sysmem_formats.specs.Codes.{format_code, modifier_code}
 use Rattle.sysmem_image.specs.declared.colours.ColourSet.{ColourSet}
 use Rattle.sysmem_image.specs.declared.entry.Entry.{Entry}
 use Rattle.sysmem_image.specs.declared.entry.EntryBounds.{EntryBounds}
 use Rattle.sysmem_image.specs.Colours.{no_colours, with_any, with_colour}
 use Rattle.sysmem_image.specs.Fields.{all_bounds, field_of}
-use Rattle.sysmem_sanitise.specs.declared.reading.asked.AskedPair.{AskedPair}
+use Rattle.negotiation_inputs.specs.declared.asked.AskedPair.{AskedPair}
+pub use Rattle.negotiation_inputs.specs.Asked.{same_format, same_modifier, same_asked, asks_misfit}
+pub use Rattle.negotiation_inputs.specs.Asked.{pair_asked, is_asked_already}
 use Rattle.sysmem_sanitise.specs.declared.fault.Code.TheVariants as code
 use Rattle.sysmem_sanitise.specs.declared.fault.Fault.{Fault}
 use Rattle.sysmem_sanitise.specs.declared.fault.FaultPlace.TheVariants.{At}
@@ -30,24 +30,7 @@ use Rattle.sysmem_sanitise.specs.Reading.Fields.{object_of, optional, required, 
 use Rattle.sysmem_sanitise.specs.Reading.Fields.{list_of, has_items, named}
 use Rattle.sysmem_sanitise.specs.Reading.Names.{format_named, modifier_named}
 use Rattle.sysmem_sanitise.specs.Reading.Names.{colour_named, choice_named}
-use Rattle.sysmem_sanitise.specs.Reading.Pairs.{pair_fields, is_tiled_misfit}
-
--- DO_NOT_CARE is the same as itself alone
-abbrev pub same_format : Option PixelFormat → Option PixelFormat → Bool
-same_format a b = option_eq (λ x y. format_code x == format_code y) a b
-
--- the same of modifiers
-abbrev pub same_modifier : Option Modifier → Option Modifier → Bool
-same_modifier a b = option_eq (λ x y. modifier_code x == modifier_code y) a b
-
-abbrev pub same_asked : AskedPair → AskedPair → Bool
-same_asked a b = same_format a.format b.format && same_modifier a.modifier b.modifier
-
--- a tiled modifier with a named format that isn't of 4 bytes
-abbrev pub asks_misfit : Option PixelFormat → Option Modifier → Bool
-asks_misfit (Some format) (Some modifier) =
-    is_tiled_misfit (record { format = format; modifier = modifier })
-asks_misfit _ _ = false
+use Rattle.sysmem_sanitise.specs.Reading.Pairs.{pair_fields}
 
 -- the modifier beside a format: if it is missing, LINEAR, or DO_NOT_CARE if the format is
 abbrev pub modifier_beside : Option PixelFormat → Data → Result (Option Modifier) Fault
@@ -60,14 +43,6 @@ asked_of d = do
   format ← required field.PixelFormat (named (choice_named format_named) field.PixelFormat) d
   modifier ← modifier_beside format d
   Ok (record { format = format; modifier = modifier })
-
--- what an entry asks for
-abbrev pub pair_asked : Entry → AskedPair
-pair_asked entry = record { format = entry.format; modifier = entry.modifier }
-
--- an entry asks for the same
-abbrev pub is_asked_already : List Entry → AskedPair → Bool
-is_asked_already entries new = list_any (λ entry. same_asked (pair_asked entry) new) entries
 
 -- one of these pairs asks for the same
 abbrev pub has_asked : List AskedPair → AskedPair → Bool

@@ -1,7 +1,6 @@
 -- What a heap's name says, and what a platform's heap says.
-use Rattle.std.specs.Prelude.{◌≡◌, ℕ, ◌-◌, ◌^◌, ◌&&◌, ◌||◌, ◌++◌, ◌==◌, List, [], ◌∷◌, length, Bool}
-use Rattle.std.specs.Prelude.{true, false, not, Option, Result, Ok, nat_eq, nat_le, nat_lt}
-use Rattle.std.specs.List.{list_all, list_any}
+use Rattle.std.specs.Prelude.{ℕ, ◌-◌, ◌^◌, ◌++◌, ◌==◌, List, [], ◌∷◌, length}
+use Rattle.std.specs.Prelude.{true, false, not, Option, Result, Ok, nat_lt}
 use Rattle.serde_json.specs.Data.{Data}
 use Rattle.sysmem_counts.specs.declared.field.Field.{Field}
 use Rattle.sysmem_counts.specs.declared.field.Field.TheVariants as field
@@ -9,7 +8,9 @@ use Rattle.sysmem_memory.specs.declared.domain.CoherencyDomain.{CoherencyDomain}
 use Rattle.sysmem_memory.specs.declared.domain.CoherencyDomain.TheVariants.{Cpu, Ram, Inaccessible}
 use Rattle.sysmem_memory.specs.declared.domain.CoherencyDomains.{CoherencyDomains}
 use Rattle.sysmem_memory.specs.Domain.{has_domain}
-use Rattle.sysmem_memory.specs.Heap.{HeapName, HeapFacts, same_heap}
+use Rattle.sysmem_memory.specs.Heap.{HeapName, HeapFacts}
+pub use Rattle.negotiation_inputs.specs.Heaps.{is_heap_byte, is_heap_type, IsHeapName}
+pub use Rattle.negotiation_inputs.specs.Heaps.{has_domains, has_heap, has_permitted}
 use Rattle.sysmem_sanitise.specs.declared.fault.Code.TheVariants as code
 use Rattle.sysmem_sanitise.specs.declared.fault.Fault.{Fault}
 use Rattle.sysmem_sanitise.specs.declared.fault.FaultPlace.TheVariants.{At}
@@ -18,19 +19,6 @@ use Rattle.sysmem_sanitise.specs.Reading.Fields.{◌>>=◌, passing, kept, read_
 use Rattle.sysmem_sanitise.specs.Reading.Fields.{object_of, required, number_or, flag_or}
 use Rattle.sysmem_sanitise.specs.Reading.Fields.{text_of, list_of, named}
 use Rattle.sysmem_sanitise.specs.Reading.Names.{domain_named}
-
--- an ASCII letter or digit, `.`, `_` or `-`
-abbrev pub is_heap_byte : ℕ → Bool
-is_heap_byte b = (nat_le 97 b && nat_le b 122) || (nat_le 65 b && nat_le b 90)
-    || (nat_le 48 b && nat_le b 57) || nat_eq b 46 || nat_eq b 95 || nat_eq b 45
-
--- 1 to 128 of them
-abbrev pub is_heap_type : List ℕ → Bool
-is_heap_type text = nat_le 1 (length text) && nat_le (length text) 128 && list_all is_heap_byte text
-
--- a heap's name, whose type is 1 to 128 ASCII letters, digits, `.`, `_` or `-`
-abbrev pub IsHeapName : HeapName → Type 0
-IsHeapName heap = is_heap_type heap.heap_type ≡ true
 
 -- a heap's type, which takes memory
 abbrev pub heap_type_of : Option Field → Data → Result (List ℕ) Fault
@@ -64,10 +52,6 @@ with_named s d = do
       domain
   Ok (with_domain s new)
 
--- some domain is among them
-abbrev pub has_domains : CoherencyDomains → Bool
-has_domains s = s.cpu || s.ram || s.inaccessible
-
 -- a list of domains that isn't empty, with none twice
 abbrev pub domains_of : Data → Result CoherencyDomains Fault
 domains_of d = do
@@ -88,10 +72,6 @@ heap_of lack d = do
   secure ← flag_or field.Secure false d
   domains ← required field.Domains domains_of d
   Ok (record { heap = heap; contiguous = contiguous; secure = secure; domains = domains })
-
--- the heap is among these
-abbrev pub has_heap : List HeapFacts → HeapFacts → Bool
-has_heap heaps new = list_any (λ h. same_heap h.heap new.heap) heaps
 
 -- the heaps, and the one that an item states: the 65th is refused before a repeated one
 abbrev pub with_heap : Option Field → List HeapFacts → Data → Result (List HeapFacts) Fault
@@ -117,10 +97,6 @@ abbrev pub permitted_heap : Option Field → Data → Result HeapName Fault
 permitted_heap lack d = do
   _ ← object_of (At field.PermittedHeaps) name_fields d
   heap_name_of lack d
-
--- the heap is among these
-abbrev pub has_permitted : List HeapName → HeapName → Bool
-has_permitted heaps new = list_any (λ h. same_heap h new) heaps
 
 -- the permitted heaps, and the one that an item states: the 65th is refused before a repeated one
 abbrev pub with_permitted : Option Field → List HeapName → Data → Result (List HeapName) Fault

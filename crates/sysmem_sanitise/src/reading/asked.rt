@@ -3,24 +3,18 @@
 ghost use Rattle.std.specs.Prelude.{◌≡◌, [], None};
 ghost use Rattle.serde_json.specs.View.{view, items_view};
 ghost use Rattle.sysmem_counts.specs.declared.field.Field.TheVariants.{PixelFormatAndModifiers};
-ghost use Rattle.sysmem_sanitise.specs.Reading.Entries.{pair_asked, same_format, same_modifier, same_asked, asks_misfit, modifier_beside, asked_of, is_asked_already, has_asked, with_asked, has_further, no_pair, own_pair, with_further, further_of, asked_pairs};
+ghost use Rattle.sysmem_sanitise.specs.Reading.Entries.{modifier_beside, asked_of, has_asked, with_asked, has_further, no_pair, own_pair, with_further, further_of, asked_pairs};
 ghost use Rattle.sysmem_sanitise.specs.Reading.Fields.{Reads, read_each, seen_by};
 
 use super::field::{add, expect_object, list_of, stated};
 use super::name::choice_of;
 use crate::fault::{Code, Fault, FaultPlace};
+use negotiation_inputs::{AskedPair, asks_misfit, is_asked_already, is_same_asked};
 use serde_json::Value;
 use std::alloc::Global;
 use sysmem_counts::Field;
-use sysmem_formats::{Modifier, Pair, PixelFormat, is_tiled_misfit};
+use sysmem_formats::{Modifier, PixelFormat};
 use sysmem_image::Entry;
-
-/// A format and a modifier that an entry asks for, each `None` for `DO_NOT_CARE`.
-#[derive(Clone, Copy)]
-pub(crate) struct AskedPair {
-    pub(crate) format: Option<PixelFormat>,
-    pub(crate) modifier: Option<Modifier>,
-}
 
 fn modifier_beside(format: Option<PixelFormat>, object: &Value) -> Result<Option<Modifier>, Fault>
     ensures { result ≡ modifier_beside format (view object.now) }
@@ -43,55 +37,10 @@ fn asked_of(object: &Value) -> Result<AskedPair, Fault>
     Ok(AskedPair { format, modifier })
 }
 
-/// Whether a tiled modifier is asked for with a named format that isn't of 4 bytes.
-pub(crate) fn asks_misfit(asked: AskedPair) -> bool
-    ensures { result ≡ asks_misfit asked.format asked.modifier }
-{
-    match (asked.format, asked.modifier) {
-        (Some(format), Some(modifier)) => is_tiled_misfit(Pair { format, modifier }),
-        _ => false,
-    }
-}
-
-fn is_same_format(a: Option<PixelFormat>, b: Option<PixelFormat>) -> bool
-    ensures { result ≡ same_format a b }
-{
-    a == b
-}
-
-fn is_same_modifier(a: Option<Modifier>, b: Option<Modifier>) -> bool
-    ensures { result ≡ same_modifier a b }
-{
-    a == b
-}
-
-fn is_same(a: AskedPair, b: AskedPair) -> bool
-    ensures { result ≡ same_asked a b }
-{
-    is_same_format(a.format, b.format) && is_same_modifier(a.modifier, b.modifier)
-}
-
-/// The pair of format and modifier that an entry asks for.
-pub(crate) fn pair_asked(entry: &Entry) -> AskedPair
-    ensures { result ≡ pair_asked entry.now }
-{
-    AskedPair {
-        format: entry.format,
-        modifier: entry.modifier,
-    }
-}
-
-/// Whether one of the entries asks for the same.
-pub(crate) fn is_asked_already(entries: &[Entry], new: AskedPair) -> bool
-    ensures { result ≡ is_asked_already entries.now new }
-{
-    entries.iter().any(|entry| is_same(pair_asked(entry), new))
-}
-
 fn has_asked(pairs: &[AskedPair], new: AskedPair) -> bool
     ensures { result ≡ has_asked pairs.now new }
 {
-    pairs.iter().any(|pair| is_same(*pair, new))
+    pairs.iter().any(|pair| is_same_asked(*pair, new))
 }
 
 fn add_asked(

@@ -9,6 +9,7 @@ ghost use Rattle.sysmem_sanitise.specs.Reading.Fields.{seen_by};
 use super::field::{count_or, flag_or, number_up_to};
 use super::size::{any_size_or, multiple_size_or, some_size_or};
 use crate::fault::{Code, Fault};
+use negotiation_inputs::MOST_MULTIPLE;
 use serde_json::Value;
 use sysmem_counts::Field;
 use sysmem_image::{EntryBounds, ImageBounds, absent_bound, bounds_table};
@@ -29,9 +30,6 @@ macro_rules! read_bound {
     (size some $object:ident, $field:ident, $absent:ident) => { some_size_or($object, Field::$field, absent_bound!(number $absent))? };
     (size multiple $object:ident, $field:ident, $absent:ident) => { multiple_size_or($object, Field::$field, absent_bound!(number $absent))? };
 }
-
-/// The greatest alignment or divisor.
-pub(crate) const MOST_MULTIPLE: u64 = 65_536;
 
 /// Whether an alignment or a divisor may be so.
 pub(super) fn is_multiple(number: u64) -> bool

@@ -6,12 +6,13 @@ ghost use Rattle.sysmem_counts.specs.declared.field.Field.TheVariants.{ImageForm
 ghost use Rattle.sysmem_sanitise.specs.Reading.Entries.{entry_object, entry_with, with_entry, entries_of};
 ghost use Rattle.sysmem_sanitise.specs.Reading.Fields.{Reads, kept, optional, read_each, seen_by};
 
-use super::asked::{AskedPair, asked_pairs};
+use super::asked::asked_pairs;
 use super::bounds::bounds_of;
 use super::colour_set::colour_set_of;
 use super::field::{add, expect_object, list_of, stated};
 use super::list::{Listed, list_in};
 use crate::fault::{Code, Fault, FaultPlace};
+use negotiation_inputs::AskedPair;
 use serde_json::Value;
 use std::alloc::Global;
 use sysmem_counts::Field;

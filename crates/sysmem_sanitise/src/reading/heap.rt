@@ -1,37 +1,18 @@
 //! Reads the name of a heap, and a list of permitted heaps.
 
 ghost use Rattle.std.specs.Prelude.{◌≡◌, [], string_bytes};
-ghost use Rattle.std.specs.List.{list_all};
 ghost use Rattle.serde_json.specs.View.{view, items_view};
 ghost use Rattle.sysmem_sanitise.specs.Reading.Fields.{seen_by, read_each, Reads};
-ghost use Rattle.sysmem_sanitise.specs.Reading.Heaps.{is_heap_byte, is_heap_type, heap_type_of, heap_name_of, has_permitted, permitted_heap, with_permitted, permitted_of};
+ghost use Rattle.sysmem_sanitise.specs.Reading.Heaps.{heap_type_of, heap_name_of, permitted_heap, with_permitted, permitted_of};
 
 use super::field::{add, expect_object, list_of, number_or, stated, text_of};
 use super::list::{Listed, list_in};
 use crate::fault::{Code, Fault, FaultPlace};
+use negotiation_inputs::{has_permitted, is_heap_type};
 use serde_json::Value;
 use std::alloc::Global;
 use sysmem_counts::Field;
 use sysmem_memory::Heap;
-
-fn is_heap_byte(byte: u8) -> bool
-    ensures { result ≡ is_heap_byte byte }
-{
-    byte.is_ascii_alphanumeric() || byte == b'.' || byte == b'_' || byte == b'-'
-}
-
-fn has_only_heap_bytes(text: &str) -> bool
-    ensures { result ≡ list_all is_heap_byte text.now }
-{
-    text.as_bytes().iter().all(|byte| is_heap_byte(*byte))
-}
-
-/// Whether the type of a heap may be so.
-pub(crate) fn is_heap_type(text: &str) -> bool
-    ensures { result ≡ is_heap_type text.now }
-{
-    1 <= text.len() && text.len() <= 128 && has_only_heap_bytes(text)
-}
 
 fn heap_type_of(alloc: Global, value: &Value) -> Result<String, Fault>
     ensures { Reads (λ lack. heap_type_of lack (view value.now))
@@ -62,13 +43,6 @@ fn permitted_heap(alloc: Global, object: &Value) -> Result<Heap, Fault>
     let fields = [Field::HeapType, Field::Id];
     expect_object(object, FaultPlace::At(Field::PermittedHeaps), &fields)?;
     heap_name_of(alloc, object)
-}
-
-/// Whether one of the heaps has the same type and id.
-pub(crate) fn has_permitted(heaps: &[Heap], new: &Heap) -> bool
-    ensures { result ≡ has_permitted heaps.now new.now }
-{
-    heaps.iter().any(|heap| *heap == *new)
 }
 
 impl Listed for Heap {

@@ -4,13 +4,14 @@ ghost use Rattle.std.specs.Prelude.{◌≡◌, []};
 ghost use Rattle.serde_json.specs.View.{view, items_view};
 ghost use Rattle.sysmem_counts.specs.declared.field.Field.TheVariants.{Domains};
 ghost use Rattle.sysmem_sanitise.specs.Reading.Fields.{seen_by, read_each, required, Reads};
-ghost use Rattle.sysmem_sanitise.specs.Reading.Heaps.{no_domains, with_domain, with_named, has_domains, domains_of, heap_of, has_heap, with_heap, heaps_of};
+ghost use Rattle.sysmem_sanitise.specs.Reading.Heaps.{no_domains, with_domain, with_named, domains_of, heap_of, with_heap, heaps_of};
 
 use super::field::{add, expect_object, flag_or, list_of, stated};
 use super::heap::heap_name_of;
 use super::list::{Listed, list_in};
 use super::name::name_of;
 use crate::fault::{Code, Fault, FaultPlace};
+use negotiation_inputs::{has_domains, has_heap};
 use serde_json::Value;
 use std::alloc::Global;
 use sysmem_counts::Field;
@@ -45,13 +46,6 @@ fn domains_in(list: &[Value]) -> Result<CoherencyDomains, Fault>
         domains = with_named(domains, value)?;
     }
     Ok(domains)
-}
-
-/// Whether there is some domain.
-pub(crate) fn has_domains(domains: CoherencyDomains) -> bool
-    ensures { result ≡ has_domains domains }
-{
-    domains.cpu || domains.ram || domains.inaccessible
 }
 
 fn domains_of(value: &Value) -> Result<CoherencyDomains, Fault>
@@ -93,13 +87,6 @@ fn heap_of(alloc: Global, object: &Value) -> Result<HeapInfo, Fault>
         secure,
         domains,
     })
-}
-
-/// Whether one of the heaps has the same type and id.
-pub(crate) fn has_heap(heaps: &[HeapInfo], new: &HeapInfo) -> bool
-    ensures { result ≡ has_heap heaps.now new.now }
-{
-    heaps.iter().any(|heap| heap.heap == new.heap)
 }
 
 impl Listed for HeapInfo {

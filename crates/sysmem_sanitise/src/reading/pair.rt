@@ -6,13 +6,13 @@ ghost use Rattle.sysmem_counts.specs.declared.field.Field.TheVariants.{PixelForm
 ghost use Rattle.sysmem_formats.specs.declared.modifier.Modifier.TheVariants.{Linear};
 ghost use Rattle.sysmem_sanitise.specs.Reading.Fields.{seen_by, read_each, Reads, optional, named};
 ghost use Rattle.sysmem_sanitise.specs.Reading.Names.{modifier_named};
-ghost use Rattle.sysmem_sanitise.specs.Reading.Pairs.{same_pair, has_pair, lists_colour, is_tiled_misfit};
 ghost use Rattle.sysmem_sanitise.specs.Reading.Platform.{pair_of, with_pair, pairs_of, with_new_colour, colours_of};
 
 use super::field::{add, expect_object, list_of, stated};
 use super::list::{Listed, list_in};
 use super::name::name_of;
 use crate::fault::{Code, Fault, FaultPlace};
+use negotiation_inputs::{has_pair, is_tiled_misfit, lists_colour};
 use serde_json::Value;
 use std::alloc::Global;
 use sysmem_counts::Field;
@@ -44,26 +44,6 @@ fn pair_of(object: &Value) -> Result<Pair, Fault>
     })
 }
 
-/// Whether one of the pairs is the same.
-pub(crate) fn has_pair(pairs: &[Pair], new: Pair) -> bool
-    ensures { result ≡ has_pair pairs.now new }
-{
-    pairs.iter().any(|pair| is_same(*pair, new))
-}
-
-fn is_same(a: Pair, b: Pair) -> bool
-    ensures { result ≡ same_pair a b }
-{
-    a.format as u32 == b.format as u32 && a.modifier as u32 == b.modifier as u32
-}
-
-/// Whether a tiled modifier is with a format that isn't of 4 bytes.
-pub(crate) fn is_tiled_misfit(pair: Pair) -> bool
-    ensures { result ≡ is_tiled_misfit pair }
-{
-    sysmem_formats::is_tiled_misfit(pair)
-}
-
 impl Listed for Pair {
     ghost added = { with_pair };
 
@@ -90,13 +70,6 @@ pub(super) fn pairs_of(alloc: Global, value: &Value) -> Result<Vec<Pair>, Fault>
         return Err(Fault::of(Code::BadPlatformList, Field::Pairs));
     }
     Ok(pairs)
-}
-
-/// Whether the colour space is among these.
-pub(crate) fn lists_colour(colours: &[ColourSpace], new: ColourSpace) -> bool
-    ensures { result ≡ lists_colour colours.now new }
-{
-    colours.contains(&new)
 }
 
 impl Listed for ColourSpace {

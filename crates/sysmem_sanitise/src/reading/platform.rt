@@ -13,7 +13,7 @@ use super::field::{expect_object, stated};
 use super::heap_info::heaps_of;
 use super::pair::{colours_of, pairs_of};
 use crate::fault::{Code, Fault, FaultPlace};
-use crate::platform::Platform;
+use negotiation_inputs::Platform;
 use serde_json::Value;
 use std::alloc::Global;
 use sysmem_counts::Field;

@@ -2,12 +2,13 @@
 
 ghost use Rattle.std.specs.Prelude.{◌≡◌};
 ghost use Rattle.serde_json.specs.View.{view, items_view};
-ghost use Rattle.sysmem_sanitise.specs.Reading.Constraints.{is_usage, no_usage, with_family, usage_of};
+ghost use Rattle.sysmem_sanitise.specs.Reading.Constraints.{no_usage, with_family, usage_of};
 ghost use Rattle.sysmem_sanitise.specs.Reading.Fields.{read_each};
 
 use super::field::{list_of, text_of};
 use crate::fault::{Code, Fault};
 use bitflags::Flags;
+use negotiation_inputs::is_usage;
 use serde_json::Value;
 use sysmem_counts::{Field, Usage};
 
@@ -28,13 +29,6 @@ fn families_of(list: &[Value]) -> Result<Usage, Fault>
         usage = with_family(usage, value)?;
     }
     Ok(usage)
-}
-
-/// Whether some families are `none` alone, or others.
-pub(crate) fn is_usage(usage: Usage) -> bool
-    ensures { result ≡ is_usage usage }
-{
-    usage == Usage::NONE || (!usage.is_empty() && !usage.contains(Usage::NONE))
 }
 
 /// A list of families that isn't empty: none alone, or others. A repeated family counts once.

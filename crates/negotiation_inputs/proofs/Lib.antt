@@ -1,0 +1,4 @@
+mod NoneTwice
+mod Refused
+mod Same
+pub mod CallerLemmas

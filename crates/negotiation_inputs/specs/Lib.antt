@@ -1,0 +1,10 @@
+pub mod Amiss
+pub mod Asked
+pub mod Equal
+pub mod EqualLaws
+pub mod Heaps
+pub mod Laws
+pub mod Pairs
+pub mod Participant
+pub mod Platform
+pub mod Usage

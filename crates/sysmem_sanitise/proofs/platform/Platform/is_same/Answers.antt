@@ -1,7 +1,0 @@
--- By what `==` answers.
-use Rattle.std.proofs.Common.{sym, ◌∙◌}
-use Rattle.sysmem_sanitise.proofs.Same.{same_platforms}
-use Rattle.sysmem_sanitise.proofs.platform.Platform.is_same.Goals as goal
-
-pub returns : goal.returns
-returns c = let law = same_platforms c.args.self.now c.args.other.now in (λ is. law.0 (sym c.eq.ensures ∙ is), λ same. c.eq.ensures ∙ law.1 same)
