@@ -17,8 +17,8 @@ use Rattle.sysmem_merge.specs.declared.settings.Settings.{Settings}
 use Rattle.sysmem_merge.specs.Demands.{OfferDemand, offer_demand}
 use Rattle.sysmem_merge.specs.Offers.{AcceptsOffer}
 use Rattle.sysmem_merge.specs.Settings.{CoversOn}
-use Rattle.sysmem_sanitise.specs.Participant.{Participant}
-use Rattle.sysmem_sanitise.specs.Platform.{PlatformFacts}
+use Rattle.negotiation_inputs.specs.Participant.{Participant}
+use Rattle.negotiation_inputs.specs.Platform.{PlatformFacts}
 
 -- no field fails where bounds keep to others
 none_failing : (a b : ImageBounds) (r : Option Field) (none : Bool) → is_some r ≡ not none → IfNone r (IsTighter a b) → IfSome r (λ f. IsFirstFailing f a b) → IsTrue none ↔ IsTighter a b

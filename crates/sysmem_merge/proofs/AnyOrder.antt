@@ -32,8 +32,8 @@ use Rattle.sysmem_merge.specs.Laws.{StandsInAnyOrder}
 use Rattle.sysmem_merge.specs.Offers.{has_format, has_colour, Asks, bounds_asked, names_format, names_modifier, names_colour}
 use Rattle.sysmem_merge.specs.Pairs.{in_colour, IsPairKept}
 use Rattle.sysmem_merge.specs.Sum.{SumsInAnyOrder}
-use Rattle.sysmem_sanitise.specs.Participant.{Participant}
-use Rattle.sysmem_sanitise.specs.Platform.{PlatformFacts}
+use Rattle.negotiation_inputs.specs.Participant.{Participant}
+use Rattle.negotiation_inputs.specs.Platform.{PlatformFacts}
 use Rattle.sysmem_merge.proofs.Asked.{asked_all, asked_each}
 
 -- two tests that pass together are one

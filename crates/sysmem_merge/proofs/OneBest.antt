@@ -23,7 +23,7 @@ use Rattle.sysmem_merge.specs.contracts.settings.Settings.{the_type as settings_
 use Rattle.sysmem_merge.specs.Best.{IsEarlierOffer, IsNoBetter}
 use Rattle.sysmem_merge.specs.Laws.{OneBest, OneFit}
 use Rattle.sysmem_merge.specs.Settings.{MeetsLoosely}
-use Rattle.sysmem_sanitise.specs.Platform.{offers_of}
+use Rattle.negotiation_inputs.specs.Platform.{offers_of}
 use Rattle.sysmem_merge.proofs.FirstFits.{place_of}
 use Rattle.sysmem_merge.proofs.Together.{loosely}
 

@@ -9,8 +9,8 @@ use Rattle.sysmem_merge.specs.declared.reason.Reason.{Reason}
 use Rattle.sysmem_merge.specs.declared.reason.Reason.TheVariants.{Count, NoPlace, NoOffer}
 use Rattle.sysmem_merge.specs.Laws.{ReasonLeavesNone, ReasonOfSomeLeavesNone}
 use Rattle.sysmem_merge.specs.Demands.{counts_asked, place_demands, offer_demands}
-use Rattle.sysmem_sanitise.specs.Participant.{Participant}
-use Rattle.sysmem_sanitise.specs.Platform.{PlatformFacts, offers_of}
+use Rattle.negotiation_inputs.specs.Participant.{Participant}
+use Rattle.negotiation_inputs.specs.Platform.{PlatformFacts, offers_of}
 use Rattle.sysmem_merge.specs.Reasons.{AreOffersRefused, IsReason, IsFirstReason, reason_rank}
 use Rattle.sysmem_merge.proofs.SomeMet.{unmet_by_some}
 use Rattle.sysmem_merge.proofs.Together.{refused_clash, unmet_by_count, unmet_by_place, unmet_by_offer}

@@ -12,7 +12,7 @@ use Rattle.sysmem_image.specs.Fields.{Bound, Side, Keeps, rule_of, value}
 use Rattle.sysmem_image.proofs.CallerLemmas.{tighter_refl}
 use Rattle.sysmem_merge.specs.Fit.{OwnWithoutImage}
 use Rattle.sysmem_merge.proofs.OneBest.{same_bounds}
-use Rattle.sysmem_sanitise.specs.Platform.{PlatformFacts, offers_of}
+use Rattle.negotiation_inputs.specs.Platform.{PlatformFacts, offers_of}
 
 -- bounds with the same numbers keep to each other
 tighter : (a b : ImageBounds) → ((f : Bound) (side : Side) → value f side a ≡ value f side b) → IsTighter a b

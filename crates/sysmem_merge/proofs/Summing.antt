@@ -9,8 +9,8 @@ use Rattle.sysmem_merge.specs.Aggregate.{AreSizes, IsKept}
 use Rattle.sysmem_merge.specs.Demands.{OfferDemand, counts_asked, place_demand, place_demands, offer_demand, offer_demands}
 use Rattle.sysmem_merge.specs.Pairs.{ArePairsKept}
 use Rattle.sysmem_merge.specs.Sum.{SumFacts, SumsUp}
-use Rattle.sysmem_sanitise.specs.Participant.{Participant}
-use Rattle.sysmem_sanitise.specs.Platform.{PlatformFacts}
+use Rattle.negotiation_inputs.specs.Participant.{Participant}
+use Rattle.negotiation_inputs.specs.Platform.{PlatformFacts}
 use Rattle.sysmem_merge.proofs.Adding.{map_push}
 use Rattle.sysmem_merge.proofs.Sizes.{sizes_push}
 

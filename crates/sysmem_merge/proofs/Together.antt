@@ -17,8 +17,8 @@ use Rattle.sysmem_merge.specs.FirstFit.{IsFirstFit}
 use Rattle.sysmem_merge.specs.Fit.{fit_of, CoversFit, MeetsFit}
 use Rattle.sysmem_merge.specs.Reasons.{AreOffersRefused}
 use Rattle.sysmem_merge.specs.Settings.{Covers, IsNamed, MeetsLoosely, MeetsAs}
-use Rattle.sysmem_sanitise.specs.Participant.{Participant}
-use Rattle.sysmem_sanitise.specs.Platform.{PlatformFacts, offers_of}
+use Rattle.negotiation_inputs.specs.Participant.{Participant}
+use Rattle.negotiation_inputs.specs.Platform.{PlatformFacts, offers_of}
 use Rattle.sysmem_merge.proofs.FirstFits.{refused_unmet}
 
 -- settings that meet participants meet them but for the names

@@ -15,8 +15,8 @@ use Rattle.sysmem_merge.specs.Kept.{Kept}
 use Rattle.sysmem_merge.specs.Offers.{has_format, has_colour, bounds_asked}
 use Rattle.sysmem_merge.specs.Offers.{is_format_named, is_modifier_named, is_colour_named}
 use Rattle.sysmem_merge.specs.Reasons.{IsOfferLine}
-use Rattle.sysmem_sanitise.specs.Participant.{Participant}
-use Rattle.sysmem_sanitise.specs.Platform.{PlatformFacts, offers_of}
+use Rattle.negotiation_inputs.specs.Participant.{Participant}
+use Rattle.negotiation_inputs.specs.Platform.{PlatformFacts, offers_of}
 
 -- the sizes of 64 bits that every participant takes are those from the least to the greatest
 pub record AreSizes (ds : List OfferDemand) (least greatest : ℕ) : Type 0 where

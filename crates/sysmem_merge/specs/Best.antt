@@ -5,8 +5,8 @@ use Rattle.sysmem_memory.specs.Place.{IsEarlier}
 use Rattle.sysmem_merge.specs.declared.settings.Settings.{Settings}
 use Rattle.sysmem_merge.specs.Fit.{fit_of, IsNoBetterFit}
 use Rattle.sysmem_merge.specs.Settings.{MeetsAs}
-use Rattle.sysmem_sanitise.specs.Participant.{Participant}
-use Rattle.sysmem_sanitise.specs.Platform.{PlatformFacts, offers_of}
+use Rattle.negotiation_inputs.specs.Participant.{Participant}
+use Rattle.negotiation_inputs.specs.Platform.{PlatformFacts, offers_of}
 
 -- the list has a before each place where it has b
 pub record IsEarlierOffer (offers : List Offer) (a b : Offer) : Type 0 where

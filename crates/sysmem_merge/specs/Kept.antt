@@ -3,7 +3,7 @@ use Rattle.std.specs.Prelude.{ℕ, List}
 use Rattle.sysmem_counts.specs.Tally.{Tally}
 use Rattle.sysmem_memory.specs.declared.domain.CoherencyDomains.{CoherencyDomains}
 use Rattle.sysmem_merge.specs.declared.kept.KeptOffer.{KeptOffer}
-use Rattle.sysmem_sanitise.specs.Platform.{PlatformFacts}
+use Rattle.negotiation_inputs.specs.Platform.{PlatformFacts}
 
 -- the platform; what is kept of counts, of places (the coherency domains that are left of each
 -- heap), of offers and of sizes; how many were added

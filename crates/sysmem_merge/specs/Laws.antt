@@ -19,8 +19,8 @@ use Rattle.sysmem_merge.specs.Aggregate.{StandsFor}
 use Rattle.sysmem_merge.specs.Kept.{Kept}
 use Rattle.sysmem_merge.specs.Reasons.{IsOfferLine, IsUnnamedLine, IsReason}
 use Rattle.sysmem_merge.specs.Settings.{Meets, MeetsLoosely, MeetsAs}
-use Rattle.sysmem_sanitise.specs.Participant.{Participant}
-use Rattle.sysmem_sanitise.specs.Platform.{PlatformFacts}
+use Rattle.negotiation_inputs.specs.Participant.{Participant}
+use Rattle.negotiation_inputs.specs.Platform.{PlatformFacts}
 
 -- participants have at most one best settings
 abbrev pub OneBest : Type 0

@@ -20,8 +20,8 @@ use Rattle.sysmem_merge.specs.declared.reason.Reason.TheVariants.{Count, NoPlace
 use Rattle.sysmem_merge.specs.Demands.{OfferDemand, counts_asked, place_demands, offer_demands}
 use Rattle.sysmem_merge.specs.Offers.{has_format, has_colour, bounds_asked}
 use Rattle.sysmem_merge.specs.Offers.{is_format_named, is_modifier_named, is_colour_named}
-use Rattle.sysmem_sanitise.specs.Participant.{Participant}
-use Rattle.sysmem_sanitise.specs.Platform.{PlatformFacts, offers_of}
+use Rattle.negotiation_inputs.specs.Participant.{Participant}
+use Rattle.negotiation_inputs.specs.Platform.{PlatformFacts, offers_of}
 
 -- no size holds the corner of these bounds, is large enough for each
 -- participant and small enough for each

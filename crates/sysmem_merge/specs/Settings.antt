@@ -10,8 +10,8 @@ use Rattle.sysmem_merge.specs.declared.settings.Settings.{Settings}
 use Rattle.sysmem_merge.specs.Demands.{counts_asked, offer_demand, offer_demands}
 use Rattle.sysmem_merge.specs.Fit.{fit_of, IsSoundFit, CoversFit}
 use Rattle.sysmem_merge.specs.Offers.{is_named}
-use Rattle.sysmem_sanitise.specs.Participant.{Participant}
-use Rattle.sysmem_sanitise.specs.Platform.{PlatformFacts, offers_of}
+use Rattle.negotiation_inputs.specs.Participant.{Participant}
+use Rattle.negotiation_inputs.specs.Platform.{PlatformFacts, offers_of}
 
 -- settings that the platform can provide: its offer, one of its places, in this heap, and a size
 -- that holds an image which the bounds admit and which is as large as they ask for

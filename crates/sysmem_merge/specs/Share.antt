@@ -1,8 +1,8 @@
 -- What the participants of one choice ask for.
 use Rattle.std.specs.Prelude.{List}
 use Rattle.sysmem_merge.specs.Sum.{SumFacts, SumsUp}
-use Rattle.sysmem_sanitise.specs.Participant.{Participant}
-use Rattle.sysmem_sanitise.specs.Platform.{PlatformFacts}
+use Rattle.negotiation_inputs.specs.Participant.{Participant}
+use Rattle.negotiation_inputs.specs.Platform.{PlatformFacts}
 
 -- their sum
 pub record ShareFacts : Type 0 where

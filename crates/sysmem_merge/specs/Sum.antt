@@ -13,8 +13,8 @@ use Rattle.sysmem_merge.specs.Aggregate.{AreSizes, IsKept}
 use Rattle.sysmem_merge.specs.Demands.{counts_asked, place_demands, offer_demands}
 use Rattle.sysmem_merge.specs.Pairs.{ArePairsKept}
 use Rattle.sysmem_merge.specs.Settings.{MeetsAs}
-use Rattle.sysmem_sanitise.specs.Participant.{Participant}
-use Rattle.sysmem_sanitise.specs.Platform.{PlatformFacts}
+use Rattle.negotiation_inputs.specs.Participant.{Participant}
+use Rattle.negotiation_inputs.specs.Platform.{PlatformFacts}
 
 -- what is kept of counts, of places, of the offer of no image, of pairs and of
 -- sizes; how many participants they are

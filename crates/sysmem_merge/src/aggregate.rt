@@ -3,8 +3,8 @@
 ghost use Rattle.std.specs.Prelude.{◌≡◌, ◌+◌, ◌<◌, ◌≤◌, ◌++◌, List, [], ◌∷◌, IfOk, IfErr, OnOk};
 ghost use Rattle.sysmem_merge.specs.Aggregate.{StandsFor};
 ghost use Rattle.sysmem_merge.specs.Best.{IsBest, IsUnmet};
-ghost use Rattle.sysmem_sanitise.specs.Participant.{Participant};
-ghost use Rattle.sysmem_sanitise.specs.Platform.{PlatformFacts};
+ghost use Rattle.negotiation_inputs.specs.Participant.{Participant};
+ghost use Rattle.negotiation_inputs.specs.Platform.{PlatformFacts};
 ghost use Rattle.sysmem_merge.specs.Reasons.{IsFirstReason};
 
 use crate::joined::copied_offers;
@@ -13,11 +13,11 @@ use crate::offers::{add_to_offers, kept_offers};
 use crate::reason::Reason;
 use crate::settings::Settings;
 use crate::walk::first_fit;
+use negotiation_inputs::{Constraints, Platform};
 use std::alloc::{AllocError, Global};
 use std::marker::Model;
 use sysmem_counts::CountBounds;
 use sysmem_memory::MemoryBounds;
-use sysmem_sanitise::{Constraints, Platform};
 
 /// The participants that were added to a platform: what they ask for together.
 #[derive(Debug, Drop)]

@@ -9,13 +9,13 @@ ghost use Rattle.sysmem_merge.specs.Failing.{FailsIn, FailsOn, IsFirstUncovered,
 ghost use Rattle.sysmem_merge.specs.First.{IsFirstOf};
 ghost use Rattle.sysmem_merge.specs.Offers.{has_format, has_colour, entry_bounds, AcceptsOffer};
 ghost use Rattle.sysmem_merge.specs.Settings.{CoversOn};
-ghost use Rattle.sysmem_sanitise.specs.Participant.{Participant};
+ghost use Rattle.negotiation_inputs.specs.Participant.{Participant};
 
 use crate::settings::Settings;
+use negotiation_inputs::{Constraints, Platform};
 use sysmem_counts::Field;
 use sysmem_image::{Entry, entry_for, first_failing, keeps_field, takes_colour};
 use sysmem_memory::{HeapInfo, MemoryConstraints, refuses, refuses_in};
-use sysmem_sanitise::{Constraints, Platform};
 
 /// The first field in which the settings fail the participant: its entries' formats, their colour
 /// spaces, the bounds of its entry for the offer in their table's order, its least and its greatest

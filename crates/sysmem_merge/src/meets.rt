@@ -7,9 +7,9 @@ ghost use Rattle.sysmem_merge.specs.Offers.{AcceptsOffer};
 ghost use Rattle.sysmem_merge.specs.Settings.{CoversOn};
 
 use crate::settings::Settings;
+use negotiation_inputs::{Constraints, Platform};
 use sysmem_image::{Entry, entry_for, first_failing, takes_colour};
 use sysmem_memory::{HeapInfo, MemoryConstraints, refuses};
-use sysmem_sanitise::{Constraints, Platform};
 
 /// Whether the participant accepts the settings: it has an entry for their offer, with its colour
 /// space, or no entries at all; their bounds keep to that entry's; nothing that it says of memory,

@@ -17,10 +17,10 @@ ghost use Rattle.sysmem_merge.specs.Reasons.{IsOfferLine, IsUnnamedLine};
 
 use crate::fit::{Fit, best_fit};
 use crate::kept::{KeptBounds, names_colour};
+use negotiation_inputs::Constraints;
 use sysmem_counts::Field;
 use sysmem_formats::{Offer, wide_image_bytes};
 use sysmem_image::{BoundsRead, Entry, bounds_lines, bounds_table, entry_for, takes_colour};
-use sysmem_sanitise::Constraints;
 
 macro_rules! offer_lines {
     ($($line:ident)*) => {

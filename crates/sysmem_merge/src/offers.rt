@@ -4,13 +4,13 @@ ghost use Rattle.std.specs.Prelude.{◌≡◌, List, [], ◌∷◌, ◌++◌, If
 ghost use Rattle.sysmem_formats.specs.declared.offer.Offer.{Offer};
 ghost use Rattle.sysmem_merge.specs.Aggregate.{IsKept, AreKept};
 ghost use Rattle.sysmem_merge.specs.Demands.{OfferDemand};
-ghost use Rattle.sysmem_sanitise.specs.Platform.{offers_of};
+ghost use Rattle.negotiation_inputs.specs.Platform.{offers_of};
 
 use crate::kept::KeptOffer;
+use negotiation_inputs::Platform;
 use std::alloc::{AllocError, Global};
 use sysmem_formats::offer_at;
 use sysmem_image::{Entry, FirstMatches};
-use sysmem_sanitise::Platform;
 
 /// What is kept of each offer of the platform before any participant, in the platform's order.
 pub(crate) fn kept_offers(alloc: Global, platform: &Platform) -> Result<Vec<KeptOffer>, AllocError>

@@ -10,14 +10,14 @@ ghost use Rattle.sysmem_merge.specs.Fit.{IsBestFit};
 ghost use Rattle.sysmem_merge.specs.Offers.{is_named};
 ghost use Rattle.sysmem_merge.specs.Pairs.{ArePairsKept, IsPairKept};
 ghost use Rattle.sysmem_merge.specs.Reasons.{IsOfferRefused, AreOffersRefused};
-ghost use Rattle.sysmem_sanitise.specs.Platform.{offers_of};
+ghost use Rattle.negotiation_inputs.specs.Platform.{offers_of};
 
 use crate::fit::{Fit, best_fit};
 use crate::kept::{KeptBounds, KeptOffer};
 use crate::pair::KeptPair;
 use crate::walk::fit_of;
+use negotiation_inputs::Platform;
 use sysmem_formats::{ColourSpace, Offer, Pair};
-use sysmem_sanitise::Platform;
 
 /// The first of the platform's offers that suits the participants, with its least size and bounds.
 pub(crate) fn first_shared(

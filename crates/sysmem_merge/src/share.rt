@@ -2,12 +2,12 @@
 
 ghost use Rattle.std.specs.Prelude.{◌≡◌, ◌+◌, ◌<◌, ◌++◌, List, [], ◌∷◌, IfOk};
 ghost use Rattle.sysmem_merge.specs.Share.{IsShareOf};
-ghost use Rattle.sysmem_sanitise.specs.Participant.{Participant};
+ghost use Rattle.negotiation_inputs.specs.Participant.{Participant};
 
 use crate::sum::Sum;
+use negotiation_inputs::{Constraints, Platform};
 use std::alloc::{AllocError, Global};
 use std::marker::Model;
-use sysmem_sanitise::{Constraints, Platform};
 
 /// What the participants that one choice settles ask for together.
 #[derive(Debug, Drop)]

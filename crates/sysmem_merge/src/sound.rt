@@ -7,13 +7,13 @@ ghost use Rattle.sysmem_memory.specs.Place.{IsPlace};
 ghost use Rattle.sysmem_merge.specs.Fit.{OwnWithoutImage};
 ghost use Rattle.sysmem_merge.specs.Settings.{IsSound};
 ghost use Rattle.sysmem_merge.specs.Sound.{HoldsImage};
-ghost use Rattle.sysmem_sanitise.specs.Platform.{offers_of};
+ghost use Rattle.negotiation_inputs.specs.Platform.{offers_of};
 
 use crate::settings::Settings;
+use negotiation_inputs::Platform;
 use sysmem_formats::Offer;
 use sysmem_image::{ImageBounds, corner, suits};
 use sysmem_memory::Place;
-use sysmem_sanitise::Platform;
 
 /// Whether the platform can provide the settings: their offer is one of its own and their place one
 /// of its places, their size is at least 1 and holds an image which their bounds admit and which is

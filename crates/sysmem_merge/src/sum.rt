@@ -6,7 +6,7 @@ ghost use Rattle.sysmem_merge.specs.Best.{IsBest, IsUnmet};
 ghost use Rattle.sysmem_merge.specs.Reasons.{IsFirstReason};
 ghost use Rattle.sysmem_merge.specs.Share.{IsShareOf};
 ghost use Rattle.sysmem_merge.specs.Sum.{SumsUp, IsMet};
-ghost use Rattle.sysmem_sanitise.specs.Participant.{Participant};
+ghost use Rattle.negotiation_inputs.specs.Participant.{Participant};
 
 use crate::kept::KeptOffer;
 use crate::pair::KeptPair;
@@ -15,13 +15,13 @@ use crate::pairs::{add_to_pairs, join_pairs, kept_pairs};
 use crate::reason::Reason;
 use crate::settings::Settings;
 use crate::share::Share;
+use negotiation_inputs::{Constraints, Platform};
 use std::alloc::{AllocError, Global};
 use std::marker::Model;
 use sysmem_counts::CountBounds;
 use sysmem_formats::Offer;
 use sysmem_image::FirstMatches;
 use sysmem_memory::MemoryBounds;
-use sysmem_sanitise::{Constraints, Platform};
 
 /// What participants ask for together. A search reserves one for each level of choices,
 /// so that a prefix takes no memory.

@@ -8,12 +8,12 @@ ghost use Rattle.sysmem_merge.specs.FirstFit.{IsFirstFit};
 ghost use Rattle.sysmem_merge.specs.Fit.{IsBestFit};
 ghost use Rattle.sysmem_merge.specs.Offers.{is_named};
 ghost use Rattle.sysmem_merge.specs.Reasons.{IsOfferRefused, AreOffersRefused};
-ghost use Rattle.sysmem_sanitise.specs.Platform.{offers_of};
+ghost use Rattle.negotiation_inputs.specs.Platform.{offers_of};
 
 use crate::fit::{Fit, best_fit};
 use crate::kept::KeptOffer;
+use negotiation_inputs::Platform;
 use sysmem_formats::{Offer, offer_at};
-use sysmem_sanitise::Platform;
 
 /// The first of the platform's offers that suits the participants, with its least size and bounds.
 pub(crate) fn first_fit(

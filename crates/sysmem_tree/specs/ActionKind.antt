@@ -1,7 +1,7 @@
 -- What an action asks of a node.
 use Rattle.std.specs.Prelude.{Bool, true, false, Option, option_map}
 use Rattle.std.specs.Arc.{arc_value}
-use Rattle.sysmem_sanitise.specs.Participant.{Participant}
+use Rattle.negotiation_inputs.specs.Participant.{Participant}
 use Rattle.sysmem_tree.specs.declared.action.Action.{Action}
 use Rattle.sysmem_tree.specs.declared.action.Action.TheVariants as actions
 use Rattle.sysmem_tree.specs.declared.action.ActionKind.{ActionKind}

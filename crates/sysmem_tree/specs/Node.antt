@@ -1,6 +1,6 @@
 -- What a node of the tree is, and what its own actions made of it.
 use Rattle.std.specs.Prelude.{ℕ, Bool, true, false, not, ◌||◌, Option}
-use Rattle.sysmem_sanitise.specs.Participant.{Participant}
+use Rattle.negotiation_inputs.specs.Participant.{Participant}
 use Rattle.sysmem_tree.specs.declared.node.Birth.{Birth}
 use Rattle.sysmem_tree.specs.declared.state.NodeKind.{NodeKind}
 use Rattle.sysmem_tree.specs.declared.state.NodeKind.TheVariants.{Token, Group, Collection}

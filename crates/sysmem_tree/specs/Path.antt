@@ -3,7 +3,7 @@
 use Rattle.std.specs.Prelude.{ℕ, zero, suc, Bool, false, ◌&&◌, ◌==◌, ◌++◌, List, []}
 use Rattle.std.specs.Prelude.{◌∷◌, Option, Some, None, option_map, option_and_then}
 use Rattle.std.specs.Prelude.{position, slice_get, unwrap_or}
-use Rattle.sysmem_sanitise.specs.Participant.{Participant}
+use Rattle.negotiation_inputs.specs.Participant.{Participant}
 use Rattle.sysmem_tree.specs.declared.node.Birth.{Birth}
 use Rattle.sysmem_tree.specs.declared.state.NodeState.{NodeState}
 use Rattle.sysmem_tree.specs.Node.{NodeFacts}

@@ -1,7 +1,7 @@
 -- The forest of a domain, read off the nodes, and its shape.
 use Rattle.std.specs.Prelude.{ℕ, ◌+◌, ◌++◌, ◌==◌, List, [], ◌∷◌, Option, Some, None, is_some}
 use Rattle.std.specs.Prelude.{option_and_then, unwrap_or, filter, slice_get, if◌then◌else◌}
-use Rattle.sysmem_sanitise.specs.Participant.{Participant}
+use Rattle.negotiation_inputs.specs.Participant.{Participant}
 use Rattle.sysmem_tree.specs.declared.state.NodeKind.{NodeKind}
 use Rattle.sysmem_tree.specs.declared.state.NodeKind.TheVariants as kinds
 use Rattle.sysmem_tree.specs.Forest.{Forest, Empty, Plain, Group}

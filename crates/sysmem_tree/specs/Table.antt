@@ -1,7 +1,7 @@
 -- The table of actions: which states of a node allow each, what it makes of its node,
 -- and which node it makes below it.
 use Rattle.std.specs.Prelude.{◌+◌, ◌==◌, Bool, true, false, ◌&&◌, not, Option, Some, None}
-use Rattle.sysmem_sanitise.specs.Participant.{Participant}
+use Rattle.negotiation_inputs.specs.Participant.{Participant}
 use Rattle.sysmem_tree.specs.declared.action.ActionKind.{ActionKind}
 use Rattle.sysmem_tree.specs.declared.action.ActionKind.TheVariants.{Duplicate, CreateGroup}
 use Rattle.sysmem_tree.specs.declared.action.ActionKind.TheVariants.{Bind, CreateChild}

@@ -4,8 +4,8 @@ ghost use Rattle.std.specs.Prelude.{◌≡◌};
 ghost use Rattle.sysmem_tree.specs.ActionKind.{deed_of, kind_of, ends_node};
 
 use crate::id::NodeId;
+use negotiation_inputs::Constraints;
 use std::sync::Arc;
-use sysmem_sanitise::Constraints;
 
 /// What is done to a node.
 #[derive(Debug, Drop)]

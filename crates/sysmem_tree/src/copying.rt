@@ -7,9 +7,9 @@ ghost use Rattle.std.specs.Vec.{vec_capacity};
 use crate::domain::Domain;
 use crate::node::Node;
 use crate::tree::MOST_NODES;
+use negotiation_inputs::Constraints;
 use std::alloc::{AllocError, Global};
 use std::sync::Arc;
-use sysmem_sanitise::Constraints;
 
 /// One more owner of the constraints, if there are any.
 fn shared(constraints: &Option<Arc<Constraints>>) -> Result<Option<Arc<Constraints>>, AllocError>

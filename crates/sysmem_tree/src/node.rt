@@ -8,9 +8,9 @@ ghost use Rattle.sysmem_tree.specs.Tree.{first_node, new_node, node_after};
 
 use crate::action::{Action, ActionKind};
 use crate::state::{NodeKind, NodeState};
+use negotiation_inputs::Constraints;
 use std::marker::Model;
 use std::sync::Arc;
-use sysmem_sanitise::Constraints;
 
 /// Which child of which node a node is: both by number, children from 0 in the order in which they
 /// were made.

@@ -15,8 +15,8 @@ use crate::id::{DomainId, NodeId};
 use crate::layout::{Layout, PLACES};
 use crate::node::Node;
 use crate::tree::Tree;
+use negotiation_inputs::Constraints;
 use std::sync::Arc;
-use sysmem_sanitise::Constraints;
 
 /// Whether nodes of two trees have one path: at each step up both are the same child.
 fn have_same_path(nodes: &[Node], node: usize, others: &[Node], other: usize) -> bool

@@ -21,9 +21,9 @@ use crate::paths::{node_at, path_to};
 use crate::refusal::Refusal;
 use crate::standing::{close_early, decision_of, has_failed, is_ready, is_selected};
 use crate::state::{NodeKind, NodeState};
+use negotiation_inputs::Constraints;
 use std::alloc::{AllocError, Global};
 use std::marker::Model;
-use sysmem_sanitise::Constraints;
 
 /// The greatest number of nodes of one collection, those that are gone included.
 pub const MOST_NODES: usize = 128;

@@ -1,5 +1,5 @@
 use Rattle.std.proofs.lemmas.Bool.Decides.{Decides-at}
-use Rattle.sysmem_sanitise.proofs.CallerLemmas.{same_bounds}
+use Rattle.negotiation_inputs.proofs.CallerLemmas.{same_bounds}
 use Rattle.sysmem_merge.proofs.PairKeeping.{own_plain}
 use Rattle.sysmem_merge.proofs.pair.is_plain.Goals as goal
 

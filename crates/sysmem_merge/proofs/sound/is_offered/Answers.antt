@@ -3,9 +3,9 @@ use Rattle.std.proofs.lemmas.List.Elements.{contains_decides, Decides-contains}
 use Rattle.sysmem_formats.specs.contracts.colour_space.ColourSpacePartialEq.TheImpl as colour
 use Rattle.sysmem_formats.specs.contracts.offer.PairPartialEq.TheImpl as pair
 use Rattle.sysmem_merge.proofs.SoundSettings.{offered_test}
-use Rattle.sysmem_sanitise.proofs.CallerLemmas.{same_pair, same_colour}
+use Rattle.negotiation_inputs.proofs.CallerLemmas.{same_pair, same_colour}
 use Rattle.sysmem_merge.proofs.sound.is_offered.Goals as goal
-use Rattle.sysmem_sanitise.specs.Platform.{offers_of}
+use Rattle.negotiation_inputs.specs.Platform.{offers_of}
 
 pub returns-then-has_pair : goal.returns-then-has_pair
 returns-then-has_pair c =

@@ -1,6 +1,6 @@
 use Rattle.std.proofs.lemmas.Bool.Decides.{Decides-at}
 use Rattle.sysmem_merge.proofs.SoundSettings.{own_none}
-use Rattle.sysmem_sanitise.proofs.CallerLemmas.{same_bounds}
+use Rattle.negotiation_inputs.proofs.CallerLemmas.{same_bounds}
 use Rattle.sysmem_merge.proofs.sound.is_own.Goals as goal
 
 pub returns-in-NoImage : goal.returns-in-NoImage

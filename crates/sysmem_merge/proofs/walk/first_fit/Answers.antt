@@ -1,7 +1,7 @@
 use Rattle.std.proofs.Common.{arith, ◌≡◌, Some, slice_get, below_more}
 use Rattle.sysmem_formats.specs.declared.offer.Offer.{Offer}
 use Rattle.sysmem_merge.specs.Reasons.{IsOfferRefused}
-use Rattle.sysmem_sanitise.specs.Platform.{offers_of}
+use Rattle.negotiation_inputs.specs.Platform.{offers_of}
 use Rattle.sysmem_merge.proofs.FirstFits.{kept_at, place_of, first_from}
 use Rattle.sysmem_merge.proofs.walk.first_fit.Goals as goal
 

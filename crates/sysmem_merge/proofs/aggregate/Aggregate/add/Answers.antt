@@ -3,7 +3,7 @@ use Rattle.sysmem_memory.specs.Wishes.{MemoryWishes}
 use Rattle.sysmem_merge.specs.Aggregate.{AreKept, StandsFor}
 use Rattle.sysmem_merge.specs.Demands.{offer_demand}
 use Rattle.sysmem_merge.specs.Kept.{Kept}
-use Rattle.sysmem_sanitise.specs.Platform.{offers_of}
+use Rattle.negotiation_inputs.specs.Platform.{offers_of}
 use Rattle.sysmem_merge.proofs.Adding.{all_written, stands_push}
 use Rattle.sysmem_merge.proofs.aggregate.Aggregate.add.Goals as goal
 

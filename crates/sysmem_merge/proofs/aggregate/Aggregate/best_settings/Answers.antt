@@ -6,7 +6,7 @@ use Rattle.sysmem_merge.specs.Kept.{Kept}
 use Rattle.sysmem_merge.specs.Demands.{counts_asked, place_demands, offer_demands}
 use Rattle.sysmem_merge.specs.FirstFit.{IsFirstFit}
 use Rattle.sysmem_merge.specs.Reasons.{AreOffersRefused}
-use Rattle.sysmem_sanitise.specs.Platform.{PlatformFacts, offers_of}
+use Rattle.negotiation_inputs.specs.Platform.{PlatformFacts, offers_of}
 use Rattle.sysmem_merge.proofs.Adding.{heaps_read, places_kept}
 use Rattle.sysmem_merge.proofs.FirstFits.{offers_kept}
 use Rattle.sysmem_merge.proofs.Reasons.{first_no_place, first_no_offer}
