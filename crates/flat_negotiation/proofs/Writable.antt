@@ -12,8 +12,8 @@ use Rattle.sysmem_formats.specs.declared.offer.Offer.TheVariants.{NoImage, Image
 use Rattle.sysmem_formats.specs.declared.offer.Pair.{Pair}
 use Rattle.sysmem_merge.specs.Best.{IsBest}
 use Rattle.sysmem_merge.specs.declared.settings.Settings.{Settings}
-use Rattle.sysmem_sanitise.specs.Participant.{Participant}
-use Rattle.sysmem_sanitise.specs.Platform.{PlatformFacts, offers_of}
+use Rattle.negotiation_inputs.specs.Participant.{Participant}
+use Rattle.negotiation_inputs.specs.Platform.{PlatformFacts, offers_of}
 use Rattle.flat_parts.specs.Pairs.{IsPairSaid}
 use Rattle.flat_parts.specs.declared.flat.FlatPair.{FlatPair}
 use Rattle.flat_parts.specs.declared.flat.FlatPlatform.{FlatPlatform}

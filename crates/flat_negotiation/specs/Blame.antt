@@ -14,8 +14,8 @@ use Rattle.sysmem_merge.specs.Reasons.{IsFirstReason}
 use Rattle.sysmem_merge.specs.declared.reason.Reason.{Reason}
 use Rattle.sysmem_merge.specs.declared.reason.Reason.TheVariants.{Count, NoPlace, NoOffer}
 use Rattle.sysmem_merge.specs.declared.settings.Settings.{Settings}
-use Rattle.sysmem_sanitise.specs.Participant.{Participant}
-use Rattle.sysmem_sanitise.specs.Platform.{PlatformFacts}
+use Rattle.negotiation_inputs.specs.Participant.{Participant}
+use Rattle.negotiation_inputs.specs.Platform.{PlatformFacts}
 use Rattle.flat_negotiation.specs.Own.{IsOwnOffer, or_else}
 use Rattle.flat_negotiation.specs.Takes.{take_format, told_line}
 use Rattle.flat_negotiation.specs.declared.unsettled.Refusal.{Refusal}

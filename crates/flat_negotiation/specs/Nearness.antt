@@ -2,7 +2,7 @@
 use Rattle.std.specs.Prelude.{List}
 use Rattle.sysmem_formats.specs.declared.colour_space.ColourSpace.{ColourSpace}
 use Rattle.sysmem_formats.specs.declared.offer.Pair.{Pair}
-use Rattle.sysmem_sanitise.specs.Participant.{Participant}
+use Rattle.negotiation_inputs.specs.Participant.{Participant}
 use Rattle.flat_negotiation.specs.Own.{TakeImage, TakeItsFormat, TakePair}
 use Rattle.flat_negotiation.specs.declared.taking.Nearness.{Nearness}
 use Rattle.flat_negotiation.specs.declared.taking.Nearness.TheVariants as near

@@ -7,8 +7,8 @@ use Rattle.sysmem_formats.specs.declared.offer.Offer.TheVariants as offer
 use Rattle.sysmem_formats.specs.declared.offer.Pair.{Pair}
 use Rattle.sysmem_merge.specs.Demands.{offer_demands}
 use Rattle.sysmem_merge.specs.Reasons.{IsOfferLine}
-use Rattle.sysmem_sanitise.specs.Participant.{Participant}
-use Rattle.sysmem_sanitise.specs.Platform.{PlatformFacts}
+use Rattle.negotiation_inputs.specs.Participant.{Participant}
+use Rattle.negotiation_inputs.specs.Platform.{PlatformFacts}
 use Rattle.flat_negotiation.specs.Takes.{take_format}
 
 -- each has an entry for the image, or none at all

@@ -6,9 +6,9 @@ use Rattle.sysmem_counts.specs.declared.usage.Usage.{Usage}
 use Rattle.sysmem_formats.specs.declared.colour_space.ColourSpace.{ColourSpace}
 use Rattle.sysmem_formats.specs.declared.offer.Pair.{Pair}
 use Rattle.sysmem_image.specs.declared.entry.Entry.{Entry}
-use Rattle.sysmem_sanitise.specs.Amiss.{PlatformAmiss, ParticipantAmiss}
-use Rattle.sysmem_sanitise.specs.Participant.{IsParticipant, Participant}
-use Rattle.sysmem_sanitise.specs.Platform.{IsPlatform, PlatformFacts}
+use Rattle.negotiation_inputs.specs.Amiss.{PlatformAmiss, ParticipantAmiss}
+use Rattle.negotiation_inputs.specs.Participant.{IsParticipant, Participant}
+use Rattle.negotiation_inputs.specs.Platform.{IsPlatform, PlatformFacts}
 use Rattle.flat_parts.specs.declared.flat.FlatParticipant.{FlatParticipant}
 use Rattle.flat_parts.specs.declared.flat.FlatPlatform.{FlatPlatform}
 use Rattle.flat_parts.specs.declared.unsaid.Amiss.{Amiss}

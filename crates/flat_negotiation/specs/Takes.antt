@@ -7,7 +7,7 @@ use Rattle.sysmem_formats.specs.declared.offer.Offer.TheVariants as offer
 use Rattle.sysmem_formats.specs.declared.pixel_format.PixelFormat as of
 use Rattle.sysmem_image.specs.Entries.{agrees_format}
 use Rattle.sysmem_image.specs.declared.entry.Entry.{Entry}
-use Rattle.sysmem_sanitise.specs.Participant.{Participant}
+use Rattle.negotiation_inputs.specs.Participant.{Participant}
 
 -- an entry is for the format, by its name or by DO_NOT_CARE
 abbrev pub is_for_format : of.PixelFormat → Entry → Bool

@@ -1,8 +1,8 @@
 -- Why structs have no settings.
 use Rattle.std.specs.Prelude.{◌<◌, List, length, true, IsSomeAnd, slice_get}
 use Rattle.std.specs.List.{AllZip}
-use Rattle.sysmem_sanitise.specs.Participant.{Participant}
-use Rattle.sysmem_sanitise.specs.Platform.{PlatformFacts}
+use Rattle.negotiation_inputs.specs.Participant.{Participant}
+use Rattle.negotiation_inputs.specs.Platform.{PlatformFacts}
 use Rattle.sysmem_merge.specs.Best.{IsBest}
 use Rattle.sysmem_merge.specs.declared.settings.Settings.{Settings}
 use Rattle.flat_parts.specs.declared.flat.FlatParticipant.{FlatParticipant}

@@ -8,11 +8,11 @@ ghost use Rattle.flat_negotiation.specs.Blame.{IsFieldOf, IsOfferField, IsPlaceF
 
 use crate::taking::{or_else, own_offer, take_format};
 use crate::unsettled::{Refusal, Stop};
+use negotiation_inputs::{Constraints, Platform};
 use sysmem_counts::Field;
 use sysmem_formats::Offer;
 use sysmem_memory::refuses;
 use sysmem_merge::{OfferRead, Reason, Settings};
-use sysmem_sanitise::{Constraints, Platform};
 
 /// What all of a list ask of an offer.
 pub(crate) fn read_of(offer: &Offer, asked: &[Constraints]) -> OfferRead

@@ -11,8 +11,8 @@ use flat_parts::{
     Amiss, FlatParticipant, FlatPlatform, Unsaid, colours_of, counts_of, entries_of, heaps_of,
     memory_of, pairs_of, usage_of,
 };
+use negotiation_inputs::{Constraints, Platform};
 use std::alloc::{AllocError, Global};
-use sysmem_sanitise::{Constraints, Platform};
 
 /// The platform that the structs state. It fails where memory is refused, or where they state none.
 pub(crate) fn platform_of(alloc: Global, flat: &FlatPlatform<'_>) -> Result<Platform, Unsaid>

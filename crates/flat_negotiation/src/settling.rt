@@ -9,9 +9,9 @@ ghost use Rattle.flat_negotiation.specs.Unsettled.{AreUnmet};
 
 use crate::blaming::{alone, blamed};
 use crate::unsettled::{Refusal, Stop, Unsettled};
+use negotiation_inputs::{Constraints, Platform};
 use std::alloc::{AllocError, Global};
 use sysmem_merge::{Aggregate, Reason, Settings};
-use sysmem_sanitise::{Constraints, Platform};
 
 /// What is kept of all of a list.
 fn aggregate_of<'p>(

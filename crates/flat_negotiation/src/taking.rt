@@ -7,10 +7,10 @@ ghost use Rattle.flat_negotiation.specs.Own.{IsFirstColour, IsFirstImage, IsOwnO
 ghost use Rattle.flat_negotiation.specs.Takes.{is_for_format, lacks_format, take_format};
 
 use crate::blaming::read_of;
+use negotiation_inputs::{Constraints, Platform};
 use sysmem_counts::Field;
 use sysmem_formats::{ColourSpace, Offer, Pair, PixelFormat};
 use sysmem_image::Entry;
-use sysmem_sanitise::{Constraints, Platform};
 
 fn is_for_format(format: PixelFormat, entry: &Entry) -> bool
     ensures { result ≡ is_for_format format entry.now }
