@@ -3,7 +3,7 @@ use Rattle.std.proofs.Common.{◌≡◌, ◌≢◌, ℕ, Bool, true, false, List
 use Rattle.std.specs.Prelude.{All, AllPairs, is_some, option_map, IsSome, IfSome, IfOk, Ok, Err, Result, is_none, not}
 use Rattle.std.proofs.lemmas.Option.{same_Some}
 use Rattle.sysmem_tree.specs.Domain.{HasDomain}
-use Rattle.sysmem_tree.specs.Forest.{Forest, choices, settled, first_group, relabel}
+use Rattle.sysmem_tree.specs.Forest.{Forest, choices, first_group, relabel}
 use Rattle.sysmem_tree.specs.Laws.{AreOneForest, OnePath}
 use Rattle.sysmem_tree.specs.LayoutLaws.{Both, LeaveOneForest, number as one_number, member as one_member}
 use Rattle.sysmem_tree.specs.Members.{AreItsNodes}
@@ -15,7 +15,6 @@ use Rattle.sysmem_tree.proofs.CallerLemmas.{first_many}
 use Rattle.sysmem_sanitise.specs.Platform.{PlatformFacts}
 use Rattle.verdict_claims.specs.Base.{BaseFacts, IsBase, IsElsewhere, IsGivenBase}
 use Rattle.conflict_finding.specs.Found.{AreSettledAt}
-use Rattle.verdict_claims.specs.Members.{participants}
 use Rattle.verdict_claims.proofs.SettledNodes.{all_there, few_there, stand_for}
 
 -- the participants that choices settle are settled there
