@@ -12,10 +12,10 @@ use Rattle.sysmem_tree.specs.Shape.{Member, shape_of}
 use Rattle.sysmem_merge.specs.declared.settings.Settings.{Settings}
 use Rattle.sysmem_merge.specs.Fit.{OwnWithoutImage}
 use Rattle.sysmem_merge.specs.Settings.{MeetsLoosely}
-use Rattle.sysmem_proof.specs.declared.certificate.Proof.{Proof}
-use Rattle.sysmem_proof.specs.declared.certificate.Proof.TheVariants as proves
-use Rattle.sysmem_proof.specs.declared.verdict.Verdict.{Verdict}
-use Rattle.sysmem_proof.specs.declared.verdict.Verdict.TheVariants as verdicts
+use Rattle.verdict_claims.specs.declared.certificate.Proof.{Proof}
+use Rattle.verdict_claims.specs.declared.certificate.Proof.TheVariants as proves
+use Rattle.verdict_claims.specs.declared.verdict.Verdict.{Verdict}
+use Rattle.verdict_claims.specs.declared.verdict.Verdict.TheVariants as verdicts
 use Rattle.sysmem_proof.specs.Base.{BaseFacts, terms_of}
 use Rattle.sysmem_proof.specs.CertificateFacts.{CertificateFacts}
 use Rattle.sysmem_proof.specs.Chosen.{ChosenFacts}

@@ -13,10 +13,10 @@ use Rattle.sysmem_tree.specs.Node.{NodeFacts}
 use Rattle.sysmem_tree.specs.Nodes.{IsTree}
 use Rattle.sysmem_tree.specs.Shape.{Member, shape_of}
 use Rattle.sysmem_merge.specs.declared.settings.Settings.{Settings}
-use Rattle.sysmem_proof.specs.declared.conflict.Conflict.{Conflict}
-use Rattle.sysmem_proof.specs.declared.conflict.Conflict.TheVariants.{Count, Places, Offers, Fixed}
-use Rattle.sysmem_proof.specs.declared.refutation.Item.{Item}
-use Rattle.sysmem_proof.specs.declared.refutation.Item.TheVariants.{Split, Leaf}
+use Rattle.verdict_claims.specs.declared.conflict.Conflict.{Conflict}
+use Rattle.verdict_claims.specs.declared.conflict.Conflict.TheVariants.{Count, Places, Offers, Fixed}
+use Rattle.verdict_claims.specs.declared.refutation.Item.{Item}
+use Rattle.verdict_claims.specs.declared.refutation.Item.TheVariants.{Split, Leaf}
 use Rattle.sysmem_proof.specs.Base.{BaseFacts, Terms, terms_of}
 use Rattle.sysmem_proof.specs.Certificate.{Refutes, RefutesEarlier, HoldBefore, RefuseBeforeFor, IsCertificate, IsRefutation}
 use Rattle.sysmem_proof.specs.CertificateFacts.{CertificateFacts}
@@ -24,7 +24,7 @@ use Rattle.sysmem_proof.specs.Conflict.{RefusesPlace, RefusesOffer, IsConflictFo
 use Rattle.sysmem_proof.specs.Line.{LineFacts}
 use Rattle.sysmem_proof.specs.Naming.{same_path, asked_at, IsTrueOf}
 use Rattle.certificate_text.specs.CanBeRead.{HasSteps, NamesNodes, IsReadableConflict, IsReadableItem, IsReadableRefutation, IsReadableCertificate}
-use Rattle.sysmem_proof.proofs.CallerLemmas.{both_all, in_settled}
+use Rattle.verdict_claims.proofs.CallerLemmas.{both_all, in_settled}
 use Rattle.certificate_text.proofs.Shapes.{HasPath, accepted_paths, IsReached, whole_reached, choice_reached, choices_reached, selected_reached, reached_paths, few_there}
 
 -- ---- lines

@@ -7,9 +7,9 @@ use Rattle.sysmem_sanitise.specs.Platform.{PlatformFacts, IsHeap, IsPlatform}
 use Rattle.sysmem_tree.specs.Node.{NodeFacts}
 use Rattle.sysmem_tree.specs.Nodes.{IsTree}
 use Rattle.sysmem_tree.specs.Path.{path_of}
-use Rattle.sysmem_proof.specs.declared.certificate.Claim.{Claim}
-use Rattle.sysmem_proof.specs.declared.certificate.Proof.{Proof}
-use Rattle.sysmem_proof.specs.declared.verdict.Verdict.{Verdict}
+use Rattle.verdict_claims.specs.declared.certificate.Claim.{Claim}
+use Rattle.verdict_claims.specs.declared.certificate.Proof.{Proof}
+use Rattle.verdict_claims.specs.declared.verdict.Verdict.{Verdict}
 use Rattle.sysmem_proof.specs.Base.{BaseFacts}
 use Rattle.sysmem_proof.specs.Claim.{IsTrueClaim}
 use Rattle.certificate_text.specs.CanBeRead.{HasSteps, CanBeRead, IsReadableDecision}

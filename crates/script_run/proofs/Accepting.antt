@@ -14,7 +14,7 @@ use Rattle.script_reading.specs.Script.{CallFacts, ScriptFacts}
 use Rattle.script_reading.specs.Text.{IsJson, longest, not_json, spelled, too_long, Outcome}
 use Rattle.script_reading.specs.declared.fault.ScriptFault.{ScriptFault}
 use Rattle.sysmem_alloc.specs.Decision.{answer_of}
-use Rattle.sysmem_proof.specs.declared.certificate.Claim.{Claim}
+use Rattle.verdict_claims.specs.declared.certificate.Claim.{Claim}
 use Rattle.sysmem_sanitise.specs.Platform.{PlatformFacts}
 use Rattle.script_run.specs.Certificate.{CertifiedFacts, IsCertifiedBy, IsProved, certificate_of, data_of}
 use Rattle.script_run.specs.Checked.{AreTaken, IsOf, accepts}

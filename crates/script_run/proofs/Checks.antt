@@ -14,7 +14,7 @@ use Rattle.sysmem_proof.specs.Base.{BaseFacts, terms_of}
 use Rattle.sysmem_proof.specs.Fault.{VerdictFaults}
 use Rattle.sysmem_tree.specs.Domain.{TreeFacts}
 use Rattle.sysmem_tree.specs.Shape.{shape_of}
-use Rattle.sysmem_proof.specs.declared.certificate.Claim.{Claim}
+use Rattle.verdict_claims.specs.declared.certificate.Claim.{Claim}
 use Rattle.sysmem_sanitise.specs.Platform.{PlatformFacts}
 use Rattle.sysmem_tree.specs.Path.{path_of}
 use Rattle.script_reading.specs.Script.{CallFacts}
@@ -26,8 +26,8 @@ use Rattle.script_run.specs.Stop.{IfObjects, IsStopped}
 use Rattle.script_run.specs.declared.decider.Stop.{Stop}
 use Rattle.script_run.specs.declared.decider.Stop.TheVariants.{Refused}
 use Rattle.script_run.proofs.Following.{goes_platform}
-use Rattle.sysmem_proof.specs.declared.no.No.{No}
-use Rattle.sysmem_proof.specs.declared.no.No.TheVariants.{WrongShape}
+use Rattle.verdict_claims.specs.declared.no.No.{No}
+use Rattle.verdict_claims.specs.declared.no.No.TheVariants.{WrongShape}
 
 -- one more of both
 pub zip_more : {V X Y : Type 0} (R : X → Y → Type 0) (f : V → X) (vs : List V) (k : ℕ) (v : V) (ys : List Y) (y : Y) → slice_get vs k ≡ Some v → R (f v) y

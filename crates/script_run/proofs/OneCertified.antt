@@ -6,7 +6,7 @@ use Rattle.std.proofs.lemmas.List.Elements.{All-append, All-cons, All-nil}
 use Rattle.certificate_text.specs.Told.{decision_data}
 use Rattle.serde_json.specs.Data.{Data}
 use Rattle.sysmem_alloc.specs.Claims.{HasProof}
-use Rattle.sysmem_proof.specs.declared.certificate.Claim.{Claim}
+use Rattle.verdict_claims.specs.declared.certificate.Claim.{Claim}
 use Rattle.sysmem_sanitise.specs.Platform.{PlatformFacts}
 use Rattle.script_run.specs.Certificate.{AreProved, IsProved, data_of}
 use Rattle.script_run.specs.Report.{Certified}

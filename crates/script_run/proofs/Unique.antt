@@ -10,8 +10,8 @@ use Rattle.sysmem_alloc.specs.State.{base_of, next_ready}
 use Rattle.sysmem_image.specs.Corners.{IsCorner}
 use Rattle.sysmem_image.specs.Laws.{CornerIsLeast}
 use Rattle.sysmem_merge.specs.declared.settings.Settings.{Settings}
-use Rattle.sysmem_proof.specs.declared.verdict.Verdict.{Verdict}
-use Rattle.sysmem_proof.specs.declared.verdict.Verdict.TheVariants.{Chosen, IntersectionEmpty, TooMany, Failed, NoMemory}
+use Rattle.verdict_claims.specs.declared.verdict.Verdict.{Verdict}
+use Rattle.verdict_claims.specs.declared.verdict.Verdict.TheVariants.{Chosen, IntersectionEmpty, TooMany, Failed, NoMemory}
 use Rattle.sysmem_proof.specs.Chosen.{ChosenFacts}
 use Rattle.sysmem_proof.specs.Laws.{OneAnswer}
 use Rattle.sysmem_proof.specs.Verdict.{IsOptimalIn, IsSameAnswer}

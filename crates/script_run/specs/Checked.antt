@@ -9,8 +9,8 @@ use Rattle.sysmem_alloc.specs.State.{State as BookState, base_of, next_ready}
 use Rattle.sysmem_proof.specs.Base.{terms_of}
 use Rattle.sysmem_proof.specs.Claim.{IsTrueClaim}
 use Rattle.sysmem_proof.specs.Fault.{Fails, Faults, First, VerdictFaults}
-use Rattle.sysmem_proof.specs.declared.certificate.Claim.{Claim}
-use Rattle.sysmem_proof.specs.declared.no.No.TheVariants.{WrongShape}
+use Rattle.verdict_claims.specs.declared.certificate.Claim.{Claim}
+use Rattle.verdict_claims.specs.declared.no.No.TheVariants.{WrongShape}
 use Rattle.sysmem_sanitise.specs.Platform.{PlatformFacts}
 use Rattle.sysmem_tree.specs.Path.{path_of}
 use Rattle.sysmem_tree.specs.Shape.{shape_of}

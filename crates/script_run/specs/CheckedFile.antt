@@ -10,9 +10,9 @@ use Rattle.serde_json.specs.View.{items_of}
 use Rattle.script_reading.specs.Script.{ScriptFacts, script_of}
 use Rattle.script_reading.specs.Text.{IsJson, longest}
 use Rattle.script_reading.specs.declared.fault.ScriptFault.{ScriptFault}
-use Rattle.sysmem_proof.specs.declared.no.No.{No}
-use Rattle.sysmem_proof.specs.declared.no.No.TheVariants.{WrongShape, WrongNode, NoConflict}
-use Rattle.sysmem_proof.specs.declared.no.No.TheVariants.{NotMet, Missing, NotLeast}
+use Rattle.verdict_claims.specs.declared.no.No.{No}
+use Rattle.verdict_claims.specs.declared.no.No.TheVariants.{WrongShape, WrongNode, NoConflict}
+use Rattle.verdict_claims.specs.declared.no.No.TheVariants.{NotMet, Missing, NotLeast}
 use Rattle.script_run.specs.Checked.{Answers}
 use Rattle.script_run.specs.Outcome.{RunsTo}
 use Rattle.script_run.specs.Run.{WritesText, WritesTextPart}

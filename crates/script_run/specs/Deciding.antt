@@ -3,9 +3,9 @@ use Rattle.std.specs.Prelude.{◌≡◌, ℕ, ◌++◌, List, Option}
 use Rattle.sysmem_counts.specs.declared.field.Field.{Field}
 use Rattle.sysmem_image.specs.Corners.{RefusesCorner}
 use Rattle.sysmem_merge.specs.declared.settings.Settings.{Settings}
-use Rattle.sysmem_proof.specs.declared.verdict.Verdict.{Verdict}
-use Rattle.sysmem_proof.specs.declared.verdict.Verdict.TheVariants.{Chosen, IntersectionEmpty}
-use Rattle.sysmem_proof.specs.declared.verdict.Verdict.TheVariants.{TooMany, Failed, NoMemory}
+use Rattle.verdict_claims.specs.declared.verdict.Verdict.{Verdict}
+use Rattle.verdict_claims.specs.declared.verdict.Verdict.TheVariants.{Chosen, IntersectionEmpty}
+use Rattle.verdict_claims.specs.declared.verdict.Verdict.TheVariants.{TooMany, Failed, NoMemory}
 use Rattle.sysmem_sanitise.specs.Platform.{PlatformFacts}
 use Rattle.script_run.specs.Lines.{domain_line}
 use Rattle.script_run.specs.Report.{Tells}

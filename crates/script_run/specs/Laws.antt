@@ -3,9 +3,9 @@ use Rattle.std.specs.Prelude.{◌≡◌, ℕ, ◌≤◌, All, List, length, Bool
 use Rattle.std.specs.Prelude.{None, Result, Ok, Err}
 use Rattle.serde_json.specs.Data.{array}
 use Rattle.serde_json.specs.View.{items_of}
-use Rattle.sysmem_proof.specs.declared.certificate.Claim.{Claim}
-use Rattle.sysmem_proof.specs.declared.certificate.Proof.TheVariants.{Nothing}
-use Rattle.sysmem_proof.specs.declared.verdict.Verdict.TheVariants.{NoMemory}
+use Rattle.verdict_claims.specs.declared.certificate.Claim.{Claim}
+use Rattle.verdict_claims.specs.declared.certificate.Proof.TheVariants.{Nothing}
+use Rattle.verdict_claims.specs.declared.verdict.Verdict.TheVariants.{NoMemory}
 use Rattle.sysmem_sanitise.specs.Platform.{PlatformFacts, IsPlatform}
 use Rattle.certificate_text.specs.CanBeRead.{HasHeapIds}
 use Rattle.certificate_text.specs.Said.{claim_said}

@@ -10,10 +10,10 @@ use Rattle.sysmem_alloc.specs.State.{State as BookState, after_decision, next_re
 use Rattle.sysmem_image.specs.declared.size.Corner.{Corner}
 use Rattle.sysmem_image.specs.Corners.{IsCorner}
 use Rattle.sysmem_proof.specs.Chosen.{ChosenFacts}
-use Rattle.sysmem_proof.specs.declared.certificate.Claim.{Claim}
-use Rattle.sysmem_proof.specs.declared.verdict.Verdict.{Verdict}
-use Rattle.sysmem_proof.specs.declared.verdict.Verdict.TheVariants.{Chosen, IntersectionEmpty}
-use Rattle.sysmem_proof.specs.declared.verdict.Verdict.TheVariants.{TooMany}
+use Rattle.verdict_claims.specs.declared.certificate.Claim.{Claim}
+use Rattle.verdict_claims.specs.declared.verdict.Verdict.{Verdict}
+use Rattle.verdict_claims.specs.declared.verdict.Verdict.TheVariants.{Chosen, IntersectionEmpty}
+use Rattle.verdict_claims.specs.declared.verdict.Verdict.TheVariants.{TooMany}
 use Rattle.sysmem_sanitise.specs.Platform.{PlatformFacts}
 use Rattle.sysmem_tree.specs.Domain.{TreeFacts, newly_failed}
 use Rattle.sysmem_tree.specs.Path.{path_of}

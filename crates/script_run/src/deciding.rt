@@ -11,7 +11,7 @@ ghost use Rattle.sysmem_alloc.specs.Sound.{MayWait};
 ghost use Rattle.sysmem_alloc.specs.State.{next_ready};
 ghost use Rattle.sysmem_proof.specs.Base.{IsGivenBase};
 ghost use Rattle.sysmem_proof.specs.Claim.{IsTrueClaim};
-ghost use Rattle.sysmem_proof.specs.declared.verdict.Verdict.TheVariants as verdicts;
+ghost use Rattle.verdict_claims.specs.declared.verdict.Verdict.TheVariants as verdicts;
 ghost use Rattle.sysmem_tree.specs.Domain.{HasDomain};
 ghost use Rattle.sysmem_tree.specs.Path.{path_of};
 ghost use Rattle.script_run.specs.Deciding.{CanBeTold, HasCorner, TellsIn};

@@ -1,7 +1,7 @@
 -- What was decided has a certificate.
 use Rattle.std.proofs.Common.{◌∷◌, Some, refl}
 use Rattle.list_lemmas.proofs.CallerLemmas.{of_some}
-use Rattle.sysmem_proof.specs.Laws.{OptimalHasProof}
+use Rattle.verdict_claims.specs.Laws.{OptimalHasProof}
 use Rattle.sysmem_alloc.specs.Book.{book_of}
 use Rattle.sysmem_alloc.specs.Entry.{Decided}
 use Rattle.sysmem_alloc.specs.History.{replay}

@@ -12,11 +12,11 @@ use Rattle.sysmem_tree.specs.Node.{NodeFacts}
 use Rattle.sysmem_tree.specs.Path.{path_of}
 use Rattle.sysmem_tree.specs.Selection.{after, settled_by}
 use Rattle.sysmem_tree.specs.Shape.{Member, kid_of, before, tree_of, kids_from, rooted, forest_of, members_of, participants_of}
-use Rattle.sysmem_proof.specs.Asked.{asks_at}
+use Rattle.verdict_claims.specs.Asked.{asks_at}
 use Rattle.sysmem_alloc.specs.Decision.{Decision, choices_of}
 use Rattle.sysmem_alloc.specs.State.{chosen_by, chosen_in}
 use Rattle.sysmem_tree.proofs.CallerLemmas.{after_relabel, settled_relabel, all_mapped}
-use Rattle.sysmem_proof.proofs.CallerLemmas.{AllIn, in_after, in_settled, in_tree}
+use Rattle.verdict_claims.proofs.CallerLemmas.{AllIn, in_after, in_settled, in_tree}
 
 module _ {A : Type 0} (P : A → Type 0) where
   -- what all labels have, all that choices settle has

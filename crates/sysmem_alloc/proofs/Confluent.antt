@@ -3,10 +3,10 @@ use Rattle.std.proofs.Common.{◌≡◌, ◌⊎◌, ℕ, ◌==◌, Bool, true, f
 use Rattle.std.specs.Prelude.{IfSome, IsSomeAnd, map, option_map, option_and_then, if◌then◌else◌}
 use Rattle.std.proofs.lemmas.Option.{same_Some}
 use Rattle.std.specs.List.{AllByRecursion}
-use Rattle.sysmem_proof.specs.declared.verdict.Verdict.{Verdict}
-use Rattle.sysmem_proof.specs.Base.{terms_of}
-use Rattle.sysmem_proof.specs.Laws.{OneAnswer}
-use Rattle.sysmem_proof.specs.Verdict.{IsOptimalFor, IsOptimalIn}
+use Rattle.verdict_claims.specs.declared.verdict.Verdict.{Verdict}
+use Rattle.verdict_claims.specs.Base.{terms_of}
+use Rattle.verdict_claims.specs.Laws.{OneAnswer}
+use Rattle.verdict_claims.specs.Verdict.{IsOptimalFor, IsOptimalIn}
 use Rattle.sysmem_sanitise.specs.Platform.{PlatformFacts}
 use Rattle.sysmem_tree.specs.declared.refusal.Refusal.{Refusal}
 use Rattle.sysmem_tree.specs.Domain.{TreeFacts, HasDomain, host_node, is_ready}

@@ -1,8 +1,8 @@
 -- The verdict of a domain, by what became of it.
 use Rattle.std.proofs.Common.{◌≡◌, ◌≢◌, ℕ, Bool, true, false, Option, Some, None, refl, sym, ◌∙◌, ap, subst}
 use Rattle.std.specs.Prelude.{option_map, unwrap_or, if◌then◌else◌}
-use Rattle.sysmem_proof.specs.declared.verdict.Verdict.{Verdict}
-use Rattle.sysmem_proof.specs.declared.verdict.Verdict.TheVariants as verdicts
+use Rattle.verdict_claims.specs.declared.verdict.Verdict.{Verdict}
+use Rattle.verdict_claims.specs.declared.verdict.Verdict.TheVariants as verdicts
 use Rattle.sysmem_tree.specs.declared.domain.Decision.{Decision as Standing}
 use Rattle.sysmem_tree.specs.declared.domain.Decision.TheVariants.{Undecided, Chosen, NoneChosen}
 use Rattle.sysmem_tree.specs.declared.fate.Fate.TheVariants as fates

@@ -8,10 +8,10 @@ use Rattle.std.proofs.lemmas.Option.{slice_get_within}
 use Rattle.std.specs.List.{AllByRecursion}
 use Rattle.list_lemmas.proofs.CallerLemmas.{and_parts}
 use Rattle.sysmem_merge.specs.declared.settings.Settings.{Settings}
-use Rattle.sysmem_proof.specs.declared.verdict.Verdict.{Verdict}
-use Rattle.sysmem_proof.specs.declared.verdict.Verdict.TheVariants as verdicts
+use Rattle.verdict_claims.specs.declared.verdict.Verdict.{Verdict}
+use Rattle.verdict_claims.specs.declared.verdict.Verdict.TheVariants as verdicts
 use Rattle.sysmem_tree.specs.declared.domain.Decision.TheVariants.{Chosen, NoneChosen}
-use Rattle.sysmem_proof.specs.Base.{IsBase, IsElsewhere, IsGivenBase}
+use Rattle.verdict_claims.specs.Base.{IsBase, IsElsewhere, IsGivenBase}
 use Rattle.sysmem_sanitise.specs.Platform.{PlatformFacts}
 use Rattle.sysmem_tree.specs.declared.node.Birth.{Birth}
 use Rattle.sysmem_tree.specs.Domain.{TreeFacts, HasDomain, decision_of, has_failed, host_node, host_number, is_chosen, is_complete, is_host_selected, is_ready}

@@ -6,13 +6,13 @@ use Rattle.std.proofs.lemmas.List.Concat.{flat_map-cons}
 use Rattle.std.proofs.lemmas.List.Elements.{All-append, All-cons, All-filter, All-head, All-nil, All-tail}
 use Rattle.std.proofs.lemmas.Option.{same_Some, slice_get_within}
 use Rattle.sysmem_merge.specs.declared.settings.Settings.{Settings}
-use Rattle.sysmem_proof.specs.declared.certificate.Claim.{Claim}
-use Rattle.sysmem_proof.specs.declared.verdict.Verdict.{Verdict}
-use Rattle.sysmem_proof.specs.Base.{BaseFacts, terms_of}
-use Rattle.sysmem_proof.specs.Check.{IsProof}
-use Rattle.sysmem_proof.specs.Claim.{IsTrueClaim}
-use Rattle.sysmem_proof.specs.Members.{members_at}
-use Rattle.sysmem_proof.specs.Verdict.{IsOptimalFor, IsOptimalIn}
+use Rattle.verdict_claims.specs.declared.certificate.Claim.{Claim}
+use Rattle.verdict_claims.specs.declared.verdict.Verdict.{Verdict}
+use Rattle.verdict_claims.specs.Base.{BaseFacts, terms_of}
+use Rattle.verdict_claims.specs.Check.{IsProof}
+use Rattle.verdict_claims.specs.Claim.{IsTrueClaim}
+use Rattle.verdict_claims.specs.Members.{members_at}
+use Rattle.verdict_claims.specs.Verdict.{IsOptimalFor, IsOptimalIn}
 use Rattle.sysmem_sanitise.specs.Platform.{PlatformFacts}
 use Rattle.sysmem_tree.specs.declared.refusal.Refusal.{Refusal}
 use Rattle.sysmem_tree.specs.ActionKind.{Deed}

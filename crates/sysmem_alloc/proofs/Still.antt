@@ -6,11 +6,11 @@ use Rattle.sysmem_alloc.specs.Claims.{IsBare, IsRightClaim}
 use Rattle.sysmem_alloc.specs.Frozen.{FrozenFacts, IsStill}
 use Rattle.sysmem_alloc.specs.Laws.{FitsClaim, FitIsRight, FitStays, NextStays}
 use Rattle.sysmem_alloc.specs.State.{base_of}
-use Rattle.sysmem_proof.specs.declared.certificate.Claim.{Claim}
-use Rattle.sysmem_proof.specs.Base.{Terms, terms_of}
-use Rattle.sysmem_proof.specs.Check.{IsProof}
-use Rattle.sysmem_proof.specs.Claim.{IsTrueClaim}
-use Rattle.sysmem_proof.specs.Verdict.{IsOptimalFor}
+use Rattle.verdict_claims.specs.declared.certificate.Claim.{Claim}
+use Rattle.verdict_claims.specs.Base.{Terms, terms_of}
+use Rattle.verdict_claims.specs.Check.{IsProof}
+use Rattle.verdict_claims.specs.Claim.{IsTrueClaim}
+use Rattle.verdict_claims.specs.Verdict.{IsOptimalFor}
 use Rattle.sysmem_sanitise.specs.Platform.{PlatformFacts}
 use Rattle.sysmem_tree.specs.Forest.{Forest}
 use Rattle.sysmem_tree.specs.Shape.{Member, shape_of}

@@ -1,12 +1,12 @@
 -- A claim is true exactly where it is right and has its proof.
 use Rattle.std.proofs.Common.{◌≡◌, ◌⊎◌, inl, inr, ℕ, List, Option, refl, sym, subst}
-use Rattle.sysmem_proof.specs.declared.certificate.Claim.{Claim}
-use Rattle.sysmem_proof.specs.declared.certificate.Proof.{Proof}
-use Rattle.sysmem_proof.specs.declared.certificate.Proof.TheVariants as proves
-use Rattle.sysmem_proof.specs.declared.verdict.Verdict.{Verdict}
-use Rattle.sysmem_proof.specs.declared.verdict.Verdict.TheVariants as verdicts
-use Rattle.sysmem_proof.specs.Base.{BaseFacts}
-use Rattle.sysmem_proof.specs.Claim.{IsProofIn, IsTrueClaim}
+use Rattle.verdict_claims.specs.declared.certificate.Claim.{Claim}
+use Rattle.verdict_claims.specs.declared.certificate.Proof.{Proof}
+use Rattle.verdict_claims.specs.declared.certificate.Proof.TheVariants as proves
+use Rattle.verdict_claims.specs.declared.verdict.Verdict.{Verdict}
+use Rattle.verdict_claims.specs.declared.verdict.Verdict.TheVariants as verdicts
+use Rattle.verdict_claims.specs.Base.{BaseFacts}
+use Rattle.verdict_claims.specs.Claim.{IsProofIn, IsTrueClaim}
 use Rattle.sysmem_sanitise.specs.Platform.{PlatformFacts}
 use Rattle.sysmem_tree.specs.Node.{NodeFacts}
 use Rattle.sysmem_alloc.specs.Claims.{HasProof, IsRightClaim}

@@ -1,11 +1,11 @@
 -- Which claims a book takes: those whose verdict is optimal, with what proves it or bare.
 use Rattle.std.specs.Prelude.{◌≡◌, ◌⊎◌, ℕ, List, Option}
-use Rattle.sysmem_proof.specs.declared.certificate.Claim.{Claim}
-use Rattle.sysmem_proof.specs.declared.certificate.Proof.TheVariants.{Nothing}
-use Rattle.sysmem_proof.specs.declared.verdict.Verdict.TheVariants.{TooMany}
-use Rattle.sysmem_proof.specs.Base.{BaseFacts}
-use Rattle.sysmem_proof.specs.Claim.{IsProofIn}
-use Rattle.sysmem_proof.specs.Verdict.{IsOptimalIn}
+use Rattle.verdict_claims.specs.declared.certificate.Claim.{Claim}
+use Rattle.verdict_claims.specs.declared.certificate.Proof.TheVariants.{Nothing}
+use Rattle.verdict_claims.specs.declared.verdict.Verdict.TheVariants.{TooMany}
+use Rattle.verdict_claims.specs.Base.{BaseFacts}
+use Rattle.verdict_claims.specs.Claim.{IsProofIn}
+use Rattle.verdict_claims.specs.Verdict.{IsOptimalIn}
 use Rattle.sysmem_sanitise.specs.Platform.{PlatformFacts}
 use Rattle.sysmem_tree.specs.Node.{NodeFacts}
 

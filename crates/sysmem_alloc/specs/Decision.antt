@@ -2,9 +2,9 @@
 use Rattle.std.specs.Prelude.{◌==◌, ℕ, List, [], ◌∷◌, Option, Some, None}
 use Rattle.std.specs.Prelude.{option_and_then, option_map, if◌then◌else◌}
 use Rattle.sysmem_merge.specs.declared.settings.Settings.{Settings}
-use Rattle.sysmem_proof.specs.declared.certificate.Claim.{Claim}
-use Rattle.sysmem_proof.specs.declared.verdict.Verdict.{Verdict}
-use Rattle.sysmem_proof.specs.declared.verdict.Verdict.TheVariants as verdicts
+use Rattle.verdict_claims.specs.declared.certificate.Claim.{Claim}
+use Rattle.verdict_claims.specs.declared.verdict.Verdict.{Verdict}
+use Rattle.verdict_claims.specs.declared.verdict.Verdict.TheVariants as verdicts
 
 -- the decision of the domain that this node roots: its verdict, or none where memory was wanted
 pub record Decision : Type 0 where

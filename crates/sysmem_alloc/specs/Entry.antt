@@ -5,7 +5,7 @@ use Rattle.sysmem_alloc.specs.declared.entry.Entry.{Entry}
 use Rattle.sysmem_alloc.specs.declared.entry.Entry.TheVariants as entries
 use Rattle.sysmem_alloc.specs.Decision.{Claimed, Decision, answer_of, choices_of}
 use Rattle.sysmem_sanitise.specs.Participant.{Participant}
-use Rattle.sysmem_proof.specs.Asked.{asks_at}
+use Rattle.verdict_claims.specs.Asked.{asks_at}
 use Rattle.sysmem_tree.specs.declared.action.ActionKind.{ActionKind}
 use Rattle.sysmem_tree.specs.declared.action.ActionKind.TheVariants as kinds
 use Rattle.sysmem_tree.specs.ActionKind.{Deed, duplicates, creates_group, binds, creates_child}

@@ -1,6 +1,6 @@
 -- What a decision is made from.
 use Rattle.std.specs.Prelude.{◌≡◌, ℕ, Option, Some, option_map}
-use Rattle.sysmem_proof.specs.Base.{BaseFacts, IsGivenBase, terms_of}
+use Rattle.verdict_claims.specs.Base.{BaseFacts, IsGivenBase, terms_of}
 use Rattle.sysmem_sanitise.specs.Platform.{PlatformFacts}
 use Rattle.sysmem_tree.specs.Domain.{TreeFacts}
 use Rattle.sysmem_tree.specs.Shape.{shape_of}

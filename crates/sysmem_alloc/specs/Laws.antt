@@ -2,12 +2,12 @@
 use Rattle.std.specs.Prelude.{◌≡◌, ◌↔◌, ◌≤◌, ◌++◌, ℕ, true, List, ◌∷◌, length, Option}
 use Rattle.std.specs.Prelude.{Some, map, option_map}
 use Rattle.std.specs.List.{Contains}
-use Rattle.sysmem_proof.specs.declared.certificate.Claim.{Claim}
-use Rattle.sysmem_proof.specs.declared.certificate.Proof.{Proof}
-use Rattle.sysmem_proof.specs.declared.verdict.Verdict.{Verdict}
-use Rattle.sysmem_proof.specs.Base.{BaseFacts, IsGivenBase, terms_of}
-use Rattle.sysmem_proof.specs.Claim.{IsTrueClaim}
-use Rattle.sysmem_proof.specs.Verdict.{IsOptimalIn, IsSameAnswer}
+use Rattle.verdict_claims.specs.declared.certificate.Claim.{Claim}
+use Rattle.verdict_claims.specs.declared.certificate.Proof.{Proof}
+use Rattle.verdict_claims.specs.declared.verdict.Verdict.{Verdict}
+use Rattle.verdict_claims.specs.Base.{BaseFacts, IsGivenBase, terms_of}
+use Rattle.verdict_claims.specs.Claim.{IsTrueClaim}
+use Rattle.verdict_claims.specs.Verdict.{IsOptimalIn, IsSameAnswer}
 use Rattle.sysmem_sanitise.specs.Platform.{PlatformFacts}
 use Rattle.sysmem_tree.specs.Domain.{HasDomain, decision_of, is_ready, is_undecided}
 use Rattle.sysmem_tree.specs.Laws.{AreStill, SameInitial, SameReady, IsSameDomain}

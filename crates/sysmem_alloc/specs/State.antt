@@ -2,9 +2,9 @@
 use Rattle.std.specs.Prelude.{ℕ, ◌++◌, Bool, false, ◌&&◌, not, List, [], ◌∷◌, Option, Some, map}
 use Rattle.std.specs.Prelude.{filter, flat_map, option_map, option_and_then, unwrap_or}
 use Rattle.std.specs.Prelude.{slice_get, drop, if◌then◌else◌}
-use Rattle.sysmem_proof.specs.declared.verdict.Verdict.{Verdict}
-use Rattle.sysmem_proof.specs.declared.verdict.Verdict.TheVariants as verdicts
-use Rattle.sysmem_proof.specs.Base.{BaseFacts}
+use Rattle.verdict_claims.specs.declared.verdict.Verdict.{Verdict}
+use Rattle.verdict_claims.specs.declared.verdict.Verdict.TheVariants as verdicts
+use Rattle.verdict_claims.specs.Base.{BaseFacts}
 use Rattle.sysmem_tree.specs.Domain.{TreeFacts, has_failed, host_node, is_ready}
 use Rattle.sysmem_tree.specs.Node.{NodeFacts}
 use Rattle.sysmem_tree.specs.Shape.{participants_of}

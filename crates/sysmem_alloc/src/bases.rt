@@ -16,7 +16,7 @@ use crate::verdicts::{choices_of, entered_for};
 use std::alloc::{AllocError, Global};
 use std::sync::Arc;
 use sysmem_merge::Settings;
-use sysmem_proof::{Claim, Verdict};
+use verdict_claims::{Claim, Verdict};
 use sysmem_tree::{DomainId, NodeId, Tree};
 
 /// The settings of a verdict that chose.

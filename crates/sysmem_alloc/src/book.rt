@@ -9,8 +9,8 @@ ghost use Rattle.sysmem_alloc.specs.Frozen.{IsStill, frozen_of};
 ghost use Rattle.sysmem_alloc.specs.History.{IsStep};
 ghost use Rattle.sysmem_alloc.specs.Sound.{MayWait};
 ghost use Rattle.sysmem_alloc.specs.State.{base_of, next_ready, verdict_of};
-ghost use Rattle.sysmem_proof.specs.Base.{IsGivenBase, terms_of};
-ghost use Rattle.sysmem_proof.specs.Members.{members_at};
+ghost use Rattle.verdict_claims.specs.Base.{IsGivenBase, terms_of};
+ghost use Rattle.verdict_claims.specs.Members.{members_at};
 ghost use Rattle.sysmem_tree.specs.ActionKind.{deed_of};
 ghost use Rattle.sysmem_tree.specs.Domain.{HasDomain};
 ghost use Rattle.sysmem_tree.specs.Laws.{AreStill};
@@ -28,7 +28,7 @@ use std::alloc::{AllocError, Global};
 use std::marker::Model;
 use std::sync::Arc;
 use sysmem_merge::Settings;
-use sysmem_proof::{Base, Claim, Verdict};
+use verdict_claims::{Base, Claim, Verdict};
 use sysmem_sanitise::Platform;
 use sysmem_tree::laws::{forest_stays, members_stand_once, numbers_stay, one_forest};
 use sysmem_tree::{DomainId, Event, MOST_NODES, NodeId, Refusal, Tree};
@@ -62,7 +62,7 @@ impl Model for Book {
     ghost use Rattle.sysmem_alloc.specs.Book.{BookFacts, IsBook, kept_book};
     ghost use Rattle.sysmem_alloc.specs.Entry.{decision_in};
     ghost use Rattle.sysmem_alloc.specs.State.{chosen_in};
-    ghost use Rattle.sysmem_proof.specs.declared.verdict.Verdict.TheVariants as verdicts;
+    ghost use Rattle.verdict_claims.specs.declared.verdict.Verdict.TheVariants as verdicts;
 
     ghost Value = { BookFacts };
 

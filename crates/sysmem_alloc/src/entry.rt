@@ -5,7 +5,7 @@ ghost use Rattle.std.specs.Vec.{vec_capacity, vec_len};
 ghost use Rattle.sysmem_alloc.specs.declared.entry.Entry.TheVariants as entries;
 
 use std::sync::Arc;
-use sysmem_proof::Claim;
+use verdict_claims::Claim;
 use sysmem_tree::{ActionKind, DomainId, NodeId};
 
 /// An entry of a book's history.

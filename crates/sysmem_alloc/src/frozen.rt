@@ -2,10 +2,10 @@
 
 ghost use Rattle.std.specs.Prelude.{◌≡◌, option_map};
 ghost use Rattle.sysmem_alloc.specs.Sound.{MayWait};
-ghost use Rattle.sysmem_proof.specs.Base.{IsGivenBase};
+ghost use Rattle.verdict_claims.specs.Base.{IsGivenBase};
 
 use std::marker::Model;
-use sysmem_proof::Base;
+use verdict_claims::Base;
 use sysmem_sanitise::Platform;
 use sysmem_tree::{DomainId, Tree};
 

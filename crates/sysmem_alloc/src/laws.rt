@@ -2,7 +2,7 @@
 
 ghost use Rattle.sysmem_alloc.specs.Laws.{LegalIsSound, LegalAgrees, BaseIsGiven, FewEntries, ReadyWaits, NumbersStay, VerdictStays, NextStays, FitStays, FitIsRight, InitialShape, Confluence, ProvedClaimsAreTrue, DecisionsHaveProofs};
 
-use sysmem_proof::laws::{one_answer, optimal_has_proof};
+use verdict_claims::laws::{one_answer, optimal_has_proof};
 use sysmem_tree::laws;
 use sysmem_tree::laws::{
     failed_stays, forest_stays, maps_of_logs, members_stand_once, members_stay, one_forest,

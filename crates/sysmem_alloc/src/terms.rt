@@ -2,7 +2,7 @@
 
 ghost use Rattle.std.specs.Prelude.{◌≡◌, ◌↔◌, All, IsTrue};
 ghost use Rattle.sysmem_alloc.specs.Accepted.{marked_of};
-ghost use Rattle.sysmem_proof.specs.Members.{members_at};
+ghost use Rattle.verdict_claims.specs.Members.{members_at};
 ghost use Rattle.sysmem_tree.specs.Nodes.{HasNode};
 
 use sysmem_merge::Settings;

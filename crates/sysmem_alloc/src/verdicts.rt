@@ -10,7 +10,7 @@ ghost use Rattle.sysmem_tree.specs.declared.fate.Fate.TheVariants as fates;
 
 use crate::entry::Entry;
 use std::sync::Arc;
-use sysmem_proof::{Claim, Verdict};
+use verdict_claims::{Claim, Verdict};
 use sysmem_tree::{DomainId, Fate};
 
 /// Whether what became of a domain is that it failed.

@@ -4,9 +4,9 @@ use Rattle.std.specs.Prelude.{IfErr, IfOk, option_map}
 use Rattle.sysmem_alloc.specs.Book.{BookFacts}
 use Rattle.sysmem_alloc.specs.Frozen.{FrozenFacts, frozen_of}
 use Rattle.sysmem_alloc.specs.State.{base_of, next_ready}
-use Rattle.sysmem_proof.specs.declared.certificate.Claim.{Claim as AClaim}
-use Rattle.sysmem_proof.specs.declared.certificate.Proof.{Proof}
-use Rattle.sysmem_proof.specs.declared.verdict.Verdict.{Verdict}
+use Rattle.verdict_claims.specs.declared.certificate.Claim.{Claim as AClaim}
+use Rattle.verdict_claims.specs.declared.certificate.Proof.{Proof}
+use Rattle.verdict_claims.specs.declared.verdict.Verdict.{Verdict}
 use Rattle.sysmem_proof.specs.Base.{BaseFacts}
 use Rattle.sysmem_proof.specs.Claim.{IsProofIn, IsTrueClaim}
 use Rattle.sysmem_proof.specs.Verdict.{IsOptimalIn}

@@ -13,7 +13,7 @@ use Rattle.sysmem_merge.specs.Demands.{counts_asked}
 use Rattle.sysmem_sanitise.specs.Participant.{Participant}
 use Rattle.sysmem_tree.specs.Node.{NodeFacts}
 use Rattle.sysmem_tree.specs.Nodes.{HasNode}
-use Rattle.sysmem_proof.specs.Asked.{asks_at, asked_in}
+use Rattle.verdict_claims.specs.Asked.{asks_at, asked_in}
 
 -- what a node that is there was told to ask
 pub told : (nodes : List NodeFacts) (n : ℕ) (o : Option Participant) → n < length nodes → IfSome (slice_get nodes n) (λ x. o ≡ x.constraints) → o ≡ asks_at nodes n

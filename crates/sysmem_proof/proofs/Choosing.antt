@@ -7,18 +7,18 @@ use Rattle.sysmem_tree.specs.Forest.{Forest, settled}
 use Rattle.sysmem_tree.specs.Node.{NodeFacts}
 use Rattle.sysmem_tree.specs.Selection.{IsSelection}
 use Rattle.sysmem_tree.specs.Shape.{Member}
-use Rattle.sysmem_proof.specs.declared.no.No.{No}
-use Rattle.sysmem_proof.specs.Base.{BaseFacts, Terms, terms_of}
-use Rattle.sysmem_proof.specs.Certificate.{HasNoLines, HoldBefore, RefutesEarlier, RefusePlacesBefore, RefuseBefore, RefuseBeforeFor}
-use Rattle.sysmem_proof.specs.CertificateFacts.{CertificateFacts}
-use Rattle.sysmem_proof.specs.Check.{ChoicePasses, IsLeastAt, IsLeastFor}
+use Rattle.verdict_claims.specs.declared.no.No.{No}
+use Rattle.verdict_claims.specs.Base.{BaseFacts, Terms, terms_of}
+use Rattle.verdict_claims.specs.Certificate.{HasNoLines, HoldBefore, RefutesEarlier, RefusePlacesBefore, RefuseBefore, RefuseBeforeFor}
+use Rattle.verdict_claims.specs.CertificateFacts.{CertificateFacts}
+use Rattle.verdict_claims.specs.Check.{ChoicePasses, IsLeastAt, IsLeastFor}
 use Rattle.sysmem_proof.specs.Choice.{FormFaults, SelectedFaults, SelectedPasses}
-use Rattle.sysmem_proof.specs.Conflict.{IsConflictFor, RefusesOffer}
-use Rattle.sysmem_proof.specs.Fault.{AreFew, ChoiceFaults, EarlierFaults, Faults, HasFittingLines, IsSelected, LinesFaults, NoFault, PlacesFault, SettingsFaults}
-use Rattle.sysmem_proof.specs.Line.{LineFacts}
-use Rattle.sysmem_proof.specs.Members.{participants}
-use Rattle.sysmem_proof.specs.Verdict.{MeetsFixed}
-use Rattle.sysmem_proof.specs.declared.refutation.Item.{Item}
+use Rattle.verdict_claims.specs.Conflict.{IsConflictFor, RefusesOffer}
+use Rattle.verdict_claims.specs.Fault.{AreFew, ChoiceFaults, EarlierFaults, Faults, HasFittingLines, IsSelected, LinesFaults, NoFault, PlacesFault, SettingsFaults}
+use Rattle.verdict_claims.specs.Line.{LineFacts}
+use Rattle.verdict_claims.specs.Members.{participants}
+use Rattle.verdict_claims.specs.Verdict.{MeetsFixed}
+use Rattle.verdict_claims.specs.declared.refutation.Item.{Item}
 
 module _ (platform : PlatformFacts) (d : Forest Member) (selection : List ℕ) (s : Settings) (certificate : CertificateFacts) where
   module _ (terms : Option Terms) (e : Forest Member) (selects : IsSelection d selection e) where

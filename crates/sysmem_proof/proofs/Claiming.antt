@@ -6,16 +6,16 @@ use Rattle.sysmem_sanitise.specs.Platform.{PlatformFacts}
 use Rattle.sysmem_tree.specs.Forest.{Forest, count}
 use Rattle.sysmem_tree.specs.Node.{NodeFacts}
 use Rattle.sysmem_tree.specs.Shape.{Member, shape_of}
-use Rattle.sysmem_proof.specs.declared.certificate.Claim.{Claim as AClaim}
-use Rattle.sysmem_proof.specs.declared.no.No.{No}
-use Rattle.sysmem_proof.specs.Base.{BaseFacts, Terms, terms_of}
-use Rattle.sysmem_proof.specs.Check.{RefutationPasses, VerdictPasses}
-use Rattle.sysmem_proof.specs.Claim.{IsTrueClaim}
-use Rattle.sysmem_proof.specs.Fault.{AreFew, AreMany, EmptyFaults, RefutationFaults, VerdictFaults}
-use Rattle.sysmem_proof.specs.Certificate.{Refutes}
-use Rattle.sysmem_proof.specs.Conflict.{IsConflictFor}
-use Rattle.sysmem_proof.specs.declared.refutation.Item.{Item}
-use Rattle.sysmem_proof.specs.Laws.{FaultsAreFirst, TestsAreExact}
+use Rattle.verdict_claims.specs.declared.certificate.Claim.{Claim as AClaim}
+use Rattle.verdict_claims.specs.declared.no.No.{No}
+use Rattle.verdict_claims.specs.Base.{BaseFacts, Terms, terms_of}
+use Rattle.verdict_claims.specs.Check.{RefutationPasses, VerdictPasses}
+use Rattle.verdict_claims.specs.Claim.{IsTrueClaim}
+use Rattle.verdict_claims.specs.Fault.{AreFew, AreMany, EmptyFaults, RefutationFaults, VerdictFaults}
+use Rattle.verdict_claims.specs.Certificate.{Refutes}
+use Rattle.verdict_claims.specs.Conflict.{IsConflictFor}
+use Rattle.verdict_claims.specs.declared.refutation.Item.{Item}
+use Rattle.verdict_claims.specs.Laws.{FaultsAreFirst, TestsAreExact}
 
 module _ (platform : PlatformFacts) (nodes : List NodeFacts) (domain : ℕ) (base : Option BaseFacts) (claim : AClaim) where
   abbrev terms : Option Terms

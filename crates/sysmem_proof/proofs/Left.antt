@@ -6,15 +6,15 @@ use Rattle.std.proofs.lemmas.Option.{same_Some}
 use Rattle.sysmem_sanitise.specs.Platform.{PlatformFacts}
 use Rattle.sysmem_tree.specs.Forest.{Forest, choices}
 use Rattle.sysmem_tree.specs.Shape.{Member}
-use Rattle.sysmem_proof.specs.declared.conflict.Conflict.{Conflict}
-use Rattle.sysmem_proof.specs.declared.no.No.{No}
-use Rattle.sysmem_proof.specs.declared.no.No.TheVariants.{WrongShape, Missing}
-use Rattle.sysmem_proof.specs.declared.refutation.Item.{Item}
-use Rattle.sysmem_proof.specs.declared.refutation.Item.TheVariants.{Split, Leaf}
-use Rattle.sysmem_proof.specs.Base.{Terms}
-use Rattle.sysmem_proof.specs.Certificate.{Refutes, RefutesEarlier}
-use Rattle.sysmem_proof.specs.Conflict.{IsConflictFor}
-use Rattle.sysmem_proof.specs.Fault.{ConflictFaults, EarlierFaults, Fails, Faults, First, RefutationFaults, no_list}
+use Rattle.verdict_claims.specs.declared.conflict.Conflict.{Conflict}
+use Rattle.verdict_claims.specs.declared.no.No.{No}
+use Rattle.verdict_claims.specs.declared.no.No.TheVariants.{WrongShape, Missing}
+use Rattle.verdict_claims.specs.declared.refutation.Item.{Item}
+use Rattle.verdict_claims.specs.declared.refutation.Item.TheVariants.{Split, Leaf}
+use Rattle.verdict_claims.specs.Base.{Terms}
+use Rattle.verdict_claims.specs.Certificate.{Refutes, RefutesEarlier}
+use Rattle.verdict_claims.specs.Conflict.{IsConflictFor}
+use Rattle.verdict_claims.specs.Fault.{ConflictFaults, EarlierFaults, Fails, Faults, First, RefutationFaults, no_list}
 use Rattle.sysmem_proof.proofs.Ways.{at_place}
 use Rattle.sysmem_proof.specs.Walk.{IsLeft, AreLeft, RefuteBefore, FaultsBefore}
 

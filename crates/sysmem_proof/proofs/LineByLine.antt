@@ -3,9 +3,9 @@
 use Rattle.std.proofs.Common.{◌≡◌, ◌<◌, ◌≤◌, ℕ, zero, suc, ◌+◌, List, [], ◌∷◌, ◌++◌, Some, length, take, get_or, slice_get, inl, inr, refl, sym, ◌∙◌, ap, subst, arith}
 use Rattle.std.specs.List.{AllZip}
 use Rattle.std.proofs.lemmas.List.{take_more, take_all}
-use Rattle.sysmem_proof.specs.declared.no.No.{No}
-use Rattle.sysmem_proof.specs.declared.no.No.TheVariants.{WrongShape, Missing}
-use Rattle.sysmem_proof.specs.Fault.{Faults, EachFaults}
+use Rattle.verdict_claims.specs.declared.no.No.{No}
+use Rattle.verdict_claims.specs.declared.no.No.TheVariants.{WrongShape, Missing}
+use Rattle.verdict_claims.specs.Fault.{Faults, EachFaults}
 
 zip_push : {X Y : Type 0} (R : X → Y → Type 0) (xs : List X) (ys : List Y) (x : X) (y : Y) → AllZip R xs ys → R x y → AllZip R (xs ++ x ∷ []) (ys ++ y ∷ [])
 zip_push R [] [] x y zip r = (r, tt)

@@ -21,11 +21,11 @@ use Rattle.sysmem_sanitise.specs.Participant.{Participant}
 use Rattle.sysmem_sanitise.specs.Platform.{PlatformFacts}
 use Rattle.sysmem_tree.specs.Node.{NodeFacts}
 use Rattle.sysmem_tree.specs.Shape.{Member}
-use Rattle.sysmem_proof.specs.Asked.{asked_in}
-use Rattle.sysmem_proof.specs.Base.{Terms}
-use Rattle.sysmem_proof.specs.Check.{IsLeastAt}
-use Rattle.sysmem_proof.specs.Members.{participants}
-use Rattle.sysmem_proof.specs.Verdict.{MeetsFixed}
+use Rattle.verdict_claims.specs.Asked.{asked_in}
+use Rattle.verdict_claims.specs.Base.{Terms}
+use Rattle.verdict_claims.specs.Check.{IsLeastAt}
+use Rattle.verdict_claims.specs.Members.{participants}
+use Rattle.verdict_claims.specs.Verdict.{MeetsFixed}
 use Rattle.sysmem_proof.proofs.Asking.{any_in_order, asked_both, counted_in_order}
 
 -- what names an image is found in any order

@@ -10,16 +10,16 @@ use Rattle.sysmem_merge.specs.Failing.{FailsOn}
 use Rattle.sysmem_sanitise.specs.Platform.{PlatformFacts, offers_of}
 use Rattle.sysmem_tree.specs.Forest.{Forest, settled}
 use Rattle.sysmem_tree.specs.Shape.{Member}
-use Rattle.sysmem_proof.specs.declared.conflict.Conflict.TheVariants.{Places, Offers, Fixed}
-use Rattle.sysmem_proof.specs.declared.no.No.{No}
-use Rattle.sysmem_proof.specs.declared.no.No.TheVariants.{WrongNode, NoConflict}
-use Rattle.sysmem_proof.specs.Base.{Terms}
-use Rattle.sysmem_proof.specs.Conflict.{IsFixedConflict}
+use Rattle.verdict_claims.specs.declared.conflict.Conflict.TheVariants.{Places, Offers, Fixed}
+use Rattle.verdict_claims.specs.declared.no.No.{No}
+use Rattle.verdict_claims.specs.declared.no.No.TheVariants.{WrongNode, NoConflict}
+use Rattle.verdict_claims.specs.Base.{Terms}
+use Rattle.verdict_claims.specs.Conflict.{IsFixedConflict}
 use Rattle.sysmem_proof.specs.EachLine.{one_if, many_in}
-use Rattle.sysmem_proof.specs.Fault.{AreNamed, ConflictFaults, Fails, First, LineFaults}
-use Rattle.sysmem_proof.specs.Line.{LineFacts}
-use Rattle.sysmem_proof.specs.Naming.{IsTrueOf}
-use Rattle.sysmem_proof.proofs.OnRoll.{all_push}
+use Rattle.verdict_claims.specs.Fault.{AreNamed, ConflictFaults, Fails, First, LineFaults}
+use Rattle.verdict_claims.specs.Line.{LineFacts}
+use Rattle.verdict_claims.specs.Naming.{IsTrueOf}
+use Rattle.verdict_claims.proofs.OnRoll.{all_push}
 
 long_put : {X : Type 0} (t : Bool) (x : X) (xs : List X) → length (put_if t x xs) ≡ one_if t + length xs
 long_put true x xs = omega arith

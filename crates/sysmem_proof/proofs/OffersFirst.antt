@@ -10,11 +10,11 @@ use Rattle.sysmem_formats.specs.declared.offer.Pair.{Pair}
 use Rattle.sysmem_formats.specs.Offers.{offers}
 use Rattle.sysmem_sanitise.specs.Platform.{PlatformFacts, offers_of}
 use Rattle.sysmem_tree.specs.Shape.{Member}
-use Rattle.sysmem_proof.specs.declared.no.No.{No}
-use Rattle.sysmem_proof.specs.declared.no.No.TheVariants.{WrongShape, Missing}
-use Rattle.sysmem_proof.specs.Certificate.{HoldBefore}
-use Rattle.sysmem_proof.specs.Fault.{LineFaults, LinesFault}
-use Rattle.sysmem_proof.specs.Line.{LineFacts}
+use Rattle.verdict_claims.specs.declared.no.No.{No}
+use Rattle.verdict_claims.specs.declared.no.No.TheVariants.{WrongShape, Missing}
+use Rattle.verdict_claims.specs.Certificate.{HoldBefore}
+use Rattle.verdict_claims.specs.Fault.{LineFaults, LinesFault}
+use Rattle.verdict_claims.specs.Line.{LineFacts}
 use Rattle.sysmem_proof.proofs.Asking.{both_have}
 use Rattle.sysmem_proof.proofs.LineByLine.{told_all, missing_at, fault_at, too_many, split_at}
 

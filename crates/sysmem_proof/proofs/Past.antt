@@ -15,10 +15,10 @@ use Rattle.sysmem_memory.specs.Listed.{HeapPlace, put_if, places_from, places_of
 use Rattle.sysmem_memory.specs.PlaceTable.{IsPlaceLine}
 use Rattle.sysmem_merge.specs.Demands.{place_demands}
 use Rattle.sysmem_tree.specs.Shape.{Member}
-use Rattle.sysmem_proof.specs.Conflict.{RefusesOffer, RefusesPlace}
+use Rattle.verdict_claims.specs.Conflict.{RefusesOffer, RefusesPlace}
 use Rattle.sysmem_proof.specs.EachLine.{GoesPast}
-use Rattle.sysmem_proof.specs.Line.{LineFacts}
-use Rattle.sysmem_proof.specs.Naming.{IsTrueOf}
+use Rattle.verdict_claims.specs.Line.{LineFacts}
+use Rattle.verdict_claims.specs.Naming.{IsTrueOf}
 use Rattle.sysmem_proof.proofs.Left.{front_item, drop_over, drop_there}
 
 -- a line of a place in this heap is one of the place

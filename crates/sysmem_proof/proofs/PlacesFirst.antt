@@ -16,12 +16,12 @@ use Rattle.sysmem_memory.specs.Place.{IsPlace}
 use Rattle.sysmem_merge.specs.declared.settings.Settings.{Settings}
 use Rattle.sysmem_sanitise.specs.Platform.{PlatformFacts}
 use Rattle.sysmem_tree.specs.Shape.{Member}
-use Rattle.sysmem_proof.specs.declared.no.No.{No}
-use Rattle.sysmem_proof.specs.declared.no.No.TheVariants.{Missing, WrongShape}
-use Rattle.sysmem_proof.specs.Certificate.{RefusePlacesBefore}
-use Rattle.sysmem_proof.specs.Conflict.{RefusesPlace}
-use Rattle.sysmem_proof.specs.Fault.{Faults, LineFaults, PlacesFault}
-use Rattle.sysmem_proof.specs.Line.{LineFacts}
+use Rattle.verdict_claims.specs.declared.no.No.{No}
+use Rattle.verdict_claims.specs.declared.no.No.TheVariants.{Missing, WrongShape}
+use Rattle.verdict_claims.specs.Certificate.{RefusePlacesBefore}
+use Rattle.verdict_claims.specs.Conflict.{RefusesPlace}
+use Rattle.verdict_claims.specs.Fault.{Faults, LineFaults, PlacesFault}
+use Rattle.verdict_claims.specs.Line.{LineFacts}
 use Rattle.sysmem_proof.specs.PlacesBefore.{AreTold, PlaceLinesFault, place_if, places_in, domains_before, places_before}
 use Rattle.sysmem_proof.proofs.LineByLine.{fault_at, front_more, front_split, missing_at, split_at, told_all, told_more, too_many}
 

@@ -9,7 +9,7 @@ use Rattle.list_lemmas.proofs.CallerLemmas.{Any-here}
 use Rattle.sysmem_tree.specs.Laws.{IsOnlyPath}
 use Rattle.sysmem_tree.specs.Node.{NodeFacts}
 use Rattle.sysmem_tree.specs.Path.{node_at}
-use Rattle.sysmem_proof.proofs.OnRoll.{any_parts, any_front, any_back}
+use Rattle.verdict_claims.proofs.OnRoll.{any_parts, any_front, any_back}
 
 module _ (nodes : List NodeFacts) where
   abbrev LeadsTo : ℕ → List ℕ → Type 0

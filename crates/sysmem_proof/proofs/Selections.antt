@@ -11,7 +11,7 @@ use Rattle.sysmem_tree.specs.OpenGroups.{IsFirstOpen}
 use Rattle.sysmem_tree.specs.Selection.{after, IsPrefix, IsSelection}
 use Rattle.sysmem_tree.specs.Shape.{by_number, forest_of, shape_of}
 use Rattle.sysmem_tree.proofs.CallerLemmas.{choices_relabel, some_open}
-use Rattle.sysmem_proof.specs.Fault.{AreFew, IsSelected}
+use Rattle.verdict_claims.specs.Fault.{AreFew, IsSelected}
 use Rattle.sysmem_proof.proofs.Gathering.{prefix_more}
 use Rattle.list_lemmas.proofs.CallerLemmas.{of_some}
 

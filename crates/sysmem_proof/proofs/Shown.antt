@@ -11,11 +11,11 @@ use Rattle.sysmem_tree.specs.Nodes.{HasNode, IsTree}
 use Rattle.sysmem_tree.specs.Path.{path_of}
 use Rattle.sysmem_tree.specs.Selection.{after}
 use Rattle.sysmem_tree.specs.Shape.{Member, by_path, members_of, shape_of}
-use Rattle.sysmem_proof.specs.Asked.{asks_at, asked_in}
-use Rattle.sysmem_proof.specs.Base.{BaseFacts, IsGivenBase}
-use Rattle.sysmem_proof.specs.Members.{members_at, participants}
+use Rattle.verdict_claims.specs.Asked.{asks_at, asked_in}
+use Rattle.verdict_claims.specs.Base.{BaseFacts, IsGivenBase}
+use Rattle.verdict_claims.specs.Members.{members_at, participants}
 use Rattle.list_lemmas.proofs.CallerLemmas.{taken_in_order}
-use Rattle.sysmem_proof.proofs.Rolls.{asked_settled, root_within}
+use Rattle.verdict_claims.proofs.Rolls.{asked_settled, root_within}
 use Rattle.sysmem_tree.proofs.CallerLemmas.{few_different, named_there}
 
 -- nodes that choices settle, in any order, ask what the settled members ask

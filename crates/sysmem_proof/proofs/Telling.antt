@@ -7,13 +7,13 @@ use Rattle.sysmem_memory.specs.Listed.{places_of}
 use Rattle.sysmem_sanitise.specs.Platform.{PlatformFacts, offers_of}
 use Rattle.sysmem_tree.specs.Forest.{Forest, choices, settled}
 use Rattle.sysmem_tree.specs.Shape.{Member}
-use Rattle.sysmem_proof.specs.declared.conflict.Conflict.TheVariants.{Places, Offers, Fixed}
-use Rattle.sysmem_proof.specs.declared.no.No.{No}
-use Rattle.sysmem_proof.specs.declared.no.No.TheVariants.{WrongNode, NoConflict}
-use Rattle.sysmem_proof.specs.Conflict.{IsConflict, RefusesOffer, RefusesPlace}
+use Rattle.verdict_claims.specs.declared.conflict.Conflict.TheVariants.{Places, Offers, Fixed}
+use Rattle.verdict_claims.specs.declared.no.No.{No}
+use Rattle.verdict_claims.specs.declared.no.No.TheVariants.{WrongNode, NoConflict}
+use Rattle.verdict_claims.specs.Conflict.{IsConflict, RefusesOffer, RefusesPlace}
 use Rattle.sysmem_proof.specs.EachLine.{LinesOfItem}
-use Rattle.sysmem_proof.specs.Fault.{AreNamed, ConflictFaults, Fails, First}
-use Rattle.sysmem_proof.specs.Line.{LineFacts}
+use Rattle.verdict_claims.specs.Fault.{AreNamed, ConflictFaults, Fails, First}
+use Rattle.verdict_claims.specs.Line.{LineFacts}
 use Rattle.sysmem_proof.proofs.Numbering.{one_all}
 
 -- so many lines, which name participants, and aren't all true

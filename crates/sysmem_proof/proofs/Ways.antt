@@ -10,7 +10,7 @@ use Rattle.sysmem_tree.specs.Nodes.{IsTree}
 use Rattle.sysmem_tree.specs.Selection.{after, IsPrefix}
 use Rattle.sysmem_tree.specs.Shape.{Member, by_number, forest_of, shape_of}
 use Rattle.sysmem_tree.proofs.CallerLemmas.{first_many}
-use Rattle.sysmem_proof.proofs.Rolls.{prefix_numbers}
+use Rattle.verdict_claims.proofs.Rolls.{prefix_numbers}
 use Rattle.list_lemmas.proofs.CallerLemmas.{of_some}
 
 pub some_of : {X : Type 0} (o : Option X) → IsSome o → (x : X) × (o ≡ Some x)

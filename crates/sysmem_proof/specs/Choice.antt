@@ -4,14 +4,14 @@ use Rattle.sysmem_merge.specs.declared.settings.Settings.{Settings}
 use Rattle.sysmem_sanitise.specs.Platform.{PlatformFacts}
 use Rattle.sysmem_tree.specs.Forest.{Forest}
 use Rattle.sysmem_tree.specs.Shape.{Member}
-use Rattle.sysmem_proof.specs.declared.no.No.TheVariants.{WrongShape}
-use Rattle.sysmem_proof.specs.Base.{Terms}
-use Rattle.sysmem_proof.specs.Certificate.{IsCertificate, RefutesEarlier}
-use Rattle.sysmem_proof.specs.CertificateFacts.{CertificateFacts}
-use Rattle.sysmem_proof.specs.Check.{IsFit}
-use Rattle.sysmem_proof.specs.Conflict.{IsConflictFor}
-use Rattle.sysmem_proof.specs.Fault.{AreFew, EarlierFaults, Fails, Faults, First, HasFittingLines}
-use Rattle.sysmem_proof.specs.Fault.{IsSelected, LinesFaults, MembersFault, SettingsFaults}
+use Rattle.verdict_claims.specs.declared.no.No.TheVariants.{WrongShape}
+use Rattle.verdict_claims.specs.Base.{Terms}
+use Rattle.verdict_claims.specs.Certificate.{IsCertificate, RefutesEarlier}
+use Rattle.verdict_claims.specs.CertificateFacts.{CertificateFacts}
+use Rattle.verdict_claims.specs.Check.{IsFit}
+use Rattle.verdict_claims.specs.Conflict.{IsConflictFor}
+use Rattle.verdict_claims.specs.Fault.{AreFew, EarlierFaults, Fails, Faults, First, HasFittingLines}
+use Rattle.verdict_claims.specs.Fault.{IsSelected, LinesFaults, MembersFault, SettingsFaults}
 
 -- its form
 abbrev pub FormFaults : Option Terms → Forest Member → List ℕ → CertificateFacts → Faults

@@ -4,9 +4,9 @@ use Rattle.std.specs.Prelude.{drop, length, if◌then◌else◌}
 use Rattle.std.specs.List.{AllZip}
 use Rattle.sysmem_memory.specs.declared.domain.CoherencyDomains.{CoherencyDomains}
 use Rattle.sysmem_tree.specs.Shape.{Member}
-use Rattle.sysmem_proof.specs.declared.no.No.TheVariants.{WrongShape, WrongNode, NoConflict}
-use Rattle.sysmem_proof.specs.Fault.{AreNamed, Fails, Faults, First}
-use Rattle.sysmem_proof.specs.Line.{LineFacts}
+use Rattle.verdict_claims.specs.declared.no.No.TheVariants.{WrongShape, WrongNode, NoConflict}
+use Rattle.verdict_claims.specs.Fault.{AreNamed, Fails, Faults, First}
+use Rattle.verdict_claims.specs.Line.{LineFacts}
 
 -- one, if it is there
 abbrev pub one_if : Bool → ℕ

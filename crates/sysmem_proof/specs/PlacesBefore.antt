@@ -8,9 +8,9 @@ use Rattle.sysmem_memory.specs.declared.place.Place.{Place}
 use Rattle.sysmem_memory.specs.Heap.{HeapFacts}
 use Rattle.sysmem_memory.specs.Listed.{HeapPlace, put_if, places_of}
 use Rattle.sysmem_tree.specs.Shape.{Member}
-use Rattle.sysmem_proof.specs.Conflict.{RefusesPlace}
-use Rattle.sysmem_proof.specs.Fault.{EachFaults, Faults, LineFaults}
-use Rattle.sysmem_proof.specs.Line.{LineFacts}
+use Rattle.verdict_claims.specs.Conflict.{RefusesPlace}
+use Rattle.verdict_claims.specs.Fault.{EachFaults, Faults, LineFaults}
+use Rattle.verdict_claims.specs.Line.{LineFacts}
 
 -- a place, if it is there
 abbrev pub place_if : Bool → Place → HeapFacts → List HeapPlace

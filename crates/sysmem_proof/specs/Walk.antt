@@ -4,12 +4,12 @@ use Rattle.std.specs.List.{AllZip}
 use Rattle.sysmem_sanitise.specs.Platform.{PlatformFacts}
 use Rattle.sysmem_tree.specs.Forest.{Forest}
 use Rattle.sysmem_tree.specs.Shape.{Member}
-use Rattle.sysmem_proof.specs.declared.no.No.{No}
-use Rattle.sysmem_proof.specs.declared.refutation.Item.{Item}
-use Rattle.sysmem_proof.specs.Base.{Terms}
-use Rattle.sysmem_proof.specs.Certificate.{Refutes}
-use Rattle.sysmem_proof.specs.Conflict.{IsConflictFor}
-use Rattle.sysmem_proof.specs.Fault.{EachFaults, Faults, RefutationFaults}
+use Rattle.verdict_claims.specs.declared.no.No.{No}
+use Rattle.verdict_claims.specs.declared.refutation.Item.{Item}
+use Rattle.verdict_claims.specs.Base.{Terms}
+use Rattle.verdict_claims.specs.Certificate.{Refutes}
+use Rattle.verdict_claims.specs.Conflict.{IsConflictFor}
+use Rattle.verdict_claims.specs.Fault.{EachFaults, Faults, RefutationFaults}
 
 -- all holds where the rest does, and fails with the numbers with which the rest fails
 pub record IsLeft (All Rest : Type 0) (all rest : Faults) : Type 0 where

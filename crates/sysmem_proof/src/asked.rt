@@ -1,36 +1,21 @@
 //! What the participants whom paths name ask together.
 
-ghost use Rattle.std.specs.Prelude.{◌≡◌, ◌≤◌, ◌<◌, ◌+◌, ◌^◌, ◌↔◌, ◌++◌, true, List, [], ◌∷◌, Any, IsTrue, length, option_map};
+ghost use Rattle.std.specs.Prelude.{◌≡◌, ◌≤◌, ◌↔◌, true, [], ◌∷◌, Any, IsTrue, length, option_map};
 ghost use Rattle.std.specs.List.{cons_option};
 ghost use Rattle.sysmem_counts.specs.Bounds.{IsTallyOf};
-ghost use Rattle.sysmem_counts.specs.Tally.{sum_of};
-ghost use Rattle.sysmem_counts.specs.declared.constraints.CountConstraints.{CountConstraints as Counted};
-ghost use Rattle.sysmem_formats.specs.declared.offer.Offer.{Offer as Offered};
 ghost use Rattle.sysmem_memory.specs.PlaceTable.{refuses_by};
-ghost use Rattle.sysmem_merge.specs.Demands.{OfferDemand, counts_asked, offer_demands};
+ghost use Rattle.sysmem_merge.specs.Demands.{counts_asked, offer_demands};
 ghost use Rattle.sysmem_merge.specs.Failing.{FailsOn};
 ghost use Rattle.sysmem_merge.specs.OfferRead.{IsOfferRead};
-ghost use Rattle.sysmem_proof.specs.Roll.{asked_by, listed};
+ghost use Rattle.verdict_claims.specs.Roll.{asked_by, listed};
 
-use crate::path_list::PathList;
 use crate::roll::Roll;
 use sysmem_counts::{CountBounds, Field};
 use sysmem_formats::Offer;
 use sysmem_memory::{CoherencyDomain, HeapInfo, refuses_in};
 use sysmem_merge::{OfferRead, Settings, fails_in};
 use sysmem_sanitise::{Constraints, Platform};
-
-/// Adds what one more asks of the number of buffers, if there is one.
-pub(crate) fn add_count(counts: &mut CountBounds, asked: Option<&Constraints>)
-    requires { sum_of counts.old < 2 ^ 62 }
-    ensures added { (ps : List Counted) → IsTallyOf counts.old ps → IsTallyOf counts.new
-        (ps ++ counts_asked (cons_option (option_map (λ one. one.now) asked.entry) [])) }
-    ensures grows { sum_of counts.new ≤ sum_of counts.old + 2 ^ 33 }
-{
-    if let Some(one) = asked {
-        counts.add(one.counts());
-    }
-}
+use verdict_claims::{PathList, add_count, add_read};
 
 /// What they ask of the number of buffers.
 pub(crate) fn counts_of(roll: &Roll<'_>, paths: &PathList) -> CountBounds
@@ -42,16 +27,6 @@ pub(crate) fn counts_of(roll: &Roll<'_>, paths: &PathList) -> CountBounds
         add_count(&mut counts, roll.at(path));
     }
     counts
-}
-
-/// Reads what one more asks of an offer, if there is one.
-pub(crate) fn add_read(read: &mut OfferRead, asked: Option<&Constraints>)
-    ensures { (o : Offered) (ds : List OfferDemand) → IsOfferRead o ds read.old → IsOfferRead o
-        (ds ++ offer_demands (cons_option (option_map (λ one. one.now) asked.entry) [])) read.new }
-{
-    if let Some(one) = asked {
-        read.add(one);
-    }
 }
 
 /// What they ask of an offer.

@@ -1,24 +1,20 @@
 //! Whether a verdict is proved by what comes with it.
 
 ghost use Rattle.std.specs.Prelude.{◌≡◌, ◌↔◌, IfOk, IsOk, MatchResult, option_map};
-ghost use Rattle.sysmem_proof.specs.Base.{IsGivenBase, terms_of};
-ghost use Rattle.sysmem_proof.specs.Check.{RefutationPasses, VerdictPasses};
-ghost use Rattle.sysmem_proof.specs.Matter.{forest, terms};
-ghost use Rattle.sysmem_proof.specs.Claim.{IsTrueClaim};
-ghost use Rattle.sysmem_proof.specs.Fault.{AreMany, EmptyFaults, Fails, VerdictFaults};
-ghost use Rattle.sysmem_proof.specs.declared.no.No.TheVariants.{WrongShape as Misshapen};
+ghost use Rattle.verdict_claims.specs.Base.{IsGivenBase, terms_of};
+ghost use Rattle.verdict_claims.specs.Check.{RefutationPasses, VerdictPasses};
+ghost use Rattle.verdict_claims.specs.Matter.{forest, terms};
+ghost use Rattle.verdict_claims.specs.Claim.{IsTrueClaim};
+ghost use Rattle.verdict_claims.specs.Fault.{AreMany, EmptyFaults, Fails, VerdictFaults};
+ghost use Rattle.verdict_claims.specs.declared.no.No.TheVariants.{WrongShape as Misshapen};
 ghost use Rattle.sysmem_tree.specs.Domain.{HasDomain};
 ghost use Rattle.sysmem_tree.specs.Shape.{shape_of};
 
-use crate::base::Base;
-use crate::certificate::{Claim, Proof};
 use crate::checking::{Checker, choice_fault, refutation_fault};
-use crate::laws::{faults_are_first, tests_are_exact};
-use crate::no::No;
-use crate::refutation::Refutation;
-use crate::verdict::Verdict;
 use sysmem_sanitise::Platform;
 use sysmem_tree::{DomainId, Prefix, Tree};
+use verdict_claims::laws::{faults_are_first, tests_are_exact};
+use verdict_claims::{Base, Claim, No, Proof, Refutation, Verdict};
 
 /// Of items that are to show that nothing is met.
 fn empty_fault(checker: &Checker<'_>, refutation: &Refutation) -> Result<(), No>

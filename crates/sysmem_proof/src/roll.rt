@@ -2,10 +2,10 @@
 
 ghost use Rattle.std.specs.Prelude.{◌≡◌, ◌≤◌, ◌<◌, ◌==◌, ◌||◌, ◌++◌, ℕ, [], false, None, All, IfSome, get_or, is_some, length, option_and_then, option_map, slice_get, if◌then◌else◌};
 ghost use Rattle.std.specs.List.{filter_map, list_any};
-ghost use Rattle.sysmem_proof.specs.Fault.{AreNamed};
-ghost use Rattle.sysmem_proof.specs.Members.{participants};
-ghost use Rattle.sysmem_proof.specs.Naming.{asked_at};
-ghost use Rattle.sysmem_proof.specs.Roll.{asked_on, listed, numbers_on};
+ghost use Rattle.verdict_claims.specs.Fault.{AreNamed};
+ghost use Rattle.verdict_claims.specs.Members.{participants};
+ghost use Rattle.verdict_claims.specs.Naming.{asked_at};
+ghost use Rattle.verdict_claims.specs.Roll.{asked_on, listed, numbers_on};
 ghost use Rattle.sysmem_tree.specs.Domain.{HasDomain};
 ghost use Rattle.sysmem_tree.specs.Laws.{IsOnlyPath};
 ghost use Rattle.sysmem_tree.specs.Layout.{IsLayout};
@@ -14,12 +14,12 @@ ghost use Rattle.sysmem_tree.specs.OpenGroups.{HoldsNodes};
 ghost use Rattle.sysmem_tree.specs.Selection.{IsPrefix};
 ghost use Rattle.sysmem_tree.specs.Shape.{by_number, forest_of, shape_of};
 
-use crate::path_list::PathList;
 use std::marker::Model;
 use sysmem_sanitise::Constraints;
 use sysmem_tree::laws::{one_forest, one_path};
 use sysmem_tree::layout_laws::choices_leave_one_forest;
 use sysmem_tree::{DomainId, Layout, NodeId, Prefix, Tree};
+use verdict_claims::PathList;
 
 /// The participants that choices settle in a domain of a tree, and those that were accepted
 /// before where they may be named too.
@@ -36,7 +36,7 @@ pub(crate) struct Roll<'a> {
 impl<'a> Model for Roll<'a> {
     ghost use Rattle.std.specs.Prelude.{◌≡◌, ◌==◌, ◌++◌, ℕ, false, All, get_or};
     ghost use Rattle.std.specs.List.{list_any};
-    ghost use Rattle.sysmem_proof.specs.Roll.{RollFacts};
+    ghost use Rattle.verdict_claims.specs.Roll.{RollFacts};
     ghost use Rattle.sysmem_tree.specs.Domain.{HasDomain, IsSoundTree};
     ghost use Rattle.sysmem_tree.specs.Nodes.{HasNode};
     ghost use Rattle.sysmem_tree.specs.Shape.{members_of};

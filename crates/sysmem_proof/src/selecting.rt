@@ -1,7 +1,7 @@
 //! Whether choices are a selection of a domain, and how many there are.
 
 ghost use Rattle.std.specs.Prelude.{◌≡◌, ◌↔◌, ℕ, [], IsTrue};
-ghost use Rattle.sysmem_proof.specs.Fault.{AreFew, IsSelected};
+ghost use Rattle.verdict_claims.specs.Fault.{AreFew, IsSelected};
 ghost use Rattle.sysmem_tree.specs.Domain.{HasDomain};
 ghost use Rattle.sysmem_tree.specs.Forest.{Forest};
 ghost use Rattle.sysmem_tree.specs.Layout.{IsLayout};
@@ -13,9 +13,7 @@ use sysmem_tree::layout_laws::{
     children_are_choices, choices_leave_one_forest, none_open_is_selection,
 };
 use sysmem_tree::{DomainId, Layout, Prefix, Tree};
-
-/// The most selections that a decision goes through.
-pub const MOST_SELECTIONS: u64 = 4096;
+use verdict_claims::MOST_SELECTIONS;
 
 /// Whether a domain has no more selections than a decision goes through.
 pub(crate) fn are_few(tree: &Tree, domain: DomainId) -> bool

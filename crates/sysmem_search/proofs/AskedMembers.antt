@@ -3,8 +3,8 @@ use Rattle.std.proofs.Common.{◌≡◌, ◌<◌, ◌≤◌, ℕ, List, [], ◌�
 use Rattle.std.specs.Prelude.{IfSome, IsSome, option_map, option_and_then, IsSomeAnd}
 use Rattle.std.specs.List.{filter_map, cons_option}
 use Rattle.std.proofs.lemmas.Option.{slice_get_within}
-use Rattle.sysmem_proof.specs.Members.{participants, members_at}
-use Rattle.sysmem_proof.specs.Asked.{asks_at, asked_in}
+use Rattle.verdict_claims.specs.Members.{participants, members_at}
+use Rattle.verdict_claims.specs.Asked.{asks_at, asked_in}
 use Rattle.sysmem_search.proofs.Shapes.{member_asks, prefix_of_numbers, same_settled, same_choices, few_choices}
 use Rattle.sysmem_tree.specs.Domain.{HasDomain}
 use Rattle.sysmem_tree.specs.Path.{path_of}

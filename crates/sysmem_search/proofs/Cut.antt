@@ -3,11 +3,11 @@ use Rattle.std.proofs.Common.{◌≡◌, ℕ, List, [], ◌∷◌, ◌++◌, Opt
 use Rattle.std.proofs.lemmas.List.{append-nil}
 use Rattle.std.specs.Prelude.{IfSome, IsSomeAnd}
 use Rattle.std.specs.List.{AllZip, flat_map}
-use Rattle.sysmem_proof.specs.Certificate.{Conflicts, Refutes}
-use Rattle.sysmem_proof.specs.Matter.{Matter}
-use Rattle.sysmem_proof.specs.Verdict.{Meeting}
-use Rattle.sysmem_proof.specs.declared.refutation.Item.{Item}
-use Rattle.sysmem_proof.specs.declared.refutation.Item.TheVariants.{Split, Leaf}
+use Rattle.verdict_claims.specs.Certificate.{Conflicts, Refutes}
+use Rattle.verdict_claims.specs.Matter.{Matter}
+use Rattle.verdict_claims.specs.Verdict.{Meeting}
+use Rattle.verdict_claims.specs.declared.refutation.Item.{Item}
+use Rattle.verdict_claims.specs.declared.refutation.Item.TheVariants.{Split, Leaf}
 use Rattle.sysmem_search.specs.Cut.{AreCut, IsCut, AreFirstItems}
 use Rattle.sysmem_search.specs.Live.{SomeMeet}
 use Rattle.sysmem_tree.specs.Forest.{Forest, choices}

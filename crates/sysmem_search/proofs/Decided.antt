@@ -2,11 +2,11 @@
 use Rattle.std.proofs.Common.{◌≡◌, ◌<◌, ◌≤◌, ℕ, true, List, [], Option, Some, None, is_some, min, sym, ap, ◌∙◌, subst, arith}
 use Rattle.std.specs.Prelude.{IfSome, MatchOption, option_map}
 use Rattle.sysmem_merge.specs.declared.settings.Settings.{Settings}
-use Rattle.sysmem_proof.specs.Base.{BaseFacts, Terms, terms_of}
-use Rattle.sysmem_proof.specs.Chosen.{ChosenFacts}
-use Rattle.sysmem_proof.specs.Matter.{Matter, forest}
-use Rattle.sysmem_proof.specs.declared.verdict.Verdict.TheVariants as verdicts
-use Rattle.sysmem_proof.specs.Verdict.{IsChosen, IsBestFor, IsOptimalIn, MeetsFor}
+use Rattle.verdict_claims.specs.Base.{BaseFacts, Terms, terms_of}
+use Rattle.verdict_claims.specs.Chosen.{ChosenFacts}
+use Rattle.verdict_claims.specs.Matter.{Matter, forest}
+use Rattle.verdict_claims.specs.declared.verdict.Verdict.TheVariants as verdicts
+use Rattle.verdict_claims.specs.Verdict.{IsChosen, IsBestFor, IsOptimalIn, MeetsFor}
 use Rattle.sysmem_sanitise.specs.Platform.{PlatformFacts}
 use Rattle.sysmem_search.specs.Live.{IsLiveUpTo}
 use Rattle.sysmem_search.specs.Question.{MeetsOf, MeetsSoFar, IsBestOf}

@@ -8,15 +8,15 @@ use Rattle.std.proofs.lemmas.List.Sorted.{length_permutation}
 use Rattle.std.proofs.lemmas.Option.{same_Some, slice_get_within}
 use Rattle.list_lemmas.proofs.CallerLemmas.{slice_get-set_same, slice_get-set_other, of_some}
 use Rattle.sysmem_merge.specs.Sum.{SumsInAnyOrder}
-use Rattle.sysmem_proof.specs.Base.{BaseFacts}
-use Rattle.sysmem_proof.specs.Members.{participants}
+use Rattle.verdict_claims.specs.Base.{BaseFacts}
+use Rattle.verdict_claims.specs.Members.{participants}
 use Rattle.sysmem_sanitise.specs.Participant.{Participant}
 use Rattle.sysmem_sanitise.specs.Platform.{PlatformFacts}
 use Rattle.sysmem_search.specs.declared.kept.Part.{Part}
 use Rattle.sysmem_search.specs.declared.levels.Level.{Level}
 use Rattle.sysmem_search.specs.Kept.{IsKeptOf, IsPart, HaveRoom}
-use Rattle.sysmem_proof.specs.Matter.{Matter, forest}
-use Rattle.sysmem_proof.specs.Asked.{asks_at, asked_in}
+use Rattle.verdict_claims.specs.Matter.{Matter, forest}
+use Rattle.verdict_claims.specs.Asked.{asks_at, asked_in}
 use Rattle.sysmem_search.specs.Standing.{IsLevel, AreLevels, AreMade, AreParts, IsSlot, StandsAt, numbers}
 use Rattle.sysmem_search.proofs.Keeping.{kept_in_order, have_room}
 use Rattle.list_lemmas.proofs.CallerLemmas.{taken_in_order}

@@ -4,11 +4,11 @@ use Rattle.std.specs.Prelude.{◌↔◌, ◌≤◌, IsTrue, IfSome, IsSome, IsSo
 use Rattle.std.proofs.lemmas.Option.{same_Some, none-some, option_and_then_some}
 use Rattle.std.proofs.lemmas.List.{append-nil}
 use Rattle.sysmem_merge.specs.declared.settings.Settings.{Settings}
-use Rattle.sysmem_proof.specs.Laws.{CutsLoseNothing}
-use Rattle.sysmem_proof.proofs.CallerLemmas.{whole_unmet, chosen_here}
+use Rattle.verdict_claims.specs.Laws.{CutsLoseNothing}
+use Rattle.verdict_claims.proofs.CallerLemmas.{whole_unmet, chosen_here}
 use Rattle.sysmem_search.specs.Live.{SomeMeet, choose, IsLive, IsLiveUpTo}
 use Rattle.sysmem_search.specs.Question.{MeetsOf, MeetsSoFar, IsBestOf}
-use Rattle.sysmem_proof.specs.Matter.{Matter, forest, terms}
+use Rattle.verdict_claims.specs.Matter.{Matter, forest, terms}
 use Rattle.sysmem_search.specs.Standing.{Standing}
 use Rattle.sysmem_search.specs.Searching.{NothingFound, FirstFound, IsFoundOf}
 use Rattle.sysmem_search.proofs.Raising.{raised_once}

@@ -16,9 +16,9 @@ use Rattle.sysmem_merge.specs.Demands.{counts_asked}
 use Rattle.sysmem_merge.specs.Settings.{CoversOn}
 use Rattle.sysmem_merge.specs.Sum.{SumFacts, SumsUp, SumsInAnyOrder}
 use Rattle.sysmem_merge.specs.Sum as sum
-use Rattle.sysmem_proof.specs.Base.{BaseFacts, terms_of}
-use Rattle.sysmem_proof.specs.Members.{participants, members_at}
-use Rattle.sysmem_proof.specs.Verdict.{MeetsFixed, MeetsFor, MeetsLooselyFor, IsBestFor}
+use Rattle.verdict_claims.specs.Base.{BaseFacts, terms_of}
+use Rattle.verdict_claims.specs.Members.{participants, members_at}
+use Rattle.verdict_claims.specs.Verdict.{MeetsFixed, MeetsFor, MeetsLooselyFor, IsBestFor}
 use Rattle.sysmem_sanitise.specs.Participant.{Participant}
 use Rattle.sysmem_sanitise.specs.Platform.{PlatformFacts}
 use Rattle.sysmem_search.specs.declared.kept.Kept.{Kept}
@@ -27,7 +27,7 @@ use Rattle.sysmem_search.specs.declared.kept.Part.{Part}
 use Rattle.sysmem_search.specs.declared.kept.Part.TheVariants as part_as
 use Rattle.sysmem_search.specs.declared.on_base.OnBase.{OnBase}
 use Rattle.sysmem_search.specs.Kept.{TakesBase, IsKeptOf, IsPart, HasRoom, HaveRoom}
-use Rattle.sysmem_proof.specs.Asked.{asked_in}
+use Rattle.verdict_claims.specs.Asked.{asked_in}
 use Rattle.sysmem_search.proofs.Shapes.{member_asks}
 use Rattle.sysmem_search.proofs.AskedMembers.{accepted_asked}
 use Rattle.sysmem_search.proofs.Taking.{few_asked_of}

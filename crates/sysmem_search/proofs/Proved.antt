@@ -2,14 +2,14 @@
 use Rattle.std.proofs.Common.{◌≡◌, ◌≤◌, ℕ, List, [], ◌++◌, Option, is_some, length, sym, ◌∙◌, ap, subst}
 use Rattle.std.specs.Prelude.{IfSome}
 use Rattle.sysmem_merge.specs.declared.settings.Settings.{Settings}
-use Rattle.sysmem_proof.specs.Base.{BaseFacts}
-use Rattle.sysmem_proof.specs.Certificate.{IsCertificate, IsRefutation, RefutesEarlier, RefuseBeforeFor}
-use Rattle.sysmem_proof.specs.CertificateFacts.{CertificateFacts}
-use Rattle.sysmem_proof.specs.Conflict.{IsConflictFor}
-use Rattle.sysmem_proof.specs.Found.{IsBestChoice}
-use Rattle.sysmem_proof.specs.Matter.{Matter, forest, terms}
-use Rattle.sysmem_proof.specs.Verdict.{IsChosen, IsForestUnmet, IsUnmetBefore}
-use Rattle.sysmem_proof.specs.declared.refutation.Item.{Item}
+use Rattle.verdict_claims.specs.Base.{BaseFacts}
+use Rattle.verdict_claims.specs.Certificate.{IsCertificate, IsRefutation, RefutesEarlier, RefuseBeforeFor}
+use Rattle.verdict_claims.specs.CertificateFacts.{CertificateFacts}
+use Rattle.verdict_claims.specs.Conflict.{IsConflictFor}
+use Rattle.conflict_finding.specs.Found.{IsBestChoice}
+use Rattle.verdict_claims.specs.Matter.{Matter, forest, terms}
+use Rattle.verdict_claims.specs.Verdict.{IsChosen, IsForestUnmet, IsUnmetBefore}
+use Rattle.verdict_claims.specs.declared.refutation.Item.{Item}
 use Rattle.sysmem_sanitise.specs.Platform.{PlatformFacts}
 use Rattle.sysmem_search.specs.Cut.{AreCut, IsCut}
 use Rattle.sysmem_search.specs.Question.{MeetsOf, IsBestOf}

@@ -4,14 +4,14 @@ use Rattle.std.specs.Prelude.{IfSome, IsSome, IsSomeAnd, option_map, option_and_
 use Rattle.std.specs.List.{AllZip, flat_map}
 use Rattle.std.proofs.lemmas.List.{append-nil, drop_more, flat_map_more, length-take-le, take_more}
 use Rattle.std.proofs.lemmas.Option.{same_Some, none-some, slice_get_within}
-use Rattle.sysmem_proof.specs.Certificate.{IsRefutation, RefutesEarlier}
-use Rattle.sysmem_proof.specs.Conflict.{IsConflictFor}
-use Rattle.sysmem_proof.specs.FirstConflict.{IsFirstConflictFor}
-use Rattle.sysmem_proof.specs.declared.refutation.Item.{Item}
-use Rattle.sysmem_proof.specs.declared.refutation.Item.TheVariants.{Split}
-use Rattle.sysmem_proof.specs.Matter.{Matter, forest, terms}
-use Rattle.sysmem_proof.specs.Verdict.{Meeting, IsForestUnmet, IsUnmetBefore}
-use Rattle.sysmem_proof.proofs.CallerLemmas.{splits_refute, earlier_grows}
+use Rattle.verdict_claims.specs.Certificate.{IsRefutation, RefutesEarlier}
+use Rattle.verdict_claims.specs.Conflict.{IsConflictFor}
+use Rattle.verdict_claims.specs.FirstConflict.{IsFirstConflictFor}
+use Rattle.verdict_claims.specs.declared.refutation.Item.{Item}
+use Rattle.verdict_claims.specs.declared.refutation.Item.TheVariants.{Split}
+use Rattle.verdict_claims.specs.Matter.{Matter, forest, terms}
+use Rattle.verdict_claims.specs.Verdict.{Meeting, IsForestUnmet, IsUnmetBefore}
+use Rattle.verdict_claims.proofs.CallerLemmas.{splits_refute, earlier_grows}
 use Rattle.sysmem_search.specs.Question.{MeetsOf, MeetsSoFar}
 use Rattle.sysmem_search.specs.Cut.{AreCut, IsCut}
 use Rattle.sysmem_search.specs.Live.{SomeMeet}

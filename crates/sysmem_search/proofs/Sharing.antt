@@ -9,11 +9,11 @@ use Rattle.std.proofs.Math.Nat.{zero-div, mul-div_cancel_left, zero-mul}
 use Rattle.std.proofs.Math.Seq.{get_or-append_seam}
 use Rattle.list_lemmas.proofs.CallerLemmas.{of_some, slice_get_some}
 use Rattle.sysmem_merge.specs.declared.settings.Settings.{Settings}
-use Rattle.sysmem_proof.specs.Chosen.{ChosenFacts}
-use Rattle.sysmem_proof.specs.Laws.{CutsLoseNothing}
-use Rattle.sysmem_proof.specs.Matter.{Matter, forest, terms}
-use Rattle.sysmem_proof.specs.Verdict.{IsForestUnmet, IsChosen, IsOptimalIn}
-use Rattle.sysmem_proof.proofs.CallerLemmas.{AreUnmet, split_unmet, chosen_below}
+use Rattle.verdict_claims.specs.Chosen.{ChosenFacts}
+use Rattle.verdict_claims.specs.Laws.{CutsLoseNothing}
+use Rattle.verdict_claims.specs.Matter.{Matter, forest, terms}
+use Rattle.verdict_claims.specs.Verdict.{IsForestUnmet, IsChosen, IsOptimalIn}
+use Rattle.verdict_claims.proofs.CallerLemmas.{AreUnmet, split_unmet, chosen_below}
 use Rattle.sysmem_search.specs.Live.{SomeMeet, choose}
 use Rattle.sysmem_search.specs.Question.{MeetsOf, MeetsSoFar, IsBestOf}
 use Rattle.sysmem_search.specs.Searching.{IsFoundOf}

@@ -4,8 +4,8 @@ use Rattle.std.specs.Prelude.{IsSomeAnd, option_and_then}
 use Rattle.std.proofs.lemmas.Bool.{cases_eq}
 use Rattle.std.proofs.lemmas.Option.{same_Some, slice_get_within}
 use Rattle.sysmem_merge.specs.declared.settings.Settings.{Settings}
-use Rattle.sysmem_proof.specs.Verdict.{Meeting, IsForestUnmet}
-use Rattle.sysmem_proof.proofs.CallerLemmas.{AreUnmet, no_choice_unmet, next_choice_unmet, split_unmet, chosen_below}
+use Rattle.verdict_claims.specs.Verdict.{Meeting, IsForestUnmet}
+use Rattle.verdict_claims.proofs.CallerLemmas.{AreUnmet, no_choice_unmet, next_choice_unmet, split_unmet, chosen_below}
 use Rattle.sysmem_search.specs.Live.{SomeMeet, choose, IsLive, IsNotLater, IsLiveUpTo}
 use Rattle.sysmem_search.specs.Searching.{NothingFound, FirstFound}
 use Rattle.sysmem_search.specs.Visits.{IsRaised}

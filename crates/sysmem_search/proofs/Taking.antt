@@ -8,7 +8,7 @@ use Rattle.list_lemmas.proofs.CallerLemmas.{slice_get_some}
 use Rattle.sysmem_counts.specs.declared.constraints.CountConstraints.{CountConstraints}
 use Rattle.sysmem_merge.specs.Demands.{counts_asked}
 use Rattle.sysmem_sanitise.specs.Participant.{Participant}
-use Rattle.sysmem_proof.specs.Asked.{asks_at, asked_in}
+use Rattle.verdict_claims.specs.Asked.{asks_at, asked_in}
 use Rattle.sysmem_tree.specs.Node.{NodeFacts}
 
 -- what a node that is there was told to ask

@@ -3,13 +3,13 @@ use Rattle.std.proofs.Common.{◌≡◌, ℕ, Bool, true, false, List, [], Optio
 use Rattle.std.specs.Prelude.{◌↔◌, IfSome, IfNone, IsTrue, is_none, is_some, not, option_map}
 use Rattle.sysmem_merge.specs.declared.settings.Settings.{Settings}
 use Rattle.sysmem_merge.specs.Settings.{MeetsAs}
-use Rattle.sysmem_proof.specs.Base.{Terms}
-use Rattle.sysmem_proof.specs.declared.conflict.Conflict.{Conflict}
-use Rattle.sysmem_proof.specs.Members.{participants}
-use Rattle.sysmem_proof.specs.Verdict.{IsForestUnmet, MeetsFor, MeetsLooselyFor, MeetsSettled}
+use Rattle.verdict_claims.specs.Base.{Terms}
+use Rattle.verdict_claims.specs.declared.conflict.Conflict.{Conflict}
+use Rattle.verdict_claims.specs.Members.{participants}
+use Rattle.verdict_claims.specs.Verdict.{IsForestUnmet, MeetsFor, MeetsLooselyFor, MeetsSettled}
 use Rattle.sysmem_search.specs.Live.{SomeMeet}
 use Rattle.sysmem_search.specs.Question.{MeetsOf, MeetsHere, MeetsSoFar}
-use Rattle.sysmem_proof.specs.Matter.{Matter, forest, terms}
+use Rattle.verdict_claims.specs.Matter.{Matter, forest, terms}
 use Rattle.sysmem_search.proofs.AskedMembers.{if_some, some_of}
 use Rattle.sysmem_search.proofs.Finding.{none_many}
 use Rattle.sysmem_tree.specs.Forest.{Forest, choices, settled}

@@ -2,17 +2,17 @@
 -- with after which nothing meets what is settled.
 use Rattle.std.specs.Prelude.{ℕ, List, [], ◌∷◌, ◌++◌, IfSome, slice_get, take}
 use Rattle.std.specs.List.{AllZip}
-use Rattle.sysmem_proof.specs.CertificateFacts.{CertificateFacts}
-use Rattle.sysmem_proof.specs.Certificate.{Conflicts}
-use Rattle.sysmem_proof.specs.FirstConflict.{IsFirstConflictFor}
-use Rattle.sysmem_proof.specs.Matter.{Matter, forest, terms}
-use Rattle.sysmem_proof.specs.Verdict.{Meeting}
-use Rattle.sysmem_proof.specs.declared.certificate.Proof.{Proof}
-use Rattle.sysmem_proof.specs.declared.certificate.Proof.TheVariants as proves
-use Rattle.sysmem_proof.specs.declared.refutation.Item.{Item}
-use Rattle.sysmem_proof.specs.declared.refutation.Item.TheVariants.{Split, Leaf}
-use Rattle.sysmem_proof.specs.declared.verdict.Verdict.{Verdict}
-use Rattle.sysmem_proof.specs.declared.verdict.Verdict.TheVariants as verdicts
+use Rattle.verdict_claims.specs.CertificateFacts.{CertificateFacts}
+use Rattle.verdict_claims.specs.Certificate.{Conflicts}
+use Rattle.verdict_claims.specs.FirstConflict.{IsFirstConflictFor}
+use Rattle.verdict_claims.specs.Matter.{Matter, forest, terms}
+use Rattle.verdict_claims.specs.Verdict.{Meeting}
+use Rattle.verdict_claims.specs.declared.certificate.Proof.{Proof}
+use Rattle.verdict_claims.specs.declared.certificate.Proof.TheVariants as proves
+use Rattle.verdict_claims.specs.declared.refutation.Item.{Item}
+use Rattle.verdict_claims.specs.declared.refutation.Item.TheVariants.{Split, Leaf}
+use Rattle.verdict_claims.specs.declared.verdict.Verdict.{Verdict}
+use Rattle.verdict_claims.specs.declared.verdict.Verdict.TheVariants as verdicts
 use Rattle.sysmem_search.specs.Live.{SomeMeet}
 use Rattle.sysmem_search.specs.Question.{MeetsSoFar}
 use Rattle.sysmem_tree.specs.Forest.{Forest, choices}

@@ -8,7 +8,7 @@ use Rattle.sysmem_merge.specs.Demands.{counts_asked}
 use Rattle.sysmem_merge.specs.Settings.{CoversOn}
 use Rattle.sysmem_merge.specs.Share.{IsShareOf}
 use Rattle.sysmem_merge.specs.Sum.{SumsUp}
-use Rattle.sysmem_proof.specs.Base.{BaseFacts}
+use Rattle.verdict_claims.specs.Base.{BaseFacts}
 use Rattle.sysmem_sanitise.specs.Participant.{Participant}
 use Rattle.sysmem_sanitise.specs.Platform.{PlatformFacts}
 use Rattle.sysmem_search.specs.declared.kept.Kept.{Kept}
@@ -16,7 +16,7 @@ use Rattle.sysmem_search.specs.declared.kept.Kept.TheVariants as kept_as
 use Rattle.sysmem_search.specs.declared.kept.Part.{Part}
 use Rattle.sysmem_search.specs.declared.kept.Part.TheVariants as part_as
 use Rattle.sysmem_search.specs.declared.on_base.OnBase.{OnBase}
-use Rattle.sysmem_proof.specs.Asked.{asked_in}
+use Rattle.verdict_claims.specs.Asked.{asked_in}
 use Rattle.sysmem_tree.specs.Node.{NodeFacts}
 
 -- what is asked of the number of buffers by participants and by those accepted before them, and

@@ -1,8 +1,8 @@
 -- What a search asks, of which domain.
 use Rattle.sysmem_merge.specs.declared.settings.Settings.{Settings}
-use Rattle.sysmem_proof.specs.Base.{IsGivenBase}
-use Rattle.sysmem_proof.specs.Matter.{Matter, terms}
-use Rattle.sysmem_proof.specs.Verdict.{Meeting, MeetsFor, MeetsLooselyFor, MeetsSettled, IsBestFor}
+use Rattle.verdict_claims.specs.Base.{IsGivenBase}
+use Rattle.verdict_claims.specs.Matter.{Matter, terms}
+use Rattle.verdict_claims.specs.Verdict.{Meeting, MeetsFor, MeetsLooselyFor, MeetsSettled, IsBestFor}
 use Rattle.sysmem_tree.specs.Forest.{Forest}
 use Rattle.sysmem_tree.specs.Shape.{Member}
 

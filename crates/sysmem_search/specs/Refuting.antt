@@ -1,9 +1,9 @@
 -- What refutes a forest that can't be met, and the first choices for its first group.
 use Rattle.std.specs.Prelude.{◌≡◌, ◌++◌, ℕ, List, IsSomeAnd, take}
 use Rattle.std.specs.List.{AllZip}
-use Rattle.sysmem_proof.specs.Certificate.{IsRefutation}
-use Rattle.sysmem_proof.specs.Matter.{Matter, terms}
-use Rattle.sysmem_proof.specs.declared.refutation.Item.{Item}
+use Rattle.verdict_claims.specs.Certificate.{IsRefutation}
+use Rattle.verdict_claims.specs.Matter.{Matter, terms}
+use Rattle.verdict_claims.specs.declared.refutation.Item.{Item}
 use Rattle.sysmem_search.specs.Cut.{IsCut}
 use Rattle.sysmem_tree.specs.Forest.{Forest, choices}
 use Rattle.sysmem_tree.specs.Shape.{Member}

@@ -1,10 +1,10 @@
 -- What a search from a prefix on finds.
 use Rattle.std.specs.Prelude.{◌≡◌, ◌++◌, ℕ, List, Option, Some, None}
 use Rattle.sysmem_merge.specs.declared.settings.Settings.{Settings}
-use Rattle.sysmem_proof.specs.Verdict.{Meeting, IsForestUnmet, IsChosen}
+use Rattle.verdict_claims.specs.Verdict.{Meeting, IsForestUnmet, IsChosen}
 use Rattle.sysmem_search.specs.Live.{IsLive, IsLiveUpTo}
 use Rattle.sysmem_search.specs.Question.{MeetsOf, MeetsSoFar, IsBestOf}
-use Rattle.sysmem_proof.specs.Matter.{Matter}
+use Rattle.verdict_claims.specs.Matter.{Matter}
 use Rattle.sysmem_search.specs.Visits.{IsRaised}
 use Rattle.sysmem_tree.specs.Forest.{Forest}
 use Rattle.sysmem_tree.specs.Shape.{Member}

@@ -1,16 +1,16 @@
 -- Where a search stands, and what it keeps there.
 use Rattle.std.specs.Prelude.{◌≡◌, ◌≤◌, ◌+◌, ℕ, List, [], Option, Some, IsSomeAnd}
 use Rattle.std.specs.Prelude.{length, slice_get, take}
-use Rattle.sysmem_proof.specs.Base.{BaseFacts}
-use Rattle.sysmem_proof.specs.Members.{participants}
+use Rattle.verdict_claims.specs.Base.{BaseFacts}
+use Rattle.verdict_claims.specs.Members.{participants}
 use Rattle.sysmem_sanitise.specs.Participant.{Participant}
 use Rattle.sysmem_sanitise.specs.Platform.{PlatformFacts}
 use Rattle.sysmem_search.specs.declared.kept.Part.{Part}
 use Rattle.sysmem_search.specs.declared.levels.Level.{Level}
 use Rattle.sysmem_search.specs.Kept.{IsKeptOf, IsPart}
 use Rattle.sysmem_search.specs.Question.{HasBase}
-use Rattle.sysmem_proof.specs.Matter.{Matter, forest}
-use Rattle.sysmem_proof.specs.Asked.{asked_in}
+use Rattle.verdict_claims.specs.Matter.{Matter, forest}
+use Rattle.verdict_claims.specs.Asked.{asked_in}
 use Rattle.sysmem_tree.specs.declared.layout.Layout.{Layout}
 use Rattle.sysmem_tree.specs.Forest.{Forest, settled}
 use Rattle.sysmem_tree.specs.Layout.{IsLayout}

@@ -2,10 +2,10 @@
 use Rattle.std.specs.Prelude.{◌≡◌, ◌≢◌, ◌^◌, ◌+◌, ◌-◌, ℕ, List, [], ◌∷◌, length, min}
 use Rattle.std.specs.Prelude.{Contains, Option, option_map}
 use Rattle.std.specs.List.{AllByRecursion}
-use Rattle.sysmem_proof.specs.declared.verdict.Verdict.{Verdict}
-use Rattle.sysmem_proof.specs.declared.verdict.Verdict.TheVariants as verdicts
-use Rattle.sysmem_proof.specs.Base.{BaseFacts, terms_of}
-use Rattle.sysmem_proof.specs.Verdict.{Meeting, MeetsLooselyFor}
+use Rattle.verdict_claims.specs.declared.verdict.Verdict.{Verdict}
+use Rattle.verdict_claims.specs.declared.verdict.Verdict.TheVariants as verdicts
+use Rattle.verdict_claims.specs.Base.{BaseFacts, terms_of}
+use Rattle.verdict_claims.specs.Verdict.{Meeting, MeetsLooselyFor}
 use Rattle.sysmem_sanitise.specs.Platform.{PlatformFacts}
 use Rattle.sysmem_search.specs.Live.{IsLive, IsLiveUpTo}
 use Rattle.sysmem_tree.specs.Forest.{Forest}

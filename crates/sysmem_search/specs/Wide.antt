@@ -1,11 +1,11 @@
 -- What several workers find, each of whom has a share of the choices for the first group.
 use Rattle.std.specs.Prelude.{◌≡◌, ◌<◌, ◌≤◌, ◌+◌, ◌*◌, ◌/◌, ℕ, List, ◌∷◌, Option, Some, None}
 use Rattle.std.specs.Prelude.{Result, IfOk, IfSome, IsSomeAnd, length, slice_index_or}
-use Rattle.sysmem_proof.specs.Chosen.{ChosenFacts}
-use Rattle.sysmem_proof.specs.Matter.{Matter, forest}
-use Rattle.sysmem_proof.specs.Verdict.{IsForestUnmet, IsChosen}
-use Rattle.sysmem_proof.specs.declared.verdict.Verdict.{Verdict}
-use Rattle.sysmem_proof.specs.declared.verdict.Verdict.TheVariants as verdicts
+use Rattle.verdict_claims.specs.Chosen.{ChosenFacts}
+use Rattle.verdict_claims.specs.Matter.{Matter, forest}
+use Rattle.verdict_claims.specs.Verdict.{IsForestUnmet, IsChosen}
+use Rattle.verdict_claims.specs.declared.verdict.Verdict.{Verdict}
+use Rattle.verdict_claims.specs.declared.verdict.Verdict.TheVariants as verdicts
 use Rattle.sysmem_search.specs.Live.{choose}
 use Rattle.sysmem_search.specs.Question.{MeetsOf, IsBestOf}
 use Rattle.sysmem_search.specs.declared.wide.Share.{Share}

@@ -1,8 +1,8 @@
 //! The decision of a domain.
 
 ghost use Rattle.std.specs.Prelude.{◌≡◌, true, option_map, IfOk};
-ghost use Rattle.sysmem_proof.specs.Base.{IsGivenBase};
-ghost use Rattle.sysmem_proof.specs.Verdict.{IsOptimalIn};
+ghost use Rattle.verdict_claims.specs.Base.{IsGivenBase};
+ghost use Rattle.verdict_claims.specs.Verdict.{IsOptimalIn};
 ghost use Rattle.sysmem_search.specs.Visits.{AreVisitsIn};
 ghost use Rattle.sysmem_tree.specs.Domain.{HasDomain, is_ready};
 
@@ -10,7 +10,7 @@ use crate::gate::Gate;
 use crate::question::Question;
 use crate::searching::search_from;
 use std::alloc::{AllocError, Global};
-use sysmem_proof::{Base, Chosen, MOST_SELECTIONS, Verdict};
+use verdict_claims::{Base, Chosen, MOST_SELECTIONS, Verdict};
 use sysmem_sanitise::Platform;
 use sysmem_tree::{DomainId, Tree};
 

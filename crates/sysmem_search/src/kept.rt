@@ -3,9 +3,9 @@
 
 ghost use Rattle.std.specs.Prelude.{◌≡◌, ◌↔◌, ◌++◌, List, [], ◌∷◌, IfOk, IsTrue, MatchOption, Option, is_some, option_map};
 ghost use Rattle.sysmem_merge.specs.declared.settings.Settings.{Settings as Settled};
-ghost use Rattle.sysmem_proof.specs.Base.{BaseFacts, IsGivenBase, terms_of};
-ghost use Rattle.sysmem_proof.specs.Members.{participants};
-ghost use Rattle.sysmem_proof.specs.Verdict.{MeetsFor, MeetsLooselyFor, IsBestFor};
+ghost use Rattle.verdict_claims.specs.Base.{BaseFacts, IsGivenBase, terms_of};
+ghost use Rattle.verdict_claims.specs.Members.{participants};
+ghost use Rattle.verdict_claims.specs.Verdict.{MeetsFor, MeetsLooselyFor, IsBestFor};
 ghost use Rattle.sysmem_sanitise.specs.Participant.{Participant};
 ghost use Rattle.sysmem_sanitise.specs.Platform.{PlatformFacts};
 ghost use Rattle.sysmem_search.specs.Kept.{IsKeptOf, IsPart, TakesBase, HasRoom, HaveRoom};
@@ -16,7 +16,7 @@ ghost use Rattle.sysmem_tree.specs.Shape.{Member};
 use crate::on_base::OnBase;
 use std::alloc::{AllocError, Global};
 use sysmem_merge::{Settings, Share, Sum};
-use sysmem_proof::Base;
+use verdict_claims::Base;
 use sysmem_sanitise::{Constraints, Platform};
 use sysmem_tree::{DomainId, Tree};
 

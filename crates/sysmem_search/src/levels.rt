@@ -1,7 +1,7 @@
 //! What a search keeps at each prefix from no choice on to where it stands.
 
 ghost use Rattle.std.specs.Prelude.{◌≡◌, ◌≢◌, ◌<◌, ◌≤◌, ◌+◌, ◌++◌, ℕ, List, [], Option, Some, IfOk, IsSomeAnd, OnOk, length, option_map, slice_get};
-ghost use Rattle.sysmem_proof.specs.Base.{BaseFacts, IsGivenBase};
+ghost use Rattle.verdict_claims.specs.Base.{BaseFacts, IsGivenBase};
 ghost use Rattle.sysmem_sanitise.specs.Participant.{Participant};
 ghost use Rattle.sysmem_search.specs.Kept.{IsKeptOf, IsPart, HaveRoom};
 ghost use Rattle.sysmem_search.specs.Standing.{AreMade, AreParts, IsLevel, IsSlot};
@@ -16,7 +16,7 @@ ghost use Rattle.sysmem_tree.specs.Shape.{by_number, forest_of};
 use crate::kept::{Kept, Part};
 use crate::settling::add_settled;
 use std::alloc::{AllocError, Global};
-use sysmem_proof::Base;
+use verdict_claims::Base;
 use sysmem_sanitise::Platform;
 use sysmem_tree::{ChildPlace, DomainId, GroupPlace, Layout, MOST_NODES, Tree};
 

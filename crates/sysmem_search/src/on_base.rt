@@ -12,7 +12,7 @@ ghost use Rattle.sysmem_merge.specs.declared.settings.Settings.{Settings as Sett
 ghost use Rattle.sysmem_sanitise.specs.Participant.{Participant};
 ghost use Rattle.sysmem_sanitise.specs.Platform.{PlatformFacts};
 ghost use Rattle.sysmem_search.specs.Kept.{TakesBase};
-ghost use Rattle.sysmem_proof.specs.Asked.{asked_in};
+ghost use Rattle.verdict_claims.specs.Asked.{asked_in};
 ghost use Rattle.sysmem_tree.specs.Nodes.{HasNode};
 
 use sysmem_counts::CountBounds;

@@ -1,18 +1,19 @@
 //! What proves a verdict that is optimal, made where it is asked for.
 
 ghost use Rattle.std.specs.Prelude.{option_map, IfOk};
-ghost use Rattle.sysmem_proof.specs.Base.{IsGivenBase};
-ghost use Rattle.sysmem_proof.specs.Claim.{IsProofIn};
-ghost use Rattle.sysmem_proof.specs.Verdict.{IsOptimalIn};
-ghost use Rattle.sysmem_proof.specs.declared.certificate.Proof.TheVariants as proves;
-ghost use Rattle.sysmem_proof.specs.declared.verdict.Verdict.TheVariants as verdicts;
+ghost use Rattle.verdict_claims.specs.Base.{IsGivenBase};
+ghost use Rattle.verdict_claims.specs.Claim.{IsProofIn};
+ghost use Rattle.verdict_claims.specs.Verdict.{IsOptimalIn};
+ghost use Rattle.verdict_claims.specs.declared.certificate.Proof.TheVariants as proves;
+ghost use Rattle.verdict_claims.specs.declared.verdict.Verdict.TheVariants as verdicts;
 ghost use Rattle.sysmem_search.specs.Cut.{IsCutProof};
 ghost use Rattle.sysmem_tree.specs.Domain.{HasDomain};
 
 use crate::question::Question;
 use crate::refuting::{refute_earlier, refute_from};
 use std::alloc::{AllocError, Global};
-use sysmem_proof::{Base, Certificate, Chosen, Proof, Refutation, Verdict, lines_before};
+use conflict_finding::lines_before;
+use verdict_claims::{Base, Certificate, Chosen, Proof, Refutation, Verdict};
 use sysmem_sanitise::Platform;
 use sysmem_tree::layout_laws::few_choices;
 use sysmem_tree::{DomainId, Tree};

@@ -3,10 +3,10 @@
 ghost use Rattle.std.specs.Prelude.{◌≡◌, ◌≤◌, ◌<◌, ◌↔◌, ◌++◌, [], ◌∷◌, ℕ, List, length, is_some, option_map, Option, IfOk, IfSome, IsTrue, MatchOption, OnOk};
 ghost use Rattle.sysmem_merge.specs.declared.settings.Settings.{Settings as Settled};
 ghost use Rattle.sysmem_search.specs.Live.{SomeMeet};
-ghost use Rattle.sysmem_proof.specs.Conflict.{IsConflictFor};
-ghost use Rattle.sysmem_proof.specs.FirstConflict.{IsFirstConflictFor};
+ghost use Rattle.verdict_claims.specs.Conflict.{IsConflictFor};
+ghost use Rattle.verdict_claims.specs.FirstConflict.{IsFirstConflictFor};
 ghost use Rattle.sysmem_search.specs.Question.{MeetsOf, MeetsHere, MeetsSoFar, IsBestOf};
-ghost use Rattle.sysmem_proof.specs.Matter.{forest, terms};
+ghost use Rattle.verdict_claims.specs.Matter.{forest, terms};
 ghost use Rattle.sysmem_search.specs.Standing.{Standing};
 ghost use Rattle.sysmem_tree.specs.Forest.{choices, settled};
 ghost use Rattle.sysmem_tree.specs.Selection.{IsPrefix, after};
@@ -17,7 +17,8 @@ use std::alloc::{AllocError, Global};
 use std::marker::Model;
 use sysmem_merge::Settings;
 use sysmem_merge::laws::sums_in_any_order;
-use sysmem_proof::{Base, Conflict, Learnt, find_conflict_as};
+use conflict_finding::{Learnt, find_conflict_as};
+use verdict_claims::{Base, Conflict};
 use sysmem_sanitise::Platform;
 use sysmem_tree::layout_laws::{choice_settles_share, none_open_is_selection};
 use sysmem_tree::{DomainId, Layout, Prefix, Tree};
@@ -44,7 +45,7 @@ pub(crate) struct Question<'a> {
 
 impl<'a> Model for Question<'a> {
     ghost use Rattle.std.specs.Prelude.{option_map};
-    ghost use Rattle.sysmem_proof.specs.Learnt.{IsLearnt};
+    ghost use Rattle.conflict_finding.specs.Learnt.{IsLearnt};
     ghost use Rattle.sysmem_search.specs.Standing.{Standing, StandsAt};
     ghost use Rattle.sysmem_tree.specs.Domain.{HasDomain, IsSoundTree};
 
@@ -71,7 +72,7 @@ impl<'a> Model for Question<'a> {
 }
 
 impl<'a> Question<'a> {
-    ghost use Rattle.sysmem_proof.specs.Base.{IsGivenBase};
+    ghost use Rattle.verdict_claims.specs.Base.{IsGivenBase};
     ghost use Rattle.sysmem_tree.specs.Domain.{HasDomain};
 
     /// Of this domain of the tree, at no choice.

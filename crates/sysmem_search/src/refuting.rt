@@ -2,10 +2,10 @@
 
 ghost use Rattle.std.specs.Prelude.{◌≡◌, ◌<◌, ◌≤◌, ◌++◌, [], ◌∷◌, length, IfOk, IfSome, OnOk};
 ghost use Rattle.sysmem_merge.specs.declared.settings.Settings.{Settings as Settled};
-ghost use Rattle.sysmem_proof.specs.Certificate.{RefutesEarlier};
-ghost use Rattle.sysmem_proof.specs.Conflict.{IsConflictFor};
-ghost use Rattle.sysmem_proof.specs.Matter.{forest, terms};
-ghost use Rattle.sysmem_proof.specs.Verdict.{IsForestUnmet, IsUnmetBefore};
+ghost use Rattle.verdict_claims.specs.Certificate.{RefutesEarlier};
+ghost use Rattle.verdict_claims.specs.Conflict.{IsConflictFor};
+ghost use Rattle.verdict_claims.specs.Matter.{forest, terms};
+ghost use Rattle.verdict_claims.specs.Verdict.{IsForestUnmet, IsUnmetBefore};
 ghost use Rattle.sysmem_search.specs.Cut.{AreCut};
 ghost use Rattle.sysmem_search.specs.Question.{MeetsOf, MeetsHere};
 ghost use Rattle.sysmem_search.specs.Refuting.{AddsRefutation, RefutesFirst};
@@ -13,7 +13,7 @@ ghost use Rattle.sysmem_tree.specs.Selection.{IsPrefix, after};
 
 use crate::question::Question;
 use std::alloc::{AllocError, Global};
-use sysmem_proof::{EarlierChoices, Item, Refutation};
+use verdict_claims::{EarlierChoices, Item, Refutation};
 use sysmem_tree::Prefix;
 
 /// Adds a conflict of what the question's choices settle, where no settings meet it: it

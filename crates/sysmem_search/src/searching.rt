@@ -2,14 +2,14 @@
 
 ghost use Rattle.std.specs.Prelude.{◌≡◌, ◌<◌, ◌≤◌, length, is_some, Option, IfOk, IfSome, OnOk};
 ghost use Rattle.sysmem_merge.specs.declared.settings.Settings.{Settings as Settled};
-ghost use Rattle.sysmem_proof.specs.Matter.{forest};
+ghost use Rattle.verdict_claims.specs.Matter.{forest};
 ghost use Rattle.sysmem_search.specs.Searching.{IsFoundOf};
 ghost use Rattle.sysmem_tree.specs.Selection.{IsPrefix, after};
 
 use crate::gate::Gate;
 use crate::question::Question;
 use std::alloc::AllocError;
-use sysmem_proof::laws::cuts_lose_nothing;
+use verdict_claims::laws::cuts_lose_nothing;
 
 /// Whether any settings meet a selection that begins with the question's choices, and
 /// then the choices go on to the first such selection; where none do, they are as before.

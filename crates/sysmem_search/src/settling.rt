@@ -4,11 +4,11 @@ ghost use Rattle.std.specs.Prelude.{◌≡◌, ◌≤◌, ◌++◌, ℕ, List, [
 ghost use Rattle.std.specs.List.{cons_option};
 ghost use Rattle.sysmem_sanitise.specs.Participant.{Participant};
 ghost use Rattle.sysmem_search.specs.Kept.{HasRoom, IsPart};
-ghost use Rattle.sysmem_proof.specs.Asked.{asked_in};
+ghost use Rattle.verdict_claims.specs.Asked.{asked_in};
 ghost use Rattle.sysmem_tree.specs.OpenGroups.{HasLeft, HoldsNodes};
 
 use crate::kept::Part;
-use sysmem_proof::Base;
+use verdict_claims::Base;
 use sysmem_sanitise::{Constraints, Platform};
 use sysmem_tree::{Layout, MOST_NODES, SettledNodes, Tree};
 

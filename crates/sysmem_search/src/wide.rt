@@ -2,9 +2,9 @@
 //! first group.
 
 ghost use Rattle.std.specs.Prelude.{◌≡◌, ◌<◌, ◌≤◌, ◌+◌, [], ◌∷◌, ℕ, List, true, vec_len, option_map, Option, Some, IfOk, IfSome, MatchOption};
-ghost use Rattle.sysmem_proof.specs.Base.{IsGivenBase};
-ghost use Rattle.sysmem_proof.specs.Matter.{Matter, forest};
-ghost use Rattle.sysmem_proof.specs.Verdict.{IsOptimalIn, IsSameAnswer};
+ghost use Rattle.verdict_claims.specs.Base.{IsGivenBase};
+ghost use Rattle.verdict_claims.specs.Matter.{Matter, forest};
+ghost use Rattle.verdict_claims.specs.Verdict.{IsOptimalIn, IsSameAnswer};
 ghost use Rattle.sysmem_search.specs.Wide.{IsUnmetAt, IsFirstAt, IsFirstIn, AreFirstIn, IsFirstOfAll, share_start, verdict_of};
 ghost use Rattle.sysmem_tree.specs.Domain.{HasDomain, is_ready};
 ghost use Rattle.sysmem_tree.specs.Selection.{IsPrefix};
@@ -18,8 +18,8 @@ use std::marker::Model;
 use std::thread;
 use std::thread::Threads;
 use sysmem_merge::Settings;
-use sysmem_proof::laws::{cuts_lose_nothing, one_answer};
-use sysmem_proof::{Base, Chosen, MOST_SELECTIONS, Verdict};
+use verdict_claims::laws::{cuts_lose_nothing, one_answer};
+use verdict_claims::{Base, Chosen, MOST_SELECTIONS, Verdict};
 use sysmem_sanitise::Platform;
 use sysmem_tree::{DomainId, Tree};
 
@@ -35,8 +35,8 @@ struct Subject<'a> {
 
 impl<'a> Model for Subject<'a> {
     ghost use Rattle.std.specs.Prelude.{option_map};
-    ghost use Rattle.sysmem_proof.specs.Base.{IsGivenBase};
-    ghost use Rattle.sysmem_proof.specs.Matter.{Matter};
+    ghost use Rattle.verdict_claims.specs.Base.{IsGivenBase};
+    ghost use Rattle.verdict_claims.specs.Matter.{Matter};
     ghost use Rattle.sysmem_tree.specs.Domain.{HasDomain};
 
     ghost Value = { Matter };

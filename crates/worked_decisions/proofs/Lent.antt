@@ -2,7 +2,7 @@
 use Rattle.std.proofs.Common.{◌≡◌, ℕ, Option, subst}
 use Rattle.sysmem_alloc.specs.Claims.{IsRightClaim}
 use Rattle.sysmem_proof.specs.Base.{BaseFacts}
-use Rattle.sysmem_proof.specs.declared.certificate.Claim.{Claim}
+use Rattle.verdict_claims.specs.declared.certificate.Claim.{Claim}
 use Rattle.sysmem_sanitise.specs.Platform.{PlatformFacts}
 use Rattle.sysmem_tree.specs.Domain.{TreeFacts}
 

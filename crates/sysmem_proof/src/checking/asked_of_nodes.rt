@@ -8,15 +8,15 @@ ghost use Rattle.sysmem_counts.specs.declared.constraints.CountConstraints.{Coun
 ghost use Rattle.sysmem_merge.specs.Demands.{counts_asked, offer_demands};
 ghost use Rattle.sysmem_merge.specs.OfferRead.{IsOfferRead};
 ghost use Rattle.sysmem_merge.specs.Settings.{CoversOn};
-ghost use Rattle.sysmem_proof.specs.Asked.{asked_in};
+ghost use Rattle.verdict_claims.specs.Asked.{asked_in};
 ghost use Rattle.sysmem_tree.specs.Nodes.{HasNode};
 
-use crate::asked::{add_count, add_read};
 use sysmem_counts::CountBounds;
 use sysmem_formats::Offer;
 use sysmem_merge::{OfferRead, Settings, meets_one};
 use sysmem_sanitise::{Constraints, Platform};
 use sysmem_tree::{NodeId, Tree};
+use verdict_claims::{add_count, add_read};
 
 /// Adds what the participants among these nodes ask of the number of buffers.
 fn add_counts(tree: &Tree, nodes: &[NodeId], counts: &mut CountBounds)

@@ -1,21 +1,21 @@
 //! What a verdict is checked against.
 
 ghost use Rattle.std.specs.Prelude.{◌≡◌, ◌≤◌, ◌++◌, ℕ, List, Some, length, option_map};
-ghost use Rattle.sysmem_proof.specs.Base.{IsGivenBase};
-ghost use Rattle.sysmem_proof.specs.Matter.{forest};
-ghost use Rattle.sysmem_proof.specs.Members.{members_at};
-ghost use Rattle.sysmem_proof.specs.Roll.{listed};
+ghost use Rattle.verdict_claims.specs.Base.{IsGivenBase};
+ghost use Rattle.verdict_claims.specs.Matter.{forest};
+ghost use Rattle.verdict_claims.specs.Members.{members_at};
+ghost use Rattle.verdict_claims.specs.Roll.{listed};
 ghost use Rattle.sysmem_tree.specs.Domain.{HasDomain};
 ghost use Rattle.sysmem_tree.specs.Forest.{Forest, choices, settled};
 ghost use Rattle.sysmem_tree.specs.Selection.{IsPrefix, after};
 ghost use Rattle.sysmem_tree.specs.Shape.{Member};
 
-use crate::base::Base;
 use crate::roll::Roll;
 use std::marker::Model;
 use sysmem_sanitise::Platform;
 use sysmem_tree::layout_laws::{choices_leave_one_forest, few_children, few_choices};
 use sysmem_tree::{DomainId, Layout, Prefix, Tree};
+use verdict_claims::Base;
 
 /// A domain of a tree on a platform, with its base where it is an attached one.
 #[derive(Drop)]
@@ -30,8 +30,8 @@ pub(crate) struct Checker<'a> {
 
 impl<'a> Model for Checker<'a> {
     ghost use Rattle.std.specs.Prelude.{option_map};
-    ghost use Rattle.sysmem_proof.specs.Base.{IsGivenBase};
-    ghost use Rattle.sysmem_proof.specs.Matter.{Matter};
+    ghost use Rattle.verdict_claims.specs.Base.{IsGivenBase};
+    ghost use Rattle.verdict_claims.specs.Matter.{Matter};
     ghost use Rattle.std.specs.Prelude.{[]};
     ghost use Rattle.sysmem_tree.specs.Domain.{HasDomain, IsSoundTree};
     ghost use Rattle.sysmem_tree.specs.Layout.{IsLayout};

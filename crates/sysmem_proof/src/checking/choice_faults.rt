@@ -2,27 +2,24 @@
 
 ghost use Rattle.std.specs.Prelude.{◌≡◌, ◌↔◌, [], Some, None, IsTrue, MatchResult};
 ghost use Rattle.sysmem_merge.specs.Settings.{Meets};
-ghost use Rattle.sysmem_proof.specs.Certificate.{HasNoLines, RefuseBefore};
-ghost use Rattle.sysmem_proof.specs.Check.{ChoicePasses};
-ghost use Rattle.sysmem_proof.specs.Matter.{forest, terms};
+ghost use Rattle.verdict_claims.specs.Certificate.{HasNoLines, RefuseBefore};
+ghost use Rattle.verdict_claims.specs.Check.{ChoicePasses};
+ghost use Rattle.verdict_claims.specs.Matter.{forest, terms};
 ghost use Rattle.sysmem_proof.specs.Choice.{FormFaults, SelectedFaults, SelectedPasses};
-ghost use Rattle.sysmem_proof.specs.Fault.{AreFew, ChoiceFaults, HasFittingLines, IsSelected, LinesFaults};
-ghost use Rattle.sysmem_proof.specs.Members.{participants};
-ghost use Rattle.sysmem_proof.specs.Roll.{listed};
+ghost use Rattle.verdict_claims.specs.Fault.{AreFew, ChoiceFaults, HasFittingLines, IsSelected, LinesFaults};
+ghost use Rattle.verdict_claims.specs.Members.{participants};
+ghost use Rattle.verdict_claims.specs.Roll.{listed};
 
 use super::checker::Checker;
 use super::earlier_faults::earlier_fault;
 use super::offers_before::offers_before_fault;
 use super::places_before::places_before_fault;
 use super::settings_faults::{attached_fault, initial_fault};
-use crate::base::Base;
-use crate::certificate::Certificate;
-use crate::no::No;
 use crate::roll::Roll;
-use crate::verdict::Chosen;
 use sysmem_merge::Settings;
 use sysmem_sanitise::Platform;
 use sysmem_tree::Prefix;
+use verdict_claims::{Base, Certificate, Chosen, No};
 
 /// Whether the certificate has no lines.
 fn has_no_lines(certificate: &Certificate) -> bool

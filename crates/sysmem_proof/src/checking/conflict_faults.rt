@@ -3,12 +3,12 @@
 ghost use Rattle.std.specs.Prelude.{◌≡◌, [], ◌∷◌, Some, None, MatchResult, is_none, length};
 ghost use Rattle.std.specs.List.{AllZip};
 ghost use Rattle.sysmem_memory.specs.Listed.{places_of};
-ghost use Rattle.sysmem_proof.specs.Matter.{forest, terms};
-ghost use Rattle.sysmem_proof.specs.Conflict.{IsConflict, IsConflictFor, RefusesOffer, RefusesPlace};
+ghost use Rattle.verdict_claims.specs.Matter.{forest, terms};
+ghost use Rattle.verdict_claims.specs.Conflict.{IsConflict, IsConflictFor, RefusesOffer, RefusesPlace};
 ghost use Rattle.sysmem_proof.specs.EachLine.{LinesOfItem};
-ghost use Rattle.sysmem_proof.specs.Fault.{AreNamed, ConflictFaults, Fails, First};
-ghost use Rattle.sysmem_proof.specs.Roll.{listed};
-ghost use Rattle.sysmem_proof.specs.declared.no.No.TheVariants.{WrongNode, NoConflict as Untrue};
+ghost use Rattle.verdict_claims.specs.Fault.{AreNamed, ConflictFaults, Fails, First};
+ghost use Rattle.verdict_claims.specs.Roll.{listed};
+ghost use Rattle.verdict_claims.specs.declared.no.No.TheVariants.{WrongNode, NoConflict as Untrue};
 ghost use Rattle.sysmem_sanitise.specs.Platform.{offers_of};
 ghost use Rattle.sysmem_tree.specs.Forest.{Forest, choices};
 ghost use Rattle.sysmem_tree.specs.Selection.{IsPrefix, after};
@@ -20,13 +20,10 @@ use super::line_faults::count_fault;
 use super::names::is_named;
 use super::offer_lines::refuse_offers;
 use super::place_lines::refuse_places;
-use crate::base::Base;
-use crate::conflict::Conflict;
-use crate::line::Line;
-use crate::no::No;
 use crate::roll::Roll;
 use sysmem_sanitise::Platform;
 use sysmem_tree::Prefix;
+use verdict_claims::{Base, Conflict, Line, No};
 
 /// Of lines for all places of the platform.
 fn places_fault(platform: &Platform, roll: &Roll<'_>, lines: &[Line]) -> Result<(), No>

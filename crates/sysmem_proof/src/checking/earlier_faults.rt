@@ -1,10 +1,10 @@
 //! The first test that the refutations of what is earlier than a selection fail.
 
 ghost use Rattle.std.specs.Prelude.{◌≡◌, ◌++◌, List, [], ◌∷◌, Some, MatchResult, OnOk, take};
-ghost use Rattle.sysmem_proof.specs.Certificate.{RefutesEarlier};
-ghost use Rattle.sysmem_proof.specs.Matter.{forest, terms};
-ghost use Rattle.sysmem_proof.specs.Conflict.{IsConflictFor};
-ghost use Rattle.sysmem_proof.specs.Fault.{EarlierFaults, no_list};
+ghost use Rattle.verdict_claims.specs.Certificate.{RefutesEarlier};
+ghost use Rattle.verdict_claims.specs.Matter.{forest, terms};
+ghost use Rattle.verdict_claims.specs.Conflict.{IsConflictFor};
+ghost use Rattle.verdict_claims.specs.Fault.{EarlierFaults, no_list};
 ghost use Rattle.sysmem_proof.specs.Walk.{FaultsBefore, RefuteBefore};
 ghost use Rattle.sysmem_tree.specs.Forest.{Forest, choices};
 ghost use Rattle.sysmem_tree.specs.Selection.{IsPrefix, after};
@@ -12,10 +12,8 @@ ghost use Rattle.sysmem_tree.specs.Shape.{Member};
 
 use super::checker::Checker;
 use super::refutation_faults::refutation_fault;
-use crate::certificate::EarlierChoices;
-use crate::no::No;
-use crate::refutation::Refutation;
 use sysmem_tree::Prefix;
+use verdict_claims::{EarlierChoices, No, Refutation};
 
 /// What a group without its list of refutations fails, where this choice was made for it.
 fn no_list(choice: u8) -> No

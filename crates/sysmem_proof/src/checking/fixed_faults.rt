@@ -2,26 +2,24 @@
 
 ghost use Rattle.std.specs.Prelude.{◌≡◌, ◌≤◌, ◌↔◌, ◌++◌, All, Some, IsTrue, MatchResult, length};
 ghost use Rattle.sysmem_memory.specs.Listed.{places_of};
-ghost use Rattle.sysmem_proof.specs.Base.{Terms};
-ghost use Rattle.sysmem_proof.specs.Conflict.{IsFixedConflict};
+ghost use Rattle.verdict_claims.specs.Base.{Terms};
+ghost use Rattle.verdict_claims.specs.Conflict.{IsFixedConflict};
 ghost use Rattle.sysmem_proof.specs.EachLine.{many_in};
-ghost use Rattle.sysmem_proof.specs.Fault.{AreNamed, ConflictFaults, Fails, First};
-ghost use Rattle.sysmem_proof.specs.Roll.{listed};
-ghost use Rattle.sysmem_proof.specs.declared.no.No.TheVariants.{WrongNode, NoConflict as Untrue};
+ghost use Rattle.verdict_claims.specs.Fault.{AreNamed, ConflictFaults, Fails, First};
+ghost use Rattle.verdict_claims.specs.Roll.{listed};
+ghost use Rattle.verdict_claims.specs.declared.no.No.TheVariants.{WrongNode, NoConflict as Untrue};
 ghost use Rattle.sysmem_sanitise.specs.Platform.{offers_of};
 ghost use Rattle.sysmem_tree.specs.Forest.{Forest, settled};
 ghost use Rattle.sysmem_tree.specs.Shape.{Member};
 
 use super::line_faults::{failing_fault, fixed_count_fault};
 use super::names::are_named;
-use crate::conflict::Conflict;
-use crate::line::Line;
-use crate::no::No;
 use crate::roll::Roll;
 use sysmem_formats::offer_at;
 use sysmem_memory::{CoherencyDomains, HeapInfo};
 use sysmem_merge::Settings;
 use sysmem_sanitise::Platform;
+use verdict_claims::{Conflict, Line, No};
 
 /// Whether a platform has so many offers.
 pub(crate) fn has_offers(platform: &Platform, many: usize) -> bool

@@ -5,20 +5,19 @@ ghost use Rattle.std.specs.Prelude.{◌≡◌, [], ◌∷◌, Any, MatchResult};
 ghost use Rattle.sysmem_counts.specs.Counts.{IsCountLine, IsFixedCountLine};
 ghost use Rattle.sysmem_merge.specs.Demands.{counts_asked};
 ghost use Rattle.sysmem_merge.specs.Failing.{FailsOn};
-ghost use Rattle.sysmem_proof.specs.Conflict.{RefusesPlace};
-ghost use Rattle.sysmem_proof.specs.Fault.{LineFaults};
-ghost use Rattle.sysmem_proof.specs.Naming.{IsTrueOf};
-ghost use Rattle.sysmem_proof.specs.Roll.{listed};
+ghost use Rattle.verdict_claims.specs.Conflict.{RefusesPlace};
+ghost use Rattle.verdict_claims.specs.Fault.{LineFaults};
+ghost use Rattle.verdict_claims.specs.Naming.{IsTrueOf};
+ghost use Rattle.verdict_claims.specs.Roll.{listed};
 
 use super::line_tests::{is_count_line, is_failed_at, is_fixed_count_line, is_place_line};
 use super::names::{are_named, is_named};
-use crate::line::Line;
-use crate::no::No;
 use crate::roll::Roll;
 use sysmem_counts::Field;
 use sysmem_memory::{HeapInfo, Place};
 use sysmem_merge::Settings;
 use sysmem_sanitise::Platform;
+use verdict_claims::{Line, No};
 
 /// Of a line that says that no count suits participants.
 pub(crate) fn count_fault(roll: &Roll<'_>, line: &Line) -> Result<(), No>

@@ -6,18 +6,18 @@ ghost use Rattle.sysmem_memory.specs.PlaceTable.{IsPlaceLine};
 ghost use Rattle.sysmem_merge.specs.Demands.{counts_asked, offer_demands, place_demands};
 ghost use Rattle.sysmem_merge.specs.Failing.{FailsOn};
 ghost use Rattle.sysmem_merge.specs.Reasons.{IsOfferLine};
-ghost use Rattle.sysmem_proof.specs.Fault.{AreNamed};
-ghost use Rattle.sysmem_proof.specs.Naming.{IsTrueOf};
-ghost use Rattle.sysmem_proof.specs.Roll.{listed};
+ghost use Rattle.verdict_claims.specs.Fault.{AreNamed};
+ghost use Rattle.verdict_claims.specs.Naming.{IsTrueOf};
+ghost use Rattle.verdict_claims.specs.Roll.{listed};
 
 use crate::asked::{counts_of, fail_at, read_of, refuse_place};
-use crate::line::Line;
 use crate::roll::Roll;
 use sysmem_counts::Field;
 use sysmem_formats::Offer;
 use sysmem_memory::{CoherencyDomain, HeapInfo};
 use sysmem_merge::Settings;
 use sysmem_sanitise::Platform;
+use verdict_claims::Line;
 
 /// Whether no count suits the participants whom the line names, by its field.
 pub(crate) fn is_count_line(roll: &Roll<'_>, line: &Line) -> bool

@@ -1,11 +1,11 @@
 //! Whether paths name participants, each once.
 
 ghost use Rattle.std.specs.Prelude.{◌↔◌, [], ◌∷◌, IsTrue};
-ghost use Rattle.sysmem_proof.specs.Fault.{AreNamed};
-ghost use Rattle.sysmem_proof.specs.Roll.{listed};
+ghost use Rattle.verdict_claims.specs.Fault.{AreNamed};
+ghost use Rattle.verdict_claims.specs.Roll.{listed};
 
-use crate::path_list::PathList;
 use crate::roll::Roll;
+use verdict_claims::PathList;
 
 /// Whether each path is that of a participant on the roll, and none stands there twice.
 pub(crate) fn are_named(roll: &Roll<'_>, paths: &PathList) -> bool

@@ -1,16 +1,15 @@
 //! The first test that a line for an offer fails.
 
 ghost use Rattle.std.specs.Prelude.{MatchResult};
-ghost use Rattle.sysmem_proof.specs.Conflict.{RefusesOffer};
-ghost use Rattle.sysmem_proof.specs.Fault.{LineFaults};
-ghost use Rattle.sysmem_proof.specs.Roll.{listed};
+ghost use Rattle.verdict_claims.specs.Conflict.{RefusesOffer};
+ghost use Rattle.verdict_claims.specs.Fault.{LineFaults};
+ghost use Rattle.verdict_claims.specs.Roll.{listed};
 
 use super::names::are_named;
 use super::offer_lines::refuses_offer;
-use crate::line::Line;
-use crate::no::No;
 use crate::roll::Roll;
 use sysmem_formats::Offer;
+use verdict_claims::{Line, No};
 
 /// Of a line that says that an offer is refused.
 pub(crate) fn offer_fault(

@@ -6,21 +6,20 @@ ghost use Rattle.sysmem_formats.specs.declared.offer.Offer.TheVariants.{NoImage,
 ghost use Rattle.sysmem_merge.specs.Demands.{offer_demands};
 ghost use Rattle.sysmem_merge.specs.Offers.{names_format, names_modifier, names_colour};
 ghost use Rattle.sysmem_merge.specs.Reasons.{IsUnnamedLine};
-ghost use Rattle.sysmem_proof.specs.Conflict.{RefusesOffer};
-ghost use Rattle.sysmem_proof.specs.Fault.{AreNamed};
-ghost use Rattle.sysmem_proof.specs.Members.{participants};
-ghost use Rattle.sysmem_proof.specs.Roll.{listed};
+ghost use Rattle.verdict_claims.specs.Conflict.{RefusesOffer};
+ghost use Rattle.verdict_claims.specs.Fault.{AreNamed};
+ghost use Rattle.verdict_claims.specs.Members.{participants};
+ghost use Rattle.verdict_claims.specs.Roll.{listed};
 ghost use Rattle.sysmem_sanitise.specs.Platform.{offers_of};
 ghost use Rattle.sysmem_tree.specs.Shape.{Member};
 
 use super::line_tests::is_offer_line;
-use crate::line::Line;
-use crate::pair_lines::is_shared;
 use crate::roll::Roll;
 use sysmem_counts::Field;
 use sysmem_formats::{Offer, offer_at};
 use sysmem_image::{Entry, entry_for};
 use sysmem_sanitise::{Constraints, Platform};
+use verdict_claims::{Line, is_shared};
 
 /// Whether one, if there is one, doesn't name the part of the offer's name that the field speaks
 /// of. False of another field, and of no image.

@@ -1,19 +1,18 @@
 //! The lines for the offers before that of a choice.
 
 ghost use Rattle.std.specs.Prelude.{◌≡◌, ◌↔◌, true, Contains, IsTrue, MatchResult, Some, slice_get};
-ghost use Rattle.sysmem_proof.specs.Certificate.{HoldBefore};
-ghost use Rattle.sysmem_proof.specs.Conflict.{RefusesOffer};
-ghost use Rattle.sysmem_proof.specs.Fault.{LinesFault};
-ghost use Rattle.sysmem_proof.specs.Roll.{listed};
+ghost use Rattle.verdict_claims.specs.Certificate.{HoldBefore};
+ghost use Rattle.verdict_claims.specs.Conflict.{RefusesOffer};
+ghost use Rattle.verdict_claims.specs.Fault.{LinesFault};
+ghost use Rattle.verdict_claims.specs.Roll.{listed};
 ghost use Rattle.sysmem_sanitise.specs.Platform.{offers_of};
 
 use super::offer_faults::offer_fault;
-use crate::line::Line;
-use crate::no::No;
 use crate::roll::Roll;
 use sysmem_formats::{Offer, offer_at};
 use sysmem_merge::Settings;
 use sysmem_sanitise::Platform;
+use verdict_claims::{Line, No};
 
 /// Whether this is the platform's offer at the index.
 fn is_offer_at(platform: &Platform, index: usize, offer: &Offer) -> bool

@@ -4,15 +4,15 @@ ghost use Rattle.std.specs.Prelude.{◌≡◌, ◌↔◌, ◌+◌, ◌∷◌, �
 ghost use Rattle.std.specs.List.{AllZip};
 ghost use Rattle.sysmem_memory.specs.Heap.{HeapFacts};
 ghost use Rattle.sysmem_memory.specs.Listed.{HeapPlace, places_from, places_of, put_if};
-ghost use Rattle.sysmem_proof.specs.Conflict.{RefusesPlace};
+ghost use Rattle.verdict_claims.specs.Conflict.{RefusesPlace};
 ghost use Rattle.sysmem_proof.specs.EachLine.{GoesPast};
-ghost use Rattle.sysmem_proof.specs.Fault.{AreNamed};
-ghost use Rattle.sysmem_proof.specs.Roll.{listed};
+ghost use Rattle.verdict_claims.specs.Fault.{AreNamed};
+ghost use Rattle.verdict_claims.specs.Roll.{listed};
 
 use super::line_tests::is_place_line;
-use crate::line::Line;
 use crate::roll::Roll;
 use sysmem_memory::{CoherencyDomain, HeapInfo};
+use verdict_claims::Line;
 
 /// Goes past the line of a coherency domain of a heap, if the heap has it; `None` where that line
 /// is missing or doesn't refuse it.

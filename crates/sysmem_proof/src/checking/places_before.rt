@@ -5,19 +5,18 @@ ghost use Rattle.std.specs.List.{AllZip};
 ghost use Rattle.sysmem_memory.specs.Heap.{HeapFacts};
 ghost use Rattle.sysmem_memory.specs.Listed.{HeapPlace};
 ghost use Rattle.sysmem_memory.specs.Place.{IsPlace};
-ghost use Rattle.sysmem_proof.specs.Certificate.{RefusePlacesBefore};
-ghost use Rattle.sysmem_proof.specs.Conflict.{RefusesPlace};
+ghost use Rattle.verdict_claims.specs.Certificate.{RefusePlacesBefore};
+ghost use Rattle.verdict_claims.specs.Conflict.{RefusesPlace};
 ghost use Rattle.sysmem_proof.specs.PlacesBefore.{AreTold, PlaceLinesFault, place_if, places_before, places_in, domains_before};
-ghost use Rattle.sysmem_proof.specs.Fault.{PlacesFault};
-ghost use Rattle.sysmem_proof.specs.Roll.{listed};
+ghost use Rattle.verdict_claims.specs.Fault.{PlacesFault};
+ghost use Rattle.verdict_claims.specs.Roll.{listed};
 
 use super::line_faults::place_fault;
-use crate::line::Line;
-use crate::no::No;
 use crate::roll::Roll;
 use sysmem_memory::{CoherencyDomain, CoherencyDomains, HeapInfo, Place};
 use sysmem_merge::Settings;
 use sysmem_sanitise::Platform;
+use verdict_claims::{Line, No};
 
 /// The domains of a set that come before this one.
 fn domains_before(domains: CoherencyDomains, domain: CoherencyDomain) -> CoherencyDomains

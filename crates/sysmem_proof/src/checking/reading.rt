@@ -1,11 +1,11 @@
 //! What a checker reads of its domain.
 
 ghost use Rattle.std.specs.Prelude.{◌≡◌, ◌≤◌, ◌↔◌, Some, All, IsPermutation, IsTrue, length};
-ghost use Rattle.sysmem_proof.specs.Asked.{asked_in};
-ghost use Rattle.sysmem_proof.specs.Base.{BaseFacts};
-ghost use Rattle.sysmem_proof.specs.Matter.{forest};
-ghost use Rattle.sysmem_proof.specs.Fault.{AreFew, IsSelected};
-ghost use Rattle.sysmem_proof.specs.Members.{participants};
+ghost use Rattle.verdict_claims.specs.Asked.{asked_in};
+ghost use Rattle.verdict_claims.specs.Base.{BaseFacts};
+ghost use Rattle.verdict_claims.specs.Matter.{forest};
+ghost use Rattle.verdict_claims.specs.Fault.{AreFew, IsSelected};
+ghost use Rattle.verdict_claims.specs.Members.{participants};
 ghost use Rattle.sysmem_tree.specs.Forest.{Forest, settled};
 ghost use Rattle.sysmem_tree.specs.Nodes.{HasNode};
 ghost use Rattle.sysmem_tree.specs.Selection.{IsPrefix, after};

@@ -1,21 +1,20 @@
 //! The first test that a refutation fails.
 
 ghost use Rattle.std.specs.Prelude.{◌≡◌, ◌<◌, List, [], ◌∷◌, Some, IfOk, MatchOption, MatchResult, OnOk, drop, length, option_map};
-ghost use Rattle.sysmem_proof.specs.Certificate.{Refutes};
-ghost use Rattle.sysmem_proof.specs.Matter.{forest, terms};
-ghost use Rattle.sysmem_proof.specs.Conflict.{IsConflictFor};
-ghost use Rattle.sysmem_proof.specs.Fault.{Fails, RefutationFaults};
+ghost use Rattle.verdict_claims.specs.Certificate.{Refutes};
+ghost use Rattle.verdict_claims.specs.Matter.{forest, terms};
+ghost use Rattle.verdict_claims.specs.Conflict.{IsConflictFor};
+ghost use Rattle.verdict_claims.specs.Fault.{Fails, RefutationFaults};
 ghost use Rattle.sysmem_proof.specs.Walk.{AreLeft};
-ghost use Rattle.sysmem_proof.specs.declared.no.No.TheVariants.{WrongShape as Misshapen};
+ghost use Rattle.verdict_claims.specs.declared.no.No.TheVariants.{WrongShape as Misshapen};
 ghost use Rattle.sysmem_tree.specs.Forest.{Forest, choices};
 ghost use Rattle.sysmem_tree.specs.Selection.{IsPrefix, after};
 ghost use Rattle.sysmem_tree.specs.Shape.{Member};
 
 use super::checker::Checker;
 use super::conflict_faults::conflict_fault;
-use crate::no::No;
-use crate::refutation::Item;
 use sysmem_tree::Prefix;
+use verdict_claims::{Item, No};
 
 /// The children of the group that is next after the choices, if they are so many.
 fn so_many_children(checker: &Checker<'_>, prefix: &Prefix, many: u64) -> Result<u8, No>

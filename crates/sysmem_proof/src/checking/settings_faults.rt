@@ -7,23 +7,23 @@ ghost use Rattle.sysmem_merge.specs.Demands.{OfferDemand, counts_asked};
 ghost use Rattle.sysmem_merge.specs.OfferRead.{IsOfferRead};
 ghost use Rattle.sysmem_merge.specs.Offers.{is_named};
 ghost use Rattle.sysmem_merge.specs.Settings.{CoversOn, Meets};
-ghost use Rattle.sysmem_proof.specs.Asked.{asked_in};
-ghost use Rattle.sysmem_proof.specs.Base.{Terms};
-ghost use Rattle.sysmem_proof.specs.Check.{IsLeastAt};
-ghost use Rattle.sysmem_proof.specs.Fault.{NoFault, SettingsFaults};
-ghost use Rattle.sysmem_proof.specs.Members.{participants};
-ghost use Rattle.sysmem_proof.specs.Verdict.{MeetsFixed};
+ghost use Rattle.verdict_claims.specs.Asked.{asked_in};
+ghost use Rattle.verdict_claims.specs.Base.{Terms};
+ghost use Rattle.verdict_claims.specs.Check.{IsLeastAt};
+ghost use Rattle.verdict_claims.specs.Fault.{NoFault, SettingsFaults};
+ghost use Rattle.verdict_claims.specs.Members.{participants};
+ghost use Rattle.verdict_claims.specs.Verdict.{MeetsFixed};
 ghost use Rattle.sysmem_tree.specs.Nodes.{HasNode};
 ghost use Rattle.sysmem_tree.specs.Shape.{Member};
 
 use super::asked_of_nodes::{accept_nodes, count_nodes, read_nodes};
-use crate::laws::least_is_computed;
-use crate::no::No;
 use sysmem_counts::Field;
 use sysmem_merge::laws::{count_line_leaves_none, offer_line_leaves_none};
 use sysmem_merge::{OfferRead, Settings, is_sound};
 use sysmem_sanitise::Platform;
 use sysmem_tree::{NodeId, Tree};
+use verdict_claims::No;
+use verdict_claims::laws::least_is_computed;
 
 /// Whether the three parts of an image's name are named; no image needs no name.
 fn is_named(read: &OfferRead) -> bool

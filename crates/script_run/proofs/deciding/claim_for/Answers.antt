@@ -1,8 +1,8 @@
 use Rattle.std.proofs.Common.{◌≡◌, true, inl, refl, sym, ◌∙◌, subst}
 use Rattle.sysmem_alloc.specs.Claims.{IsRightClaim}
 use Rattle.sysmem_alloc.specs.State.{base_of}
-use Rattle.sysmem_proof.specs.declared.certificate.Claim.{Claim}
-use Rattle.sysmem_proof.specs.declared.certificate.Proof.TheVariants.{Nothing}
+use Rattle.verdict_claims.specs.declared.certificate.Claim.{Claim}
+use Rattle.verdict_claims.specs.declared.certificate.Proof.TheVariants.{Nothing}
 use Rattle.sysmem_tree.specs.Domain.{TreeFacts, is_ready}
 use Rattle.script_run.proofs.Told.{claim_as}
 use Rattle.script_run.proofs.deciding.claim_for.Goals as goal

@@ -1,6 +1,6 @@
 -- See Fitting.antt.
 use Rattle.std.proofs.Common.{◌≡◌, ◌≢◌, ◌↔◌, ◌<◌, ℕ, length, get_or, nat_eq, IsTrue, Bool, true, false, sym, ◌∙◌, ap, subst, arith, rules, tests}
-use Rattle.sysmem_proof.specs.Members.{member_at}
+use Rattle.verdict_claims.specs.Members.{member_at}
 use Rattle.sysmem_alloc.proofs.Fitting.{at_end, differs, item_at, lacks}
 use Rattle.sysmem_alloc.proofs.terms.accept_same.Goals as goal
 use Rattle.sysmem_alloc.proofs.terms.accept_same.Goals.{then-at-accepted-via-then-at-accepted, then-at-accepted-via-else-at-accepted+then-not-shows_same}

@@ -1,5 +1,5 @@
 use Rattle.std.proofs.Common.{◌≡◌, ◌↔◌, ◌≤◌, drop, length}
-use Rattle.sysmem_proof.specs.Members.{members_at}
+use Rattle.verdict_claims.specs.Members.{members_at}
 use Rattle.sysmem_alloc.specs.Accepted.{marked_of}
 use Rattle.sysmem_alloc.proofs.terms.accept_same.Given as goal
 

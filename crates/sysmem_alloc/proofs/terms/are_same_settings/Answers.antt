@@ -1,6 +1,6 @@
 -- What `==` calls equal is equal.
 use Rattle.std.proofs.Common.{sym, ◌∙◌}
-use Rattle.sysmem_proof.proofs.CallerLemmas.{same_settings}
+use Rattle.verdict_claims.proofs.CallerLemmas.{same_settings}
 use Rattle.sysmem_alloc.proofs.terms.are_same_settings.Goals as goal
 
 pub returns : goal.returns

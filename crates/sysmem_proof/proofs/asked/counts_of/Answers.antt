@@ -2,8 +2,8 @@
 use Rattle.std.proofs.Common.{length, take, sym, ap, ◌∙◌, subst, arith}
 use Rattle.sysmem_counts.specs.Bounds.{IsTallyOf}
 use Rattle.sysmem_merge.specs.Demands.{counts_asked}
-use Rattle.sysmem_proof.specs.Roll.{asked_by, listed}
-use Rattle.sysmem_proof.proofs.OnRoll.{counts_more, asked_whole}
+use Rattle.verdict_claims.specs.Roll.{asked_by, listed}
+use Rattle.verdict_claims.proofs.OnRoll.{counts_more, asked_whole}
 use Rattle.sysmem_proof.proofs.Yielded.{comes, all_came}
 use Rattle.sysmem_proof.proofs.asked.counts_of.Goals as goal
 

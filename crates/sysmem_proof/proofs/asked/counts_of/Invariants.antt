@@ -3,7 +3,7 @@ use Rattle.std.proofs.Common.{◌≤◌, ◌*◌, ◌^◌, length, take}
 use Rattle.sysmem_counts.specs.Bounds.{IsTallyOf}
 use Rattle.sysmem_counts.specs.Tally.{sum_of}
 use Rattle.sysmem_merge.specs.Demands.{counts_asked}
-use Rattle.sysmem_proof.specs.Roll.{asked_by, listed}
+use Rattle.verdict_claims.specs.Roll.{asked_by, listed}
 use Rattle.sysmem_proof.proofs.asked.counts_of.Given as goal
 
 abbrev pub invariant-loop-path : goal.invariant-loop-path

@@ -2,8 +2,8 @@
 use Rattle.std.proofs.Common.{length, take, sym, ap, ◌∙◌, subst, arith}
 use Rattle.sysmem_merge.specs.Demands.{offer_demands}
 use Rattle.sysmem_merge.specs.OfferRead.{IsOfferRead}
-use Rattle.sysmem_proof.specs.Roll.{asked_by, listed}
-use Rattle.sysmem_proof.proofs.OnRoll.{offers_more, asked_whole}
+use Rattle.verdict_claims.specs.Roll.{asked_by, listed}
+use Rattle.verdict_claims.proofs.OnRoll.{offers_more, asked_whole}
 use Rattle.sysmem_proof.proofs.Yielded.{comes, all_came}
 use Rattle.sysmem_proof.proofs.asked.read_of.Goals as goal
 

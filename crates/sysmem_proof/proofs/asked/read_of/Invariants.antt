@@ -2,7 +2,7 @@
 use Rattle.std.proofs.Common.{length, take}
 use Rattle.sysmem_merge.specs.Demands.{offer_demands}
 use Rattle.sysmem_merge.specs.OfferRead.{IsOfferRead}
-use Rattle.sysmem_proof.specs.Roll.{asked_by, listed}
+use Rattle.verdict_claims.specs.Roll.{asked_by, listed}
 use Rattle.sysmem_proof.proofs.asked.read_of.Given as goal
 
 abbrev pub invariant-loop-path : goal.invariant-loop-path

@@ -2,8 +2,8 @@
 use Rattle.std.proofs.Common.{◌≡◌, length, take, refl, sym, ◌∙◌, true, subst, arith}
 use Rattle.std.specs.Prelude.{Any}
 use Rattle.sysmem_memory.specs.PlaceTable.{refuses_by}
-use Rattle.sysmem_proof.specs.Roll.{asked_by, listed}
-use Rattle.sysmem_proof.proofs.OnRoll.{none_more, some_more, asked_whole}
+use Rattle.verdict_claims.specs.Roll.{asked_by, listed}
+use Rattle.verdict_claims.proofs.OnRoll.{none_more, some_more, asked_whole}
 use Rattle.sysmem_proof.proofs.Yielded.{comes, all_came}
 use Rattle.sysmem_proof.proofs.asked.refuse_place.Goals as goal
 

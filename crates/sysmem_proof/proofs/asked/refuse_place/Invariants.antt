@@ -2,7 +2,7 @@
 use Rattle.std.proofs.Common.{◌≡◌, length, take, true}
 use Rattle.std.specs.Prelude.{Any}
 use Rattle.sysmem_memory.specs.PlaceTable.{refuses_by}
-use Rattle.sysmem_proof.specs.Roll.{asked_by, listed}
+use Rattle.verdict_claims.specs.Roll.{asked_by, listed}
 use Rattle.sysmem_proof.proofs.asked.refuse_place.Given as goal
 
 abbrev pub invariant-loop-path : goal.invariant-loop-path

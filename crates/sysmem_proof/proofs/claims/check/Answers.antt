@@ -1,9 +1,9 @@
 -- What is told of the checker's domain is told of this one.
 use Rattle.std.proofs.Common.{subst}
 use Rattle.std.specs.Prelude.{MatchResult, option_map}
-use Rattle.sysmem_proof.specs.Check.{VerdictPasses}
-use Rattle.sysmem_proof.specs.Matter.{Matter, forest, terms}
-use Rattle.sysmem_proof.specs.Fault.{VerdictFaults}
+use Rattle.verdict_claims.specs.Check.{VerdictPasses}
+use Rattle.verdict_claims.specs.Matter.{Matter, forest, terms}
+use Rattle.verdict_claims.specs.Fault.{VerdictFaults}
 use Rattle.sysmem_proof.proofs.Claiming.{passes_true, true_passes}
 use Rattle.sysmem_proof.proofs.claims.check.Goals as goal
 

@@ -1,7 +1,7 @@
 -- Few enough selections, and a refutation of the domain's forest.
 use Rattle.std.proofs.Common.{◌≡◌, Some, refl, sym, subst}
 use Rattle.sysmem_tree.specs.Selection.{after, IsPrefix}
-use Rattle.sysmem_proof.specs.Matter.{forest, terms}
+use Rattle.verdict_claims.specs.Matter.{forest, terms}
 use Rattle.sysmem_proof.proofs.Claiming.{empty_told}
 use Rattle.sysmem_proof.proofs.claims.empty_fault.Goals as goal
 

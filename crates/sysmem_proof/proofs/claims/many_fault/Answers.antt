@@ -1,6 +1,6 @@
 -- Few are not many.
 use Rattle.std.proofs.Common.{refl}
-use Rattle.sysmem_proof.specs.Matter.{forest}
+use Rattle.verdict_claims.specs.Matter.{forest}
 use Rattle.sysmem_proof.proofs.Claiming.{few_or_many, few_not_many}
 use Rattle.sysmem_proof.proofs.claims.many_fault.Goals as goal
 

@@ -1,5 +1,5 @@
 -- Each names another node.
-use Rattle.sysmem_proof.proofs.Rolls.{few_named}
+use Rattle.verdict_claims.proofs.Rolls.{few_named}
 use Rattle.sysmem_proof.proofs.roll.few_paths.Goals as goal
 
 pub returns : goal.returns

@@ -2,7 +2,7 @@
 use Rattle.std.proofs.Common.{[], refl, subst, arith}
 use Rattle.std.specs.Prelude.{option_map}
 use Rattle.sysmem_search.specs.Kept.{IsKeptOf}
-use Rattle.sysmem_proof.specs.Asked.{asked_in}
+use Rattle.verdict_claims.specs.Asked.{asked_in}
 use Rattle.sysmem_search.proofs.AskedMembers.{root_there, same_asked}
 use Rattle.sysmem_search.proofs.Keeping.{have_room}
 use Rattle.sysmem_search.proofs.Shapes.{few_settled}

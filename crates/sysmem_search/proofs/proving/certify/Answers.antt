@@ -1,11 +1,11 @@
 -- What refutes all that is earlier, and lines before the settings, are a certificate.
 use Rattle.std.proofs.Common.{sym, ap, subst}
 use Rattle.std.specs.Prelude.{option_map}
-use Rattle.sysmem_proof.specs.Base.{terms_of}
-use Rattle.sysmem_proof.specs.Certificate.{RefutesEarlier, RefuseBeforeFor}
-use Rattle.sysmem_proof.specs.CertificateFacts.{CertificateFacts}
-use Rattle.sysmem_proof.specs.Conflict.{IsConflictFor}
-use Rattle.sysmem_proof.specs.Matter.{forest, terms}
+use Rattle.verdict_claims.specs.Base.{terms_of}
+use Rattle.verdict_claims.specs.Certificate.{RefutesEarlier, RefuseBeforeFor}
+use Rattle.verdict_claims.specs.CertificateFacts.{CertificateFacts}
+use Rattle.verdict_claims.specs.Conflict.{IsConflictFor}
+use Rattle.verdict_claims.specs.Matter.{forest, terms}
 use Rattle.sysmem_search.proofs.Proved.{few_selected, selected_prefix, selected_unmet, selected_best, certified, certified_cut}
 use Rattle.sysmem_search.specs.Cut.{AreCut}
 use Rattle.sysmem_tree.specs.Forest.{settled}

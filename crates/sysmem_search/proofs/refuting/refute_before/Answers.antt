@@ -1,8 +1,8 @@
 -- Each choice before this one is refuted.
 use Rattle.std.proofs.Common.{◌≡◌, [], ◌∷◌, ◌++◌, ◌+◌, refl, sym, ◌∙◌, ap, subst, arith}
 use Rattle.std.specs.Prelude.{IfSome}
-use Rattle.sysmem_proof.specs.Matter.{forest}
-use Rattle.sysmem_proof.specs.Verdict.{IsForestUnmet}
+use Rattle.verdict_claims.specs.Matter.{forest}
+use Rattle.verdict_claims.specs.Verdict.{IsForestUnmet}
 use Rattle.sysmem_search.specs.Question.{MeetsOf}
 use Rattle.sysmem_search.specs.Refuting.{AddsRefutation, RefutesFirst}
 use Rattle.sysmem_search.specs.Standing.{Standing}

@@ -2,8 +2,8 @@
 use Rattle.std.proofs.Common.{◌∷◌, ◌++◌, [], length, get_or, sym, ◌∙◌, ap, subst, arith}
 use Rattle.std.specs.Prelude.{IfSome}
 use Rattle.std.proofs.Math.ListN.{drop_of_length-le}
-use Rattle.sysmem_proof.specs.Matter.{forest}
-use Rattle.sysmem_proof.specs.Verdict.{IsUnmetBefore}
+use Rattle.verdict_claims.specs.Matter.{forest}
+use Rattle.verdict_claims.specs.Verdict.{IsUnmetBefore}
 use Rattle.sysmem_search.specs.Question.{MeetsOf}
 use Rattle.sysmem_search.specs.Refuting.{RefutesFirst}
 use Rattle.sysmem_search.specs.Standing.{Standing}

@@ -1,7 +1,7 @@
 -- What was found at this prefix, by what was asked and found below it.
 use Rattle.std.proofs.Common.{[], ◌∷◌, ◌++◌, Some, None, refl, sym, ◌∙◌, ap, subst, arith}
 use Rattle.std.specs.Prelude.{IfSome}
-use Rattle.sysmem_proof.specs.Matter.{forest}
+use Rattle.verdict_claims.specs.Matter.{forest}
 use Rattle.sysmem_search.specs.Searching.{IsFoundOf}
 use Rattle.sysmem_search.specs.Standing.{Standing}
 use Rattle.sysmem_search.proofs.Finding.{entered_at, found_here, found_cut, begun, long_push, pushed_prefix, found_below, some_best, none_best, unmet_below, same_below, all_below}

@@ -1,7 +1,7 @@
 -- The choices for the next group that were gone through.
 use Rattle.std.proofs.Common.{◌≡◌, ◌-◌, length}
 use Rattle.std.specs.Prelude.{IfSome}
-use Rattle.sysmem_proof.specs.Matter.{forest}
+use Rattle.verdict_claims.specs.Matter.{forest}
 use Rattle.sysmem_search.proofs.Finding.{GoneThrough}
 use Rattle.sysmem_tree.specs.Selection.{after}
 use Rattle.sysmem_search.proofs.searching.+search_from.Given as goal

@@ -4,7 +4,7 @@ use Rattle.std.specs.Prelude.{option_map}
 use Rattle.std.specs.List.{cons_option}
 use Rattle.std.proofs.lemmas.List.Elements.{filter_map-append}
 use Rattle.sysmem_search.specs.Kept.{IsPart}
-use Rattle.sysmem_proof.specs.Asked.{asks_at, asked_in}
+use Rattle.verdict_claims.specs.Asked.{asks_at, asked_in}
 use Rattle.sysmem_search.proofs.Keeping.{has_room}
 use Rattle.sysmem_search.proofs.Taking.{told, few_asked_of}
 use Rattle.sysmem_search.proofs.Walking.{take_one}

@@ -2,7 +2,7 @@
 use Rattle.std.proofs.Common.{ℕ, List, [], ◌≤◌, length}
 use Rattle.std.specs.Prelude.{option_map}
 use Rattle.sysmem_search.specs.Kept.{IsPart}
-use Rattle.sysmem_proof.specs.Asked.{asked_in}
+use Rattle.verdict_claims.specs.Asked.{asked_in}
 use Rattle.sysmem_search.proofs.Walking.{IsTaken}
 use Rattle.sysmem_tree.specs.OpenGroups.{HasLeft}
 use Rattle.sysmem_search.proofs.settling.add_settled.Given as goal

@@ -1,6 +1,6 @@
 -- The shares that were joined.
 use Rattle.std.proofs.Common.{ℕ, length}
-use Rattle.sysmem_proof.specs.Matter.{Matter}
+use Rattle.verdict_claims.specs.Matter.{Matter}
 use Rattle.sysmem_search.specs.Wide.{AreFirstIn, IsFirstIn}
 use Rattle.sysmem_search.proofs.wide.join_shares.Given as goal
 

@@ -1,7 +1,7 @@
 -- What was found after one choice.
 use Rattle.std.proofs.Common.{◌≡◌, [], ◌∷◌, ◌++◌, ℕ, List, sym, ◌∙◌, ap, subst}
 use Rattle.std.specs.Prelude.{MatchOption}
-use Rattle.sysmem_proof.specs.Matter.{Matter, forest}
+use Rattle.verdict_claims.specs.Matter.{Matter, forest}
 use Rattle.sysmem_search.specs.Standing.{Standing}
 use Rattle.sysmem_search.specs.Wide.{IsFirstAt}
 use Rattle.sysmem_search.proofs.Finding.{none_best}

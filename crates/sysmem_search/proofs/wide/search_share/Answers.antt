@@ -2,7 +2,7 @@
 use Rattle.std.proofs.Common.{◌≡◌, ◌<◌, ◌≤◌, [], ◌∷◌, List, ℕ, inl, inr, sym, ◌∙◌, ap, subst, arith}
 use Rattle.std.specs.Prelude.{MatchOption}
 use Rattle.std.proofs.lemmas.Bool.{cases_lt}
-use Rattle.sysmem_proof.specs.Matter.{forest}
+use Rattle.verdict_claims.specs.Matter.{forest}
 use Rattle.sysmem_search.specs.Standing.{Standing}
 use Rattle.sysmem_search.specs.Wide.{IsFirstAt, IsUnmetAt}
 use Rattle.sysmem_tree.specs.Selection.{IsPrefix}

@@ -1,7 +1,7 @@
 -- What was found among all choices for the first group.
 use Rattle.std.proofs.Common.{◌≡◌, ◌<◌, ◌↔◌, Some, length, subst, arith}
 use Rattle.std.specs.Prelude.{IfSome, IsTrue, option_map}
-use Rattle.sysmem_proof.specs.Matter.{forest}
+use Rattle.verdict_claims.specs.Matter.{forest}
 use Rattle.sysmem_search.specs.Live.{SomeMeet}
 use Rattle.sysmem_search.specs.Question.{MeetsSoFar}
 use Rattle.sysmem_search.specs.Standing.{Standing}

@@ -1,9 +1,9 @@
 -- The verdict is that on what workers found together.
 use Rattle.std.proofs.Common.{sym, subst}
 use Rattle.std.specs.Prelude.{IfSome, option_map}
-use Rattle.sysmem_proof.specs.Base.{terms_of}
-use Rattle.sysmem_proof.specs.Matter.{Matter}
-use Rattle.sysmem_proof.specs.Verdict.{IsOptimalIn}
+use Rattle.verdict_claims.specs.Base.{terms_of}
+use Rattle.verdict_claims.specs.Matter.{Matter}
+use Rattle.verdict_claims.specs.Verdict.{IsOptimalIn}
 use Rattle.sysmem_search.specs.Wide.{IsFirstOfAll}
 use Rattle.sysmem_search.specs.declared.wide.Share.{Share}
 use Rattle.sysmem_search.proofs.Sharing.{optimal_first}

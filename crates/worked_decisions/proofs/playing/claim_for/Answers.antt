@@ -1,7 +1,7 @@
 use Rattle.std.proofs.Common.{◌≡◌, true, inl, refl, sym, ◌∙◌, subst}
 use Rattle.sysmem_alloc.specs.State.{base_of}
-use Rattle.sysmem_proof.specs.declared.certificate.Claim.{Claim}
-use Rattle.sysmem_proof.specs.declared.certificate.Proof.TheVariants.{Nothing}
+use Rattle.verdict_claims.specs.declared.certificate.Claim.{Claim}
+use Rattle.verdict_claims.specs.declared.certificate.Proof.TheVariants.{Nothing}
 use Rattle.sysmem_tree.specs.Domain.{TreeFacts, is_ready}
 use Rattle.worked_decisions.proofs.Lent.{right_as}
 use Rattle.worked_decisions.proofs.playing.claim_for.Goals as goal

@@ -2,7 +2,7 @@ use Rattle.std.proofs.Common.{◌≡◌, Some, length, slice_get, refl, sym, sub
 use Rattle.std.proofs.lemmas.Option.{slice_get_read}
 use Rattle.std.specs.Arc.{arc_value}
 use Rattle.serde_json.specs.View.{view}
-use Rattle.sysmem_proof.specs.declared.no.No.TheVariants.{WrongShape}
+use Rattle.verdict_claims.specs.declared.no.No.TheVariants.{WrongShape}
 use Rattle.script_run.specs.Checked.{TakesClaim}
 use Rattle.script_run.proofs.Checks.{fails_missing, fails_there, objects_as, some_and}
 use Rattle.script_run.proofs.Told.{path_is}

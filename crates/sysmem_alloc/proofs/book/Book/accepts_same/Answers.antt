@@ -1,7 +1,7 @@
 -- See Fitting.antt and Keeping.antt.
 use Rattle.std.proofs.Common.{◌≡◌, ◌↔◌, ℕ, IsTrue, List, ◌∙◌, ap, subst, sym}
 use Rattle.std.specs.Prelude.{All}
-use Rattle.sysmem_proof.specs.Members.{members_at}
+use Rattle.verdict_claims.specs.Members.{members_at}
 use Rattle.sysmem_tree.specs.Nodes.{HasNode}
 use Rattle.sysmem_alloc.specs.Book.{BookFacts}
 use Rattle.sysmem_alloc.specs.State.{next_ready}

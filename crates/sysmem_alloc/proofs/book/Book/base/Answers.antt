@@ -3,7 +3,7 @@ use Rattle.std.proofs.Common.{sym, subst}
 use Rattle.std.specs.Prelude.{IfSome}
 use Rattle.std.proofs.lemmas.Result.{IfOk-weaker}
 use Rattle.sysmem_alloc.specs.Sound.{MayWait}
-use Rattle.sysmem_proof.specs.Base.{IsGivenBase}
+use Rattle.verdict_claims.specs.Base.{IsGivenBase}
 use Rattle.sysmem_alloc.proofs.GivenBases.{book_base_given, next_waits}
 use Rattle.sysmem_alloc.proofs.book.Book.base.Goals as goal
 

@@ -2,7 +2,7 @@
 use Rattle.std.proofs.Common.{◌≡◌, ℕ, Some, sym, ◌∙◌, ap, rules, tests}
 use Rattle.std.specs.Prelude.{option_map}
 use Rattle.std.proofs.lemmas.Option.{same_Some}
-use Rattle.sysmem_proof.specs.Base.{terms_of}
+use Rattle.verdict_claims.specs.Base.{terms_of}
 use Rattle.sysmem_tree.specs.Domain.{TreeFacts}
 use Rattle.sysmem_tree.specs.Shape.{shape_of}
 use Rattle.sysmem_alloc.specs.State.{base_of}

@@ -2,7 +2,7 @@
 use Rattle.std.proofs.Common.{Some, None, sym, ◌∙◌, ap, subst}
 use Rattle.std.specs.Prelude.{map}
 use Rattle.std.specs.List.{filter_map}
-use Rattle.sysmem_proof.specs.declared.certificate.Claim.{Claim}
+use Rattle.verdict_claims.specs.declared.certificate.Claim.{Claim}
 use Rattle.sysmem_alloc.specs.Book.{kept_book}
 use Rattle.sysmem_alloc.specs.Decision.{Decision}
 use Rattle.sysmem_alloc.specs.Entry.{decision_in}

@@ -4,7 +4,7 @@ use Rattle.sysmem_counts.specs.Bounds.{IsTallyOf}
 use Rattle.sysmem_counts.specs.Tally.{sum_of}
 use Rattle.sysmem_counts.specs.declared.constraints.CountConstraints.{CountConstraints}
 use Rattle.sysmem_merge.specs.Demands.{counts_asked}
-use Rattle.sysmem_proof.specs.Asked.{asked_in}
+use Rattle.verdict_claims.specs.Asked.{asked_in}
 use Rattle.sysmem_proof.proofs.checking.asked_of_nodes.add_counts.Given as goal
 
 abbrev pub invariant-loop-node : goal.invariant-loop-node

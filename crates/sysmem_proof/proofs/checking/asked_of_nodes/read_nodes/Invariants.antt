@@ -2,7 +2,7 @@
 use Rattle.std.proofs.Common.{take}
 use Rattle.sysmem_merge.specs.Demands.{offer_demands}
 use Rattle.sysmem_merge.specs.OfferRead.{IsOfferRead}
-use Rattle.sysmem_proof.specs.Asked.{asked_in}
+use Rattle.verdict_claims.specs.Asked.{asked_in}
 use Rattle.sysmem_proof.proofs.checking.asked_of_nodes.read_nodes.Given as goal
 
 abbrev pub invariant-loop-node : goal.invariant-loop-node

@@ -1,8 +1,8 @@
 -- The form, and then the rest.
 use Rattle.std.proofs.Common.{sym, subst}
-use Rattle.sysmem_proof.specs.Matter.{forest, terms}
+use Rattle.verdict_claims.specs.Matter.{forest, terms}
 use Rattle.sysmem_proof.specs.Choice.{FormFaults}
-use Rattle.sysmem_proof.specs.Fault.{IsSelected}
+use Rattle.verdict_claims.specs.Fault.{IsSelected}
 use Rattle.sysmem_proof.proofs.Left.{of_err}
 use Rattle.sysmem_proof.proofs.Choosing.{form_then, form_fails}
 use Rattle.sysmem_proof.proofs.checking.choice_faults.choice_fault.Goals as goal

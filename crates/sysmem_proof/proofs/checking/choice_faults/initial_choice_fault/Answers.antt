@@ -4,10 +4,10 @@ use Rattle.std.specs.Prelude.{IsPermutation}
 use Rattle.sysmem_tree.specs.Forest.{settled}
 use Rattle.sysmem_tree.specs.Nodes.{HasNode}
 use Rattle.sysmem_tree.specs.Selection.{after, IsPrefix}
-use Rattle.sysmem_proof.specs.Asked.{asked_in}
-use Rattle.sysmem_proof.specs.Matter.{forest, terms}
-use Rattle.sysmem_proof.specs.Members.{participants}
-use Rattle.sysmem_proof.specs.Roll.{listed}
+use Rattle.verdict_claims.specs.Asked.{asked_in}
+use Rattle.verdict_claims.specs.Matter.{forest, terms}
+use Rattle.verdict_claims.specs.Members.{participants}
+use Rattle.verdict_claims.specs.Roll.{listed}
 use Rattle.sysmem_merge.specs.Settings.{Meets}
 use Rattle.sysmem_proof.proofs.Left.{of_err}
 use Rattle.sysmem_proof.proofs.Choosing.{initial_fails, least_told, lines_read, lines_told, earlier_wrong, earlier_holds, no_terms}

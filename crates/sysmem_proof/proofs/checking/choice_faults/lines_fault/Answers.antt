@@ -1,9 +1,9 @@
 -- The lines for offers, and then those for places.
 use Rattle.std.proofs.Common.{true, inl, ◌∙◌, subst}
 use Rattle.sysmem_sanitise.specs.Platform.{offers_of}
-use Rattle.sysmem_proof.specs.Conflict.{RefusesOffer}
-use Rattle.sysmem_proof.specs.Fault.{LinesFault}
-use Rattle.sysmem_proof.specs.Roll.{listed}
+use Rattle.verdict_claims.specs.Conflict.{RefusesOffer}
+use Rattle.verdict_claims.specs.Fault.{LinesFault}
+use Rattle.verdict_claims.specs.Roll.{listed}
 use Rattle.sysmem_proof.proofs.Left.{of_err}
 use Rattle.sysmem_proof.proofs.Choosing.{lines_both}
 use Rattle.sysmem_proof.proofs.checking.choice_faults.lines_fault.Goals as goal

@@ -2,9 +2,9 @@
 use Rattle.std.proofs.Common.{Option, sym, ap, subst}
 use Rattle.std.specs.Prelude.{MatchResult, option_map}
 use Rattle.sysmem_sanitise.specs.Platform.{PlatformFacts}
-use Rattle.sysmem_proof.specs.Base.{Terms, terms_of}
-use Rattle.sysmem_proof.specs.Conflict.{IsConflictFor}
-use Rattle.sysmem_proof.specs.Fault.{ConflictFaults}
+use Rattle.verdict_claims.specs.Base.{Terms, terms_of}
+use Rattle.verdict_claims.specs.Conflict.{IsConflictFor}
+use Rattle.verdict_claims.specs.Fault.{ConflictFaults}
 use Rattle.sysmem_proof.proofs.checking.conflict_faults.attached_conflict_fault.Goals as goal
 
 pub returns : goal.returns

@@ -1,9 +1,9 @@
 -- Without a base there are no terms.
 use Rattle.std.proofs.Common.{Option, sym, ◌∙◌, ap, subst}
 use Rattle.std.specs.Prelude.{MatchResult, option_map}
-use Rattle.sysmem_proof.specs.Base.{BaseFacts, terms_of}
-use Rattle.sysmem_proof.specs.Conflict.{IsConflictFor}
-use Rattle.sysmem_proof.specs.Fault.{ConflictFaults}
+use Rattle.verdict_claims.specs.Base.{BaseFacts, terms_of}
+use Rattle.verdict_claims.specs.Conflict.{IsConflictFor}
+use Rattle.verdict_claims.specs.Fault.{ConflictFaults}
 use Rattle.sysmem_proof.proofs.checking.conflict_faults.conflict_fault.Goals as goal
 
 pub returns-in-None : goal.returns-in-None

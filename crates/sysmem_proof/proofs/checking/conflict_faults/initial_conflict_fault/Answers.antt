@@ -1,10 +1,10 @@
 -- What is told of the lines is told of the conflict.
 use Rattle.std.proofs.Common.{None, sym, subst}
 use Rattle.std.specs.Prelude.{MatchResult}
-use Rattle.sysmem_proof.specs.declared.conflict.Conflict.TheVariants.{Fixed}
-use Rattle.sysmem_proof.specs.Conflict.{IsConflict}
-use Rattle.sysmem_proof.specs.Fault.{ConflictFaults}
-use Rattle.sysmem_proof.specs.Roll.{listed}
+use Rattle.verdict_claims.specs.declared.conflict.Conflict.TheVariants.{Fixed}
+use Rattle.verdict_claims.specs.Conflict.{IsConflict}
+use Rattle.verdict_claims.specs.Fault.{ConflictFaults}
+use Rattle.verdict_claims.specs.Roll.{listed}
 use Rattle.sysmem_proof.proofs.Telling.{of_places, of_offers, of_field}
 use Rattle.sysmem_proof.proofs.checking.conflict_faults.initial_conflict_fault.Goals as goal
 

@@ -1,5 +1,5 @@
 -- Lines for all offers that name participants.
-use Rattle.sysmem_proof.specs.Roll.{listed}
+use Rattle.verdict_claims.specs.Roll.{listed}
 use Rattle.sysmem_proof.proofs.Telling.{untrue_lines}
 use Rattle.sysmem_proof.proofs.checking.conflict_faults.offers_fault.Goals as goal
 

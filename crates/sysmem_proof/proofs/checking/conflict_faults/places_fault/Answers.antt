@@ -2,8 +2,8 @@
 use Rattle.std.proofs.Common.{length, ◌∙◌, ap, subst, sym}
 use Rattle.std.specs.List.{AllZip}
 use Rattle.sysmem_memory.specs.Listed.{places_of}
-use Rattle.sysmem_proof.specs.Conflict.{RefusesPlace}
-use Rattle.sysmem_proof.specs.Roll.{listed}
+use Rattle.verdict_claims.specs.Conflict.{RefusesPlace}
+use Rattle.verdict_claims.specs.Roll.{listed}
 use Rattle.sysmem_proof.proofs.Telling.{untrue_lines}
 use Rattle.sysmem_proof.proofs.checking.conflict_faults.places_fault.Goals as goal
 

@@ -1,6 +1,6 @@
 -- What is told of one choice is told of those before the chosen one.
 use Rattle.std.proofs.Common.{◌≡◌, ◌∙◌, [], drop, take, is_some, ap, subst, arith}
-use Rattle.sysmem_proof.specs.Matter.{forest, terms}
+use Rattle.verdict_claims.specs.Matter.{forest, terms}
 use Rattle.sysmem_proof.proofs.Left.{of_err, front_at, some_front, within_take, none_behind, one_before, one_fails, one_missing, too_many}
 use Rattle.sysmem_proof.proofs.Ways.{way_of, smaller_way, same_way, pushed, popped}
 use Rattle.sysmem_proof.proofs.checking.earlier_faults.before_fault.Goals as goal

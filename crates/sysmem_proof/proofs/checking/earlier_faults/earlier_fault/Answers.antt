@@ -2,11 +2,11 @@
 use Rattle.std.proofs.Common.{◌∙◌, ◌∷◌, ◌++◌, [], ◌+◌, get_or, is_some, refl, sym, ap, subst, arith}
 use Rattle.std.proofs.lemmas.List.{drop_more, take_more}
 use Rattle.sysmem_tree.specs.Selection.{IsPrefix, after}
-use Rattle.sysmem_proof.specs.declared.no.No.TheVariants.{WrongShape}
-use Rattle.sysmem_proof.specs.Certificate.{RefutesEarlier}
-use Rattle.sysmem_proof.specs.Matter.{forest, terms}
-use Rattle.sysmem_proof.specs.Conflict.{IsConflictFor}
-use Rattle.sysmem_proof.specs.Fault.{EarlierFaults, no_list}
+use Rattle.verdict_claims.specs.declared.no.No.TheVariants.{WrongShape}
+use Rattle.verdict_claims.specs.Certificate.{RefutesEarlier}
+use Rattle.verdict_claims.specs.Matter.{forest, terms}
+use Rattle.verdict_claims.specs.Conflict.{IsConflictFor}
+use Rattle.verdict_claims.specs.Fault.{EarlierFaults, no_list}
 use Rattle.sysmem_proof.proofs.Left.{EarlierTo, of_err, front_at, some_front, drop_over, no_group, group_fails, group_read, all_groups, more_groups}
 use Rattle.sysmem_proof.proofs.Ways.{way_at, on_way, at_end}
 use Rattle.sysmem_proof.proofs.checking.earlier_faults.earlier_fault.Goals as goal

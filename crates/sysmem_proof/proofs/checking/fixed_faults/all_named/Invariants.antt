@@ -1,8 +1,8 @@
 -- Those so far are named.
 use Rattle.std.proofs.Common.{take}
 use Rattle.std.specs.Prelude.{All}
-use Rattle.sysmem_proof.specs.Fault.{AreNamed}
-use Rattle.sysmem_proof.specs.Roll.{listed}
+use Rattle.verdict_claims.specs.Fault.{AreNamed}
+use Rattle.verdict_claims.specs.Roll.{listed}
 use Rattle.sysmem_proof.proofs.checking.fixed_faults.all_named.Given as goal
 
 abbrev pub invariant-loop-index : goal.invariant-loop-index

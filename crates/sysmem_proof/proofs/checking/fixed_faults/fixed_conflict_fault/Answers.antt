@@ -1,10 +1,10 @@
 -- What is told of a line is told of the conflict.
 use Rattle.std.proofs.Common.{Some, sym, subst}
 use Rattle.std.specs.Prelude.{MatchResult}
-use Rattle.sysmem_proof.specs.declared.conflict.Conflict.TheVariants.{Fixed}
-use Rattle.sysmem_proof.specs.Conflict.{IsFixedConflict}
-use Rattle.sysmem_proof.specs.Fault.{ConflictFaults}
-use Rattle.sysmem_proof.specs.Roll.{listed}
+use Rattle.verdict_claims.specs.declared.conflict.Conflict.TheVariants.{Fixed}
+use Rattle.verdict_claims.specs.Conflict.{IsFixedConflict}
+use Rattle.verdict_claims.specs.Fault.{ConflictFaults}
+use Rattle.verdict_claims.specs.Roll.{listed}
 use Rattle.sysmem_proof.proofs.Numbering.{fixed_told, places_told, offers_told}
 use Rattle.sysmem_proof.proofs.checking.fixed_faults.fixed_conflict_fault.Goals as goal
 

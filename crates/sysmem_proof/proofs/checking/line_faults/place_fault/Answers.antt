@@ -1,7 +1,7 @@
 -- Named, and not refused the place.
-use Rattle.sysmem_proof.specs.Conflict.{RefusesPlace}
-use Rattle.sysmem_proof.specs.Roll.{listed}
-use Rattle.sysmem_proof.proofs.OnRoll.{fault_untrue}
+use Rattle.verdict_claims.specs.Conflict.{RefusesPlace}
+use Rattle.verdict_claims.specs.Roll.{listed}
+use Rattle.verdict_claims.proofs.OnRoll.{fault_untrue}
 use Rattle.sysmem_proof.proofs.checking.line_faults.place_fault.Goals as goal
 
 pub returns-then-not-is_place_line : goal.returns-then-not-is_place_line

@@ -2,8 +2,8 @@
 use Rattle.std.proofs.Common.{[], ◌∷◌, refl}
 use Rattle.std.specs.Prelude.{Any}
 use Rattle.sysmem_merge.specs.Failing.{FailsOn}
-use Rattle.sysmem_proof.specs.Roll.{listed}
-use Rattle.sysmem_proof.proofs.OnRoll.{true_of}
+use Rattle.verdict_claims.specs.Roll.{listed}
+use Rattle.verdict_claims.proofs.OnRoll.{true_of}
 use Rattle.sysmem_proof.proofs.checking.line_tests.is_failed_at.Goals as goal
 
 pub returns : goal.returns

@@ -3,11 +3,11 @@ use Rattle.std.proofs.Common.{◌≡◌, Some, ◌∙◌, true, false, get_or, s
 use Rattle.std.specs.Prelude.{◌↔◌, Any, IsTrue, is_some}
 use Rattle.std.proofs.lemmas.List.{length-set, take_all}
 use Rattle.sysmem_tree.specs.Path.{node_at}
-use Rattle.sysmem_proof.proofs.OnRoll.{named_none, named_more, nobody_named, named_twice}
+use Rattle.verdict_claims.proofs.OnRoll.{named_none, named_more, nobody_named, named_twice}
 use Rattle.sysmem_proof.proofs.Seen.{none_seen, seen_before, not_seen, one_seen}
 use Rattle.sysmem_proof.proofs.Yielded.{comes, all_came}
-use Rattle.sysmem_proof.specs.Fault.{AreNamed}
-use Rattle.sysmem_proof.specs.Roll.{listed}
+use Rattle.verdict_claims.specs.Fault.{AreNamed}
+use Rattle.verdict_claims.specs.Roll.{listed}
 use Rattle.sysmem_proof.proofs.checking.names.are_named.Goals as goal
 
 pub loop-path-init : goal.loop-path-init

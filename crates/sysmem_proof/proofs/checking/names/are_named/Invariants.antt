@@ -2,8 +2,8 @@
 use Rattle.std.proofs.Common.{◌≡◌, ℕ, Some, false, get_or, length, take}
 use Rattle.std.specs.Prelude.{◌↔◌, Any, IsTrue}
 use Rattle.sysmem_tree.specs.Path.{node_at}
-use Rattle.sysmem_proof.specs.Fault.{AreNamed}
-use Rattle.sysmem_proof.specs.Roll.{listed}
+use Rattle.verdict_claims.specs.Fault.{AreNamed}
+use Rattle.verdict_claims.specs.Roll.{listed}
 use Rattle.sysmem_proof.proofs.checking.names.are_named.Given as goal
 
 abbrev pub invariant-loop-path : goal.invariant-loop-path

@@ -1,6 +1,6 @@
 -- One path.
-use Rattle.sysmem_proof.proofs.OnRoll.{one_named}
-use Rattle.sysmem_proof.specs.Roll.{listed}
+use Rattle.verdict_claims.proofs.OnRoll.{one_named}
+use Rattle.verdict_claims.specs.Roll.{listed}
 use Rattle.sysmem_proof.proofs.checking.names.is_named.Goals as goal
 
 pub returns : goal.returns

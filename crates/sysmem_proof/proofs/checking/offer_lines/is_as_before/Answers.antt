@@ -1,6 +1,6 @@
 -- A line that is the line before it.
 use Rattle.std.proofs.Common.{◌≡◌, sym, ◌∙◌, subst}
-use Rattle.sysmem_proof.specs.Conflict.{RefusesOffer}
+use Rattle.verdict_claims.specs.Conflict.{RefusesOffer}
 use Rattle.sysmem_proof.proofs.checking.offer_lines.is_as_before.Goals as goal
 
 pub returns : goal.returns

@@ -2,10 +2,10 @@
 use Rattle.std.proofs.Common.{◌≡◌, ◌<◌, Bool, true, length, refl, sym, ◌∙◌, ap, subst, arith}
 use Rattle.std.specs.List.{filter_map, list_any}
 use Rattle.sysmem_sanitise.specs.Participant.{Participant}
-use Rattle.sysmem_proof.specs.Members.{participants}
-use Rattle.sysmem_proof.specs.Roll.{asked_on, listed}
-use Rattle.sysmem_proof.proofs.Marked.{below, any_number, unnamed_too}
-use Rattle.sysmem_proof.proofs.SameColours.{SilentAt, silent_one, still_silent}
+use Rattle.verdict_claims.specs.Members.{participants}
+use Rattle.verdict_claims.specs.Roll.{asked_on, listed}
+use Rattle.verdict_claims.proofs.Marked.{below, any_number, unnamed_too}
+use Rattle.verdict_claims.proofs.SameColours.{SilentAt, silent_one, still_silent}
 use Rattle.sysmem_proof.proofs.checking.offer_lines.is_unnamed.Goals as goal
 
 pub returns-then-not-is_silent-2 : goal.returns-then-not-is_silent-2

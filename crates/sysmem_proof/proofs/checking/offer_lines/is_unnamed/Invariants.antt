@@ -2,8 +2,8 @@
 use Rattle.std.specs.List.{filter_map}
 use Rattle.sysmem_merge.specs.Demands.{offer_demands}
 use Rattle.sysmem_merge.specs.Reasons.{IsUnnamedLine}
-use Rattle.sysmem_proof.specs.Roll.{asked_on}
-use Rattle.sysmem_proof.proofs.Marked.{below}
+use Rattle.verdict_claims.specs.Roll.{asked_on}
+use Rattle.verdict_claims.proofs.Marked.{below}
 use Rattle.sysmem_proof.proofs.checking.offer_lines.is_unnamed.Given as goal
 
 abbrev pub invariant-loop-number : goal.invariant-loop-number

@@ -1,9 +1,9 @@
 -- One offer and its line more.
 use Rattle.std.proofs.Common.{◌≡◌, ◌+◌, ◌-◌, true, ◌∙◌, ap, subst, arith, get_or, slice_get}
 use Rattle.sysmem_sanitise.specs.Platform.{offers_of}
-use Rattle.sysmem_proof.specs.Conflict.{RefusesOffer}
-use Rattle.sysmem_proof.specs.Fault.{AreNamed}
-use Rattle.sysmem_proof.specs.Roll.{listed}
+use Rattle.verdict_claims.specs.Conflict.{RefusesOffer}
+use Rattle.verdict_claims.specs.Fault.{AreNamed}
+use Rattle.verdict_claims.specs.Roll.{listed}
 use Rattle.sysmem_proof.proofs.Numbering.{at_line, same_there}
 use Rattle.sysmem_proof.proofs.Past.{same_offers, offer_past, offer_stops, line_without, if_none}
 use Rattle.sysmem_proof.proofs.checking.offer_lines.refuse_offers.Goals as goal

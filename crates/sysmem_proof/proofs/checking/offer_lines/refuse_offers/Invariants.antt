@@ -5,9 +5,9 @@ use Rattle.std.specs.Prelude.{◌↔◌, ◌≢◌}
 use Rattle.std.specs.List.{AllZip}
 use Rattle.sysmem_formats.specs.declared.offer.Offer.TheVariants.{NoImage}
 use Rattle.sysmem_sanitise.specs.Platform.{offers_of}
-use Rattle.sysmem_proof.specs.Conflict.{RefusesOffer}
-use Rattle.sysmem_proof.specs.Line.{LineFacts}
-use Rattle.sysmem_proof.specs.Roll.{listed}
+use Rattle.verdict_claims.specs.Conflict.{RefusesOffer}
+use Rattle.verdict_claims.specs.Line.{LineFacts}
+use Rattle.verdict_claims.specs.Roll.{listed}
 use Rattle.sysmem_proof.proofs.checking.offer_lines.refuse_offers.Given as goal
 
 abbrev pub invariant-loop-index : goal.invariant-loop-index

@@ -2,7 +2,7 @@
 use Rattle.std.proofs.Common.{Some, sym, ◌∙◌, ap}
 use Rattle.std.proofs.lemmas.Bool.Decides.{Decides-at}
 use Rattle.std.proofs.lemmas.Option.{same_Some}
-use Rattle.sysmem_proof.proofs.Equal.{same_offer}
+use Rattle.verdict_claims.proofs.Equal.{same_offer}
 use Rattle.sysmem_proof.proofs.OffersFirst.{offer_read}
 use Rattle.sysmem_proof.proofs.checking.offers_before.is_offer_at.Goals as goal
 

@@ -1,11 +1,11 @@
 -- One offer more.
 use Rattle.std.proofs.Common.{◌≡◌, true, ◌+◌, Some, None, length, slice_get, take, sym, subst, arith}
 use Rattle.std.specs.List.{AllZip}
-use Rattle.sysmem_proof.specs.Conflict.{RefusesOffer}
-use Rattle.sysmem_proof.specs.Roll.{listed}
+use Rattle.verdict_claims.specs.Conflict.{RefusesOffer}
+use Rattle.verdict_claims.specs.Roll.{listed}
 use Rattle.sysmem_sanitise.specs.Platform.{offers_of}
 use Rattle.sysmem_proof.proofs.Left.{of_err}
-use Rattle.sysmem_proof.proofs.Equal.{offer_cases}
+use Rattle.verdict_claims.proofs.Equal.{offer_cases}
 use Rattle.sysmem_proof.proofs.OffersFirst.{held, over, missing, fails_at, inside, none_more, offer_read}
 use Rattle.sysmem_proof.proofs.LineByLine.{told_more, front_more}
 use Rattle.sysmem_proof.proofs.checking.offers_before.offers_before_fault.Goals as goal

@@ -1,8 +1,8 @@
 -- None of the offers so far is that of the settings, and their lines hold.
 use Rattle.std.proofs.Common.{◌≢◌, All, true, take}
 use Rattle.std.specs.List.{AllZip}
-use Rattle.sysmem_proof.specs.Conflict.{RefusesOffer}
-use Rattle.sysmem_proof.specs.Roll.{listed}
+use Rattle.verdict_claims.specs.Conflict.{RefusesOffer}
+use Rattle.verdict_claims.specs.Roll.{listed}
 use Rattle.sysmem_sanitise.specs.Platform.{offers_of}
 use Rattle.sysmem_proof.proofs.checking.offers_before.offers_before_fault.Given as goal
 

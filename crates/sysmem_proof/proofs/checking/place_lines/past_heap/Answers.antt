@@ -1,7 +1,7 @@
 -- The places of a heap, one after the other.
 use Rattle.std.proofs.Common.{ap}
 use Rattle.sysmem_memory.specs.Heap.{HeapFacts}
-use Rattle.sysmem_proof.specs.Roll.{listed}
+use Rattle.verdict_claims.specs.Roll.{listed}
 use Rattle.sysmem_proof.proofs.Past.{heap_done}
 use Rattle.sysmem_proof.proofs.checking.place_lines.past_heap.Goals as goal
 

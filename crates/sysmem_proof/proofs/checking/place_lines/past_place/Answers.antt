@@ -1,7 +1,7 @@
 -- One line more.
-use Rattle.sysmem_proof.specs.Conflict.{RefusesPlace}
-use Rattle.sysmem_proof.specs.Fault.{AreNamed}
-use Rattle.sysmem_proof.specs.Roll.{listed}
+use Rattle.verdict_claims.specs.Conflict.{RefusesPlace}
+use Rattle.verdict_claims.specs.Fault.{AreNamed}
+use Rattle.verdict_claims.specs.Roll.{listed}
 use Rattle.sysmem_proof.proofs.Numbering.{at_line}
 use Rattle.sysmem_proof.proofs.Past.{in_heap, past_listed}
 use Rattle.sysmem_proof.proofs.checking.place_lines.past_place.Goals as goal

@@ -1,6 +1,6 @@
 -- One heap more.
 use Rattle.std.proofs.Common.{leb-true, le-leb}
-use Rattle.sysmem_proof.specs.Roll.{listed}
+use Rattle.verdict_claims.specs.Roll.{listed}
 use Rattle.sysmem_proof.proofs.Past.{heap_past, heap_stops, heaps_past}
 use Rattle.sysmem_proof.proofs.checking.place_lines.refuse_places.Goals as goal
 

@@ -3,7 +3,7 @@ use Rattle.std.proofs.Common.{List}
 use Rattle.sysmem_memory.specs.declared.domain.CoherencyDomain.TheVariants.{Cpu, Ram, Inaccessible}
 use Rattle.sysmem_memory.specs.Listed.{HeapPlace}
 use Rattle.sysmem_proof.specs.PlacesBefore.{place_if}
-use Rattle.sysmem_proof.specs.Roll.{listed}
+use Rattle.verdict_claims.specs.Roll.{listed}
 use Rattle.sysmem_proof.proofs.Left.{of_err}
 use Rattle.sysmem_proof.proofs.PlacesFirst.{first_fails, second_fails, last_told}
 use Rattle.sysmem_proof.proofs.checking.places_before.heap_lines_fault.Goals as goal

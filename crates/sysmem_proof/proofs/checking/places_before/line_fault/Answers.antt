@@ -1,6 +1,6 @@
 -- One line more, if its place is there.
 use Rattle.std.proofs.lemmas.Result.{err_from_is_err_and}
-use Rattle.sysmem_proof.specs.Roll.{listed}
+use Rattle.verdict_claims.specs.Roll.{listed}
 use Rattle.sysmem_proof.proofs.PlacesFirst.{none_there, missing_there, fault_there, told_there}
 use Rattle.sysmem_proof.proofs.checking.places_before.line_fault.Goals as goal
 

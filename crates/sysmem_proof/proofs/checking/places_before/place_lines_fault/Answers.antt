@@ -2,7 +2,7 @@
 use Rattle.std.proofs.Common.{◌≡◌, ◌<◌, ◌∙◌, length, ap, arith}
 use Rattle.sysmem_memory.specs.Heap.{HeapFacts}
 use Rattle.sysmem_proof.specs.PlacesBefore.{domains_before}
-use Rattle.sysmem_proof.specs.Roll.{listed}
+use Rattle.verdict_claims.specs.Roll.{listed}
 use Rattle.sysmem_proof.proofs.Left.{of_err}
 use Rattle.sysmem_proof.proofs.PlacesFirst.{read_heap, heap_told, heap_fails, last_fails, last_all, all_held, one_more}
 use Rattle.sysmem_proof.proofs.checking.places_before.place_lines_fault.Goals as goal

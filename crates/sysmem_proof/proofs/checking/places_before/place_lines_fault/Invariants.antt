@@ -2,7 +2,7 @@
 use Rattle.std.proofs.Common.{take}
 use Rattle.sysmem_memory.specs.Listed.{places_of}
 use Rattle.sysmem_proof.specs.PlacesBefore.{AreTold}
-use Rattle.sysmem_proof.specs.Roll.{listed}
+use Rattle.verdict_claims.specs.Roll.{listed}
 use Rattle.sysmem_proof.proofs.checking.places_before.place_lines_fault.Given as goal
 
 abbrev pub invariant-loop-index : goal.invariant-loop-index

@@ -1,5 +1,5 @@
 -- The places of the platform.
-use Rattle.sysmem_proof.specs.Roll.{listed}
+use Rattle.verdict_claims.specs.Roll.{listed}
 use Rattle.sysmem_proof.proofs.PlacesFirst.{before_told}
 use Rattle.sysmem_proof.proofs.checking.places_before.places_before_fault.Goals as goal
 

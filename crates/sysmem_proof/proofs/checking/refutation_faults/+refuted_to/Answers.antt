@@ -1,6 +1,6 @@
 -- What the items told of one child is told of what the choices leave.
 use Rattle.std.proofs.Common.{◌∙◌, is_some, ap, arith}
-use Rattle.sysmem_proof.specs.Matter.{forest, terms}
+use Rattle.verdict_claims.specs.Matter.{forest, terms}
 use Rattle.sysmem_proof.proofs.Left.{of_err, child_read, child_fails, every_child}
 use Rattle.sysmem_proof.proofs.Ways.{told_way, room_for, pushed, popped, opened, same_way}
 use Rattle.sysmem_proof.proofs.checking.refutation_faults.+refuted_to.Goals as goal

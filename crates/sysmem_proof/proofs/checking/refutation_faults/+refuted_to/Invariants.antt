@@ -3,7 +3,7 @@ use Rattle.std.proofs.Common.{◌≡◌, ◌<◌, ◌-◌, Some, length}
 use Rattle.sysmem_tree.specs.Forest.{Forest}
 use Rattle.sysmem_tree.specs.Selection.{after}
 use Rattle.sysmem_tree.specs.Shape.{Member}
-use Rattle.sysmem_proof.specs.Matter.{forest, terms}
+use Rattle.verdict_claims.specs.Matter.{forest, terms}
 use Rattle.sysmem_proof.proofs.Left.{ReadTo}
 use Rattle.sysmem_proof.proofs.checking.refutation_faults.+refuted_to.Given as goal
 

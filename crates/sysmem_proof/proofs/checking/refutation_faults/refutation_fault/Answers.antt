@@ -1,6 +1,6 @@
 -- Items are left for no forest.
 use Rattle.std.proofs.Common.{[]}
-use Rattle.sysmem_proof.specs.Matter.{terms}
+use Rattle.verdict_claims.specs.Matter.{terms}
 use Rattle.sysmem_proof.proofs.Left.{some_left}
 use Rattle.sysmem_proof.proofs.checking.refutation_faults.refutation_fault.Goals as goal
 

@@ -1,8 +1,8 @@
 -- What nodes ask, in any order.
 use Rattle.std.proofs.Common.{inl, inr, refl}
 use Rattle.std.proofs.lemmas.List.Sorted.{IsPermutation-sym}
-use Rattle.sysmem_proof.specs.Asked.{asked_in}
-use Rattle.sysmem_proof.specs.Members.{participants}
+use Rattle.verdict_claims.specs.Asked.{asked_in}
+use Rattle.verdict_claims.specs.Members.{participants}
 use Rattle.sysmem_proof.proofs.Meeting.{meets_in_order, least_in_order}
 use Rattle.sysmem_proof.proofs.checking.settings_faults.initial_fault.Goals as goal
 

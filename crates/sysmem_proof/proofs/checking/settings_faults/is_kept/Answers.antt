@@ -1,5 +1,5 @@
 -- The settings given, and what is asked of them.
-use Rattle.sysmem_proof.proofs.Equal.{equal_where, differ_where}
+use Rattle.verdict_claims.proofs.Equal.{equal_where, differ_where}
 use Rattle.sysmem_proof.proofs.checking.settings_faults.is_kept.Goals as goal
 
 pub returns-then-ne : goal.returns-then-ne

@@ -2,8 +2,8 @@
 use Rattle.std.proofs.Common.{refl}
 use Rattle.std.proofs.lemmas.Bool.Decides.{Decides-at}
 use Rattle.sysmem_merge.specs.Demands.{counts_asked, offer_demands}
-use Rattle.sysmem_proof.specs.Asked.{asked_in}
-use Rattle.sysmem_proof.proofs.Equal.{same_settings}
+use Rattle.verdict_claims.specs.Asked.{asked_in}
+use Rattle.verdict_claims.proofs.Equal.{same_settings}
 use Rattle.sysmem_proof.proofs.Meeting.{has_fit, has_count}
 use Rattle.sysmem_proof.proofs.checking.settings_faults.is_least.Goals as goal
 

@@ -1,8 +1,8 @@
 -- What a node asks that is marked.
 use Rattle.std.proofs.Common.{sym, ◌∙◌, ap}
-use Rattle.sysmem_proof.specs.Naming.{asked_at}
-use Rattle.sysmem_proof.specs.Roll.{RollFacts, listed}
-use Rattle.sysmem_proof.proofs.Rolls.{told_nowhere, told_marked}
+use Rattle.verdict_claims.specs.Naming.{asked_at}
+use Rattle.verdict_claims.specs.Roll.{RollFacts, listed}
+use Rattle.verdict_claims.proofs.Rolls.{told_nowhere, told_marked}
 use Rattle.sysmem_proof.proofs.roll.Roll.at.Goals as goal
 
 pub returns-in_err-node : goal.returns-in_err-node

@@ -2,9 +2,9 @@
 use Rattle.std.proofs.Common.{◌≡◌, subst, slice_get}
 use Rattle.std.specs.Prelude.{option_and_then}
 use Rattle.std.specs.List.{filter_map}
-use Rattle.sysmem_proof.specs.Members.{participants}
-use Rattle.sysmem_proof.specs.Roll.{RollFacts, listed, numbers_on}
-use Rattle.sysmem_proof.proofs.Rolls.{asked_by_numbers}
+use Rattle.verdict_claims.specs.Members.{participants}
+use Rattle.verdict_claims.specs.Roll.{RollFacts, listed, numbers_on}
+use Rattle.verdict_claims.proofs.Rolls.{asked_by_numbers}
 use Rattle.sysmem_proof.proofs.roll.Roll.by_numbers.Goals as goal
 
 pub returns : goal.returns

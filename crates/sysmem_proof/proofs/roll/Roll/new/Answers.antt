@@ -1,6 +1,6 @@
 -- The choices are choices for the numbers of the nodes too.
-use Rattle.sysmem_proof.proofs.Marked.{both_marked}
-use Rattle.sysmem_proof.proofs.Rolls.{prefix_numbers}
+use Rattle.verdict_claims.proofs.Marked.{both_marked}
+use Rattle.verdict_claims.proofs.Rolls.{prefix_numbers}
 use Rattle.sysmem_proof.proofs.roll.Roll.new.Goals as goal
 
 pub settled_marks-marks-requires-clause-prefix : goal.settled_marks-marks-requires-clause-prefix

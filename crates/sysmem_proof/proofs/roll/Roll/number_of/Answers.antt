@@ -1,9 +1,9 @@
 -- A node that is marked and asks something.
 use Rattle.std.proofs.Common.{sym, ◌∙◌, ap}
 use Rattle.std.specs.Prelude.{is_some}
-use Rattle.sysmem_proof.specs.Naming.{asked_at}
-use Rattle.sysmem_proof.specs.Roll.{RollFacts, listed}
-use Rattle.sysmem_proof.proofs.Rolls.{told_nowhere, told_marked, some_mapped}
+use Rattle.verdict_claims.specs.Naming.{asked_at}
+use Rattle.verdict_claims.specs.Roll.{RollFacts, listed}
+use Rattle.verdict_claims.proofs.Rolls.{told_nowhere, told_marked, some_mapped}
 use Rattle.sysmem_proof.proofs.roll.Roll.number_of.Goals as goal
 
 pub returns-in_err-node-clause-named : goal.returns-in_err-node-clause-named

@@ -1,7 +1,7 @@
 -- A claim that is true is one to which the checker says yes.
 use Rattle.std.proofs.Common.{◌≡◌, ℕ, Option, subst, sym, ◌∙◌}
 use Rattle.sysmem_alloc.specs.Frozen.{FrozenFacts}
-use Rattle.sysmem_proof.specs.declared.certificate.Claim.{Claim as AClaim}
+use Rattle.verdict_claims.specs.declared.certificate.Claim.{Claim as AClaim}
 use Rattle.sysmem_proof.specs.Base.{BaseFacts}
 use Rattle.sysmem_proof.specs.Claim.{IsTrueClaim}
 use Rattle.sysmem_sanitise.specs.Platform.{PlatformFacts}

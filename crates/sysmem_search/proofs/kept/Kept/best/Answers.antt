@@ -1,7 +1,7 @@
 -- With a base its settings are the best, or there are none.
 use Rattle.std.proofs.Common.{ap, subst}
 use Rattle.std.specs.Prelude.{option_map}
-use Rattle.sysmem_proof.specs.Members.{participants}
+use Rattle.verdict_claims.specs.Members.{participants}
 use Rattle.sysmem_search.specs.Kept.{IsKeptOf}
 use Rattle.sysmem_search.proofs.Keeping.{base_best, base_none}
 use Rattle.sysmem_search.proofs.kept.Kept.best.Goals as goal

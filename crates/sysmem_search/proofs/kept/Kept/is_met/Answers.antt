@@ -1,7 +1,7 @@
 -- A sum is asked, or how the participants take the base.
 use Rattle.std.proofs.Common.{ap, subst}
 use Rattle.std.specs.Prelude.{option_map}
-use Rattle.sysmem_proof.specs.Members.{participants}
+use Rattle.verdict_claims.specs.Members.{participants}
 use Rattle.sysmem_search.specs.Kept.{IsKeptOf}
 use Rattle.sysmem_search.proofs.Keeping.{sum_met, base_met}
 use Rattle.sysmem_search.proofs.kept.Kept.is_met.Goals as goal

@@ -1,10 +1,10 @@
 -- Those that were accepted before are nodes of the tree, each once.
 use Rattle.std.proofs.Common.{◌≤◌, ◌≢◌, [], sym, ap, subst, length, arith}
 use Rattle.std.specs.Prelude.{option_map}
-use Rattle.sysmem_proof.specs.Base.{IsGivenBase}
+use Rattle.verdict_claims.specs.Base.{IsGivenBase}
 use Rattle.sysmem_search.specs.declared.kept.Kept.TheVariants as kept_as
 use Rattle.sysmem_search.specs.Kept.{IsKeptOf, TakesBase}
-use Rattle.sysmem_proof.specs.Asked.{asked_in}
+use Rattle.verdict_claims.specs.Asked.{asked_in}
 use Rattle.sysmem_search.proofs.kept.Kept.new.Goals as goal
 use Rattle.sysmem_tree.proofs.CallerLemmas.{few_different, named_there}
 

@@ -1,7 +1,7 @@
 -- The first open group where the question stands is that of the shape.
 use Rattle.std.proofs.Common.{◌≡◌, ◌<◌, None, Some, length, sym, subst, arith}
 use Rattle.std.specs.Prelude.{IfSome, option_map}
-use Rattle.sysmem_proof.specs.Matter.{Matter, forest}
+use Rattle.verdict_claims.specs.Matter.{Matter, forest}
 use Rattle.sysmem_search.specs.Standing.{numbers}
 use Rattle.sysmem_search.proofs.AskedMembers.{root_there, children_told, few_told}
 use Rattle.sysmem_search.proofs.Entering.{level_at, none_next}

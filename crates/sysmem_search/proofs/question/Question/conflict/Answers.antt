@@ -2,10 +2,10 @@
 use Rattle.std.proofs.Common.{◌≡◌, length, sym, subst}
 use Rattle.std.specs.Prelude.{IfSome, option_map}
 use Rattle.sysmem_merge.specs.declared.settings.Settings.{Settings}
-use Rattle.sysmem_proof.specs.Conflict.{IsConflictFor}
-use Rattle.sysmem_proof.specs.FirstConflict.{IsFirstConflictFor}
+use Rattle.verdict_claims.specs.Conflict.{IsConflictFor}
+use Rattle.verdict_claims.specs.FirstConflict.{IsFirstConflictFor}
 use Rattle.sysmem_search.specs.Question.{MeetsHere}
-use Rattle.sysmem_proof.specs.Matter.{Matter, forest, terms}
+use Rattle.verdict_claims.specs.Matter.{Matter, forest, terms}
 use Rattle.sysmem_search.proofs.AskedMembers.{if_some}
 use Rattle.sysmem_search.proofs.Unmet.{no_conflict, none_are_left}
 use Rattle.sysmem_tree.specs.Forest.{choices}

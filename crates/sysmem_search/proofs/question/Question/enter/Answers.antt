@@ -2,7 +2,7 @@
 use Rattle.std.proofs.Common.{◌≡◌, ◌∷◌, ◌++◌, [], Some, is_some, refl, sym, ◌∙◌, ap, subst, arith}
 use Rattle.std.specs.Prelude.{option_map}
 use Rattle.std.proofs.lemmas.Option.{same_Some, none-some, slice_get_within}
-use Rattle.sysmem_proof.specs.Matter.{Matter, forest}
+use Rattle.verdict_claims.specs.Matter.{Matter, forest}
 use Rattle.sysmem_search.specs.Standing.{numbers}
 use Rattle.sysmem_search.proofs.AskedMembers.{root_there, numbers_left}
 use Rattle.sysmem_search.proofs.Entering.{at_index, level_at, level_within, more_kept, entered, share_few, room_for}

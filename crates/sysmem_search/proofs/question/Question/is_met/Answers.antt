@@ -3,7 +3,7 @@ use Rattle.std.proofs.Common.{subst}
 use Rattle.std.specs.Prelude.{◌↔◌, IfSome, IsTrue, option_map}
 use Rattle.sysmem_search.specs.Live.{SomeMeet}
 use Rattle.sysmem_search.specs.Question.{MeetsSoFar}
-use Rattle.sysmem_proof.specs.Matter.{Matter, forest}
+use Rattle.verdict_claims.specs.Matter.{Matter, forest}
 use Rattle.sysmem_search.proofs.AskedMembers.{if_some}
 use Rattle.sysmem_search.proofs.Entering.{level_at, kept_at}
 use Rattle.sysmem_tree.specs.Forest.{settled}

@@ -2,11 +2,11 @@
 use Rattle.std.proofs.Common.{arith, ◌≡◌, ◌≤◌, ℕ, zero, suc, List, [], ◌∷◌, Option, Some, slice_get, take, subst}
 use Rattle.std.specs.Prelude.{IsSomeAnd}
 use Rattle.std.proofs.lemmas.Option.{slice_get_within, same_Some}
-use Rattle.sysmem_proof.specs.Members.{participants}
+use Rattle.verdict_claims.specs.Members.{participants}
 use Rattle.sysmem_search.specs.declared.kept.Part.{Part}
 use Rattle.sysmem_search.specs.declared.levels.Level.{Level}
 use Rattle.sysmem_search.specs.Kept.{IsKeptOf}
-use Rattle.sysmem_proof.specs.Matter.{Matter}
+use Rattle.verdict_claims.specs.Matter.{Matter}
 use Rattle.sysmem_search.specs.Standing.{AreLevels, AreMade, IsLevel}
 use Rattle.sysmem_tree.specs.declared.layout.Layout.{Layout}
 use Rattle.sysmem_tree.specs.Forest.{settled}

@@ -1,8 +1,8 @@
 -- The domain is that of its parts.
 use Rattle.std.proofs.Common.{subst}
 use Rattle.std.specs.Prelude.{◌↔◌, IsTrue}
-use Rattle.sysmem_proof.specs.Matter.{Matter, forest}
-use Rattle.sysmem_proof.specs.Fault.{AreFew}
+use Rattle.verdict_claims.specs.Matter.{Matter, forest}
+use Rattle.verdict_claims.specs.Fault.{AreFew}
 use Rattle.sysmem_proof.proofs.checking.checker.Checker.are_few.Goals as goal
 
 pub returns : goal.returns

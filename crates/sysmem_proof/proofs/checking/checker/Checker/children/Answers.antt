@@ -4,8 +4,8 @@ use Rattle.std.specs.Prelude.{option_map}
 use Rattle.sysmem_tree.specs.Selection.{IsPrefix, after}
 use Rattle.sysmem_tree.specs.Shape.{Member}
 use Rattle.sysmem_tree.specs.Forest.{Forest, choices}
-use Rattle.sysmem_proof.specs.Matter.{Matter, forest}
-use Rattle.sysmem_proof.proofs.Rolls.{prefix_numbers}
+use Rattle.verdict_claims.specs.Matter.{Matter, forest}
+use Rattle.verdict_claims.proofs.Rolls.{prefix_numbers}
 use Rattle.sysmem_proof.proofs.Ways.{children_told, few_told}
 use Rattle.sysmem_proof.proofs.checking.checker.Checker.children.Goals as goal
 

@@ -1,8 +1,8 @@
 -- What a base names is there, each once.
 use Rattle.std.proofs.Common.{◌≡◌, ◌≤◌, Some, All, length, subst}
 use Rattle.sysmem_tree.specs.Nodes.{HasNode}
-use Rattle.sysmem_proof.specs.Base.{BaseFacts}
-use Rattle.sysmem_proof.specs.Matter.{Matter}
+use Rattle.verdict_claims.specs.Base.{BaseFacts}
+use Rattle.verdict_claims.specs.Matter.{Matter}
 use Rattle.sysmem_proof.proofs.Shown.{few_before}
 use Rattle.sysmem_proof.proofs.checking.checker.Checker.few_accepted.Goals as goal
 

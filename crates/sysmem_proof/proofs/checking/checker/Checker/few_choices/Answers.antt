@@ -1,7 +1,7 @@
 -- A prefix of the shape is one of the numbers.
 use Rattle.std.proofs.Common.{◌≤◌, ℕ, List, length, subst}
 use Rattle.sysmem_tree.specs.Selection.{IsPrefix}
-use Rattle.sysmem_proof.specs.Matter.{Matter, forest}
+use Rattle.verdict_claims.specs.Matter.{Matter, forest}
 use Rattle.sysmem_proof.proofs.Ways.{few_of}
 use Rattle.sysmem_proof.proofs.checking.checker.Checker.few_choices.Goals as goal
 

@@ -1,8 +1,8 @@
 -- The domain is that of its parts.
 use Rattle.std.proofs.Common.{subst}
 use Rattle.std.specs.Prelude.{◌↔◌, IsTrue}
-use Rattle.sysmem_proof.specs.Matter.{Matter, forest}
-use Rattle.sysmem_proof.specs.Fault.{IsSelected}
+use Rattle.verdict_claims.specs.Matter.{Matter, forest}
+use Rattle.verdict_claims.specs.Fault.{IsSelected}
 use Rattle.sysmem_proof.proofs.checking.checker.Checker.is_selected.Goals as goal
 
 pub returns : goal.returns

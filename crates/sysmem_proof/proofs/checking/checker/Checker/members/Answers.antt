@@ -4,10 +4,10 @@ use Rattle.std.specs.Prelude.{IsPermutation}
 use Rattle.sysmem_tree.specs.Forest.{Forest, settled}
 use Rattle.sysmem_tree.specs.Selection.{IsPrefix, after}
 use Rattle.sysmem_tree.specs.Shape.{Member}
-use Rattle.sysmem_proof.specs.Asked.{asked_in}
-use Rattle.sysmem_proof.specs.Matter.{Matter, forest}
-use Rattle.sysmem_proof.specs.Members.{participants}
-use Rattle.sysmem_proof.proofs.Rolls.{prefix_numbers}
+use Rattle.verdict_claims.specs.Asked.{asked_in}
+use Rattle.verdict_claims.specs.Matter.{Matter, forest}
+use Rattle.verdict_claims.specs.Members.{participants}
+use Rattle.verdict_claims.proofs.Rolls.{prefix_numbers}
 use Rattle.sysmem_proof.proofs.Shown.{asked_of_settled}
 use Rattle.sysmem_proof.proofs.checking.checker.Checker.members.Goals as goal
 

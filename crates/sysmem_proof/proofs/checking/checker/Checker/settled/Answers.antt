@@ -3,9 +3,9 @@ use Rattle.std.proofs.Common.{◌≡◌, Some, sym, ◌∙◌, ap, subst}
 use Rattle.sysmem_tree.specs.Selection.{IsPrefix, after}
 use Rattle.sysmem_tree.specs.Shape.{Member}
 use Rattle.sysmem_tree.specs.Forest.{Forest, settled}
-use Rattle.sysmem_proof.specs.Matter.{Matter, forest}
-use Rattle.sysmem_proof.specs.Roll.{listed}
-use Rattle.sysmem_proof.proofs.Rolls.{listed_settled}
+use Rattle.verdict_claims.specs.Matter.{Matter, forest}
+use Rattle.verdict_claims.specs.Roll.{listed}
+use Rattle.verdict_claims.proofs.Rolls.{listed_settled}
 use Rattle.sysmem_proof.proofs.checking.checker.Checker.settled.Goals as goal
 
 pub new-requires-clause-prefix : goal.new-requires-clause-prefix

@@ -5,10 +5,10 @@ use Rattle.sysmem_tree.specs.Nodes.{HasNode}
 use Rattle.sysmem_tree.specs.Selection.{IsPrefix, after}
 use Rattle.sysmem_tree.specs.Shape.{Member}
 use Rattle.sysmem_tree.specs.Forest.{Forest, settled}
-use Rattle.sysmem_proof.specs.Matter.{Matter, forest}
-use Rattle.sysmem_proof.specs.Members.{members_at}
-use Rattle.sysmem_proof.specs.Roll.{listed}
-use Rattle.sysmem_proof.proofs.Rolls.{accepted_there, listed_with}
+use Rattle.verdict_claims.specs.Matter.{Matter, forest}
+use Rattle.verdict_claims.specs.Members.{members_at}
+use Rattle.verdict_claims.specs.Roll.{listed}
+use Rattle.verdict_claims.proofs.Rolls.{accepted_there, listed_with}
 use Rattle.sysmem_proof.proofs.checking.checker.Checker.with_accepted.Goals as goal
 
 pub new-requires-clause-prefix : goal.new-requires-clause-prefix

@@ -1,0 +1,13 @@
+pub mod NamedLines
+pub mod Sofar
+pub mod AskedNodes
+pub mod FirstOnes
+pub mod TrueOfThose
+pub mod FoundConflicts
+pub mod BeforeBest
+pub mod FirstWithout
+pub mod FirstLines
+pub mod FirstKinds
+pub mod KeptLines
+pub mod AskedOnce
+pub mod FoundNodes

@@ -1,0 +1,25 @@
+-- A line for each offer so far; as many as there are lines. The last refuses the offer before.
+use Rattle.std.proofs.Common.{List, ◌-◌, drop, length}
+use Rattle.sysmem_sanitise.specs.Platform.{offers_of}
+use Rattle.sysmem_tree.specs.Shape.{Member}
+use Rattle.conflict_finding.specs.AloneLines.{AreAlone}
+use Rattle.verdict_claims.specs.FirstConflict.{IsOfferLineGiven}
+use Rattle.std.specs.Prelude.{IfSome}
+use Rattle.verdict_claims.specs.Members.{members_at, participants, StandFor}
+use Rattle.conflict_finding.specs.OpenPairs.{IsOpenFor}
+use Rattle.conflict_finding.specs.Refusals.{AreSoFar, RefusesLast}
+use Rattle.conflict_finding.specs.Whom.{NamesThose}
+use Rattle.conflict_finding.proofs.refusals.refused_offers.Given as goal
+
+abbrev pub invariant-loop-offer : goal.invariant-loop-offer
+invariant-loop-offer l = record {
+  so_far : (ms : List Member) → StandFor (members_at l.tree.nodes l.nodes) ms
+      → AreSoFar (IsOfferLineGiven l.whole ms) (offers_of l.platform) l.lines.items (drop (length l.lines.items) (offers_of l.platform));
+  alone : AreAlone l.tree.nodes l.alone;
+  named : IfSome l.kept (NamesThose l.tree.nodes l.nodes);
+  known : IfSome l.known (IsOpenFor (participants (members_at l.tree.nodes l.nodes)));
+  last : (ms : List Member) → StandFor (members_at l.tree.nodes l.nodes) ms → RefusesLast (IsOfferLineGiven l.whole ms) l.earlier l.lines.items;
+}
+
+abbrev pub decreases-loop-offer : goal.decreases-loop-offer
+decreases-loop-offer l = length (offers_of l.platform) - length l.lines.items

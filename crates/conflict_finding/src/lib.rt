@@ -1,0 +1,19 @@
+//! Why no settings meet what is settled, and who refuses what comes before a choice.
+//!
+//! ```
+//! let conflict = find_conflict(rt.alloc(), &platform, &tree, domain, None, &Prefix::new())?;
+//! ```
+#![tactic(auto)]
+
+mod alone_lines;
+mod count_lines;
+mod finder;
+mod first_refusing;
+mod learnt;
+mod open_pairs;
+mod places_asked;
+mod refusals;
+mod whom;
+
+pub use finder::{LinesBefore, find_conflict, find_conflict_as, lines_before};
+pub use learnt::Learnt;

@@ -1,0 +1,421 @@
+//! Lines that refuse the offers of a platform, or its places, one after another.
+
+ghost use Rattle.std.specs.Prelude.{◌≡◌, ◌⊎◌, ◌+◌, true, List, ◌∷◌, All, Some, IfOk, IfSome, IfNone, IsTrue, OnOk, filter, option_map, slice_get};
+ghost use Rattle.sysmem_counts.specs.declared.field.Field.TheVariants.{ColorSpaces, PixelFormat};
+ghost use Rattle.sysmem_formats.specs.declared.offer.Offer.{Offer as Offered};
+ghost use Rattle.sysmem_memory.specs.Domain.{has_domain};
+ghost use Rattle.sysmem_memory.specs.Heap.{HeapFacts};
+ghost use Rattle.sysmem_memory.specs.Listed.{HeapPlace, places_from, places_of, put_if};
+ghost use Rattle.sysmem_merge.specs.Demands.{offer_demand, offer_demands};
+ghost use Rattle.sysmem_merge.specs.OfferRead.{IsRefusingLine};
+ghost use Rattle.sysmem_merge.specs.Reasons.{IsOfferLine, IsUnnamedLine};
+ghost use Rattle.conflict_finding.specs.AloneLines.{AreAlone};
+ghost use Rattle.verdict_claims.specs.FirstConflict.{IsOfferLineGiven, IsPlaceLineGiven};
+ghost use Rattle.verdict_claims.specs.Members.{members_at, participants, StandFor};
+ghost use Rattle.conflict_finding.specs.OpenPairs.{IsOpenFor};
+ghost use Rattle.conflict_finding.specs.PlacesAsked.{AreAsked};
+ghost use Rattle.conflict_finding.specs.Reading.{TakesIn};
+ghost use Rattle.conflict_finding.specs.Refusals.{AreRefusals, AreSoFar, Ends, GoOn, RefusesLast, ShareOffer, SharePlace};
+ghost use Rattle.conflict_finding.specs.Whom.{NamesThose, names};
+ghost use Rattle.sysmem_sanitise.specs.Participant.{Participant};
+ghost use Rattle.sysmem_sanitise.specs.Platform.{offers_of};
+ghost use Rattle.sysmem_tree.specs.Nodes.{HasNode};
+ghost use Rattle.sysmem_tree.specs.Shape.{Member};
+
+use crate::alone_lines::{AloneLines, line_alone};
+use crate::first_refusing::{Reading, first_refused, read_offer};
+use crate::open_pairs::{OpenPair, all_take_colour};
+use crate::places_asked::PlacesAsked;
+use crate::whom::{Named, Whom, next_line_of};
+use std::alloc::{AllocError, Global};
+use sysmem_counts::Field;
+use sysmem_formats::{Offer, offer_at};
+use sysmem_memory::{CoherencyDomain, HeapInfo, Place};
+use sysmem_sanitise::Platform;
+use sysmem_tree::{NodeId, Tree};
+use verdict_claims::{Line, Lines, is_shared};
+
+/// Lines for the first of a platform's offers, or of its places, which refuse them.
+#[derive(Drop)]
+pub(crate) enum Refusals {
+    /// A line for each.
+    Whole(Lines),
+    /// A line for each before one.
+    UpTo(Lines),
+}
+
+impl Refusals {
+    /// The lines.
+    pub(crate) fn into_lines(self) -> Lines
+        ensures { (self ≡ Refusals.Whole result) ⊎ (self ≡ Refusals.UpTo result) }
+    {
+        match self {
+            Refusals::Whole(lines) | Refusals::UpTo(lines) => lines,
+        }
+    }
+}
+
+/// Whom the line of this field names, of participants of whom it is true
+/// for an offer whose format all take.
+fn whom_for(field: Field) -> Whom
+    ensures { (whole : _) (o : Offered) (ps : List Participant)
+        → IsRefusingLine whole o (offer_demands ps) field
+        → IsOfferLine field o (offer_demands (filter (names result) ps))
+        ⊎ ((whole ≡ true) × IsUnnamedLine field o (offer_demands ps)) }
+{
+    match field {
+        Field::UnnamedPixelFormat | Field::UnnamedPixelFormatModifier | Field::UnnamedColorSpace =>
+            Whom::Nobody,
+        Field::PixelFormat | Field::ColorSpaces | Field::MaxSizeBytes => Whom::All,
+        _ => Whom::WithEntries,
+    }
+}
+
+/// The line before, if it refuses this offer too and is the first that does: they are of one pair,
+/// and nobody refuses the colour space for which it would come first.
+fn line_again(
+    tree: &Tree,
+    nodes: &[NodeId],
+    earlier: &Offer,
+    offer: &Offer,
+    before: &[Line],
+    known: &mut Option<OpenPair>,
+) -> Result<Option<Line>, AllocError>
+    requires there { All (HasNode tree.now.nodes) nodes.now }
+    requires known { IfSome known.old
+        (IsOpenFor (participants (members_at tree.now.nodes nodes.now))) }
+    ensures known { IfSome known.new
+        (IsOpenFor (participants (members_at tree.now.nodes nodes.now))) }
+    ensures again { (whole : _) (ms : List Member)
+        → StandFor (members_at tree.now.nodes nodes.now) ms
+        → RefusesLast (IsOfferLineGiven whole ms) earlier.now before.now
+        → IfOk result (λ line. IfSome line (IsOfferLineGiven whole ms offer.now)) }
+{
+    let Some(last) = before.last() else {
+        return Ok(None);
+    };
+    let field = last.field();
+    if !is_shared(field, earlier, offer) {
+        return Ok(None);
+    }
+    if !is_before_colour(tree, nodes, field, offer, known) {
+        return Ok(None);
+    }
+    let line = last.again()?;
+    Ok(Some(line))
+}
+
+/// Whether no line of the colour space comes before one with this field: it is that of the format,
+/// or all take the offer's colour space.
+fn is_before_colour(
+    tree: &Tree,
+    nodes: &[NodeId],
+    field: Field,
+    offer: &Offer,
+    known: &mut Option<OpenPair>,
+) -> bool
+    requires there { All (HasNode tree.now.nodes) nodes.now }
+    requires known { IfSome known.old
+        (IsOpenFor (participants (members_at tree.now.nodes nodes.now))) }
+    ensures known { IfSome known.new
+        (IsOpenFor (participants (members_at tree.now.nodes nodes.now))) }
+    ensures before { IsTrue result → (field ≡ PixelFormat)
+        ⊎ All (λ p. TakesIn ColorSpaces offer.now (offer_demand p))
+        (participants (members_at tree.now.nodes nodes.now)) }
+{
+    match field {
+        Field::PixelFormat => true,
+        _ => all_take_colour(tree, nodes, offer, known),
+    }
+}
+
+/// The first line of the table that is true for the offer of the participants at these
+/// nodes, `None` where they share it.
+fn offer_line(
+    alloc: Global,
+    tree: &Tree,
+    nodes: &[NodeId],
+    offer: &Offer,
+    whole: bool,
+    before: &[Line],
+    kept: &mut Option<Named>,
+    known: &mut Option<OpenPair>,
+    alone: &mut AloneLines,
+) -> Result<Option<Line>, AllocError>
+    requires there { All (HasNode tree.now.nodes) nodes.now }
+    requires named { IfSome kept.old (NamesThose tree.now.nodes nodes.now) }
+    requires known { IfSome known.old
+        (IsOpenFor (participants (members_at tree.now.nodes nodes.now))) }
+    requires alone { AreAlone tree.now.nodes alone.old }
+    ensures named { IfSome kept.new (NamesThose tree.now.nodes nodes.now) }
+    ensures known { IfSome known.new
+        (IsOpenFor (participants (members_at tree.now.nodes nodes.now))) }
+    ensures alone { AreAlone tree.now.nodes alone.new }
+    ensures line { (ms : List Member) → StandFor (members_at tree.now.nodes nodes.now) ms
+        → IfOk result (λ line. IfSome line (IsOfferLineGiven whole ms offer.now)) }
+    ensures share { (ms : List Member) → StandFor (members_at tree.now.nodes nodes.now) ms
+        → IfOk result (λ line. IfNone line (ShareOffer whole ms offer.now)) }
+{
+    match read_offer(tree, nodes, offer, known) {
+        Reading::Refused(field, node) => {
+            let line = line_alone(alloc, tree, node, field, alone)?;
+            Ok(Some(line))
+        }
+        Reading::Read(read) => {
+            let Some(field) = read.first_line(whole) else {
+                return Ok(None);
+            };
+            let whom = whom_for(field);
+            let line = next_line_of(alloc, tree, nodes, field, whom, before, kept, alone)?;
+            Ok(Some(line))
+        }
+    }
+}
+
+/// The same, where the last of the lines so far is that of an earlier offer: it is taken
+/// again where it is the offer's own.
+fn next_line(
+    alloc: Global,
+    tree: &Tree,
+    nodes: &[NodeId],
+    earlier: &Offer,
+    offer: &Offer,
+    whole: bool,
+    before: &[Line],
+    kept: &mut Option<Named>,
+    known: &mut Option<OpenPair>,
+    alone: &mut AloneLines,
+) -> Result<Option<Line>, AllocError>
+    requires there { All (HasNode tree.now.nodes) nodes.now }
+    requires named { IfSome kept.old (NamesThose tree.now.nodes nodes.now) }
+    requires known { IfSome known.old
+        (IsOpenFor (participants (members_at tree.now.nodes nodes.now))) }
+    requires last { (ms : List Member) → StandFor (members_at tree.now.nodes nodes.now) ms
+        → RefusesLast (IsOfferLineGiven whole ms) earlier.now before.now }
+    requires alone { AreAlone tree.now.nodes alone.old }
+    ensures named { IfSome kept.new (NamesThose tree.now.nodes nodes.now) }
+    ensures known { IfSome known.new
+        (IsOpenFor (participants (members_at tree.now.nodes nodes.now))) }
+    ensures alone { AreAlone tree.now.nodes alone.new }
+    ensures line { (ms : List Member) → StandFor (members_at tree.now.nodes nodes.now) ms
+        → IfOk result (λ line. IfSome line (IsOfferLineGiven whole ms offer.now)) }
+    ensures share { (ms : List Member) → StandFor (members_at tree.now.nodes nodes.now) ms
+        → IfOk result (λ line. IfNone line (ShareOffer whole ms offer.now)) }
+{
+    let again = line_again(tree, nodes, earlier, offer, before, known)?;
+    if again.is_some() {
+        return Ok(again);
+    }
+    offer_line(alloc, tree, nodes, offer, whole, before, kept, known, alone)
+}
+
+/// Lines that refuse each offer of the platform to the participants at these nodes, or each before
+/// the first that they share; where it is given, at most those before `until`. `whole` says that
+/// they are all that a decision has.
+pub(crate) fn refused_offers(
+    alloc: Global,
+    platform: &Platform,
+    tree: &Tree,
+    nodes: &[NodeId],
+    whole: bool,
+    until: Option<Offer>,
+    alone: &mut AloneLines,
+) -> Result<Refusals, AllocError>
+    requires there { All (HasNode tree.now.nodes) nodes.now }
+    requires alone { AreAlone tree.now.nodes alone.old }
+    ensures alone { AreAlone tree.now.nodes alone.new }
+    ensures lines { (ms : List Member) → StandFor (members_at tree.now.nodes nodes.now) ms
+        → IfOk result (AreRefusals (IsOfferLineGiven whole ms)
+        (Ends until (λ (o : Offered). o) (ShareOffer whole ms)) (offers_of platform.now)) }
+{
+    let mut lines = Vec::new(alloc);
+    let mut earlier = Offer::NoImage;
+    let mut kept = None;
+    let mut known = None;
+    while let Some(offer) = offer_at(platform.pairs(), platform.colours(), lines.len()) {
+        if until == Some(offer) {
+            return Ok(Refusals::UpTo(Lines::new(lines)));
+        }
+        let Some(line) = next_line(
+            alloc, tree, nodes, &earlier, &offer, whole, &lines, &mut kept, &mut known, alone,
+        )?
+        else {
+            return Ok(Refusals::UpTo(Lines::new(lines)));
+        };
+        lines.push(line)?;
+        earlier = offer;
+    }
+    Ok(Refusals::Whole(Lines::fitted(lines)?))
+}
+
+/// The line of the first of the participants at these nodes to whom the place is refused, `None`
+/// where they share it or it is `until`.
+fn place_line(
+    alloc: Global,
+    platform: &Platform,
+    tree: &Tree,
+    nodes: &[NodeId],
+    place: Place,
+    heap: &HeapInfo,
+    until: Option<Place>,
+    asked: &mut PlacesAsked,
+    alone: &mut AloneLines,
+) -> Result<Option<Line>, AllocError>
+    requires there { All (HasNode tree.now.nodes) nodes.now }
+    requires heap { slice_get platform.now.heaps place.heap ≡ Some heap.now }
+    requires asked { AreAsked tree.now.nodes platform.now.heaps asked.old }
+    requires alone { AreAlone tree.now.nodes alone.old }
+    ensures asked { AreAsked tree.now.nodes platform.now.heaps asked.new }
+    ensures alone { AreAlone tree.now.nodes alone.new }
+    ensures line { (ms : List Member) → StandFor (members_at tree.now.nodes nodes.now) ms
+        → IfOk result (λ line. IfSome line
+        (IsPlaceLineGiven ms (record { place = place; heap = heap.now }))) }
+    ensures end { (ms : List Member) → StandFor (members_at tree.now.nodes nodes.now) ms
+        → IfOk result (λ line. IfNone line (Ends until (λ (p : HeapPlace). p.place) (SharePlace ms)
+        (record { place = place; heap = heap.now }))) }
+{
+    if until == Some(place) {
+        return Ok(None);
+    }
+    let Some(first) = first_refused(platform, tree, nodes, place, heap, asked) else {
+        return Ok(None);
+    };
+    let line = line_alone(alloc, tree, first.node, first.field, alone)?;
+    Ok(Some(line))
+}
+
+/// Puts the line for a place behind the lines so far, if the heap
+/// has it; false where they end at it.
+fn push_place(
+    alloc: Global,
+    platform: &Platform,
+    tree: &Tree,
+    nodes: &[NodeId],
+    place: Place,
+    heap: &HeapInfo,
+    until: Option<Place>,
+    lines: &mut Vec<Line>,
+    asked: &mut PlacesAsked,
+    alone: &mut AloneLines,
+) -> Result<bool, AllocError>
+    requires there { All (HasNode tree.now.nodes) nodes.now }
+    requires heap { slice_get platform.now.heaps place.heap ≡ Some heap.now }
+    requires asked { AreAsked tree.now.nodes platform.now.heaps asked.old }
+    requires alone { AreAlone tree.now.nodes alone.old }
+    ensures asked { AreAsked tree.now.nodes platform.now.heaps asked.new }
+    ensures alone { AreAlone tree.now.nodes alone.new }
+    ensures lines { (ms : List Member) → StandFor (members_at tree.now.nodes nodes.now) ms
+        → (xs left : List HeapPlace) → AreSoFar (IsPlaceLineGiven ms) xs lines.old.items
+        (put_if (has_domain heap.now.domains place.coherency)
+        (record { place = place; heap = heap.now }) left)
+        → IfOk result (GoOn (IsPlaceLineGiven ms)
+        (Ends until (λ (p : HeapPlace). p.place) (SharePlace ms)) xs lines.new.items left) }
+{
+    if !heap.domains.has(place.coherency) {
+        return Ok(true);
+    }
+    let Some(line) = place_line(
+        alloc, platform, tree, nodes, place, heap, until, asked, alone,
+    )?
+    else {
+        return Ok(false);
+    };
+    lines.push(line)?;
+    Ok(true)
+}
+
+/// Puts the lines for the places of a heap behind the lines so far;
+/// false where they end at one of them.
+fn push_heap(
+    alloc: Global,
+    platform: &Platform,
+    tree: &Tree,
+    nodes: &[NodeId],
+    index: usize,
+    heap: &HeapInfo,
+    until: Option<Place>,
+    lines: &mut Vec<Line>,
+    asked: &mut PlacesAsked,
+    alone: &mut AloneLines,
+) -> Result<bool, AllocError>
+    requires there { All (HasNode tree.now.nodes) nodes.now }
+    requires heap { slice_get platform.now.heaps index ≡ Some heap.now }
+    requires asked { AreAsked tree.now.nodes platform.now.heaps asked.old }
+    requires alone { AreAlone tree.now.nodes alone.old }
+    ensures asked { AreAsked tree.now.nodes platform.now.heaps asked.new }
+    ensures alone { AreAlone tree.now.nodes alone.new }
+    ensures lines { (ms : List Member) → StandFor (members_at tree.now.nodes nodes.now) ms
+        → (xs : List HeapPlace) (heaps : List HeapFacts)
+        → AreSoFar (IsPlaceLineGiven ms) xs lines.old.items
+        (places_from index (heap.now ∷ heaps))
+        → IfOk result (GoOn (IsPlaceLineGiven ms)
+        (Ends until (λ (p : HeapPlace). p.place) (SharePlace ms)) xs lines.new.items
+        (places_from (index + 1) heaps)) }
+{
+    let cpu = Place {
+        heap: index,
+        coherency: CoherencyDomain::Cpu,
+    };
+    if !push_place(
+        alloc, platform, tree, nodes, cpu, heap, until, lines, asked, alone,
+    )? {
+        return Ok(false);
+    }
+    let ram = Place {
+        heap: index,
+        coherency: CoherencyDomain::Ram,
+    };
+    if !push_place(
+        alloc, platform, tree, nodes, ram, heap, until, lines, asked, alone,
+    )? {
+        return Ok(false);
+    }
+    let inaccessible = Place {
+        heap: index,
+        coherency: CoherencyDomain::Inaccessible,
+    };
+    push_place(
+        alloc,
+        platform,
+        tree,
+        nodes,
+        inaccessible,
+        heap,
+        until,
+        lines,
+        asked,
+        alone,
+    )
+}
+
+/// Lines that refuse each place of the platform to the participants at these nodes, or each before
+/// the first that they share; where it is given, at most those before `until`.
+pub(crate) fn refused_places(
+    alloc: Global,
+    platform: &Platform,
+    tree: &Tree,
+    nodes: &[NodeId],
+    until: Option<Place>,
+    asked: &mut PlacesAsked,
+    alone: &mut AloneLines,
+) -> Result<Refusals, AllocError>
+    requires there { All (HasNode tree.now.nodes) nodes.now }
+    requires asked { AreAsked tree.now.nodes platform.now.heaps asked.old }
+    requires alone { AreAlone tree.now.nodes alone.old }
+    ensures asked { AreAsked tree.now.nodes platform.now.heaps asked.new }
+    ensures alone { AreAlone tree.now.nodes alone.new }
+    ensures lines { (ms : List Member) → StandFor (members_at tree.now.nodes nodes.now) ms
+        → IfOk result (AreRefusals (IsPlaceLineGiven ms)
+        (Ends until (λ (p : HeapPlace). p.place) (SharePlace ms))
+        (places_of platform.now.heaps)) }
+{
+    let mut lines = Vec::new(alloc);
+    for (index, heap) in platform.heaps().iter().enumerate() {
+        if !push_heap(
+            alloc, platform, tree, nodes, index, heap, until, &mut lines, asked, alone,
+        )? {
+            return Ok(Refusals::UpTo(Lines::new(lines)));
+        }
+    }
+    Ok(Refusals::Whole(Lines::fitted(lines)?))
+}

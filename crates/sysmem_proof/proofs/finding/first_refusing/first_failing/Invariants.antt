@@ -1,9 +1,0 @@
--- The settings fail none of those so far.
-use Rattle.std.proofs.Common.{take}
-use Rattle.std.specs.Prelude.{All}
-use Rattle.sysmem_merge.specs.Settings.{CoversOn}
-use Rattle.sysmem_proof.specs.Members.{members_at, participants}
-use Rattle.sysmem_proof.proofs.finding.first_refusing.first_failing.Given as goal
-
-abbrev pub invariant-loop-node : goal.invariant-loop-node
-invariant-loop-node l = All (CoversOn l.platform l.settings) (participants (members_at l.tree.nodes (take l.node-index l.nodes)))

@@ -1,9 +1,0 @@
-use Rattle.sysmem_proof.proofs.FinderLemmas.{splits_refute, earlier_grows}
-use Rattle.sysmem_proof.specs.Conflict.{IsConflictFor}
-use Rattle.sysmem_proof.proofs.laws.refutations_grow.Goals as goal
-
-pub returns : goal.returns
-returns c = λ platform terms d. record {
-  split = λ es rs open' each. splits_refute (IsConflictFor platform terms) d es rs open' each;
-  earlier = λ e es k cs rs rss open' here before rest. earlier_grows (IsConflictFor platform terms) d e es k cs rs rss open' here before rest;
-}

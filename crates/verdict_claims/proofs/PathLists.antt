@@ -1,0 +1,77 @@
+-- Paths are read of the numbers that stand for them.
+use Rattle.std.proofs.Common.{◌≡◌, ℕ, ◌≤◌, ◌+◌, List, [], ◌∷◌, ◌++◌, length, take, drop, refl, sym, ◌∙◌, ap, arith, append-nil, length-append}
+use Rattle.std.proofs.lemmas.List.{append_assoc, take_at, drop_at}
+use Rattle.verdict_claims.specs.PathList.{numbers_of, with_step, paths_from, paths_in, AreOfPaths}
+
+-- the steps of the first path are read, and then the others
+first_read : (path : List ℕ) (paths : List (List ℕ)) → paths_in (numbers_of paths) ≡ paths → paths_from (length path) (path ++ numbers_of paths) ≡ path ∷ paths
+first_read [] [] are = refl
+first_read [] (p ∷ ps) are = ap (λ xs. [] ∷ xs) are
+first_read (n ∷ path) paths are = ap (with_step n) (first_read path paths are)
+
+read_back : (paths : List (List ℕ)) → paths_in (numbers_of paths) ≡ paths
+read_back [] = refl
+read_back (path ∷ paths) = first_read path paths (read_back paths)
+
+-- the numbers of one path more
+one_more : (paths : List (List ℕ)) (path : List ℕ) → numbers_of (paths ++ path ∷ []) ≡ (numbers_of paths ++ length path ∷ []) ++ path
+one_more [] path = ap (λ xs. length path ∷ xs) (append-nil path)
+one_more (p ∷ ps) path = ap (λ xs. length p ∷ xs) (ap (λ xs. p ++ xs) (one_more ps path)
+    ∙ (sym (append_assoc p (numbers_of ps ++ length path ∷ []) path) ∙ ap (λ xs. xs ++ path) (sym (append_assoc p (numbers_of ps) (length path ∷ [])))))
+
+-- one path more, behind numbers of paths
+pub added : (numbers : List ℕ) (path : List ℕ) → AreOfPaths numbers → paths_in ((numbers ++ length path ∷ []) ++ path) ≡ paths_in numbers ++ path ∷ []
+added numbers path are = ap (λ xs. paths_in ((xs ++ length path ∷ []) ++ path)) are ∙ (ap paths_in (sym (one_more (paths_in numbers) path)) ∙ read_back (paths_in numbers ++ path ∷ []))
+
+pub added_are : (numbers : List ℕ) (path : List ℕ) → AreOfPaths numbers → AreOfPaths ((numbers ++ length path ∷ []) ++ path)
+added_are numbers path are = ap (λ xs. (xs ++ length path ∷ []) ++ path) are ∙ (sym (one_more (paths_in numbers) path) ∙ ap numbers_of (sym (added numbers path are)))
+
+-- the numbers of one list of paths behind those of another
+numbers_behind : (ps qs : List (List ℕ)) → numbers_of (ps ++ qs) ≡ numbers_of ps ++ numbers_of qs
+numbers_behind [] qs = refl
+numbers_behind (p ∷ ps) qs = ap (λ xs. length p ∷ xs) (ap (λ xs. p ++ xs) (numbers_behind ps qs) ∙ sym (append_assoc p (numbers_of ps) (numbers_of qs)))
+
+module _ (one two : List ℕ) (first : AreOfPaths one) (second : AreOfPaths two) where
+  together : one ++ two ≡ numbers_of (paths_in one ++ paths_in two)
+  together = ap (λ xs. xs ++ two) first ∙ (ap (λ xs. numbers_of (paths_in one) ++ xs) second ∙ sym (numbers_behind (paths_in one) (paths_in two)))
+
+  pub joined : paths_in (one ++ two) ≡ paths_in one ++ paths_in two
+  joined = ap paths_in together ∙ read_back (paths_in one ++ paths_in two)
+
+  pub joined_are : AreOfPaths (one ++ two)
+  joined_are = together ∙ ap numbers_of (sym joined)
+
+-- what stands behind the first of some numbers of paths: that many
+-- steps, and numbers of the other paths
+pub record Begins (many : ℕ) (behind : List ℕ) : Type 0 where
+  pub path : List ℕ
+  pub paths : List (List ℕ)
+  pub many_is : many ≡ length path
+  pub behind_is : behind ≡ path ++ numbers_of paths
+
+pub begins : (many : ℕ) (behind : List ℕ) → AreOfPaths (many ∷ behind) → Begins many behind
+begins many behind are = by (paths_in (many ∷ behind)) are where
+  by : (paths : List (List ℕ)) → (many ∷ behind) ≡ numbers_of paths → Begins many behind
+  by [] e = absurd (cc)
+  by (path ∷ paths) e = record { path = path; paths = paths; many_is = cc (e); behind_is = cc (e) }
+
+module _ (many : ℕ) (behind : List ℕ) (are : AreOfPaths (many ∷ behind)) where
+  b : Begins many behind
+  b = begins many behind are
+
+  -- there are as many steps
+  pub has_steps : many ≤ length behind
+  has_steps = let is : length behind ≡ length b.path + length (numbers_of b.paths) = ap length b.behind_is ∙ length-append b.path (numbers_of b.paths) in omega (arith, is, b.many_is)
+
+  others_are : drop many behind ≡ numbers_of b.paths
+  others_are = ap (drop many) b.behind_is ∙ drop_at b.path (numbers_of b.paths) many (sym b.many_is)
+
+  -- what is left stands for the other paths
+  pub others : AreOfPaths (drop many behind)
+  others = others_are ∙ ap numbers_of (sym (read_back b.paths) ∙ ap paths_in (sym others_are))
+
+  -- the first path is that of these steps
+  pub first_and_others : paths_in (many ∷ behind) ≡ take many behind ∷ paths_in (drop many behind)
+  first_and_others = ap paths_in (ap (λ n. n ∷ behind) b.many_is ∙ ap (λ xs. length b.path ∷ xs) b.behind_is) ∙ (read_back (b.path ∷ b.paths)
+      ∙ (ap (λ p. p ∷ b.paths) (sym (ap (take many) b.behind_is ∙ take_at b.path (numbers_of b.paths) many (sym b.many_is)))
+      ∙ ap (λ ps. take many behind ∷ ps) (sym (ap paths_in others_are ∙ read_back b.paths))))

@@ -1,0 +1,121 @@
+-- Verdicts, and when they are optimal.
+use Rattle.std.specs.Prelude.{◌≡◌, ◌<◌, ◌≤◌, ℕ, true, List, ◌++◌, Option, Some, None}
+use Rattle.std.specs.Prelude.{All, is_none, option_map}
+use Rattle.sysmem_counts.specs.Counts.{IsCounted}
+use Rattle.sysmem_merge.specs.declared.settings.Settings.{Settings}
+use Rattle.sysmem_merge.specs.Best.{IsBest}
+use Rattle.sysmem_merge.specs.Demands.{counts_asked}
+use Rattle.sysmem_merge.specs.Settings.{CoversOn, Meets, MeetsLoosely, MeetsAs}
+use Rattle.sysmem_sanitise.specs.Platform.{PlatformFacts}
+use Rattle.sysmem_tree.specs.Forest.{Forest, choices, settled, count}
+use Rattle.sysmem_tree.specs.Node.{NodeFacts}
+use Rattle.sysmem_tree.specs.Selection.{IsSelection, IsEarlierSelection}
+use Rattle.sysmem_tree.specs.Shape.{Member, shape_of}
+use Rattle.verdict_claims.specs.declared.verdict.Verdict.{Verdict}
+use Rattle.verdict_claims.specs.declared.verdict.Verdict.TheVariants as verdicts
+use Rattle.verdict_claims.specs.Base.{BaseFacts, Terms, terms_of}
+use Rattle.verdict_claims.specs.Members.{participants}
+
+-- which settings meet members, and which of them are best for them, differs
+-- between initial and attached domains
+abbrev pub Meeting : Type 1
+Meeting = List Member → Settings → Type 0
+
+-- no settings meet the members of a selection of the forest, however its groups choose
+abbrev pub IsForestUnmet : Meeting → Forest Member → Type 0
+IsForestUnmet Met d = (selection : List ℕ) (e : Forest Member) (t : Settings)
+    → IsSelection d selection e → ¬ (Met (settled e) t)
+
+-- nor those of a selection that is earlier than the choices
+abbrev pub IsUnmetBefore : Meeting → Forest Member → List ℕ → Type 0
+IsUnmetBefore Met d choices = (other : List ℕ) (e : Forest Member) (t : Settings)
+    → IsSelection d other e → IsEarlierSelection other choices → ¬ (Met (settled e) t)
+
+-- a selection with the best settings for its members, where no earlier one is met
+pub record IsChosen (Met Best : Meeting) (d : Forest Member) (selection : List ℕ)
+    (s : Settings) : Type 0 where
+  pub members : Forest Member
+  pub selects : IsSelection d selection members
+  pub best : Best (settled members) s
+  pub first : IsUnmetBefore Met d selection
+
+-- the most selections that a decision goes through
+abbrev pub most_selections : ℕ
+most_selections = 4096
+
+-- a verdict is right for a forest: too many exactly where there are more selections than a decision
+-- goes through; else the first selection that is met, with the best settings for it, or none where
+-- none is. What failed or wanted memory isn't.
+abbrev pub IsRight : Meeting → Meeting → Forest Member → Verdict → Type 0
+IsRight Met Best d (verdicts.Chosen chosen) =
+    (count d ≤ most_selections) × IsChosen Met Best d chosen.selection chosen.settings
+IsRight Met Best d verdicts.IntersectionEmpty = (count d ≤ most_selections) × IsForestUnmet Met d
+IsRight Met Best d verdicts.TooMany = most_selections < count d
+IsRight Met Best d verdicts.Failed = ⊥
+IsRight Met Best d verdicts.NoMemory = ⊥
+
+-- of an initial domain: settings that meet the participants among the members
+abbrev pub MeetsAll : PlatformFacts → Meeting
+MeetsAll platform ms s = Meets platform (participants ms) s
+
+-- but for the names of the image, as long as more members may come
+abbrev pub MeetsAllLoosely : PlatformFacts → Meeting
+MeetsAllLoosely platform ms s = MeetsLoosely platform (participants ms) s
+
+-- and the best of them
+abbrev pub IsBestOfAll : PlatformFacts → Meeting
+IsBestOfAll platform ms s = IsBest true platform (participants ms) s
+
+-- of an attached domain: the settings of its terms and no others, where each participant among the
+-- members accepts them and the count suits them together with those accepted before
+pub record MeetsFixed (platform : PlatformFacts) (terms : Terms) (ms : List Member)
+    (s : Settings) : Type 0 where
+  pub same : s ≡ terms.settings
+  pub covers : All (CoversOn platform s) (participants ms)
+  pub counted : IsCounted (counts_asked (participants (terms.accepted ++ ms))) s.count
+
+-- the verdict of an initial domain is optimal
+abbrev pub IsOptimal : PlatformFacts → Forest Member → Verdict → Type 0
+IsOptimal platform = IsRight (MeetsAll platform) (IsBestOfAll platform)
+
+-- the verdict of an attached domain is
+abbrev pub IsOptimalFixed : PlatformFacts → Terms → Forest Member → Verdict → Type 0
+IsOptimalFixed platform terms = IsRight (MeetsFixed platform terms) (MeetsFixed platform terms)
+
+-- of both kinds of domain: an attached one has terms
+abbrev pub MeetsFor : PlatformFacts → Option Terms → Meeting
+MeetsFor platform None = MeetsAll platform
+MeetsFor platform (Some terms) = MeetsFixed platform terms
+
+abbrev pub MeetsLooselyFor : PlatformFacts → Option Terms → Meeting
+MeetsLooselyFor platform None = MeetsAllLoosely platform
+MeetsLooselyFor platform (Some terms) = MeetsFixed platform terms
+
+abbrev pub IsBestFor : PlatformFacts → Option Terms → Meeting
+IsBestFor platform None = IsBestOfAll platform
+IsBestFor platform (Some terms) = MeetsFixed platform terms
+
+-- settings meet what choices have settled: with the names of the image where no
+-- group is left, else but for them
+abbrev pub MeetsSettled : PlatformFacts → Option Terms → Forest Member → Settings → Type 0
+MeetsSettled platform None d t = MeetsAs (is_none (choices d)) platform (participants (settled d)) t
+MeetsSettled platform (Some terms) d t = MeetsFixed platform terms (settled d) t
+
+-- optimal, whichever kind of domain it is
+abbrev pub IsOptimalFor : PlatformFacts → Option Terms → Forest Member → Verdict → Type 0
+IsOptimalFor platform terms = IsRight (MeetsFor platform terms) (IsBestFor platform terms)
+
+-- of a domain of a tree
+abbrev pub IsOptimalIn : PlatformFacts → List NodeFacts → ℕ → Option BaseFacts → Verdict → Type 0
+IsOptimalIn platform nodes domain base =
+    IsOptimalFor platform (option_map (terms_of nodes) base) (shape_of nodes domain)
+
+-- two verdicts are equal in kind, selection and settings, whatever proves them
+abbrev pub IsSameAnswer : Verdict → Verdict → Type 0
+IsSameAnswer (verdicts.Chosen a) (verdicts.Chosen b) =
+    (a.selection ≡ b.selection) × (a.settings ≡ b.settings)
+IsSameAnswer verdicts.IntersectionEmpty verdicts.IntersectionEmpty = Unit {0}
+IsSameAnswer verdicts.TooMany verdicts.TooMany = Unit {0}
+IsSameAnswer verdicts.Failed verdicts.Failed = Unit {0}
+IsSameAnswer verdicts.NoMemory verdicts.NoMemory = Unit {0}
+IsSameAnswer v w = ⊥

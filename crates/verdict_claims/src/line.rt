@@ -1,0 +1,135 @@
+//! Lines of the conflict table: a field, and for whom it fails.
+
+ghost use Rattle.std.specs.Prelude.{◌≡◌, IfOk};
+
+use crate::path_list::PathList;
+use std::alloc::{AllocError, Global};
+use std::marker::Model;
+use std::sync::Arc;
+use sysmem_counts::Field;
+
+/// Among how many lines before it a line looks for its paths. A platform's colours go by under each
+/// of its pairs, and from one to the next it is often the same few lists that come again.
+const NEAR: usize = 4;
+
+/// A field that fails for the participants at some paths, in any order. Lines with
+/// the same paths may keep them once.
+#[derive(Debug, Drop)]
+pub struct Line {
+    field: Field,
+    nodes: Arc<PathList>,
+}
+
+impl Model for Line {
+    ghost use Rattle.std.specs.Arc.{arc_value};
+    ghost use Rattle.verdict_claims.specs.Line.{LineFacts};
+
+    ghost Value = { LineFacts };
+
+    ghost view = { λ l. record {
+      field = l.field;
+      nodes = arc_value l.nodes;
+    } };
+}
+
+impl Line {
+    /// This field, for the participants at these paths. Any are a line; whether it is true is a
+    /// checker's matter. `AllocError` where memory is refused.
+    pub fn new(alloc: Global, field: Field, nodes: PathList) -> Result<Line, AllocError>
+        ensures { IfOk result (λ line. line ≡ record { field = field; nodes = nodes }) }
+    {
+        let nodes = Arc::new(alloc, nodes)?;
+        Ok(Line { field, nodes })
+    }
+
+    /// The same, behind these lines: where one of the last of them has
+    /// the paths, it keeps them for both.
+    pub fn behind(
+        alloc: Global,
+        lines: &[Line],
+        field: Field,
+        nodes: PathList,
+    ) -> Result<Line, AllocError>
+        ensures { IfOk result (λ line. line ≡ record { field = field; nodes = nodes }) }
+    {
+        for near in lines.iter().rev().take(NEAR) {
+            if near.nodes.is_same(&nodes) {
+                let nodes = Arc::try_clone(&near.nodes)?;
+                return Ok(Line { field, nodes });
+            }
+        }
+        Line::new(alloc, field, nodes.fitted()?)
+    }
+
+    /// The same line again. The paths are kept once for both.
+    pub fn again(&self) -> Result<Line, AllocError>
+        ensures { IfOk result (λ line. line ≡ self.now) }
+    {
+        self.headed(self.field)
+    }
+
+    /// Its paths under this field. They are kept once for both.
+    pub fn headed(&self, field: Field) -> Result<Line, AllocError>
+        ensures { IfOk result (λ line. line
+            ≡ record { field = field; nodes = self.now.nodes }) }
+    {
+        let nodes = Arc::try_clone(&self.nodes)?;
+        Ok(Line { field, nodes })
+    }
+
+    /// The field that heads the line.
+    pub fn field(&self) -> Field
+        ensures { result ≡ self.now.field }
+    {
+        self.field
+    }
+
+    /// The paths of the participants for whom it fails.
+    pub fn nodes(&self) -> &PathList
+        ensures { result.now ≡ self.now.nodes }
+    {
+        &self.nodes
+    }
+}
+
+/// Lines for some places or offers of a platform, one for each, in their order.
+#[derive(Debug, Drop)]
+pub struct Lines {
+    lines: Vec<Line>,
+}
+
+impl Model for Lines {
+    ghost use Rattle.std.specs.Prelude.{List};
+    ghost use Rattle.verdict_claims.specs.Line.{LineFacts};
+
+    ghost Value = { List LineFacts };
+
+    ghost view = { λ l. l.lines.items };
+}
+
+impl Lines {
+    /// These lines.
+    pub fn new(lines: Vec<Line>) -> Lines
+        ensures { result ≡ lines.items }
+    {
+        Lines { lines }
+    }
+
+    /// These lines, without room that isn't used. `AllocError` where the smaller room is refused.
+    pub fn fitted(mut lines: Vec<Line>) -> Result<Lines, AllocError>
+        ensures { IfOk result (λ fitted. fitted ≡ lines.items) }
+    {
+        lines.shrink_to_fit();
+        if lines.len() < lines.capacity() {
+            return Err(AllocError);
+        }
+        Ok(Lines { lines })
+    }
+
+    /// The lines, that for the first place or offer first.
+    pub fn as_slice(&self) -> &[Line]
+        ensures { result.now ≡ self.now }
+    {
+        &self.lines
+    }
+}
