@@ -3,7 +3,7 @@ use Rattle.std.proofs.Common.{◌≡◌, ℕ, List, [], Some, Ok, Err, Result, f
 use Rattle.std.specs.Prelude.{codes}
 use Rattle.script_reading.specs.declared.fault.ScriptFault.{ScriptFault}
 use Rattle.script_run.specs.Certificate.{CertifiesTo}
-use Rattle.script_run.specs.CheckedFile.{HasChecked}
+use Rattle.script_check.specs.CheckedFile.{HasChecked}
 use Rattle.script_run.specs.Outcome.{RunsTo}
 use Rattle.script_run.specs.Run.{Ran, RanWithProof}
 use Rattle.script_run.specs.declared.fault.RunFault.{RunFault}

@@ -1,7 +1,7 @@
 //! What the bytes of a script say, and those of a certificate.
 
 ghost use Rattle.std.specs.Prelude.{◌≡◌, ℕ, List, [], Some, Ok, IfOk, IsOkAnd};
-ghost use Rattle.script_run.specs.CheckedFile.{HasChecked};
+ghost use Rattle.script_check.specs.CheckedFile.{HasChecked};
 ghost use Rattle.script_run.specs.Run.{Ran, RanWithProof};
 ghost use Rattle.script_run.specs.declared.running.Ended.TheVariants.{Done, CheckedNo};
 ghost use Rattle.mezulobu.specs.Says.{CheckSays, ProvedRunSays, RunSays};
@@ -9,8 +9,9 @@ ghost use Rattle.mezulobu.specs.Words.{refusal_words};
 
 use crate::words::refusal_words;
 use byte_transfer::Counted;
+use script_check::check_file;
 use script_reading::ScriptFault;
-use script_run::{Ended, RunFault, check_file, run, run_with_proof};
+use script_run::{Ended, RunFault, run, run_with_proof};
 use std::alloc::{AllocError, Global};
 
 const DONE: u32 = 0;

@@ -8,7 +8,7 @@ ghost use Rattle.other_outcomes.specs.Moved.{IsMoved, IsPromisedMoved, moving};
 use domain_reasons::tell_in_short;
 use explanation_text::{Items, Kind};
 use script_reading::{Call, ParseFault, read_script};
-use script_run::Replayed;
+use script_replay::Replayed;
 use script_story::{Setting, story_of};
 use serde_json::Value;
 use std::alloc::{AllocError, Global};

@@ -10,7 +10,8 @@ use Rattle.script_run.specs.declared.running.Ended.{Ended}
 use Rattle.script_run.specs.declared.running.Ended.TheVariants.{Done, MemoryRefused}
 use Rattle.script_run.specs.Certificate.{CertifiedFacts, CertifiesTo, IsCertifiedBy}
 use Rattle.script_run.specs.Run.{GivesProvedReport, RanWithProof, WritesFronts}
-use Rattle.script_run.proofs.RunLemmas.{in-part, in-want, in-whole, runs-input}
+use Rattle.script_run.proofs.CallerLemmas.{runs-input}
+use Rattle.script_run.proofs.RunLemmas.{in-part, in-want, in-whole}
 
 module _ (old new before after proof_before proof_after : Option (List ℕ)) (bytes : List ℕ) (c : CertifiedFacts)
     (read : ReadsToLimit longest old new bytes) (runs : CertifiesTo bytes (Ok c)) where

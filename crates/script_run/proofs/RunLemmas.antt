@@ -1,5 +1,5 @@
 -- What a run says of its input, from what it says of the bytes that it read.
-use Rattle.std.proofs.Common.{◌≡◌, ◌≢◌, ℕ, ◌≤◌, ◌++◌, List, [], length, Bool, true, false, Option, Some, None, Result, Ok, Err, refl, sym, ◌∙◌, ap, append-nil, length-append, arith}
+use Rattle.std.proofs.Common.{◌≡◌, ◌≢◌, ℕ, List, [], Bool, true, false, Option, Some, None, Result, Ok, Err, refl}
 use Rattle.std.specs.Prelude.{IfSome}
 use Rattle.std.specs.Io.KnownBytes.{Appends}
 use Rattle.byte_transfer.specs.declared.fault.ReadFault.{ReadFault}
@@ -9,36 +9,16 @@ use Rattle.script_reading.specs.declared.fault.ParseFault.{ParseFault}
 use Rattle.script_reading.specs.declared.fault.ParseFault.TheVariants as parsing
 use Rattle.script_reading.specs.declared.fault.ScriptFault.{ScriptFault}
 use Rattle.script_reading.specs.Faults.{GivesOneOf}
-use Rattle.script_reading.specs.Text.{too_long, not_json, spelled, longest}
+use Rattle.script_reading.specs.Text.{longest}
+use Rattle.script_run.proofs.CallerLemmas.{Appends-nothing, runs-input}
 use Rattle.script_run.specs.declared.fault.Disagreement.{Disagreement}
 use Rattle.script_run.specs.declared.fault.RunFault.{RunFault}
 use Rattle.script_run.specs.declared.fault.RunFault.TheVariants.{Read, Write, NoMemory, Script, Proof, Audit}
 use Rattle.script_run.specs.declared.running.Ended.{Ended}
 use Rattle.script_run.specs.declared.running.Ended.TheVariants.{Done, MemoryRefused}
 use Rattle.script_run.specs.Faults.{fault_of_parse, fault_of_read}
-use Rattle.script_run.specs.Outcome.{ReportFacts, RunsTo, RunsWith, SaysOf, anyhow}
+use Rattle.script_replay.specs.Outcome.{ReportFacts, RunsTo, anyhow}
 use Rattle.script_run.specs.Run.{GivesReport, GivesTexts, Ran, RanFor, Writes, WritesFronts, WritesPart, in_first}
-
-pub whole-read : (input rest bytes : List ℕ) → input ≡ bytes ++ rest → (length bytes ≤ longest → rest ≡ []) → length bytes ≤ longest → input ≡ bytes
-whole-read input rest bytes e all short = e ∙ (ap (λ (t : List ℕ). bytes ++ t) (all short) ∙ append-nil bytes)
-
-runs-read : (says : SaysOf) (input rest bytes : List ℕ) (said : Result ReportFacts ScriptFault) → input ≡ bytes ++ rest → (length bytes ≤ longest → rest ≡ [])
-    → RunsWith says bytes said → RunsWith says input said
-runs-read says input rest bytes _ e all (too_long long) = rw e (too_long (omega (arith, length-append bytes rest)))
-runs-read says input rest bytes _ e all (not_json short none) = rw (whole-read input rest bytes e all short) (not_json short none)
-runs-read says input rest bytes _ e all (spelled value short json answer said) = rw (whole-read input rest bytes e all short) (spelled value short json answer said)
-
--- what holds of the bytes that were read holds of the input
-pub runs-input : (says : SaysOf) (old new : Option (List ℕ)) (bytes : List ℕ) (said : Result ReportFacts ScriptFault) → ReadsToLimit longest old new bytes → RunsWith says bytes said
-    → IfSome old (λ input. RunsWith says input said)
-runs-input says None new bytes said read runs = tt
-runs-input says (Some input) None bytes said read runs = absurd read.taken
-runs-input says (Some input) (Some rest) bytes said read runs = runs-read says input rest bytes said read.taken read.all runs
-
--- nothing after what is held leaves it as it is
-pub Appends-nothing : (hold : Option (List ℕ)) → Appends hold hold []
-Appends-nothing None = tt
-Appends-nothing (Some bytes) = sym (append-nil bytes)
 
 -- ---- how a run ends that gives such texts
 

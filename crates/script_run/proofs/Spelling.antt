@@ -13,13 +13,12 @@ use Rattle.script_reading.specs.Faults.{GivesOneOf, Gives}
 use Rattle.script_reading.specs.Script.{ScriptFacts, script_of}
 use Rattle.script_reading.specs.Seen.{script_seen}
 use Rattle.script_reading.specs.Text.{Outcome, too_long, not_json, spelled, IsValue}
-use Rattle.script_run.specs.declared.report.Report.{Report}
-use Rattle.sysmem_sanitise.specs.Platform.{PlatformFacts}
+use Rattle.script_replay.specs.declared.report.Report.{Report}
 use Rattle.script_run.specs.declared.running.CertifiedReport.{CertifiedReport}
-use Rattle.script_run.specs.Certificate.{CertifiedFacts, CertifiesTo, IsCertifiedBy, certified_seen}
-use Rattle.script_run.specs.Laws.{CertifiedIsReport}
-use Rattle.script_run.specs.Outcome.{ReportFacts, SaysOf, anyhow, ValueRunsTo, refused, reported, RunsWith, report_seen}
-use Rattle.script_run.specs.Report.{Certified, IsReported}
+use Rattle.script_run.proofs.CallerLemmas.{runs-so}
+use Rattle.script_run.specs.Certificate.{CertifiedFacts, CertifiesTo, certified_seen}
+use Rattle.script_replay.specs.Outcome.{ReportFacts, SaysOf, anyhow, ValueRunsTo, refused, reported, RunsWith, report_seen}
+use Rattle.script_replay.specs.Report.{IsReported}
 
 module _ (says : SaysOf) where
   no_value : (bytes : List ℕ) (fault : ScriptFault) → Outcome IsValue bytes (Err fault) → RunsWith says bytes (Err fault)
@@ -58,27 +57,8 @@ module _ (says : SaysOf) where
   script-report d script (Ok report) read said none = reported (script_seen script) (report_seen report) read said
   script-report d script (Err fault) read said none = rw none tt
 
--- what is said of the decisions of a value's report, from what else is
-value-so : (says other : SaysOf) (d : Data) (answer : Result ReportFacts ScriptFault) → ((platform : PlatformFacts) (cs : List Certified) → says platform cs → other platform cs)
-    → ValueRunsTo says d answer → ValueRunsTo other d answer
-value-so says other d _ f (refused fault e) = refused fault e
-value-so says other d _ f (reported script report e r) = reported script report e (record { decisions = r.decisions; report = r.report; gave = f script.platform r.decisions r.gave })
-
-pub runs-so : (says other : SaysOf) (bytes : List ℕ) (answer : Result ReportFacts ScriptFault) → ((platform : PlatformFacts) (cs : List Certified) → says platform cs → other platform cs)
-    → RunsWith says bytes answer → RunsWith other bytes answer
-runs-so says other bytes _ f (too_long long) = too_long long
-runs-so says other bytes _ f (not_json short none) = not_json short none
-runs-so says other bytes _ f (spelled value short json answer said) = spelled value short json answer (value-so says other value answer f said)
-
 -- a fault, whatever is said of decisions
 pub fault-so : (says : SaysOf) (bytes : List ℕ) (fault : ParseFault) → GivesOneOf {X = Report} {A = ReportFacts} report_seen (Err fault) (RunsWith says bytes)
     → GivesOneOf {X = CertifiedReport} {A = CertifiedFacts} certified_seen (Err fault) (CertifiesTo bytes)
 fault-so says bytes NoMemory said = tt
 fault-so says bytes (Refused fault) said = runs-so says anyhow bytes (Err fault) (λ platform cs g. tt) said
-
--- a report with a certificate is a report
-pub certified_is_report : CertifiedIsReport
-certified_is_report input (Ok certified) said =
-    let report : ReportFacts = record { text = certified.text; starved = certified.starved } in
-    runs-so (IsCertifiedBy certified.certificate) anyhow input (Ok report) (λ platform cs g. tt) said
-certified_is_report input (Err fault) said = said

@@ -7,8 +7,8 @@ use Rattle.sysmem_alloc.specs.Claims.{HasProof}
 use Rattle.sysmem_sanitise.specs.Platform.{PlatformFacts}
 use Rattle.script_reading.specs.declared.fault.ScriptFault.{ScriptFault}
 use Rattle.script_run.specs.declared.running.CertifiedReport.{CertifiedReport}
-use Rattle.script_run.specs.Outcome.{RunsTo, RunsWith}
-use Rattle.script_run.specs.Report.{Certified}
+use Rattle.script_replay.specs.Outcome.{RunsTo, RunsWith}
+use Rattle.script_replay.specs.Report.{Certified}
 use Rattle.std.specs.String.{string_bytes}
 
 -- a decision has its proof, where it has a claim

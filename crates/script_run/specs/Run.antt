@@ -10,7 +10,7 @@ use Rattle.script_run.specs.declared.fault.RunFault.TheVariants.{Write, Script, 
 use Rattle.script_run.specs.declared.running.Ended.{Ended}
 use Rattle.script_run.specs.declared.running.Ended.TheVariants.{Done, MemoryRefused, CheckedNo}
 use Rattle.script_run.specs.Certificate.{CertifiesTo}
-use Rattle.script_run.specs.Outcome.{RunsTo}
+use Rattle.script_replay.specs.Outcome.{RunsTo}
 
 -- ---- texts that are written
 

@@ -5,13 +5,12 @@ ghost use Rattle.std.specs.Arc.{arc_value};
 ghost use Rattle.certificate_text.specs.Certificate.{HasTaken, certificate_text};
 ghost use Rattle.serde_json.specs.Data.{Data};
 ghost use Rattle.script_run.specs.Certificate.{AreProved, data_of};
-ghost use Rattle.script_run.specs.Report.{Certified};
+ghost use Rattle.script_replay.specs.Report.{Certified};
 ghost use Rattle.sysmem_tree.specs.Domain.{HasDomain};
 ghost use Rattle.sysmem_tree.specs.Path.{path_of};
 
-use crate::decider::{Decider, Stop};
-use crate::deciding::proved_claim_for;
 use certificate_text::CertificateWriter;
+use script_replay::{Decider, Stop, proved_claim_for};
 use std::alloc::{AllocError, Global};
 use std::sync::Arc;
 use sysmem_alloc::Book;

@@ -7,19 +7,17 @@ ghost use Rattle.serde_json.specs.View.{view};
 ghost use Rattle.script_reading.specs.Faults.{GivesOneOf};
 ghost use Rattle.script_reading.specs.Seen.{script_seen};
 ghost use Rattle.script_reading.specs.Text.{IsValue, Outcome};
-ghost use Rattle.script_run.specs.Outcome.{RunsWith, ValueRunsTo, report_seen};
-ghost use Rattle.script_run.specs.Report.{IsReported};
+ghost use Rattle.script_replay.specs.Outcome.{RunsWith, ValueRunsTo, report_seen};
+ghost use Rattle.script_replay.specs.Report.{IsReported};
 ghost use Rattle.script_run.specs.Run.{IsCausedBy, Ran, RanWithProof, WritesFronts, both_counts};
 ghost use Rattle.script_run.specs.Certificate.{CertifiesTo, certified_seen};
 ghost use Rattle.sysmem_sanitise.specs.Platform.{PlatformFacts};
 
 use crate::certifying::Certifying;
-use crate::decider::Decider;
 use crate::fault::RunFault;
-use crate::report::{Report, report_of};
-use crate::searching::Searching;
 use byte_transfer::{Sink, Source, WriteFault, read_up_to_limit, write_fully};
 use script_reading::{LONGEST, ParseFault, Script, parse_script, read_script};
+use script_replay::{Decider, Report, Searching, report_of};
 use serde_json::Value;
 use std::alloc::Global;
 

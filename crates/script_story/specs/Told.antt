@@ -3,7 +3,7 @@ use Rattle.std.specs.Prelude.{◌≡◌, ◌++◌, ◌⊎◌, ℕ, All, Contains
 use Rattle.std.specs.Str.Lines.{lines}
 use Rattle.sysmem_sanitise.specs.Platform.{PlatformFacts}
 use Rattle.script_reading.specs.Script.{CallFacts}
-use Rattle.script_run.specs.Report.{Certified, IsReport}
+use Rattle.script_replay.specs.Report.{Certified, IsReport}
 use Rattle.story_parts.specs.Paths.{path_at}
 use Rattle.story_parts.specs.declared.story.Domain.{Domain}
 use Rattle.story_parts.specs.declared.story.Node.{Node}

@@ -4,15 +4,15 @@ ghost use Rattle.std.specs.Prelude.{map, Contains, IfOk, IfSome};
 ghost use Rattle.std.specs.Str.Lines.{lines};
 ghost use Rattle.std.specs.String.{string_bytes};
 ghost use Rattle.script_reading.specs.Seen.{call_seen};
-ghost use Rattle.script_run.specs.Outcome.{anyhow};
-ghost use Rattle.script_run.specs.Replayed.{LeavesIn, end_of};
-ghost use Rattle.script_run.specs.Report.{IsReported};
+ghost use Rattle.script_replay.specs.Outcome.{anyhow};
+ghost use Rattle.script_replay.specs.Replayed.{LeavesIn, end_of};
+ghost use Rattle.script_replay.specs.Report.{IsReported};
 ghost use Rattle.script_story.specs.Told.{IsReportedOn, line_on};
 
 use crate::effort::Effort;
 use crate::words::said_on;
 use script_reading::Call;
-use script_run::{Replayed, replay};
+use script_replay::{Replayed, replay};
 use std::alloc::{AllocError, Global};
 use sysmem_sanitise::Platform;
 

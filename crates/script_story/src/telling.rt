@@ -11,7 +11,7 @@ use crate::words::{is_domain_line, reply_in, said_on};
 use certificate_text::push_path;
 use script_faults::actor_of;
 use script_reading::Call;
-use script_run::Replayed;
+use script_replay::Replayed;
 use serde_json::Value;
 use std::alloc::{AllocError, Global};
 use story_parts::{Deeds, Domain, Made, Node, Story, first_word};

@@ -16,7 +16,7 @@ use Rattle.script_run.specs.declared.fault.RunFault.TheVariants as faults
 use Rattle.script_run.specs.declared.running.Ended.{Ended}
 use Rattle.script_run.specs.declared.running.Ended.TheVariants.{CheckedNo}
 use Rattle.script_run.specs.Faults.{fault_of_read}
-use Rattle.script_run.proofs.RunLemmas.{Appends-nothing}
+use Rattle.script_run.proofs.CallerLemmas.{Appends-nothing}
 use Rattle.sysmem_participants.specs.declared.faults.AuditFault.TheVariants as audits
 use Rattle.script_threads.specs.declared.fault.PlayFault.{PlayFault}
 use Rattle.script_threads.specs.declared.fault.PlayFault.TheVariants as plays

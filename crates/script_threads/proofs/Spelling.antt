@@ -12,7 +12,7 @@ use Rattle.script_reading.specs.declared.fault.ScriptFault.{ScriptFault}
 use Rattle.script_reading.specs.Faults.{GivesOneOf}
 use Rattle.script_reading.specs.Script.{ScriptFacts}
 use Rattle.script_reading.specs.Text.{Outcome, too_long, not_json, spelled, longest, IsValue}
-use Rattle.script_run.proofs.RunLemmas.{whole-read}
+use Rattle.script_run.proofs.CallerLemmas.{whole-read}
 use Rattle.script_threads.specs.declared.fault.PlayFault.{PlayFault}
 use Rattle.script_threads.specs.declared.fault.PlayFault.TheVariants.{Parse, Audit}
 use Rattle.script_threads.specs.declared.playing.Told.{Told}

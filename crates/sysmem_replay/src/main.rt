@@ -19,9 +19,8 @@ pub use explanation_json::{explain_as_json, explain_as_json_to_page};
 pub use explanation_page::{explain_to_page, explained_ending};
 use refusal::refusal_ending;
 pub use report_json::{run_as_json, run_as_json_with_proof};
-pub use script_run::{
-    Ended, Ending, RunFault, check_file, ending_of, run, run_leaving, run_with_proof,
-};
+pub use script_check::check_file;
+pub use script_run::{Ended, Ending, RunFault, ending_of, run, run_leaving, run_with_proof};
 pub use script_threads::run_threads;
 use std::alloc::Global;
 use std::fs::File;

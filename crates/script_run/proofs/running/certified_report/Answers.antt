@@ -2,8 +2,9 @@ use Rattle.std.proofs.Common.{Ok}
 use Rattle.std.proofs.lemmas.List.Elements.{All-nil}
 use Rattle.certificate_text.specs.Certificate.{HasTaken}
 use Rattle.script_run.specs.Certificate.{AreProved, IsCertifiedBy, IsProved, data_of}
-use Rattle.script_run.specs.Outcome.{report_seen}
-use Rattle.script_run.proofs.Spelling.{fault-so, runs-so}
+use Rattle.script_replay.specs.Outcome.{report_seen}
+use Rattle.script_run.proofs.CallerLemmas.{runs-so}
+use Rattle.script_run.proofs.Spelling.{fault-so}
 use Rattle.script_run.proofs.running.certified_report.Goals as goal
 
 pub report_on-requires : goal.report_on-requires

@@ -1,6 +1,6 @@
 use Rattle.std.proofs.lemmas.Result.{err_from_is_err_and}
 use Rattle.std.proofs.Common.{None}
-use Rattle.script_run.specs.Outcome.{RunsTo, report_seen}
+use Rattle.script_replay.specs.Outcome.{RunsTo, report_seen}
 use Rattle.script_run.specs.Run.{GivesReport}
 use Rattle.script_run.proofs.RunLemmas.{ran-part, refused}
 use Rattle.script_run.proofs.running.run_leaving.Goals as goal

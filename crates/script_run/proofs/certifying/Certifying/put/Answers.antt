@@ -2,7 +2,7 @@ use Rattle.std.proofs.Common.{subst}
 use Rattle.certificate_text.specs.Certificate.{HasTaken}
 use Rattle.script_run.specs.Certificate.{data_of}
 use Rattle.script_run.proofs.OneCertified.{data_push}
-use Rattle.script_run.proofs.Told.{path_is}
+use Rattle.script_replay.proofs.CallerLemmas.{path_is}
 use Rattle.script_run.proofs.certifying.Certifying.put.Goals as goal
 
 pub returns : goal.returns

@@ -1,7 +1,6 @@
 use Rattle.std.specs.Arc.{arc_value}
 use Rattle.sysmem_alloc.specs.Claims.{HasProof}
-use Rattle.script_run.proofs.OneCertified.{proved_push}
-use Rattle.script_run.proofs.Told.{if_mapped}
+use Rattle.script_run.proofs.OneCertified.{if_mapped, proved_push}
 use Rattle.script_run.proofs.certifying.CertifyingDecider.decide.Goals as goal
 
 pub returns-clause-gave : goal.returns-clause-gave

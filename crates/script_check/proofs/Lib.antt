@@ -1,0 +1,9 @@
+pub mod Accepting
+pub mod AnswerLemmas
+pub mod CheckedLemmas
+pub mod Checks
+pub mod OneCheck
+pub mod OneCorner
+pub mod ReadBack
+pub mod Uncertified
+pub mod Unique

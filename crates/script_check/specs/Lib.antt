@@ -1,0 +1,3 @@
+pub mod Checked
+pub mod CheckedFile
+pub mod Laws

@@ -1,0 +1,13 @@
+pub mod Answering
+pub mod CallerLemmas
+pub mod Corners
+pub mod Failures
+pub mod Following
+pub mod Growing
+pub mod Reaching
+pub mod Results
+pub mod Since
+pub mod Stopping
+pub mod Texts
+pub mod Told
+pub mod Walking

@@ -1,0 +1,120 @@
+-- The calls so far, and one more.
+use Rattle.std.proofs.Common.{◌≡◌, ℕ, ◌+◌, ◌<◌, ◌≤◌, ◌++◌, List, [], ◌∷◌, None, false, drop, map, length, get_or, refl, sym, ◌∙◌, ap, subst, arith, append-nil, append_assoc, length-append}
+use Rattle.std.proofs.lemmas.List.{at_drop_more, at_drop_all, drop-map, length-map}
+use Rattle.sysmem_alloc.specs.State.{next_ready}
+use Rattle.sysmem_sanitise.specs.Platform.{PlatformFacts}
+use Rattle.script_reading.specs.declared.call.Call.{Call}
+use Rattle.script_reading.specs.Script.{CallFacts}
+use Rattle.script_reading.specs.Seen.{call_seen}
+use Rattle.script_replay.specs.declared.decider.Objection.{Objection}
+use Rattle.script_replay.specs.Replayed.{LeavesIn}
+use Rattle.script_replay.specs.Report.{Gave, IsReported, pending_lines}
+use Rattle.script_replay.specs.Steps.{GoesIn}
+use Rattle.script_replay.specs.State.{RunState, first_run_state}
+use Rattle.script_replay.specs.Stop.{IsStopped, Objects, StopsIn}
+use Rattle.script_replay.proofs.Following.{goes_in, starts}
+use Rattle.script_replay.proofs.CallerLemmas.{goes_platform}
+use Rattle.script_replay.proofs.Stopping.{stops_behind}
+
+-- the calls before this place were made, and lead to a state in which no domain waits
+pub record Reaches (platform : PlatformFacts) (rs : List CallFacts) (place : ℕ) (s : RunState) (text : List ℕ) (old new : Gave) : Type 0 where
+  pub made : List CallFacts
+  pub split : rs ≡ made ++ drop place rs
+  pub many : length made ≡ place
+  pub goes : GoesIn 1 (first_run_state platform) made s [] text old new
+  pub idle : next_ready s.book ≡ None
+
+pub reaches-start : (platform : PlatformFacts) (rs : List CallFacts) (s : RunState) (text : List ℕ) (G : Gave) → s ≡ first_run_state platform → text ≡ [] → Reaches platform rs 0 s text G G
+reaches-start platform rs s text G is empty = subst (λ x. Reaches platform rs 0 x text G G) (sym is) (subst (λ ts. Reaches platform rs 0 (first_run_state platform) ts G G) (sym empty) (record {
+  made = [];
+  split = refl;
+  many = refl;
+  goes = starts 1 (first_run_state platform) [] G;
+  idle = refl;
+}))
+
+-- the platform is the first state's
+pub reached-platform : (platform : PlatformFacts) (rs : List CallFacts) (place : ℕ) (s : RunState) (text : List ℕ) (G H : Gave) → Reaches platform rs place s text G H → s.platform ≡ platform
+reached-platform platform rs place s text G H reached = goes_platform 1 (first_run_state platform) s reached.made reached.goes.lines reached.goes.decisions reached.goes.goes
+
+pub reaches-take : (platform : PlatformFacts) (rs : List CallFacts) (place : ℕ) (s t : RunState) (r : CallFacts) (before after : List ℕ) (G : Gave) (H K : PlatformFacts → Gave)
+    → drop place rs ≡ r ∷ drop (place + 1) rs → GoesIn (place + 1) s (r ∷ []) t before after (H s.platform) (K s.platform) → next_ready t.book ≡ None
+    → Reaches platform rs place s before G (H platform) → Reaches platform rs (place + 1) t after G (K platform)
+reaches-take platform rs place s t r before after G H K here taken idle reached =
+    let number : place + 1 ≡ 1 + length reached.made = omega (arith, reached.many) in
+    let same = reached-platform platform rs place s before G (H platform) reached in
+    record {
+      made = reached.made ++ r ∷ [];
+      split = reached.split ∙ (ap (λ qs. reached.made ++ qs) here ∙ sym (append_assoc reached.made (r ∷ []) (drop (place + 1) rs)));
+      many = length-append reached.made (r ∷ []) ∙ ap (λ n. n + 1) reached.many;
+      goes = goes_in 1 (first_run_state platform) s t reached.made (r ∷ []) [] before after G (H platform) (K platform) reached.goes
+          (subst (λ n. GoesIn n s (r ∷ []) t before after (H platform) (K platform)) number (subst (λ p. GoesIn (place + 1) s (r ∷ []) t before after (H p) (K p)) same taken));
+      idle = idle;
+    }
+
+-- an objection after them
+pub reaches-stop : (platform : PlatformFacts) (rs : List CallFacts) (place : ℕ) (s t : RunState) (r : CallFacts) (before : List ℕ) (G : Gave) (H K : PlatformFacts → Gave) (objects : Objects) (o : Objection)
+    → drop place rs ≡ r ∷ drop (place + 1) rs → t.starved ≡ false → StopsIn (place + 1) s (r ∷ []) t (H s.platform) (K s.platform) objects o
+    → Reaches platform rs place s before G (H platform) → IsStopped platform rs G (K platform) objects o
+reaches-stop platform rs place s t r before G H K objects o here fed stops reached =
+    let number : place + 1 ≡ 1 + length reached.made = omega (arith, reached.many) in
+    let same = reached-platform platform rs place s before G (H platform) reached in
+    record {
+      last = t;
+      stops = stops_behind (first_run_state platform) s t rs reached.made (r ∷ []) (drop (place + 1) rs) [] before G (H platform) (K platform) objects o (reached.split ∙ ap (λ qs. reached.made ++ qs) here) reached.goes
+          (subst (λ n. StopsIn n s (r ∷ []) t (H platform) (K platform) objects o) number (subst (λ p. StopsIn (place + 1) s (r ∷ []) t (H p) (K p) objects o) same stops));
+      fed = fed;
+    }
+
+-- the call at a place, and the calls after it
+pub drop-call_seen : (calls : List Call) (place : ℕ) (call : Call) → place < length calls → call ≡ get_or calls place call
+    → drop place (map call_seen calls) ≡ call_seen call ∷ drop (place + 1) (map call_seen calls)
+drop-call_seen calls place call within e =
+    drop-map call_seen place calls ∙ (at_drop_more (λ (l : List Call). map call_seen l) calls place call within
+    ∙ (ap (λ (c : Call). call_seen c ∷ map call_seen (drop (place + 1) calls)) (sym e) ∙ ap (λ (l : List CallFacts). call_seen call ∷ l) (sym (drop-map call_seen (place + 1) calls))))
+
+-- after all calls, these were made
+reaches-all : (platform : PlatformFacts) (calls : List Call) (place : ℕ) (s : RunState) (text : List ℕ) (G H : Gave) → length calls ≤ place
+    → Reaches platform (map call_seen calls) place s text G H → GoesIn 1 (first_run_state platform) (map call_seen calls) s [] text G H
+reaches-all platform calls place s text G H all reached =
+    let none : drop place (map call_seen calls) ≡ [] = at_drop_all (λ (l : List CallFacts). l) (map call_seen calls) place (rw length-map all) in
+    let whole : reached.made ≡ map call_seen calls = sym (append-nil reached.made) ∙ (ap (λ qs. reached.made ++ qs) (sym none) ∙ sym reached.split) in
+    subst (λ qs. GoesIn 1 (first_run_state platform) qs s [] text G H) whole reached.goes
+
+-- after all calls the report ends
+pub reaches-end : (platform : PlatformFacts) (calls : List Call) (place : ℕ) (s : RunState) (before after : List ℕ) (G H : Gave) → length calls ≤ place → G []
+    → Reaches platform (map call_seen calls) place s before G H → after ≡ before ++ pending_lines s.book
+    → IsReported platform (map call_seen calls) H after s.starved
+reaches-end platform calls place s before after G H all given reached e =
+    let goes = reaches-all platform calls place s before G H all reached in
+    record {
+      decisions = goes.decisions;
+      report = record {
+        last = s;
+        lines = goes.lines;
+        goes = goes.goes;
+        done = reached.idle;
+        put = e ∙ ap (λ ts. ts ++ pending_lines s.book) goes.put;
+        memory = refl;
+      };
+      gave = goes.gave [] given;
+    }
+
+-- and the collection stands as the last of them left it
+pub reaches-last : (platform : PlatformFacts) (calls : List Call) (place : ℕ) (s : RunState) (before after : List ℕ) (G H : Gave) → length calls ≤ place
+    → Reaches platform (map call_seen calls) place s before G H → after ≡ before ++ pending_lines s.book
+    → LeavesIn platform (map call_seen calls) after s
+reaches-last platform calls place s before after G H all reached e =
+    let goes = reaches-all platform calls place s before G H all reached in
+    record {
+      decisions = goes.decisions;
+      report = record {
+        last = s;
+        lines = goes.lines;
+        goes = goes.goes;
+        done = reached.idle;
+        put = e ∙ ap (λ ts. ts ++ pending_lines s.book) goes.put;
+        memory = refl;
+      };
+      stands = refl;
+    }

@@ -1,0 +1,30 @@
+-- A decision and its line.
+use Rattle.std.specs.Prelude.{◌≡◌, ℕ, ◌++◌, List, Option}
+use Rattle.sysmem_counts.specs.declared.field.Field.{Field}
+use Rattle.sysmem_image.specs.Corners.{RefusesCorner}
+use Rattle.sysmem_merge.specs.declared.settings.Settings.{Settings}
+use Rattle.verdict_claims.specs.declared.verdict.Verdict.{Verdict}
+use Rattle.verdict_claims.specs.declared.verdict.Verdict.TheVariants.{Chosen, IntersectionEmpty}
+use Rattle.verdict_claims.specs.declared.verdict.Verdict.TheVariants.{TooMany, Failed, NoMemory}
+use Rattle.sysmem_sanitise.specs.Platform.{PlatformFacts}
+use Rattle.script_replay.specs.Lines.{domain_line}
+use Rattle.script_replay.specs.Report.{Tells}
+
+-- for no field the bounds of the settings are refused a corner
+abbrev pub HasCorner : Settings → Type 0
+HasCorner s = (field : Field) → RefusesCorner field s.offer s.bounds → ⊥
+
+-- a verdict that a decision can have: where it chose settings, these have a corner
+abbrev pub CanBeTold : Verdict → Type 0
+CanBeTold (Chosen chosen) = HasCorner chosen.settings
+CanBeTold IntersectionEmpty = Unit {0}
+CanBeTold TooMany = Unit {0}
+CanBeTold Failed = ⊥
+CanBeTold NoMemory = ⊥
+
+-- the line of a verdict was put after a text
+pub record TellsIn (platform : PlatformFacts) (path : List ℕ) (verdict : Option Verdict)
+    (before after : List ℕ) : Type 0 where
+  pub what : List ℕ
+  pub tells : Tells platform verdict what
+  pub put : after ≡ before ++ domain_line path what

@@ -1,0 +1,11 @@
+pub mod Answer
+pub mod Deciding
+pub mod Lines
+pub mod Marks
+pub mod Outcome
+pub mod Replayed
+pub mod Report
+pub mod Runner
+pub mod State
+pub mod Steps
+pub mod Stop

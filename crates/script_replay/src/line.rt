@@ -1,0 +1,96 @@
+//! The lines of a report, each put after the text so far.
+
+ghost use Rattle.std.specs.Prelude.{◌≡◌, ◌++◌, codes};
+ghost use Rattle.std.specs.Fmt.{decimal};
+ghost use Rattle.sysmem_sanitise.specs.Faults.{fault_text};
+ghost use Rattle.script_replay.specs.Lines.{Puts, act_name, call_line, new_name, reply_text};
+ghost use Rattle.script_reading.specs.Seen.{act_seen, call_seen};
+
+use crate::reply::Reply;
+use script_reading::{Act, Call};
+use std::alloc::AllocError;
+use std::fmt::Write;
+use sysmem_sanitise::Fault;
+
+/// Puts the line of a call after the text: `7 duplicate root a ok`.
+pub(crate) fn put_call(
+    text: &mut String,
+    number: usize,
+    call: &Call<'_>,
+    reply: Reply,
+) -> Result<(), AllocError>
+    ensures { Puts result text.old text.new (call_line number (call_seen call.now) reply) }
+{
+    put_head(text, number, &call.act, call.on)?;
+    put_new_name(text, &call.act)?;
+    put_reply(text, reply)
+}
+
+/// The name of what a call does, between spaces.
+fn spaced_name(act: &Act<'_>) -> &'static str
+    ensures { result.now ≡ codes " " ++ act_name (act_seen act.now) ++ codes " " }
+{
+    match act {
+        Act::Duplicate(_) => " duplicate ",
+        Act::Bind => " bind ",
+        Act::SetConstraints(_) => " set_constraints ",
+        Act::CreateGroup(_) => " create_group ",
+        Act::CreateChild(_) => " create_child ",
+        Act::AllChildrenPresent => " all_children_present ",
+        Act::AttachToken(_) => " attach_token ",
+        Act::Release => " release ",
+        Act::Close => " close ",
+        Act::Check => " check ",
+        Act::Wait => " wait ",
+    }
+}
+
+fn put_head(text: &mut String, number: usize, act: &Act<'_>, on: &str) -> Result<(), AllocError>
+    ensures { Puts result text.old text.new
+        (decimal number ++ codes " " ++ act_name (act_seen act.now) ++ codes " " ++ on.now) }
+{
+    let mut digits = itoa::Buffer::new();
+    text.push_str(digits.format(number))?;
+    text.push_str(spaced_name(act))?;
+    text.push_str(on)
+}
+
+fn put_new_name(text: &mut String, act: &Act<'_>) -> Result<(), AllocError>
+    ensures { Puts result text.old text.new (new_name (act_seen act.now)) }
+{
+    match act.name_made() {
+        Some(name) => put_name(text, name),
+        None => Ok(()),
+    }
+}
+
+fn put_name(text: &mut String, name: &str) -> Result<(), AllocError>
+    ensures { Puts result text.old text.new (codes " " ++ name.now) }
+{
+    write!(text, " {name}")
+}
+
+fn put_reply(text: &mut String, reply: Reply) -> Result<(), AllocError>
+    ensures { Puts result text.old text.new (codes " " ++ reply_text reply ++ codes "\n") }
+{
+    match reply {
+        Reply::Accepted => text.push_str(" ok\n"),
+        Reply::Refused(refusal) => put_end(text, refusal.name()),
+        Reply::Misread(fault) => put_fault(text, fault),
+        Reply::Skipped => text.push_str(" skipped\n"),
+    }
+}
+
+fn put_end(text: &mut String, words: &str) -> Result<(), AllocError>
+    ensures { Puts result text.old text.new (codes " " ++ words.now ++ codes "\n") }
+{
+    writeln!(text, " {words}")
+}
+
+fn put_fault(text: &mut String, fault: Fault) -> Result<(), AllocError>
+    ensures { Puts result text.old text.new (codes " " ++ fault_text fault ++ codes "\n") }
+{
+    let code = fault.code.name();
+    let at = fault.at.name();
+    writeln!(text, " {code} {at}")
+}

@@ -1,0 +1,114 @@
+//! A script's calls, made on a collection, with their report.
+
+ghost use Rattle.std.specs.Prelude.{◌≡◌, [], None, map, slice_get, unwrap_or, IfErr, IfOk};
+ghost use Rattle.std.specs.String.{string_bytes};
+ghost use Rattle.script_reading.specs.Seen.{call_seen};
+ghost use Rattle.script_replay.specs.Outcome.{anyhow};
+ghost use Rattle.script_replay.specs.Replayed.{LeavesIn, end_of};
+ghost use Rattle.script_replay.specs.Report.{IsReported};
+ghost use Rattle.script_replay.specs.Stop.{IfObjects, IsStopped};
+
+use crate::decider::{Decider, Stop};
+use crate::report::{Report, put_pending};
+use crate::runner::Runner;
+use crate::searching::Searching;
+use script_reading::Call;
+use std::alloc::{AllocError, Global};
+use sysmem_alloc::Book;
+use sysmem_sanitise::Platform;
+
+/// A collection on which calls were made, and their report.
+#[derive(Debug, Drop)]
+pub struct Replayed {
+    pub report: Report,
+    /// How many prefixes its searches visited, at most `u64::MAX`.
+    pub visits: u64,
+    runner: Runner,
+}
+
+impl Replayed {
+    /// The book of the collection, as the last call left it.
+    pub fn book(&self) -> &Book
+        ensures platform { result.now.platform ≡ (end_of self.now).platform }
+        ensures state { result.now.state ≡ (end_of self.now).book }
+    {
+        self.runner.book()
+    }
+
+    /// The number of the node that the name at a place stands for, 0 being the root's place, and
+    /// that of each call that makes a name the next; `None` where there is none, or that call was
+    /// not made.
+    pub fn node_named(&self, place: usize) -> Option<u32>
+        ensures { result ≡ unwrap_or (slice_get (end_of self.now).names place) None }
+    {
+        self.runner.node_number(place)
+    }
+
+    /// The report alone.
+    pub(crate) fn into_report(self) -> Report
+        ensures { result ≡ self.report }
+    {
+        let Replayed {
+            report,
+            visits: _visits,
+            runner: _runner,
+        } = self;
+        report
+    }
+}
+
+/// Makes the calls on a platform, as `run` does, and keeps the collection beside their report.
+/// `AllocError` where memory is refused outside of a reply or a decision.
+pub fn replay(alloc: Global, platform: Platform, calls: &[Call<'_>]) -> Result<Replayed, AllocError>
+    ensures report { IfOk result (λ replayed. IsReported platform (map call_seen calls.now)
+        (anyhow platform) (string_bytes replayed.report.text) replayed.report.starved) }
+    ensures leaves { IfOk result (λ replayed. LeavesIn platform (map call_seen calls.now)
+        (string_bytes replayed.report.text) (end_of replayed)) }
+{
+    let mut searching = Searching::new();
+    match replayed_of(alloc, platform, calls, &mut searching) {
+        Ok(mut replayed) => {
+            replayed.visits = searching.visits();
+            Ok(replayed)
+        }
+        Err(_) => Err(AllocError),
+    }
+}
+
+/// The calls on a platform, made in their order on one collection whose domains are decided so.
+/// Memory that is refused outside of a reply or a decision is the `Err`, and so is an objection to
+/// a decision.
+pub(crate) fn replayed_of<D: Decider>(
+    alloc: Global,
+    platform: Platform,
+    calls: &[Call<'_>],
+    decider: &mut D,
+) -> Result<Replayed, Stop>
+    requires { D.gave decider.old platform [] }
+    ensures report { IfOk result (λ replayed. IsReported platform (map call_seen calls.now)
+        (D.gave decider.new platform) (string_bytes replayed.report.text) replayed.report.starved) }
+    ensures leaves { IfOk result (λ replayed. LeavesIn platform (map call_seen calls.now)
+        (string_bytes replayed.report.text) (end_of replayed)) }
+    ensures stops { IfErr result (λ stop. IfObjects stop (IsStopped platform
+        (map call_seen calls.now) (D.gave decider.old platform) (D.gave decider.new platform)
+        (D.objects decider.new))) }
+    ensures given { D.given decider.new ≡ D.given decider.old }
+{
+    let mut runner = Runner::new(alloc, platform)?;
+    let mut text = String::new(alloc);
+    for (index, call) in calls.iter().enumerate() {
+        if let Err(stop) = runner.take(alloc, index + 1, call, decider, &mut text) {
+            return Err(runner.stopped(stop));
+        }
+    }
+    put_pending(&mut text, runner.book())?;
+    let report = Report {
+        text,
+        starved: runner.is_starved(),
+    };
+    Ok(Replayed {
+        report,
+        visits: 0,
+        runner,
+    })
+}

@@ -1,5 +1,0 @@
-use Rattle.script_run.proofs.AnswerLemmas.{fault_is_alone}
-use Rattle.script_run.proofs.laws.fault_is_alone.Goals as goal
-
-pub returns : goal.returns
-returns c = fault_is_alone

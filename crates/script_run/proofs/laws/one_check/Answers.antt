@@ -1,5 +1,0 @@
-use Rattle.script_run.proofs.OneCheck.{one_check}
-use Rattle.script_run.proofs.laws.one_check.Goals as goal
-
-pub returns : goal.returns
-returns c = one_check c.tests_are_exact.ensures c.faults_are_first.ensures

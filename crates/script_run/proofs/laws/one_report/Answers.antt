@@ -1,5 +1,0 @@
-use Rattle.script_run.proofs.Unique.{one_report}
-use Rattle.script_run.proofs.laws.one_report.Goals as goal
-
-pub returns : goal.returns
-returns c = one_report c.one_answer.ensures c.corner_is_least.ensures

@@ -1,5 +1,0 @@
-use Rattle.script_run.specs.Answer.{to_set_none}
-use Rattle.script_run.proofs.runner.Runner.set_constraints.Goals as goal
-
-pub act-requires-clause-asks : goal.act-requires-clause-asks
-act-requires-clause-asks c = rw (c.requires.stated, c.in-None.is) to_set_none
