@@ -15,7 +15,7 @@ const MOST_ENTRIES: usize = 8;
 const LONGEST: usize = 262_144;
 
 /// The fields that reasons and changes name.
-const FIELDS: [&str; 25] = [
+const FIELDS: [&str; 26] = [
     "min_buffer_count_for_camping",
     "min_buffer_count_for_dedicated_slack",
     "min_buffer_count_for_shared_slack",
@@ -38,6 +38,7 @@ const FIELDS: [&str; 25] = [
     "max_bytes_per_row",
     "bytes_per_row_divisor",
     "start_offset_divisor",
+    "display_rect_alignment",
     "required_min_size",
     "required_max_size",
     "max_width_times_height",

@@ -52,26 +52,41 @@ fn put_snippet(
     mark: Mark<'_>,
     helps: &[String],
 ) -> Result<(), AllocError> {
-    let alloc = *text.allocator();
     let at = mark.span.start.min(bytes.len());
     let line = line_of(bytes, at);
-    let number = format!(in alloc; "{line}")?;
-    let window = window_of(alloc, bytes, mark)?;
-    put_repeated(text, ' ', number.len())?;
+    let width = digits(line);
+    put_repeated(text, ' ', width)?;
     text.push_str("--> ")?;
     put_visible(text, file)?;
     let column = column_of(bytes, at);
-    write!(text, ":{line}:{column}")?;
-    text.push_str(mark.said)?;
-    put_bar(text, number.len(), " |")?;
-    write!(text, "\n{number} | ")?;
-    text.push_str(window.line.trim_end())?;
-    put_bar(text, number.len(), " | ")?;
+    let said = mark.said;
+    write!(text, ":{line}:{column}{said}")?;
+    put_bar(text, width, " |")?;
+    write!(text, "\n{line} | ")?;
+    put_window(text, width, bytes, mark)?;
+    put_helps(text, width, helps)
+}
+
+/// How many digits a number has.
+fn digits(number: usize) -> usize {
+    number.checked_ilog10().unwrap_or(0) as usize + 1
+}
+
+/// Puts the line of a part with carets and a note below it after a text.
+fn put_window(
+    text: &mut String,
+    width: usize,
+    bytes: &[u8],
+    mark: Mark<'_>,
+) -> Result<(), AllocError> {
+    let window = window_of(*text.allocator(), bytes, mark)?;
+    let line = window.line.trim_end();
+    let note = mark.note;
+    text.push_str(line)?;
+    put_bar(text, width, " | ")?;
     put_repeated(text, ' ', window.column)?;
     put_repeated(text, '^', window.carets)?;
-    text.push_str(" ")?;
-    text.push_str(mark.note)?;
-    put_helps(text, number.len(), helps)
+    write!(text, " {note}")
 }
 
 fn put_bar(text: &mut String, width: usize, bar: &str) -> Result<(), AllocError> {

@@ -13,7 +13,8 @@ use Rattle.story_parts.specs.declared.story.Story.{Story}
 abbrev pub line_on : List ℕ → List ℕ → List ℕ
 line_on path what = codes "domain " ++ path ++ codes " " ++ what
 
--- the report of these calls on a new collection, to which no memory was refused, has a line that says this of the domain at a path
+-- the report of these calls on a new collection, to which no memory was refused, has a line that
+-- says this of the domain at a path
 pub record IsReportedOn (platform : PlatformFacts) (rs : List CallFacts) (path what : List ℕ) : Type 0 where
   pub text : List ℕ
   pub decisions : List Certified

@@ -92,8 +92,8 @@ pub record AgreesWith (b : BookFacts) (stubs : List Left) (a : Audit) : Type 0 w
   pub counted : sum_by (λ (s : Left). length s.deeds) stubs ≡ actions_in b.history
   pub audited : (read : List Left) × AreRead stubs read × IsAudited b read a
 
--- the first fault of a book and the stubs of its collection: the stubs are for another platform, or for the book's, and once
--- their cells were read the fault is the first one
+-- the first fault of a book and the stubs of its collection: the stubs are for another platform, or
+-- for the book's, and once their cells were read the fault is the first one
 abbrev pub IsFaultOf : BookFacts → List Left → AuditFault → Type 0
 IsFaultOf b stubs fault = ((fault ≡ faults.Stubs) × (AreFor b.platform stubs → ⊥))
     ⊎ (AreFor b.platform stubs × ((read : List Left) × AreRead stubs read × IsFirstFault b read fault))

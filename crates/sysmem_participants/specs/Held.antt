@@ -90,8 +90,8 @@ AnswersAtEnd h deed r = r ≢ Strange
 abbrev pub log_of : Held → LogFacts
 log_of h = record { begun = h.begun; deeds = h.deeds; places = 0 }
 
--- a handle that saw this in its cell and a book disagree: the book has no node that is the handle's own, or left it out though
--- by what was seen it is a member
+-- a handle that saw this in its cell and a book disagree: the book has no node that is the handle's
+-- own, or left it out though by what was seen it is a member
 abbrev pub IsStrangeTo : BookFacts → Held → Option Outcome → Type 0
 IsStrangeTo b h seen = (node : ℕ) → IsOwn b h.path (log_of h) seen node → IsDisputed b h.path seen node
 

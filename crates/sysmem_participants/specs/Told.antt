@@ -63,14 +63,14 @@ pub record IsRulingFor (platform : PlatformFacts) (r : RulingFacts) : Type 0 whe
   pub right : IsRuling r
   pub is_for : r.frozen.platform ≡ platform
 
--- a ruling isn't what the handle of a path that asks for this can have: it is for another platform, or its node is a member
--- over a tree without the constraints that it set
+-- a ruling isn't what the handle of a path that asks for this can have: it is for another platform,
+-- or its node is a member over a tree without the constraints that it set
 abbrev pub Disagree : PlatformFacts → List ℕ → Option Participant → RulingFacts → Type 0
 Disagree platform path asked r =
     (r.frozen.platform ≢ platform) ⊎ (IsChosenFor path r.frozen r.claim.verdict × (Asks r.frozen path asked → ⊥))
 
--- how the handle of a path that asks for this is refused a view of a ruling: by a true claim for its platform, or because
--- the two disagree
+-- how the handle of a path that asks for this is refused a view of a ruling: by a true claim for
+-- its platform, or because the two disagree
 abbrev pub IsRefusedBy : PlatformFacts → List ℕ → Option Participant → RulingFacts → Refusal → Type 0
 IsRefusedBy platform path asked r refusals.ConstraintsIntersectionEmpty =
     IsRulingFor platform r × (r.claim.verdict ≡ verdicts.IntersectionEmpty)

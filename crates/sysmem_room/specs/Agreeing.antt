@@ -1,5 +1,6 @@
 -- What a history has of one node, and whether a book has what a handle knows.
-use Rattle.std.specs.Prelude.{◌≡◌, ◌==◌, ℕ, List, [], ◌∷◌, map, Option, Some, IfSome, option_and_then, slice_get, if◌then◌else◌}
+use Rattle.std.specs.Prelude.{◌≡◌, ◌==◌, ℕ, List, [], ◌∷◌, map, Option, Some, IfSome, option_and_then}
+use Rattle.std.specs.Prelude.{slice_get, if◌then◌else◌}
 use Rattle.sysmem_alloc.specs.Book.{BookFacts}
 use Rattle.sysmem_alloc.specs.Entry.{BookEntry, Acted, Decided, tree_entry}
 use Rattle.sysmem_alloc.specs.State.{verdict_of}
@@ -48,8 +49,9 @@ pub record StandsAs (nodes : List NodeFacts) (log : LogFacts) (i : ℕ) : Type 0
   pub state : IfSome (slice_get nodes i) (λ n. n.state ≡ (shown_by log).state)
   pub root : IfSome (slice_get nodes i) (λ n. (n.domain == i) ≡ log.begun.is_domain_root)
 
--- node i is as a handle knows its own: the history has the handle's actions on it, it was made, and stands, as the handle's
--- log says, and its domain has the verdict that the handle knows, if it knows one
+-- node i is as a handle knows its own: the history has the handle's actions on it, it was made, and
+-- stands, as the handle's log says, and its domain has the verdict that the handle knows, if it
+-- knows one
 pub record IsAsKnown (b : BookFacts) (log : LogFacts) (known : Option Outcome) (i : ℕ) : Type 0 where
   pub actions : book_log b.history i ≡ log.deeds
   pub stands : StandsAs b.state.tree.nodes log i

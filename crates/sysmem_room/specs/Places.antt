@@ -16,13 +16,15 @@ pub record EndsWith (es : List BookEntry) (i p many : ℕ) : Type 0 where
   pub few : many ≤ length es
   pub log : book_log es i ≡ book_log (take p es) i ++ replicate many duplicates
 
--- up to the last place of a node a history has all actions on it, and up to the place before an action all earlier ones on the action's node; after the
--- place of the last action that is no duplicate there are as many duplicates as are counted
+-- up to the last place of a node a history has all actions on it, and up to the place before an
+-- action all earlier ones on the action's node; after the place of the last action that is no
+-- duplicate there are as many duplicates as are counted
 pub record ArePlaces (es : List BookEntry) (places : Places) : Type 0 where
   pub nodes : length places.last ≡ 128
   pub entries : length places.before ≡ 640
   pub others : length places.other ≡ 128
   pub counts : length places.duplicates ≡ 128
   pub last : (i : ℕ) → i < 128 → HasAllOf es i (get_or places.last i 0)
-  pub before : (k i : ℕ) (deed : Deed) → slice_get es k ≡ Some (Acted i deed) → HasAllOf (take k es) i (get_or places.before k 0)
+  pub before : (k i : ℕ) (deed : Deed) → slice_get es k ≡ Some (Acted i deed)
+    → HasAllOf (take k es) i (get_or places.before k 0)
   pub end : (i : ℕ) → i < 128 → EndsWith es i (get_or places.other i 0) (get_or places.duplicates i 0)

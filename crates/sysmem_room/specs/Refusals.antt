@@ -1,5 +1,6 @@
 -- What a handle's action is refused for, by what the handle knows.
-use Rattle.std.specs.Prelude.{◌≡◌, ◌==◌, ℕ, Bool, true, false, List, Option, Some, None, IfSome, is_some, option_map, slice_get, unwrap_or, if◌then◌else◌}
+use Rattle.std.specs.Prelude.{◌≡◌, ◌==◌, ℕ, Bool, true, false, List, Option, Some, None, IfSome, is_some}
+use Rattle.std.specs.Prelude.{option_map, slice_get, unwrap_or, if◌then◌else◌}
 use Rattle.std.specs.List.{list_any}
 use Rattle.sysmem_alloc.specs.Book.{BookFacts}
 use Rattle.sysmem_alloc.specs.Frozen.{FrozenFacts}
@@ -71,4 +72,5 @@ MayAnswer (Some q) known act r = r ≡ q
 -- node i is a member by the verdict that its handle knows, and the book's decision left it out
 abbrev pub IsDisputed : BookFacts → List ℕ → Option Outcome → ℕ → Type 0
 IsDisputed b path None i = ⊥
-IsDisputed b path (Some o) i = (outcome_refusal o path ≡ None) × IfSome (slice_get b.state.tree.nodes i) (λ n. n.is_left_out ≡ true)
+IsDisputed b path (Some o) i =
+    (outcome_refusal o path ≡ None) × IfSome (slice_get b.state.tree.nodes i) (λ n. n.is_left_out ≡ true)

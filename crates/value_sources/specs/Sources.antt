@@ -13,7 +13,9 @@ use Rattle.value_sources.specs.declared.counting.Part.TheVariants.{Camping, Dedi
 use Rattle.value_sources.specs.declared.wishes.Side.{Side}
 use Rattle.value_sources.specs.declared.wishes.Side.TheVariants.{Width, Height}
 use Rattle.value_sources.specs.declared.wishes.Wish.{Wish}
-use Rattle.value_sources.specs.declared.wishes.Wish.TheVariants.{Least, Most, RequiredLeast, RequiredMost, Alignment, LeastRow, MostRow, RowDivisor, WholePixels, MostPixels}
+use Rattle.value_sources.specs.declared.wishes.Wish.TheVariants.{Least, Most, RequiredLeast, RequiredMost}
+use Rattle.value_sources.specs.declared.wishes.Wish.TheVariants.{Alignment, LeastRow, MostRow, RowDivisor}
+use Rattle.value_sources.specs.declared.wishes.Wish.TheVariants.{WholePixels, MostPixels}
 
 -- what participants ask, in their order
 abbrev pub all_asked : List Asked → List Participant
