@@ -15,4 +15,3 @@ mod running;
 pub use ending::{Ending, ending_of};
 pub use fault::{Disagreement, RunFault};
 pub use running::{Ended, run, run_leaving, run_with_proof};
-pub use script_replay::{Replayed, Reply, Report, put_chosen, put_word, replay, replies_of};

@@ -2,7 +2,7 @@
 use Rattle.std.proofs.Common.{Result, Ok, Err, ℕ, List, sym, subst}
 use Rattle.std.specs.Prelude.{OnOk, String, string_bytes}
 use Rattle.std.specs.declared.alloc.Global.{Global}
-use Rattle.script_run.specs.Lines.{Puts, domain_line}
+use Rattle.script_replay.specs.Lines.{Puts, domain_line}
 use Rattle.script_threads.specs.Text.{AreLines, Says, one_more}
 
 -- one more line of a domain

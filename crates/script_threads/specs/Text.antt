@@ -6,7 +6,7 @@ use Rattle.sysmem_image.specs.Corners.{IsCorner}
 use Rattle.sysmem_proof.specs.Chosen.{ChosenFacts}
 use Rattle.sysmem_sanitise.specs.Platform.{PlatformFacts}
 use Rattle.sysmem_participants.specs.declared.faults.Audit.{Audit}
-use Rattle.script_run.specs.Lines.{chosen_text, domain_line}
+use Rattle.script_replay.specs.Lines.{chosen_text, domain_line}
 
 -- what the line of a domain can say of it
 pub data Says : List ℕ → Type 0 where

@@ -4,7 +4,7 @@ ghost use Rattle.std.specs.Prelude.{IfOk, OnOk};
 ghost use Rattle.std.specs.String.{string_bytes};
 ghost use Rattle.script_threads.specs.Text.{AreLines};
 
-use script_run::{put_chosen, put_word};
+use script_replay::{put_chosen, put_word};
 use std::alloc::{AllocError, Global};
 use sysmem_alloc::Book;
 use sysmem_image::corner;

@@ -1,7 +1,7 @@
 //! The calls of a script as actors on threads make them.
 
 use script_reading::{Act, Call};
-use script_run::Reply;
+use script_replay::Reply;
 use sysmem_tree::Refusal;
 
 /// With more names than these the order in which actors come decides which nodes are made, since a

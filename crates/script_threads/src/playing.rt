@@ -2,7 +2,7 @@
 
 ghost use Rattle.std.specs.Prelude.{◌≡◌, IfOk};
 ghost use Rattle.std.specs.String.{string_bytes};
-ghost use Rattle.script_run.specs.Lines.{Puts};
+ghost use Rattle.script_replay.specs.Lines.{Puts};
 ghost use Rattle.script_threads.specs.Text.{AreLines, IsText, audit_line};
 ghost use Rattle.sysmem_room.specs.Counting.{all_parts};
 
