@@ -1,10 +1,10 @@
 //! What decided each value of a choice.
 
 use crate::listed::listed_before;
-use crate::offer_words::offer_name;
+use crate::offer_words::{least_side, offer_name};
 use crate::offering::{are_refused, offers_of};
-use crate::placing::{places_of, put_place};
-use crate::refusing::{offer_rows, place_rows};
+use crate::placing::{place_name, places_of};
+use crate::refusing::{place_rows, tell_offers};
 use crate::rows::{tell, tell_rows};
 use explanation_text::Items;
 use std::alloc::{AllocError, Global};
@@ -28,8 +28,8 @@ pub fn tell_settings(
         offer: settings.offer,
     };
     tell_sides(items, wishes)?;
-    let size = wishes.size(items.alloc(), false)?;
-    tell_derived(items, "size", &size)?;
+    let size = wishes.size(items.alloc(), false);
+    tell_derived(items, "size", size)?;
     note_size(items, wishes)
 }
 
@@ -44,12 +44,13 @@ fn tell_count(
     tell(items, 1, "count", words)
 }
 
-/// Tells a number, and where it comes from.
+/// Tells a number, and where it comes from, if there was memory for that.
 fn tell_derived(
     items: &mut Items,
     label: &'static str,
-    derived: &Derived,
+    derived: Result<Derived, AllocError>,
 ) -> Result<(), AllocError> {
+    let derived = derived?;
     let words = format!(in items.alloc(); "{}: {}", derived.value, derived.why);
     tell(items, 1, label, words)
 }
@@ -67,7 +68,7 @@ fn note_size(items: &mut Items, wishes: Wishes<'_, '_>) -> Result<(), AllocError
 
 /// Notes a side that comes out so great.
 fn note_side(items: &mut Items, wishes: Wishes<'_, '_>, side: Side) -> Result<(), AllocError> {
-    let value = wishes.side(items.alloc(), side)?.value;
+    let value = least_side(items.alloc(), wishes, side)?;
     let asked = wishes.asked(side);
     if value <= asked.saturating_mul(2).max(32) {
         return Ok(());
@@ -81,9 +82,10 @@ fn note_side(items: &mut Items, wishes: Wishes<'_, '_>, side: Side) -> Result<()
 
 /// Notes rows that come out so long.
 fn note_row(items: &mut Items, wishes: Wishes<'_, '_>) -> Result<(), AllocError> {
-    let width = wishes.side(items.alloc(), Side::Width)?.value;
+    let alloc = items.alloc();
+    let width = least_side(alloc, wishes, Side::Width)?;
     let packed = width.saturating_mul(u128::from(bytes_per_pixel(&wishes.offer)));
-    let row = wishes.row(items.alloc(), false)?.value;
+    let row = wishes.row(alloc, false)?.value;
     if row <= packed.saturating_mul(2).max(512) {
         return Ok(());
     }
@@ -101,9 +103,8 @@ fn tell_place(
     settings: &Settings,
 ) -> Result<(), AllocError> {
     let alloc = items.alloc();
-    let mut text = String::new(alloc);
-    put_place(&mut text, platform, settings.place)?;
-    items.say(1, "place", text)?;
+    let name = place_name(alloc, platform, settings.place);
+    tell(items, 1, "place", name)?;
     let places = places_of(alloc, platform)?;
     let earlier = before(&places, &settings.place);
     let rows = place_rows(alloc, platform, earlier, people, false)?;
@@ -118,16 +119,14 @@ fn tell_offer(
     settings: &Settings,
 ) -> Result<(), AllocError> {
     let alloc = items.alloc();
-    let text = match settings.offer {
-        Offer::NoImage => String::from_str(alloc, "none")?,
-        offer => offer_name(alloc, &offer)?,
+    let name = match settings.offer {
+        Offer::NoImage => String::from_str(alloc, "none"),
+        offer => offer_name(alloc, &offer),
     };
-    items.say(1, "image", text)?;
+    tell(items, 1, "image", name)?;
     let offers = offers_of(alloc, platform)?;
     let earlier = before(&offers, &settings.offer);
-    let colours = platform.colours().len();
-    let rows = offer_rows(alloc, earlier, people, true, false, colours)?;
-    tell_rows(items, 2, "not ", &rows, usize::MAX, "offers before it")?;
+    tell_offers(items, platform, people, earlier, "not ", "offers before it")?;
     tell_listed(items, platform, people, settings)
 }
 
@@ -142,14 +141,23 @@ fn tell_listed(
     let Offer::Image(chosen, _) = settings.offer else {
         return Ok(());
     };
-    let alloc = items.alloc();
-    let colours = platform.colours().len();
-    for pair in listed_before(alloc, platform, people, chosen)? {
-        let offers = offers_with(alloc, platform, pair)?;
-        if are_refused(&offers, people, true) {
-            let rows = offer_rows(alloc, &offers, people, true, false, colours)?;
-            tell_rows(items, 2, "nor ", &rows, usize::MAX, "offers after it")?;
-        }
+    let pairs = listed_before(items.alloc(), platform, people, chosen)?;
+    for pair in &pairs {
+        tell_pair(items, platform, people, *pair)?;
+    }
+    Ok(())
+}
+
+/// Tells who refuses a pair, where all its offers are refused.
+fn tell_pair(
+    items: &mut Items,
+    platform: &Platform,
+    people: &[Asked<'_>],
+    pair: Pair,
+) -> Result<(), AllocError> {
+    let offers = offers_with(items.alloc(), platform, pair)?;
+    if are_refused(&offers, people, true) {
+        return tell_offers(items, platform, people, &offers, "nor ", "offers after it");
     }
     Ok(())
 }
@@ -180,14 +188,16 @@ fn tell_sides(items: &mut Items, wishes: Wishes<'_, '_>) -> Result<(), AllocErro
     };
     let alloc = items.alloc();
     let width = wishes.side(alloc, Side::Width)?;
-    let height = wishes.side(alloc, Side::Height)?;
+    tell_width(items, width, wishes.side(alloc, Side::Height)?)?;
+    tell_derived(items, "row", wishes.row(alloc, false))
+}
+
+/// Tells where an image's width and height come from: both at once, if from the same.
+fn tell_width(items: &mut Items, width: Derived, height: Derived) -> Result<(), AllocError> {
     if width.why == height.why {
-        let words = format!(in alloc; "{}x{}: {}", width.value, height.value, width.why);
-        tell(items, 1, "pixels", words)?;
-    } else {
-        tell_derived(items, "width", &width)?;
-        tell_derived(items, "height", &height)?;
+        let words = format!(in items.alloc(); "{}x{}: {}", width.value, height.value, width.why);
+        return tell(items, 1, "pixels", words);
     }
-    let row = wishes.row(alloc, false)?;
-    tell_derived(items, "row", &row)
+    tell_derived(items, "width", Ok(width))?;
+    tell_derived(items, "height", Ok(height))
 }

@@ -2,8 +2,9 @@
 
 use crate::amounts::{Amount, amount_at};
 use crate::offer_words::pair_name;
+use crate::rows::tell;
 use explanation_text::Items;
-use std::alloc::AllocError;
+use std::alloc::{AllocError, Global};
 use sysmem_counts::Field;
 use sysmem_image::{Entry, ImageBounds};
 use sysmem_sanitise::Constraints;
@@ -60,7 +61,17 @@ fn tell_clash(
     clash: Clash,
     entry: Option<&Entry>,
 ) -> Result<(), AllocError> {
-    let alloc = items.alloc();
+    let text = clash_text(items.alloc(), name, clash, entry);
+    tell(items, depth, "", text)
+}
+
+/// A contradiction in words.
+fn clash_text(
+    alloc: Global,
+    name: &str,
+    clash: Clash,
+    entry: Option<&Entry>,
+) -> Result<String, AllocError> {
     let mut text = format!(in alloc;
         "{name} contradicts itself: {} {} is above its own {} {}",
         clash.least.name(),
@@ -69,10 +80,15 @@ fn tell_clash(
         clash.high
     )?;
     if let Some(entry) = entry {
-        let pair = pair_name(alloc, entry.format, entry.modifier)?;
-        write!(text, ", in its entry for {pair}")?;
+        put_entry(&mut text, entry)?;
     }
-    items.say(depth, "", text)
+    Ok(text)
+}
+
+/// Puts in which entry it is after a text.
+fn put_entry(text: &mut String, entry: &Entry) -> Result<(), AllocError> {
+    let pair = pair_name(*text.allocator(), entry.format, entry.modifier)?;
+    write!(text, ", in its entry for {pair}")
 }
 
 /// Two fields with their values, where the first is above the second.

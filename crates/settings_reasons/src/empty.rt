@@ -10,24 +10,15 @@ use crate::lacking::{tell_no_heaps, tell_no_images};
 use crate::offering::{are_refused, offers_of};
 use crate::placing::{has_no_place, places_of};
 use crate::refusing::{offer_rows, place_rows};
-use crate::rows::{nearest, tell_rows};
+use crate::rows::{nearest, tell, tell_rows};
 use explanation_text::Items;
 use explanation_text::wording::MOST_NAMES;
 use std::alloc::{AllocError, Global};
 use sysmem_counts::Field;
 use sysmem_formats::Offer;
-use sysmem_memory::Place;
 use sysmem_merge::Aggregate;
 use sysmem_sanitise::Platform;
 use value_sources::{Asked, count_text, is_count_line, put_people};
-
-/// A platform with its places and its offers.
-#[derive(Clone, Copy)]
-struct Choices<'b> {
-    platform: &'b Platform,
-    places: &'b [Place],
-    offers: &'b [Offer],
-}
 
 /// The two lines on a count.
 const COUNTS: [Field; 2] = [Field::MaxBufferCount, Field::BufferCountLimit];
@@ -40,27 +31,19 @@ pub fn tell_conflict(
     people: &[Asked<'_>],
     whole: bool,
 ) -> Result<(), AllocError> {
-    let alloc = items.alloc();
-    let places = places_of(alloc, platform)?;
-    let offers = offers_of(alloc, platform)?;
-    let choices = Choices {
-        platform,
-        places: &places,
-        offers: &offers,
-    };
     tell_contradictions(items, depth, people)?;
     tell_in_the_way(items, depth, platform, people)?;
     tell_counts(items, depth, people)?;
-    tell_places(items, depth, choices, people)?;
-    tell_offers(items, depth, choices, people, whole)
+    tell_places(items, depth, platform, people)?;
+    tell_offers(items, depth, platform, people, whole)
 }
 
 /// Tells why no count suits participants, where none does.
 fn tell_counts(items: &mut Items, depth: usize, people: &[Asked<'_>]) -> Result<(), AllocError> {
     for field in COUNTS {
         if is_count_line(field, people) {
-            let text = count_text(items.alloc(), field, people)?;
-            items.say(depth, "count", text)?;
+            let text = count_text(items.alloc(), field, people);
+            tell(items, depth, "count", text)?;
         }
     }
     Ok(())
@@ -70,54 +53,72 @@ fn tell_counts(items: &mut Items, depth: usize, people: &[Asked<'_>]) -> Result<
 fn tell_places(
     items: &mut Items,
     depth: usize,
-    choices: Choices<'_>,
+    platform: &Platform,
+    people: &[Asked<'_>],
+) -> Result<(), AllocError> {
+    if !has_no_place(platform, people) {
+        return Ok(());
+    }
+    tell_place_rows(items, depth, platform, people)?;
+    tell_no_heaps(items, depth, platform, people)
+}
+
+/// Tells who refuses each place.
+fn tell_place_rows(
+    items: &mut Items,
+    depth: usize,
+    platform: &Platform,
     people: &[Asked<'_>],
 ) -> Result<(), AllocError> {
     let alloc = items.alloc();
-    if !has_no_place(choices.platform, people) {
-        return Ok(());
-    }
-    let head = none_of(alloc, "place", choices.places.len())?;
-    items.say(depth, "place", head)?;
-    let rows = place_rows(alloc, choices.platform, choices.places, people, true)?;
+    let places = places_of(alloc, platform)?;
+    let head = none_of(alloc, "place", places.len());
+    tell(items, depth, "place", head)?;
+    let rows = place_rows(alloc, platform, &places, people, true)?;
+    let below = depth.saturating_add(1);
     tell_rows(
         items,
-        depth.saturating_add(1),
+        below,
         "",
         &rows,
         usize::MAX,
         "places are refused too",
-    )?;
-    tell_no_heaps(items, depth, choices.platform, people)
+    )
 }
 
 /// Tells who refuses each offer, where somebody does.
 fn tell_offers(
     items: &mut Items,
     depth: usize,
-    choices: Choices<'_>,
+    platform: &Platform,
+    people: &[Asked<'_>],
+    whole: bool,
+) -> Result<(), AllocError> {
+    let offers = offers_of(items.alloc(), platform)?;
+    if !are_refused(&offers, people, whole) {
+        return Ok(());
+    }
+    tell_offer_rows(items, depth, platform, &offers, people, whole)?;
+    tell_no_images(items, depth, platform, people)
+}
+
+/// Tells who refuses each of a platform's offers.
+fn tell_offer_rows(
+    items: &mut Items,
+    depth: usize,
+    platform: &Platform,
+    offers: &[Offer],
     people: &[Asked<'_>],
     whole: bool,
 ) -> Result<(), AllocError> {
     let alloc = items.alloc();
-    let offers = choices.offers;
-    if !are_refused(offers, people, whole) {
-        return Ok(());
-    }
-    let head = none_of(alloc, "offer", offers.len())?;
-    items.say(depth, "image", head)?;
-    let colours = choices.platform.colours().len();
+    let head = none_of(alloc, "offer", offers.len());
+    tell(items, depth, "image", head)?;
+    let colours = platform.colours().len();
     let rows = offer_rows(alloc, offers, people, whole, true, colours)?;
     let far = nearest(&rows).saturating_add(1);
-    tell_rows(
-        items,
-        depth.saturating_add(1),
-        "",
-        &rows,
-        far,
-        "offers are refused too",
-    )?;
-    tell_no_images(items, depth, choices.platform, people)
+    let below = depth.saturating_add(1);
+    tell_rows(items, below, "", &rows, far, "offers are refused too")
 }
 
 fn none_of(alloc: Global, what: &str, count: usize) -> Result<String, AllocError> {
@@ -186,25 +187,33 @@ fn tell_in_the_way(
     let Some(kept) = in_the_way(alloc, platform, people)? else {
         return Ok(());
     };
-    let mut text = String::from_str(alloc, "in the way: ")?;
-    put_unmet(&mut text, &kept)?;
     let others = people.len().saturating_sub(kept.len());
-    if kept.len() > 1 && others == 1 {
-        text.push_str(", whatever the other asks")?;
-    } else if kept.len() > 1 && others > 1 {
-        write!(text, ", whatever the other {others} ask")?;
-    }
-    items.say(depth, "", text)?;
+    let text = unmet_text(alloc, "in the way", &kept, others);
+    tell(items, depth, "", text)?;
     tell_others_in_the_way(items, depth, platform, people, &kept)
 }
 
-/// Puts who leave no settings by themselves after a text.
-fn put_unmet(text: &mut String, people: &[Asked<'_>]) -> Result<(), AllocError> {
+/// Who leave no settings by themselves, whatever so many others ask.
+fn unmet_text(
+    alloc: Global,
+    start: &str,
+    people: &[Asked<'_>],
+    others: usize,
+) -> Result<String, AllocError> {
+    let mut text = format!(in alloc; "{start}: ")?;
+    put_unmet(&mut text, people, others)?;
+    Ok(text)
+}
+
+/// Puts who leave no settings by themselves, whatever so many others ask, after a text.
+fn put_unmet(text: &mut String, people: &[Asked<'_>], others: usize) -> Result<(), AllocError> {
     put_people(text, people)?;
-    if people.len() == 1 {
-        text.push_str(" can't be met even by itself")?;
+    match (people.len(), others) {
+        (1, _) => text.push_str(" can't be met even by itself"),
+        (0, _) | (_, 0) => Ok(()),
+        (_, 1) => text.push_str(", whatever the other asks"),
+        _ => write!(text, ", whatever the other {others} ask"),
     }
-    Ok(())
 }
 
 /// Tells others who leave no settings by themselves: without one of those who are told, and so on.
@@ -215,23 +224,34 @@ fn tell_others_in_the_way<'a>(
     people: &[Asked<'a>],
     told: &[Asked<'a>],
 ) -> Result<(), AllocError> {
-    let alloc = items.alloc();
-    let mut rest = Vec::from_slice(alloc, people)?;
-    let mut kept = Vec::from_slice(alloc, told)?;
-    for _set in 0..MOST_SETS {
-        let Some(others) = without_one(alloc, platform, &rest, &kept)? else {
+    let mut last = tell_next(items, depth, platform, people, told)?;
+    for _set in 1..MOST_SETS {
+        let Some(others) = &last else {
             break;
         };
-        rest = others.rest;
-        kept = others.kept;
-        if kept.len() > MOST_NAMES {
-            break;
-        }
-        let mut text = String::from_str(alloc, "also in the way: ")?;
-        put_unmet(&mut text, &kept)?;
-        items.say(depth, "", text)?;
+        last = tell_next(items, depth, platform, &others.rest, &others.kept)?;
     }
     Ok(())
+}
+
+/// Tells who leave no settings by themselves without one of some; `None` where nobody does, or too
+/// many to be told.
+fn tell_next<'a>(
+    items: &mut Items,
+    depth: usize,
+    platform: &Platform,
+    people: &[Asked<'a>],
+    some: &[Asked<'a>],
+) -> Result<Option<Others<'a>>, AllocError> {
+    let alloc = items.alloc();
+    match without_one(alloc, platform, people, some)? {
+        Some(others) if others.kept.len() <= MOST_NAMES => {
+            let text = unmet_text(alloc, "also in the way", &others.kept, 0);
+            tell(items, depth, "", text)?;
+            Ok(Some(others))
+        }
+        _ => Ok(None),
+    }
 }
 
 /// Participants, and some of them who leave no settings by themselves.

@@ -7,8 +7,8 @@ use crate::amounts::amount_at;
 use crate::offer_words::{offer_name, put_offer_reason};
 use crate::offering::{are_refused, offers_of};
 use crate::placing::{put_place, put_place_reason};
-use crate::refusing::offer_rows;
-use crate::rows::{Reason, tell, tell_rows};
+use crate::refusing::tell_offers;
+use crate::rows::tell;
 use explanation_text::Items;
 use std::alloc::{AllocError, Global};
 use sysmem_counts::Field;
@@ -55,7 +55,7 @@ pub fn tell_misfits(
 ) -> Result<(), AllocError> {
     let start = items.len();
     for one in people {
-        tell_misfit(items, platform, *one, before, settings)?;
+        tell_misfit(items, platform, one, before, settings)?;
     }
     if items.len() == start {
         let words = format!(in items.alloc();
@@ -70,20 +70,32 @@ pub fn tell_misfits(
 fn tell_misfit(
     items: &mut Items,
     platform: &Platform,
-    one: Asked<'_>,
+    one: &Asked<'_>,
     before: &[Asked<'_>],
     settings: &Settings,
 ) -> Result<(), AllocError> {
-    let alloc = items.alloc();
-    for field in failing(alloc, platform, settings, one.asked)? {
-        let mut text = String::new(alloc);
-        put_misfit(&mut text, platform, settings, one, field)?;
-        items.say(1, "misfit", text)?;
-        if field == Field::PixelFormat || field == Field::ColorSpaces {
+    let fields = failing(items.alloc(), platform, settings, one.asked)?;
+    for field in &fields {
+        let text = misfit_text(items.alloc(), platform, settings, one, *field);
+        tell(items, 1, "misfit", text)?;
+        if matches!(field, Field::PixelFormat | Field::ColorSpaces) {
             tell_refused(items, platform, one, before)?;
         }
     }
     Ok(())
+}
+
+/// A sentence on a field in which settings fail a participant.
+fn misfit_text(
+    alloc: Global,
+    platform: &Platform,
+    settings: &Settings,
+    one: &Asked<'_>,
+    field: Field,
+) -> Result<String, AllocError> {
+    let mut text = String::new(alloc);
+    put_misfit(&mut text, platform, settings, one, field)?;
+    Ok(text)
 }
 
 /// Tells who of those before refuses the images that a participant takes; or that nobody does, and
@@ -91,34 +103,49 @@ fn tell_misfit(
 fn tell_refused(
     items: &mut Items,
     platform: &Platform,
-    one: Asked<'_>,
+    one: &Asked<'_>,
     before: &[Asked<'_>],
 ) -> Result<(), AllocError> {
-    let alloc = items.alloc();
-    let mut refused = Vec::new(alloc);
-    for offer in offers_of(alloc, platform)? {
-        if offer == Offer::NoImage || !takes(one.asked, &offer) {
-            continue;
+    let offers = taken(items.alloc(), platform, one.asked)?;
+    for offer in &offers {
+        if !are_refused(&[*offer], before, true) {
+            return tell_unrefused(items, offer);
         }
-        if are_refused(&[offer], before, true) {
-            refused.push(offer)?;
-            continue;
-        }
-        let name = offer_name(alloc, &offer)?;
-        let words = format!(in alloc;
-            "{name} is refused by nobody before: the platform has what was decided before it"
-        );
-        return tell(items, 2, "", words);
     }
-    let rows = offer_rows(
-        alloc,
-        &refused,
+    tell_offers(
+        items,
+        platform,
         before,
-        true,
-        false,
-        platform.colours().len(),
-    )?;
-    tell_rows(items, 2, "not ", &rows, usize::MAX, "offers that it takes")
+        &offers,
+        "not ",
+        "offers that it takes",
+    )
+}
+
+/// Tells that nobody refuses an offer.
+fn tell_unrefused(items: &mut Items, offer: &Offer) -> Result<(), AllocError> {
+    let name = offer_name(items.alloc(), offer)?;
+    let words = format!(in items.alloc();
+        "{name} is refused by nobody before: the platform has what was decided before it"
+    );
+    tell(items, 2, "", words)
+}
+
+/// The images of a platform that a participant takes.
+fn taken(
+    alloc: Global,
+    platform: &Platform,
+    asked: &Constraints,
+) -> Result<Vec<Offer>, AllocError> {
+    let offers = offers_of(alloc, platform)?;
+    let mut taken = Vec::new(alloc);
+    for offer in &offers {
+        match offer {
+            Offer::Image(_, _) if takes(asked, offer) => taken.push(*offer)?,
+            _ => {}
+        }
+    }
+    Ok(taken)
 }
 
 /// Whether a participant has an entry for an offer, in its colour space.
@@ -153,7 +180,7 @@ fn put_misfit(
     text: &mut String,
     platform: &Platform,
     settings: &Settings,
-    one: Asked<'_>,
+    one: &Asked<'_>,
     field: Field,
 ) -> Result<(), AllocError> {
     match field {
@@ -171,21 +198,14 @@ fn put_misfit(
     }
 }
 
-/// A field by which one refuses something.
-fn reason_of(alloc: Global, one: Asked<'_>, field: Field) -> Result<Reason<'_>, AllocError> {
-    let people = vec![in alloc; one]?;
-    Ok(Reason { field, people })
-}
-
 fn put_offer(
     text: &mut String,
     settings: &Settings,
-    one: Asked<'_>,
+    one: &Asked<'_>,
     field: Field,
 ) -> Result<(), AllocError> {
-    let alloc = *text.allocator();
-    put_offer_reason(text, &settings.offer, &reason_of(alloc, one, field)?)?;
-    let holds = offer_name(alloc, &settings.offer)?;
+    put_offer_reason(text, &settings.offer, field, &[*one])?;
+    let holds = offer_name(*text.allocator(), &settings.offer)?;
     write!(text, "; the buffers are {holds}")
 }
 
@@ -193,11 +213,10 @@ fn put_heap(
     text: &mut String,
     platform: &Platform,
     settings: &Settings,
-    one: Asked<'_>,
+    one: &Asked<'_>,
     field: Field,
 ) -> Result<(), AllocError> {
-    let reason = reason_of(*text.allocator(), one, field)?;
-    put_place_reason(text, &reason)?;
+    put_place_reason(text, field, &[*one])?;
     text.push_str(": the buffers lie in ")?;
     put_place(text, platform, settings.place)
 }
@@ -205,14 +224,13 @@ fn put_heap(
 fn put_size(
     text: &mut String,
     settings: &Settings,
-    one: Asked<'_>,
+    one: &Asked<'_>,
     field: Field,
 ) -> Result<(), AllocError> {
     let memory = one.asked.memory();
-    let mine = if field == Field::MinSizeBytes {
-        memory.min_size_bytes
-    } else {
-        memory.max_size_bytes
+    let mine = match field {
+        Field::MinSizeBytes => memory.min_size_bytes,
+        _ => memory.max_size_bytes,
     };
     write!(
         text,
@@ -226,7 +244,7 @@ fn put_size(
 fn put_bound(
     text: &mut String,
     settings: &Settings,
-    one: Asked<'_>,
+    one: &Asked<'_>,
     field: Field,
 ) -> Result<(), AllocError> {
     write!(text, "{} says {} ", one.name, field.name())?;

@@ -1,5 +1,6 @@
 //! What participants name that the platform lacks.
 
+use crate::listed::is_taken;
 use crate::offer_words::pair_name;
 use crate::rows::{Row, add, tell, tell_rows};
 use explanation_text::Items;
@@ -24,22 +25,31 @@ pub(crate) fn tell_no_images(
     platform: &Platform,
     people: &[Asked<'_>],
 ) -> Result<(), AllocError> {
-    let alloc = items.alloc();
-    let mut lacked: Vec<Named<'_>> = Vec::new(alloc);
+    let mut lacked: Vec<Named<'_>> = Vec::new(items.alloc());
     for one in people {
         for entry in one.asked.entries() {
-            let has_pair = has_pair(platform, entry);
-            if has_pair && has_colour(platform, entry.colours) {
-                continue;
-            }
-            let mut name = pair_name(alloc, entry.format, entry.modifier)?;
-            if has_pair {
-                name.push_str(" in any of its colour spaces")?;
-            }
-            add_named(&mut lacked, name, one)?;
+            add_lacked(&mut lacked, platform, entry, one)?;
         }
     }
     tell_lacked(items, depth, &lacked, people.len(), "takes it", "take it")
+}
+
+/// Adds what a participant's entry names, if the platform lacks it.
+fn add_lacked<'a>(
+    lacked: &mut Vec<Named<'a>>,
+    platform: &Platform,
+    entry: &Entry,
+    one: &Asked<'a>,
+) -> Result<(), AllocError> {
+    let has_pair = has_pair(platform, entry);
+    if has_pair && has_colour(platform, entry.colours) {
+        return Ok(());
+    }
+    let mut name = pair_name(*lacked.allocator(), entry.format, entry.modifier)?;
+    if has_pair {
+        name.push_str(" in any of its colour spaces")?;
+    }
+    add_named(lacked, name, one)
 }
 
 /// Tells which heaps participants permit and the platform lacks, those that most permit first.
@@ -72,9 +82,7 @@ pub(crate) fn tell_no_heaps(
 /// Whether the platform has a pair that an entry takes.
 fn has_pair(platform: &Platform, entry: &Entry) -> bool {
     for pair in platform.pairs() {
-        let has_format = entry.format.is_none() || entry.format == Some(pair.format);
-        let has_modifier = entry.modifier.is_none() || entry.modifier == Some(pair.modifier);
-        if has_format && has_modifier {
+        if is_taken(entry, *pair) {
             return true;
         }
     }
@@ -133,22 +141,33 @@ fn tell_lacked(
         return Ok(());
     }
     let alloc = items.alloc();
-    let mut rows: Vec<Row> = Vec::new(alloc);
-    for named in lacked {
-        let mut text = String::new(alloc);
-        put_has(&mut text, &named.people, one, many)?;
-        let name = String::from_str(alloc, &named.name)?;
-        let far = people.saturating_sub(named.people.len());
-        add(&mut rows, name, vec![in alloc; text]?, far, 1)?;
-    }
     let head = String::from_str(alloc, "the platform doesn't have these:");
     tell(items, depth, "lacks", head)?;
-    tell_rows(
-        items,
-        depth.saturating_add(1),
-        "",
-        &rows,
-        usize::MAX,
-        "aren't there either",
-    )
+    let mut rows: Vec<Row> = Vec::new(alloc);
+    for named in lacked {
+        let far = people.saturating_sub(named.people.len());
+        let text = has_text(alloc, &named.people, one, many)?;
+        add_text(&mut rows, &named.name, text, far)?;
+    }
+    let below = depth.saturating_add(1);
+    tell_rows(items, below, "", &rows, usize::MAX, "aren't there either")
+}
+
+/// What participants do, in words.
+fn has_text(
+    alloc: Global,
+    people: &[Asked<'_>],
+    one: &str,
+    many: &str,
+) -> Result<String, AllocError> {
+    let mut text = String::new(alloc);
+    put_has(&mut text, people, one, many)?;
+    Ok(text)
+}
+
+/// Adds a name with one reason to the rows.
+fn add_text(rows: &mut Vec<Row>, name: &str, text: String, far: usize) -> Result<(), AllocError> {
+    let alloc = *rows.allocator();
+    let reasons = vec![in alloc; text]?;
+    add(rows, String::from_str(alloc, name)?, reasons, far, 1)
 }

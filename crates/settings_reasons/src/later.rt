@@ -1,10 +1,9 @@
 //! What later entries of participants would take, of which an earlier one holds.
 
-use explanation_text::wording::{MOST_NAMES, put_few};
-use std::alloc::{AllocError, Global};
+use std::alloc::AllocError;
 use sysmem_formats::Offer;
 use sysmem_image::{Entry, entry_for, takes_colour};
-use value_sources::{Asked, Side};
+use value_sources::{Asked, Side, Wishes, put_people};
 
 /// Puts whose later entries take an offer after a text, if some do.
 pub(crate) fn put_later(
@@ -12,22 +11,24 @@ pub(crate) fn put_later(
     offer: &Offer,
     people: &[Asked<'_>],
 ) -> Result<(), AllocError> {
-    let mut names: Vec<&str> = Vec::new(*text.allocator());
+    let mut those = Vec::new(*text.allocator());
     for one in people {
-        let later = taking(*text.allocator(), one.asked.entries(), offer)?;
-        if later.iter().any(|entry| takes_colour(entry, offer)) {
-            names.push(one.name)?;
+        if takes_later(one, offer, None) {
+            those.push(*one)?;
         }
     }
-    if names.is_empty() {
-        return Ok(());
-    }
-    text.push_str(if names.len() == 1 {
-        ", though a later entry of "
-    } else {
-        ", though later entries of "
-    })?;
-    put_few(text, &names, MOST_NAMES)?;
+    put_would_take(text, &those)
+}
+
+/// Puts that later entries of participants would take it after a text, if they are some.
+fn put_would_take(text: &mut String, people: &[Asked<'_>]) -> Result<(), AllocError> {
+    let entries = match people.len() {
+        0 => return Ok(()),
+        1 => "a later entry",
+        _ => "later entries",
+    };
+    write!(text, ", though {entries} of ")?;
+    put_people(text, people)?;
     text.push_str(" would take it")
 }
 
@@ -35,39 +36,36 @@ pub(crate) fn put_later(
 /// offer, and at least so much in a side, after a text, if there is one.
 pub(crate) fn put_later_size(
     text: &mut String,
-    offer: &Offer,
-    people: &[Asked<'_>],
+    wishes: Wishes<'_, '_>,
     name: &str,
     side: Side,
     least: u128,
 ) -> Result<(), AllocError> {
-    for one in people {
-        if one.name != name {
-            continue;
-        }
-        let later = taking(*text.allocator(), one.asked.entries(), offer)?;
-        let takes_more = later.iter().any(|entry| {
-            takes_colour(entry, offer) && u128::from(side.of(entry.bounds.asked.max_size)) >= least
-        });
-        if takes_more {
+    for one in wishes.people {
+        if one.name == name && takes_later(one, &wishes.offer, Some((side, least))) {
             return write!(text, ", though a later entry of {name} takes more");
         }
     }
     Ok(())
 }
 
-/// The entries that take the format and modifier of an offer, in their order; one that others stand
-/// before comes several times.
-fn taking<'a>(
-    alloc: Global,
-    entries: &'a [Entry],
-    offer: &Offer,
-) -> Result<Vec<&'a Entry>, AllocError> {
-    let mut those = Vec::new(alloc);
+/// Whether an entry of a participant takes an offer, though others before it take its format and
+/// modifier; and at least so much in a side, if that is asked for.
+fn takes_later(one: &Asked<'_>, offer: &Offer, least: Option<(Side, u128)>) -> bool {
+    let entries = one.asked.entries();
     for index in 0..entries.len() {
-        if let Some(entry) = entry_for(entries.get(index..).unwrap_or(&[]), offer) {
-            those.push(entry)?;
+        match entry_for(&entries[index..], offer) {
+            Some(entry) if takes_colour(entry, offer) && takes_size(entry, least) => return true,
+            _ => {}
         }
     }
-    Ok(those)
+    false
+}
+
+/// Whether an entry takes at least so much in a side, if that is asked for.
+fn takes_size(entry: &Entry, least: Option<(Side, u128)>) -> bool {
+    match least {
+        Some((side, least)) => u128::from(side.of(entry.bounds.asked.max_size)) >= least,
+        None => true,
+    }
 }

@@ -1,7 +1,7 @@
 //! Pairs that participants list before the one that was chosen.
 
 use std::alloc::{AllocError, Global};
-use sysmem_formats::Pair;
+use sysmem_formats::{Modifier, Pair, PixelFormat};
 use sysmem_image::Entry;
 use sysmem_sanitise::Platform;
 use value_sources::Asked;
@@ -17,16 +17,22 @@ pub fn listed_before(
     let mut listed = Vec::new(alloc);
     let mut is_after = false;
     for pair in platform.pairs() {
-        if is_after
-            && people
-                .iter()
-                .any(|one| lists_before(one.asked.entries(), *pair, chosen))
-        {
+        if is_after && is_listed(people, *pair, chosen) {
             listed.push(*pair)?;
         }
         is_after = is_after || *pair == chosen;
     }
     Ok(listed)
+}
+
+/// Whether a participant names a pair in an entry before its first that takes another.
+fn is_listed(people: &[Asked<'_>], pair: Pair, other: Pair) -> bool {
+    for one in people {
+        if lists_before(one.asked.entries(), pair, other) {
+            return true;
+        }
+    }
+    false
 }
 
 /// Whether one of the entries names a pair, and none up to there takes another.
@@ -43,9 +49,21 @@ fn lists_before(entries: &[Entry], pair: Pair, other: Pair) -> bool {
 }
 
 /// Whether an entry takes a pair.
-fn is_taken(entry: &Entry, pair: Pair) -> bool {
-    entry.format.is_none_or(|format| format == pair.format)
-        && entry
-            .modifier
-            .is_none_or(|modifier| modifier == pair.modifier)
+pub(crate) fn is_taken(entry: &Entry, pair: Pair) -> bool {
+    has_format(entry, pair.format) && has_modifier(entry, pair.modifier)
+}
+
+/// Whether an entry takes a format.
+pub(crate) fn has_format(entry: &Entry, format: PixelFormat) -> bool {
+    match entry.format {
+        Some(named) => named == format,
+        None => true,
+    }
+}
+
+fn has_modifier(entry: &Entry, modifier: Modifier) -> bool {
+    match entry.modifier {
+        Some(named) => named == modifier,
+        None => true,
+    }
 }

@@ -2,7 +2,8 @@
 
 use crate::amounts::amount_at;
 use crate::later::{put_later, put_later_size};
-use crate::rows::{Reason, put_break};
+use crate::listed::has_format;
+use crate::rows::{mark_after, put_those};
 use explanation_text::wording::{put_few, put_joined};
 use std::alloc::{AllocError, Global};
 use sysmem_counts::Field;
@@ -50,14 +51,14 @@ pub(crate) fn pair_name(
 pub(crate) fn put_offer_reason(
     text: &mut String,
     offer: &Offer,
-    reason: &Reason<'_>,
+    field: Field,
+    people: &[Asked<'_>],
 ) -> Result<(), AllocError> {
-    let people = &reason.people;
     let wishes = Wishes {
         people,
         offer: *offer,
     };
-    match reason.field {
+    match field {
         Field::PixelFormat => put_no_entry(text, offer, people),
         Field::ColorSpaces => put_colours(text, offer, people),
         Field::UnnamedPixelFormat => put_unnamed(text, people, "format"),
@@ -68,7 +69,7 @@ pub(crate) fn put_offer_reason(
         Field::MaxWidthTimesHeight => put_too_many_pixels(text, wishes),
         Field::MaxBytesPerRow => put_too_long(text, wishes),
         Field::MaxSizeBytes => put_too_big(text, wishes),
-        field => put_no_multiple(text, wishes, field),
+        _ => put_no_multiple(text, wishes, field),
     }
 }
 
@@ -78,23 +79,29 @@ fn put_no_entry(text: &mut String, offer: &Offer, people: &[Asked<'_>]) -> Resul
     let Offer::Image(pair, _) = offer else {
         return put_has(text, people, "takes images only", "take images only");
     };
-    let alloc = *text.allocator();
-    let mut none = Vec::new(alloc);
+    let mut none = Vec::new(*text.allocator());
     for one in people {
-        let modifiers = modifiers_of(alloc, one, pair.format)?;
-        if modifiers.is_empty() {
+        if !put_only_as(text, one, pair.format)? {
             none.push(*one)?;
-            continue;
         }
-        put_break(text)?;
-        write!(text, "{} takes {} only as ", one.name, pair.format.name())?;
-        put_joined(text, &modifiers, "and")?;
     }
-    if none.is_empty() {
-        return Ok(());
+    put_those(text, &none, "has no entry for it", "have no entry for it")
+}
+
+/// Puts with which modifiers alone a participant takes a format after a text, if it takes it.
+fn put_only_as(
+    text: &mut String,
+    one: &Asked<'_>,
+    format: PixelFormat,
+) -> Result<bool, AllocError> {
+    let modifiers = modifiers_of(*text.allocator(), one, format)?;
+    if modifiers.is_empty() {
+        return Ok(false);
     }
-    put_break(text)?;
-    put_has(text, &none, "has no entry for it", "have no entry for it")
+    let mark = mark_after(text);
+    write!(text, "{mark}{} takes {} only as ", one.name, format.name())?;
+    put_joined(text, &modifiers, "and")?;
+    Ok(true)
 }
 
 /// The modifiers that a participant takes a format with.
@@ -105,7 +112,7 @@ fn modifiers_of(
 ) -> Result<Vec<&'static str>, AllocError> {
     let mut names = Vec::new(alloc);
     for entry in one.asked.entries() {
-        if entry.format.is_none() || entry.format == Some(format) {
+        if has_format(entry, format) {
             names.push(entry.modifier.map_or("DO_NOT_CARE", Modifier::name))?;
         }
     }
@@ -114,23 +121,30 @@ fn modifiers_of(
 
 /// Puts in which colour spaces participants take an offer after a text.
 fn put_colours(text: &mut String, offer: &Offer, people: &[Asked<'_>]) -> Result<(), AllocError> {
-    let alloc = *text.allocator();
-    let mut done: Vec<ColourSet> = Vec::new(alloc);
+    let mut done: Vec<ColourSet> = Vec::new(*text.allocator());
     for one in people {
-        let Some(entry) = entry_for(one.asked.entries(), offer) else {
-            continue;
-        };
-        if done.contains(&entry.colours) {
-            continue;
+        match entry_for(one.asked.entries(), offer) {
+            Some(entry) if !done.contains(&entry.colours) => {
+                put_only_in(text, offer, people, entry.colours)?;
+                done.push(entry.colours)?;
+            }
+            _ => {}
         }
-        done.push(entry.colours)?;
-        let those = with_colours(alloc, offer, people, entry.colours)?;
-        put_break(text)?;
-        put_has(text, &those, "takes it only in ", "take it only in ")?;
-        put_colour_names(text, entry.colours)?;
-        put_later(text, offer, &those)?;
     }
     Ok(())
+}
+
+/// Puts who takes an offer in these colour spaces only after a text.
+fn put_only_in(
+    text: &mut String,
+    offer: &Offer,
+    people: &[Asked<'_>],
+    colours: ColourSet,
+) -> Result<(), AllocError> {
+    let those = with_colours(*text.allocator(), offer, people, colours)?;
+    put_those(text, &those, "takes it only in ", "take it only in ")?;
+    put_colour_names(text, colours)?;
+    put_later(text, offer, &those)
 }
 
 /// Those who take an offer in these colour spaces.
@@ -168,24 +182,30 @@ fn put_unnamed(text: &mut String, people: &[Asked<'_>], what: &str) -> Result<()
 
 /// Puts that a least size is above what somebody will put after a text.
 fn put_required(text: &mut String, wishes: Wishes<'_, '_>) -> Result<(), AllocError> {
-    for side in [Side::Width, Side::Height] {
-        let low = wishes.greatest(Wish::Least(side));
-        let top = wishes.least(Wish::RequiredLeast(side));
-        let (Some((takes, least)), Some((puts, most))) = (low, top) else {
-            continue;
-        };
-        if least <= most {
-            continue;
-        }
-        put_break(text)?;
-        let name = side.name();
-        write!(
-            text,
-            "{takes} takes a {name} of {least} or more (min_size), {puts} will put {most} \
-             (required_min_size)"
-        )?;
+    put_required_side(text, wishes, Side::Width)?;
+    put_required_side(text, wishes, Side::Height)
+}
+
+fn put_required_side(
+    text: &mut String,
+    wishes: Wishes<'_, '_>,
+    side: Side,
+) -> Result<(), AllocError> {
+    let low = wishes.greatest(Wish::Least(side));
+    let top = wishes.least(Wish::RequiredLeast(side));
+    let (Some((takes, least)), Some((puts, most))) = (low, top) else {
+        return Ok(());
+    };
+    if least <= most {
+        return Ok(());
     }
-    Ok(())
+    let mark = mark_after(text);
+    let name = side.name();
+    write!(
+        text,
+        "{mark}{takes} takes a {name} of {least} or more (min_size), {puts} will put {most} \
+         (required_min_size)"
+    )
 }
 
 /// Puts who takes at most so much, by a field, after a text, if somebody does.
@@ -198,59 +218,72 @@ fn put_most(text: &mut String, most: Option<(&str, u64)>, field: &str) -> Result
 
 /// Puts that the smallest image is larger than somebody takes after a text.
 fn put_too_large(text: &mut String, wishes: Wishes<'_, '_>) -> Result<(), AllocError> {
-    let alloc = *text.allocator();
-    for side in [Side::Width, Side::Height] {
-        let Some((who, most)) = wishes.least(Wish::Most(side)) else {
-            continue;
-        };
-        let least = wishes.side(alloc, side)?;
-        if least.value <= u128::from(most) {
-            continue;
-        }
-        put_break(text)?;
-        write!(
-            text,
-            "the least {} is {}: {}; {who} takes at most {most} (max_size)",
-            side.name(),
-            least.value,
-            least.why
-        )?;
-        put_later_size(text, &wishes.offer, wishes.people, who, side, least.value)?;
+    put_too_large_side(text, wishes, Side::Width)?;
+    put_too_large_side(text, wishes, Side::Height)
+}
+
+fn put_too_large_side(
+    text: &mut String,
+    wishes: Wishes<'_, '_>,
+    side: Side,
+) -> Result<(), AllocError> {
+    let Some((who, most)) = wishes.least(Wish::Most(side)) else {
+        return Ok(());
+    };
+    let least = wishes.side(*text.allocator(), side)?;
+    if least.value <= u128::from(most) {
+        return Ok(());
     }
-    Ok(())
+    let mark = mark_after(text);
+    write!(
+        text,
+        "{mark}the least {} is {}: {}; {who} takes at most {most} (max_size)",
+        side.name(),
+        least.value,
+        least.why
+    )?;
+    put_later_size(text, wishes, who, side, least.value)
+}
+
+/// The least width or height of an image.
+pub(crate) fn least_side(
+    alloc: Global,
+    wishes: Wishes<'_, '_>,
+    side: Side,
+) -> Result<u128, AllocError> {
+    Ok(wishes.side(alloc, side)?.value)
 }
 
 fn put_too_many_pixels(text: &mut String, wishes: Wishes<'_, '_>) -> Result<(), AllocError> {
     let alloc = *text.allocator();
-    let width = wishes.side(alloc, Side::Width)?.value;
-    let height = wishes.side(alloc, Side::Height)?.value;
+    let width = least_side(alloc, wishes, Side::Width)?;
+    let height = least_side(alloc, wishes, Side::Height)?;
     let pixels = width.saturating_mul(height);
+    let most = wishes.least(Wish::MostPixels);
     let why = wishes.why_size(alloc)?;
     write!(
         text,
         "the smallest image has {width}x{height} = {pixels} pixels: {why}"
     )?;
-    put_most(
-        text,
-        wishes.least(Wish::MostPixels),
-        "max_width_times_height",
-    )
+    put_most(text, most, "max_width_times_height")
 }
 
 fn put_too_long(text: &mut String, wishes: Wishes<'_, '_>) -> Result<(), AllocError> {
+    let most = wishes.least(Wish::MostRow);
     let row = wishes.row(*text.allocator(), true)?;
     write!(text, "the least row is {} bytes: {}", row.value, row.why)?;
-    put_most(text, wishes.least(Wish::MostRow), "max_bytes_per_row")
+    put_most(text, most, "max_bytes_per_row")
 }
 
 fn put_too_big(text: &mut String, wishes: Wishes<'_, '_>) -> Result<(), AllocError> {
+    let most = wishes.greatest_size();
     let size = wishes.size(*text.allocator(), true)?;
     write!(
         text,
         "a buffer has {} bytes at least: {}",
         size.value, size.why
     )?;
-    put_most(text, wishes.greatest_size(), "max_size_bytes")
+    put_most(text, most, "max_size_bytes")
 }
 
 /// Puts that what participants want multiples of has no common multiple after a text.
@@ -259,16 +292,25 @@ fn put_no_multiple(
     wishes: Wishes<'_, '_>,
     field: Field,
 ) -> Result<(), AllocError> {
-    let alloc = *text.allocator();
-    let mut parts: Vec<String> = Vec::new(alloc);
+    let amounts = amounts_of(*text.allocator(), wishes, field)?;
+    write!(text, "{} of ", field.name())?;
+    put_texts(text, &amounts, 4)?;
+    let format = format_of(&wishes.offer);
+    write!(text, " have no common multiple up to 4294967295 ({format})")
+}
+
+/// What each participant who has an entry for an offer states at a field, with its name.
+fn amounts_of(
+    alloc: Global,
+    wishes: Wishes<'_, '_>,
+    field: Field,
+) -> Result<Vec<String>, AllocError> {
+    let mut amounts = Vec::new(alloc);
     for one in wishes.people {
         if let Some(entry) = entry_for(one.asked.entries(), &wishes.offer) {
             let amount = amount_at(&entry.bounds.asked, field);
-            parts.push(format!(in alloc; "{} {amount}", one.name)?)?;
+            amounts.push(format!(in alloc; "{} {amount}", one.name)?)?;
         }
     }
-    write!(text, "{} of ", field.name())?;
-    put_texts(text, &parts, 4)?;
-    let format = format_of(&wishes.offer);
-    write!(text, " have no common multiple up to 4294967295 ({format})")
+    Ok(amounts)
 }

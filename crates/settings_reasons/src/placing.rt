@@ -6,11 +6,11 @@ ghost use Rattle.sysmem_memory.specs.Place.{HasNoPlace};
 ghost use Rattle.sysmem_merge.specs.Demands.{place_demands};
 ghost use Rattle.value_sources.specs.Sources.{all_asked};
 
-use crate::rows::{Reason, put_break};
+use crate::rows::{Reason, put_those};
 use explanation_text::wording::put_visible;
 use std::alloc::{AllocError, Global};
 use sysmem_counts::Field;
-use sysmem_memory::{CoherencyDomain, HeapInfo, MemoryBounds, Place, refuses_in};
+use sysmem_memory::{CoherencyDomain, Heap, HeapInfo, MemoryBounds, Place, refuses_in};
 use sysmem_sanitise::Platform;
 use value_sources::{Asked, put_has};
 
@@ -135,32 +135,48 @@ pub(crate) fn has_no_place(platform: &Platform, people: &[Asked<'_>]) -> bool
     bounds.first_place(heaps).is_none()
 }
 
-/// Puts the name of a place after a text: `cma#0 ram`.
+/// The name of a place: `cma#0 ram`.
+pub(crate) fn place_name(
+    alloc: Global,
+    platform: &Platform,
+    place: Place,
+) -> Result<String, AllocError> {
+    let mut text = String::new(alloc);
+    put_place(&mut text, platform, place)?;
+    Ok(text)
+}
+
+/// Puts the name of a place after a text.
 pub(crate) fn put_place(
     text: &mut String,
     platform: &Platform,
     place: Place,
 ) -> Result<(), AllocError> {
-    if let Some(info) = platform.heaps().get(place.heap) {
-        put_visible(text, &info.heap.heap_type)?;
-        let id = info.heap.id;
-        write!(text, "#{id} ")?;
-    }
-    text.push_str(place.coherency.name())
+    let coherency = place.coherency.name();
+    let Some(info) = platform.heaps().get(place.heap) else {
+        return text.push_str(coherency);
+    };
+    put_visible(text, &info.heap.heap_type)?;
+    write!(text, "#{} {coherency}", info.heap.id)
 }
 
 /// Puts why participants refuse a place by a field into an empty text.
-pub(crate) fn put_place_reason(text: &mut String, reason: &Reason<'_>) -> Result<(), AllocError> {
-    let people = &reason.people;
-    let name = reason.field.name();
-    match reason.field {
+pub(crate) fn put_place_reason(
+    text: &mut String,
+    field: Field,
+    people: &[Asked<'_>],
+) -> Result<(), AllocError> {
+    let name = field.name();
+    match field {
         Field::PermittedHeaps => put_permits(text, people),
         Field::PhysicallyContiguousRequired => put_needs(text, people, "contiguous", name),
         Field::SecureRequired => put_needs(text, people, "secure", name),
-        Field::Usage => {
-            put_has(text, people, "uses", "use")?;
-            text.push_str(" the CPU (usage cpu), which doesn't reach it")
-        }
+        Field::Usage => put_has(
+            text,
+            people,
+            "uses the CPU (usage cpu), which doesn't reach it",
+            "use the CPU (usage cpu), which doesn't reach it",
+        ),
         _ => put_unsupported(text, people, name),
     }
 }
@@ -188,14 +204,12 @@ fn put_permits(text: &mut String, people: &[Asked<'_>]) -> Result<(), AllocError
         );
     };
     put_has(text, people, "permits only", "permit only")?;
-    for (k, heap) in one
-        .asked
-        .memory()
-        .permitted_heaps
-        .iter()
-        .take(4)
-        .enumerate()
-    {
+    put_heaps(text, &one.asked.memory().permitted_heaps)
+}
+
+/// Puts at most four heaps after a text.
+fn put_heaps(text: &mut String, heaps: &[Heap]) -> Result<(), AllocError> {
+    for (k, heap) in heaps.iter().take(4).enumerate() {
         let mark = if k == 0 { " " } else { ", " };
         write!(text, "{mark}{}#{}", heap.heap_type, heap.id)?;
     }
@@ -233,7 +247,17 @@ fn put_stating(
             those.push(*one)?;
         }
     }
-    if those.is_empty() {
+    put_stated(text, &those, field, is_stated)
+}
+
+/// Puts that participants state a field, or don't, after a text, if they are some.
+fn put_stated(
+    text: &mut String,
+    people: &[Asked<'_>],
+    field: &str,
+    is_stated: bool,
+) -> Result<(), AllocError> {
+    if people.is_empty() {
         return Ok(());
     }
     let (one, many, end) = if is_stated {
@@ -241,7 +265,6 @@ fn put_stating(
     } else {
         ("doesn't say", "don't say", ", so it's false")
     };
-    put_break(text)?;
-    put_has(text, &those, one, many)?;
+    put_those(text, people, one, many)?;
     write!(text, " {field}{end}")
 }

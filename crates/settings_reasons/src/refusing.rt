@@ -1,9 +1,10 @@
 //! Rows of the places and offers that participants refuse.
 
-use crate::offer_words::{offer_name, put_offer_reason};
+use crate::offer_words::{offer_name, pair_name, put_offer_reason};
 use crate::offering::{distance_of, offer_reasons};
-use crate::placing::{place_reasons, put_place, put_place_reason};
-use crate::rows::{Reason, Row, add};
+use crate::placing::{place_name, place_reasons, put_place_reason};
+use crate::rows::{Reason, Row, add, tell_rows};
+use explanation_text::Items;
 use std::alloc::{AllocError, Global};
 use sysmem_formats::Offer;
 use sysmem_memory::Place;
@@ -21,14 +22,24 @@ pub(crate) fn place_rows(
 ) -> Result<Vec<Row>, AllocError> {
     let mut rows = Vec::new(alloc);
     for place in places {
-        let reasons = place_reasons(alloc, platform, *place, people)?;
-        let texts = texts_of(alloc, None, &reasons, all)?;
-        let far = if all { refusals(&reasons) } else { 0 };
-        let mut name = String::new(alloc);
-        put_place(&mut name, platform, *place)?;
-        add(&mut rows, name, texts, far, 1)?;
+        add_place(&mut rows, platform, *place, people, all)?;
     }
     Ok(rows)
+}
+
+/// Adds a place with the reasons against it.
+fn add_place(
+    rows: &mut Vec<Row>,
+    platform: &Platform,
+    place: Place,
+    people: &[Asked<'_>],
+    all: bool,
+) -> Result<(), AllocError> {
+    let alloc = *rows.allocator();
+    let reasons = place_reasons(alloc, platform, place, people)?;
+    let far = if all { refusals(&reasons) } else { 0 };
+    let texts = texts_of(alloc, None, &reasons, all)?;
+    add(rows, place_name(alloc, platform, place)?, texts, far, 1)
 }
 
 /// The reasons against an offer, or against a place where there is none, in words; or the first of
@@ -42,15 +53,23 @@ fn texts_of(
     let most = if all { reasons.len() } else { 1 };
     let mut texts = Vec::new(alloc);
     for reason in reasons.iter().take(most) {
-        let mut text = String::new(alloc);
-        let put = match offer {
-            Some(offer) => put_offer_reason(&mut text, offer, reason),
-            None => put_place_reason(&mut text, reason),
-        };
-        put?;
-        texts.push(text)?;
+        texts.push(text_of(alloc, offer, reason)?)?;
     }
     Ok(texts)
+}
+
+/// A reason in words.
+fn text_of(
+    alloc: Global,
+    offer: Option<&Offer>,
+    reason: &Reason<'_>,
+) -> Result<String, AllocError> {
+    let mut text = String::new(alloc);
+    match offer {
+        Some(offer) => put_offer_reason(&mut text, offer, reason.field, &reason.people)?,
+        None => put_place_reason(&mut text, reason.field, &reason.people)?,
+    }
+    Ok(text)
 }
 
 /// How many refusals these are: who refuses by two fields counts twice.
@@ -75,26 +94,28 @@ pub(crate) fn offer_rows(
     let mut rows = Vec::new(alloc);
     let mut pair: Vec<Refused> = Vec::new(alloc);
     for offer in offers {
-        if pair
-            .first()
-            .is_some_and(|first| !are_one_pair(&first.offer, offer))
-        {
-            add_pair(alloc, &mut rows, &pair, colours)?;
-            pair.clear();
+        if is_next_pair(&pair, offer) {
+            add_pair(&mut rows, pair, colours)?;
+            pair = Vec::new(alloc);
         }
-        let reasons = offer_reasons(alloc, offer, people, whole)?;
-        pair.push(Refused {
-            offer: *offer,
-            texts: texts_of(alloc, Some(offer), &reasons, all)?,
-            distance: if all {
-                distance_of(offer, &reasons, people.len())
-            } else {
-                0
-            },
-        })?;
+        pair.push(refused_by(alloc, offer, people, whole, all)?)?;
     }
-    add_pair(alloc, &mut rows, &pair, colours)?;
+    add_pair(&mut rows, pair, colours)?;
     Ok(rows)
+}
+
+/// Tells who refuses each of some offers, in their order.
+pub(crate) fn tell_offers(
+    items: &mut Items,
+    platform: &Platform,
+    people: &[Asked<'_>],
+    offers: &[Offer],
+    before: &str,
+    what: &str,
+) -> Result<(), AllocError> {
+    let colours = platform.colours().len();
+    let rows = offer_rows(items.alloc(), offers, people, true, false, colours)?;
+    tell_rows(items, 2, before, &rows, usize::MAX, what)
 }
 
 /// An offer that is refused, and why.
@@ -105,6 +126,35 @@ struct Refused {
     distance: usize,
 }
 
+/// An offer with the reasons against it.
+fn refused_by(
+    alloc: Global,
+    offer: &Offer,
+    people: &[Asked<'_>],
+    whole: bool,
+    all: bool,
+) -> Result<Refused, AllocError> {
+    let reasons = offer_reasons(alloc, offer, people, whole)?;
+    let distance = if all {
+        distance_of(offer, &reasons, people.len())
+    } else {
+        0
+    };
+    Ok(Refused {
+        offer: *offer,
+        texts: texts_of(alloc, Some(offer), &reasons, all)?,
+        distance,
+    })
+}
+
+/// Whether an offer is of another pair than those before it.
+fn is_next_pair(before: &[Refused], offer: &Offer) -> bool {
+    match before.first() {
+        Some(first) => !are_one_pair(&first.offer, offer),
+        None => false,
+    }
+}
+
 fn are_one_pair(a: &Offer, b: &Offer) -> bool {
     match (a, b) {
         (Offer::Image(pair, _), Offer::Image(other, _)) => pair == other,
@@ -112,47 +162,45 @@ fn are_one_pair(a: &Offer, b: &Offer) -> bool {
     }
 }
 
-/// Adds the offers of one pair to the rows.
+/// Adds the offers of one pair to the rows: as one, where they fail in all of so many colour
+/// spaces for the same reasons.
 fn add_pair(
-    alloc: Global,
     rows: &mut Vec<Row>,
-    offers: &[Refused],
+    mut offers: Vec<Refused>,
     colours: usize,
 ) -> Result<(), AllocError> {
-    let Some(first) = offers.first() else {
-        return Ok(());
-    };
-    let is_one = offers.len() == colours
-        && 1 < colours
-        && offers.iter().all(|other| other.texts == first.texts);
-    for (k, refused) in offers.iter().enumerate() {
-        if is_one && 0 < k {
-            continue;
-        }
-        let name = match &refused.offer {
-            Offer::Image(pair, _) if is_one => {
-                let format = pair.format.name();
-                let modifier = pair.modifier.name();
-                format!(in alloc; "{format} {modifier}")?
-            }
-            offer => offer_name(alloc, offer)?,
-        };
-        let count = if is_one { colours } else { 1 };
-        add(
-            rows,
-            name,
-            copied(alloc, &refused.texts)?,
-            refused.distance,
-            count,
-        )?;
+    let is_one = is_one_row(&offers, colours);
+    let count = if is_one { colours } else { 1 };
+    if is_one {
+        offers.truncate(1);
+    }
+    for refused in offers {
+        let name = name_of(*rows.allocator(), &refused.offer, is_one)?;
+        add(rows, name, refused.texts, refused.distance, count)?;
     }
     Ok(())
 }
 
-fn copied(alloc: Global, texts: &[String]) -> Result<Vec<String>, AllocError> {
-    let mut copy = Vec::new(alloc);
-    for text in texts {
-        copy.push(String::from_str(alloc, text)?)?;
+/// The name of an offer, or of its pair where that stands for all its colour spaces.
+fn name_of(alloc: Global, offer: &Offer, is_pair: bool) -> Result<String, AllocError> {
+    match offer {
+        Offer::Image(pair, _) if is_pair => {
+            pair_name(alloc, Some(pair.format), Some(pair.modifier))
+        }
+        _ => offer_name(alloc, offer),
     }
-    Ok(copy)
+}
+
+/// Whether offers are all those of a pair in so many colour spaces, each refused for the same
+/// reasons.
+fn is_one_row(offers: &[Refused], colours: usize) -> bool {
+    let Some(first) = offers.first() else {
+        return false;
+    };
+    for other in offers {
+        if other.texts != first.texts {
+            return false;
+        }
+    }
+    1 < colours && offers.len() == colours
 }

@@ -3,10 +3,13 @@
 use explanation_text::Items;
 use std::alloc::{AllocError, Global};
 use sysmem_counts::Field;
-use value_sources::{Asked, put_texts};
+use value_sources::{Asked, put_has, put_texts};
 
 /// How many rows of one kind are told; one more is shown rather than counted.
 const MOST_ROWS: usize = 6;
+
+/// How many names of a row are told; one more is shown rather than counted.
+const MOST_ROW_NAMES: usize = 3;
 
 /// A field by which participants refuse something.
 #[derive(Drop)]
@@ -66,7 +69,7 @@ pub(crate) fn add(
 /// How many of the rows, the nearest first, are told: of those that aren't farther than a distance
 /// so many; one more is shown rather than counted.
 fn shown(rows: &[Row], far: usize) -> usize {
-    let near = rows.iter().filter(|row| row.distance <= far).count();
+    let near = near(rows, far);
     let some = if rows.len() <= near.saturating_add(1) {
         rows.len()
     } else {
@@ -77,6 +80,17 @@ fn shown(rows: &[Row], far: usize) -> usize {
     } else {
         MOST_ROWS
     }
+}
+
+/// How many of the rows aren't farther than a distance.
+fn near(rows: &[Row], far: usize) -> usize {
+    let mut count = 0usize;
+    for row in rows {
+        if row.distance <= far {
+            count = count.saturating_add(1);
+        }
+    }
+    count
 }
 
 /// Tells the rows, the nearest first and else in their order; more than some are counted, with what
@@ -90,32 +104,37 @@ pub(crate) fn tell_rows(
     what: &str,
 ) -> Result<(), AllocError> {
     let most = shown(rows, far);
-    let order = order_of(items, rows)?;
+    let mut told = 0usize;
     let mut others = 0usize;
-    for (k, index) in order.iter().enumerate() {
-        let Some(row) = rows.get(*index) else {
-            continue;
-        };
-        if k < most {
-            tell_row(items, depth, before, row)?;
-        } else {
-            others = others.saturating_add(row.count);
+    for distance in 0..farthest(rows).saturating_add(1) {
+        for row in rows {
+            if row.distance != distance {
+                continue;
+            }
+            if told < most {
+                tell_row(items, depth, before, row)?;
+                told = told.saturating_add(1);
+            } else {
+                others = others.saturating_add(row.count);
+            }
         }
     }
-    if others > 0 {
-        let words = format!(in items.alloc(); "{before}the other {others} {what}");
-        tell(items, depth, "", words)?;
-    }
-    Ok(())
+    tell_others(items, depth, before, others, what)
 }
 
-/// The indices of the rows, the nearest first.
-fn order_of(items: &Items, rows: &[Row]) -> Result<Vec<usize>, AllocError> {
-    let mut order: Vec<usize> = Vec::new(items.alloc());
-    for distance in 0..farthest(rows).saturating_add(1) {
-        add_at(&mut order, rows, distance)?;
+/// Tells how many others there are, if there are some, with what is said of them.
+fn tell_others(
+    items: &mut Items,
+    depth: usize,
+    before: &str,
+    others: usize,
+    what: &str,
+) -> Result<(), AllocError> {
+    if others == 0 {
+        return Ok(());
     }
-    Ok(order)
+    let words = format!(in items.alloc(); "{before}the other {others} {what}");
+    tell(items, depth, "", words)
 }
 
 /// The distance of the nearest row.
@@ -135,24 +154,16 @@ fn farthest(rows: &[Row]) -> usize {
     most
 }
 
-/// Adds the indices of the rows at a distance.
-fn add_at(order: &mut Vec<usize>, rows: &[Row], distance: usize) -> Result<(), AllocError> {
-    for (index, row) in rows.iter().enumerate() {
-        if row.distance == distance {
-            order.push(index)?;
-        }
-    }
-    Ok(())
-}
-
 fn tell_row(items: &mut Items, depth: usize, before: &str, row: &Row) -> Result<(), AllocError> {
-    let head = head_of(items.alloc(), before, row)?;
-    items.say(depth, "", head)?;
-    if row.reasons.len() > 1 {
-        for reason in &row.reasons {
-            let words = String::from_str(items.alloc(), reason);
-            tell(items, depth.saturating_add(1), "", words)?;
-        }
+    let head = head_of(items.alloc(), before, row);
+    tell(items, depth, "", head)?;
+    if row.reasons.len() <= 1 {
+        return Ok(());
+    }
+    let below = depth.saturating_add(1);
+    for reason in &row.reasons {
+        let words = String::from_str(items.alloc(), reason);
+        tell(items, below, "", words)?;
     }
     Ok(())
 }
@@ -160,24 +171,36 @@ fn tell_row(items: &mut Items, depth: usize, before: &str, row: &Row) -> Result<
 /// A row's names, with its reason where it has one alone.
 fn head_of(alloc: Global, before: &str, row: &Row) -> Result<String, AllocError> {
     let mut text = String::from_str(alloc, before)?;
-    put_names(&mut text, &row.names)?;
-    match row.reasons.as_slice() {
-        [] => {}
-        [reason] => write!(text, ": {reason}")?,
-        _ => text.push_str(":")?,
-    }
+    put_texts(&mut text, &row.names, MOST_ROW_NAMES)?;
+    put_reason(&mut text, &row.reasons)?;
     Ok(text)
 }
 
-/// Puts what stands between two sentences after a text that isn't empty.
-pub(crate) fn put_break(text: &mut String) -> Result<(), AllocError> {
-    if text.is_empty() {
-        return Ok(());
+/// Puts the reason of a row after its names, where it has one alone.
+fn put_reason(text: &mut String, reasons: &[String]) -> Result<(), AllocError> {
+    match reasons {
+        [] => Ok(()),
+        [reason] => write!(text, ": {reason}"),
+        _ => text.push_str(":"),
     }
-    text.push_str("; ")
 }
 
-/// Puts at most four names after a text.
-fn put_names(text: &mut String, names: &[String]) -> Result<(), AllocError> {
-    put_texts(text, names, 3)
+/// What stands between a text and a further sentence.
+pub(crate) fn mark_after(text: &str) -> &'static str {
+    if text.is_empty() { "" } else { "; " }
+}
+
+/// Puts a sentence on participants after a text, if they are some.
+pub(crate) fn put_those(
+    text: &mut String,
+    people: &[Asked<'_>],
+    one: &str,
+    many: &str,
+) -> Result<(), AllocError> {
+    if people.is_empty() {
+        return Ok(());
+    }
+    let mark = mark_after(text);
+    text.push_str(mark)?;
+    put_has(text, people, one, many)
 }
