@@ -1,8 +1,8 @@
 //! The value of a field of constraints, and values between two.
 
 use crate::edits::{Changed, Edit};
-use crate::objects::{ENTRIES, MEMORY, entries_of, number_value, values_in, with};
-use serde_json::Value;
+use crate::objects::{ENTRIES, MEMORY, entries_of, number_value, values_in, with, with_in_memory};
+use serde_json::{Value, json};
 use std::alloc::{AllocError, Global};
 use std::fmt;
 
@@ -117,10 +117,7 @@ impl Amount {
     fn value(self, alloc: Global) -> Result<Value, AllocError> {
         match self {
             Amount::Number(number) => Ok(number_value(number)),
-            Amount::Sides(width, height) => {
-                let sides = with(alloc, None, "width", number_value(width))?;
-                with(alloc, Some(&sides), "height", number_value(height))
-            }
+            Amount::Sides(width, height) => json!(in alloc; {"width": width, "height": height}),
         }
     }
 }
@@ -169,22 +166,41 @@ pub(crate) fn with_amount(
         Some(field) => field.name(),
         None => "",
     };
-    let changed = match edit {
-        Edit::NoBound(_) => with_bound(alloc, value, name, amount)?,
-        Edit::NoMemory(_) => {
-            let memory = with(alloc, value.get(MEMORY), name, amount.value(alloc)?)?;
-            with(alloc, Some(value), MEMORY, memory)?
-        }
-        _ => with(alloc, Some(value), name, amount.value(alloc)?)?,
-    };
-    let was = match edit {
-        Edit::NoBound(_) => values_in(alloc, entries_of(value), name)?,
-        _ => format!(in alloc; "{stated}")?,
+    let words = if let Edit::NoBound(_) = edit {
+        words_on_bound(alloc, value, name, amount)?
+    } else {
+        format!(in alloc; "{name} {stated} becomes {amount}")?
     };
     Ok(Changed {
-        value: changed,
-        words: format!(in alloc; "{name} {was} becomes {amount}")?,
+        value: value_with(alloc, value, edit, name, amount)?,
+        words,
     })
+}
+
+/// `max_size 1280x720 and 4096x2160 becomes 1920x1080`.
+fn words_on_bound(
+    alloc: Global,
+    value: &Value,
+    name: &str,
+    amount: Amount,
+) -> Result<String, AllocError> {
+    let was = values_in(alloc, entries_of(value), name)?;
+    format!(in alloc; "{name} {was} becomes {amount}")
+}
+
+/// The constraints with another value of a field, which stands where a change leaves it out.
+fn value_with(
+    alloc: Global,
+    value: &Value,
+    edit: Edit,
+    name: &str,
+    amount: Amount,
+) -> Result<Value, AllocError> {
+    match edit {
+        Edit::NoBound(_) => with_bound(alloc, value, name, amount),
+        Edit::NoMemory(_) => with_in_memory(alloc, value, name, amount.value(alloc)?),
+        _ => with(alloc, Some(value), name, amount.value(alloc)?),
+    }
 }
 
 /// The constraints with another value of the field that a change would leave out; `None` where it

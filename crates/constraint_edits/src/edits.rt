@@ -1,7 +1,9 @@
 //! Constraints with one field changed.
 
-use crate::exchanging::exchanged;
-use crate::objects::{ENTRIES, MEMORY, entries_of, have, lacking, values_in, with, words_without};
+use crate::exchanging::{Bounds, exchanged};
+use crate::objects::{
+    ENTRIES, MEMORY, entries_of, have, lacking, values_in, with, with_in_memory, words_without,
+};
 use crate::permitting::{meaning, permitting};
 use crate::taking::{putting_first, taking_colour, taking_pair};
 use crate::using::{asking_for, without_cpu};
@@ -97,6 +99,16 @@ pub fn edits_on(
     colours: &[ColourSpace],
 ) -> Result<Vec<Edit>, AllocError> {
     let mut edits: Vec<Edit> = Vec::new(alloc);
+    put_edits(&mut edits, heaps, pairs, colours)?;
+    Ok(edits)
+}
+
+fn put_edits(
+    edits: &mut Vec<Edit>,
+    heaps: usize,
+    pairs: &[Pair],
+    colours: &[ColourSpace],
+) -> Result<(), AllocError> {
     for heap in 0..heaps {
         edits.push(Edit::MeansHeap(heap))?;
     }
@@ -110,8 +122,7 @@ pub fn edits_on(
     for heap in 0..heaps {
         edits.push(Edit::PermitsHeap(heap))?;
     }
-    edits.extend_from_slice(&LAST)?;
-    Ok(edits)
+    edits.extend_from_slice(&LAST)
 }
 
 /// Constraints after a change, with what is changed in words.
@@ -130,7 +141,10 @@ pub fn edited(
 ) -> Result<Option<Changed>, AllocError> {
     match edit {
         Edit::MeansHeap(index) => meaning(alloc, value, heaps, index),
-        Edit::Exchanges(least, most) => exchanged(alloc, value, least.name(), most.name()),
+        Edit::Exchanges(least, most) => {
+            let (least, most) = (least.name(), most.name());
+            exchanged(alloc, value, Bounds { least, most })
+        }
         Edit::Supports(field) => supporting(alloc, value, field.name()),
         Edit::NoCount(field) => without(alloc, value, field.name()),
         Edit::NoMemory(field) => without_memory(alloc, value, field.name()),
@@ -152,47 +166,60 @@ fn supporting(alloc: Global, value: &Value, key: &str) -> Result<Option<Changed>
         None if key == Field::CpuDomainSupported.name() => return Ok(None),
         None => "(absent, so false)",
     };
-    let object = with(alloc, memory, key, Value::Bool(true))?;
-    Ok(Some(Changed {
-        value: with(alloc, Some(value), MEMORY, object)?,
-        words: format!(in alloc; "{key} {was} becomes true")?,
-    }))
+    let words = format!(in alloc; "{key} {was} becomes true")?;
+    change_in_memory(alloc, value, key, Value::Bool(true), words)
 }
 
 fn without(alloc: Global, value: &Value, key: &str) -> Result<Option<Changed>, AllocError> {
     let Some(member) = value.get(key) else {
         return Ok(None);
     };
+    let words = words_without(alloc, key, member)?;
     Ok(Some(Changed {
         value: lacking(alloc, value, key)?,
-        words: words_without(alloc, key, member)?,
+        words,
     }))
 }
 
 fn without_memory(alloc: Global, value: &Value, key: &str) -> Result<Option<Changed>, AllocError> {
-    let Some(memory) = value.get(MEMORY) else {
-        return Ok(None);
-    };
-    let Some(change) = without(alloc, memory, key)? else {
-        return Ok(None);
-    };
-    Ok(Some(Changed {
-        value: with(alloc, Some(value), MEMORY, change.value)?,
-        words: change.words,
-    }))
+    match value.get(MEMORY) {
+        Some(memory) => in_memory(alloc, value, without(alloc, memory, key)?),
+        None => Ok(None),
+    }
+}
+
+/// A change of the memory as one of the constraints.
+pub(crate) fn in_memory(
+    alloc: Global,
+    value: &Value,
+    change: Option<Changed>,
+) -> Result<Option<Changed>, AllocError> {
+    match change {
+        Some(change) => change_of(alloc, value, MEMORY, change.value, change.words),
+        None => Ok(None),
+    }
 }
 
 fn without_bound(alloc: Global, value: &Value, key: &str) -> Result<Option<Changed>, AllocError> {
     if !have(value, key) {
         return Ok(None);
     }
+    let words = words_without_bound(alloc, value, key)?;
+    with_entries(alloc, value, entries_lacking(alloc, value, key)?, words)
+}
+
+/// `max_size 1280x720 and 4096x2160 left out`.
+fn words_without_bound(alloc: Global, value: &Value, key: &str) -> Result<String, AllocError> {
+    let was = values_in(alloc, entries_of(value), key)?;
+    format!(in alloc; "{key} {was} left out")
+}
+
+fn entries_lacking(alloc: Global, value: &Value, key: &str) -> Result<Vec<Value>, AllocError> {
     let mut copy = Vec::new(alloc);
     for entry in entries_of(value) {
         copy.push(lacking(alloc, entry, key)?)?;
     }
-    let was = values_in(alloc, entries_of(value), key)?;
-    let words = format!(in alloc; "{key} {was} left out")?;
-    with_entries(alloc, value, copy, words)
+    Ok(copy)
 }
 
 /// The constraints with other entries, and what is changed; `None` where nothing is.
@@ -205,8 +232,33 @@ pub(crate) fn with_entries(
     if words.is_empty() {
         return Ok(None);
     }
+    change_of(alloc, value, ENTRIES, Value::Array(entries), words)
+}
+
+/// The constraints with a member, in the place of one with that key, and what is changed.
+pub(crate) fn change_of(
+    alloc: Global,
+    value: &Value,
+    key: &str,
+    member: Value,
+    words: String,
+) -> Result<Option<Changed>, AllocError> {
     Ok(Some(Changed {
-        value: with(alloc, Some(value), ENTRIES, Value::Array(entries))?,
+        value: with(alloc, Some(value), key, member)?,
+        words,
+    }))
+}
+
+/// The same of a member of the memory.
+pub(crate) fn change_in_memory(
+    alloc: Global,
+    value: &Value,
+    key: &str,
+    member: Value,
+    words: String,
+) -> Result<Option<Changed>, AllocError> {
+    Ok(Some(Changed {
+        value: with_in_memory(alloc, value, key, member)?,
         words,
     }))
 }

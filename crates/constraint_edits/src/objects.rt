@@ -1,7 +1,7 @@
 //! Values of JSON with a member put in or left out, and their words.
 
 use explanation_text::wording::put_few;
-use serde_json::{Map, Number, Value};
+use serde_json::{Map, Number, Value, put};
 use std::alloc::{AllocError, Global};
 
 pub(crate) const MEMORY: &str = "buffer_memory_constraints";
@@ -9,7 +9,10 @@ pub(crate) const MEMORY: &str = "buffer_memory_constraints";
 pub(crate) const ENTRIES: &str = "image_format_constraints";
 
 /// The members of an object; none where there is no object.
-fn members_of(alloc: Global, object: Option<&Value>) -> Result<Map<String, Value>, AllocError> {
+pub(crate) fn members_of(
+    alloc: Global,
+    object: Option<&Value>,
+) -> Result<Map<String, Value>, AllocError> {
     if let Some(object) = object {
         if let Value::Object(members) = object.clone()? {
             return Ok(members);
@@ -26,9 +29,19 @@ pub(crate) fn with(
     member: Value,
 ) -> Result<Value, AllocError> {
     let mut members = members_of(alloc, object)?;
-    let name = String::from_str(alloc, key)?;
-    let _before = members.insert(name, member)?;
+    put(&mut members, alloc, key, member)?;
     Ok(Value::Object(members))
+}
+
+/// Constraints with a member of their memory, in the place of one with that key.
+pub(crate) fn with_in_memory(
+    alloc: Global,
+    value: &Value,
+    key: &str,
+    member: Value,
+) -> Result<Value, AllocError> {
+    let memory = with(alloc, value.get(MEMORY), key, member)?;
+    with(alloc, Some(value), MEMORY, memory)
 }
 
 /// An object without a member.
@@ -64,29 +77,19 @@ pub(crate) fn have(value: &Value, key: &str) -> bool {
         .any(|entry| entry.get(key).is_some())
 }
 
-/// Puts a value in short after a text: a size as `1920x1080`.
-fn put_value(text: &mut String, value: &Value) -> Result<(), AllocError> {
+/// A value in short: a size as `1920x1080`.
+fn text_of(alloc: Global, value: &Value) -> Result<String, AllocError> {
     if let (Some(width), Some(height)) = (value.get("width"), value.get("height")) {
         if let (Some(width), Some(height)) = (width.as_u64(), height.as_u64()) {
-            return write!(text, "{width}x{height}");
+            return format!(in alloc; "{width}x{height}");
         }
     }
-    let written = value.to_string(*text.allocator())?;
-    text.push_str(&written)
+    value.to_string(alloc)
 }
 
 /// The values in short that a key has in entries, each once: `1280x720 and 4096x2160`.
 pub(crate) fn values_in(alloc: Global, entries: &[Value], key: &str) -> Result<String, AllocError> {
-    let mut texts: Vec<String> = Vec::new(alloc);
-    for entry in entries {
-        if let Some(member) = entry.get(key) {
-            let mut text = String::new(alloc);
-            put_value(&mut text, member)?;
-            if !texts.contains(&text) {
-                texts.push(text)?;
-            }
-        }
-    }
+    let texts = texts_in(alloc, entries, key)?;
     let mut words: Vec<&str> = Vec::new(alloc);
     for text in &texts {
         words.push(text.as_str())?;
@@ -96,10 +99,22 @@ pub(crate) fn values_in(alloc: Global, entries: &[Value], key: &str) -> Result<S
     Ok(joined)
 }
 
+/// The values in short that a key has in entries, each once.
+fn texts_in(alloc: Global, entries: &[Value], key: &str) -> Result<Vec<String>, AllocError> {
+    let mut texts: Vec<String> = Vec::new(alloc);
+    for entry in entries {
+        if let Some(member) = entry.get(key) {
+            let text = text_of(alloc, member)?;
+            if !texts.contains(&text) {
+                texts.push(text)?;
+            }
+        }
+    }
+    Ok(texts)
+}
+
 /// `max_size 1920x1080 left out`.
 pub(crate) fn words_without(alloc: Global, key: &str, value: &Value) -> Result<String, AllocError> {
-    let mut words = format!(in alloc; "{key} ")?;
-    put_value(&mut words, value)?;
-    words.push_str(" left out")?;
-    Ok(words)
+    let was = text_of(alloc, value)?;
+    format!(in alloc; "{key} {was} left out")
 }

@@ -1,9 +1,9 @@
 //! Constraints that permit a heap more, or another in the place of one that nearly has its name.
 
-use crate::edits::Changed;
-use crate::objects::{MEMORY, number_value, text_value, with};
+use crate::edits::{Changed, change_in_memory};
+use crate::objects::MEMORY;
 use explanation_text::nearest;
-use serde_json::Value;
+use serde_json::{Value, json};
 use std::alloc::{AllocError, Global};
 use sysmem_memory::{Heap, HeapInfo};
 
@@ -37,9 +37,7 @@ fn is_among(item: &Value, heaps: &[HeapInfo]) -> bool {
 }
 
 fn heap_value(alloc: Global, heap: &Heap) -> Result<Value, AllocError> {
-    let name = text_value(alloc, &heap.heap_type)?;
-    let typed = with(alloc, None, "heap_type", name)?;
-    with(alloc, Some(&typed), "id", number_value(heap.id))
+    json!(in alloc; {"heap_type": heap.heap_type.as_str(), "id": heap.id})
 }
 
 /// The constraints with a heap more that they permit; `None` where they permit it.
@@ -55,15 +53,16 @@ pub(crate) fn permitting(
     let Some(list) = others_than(value, heap) else {
         return Ok(None);
     };
-    let mut copy = Vec::new(alloc);
-    for item in list {
-        copy.push(item.clone()?)?;
-    }
-    copy.push(heap_value(alloc, heap)?)?;
-    let name = heap.heap_type.as_str();
-    let id = heap.id;
+    let (name, id) = (heap.heap_type.as_str(), heap.id);
     let words = format!(in alloc; "permitted_heaps with {name}#{id} too")?;
-    permitted(alloc, value, copy, words)
+    permitted(alloc, value, with_heap(alloc, list, heap)?, words)
+}
+
+/// A list of heaps with one more.
+fn with_heap(alloc: Global, list: &[Value], heap: &Heap) -> Result<Vec<Value>, AllocError> {
+    let mut copy = list.to_vec(alloc)?;
+    copy.push(heap_value(alloc, heap)?)?;
+    Ok(copy)
 }
 
 fn permitted(
@@ -72,24 +71,21 @@ fn permitted(
     list: Vec<Value>,
     words: String,
 ) -> Result<Option<Changed>, AllocError> {
-    let memory = with(alloc, value.get(MEMORY), HEAPS, Value::Array(list))?;
-    Ok(Some(Changed {
-        value: with(alloc, Some(value), MEMORY, memory)?,
-        words,
-    }))
+    change_in_memory(alloc, value, HEAPS, Value::Array(list), words)
 }
 
-/// The index of the first heap of a list that the platform lacks and that nearly has the name of this one.
-fn near_in(
+/// The first heap of a list that the platform lacks and that nearly has the name of this one, with
+/// its index.
+fn near_in<'a>(
     alloc: Global,
-    list: &[Value],
+    list: &'a [Value],
     heap: &Heap,
     heaps: &[HeapInfo],
-) -> Result<Option<usize>, AllocError> {
+) -> Result<Option<(usize, &'a Value)>, AllocError> {
     let known = [heap.heap_type.as_str()];
     for (index, item) in list.iter().enumerate() {
         if !is_among(item, heaps) && nearest(alloc, type_in(item), &known)?.is_some() {
-            return Ok(Some(index));
+            return Ok(Some((index, item)));
         }
     }
     Ok(None)
@@ -109,20 +105,27 @@ pub(crate) fn meaning(
     let Some(list) = others_than(value, heap) else {
         return Ok(None);
     };
-    let Some(place) = near_in(alloc, list, heap, heaps)? else {
-        return Ok(None);
-    };
-    let mut copy = Vec::new(alloc);
-    let mut words = String::new(alloc);
-    for (index, item) in list.iter().enumerate() {
-        if index == place {
-            words = words_for(alloc, heap, item)?;
-            copy.push(heap_value(alloc, heap)?)?;
-        } else {
-            copy.push(item.clone()?)?;
+    match near_in(alloc, list, heap, heaps)? {
+        Some((place, item)) => {
+            let words = words_for(alloc, heap, item)?;
+            permitted(alloc, value, with_heap_at(alloc, list, place, heap)?, words)
         }
+        None => Ok(None),
     }
-    permitted(alloc, value, copy, words)
+}
+
+/// A list of heaps with another one at an index.
+fn with_heap_at(
+    alloc: Global,
+    list: &[Value],
+    place: usize,
+    heap: &Heap,
+) -> Result<Vec<Value>, AllocError> {
+    let mut copy = list.to_vec(alloc)?;
+    if let Some(item) = copy.get_mut(place) {
+        *item = heap_value(alloc, heap)?;
+    }
+    Ok(copy)
 }
 
 /// `permitted_heaps with cma#0 in the place of cmma#0`.

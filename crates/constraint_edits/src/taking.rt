@@ -2,10 +2,11 @@
 //! first.
 
 use crate::edits::{Changed, with_entries};
-use crate::objects::{entries_of, lacking, text_value, with};
+use crate::objects::{entries_of, members_of, text_value, with};
 use explanation_text::wording::put_few;
-use serde_json::Value;
+use serde_json::{Map, Value, put};
 use std::alloc::{AllocError, Global};
+use std::fmt;
 use sysmem_formats::Pair;
 
 const COLOURS: &str = "color_spaces";
@@ -14,54 +15,68 @@ const FORMAT: &str = "pixel_format";
 
 const MODIFIER: &str = "pixel_format_modifier";
 
-/// The names in a list of texts.
-fn names_in<'a>(alloc: Global, list: Option<&'a Value>) -> Result<Vec<&'a str>, AllocError> {
-    let mut names = Vec::new(alloc);
-    if let Some(items) = list.and_then(Value::as_array) {
-        for item in items {
-            names.push(item.as_str().unwrap_or(""))?;
-        }
-    }
-    Ok(names)
-}
-
 /// The constraints with a colour space more in each entry; `None` where each has it.
 pub(crate) fn taking_colour(
     alloc: Global,
     value: &Value,
     colour: &str,
 ) -> Result<Option<Changed>, AllocError> {
-    let mut words = String::new(alloc);
-    let mut copy = Vec::new(alloc);
-    for entry in entries_of(value) {
-        let names = names_in(alloc, entry.get(COLOURS))?;
-        if names.iter().any(|name| *name == colour) {
-            copy.push(entry.clone()?)?;
-            continue;
-        }
-        if words.is_empty() {
-            words = words_beside(alloc, colour, &names)?;
-        }
-        copy.push(with_colour(alloc, entry, colour)?)?;
+    let entries = entries_of(value);
+    let Some(first) = entries.iter().find(|entry| !takes(entry, colour)) else {
+        return Ok(None);
+    };
+    let words = words_beside(alloc, colour, first)?;
+    with_entries(alloc, value, entries_taking(alloc, entries, colour)?, words)
+}
+
+/// The colour spaces of an entry.
+fn colours_of(entry: &Value) -> &[Value] {
+    match entry.get(COLOURS).and_then(Value::as_array) {
+        Some(colours) => colours.as_slice(),
+        None => &[],
     }
-    with_entries(alloc, value, copy, words)
+}
+
+fn takes(entry: &Value, colour: &str) -> bool {
+    colours_of(entry)
+        .iter()
+        .any(|item| item.as_str() == Some(colour))
 }
 
 /// `color_spaces SRGB, with REC709 too`.
-fn words_beside(alloc: Global, colour: &str, names: &[&str]) -> Result<String, AllocError> {
+fn words_beside(alloc: Global, colour: &str, entry: &Value) -> Result<String, AllocError> {
     let mut words = String::from_str(alloc, "color_spaces ")?;
-    put_few(&mut words, names, 3)?;
+    put_colours(&mut words, colours_of(entry))?;
     write!(words, ", with {colour} too")?;
     Ok(words)
 }
 
-fn with_colour(alloc: Global, entry: &Value, colour: &str) -> Result<Value, AllocError> {
-    let mut list = Vec::new(alloc);
-    if let Some(items) = entry.get(COLOURS).and_then(Value::as_array) {
-        for item in items {
-            list.push(item.clone()?)?;
-        }
+fn put_colours(text: &mut String, colours: &[Value]) -> Result<(), AllocError> {
+    let mut names = Vec::new(*text.allocator());
+    for colour in colours {
+        names.push(colour.as_str().unwrap_or(""))?;
     }
+    put_few(text, &names, 3)
+}
+
+fn entries_taking(
+    alloc: Global,
+    entries: &[Value],
+    colour: &str,
+) -> Result<Vec<Value>, AllocError> {
+    let mut copy = Vec::new(alloc);
+    for entry in entries {
+        copy.push(if takes(entry, colour) {
+            entry.clone()?
+        } else {
+            with_colour(alloc, entry, colour)?
+        })?;
+    }
+    Ok(copy)
+}
+
+fn with_colour(alloc: Global, entry: &Value, colour: &str) -> Result<Value, AllocError> {
+    let mut list = colours_of(entry).to_vec(alloc)?;
     list.push(text_value(alloc, colour)?)?;
     with(alloc, Some(entry), COLOURS, Value::Array(list))
 }
@@ -83,12 +98,9 @@ pub(crate) fn taking_pair(
     let Some(like) = entries.get(index) else {
         return Ok(None);
     };
-    let mut copy = Vec::new(alloc);
-    copy.push(naming(alloc, like, pair)?)?;
-    for entry in entries {
-        copy.push(entry.clone()?)?;
-    }
     let words = words_on(alloc, like, index, pair)?;
+    let mut copy = vec![in alloc; naming(alloc, like, pair)?]?;
+    copy.extend_from_slice(entries)?;
     with_entries(alloc, value, copy, words)
 }
 
@@ -114,27 +126,38 @@ pub(crate) fn putting_first(
     if index == 0 {
         return Ok(None);
     }
-    let mut copy = Vec::new(alloc);
-    copy.push(entry.clone()?)?;
-    for (k, other) in entries.iter().enumerate() {
-        if k != index {
-            copy.push(other.clone()?)?;
-        }
-    }
     let shown = index.saturating_add(1);
-    let mut words = format!(in alloc; "entry {shown} (")?;
-    put_named(&mut words, entry)?;
-    words.push_str(") put first")?;
-    with_entries(alloc, value, copy, words)
+    let named = Named(entry);
+    let words = format!(in alloc; "entry {shown} ({named}) put first")?;
+    with_entries(alloc, value, with_first(alloc, entries, index)?, words)
+}
+
+/// Entries with that of an index before the others.
+fn with_first(alloc: Global, entries: &[Value], index: usize) -> Result<Vec<Value>, AllocError> {
+    let end = index.saturating_add(1);
+    let mut copy: Vec<Value> = Vec::new(alloc);
+    for part in [index..end, 0..index, end..entries.len()] {
+        copy.extend_from_slice(entries.get(part).unwrap_or(&[]))?;
+    }
+    Ok(copy)
 }
 
 /// An entry for a format and modifier alone, else like this one.
 fn naming(alloc: Global, entry: &Value, pair: Pair) -> Result<Value, AllocError> {
-    let single = lacking(alloc, entry, "pixel_format_and_modifiers")?;
-    let format = text_value(alloc, pair.format.name())?;
-    let named = with(alloc, Some(&single), FORMAT, format)?;
-    let modifier = text_value(alloc, pair.modifier.name())?;
-    with(alloc, Some(&named), MODIFIER, modifier)
+    let mut members = members_of(alloc, Some(entry))?;
+    let _gone = members.remove("pixel_format_and_modifiers");
+    put_text(&mut members, alloc, FORMAT, pair.format.name())?;
+    put_text(&mut members, alloc, MODIFIER, pair.modifier.name())?;
+    Ok(Value::Object(members))
+}
+
+fn put_text(
+    members: &mut Map<String, Value>,
+    alloc: Global,
+    key: &str,
+    text: &str,
+) -> Result<(), AllocError> {
+    put(members, alloc, key, text_value(alloc, text)?)
 }
 
 /// `pixel_format NV12 LINEAR too, in an entry before the others that is else like the first
@@ -142,28 +165,31 @@ fn naming(alloc: Global, entry: &Value, pair: Pair) -> Result<Value, AllocError>
 fn words_on(alloc: Global, like: &Value, index: usize, pair: Pair) -> Result<String, AllocError> {
     let format = pair.format.name();
     let modifier = pair.modifier.name();
+    let named = Named(like);
     let mut words = format!(in alloc;
         "pixel_format {format} {modifier} too, in an entry before the others that is else like "
     )?;
     if index == 0 {
-        words.push_str("the first (")?;
+        write!(words, "the first ({named})")?;
     } else {
         let shown = index.saturating_add(1);
-        write!(words, "entry {shown} (")?;
+        write!(words, "entry {shown} ({named})")?;
     }
-    put_named(&mut words, like)?;
-    words.push_str(")")?;
     Ok(words)
 }
 
-/// Puts the format and the modifier that an entry names after a text.
-fn put_named(text: &mut String, entry: &Value) -> Result<(), AllocError> {
-    text.push_str(text_in(entry, FORMAT).unwrap_or("several pairs"))?;
-    if let Some(modifier) = text_in(entry, MODIFIER) {
-        text.push_str(" ")?;
-        text.push_str(modifier)?;
+/// An entry, shown by the format and the modifier that it names.
+#[derive(Clone, Copy)]
+struct Named<'a>(&'a Value);
+
+impl fmt::Display for Named<'_> {
+    fn fmt<W: fmt::Write>(&self, f: &mut fmt::Formatter<W>) -> fmt::Result {
+        let format = text_in(self.0, FORMAT).unwrap_or("several pairs");
+        match text_in(self.0, MODIFIER) {
+            Some(modifier) => write!(f, "{format} {modifier}"),
+            None => write!(f, "{format}"),
+        }
     }
-    Ok(())
 }
 
 fn text_in<'a>(entry: &'a Value, key: &str) -> Option<&'a str> {

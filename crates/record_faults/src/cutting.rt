@@ -8,8 +8,8 @@ use sysmem_sanitise::{Code, Fault, read_constraints, read_platform};
 
 /// A copy of a value in which the list at a path has its first items alone, as many as are said.
 fn cut(alloc: Global, value: &Value, path: &[Step<'_>], most: usize) -> Result<Value, AllocError> {
-    let mut copy = value.clone()?;
     let pointer = pointer_of(alloc, path)?;
+    let mut copy = value.clone()?;
     if let Some(at) = copy.pointer_mut(&pointer) {
         if let Some(list) = at.as_array_mut() {
             list.truncate(most);
@@ -57,21 +57,20 @@ impl Narrowing {
 
     /// Whether a record has this fault as its first one.
     fn has_fault(&self, record: &Value) -> Result<bool, AllocError> {
-        let found = if self.is_platform {
-            match read_platform(self.alloc, record) {
-                Ok(_) => return Ok(false),
-                Err(fault) => fault,
-            }
-        } else {
-            match read_constraints(self.alloc, record) {
-                Ok(_) => return Ok(false),
-                Err(fault) => fault,
-            }
-        };
-        if matches!(found.code, Code::WantOfMemory) {
-            return Err(AllocError);
+        match self.fault_of(record) {
+            Some(found) if matches!(found.code, Code::WantOfMemory) => Err(AllocError),
+            Some(found) => Ok(found == self.fault),
+            None => Ok(false),
         }
-        Ok(found == self.fault)
+    }
+
+    /// The first fault of a record.
+    fn fault_of(&self, record: &Value) -> Option<Fault> {
+        if self.is_platform {
+            read_platform(self.alloc, record).err()
+        } else {
+            read_constraints(self.alloc, record).err()
+        }
     }
 
     /// The same of the record in which the list at a path has its first items alone, as many as are
@@ -128,9 +127,8 @@ impl Narrowing {
         if self.len(&path) == 0 {
             return Ok(path);
         }
-        let found = self.item(&path, 1)?;
         let mut path = path;
-        if let Some(index) = found {
+        if let Some(index) = self.item(&path, 1)? {
             path.push(Step::Item(index))?;
             path.extend_from_slice(rest)?;
         }

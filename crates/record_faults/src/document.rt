@@ -22,6 +22,13 @@ fn pointed(span: Span, part: Part) -> Span {
     }
 }
 
+/// `: calls[4].constraints`.
+fn path_words(alloc: Global, path: &[Step<'_>]) -> Result<String, AllocError> {
+    let mut words = String::from_str(alloc, ": ")?;
+    put_path(&mut words, path)?;
+    Ok(words)
+}
+
 /// A script's text.
 #[derive(Clone, Copy)]
 pub struct Document<'a> {
@@ -85,14 +92,11 @@ impl<'a> Document<'a> {
         helps: &[String],
     ) -> Result<(), AllocError> {
         let alloc = items.alloc();
-        let mut said = String::from_str(alloc, ": ")?;
-        put_path(&mut said, path)?;
-        match self.span(alloc, path, part)? {
+        let span = self.span(alloc, path, part)?;
+        let said = path_words(alloc, path)?;
+        match span {
             Some(span) => self.show(items, depth, pointed(span, part), &said, note, helps),
-            None => {
-                write!(said, ": {note}")?;
-                items.say(depth, "", said)
-            }
+            None => items.say(depth, "", format!(in alloc; "{said}: {note}")?),
         }
     }
 

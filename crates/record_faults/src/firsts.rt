@@ -1,6 +1,6 @@
 //! Where what a list has twice stands first.
 
-use crate::paths::{put_longer, with};
+use crate::paths::put_longer;
 use json_places::{Step, value_at};
 use serde_json::Value;
 use std::alloc::AllocError;
@@ -20,19 +20,21 @@ pub(crate) fn put_first_like(
     let Some((Step::Item(index), list)) = path.split_last() else {
         return Ok(false);
     };
-    let Some(mine) = value_at(script, path) else {
+    let Some(first) = first_item(script, path, list, *index) else {
         return Ok(false);
     };
-    let Some(items) = value_at(script, list).and_then(Value::as_array) else {
-        return Ok(false);
-    };
-    for (k, other) in items.iter().take(*index).enumerate() {
-        if is_same_name(other, mine) {
-            put_longer(text, list, Step::Item(k))?;
-            return Ok(true);
-        }
-    }
-    Ok(false)
+    put_longer(text, list, &[Step::Item(first)])?;
+    Ok(true)
+}
+
+/// The index of the first item of a list, before an index, that is the same as the value at a path.
+fn first_item(script: &Value, path: &[Step<'_>], list: &[Step<'_>], index: usize) -> Option<usize> {
+    let mine = value_at(script, path)?;
+    let items = value_at(script, list)?.as_array()?;
+    items
+        .iter()
+        .take(index)
+        .position(|other| is_same_name(other, mine))
 }
 
 /// Whether two names, heaps or pairs are the same one.
@@ -70,13 +72,21 @@ fn is_same_pair(a: &Value, b: &Value) -> bool {
             == text_of(b, "pixel_format_modifier", absent)
 }
 
+/// Where in an entry a pair stands.
+#[derive(Clone, Copy)]
+enum Place {
+    /// As its own.
+    Own,
+    /// Among its further pairs, at an index.
+    Further(usize),
+}
+
 /// Puts where the pair at a path stands first among the pairs of a record's entries.
 fn put_first_pair(
     text: &mut String,
     script: &Value,
     path: &[Step<'_>],
 ) -> Result<bool, AllocError> {
-    let alloc = *text.allocator();
     let Some(end) = path.iter().position(|step| matches!(
         *step,
         Step::Key("image_format_constraints")
@@ -85,60 +95,42 @@ fn put_first_pair(
         return Ok(false);
     };
     let base = path.get(..end.saturating_add(1)).unwrap_or(path);
+    let Some((index, place)) = first_pair(script, path, base) else {
+        return Ok(false);
+    };
+    let entry = Step::Item(index);
+    match place {
+        Place::Own => put_longer(text, base, &[entry, Step::Key("pixel_format")])?,
+        Place::Further(index) => {
+            let pairs = Step::Key("pixel_format_and_modifiers");
+            put_longer(text, base, &[entry, pairs, Step::Item(index)])?;
+        }
+    }
+    Ok(true)
+}
+
+/// The first entry of the list at a path that has the pair at another path, by its index, and where
+/// it has it.
+fn first_pair(script: &Value, path: &[Step<'_>], list: &[Step<'_>]) -> Option<(usize, Place)> {
     let mine = match path.split_last() {
-        Some((Step::Key(_), entry)) => value_at(script, entry),
-        _ => value_at(script, path),
+        Some((Step::Key(_), entry)) => value_at(script, entry)?,
+        _ => value_at(script, path)?,
     };
-    let (Some(mine), Some(entries)) = (mine, value_at(script, base).and_then(Value::as_array))
-    else {
-        return Ok(false);
-    };
-    for (i, entry) in entries.iter().enumerate() {
-        let at = with(alloc, base, Step::Item(i))?;
-        if put_first_of(text, entry, &at, mine)? {
-            return Ok(true);
+    let entries = value_at(script, list)?.as_array()?;
+    for (index, entry) in entries.iter().enumerate() {
+        if let Some(place) = place_in(entry, mine) {
+            return Some((index, place));
         }
     }
-    Ok(false)
+    None
 }
 
-/// The same in an entry.
-fn put_first_of(
-    text: &mut String,
-    entry: &Value,
-    path: &[Step<'_>],
-    mine: &Value,
-) -> Result<bool, AllocError> {
+/// Where an entry has a pair first, if it does.
+fn place_in(entry: &Value, mine: &Value) -> Option<Place> {
     if entry.get("pixel_format").is_some() && is_same_pair(entry, mine) {
-        put_longer(text, path, Step::Key("pixel_format"))?;
-        return Ok(true);
+        return Some(Place::Own);
     }
-    let further = with(
-        *text.allocator(),
-        path,
-        Step::Key("pixel_format_and_modifiers"),
-    )?;
-    put_first_further(text, entry, &further, mine)
-}
-
-/// The same among an entry's further pairs.
-fn put_first_further(
-    text: &mut String,
-    entry: &Value,
-    path: &[Step<'_>],
-    mine: &Value,
-) -> Result<bool, AllocError> {
-    let Some(pairs) = entry
-        .get("pixel_format_and_modifiers")
-        .and_then(Value::as_array)
-    else {
-        return Ok(false);
-    };
-    for (j, pair) in pairs.iter().enumerate() {
-        if is_same_pair(pair, mine) {
-            put_longer(text, path, Step::Item(j))?;
-            return Ok(true);
-        }
-    }
-    Ok(false)
+    let pairs = entry.get("pixel_format_and_modifiers")?.as_array()?;
+    let index = pairs.iter().position(|pair| is_same_pair(pair, mine))?;
+    Some(Place::Further(index))
 }

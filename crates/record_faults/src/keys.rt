@@ -127,64 +127,112 @@ pub(crate) fn range_of(field: &str) -> (u64, u64) {
     }
 }
 
+/// Texts, each with what stands for it.
+pub(crate) type Table = &'static [(&'static str, &'static str)];
+
+/// What stands for a text, if it is in a table.
+pub(crate) fn found(table: Table, text: &str) -> Option<&'static str> {
+    for (key, words) in table {
+        if *key == text {
+            return Some(*words);
+        }
+    }
+    None
+}
+
+const SIDES: &str =
+    "an object with just width and height, whole numbers of pixels from 0 to 4294967295";
+
+const SIDES_OF_MULTIPLES: &str =
+    "an object with just width and height, whole numbers of pixels from 1 to 65536";
+
+const ROW: &str = "a whole number of bytes, 0 to 4294967295";
+
+const BYTES: &str = "a whole number of bytes, 0 to 18446744073709551615";
+
+const DIVISOR: &str = "a whole number of bytes, 1 to 65536";
+
+/// What may stand at a field of constraints or of a platform, where it is no flag and no number of
+/// buffers.
+const ALLOWED: Table = &[
+    ("buffer_memory_constraints", "an object"),
+    ("min_size", SIDES),
+    ("max_size", SIDES),
+    ("size_alignment", SIDES_OF_MULTIPLES),
+    ("display_rect_alignment", SIDES_OF_MULTIPLES),
+    ("required_min_size", SIDES),
+    ("required_max_size", SIDES),
+    ("min_size_bytes", BYTES),
+    ("max_size_bytes", BYTES),
+    ("bytes_per_row_divisor", DIVISOR),
+    ("start_offset_divisor", DIVISOR),
+    ("min_bytes_per_row", ROW),
+    ("max_bytes_per_row", ROW),
+    (
+        "max_width_times_height",
+        "a whole number of pixels, 1 to 18446744073709551615",
+    ),
+    ("id", "a whole number, 0 to 18446744073709551615"),
+    ("pixel_format", "the name of a format, or DO_NOT_CARE"),
+    (
+        "pixel_format_modifier",
+        "LINEAR, INTEL_I915_X_TILED, INTEL_I915_Y_TILED or DO_NOT_CARE",
+    ),
+    (
+        "heap_type",
+        "1 to 128 ASCII letters, digits, '.', '_' or '-'",
+    ),
+    (
+        "usage",
+        "a list of none alone, or of one or more of cpu, vulkan, display and video",
+    ),
+    (
+        "color_spaces",
+        "a list of names, one at least; DO_NOT_CARE takes any",
+    ),
+    (
+        "domains",
+        "a list of cpu, ram or inaccessible; one at least, none twice",
+    ),
+    (
+        "permitted_heaps",
+        "a list of at most 64 heaps, each an object with heap_type and id, none twice",
+    ),
+    ("image_format_constraints", "a list of entries"),
+    (
+        "heaps",
+        "a list of 1 to 64 heaps, no two of one heap_type and id",
+    ),
+    (
+        "pairs",
+        "a list of objects with pixel_format and pixel_format_modifier, one at least, none twice",
+    ),
+    (
+        "pixel_format_and_modifiers",
+        "a list of objects with pixel_format and pixel_format_modifier",
+    ),
+];
+
+/// What else may stand there in a platform.
+const ALLOWED_IN_PLATFORM: Table = &[
+    ("pixel_format", "the name of a format"),
+    (
+        "pixel_format_modifier",
+        "LINEAR, INTEL_I915_X_TILED or INTEL_I915_Y_TILED",
+    ),
+    ("color_spaces", "a list of names, one at least, none twice"),
+];
+
 /// What may stand at a field, in words.
 pub(crate) fn allowed(field: &str, is_platform: bool) -> &'static str {
-    match due_at(field) {
-        Due::Flag => "true or false",
-        Due::Size => allowed_size(field),
-        Due::Number => allowed_number(field),
-        Due::Name => allowed_name(field, is_platform),
-        Due::List => allowed_list(field, is_platform),
-        Due::Object => "an object",
-    }
-}
-
-fn allowed_size(field: &str) -> &'static str {
-    if field == "size_alignment" || field == "display_rect_alignment" {
-        return "an object with just width and height, whole numbers of pixels from 1 to 65536";
-    }
-    "an object with just width and height, whole numbers of pixels from 0 to 4294967295"
-}
-
-fn allowed_number(field: &str) -> &'static str {
-    match field {
-        "min_size_bytes" | "max_size_bytes" => "a whole number of bytes, 0 to 18446744073709551615",
-        "bytes_per_row_divisor" | "start_offset_divisor" => "a whole number of bytes, 1 to 65536",
-        "min_bytes_per_row" | "max_bytes_per_row" => "a whole number of bytes, 0 to 4294967295",
-        "max_width_times_height" => "a whole number of pixels, 1 to 18446744073709551615",
-        "id" => "a whole number, 0 to 18446744073709551615",
-        _ => "a whole number of buffers, 0 to 4294967295",
-    }
-}
-
-fn allowed_name(field: &str, is_platform: bool) -> &'static str {
-    match field {
-        "pixel_format" if is_platform => "the name of a format",
-        "pixel_format" => "the name of a format, or DO_NOT_CARE",
-        "pixel_format_modifier" if is_platform => {
-            "LINEAR, INTEL_I915_X_TILED or INTEL_I915_Y_TILED"
+    if is_platform {
+        if let Some(words) = found(ALLOWED_IN_PLATFORM, field) {
+            return words;
         }
-        "pixel_format_modifier" => {
-            "LINEAR, INTEL_I915_X_TILED, INTEL_I915_Y_TILED or DO_NOT_CARE"
-        }
-        _ => "1 to 128 ASCII letters, digits, '.', '_' or '-'",
     }
-}
-
-fn allowed_list(field: &str, is_platform: bool) -> &'static str {
-    match field {
-        "usage" => { "a list of none alone, or of one or more of cpu, vulkan, display and video" }
-        "color_spaces" if is_platform => "a list of names, one at least, none twice",
-        "color_spaces" => "a list of names, one at least; DO_NOT_CARE takes any",
-        "domains" => "a list of cpu, ram or inaccessible; one at least, none twice",
-        "permitted_heaps" => {
-            "a list of at most 64 heaps, each an object with heap_type and id, none twice"
-        }
-        "image_format_constraints" => "a list of entries",
-        "heaps" => "a list of 1 to 64 heaps, no two of one heap_type and id",
-        "pairs" => {
-            "a list of objects with pixel_format and pixel_format_modifier, one at least, none twice"
-        }
-        _ => "a list of objects with pixel_format and pixel_format_modifier",
+    match found(ALLOWED, field) {
+        Some(words) => words,
+        None if is_one_of(field, FLAGS) => "true or false",
+        None => "a whole number of buffers, 0 to 4294967295",
     }
 }

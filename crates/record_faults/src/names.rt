@@ -1,6 +1,6 @@
 //! The names of the profile, and other people's names for what it has.
 
-use crate::keys::is_one_of;
+use crate::keys::{Table, found, is_one_of};
 use explanation_text::nearest;
 use explanation_text::wording::put_joined;
 use std::alloc::{AllocError, Global};
@@ -81,11 +81,8 @@ pub(crate) fn names_for(field: &str, is_platform: bool) -> &'static [&'static st
     }
 }
 
-/// Other people's names, each with the name of the profile.
-type Others = &'static [(&'static str, &'static str)];
-
-/// Formats as DRM names them, without its prefix.
-const FORMATS_OF_DRM: Others = &[
+/// Formats as DRM names them, without its prefix, each with its name in the profile.
+const FORMATS_OF_DRM: Table = &[
     ("ABGR8888", "R8G8B8A8"),
     ("AB24", "R8G8B8A8"),
     ("ARGB8888", "B8G8R8A8"),
@@ -107,7 +104,7 @@ const FORMATS_OF_DRM: Others = &[
     ("YVU420", "YV12"),
 ];
 
-const MODIFIERS_OF_DRM: Others = &[
+const MODIFIERS_OF_DRM: Table = &[
     ("DRM_FORMAT_MOD_LINEAR", "LINEAR"),
     ("MOD_LINEAR", "LINEAR"),
     ("I915_FORMAT_MOD_X_TILED", "INTEL_I915_X_TILED"),
@@ -118,7 +115,7 @@ const MODIFIERS_OF_DRM: Others = &[
     ("Y_TILED", "INTEL_I915_Y_TILED"),
 ];
 
-const USAGES_OF_WORDS: Others = &[
+const USAGES_OF_WORDS: Table = &[
     ("gpu", "vulkan"),
     ("render", "vulkan"),
     ("opengl", "vulkan"),
@@ -135,7 +132,7 @@ const USAGES_OF_WORDS: Others = &[
     ("CPU", "cpu"),
 ];
 
-const COLOURS_OF_WORDS: Others = &[
+const COLOURS_OF_WORDS: Table = &[
     ("BT709", "REC709"),
     ("bt709", "REC709"),
     ("BT.709", "REC709"),
@@ -150,14 +147,15 @@ const COLOURS_OF_WORDS: Others = &[
     ("BT.601", "REC601_NTSC or REC601_PAL"),
 ];
 
-/// The name of the profile for another one, if it is among these.
-fn known_as(others: Others, name: &str) -> Option<&'static str> {
-    for (other, known) in others {
-        if *other == name {
-            return Some(*known);
-        }
+/// Other people's names for those that a field takes, each with the name of the profile; of formats
+/// see `FORMATS_OF_DRM`.
+fn others_for(field: &str) -> Table {
+    match field {
+        "pixel_format_modifier" => MODIFIERS_OF_DRM,
+        "usage" => USAGES_OF_WORDS,
+        "color_spaces" => COLOURS_OF_WORDS,
+        _ => &[],
     }
-    None
 }
 
 /// Names that Fuchsia has and this profile leaves out.
@@ -171,33 +169,6 @@ const LEFT_OUT: &[&str] = &[
     "PASSTHROUGH",
 ];
 
-/// What an unknown name of a format may mean, in words; empty where nothing is known.
-fn hint_of_format(alloc: Global, name: &str) -> Result<String, AllocError> {
-    let drm = name.strip_prefix("DRM_FORMAT_").unwrap_or(name);
-    if let Some(format) = known_as(FORMATS_OF_DRM, drm) {
-        return format!(in alloc; "DRM's {drm} is {format} here");
-    }
-    if is_one_of(drm, FORMATS) {
-        return format!(in alloc; "it is written {drm}");
-    }
-    Ok(String::new(alloc))
-}
-
-/// What is known of a name of another family; empty where nothing is.
-fn hint_of_other(alloc: Global, field: &str, name: &str) -> Result<String, AllocError> {
-    let known = match field {
-        "pixel_format" => return hint_of_format(alloc, name),
-        "pixel_format_modifier" => known_as(MODIFIERS_OF_DRM, name),
-        "usage" => known_as(USAGES_OF_WORDS, name),
-        "color_spaces" => known_as(COLOURS_OF_WORDS, name),
-        _ => None,
-    };
-    match known {
-        Some(known) => format!(in alloc; "it is {known} here"),
-        None => Ok(String::new(alloc)),
-    }
-}
-
 /// What an unknown name at a field may mean, in words; or else the names that the field takes.
 pub(crate) fn hint_of_name(
     alloc: Global,
@@ -205,18 +176,47 @@ pub(crate) fn hint_of_name(
     name: &str,
     is_platform: bool,
 ) -> Result<String, AllocError> {
-    let hint = hint_of_other(alloc, field, name)?;
-    if !hint.is_empty() {
-        return Ok(hint);
+    let known = names_for(field, is_platform);
+    if field == "pixel_format" {
+        return hint_of_format(alloc, name, known);
     }
+    match found(others_for(field), name) {
+        Some(meant) => format!(in alloc; "it is {meant} here"),
+        None => hint_of_known(alloc, name, known),
+    }
+}
+
+/// The same of a format.
+fn hint_of_format(alloc: Global, name: &str, known: &[&str]) -> Result<String, AllocError> {
+    let drm = name.strip_prefix("DRM_FORMAT_").unwrap_or(name);
+    if let Some(format) = found(FORMATS_OF_DRM, drm) {
+        return format!(in alloc; "DRM's {drm} is {format} here");
+    }
+    if is_one_of(drm, FORMATS) {
+        return format!(in alloc; "it is written {drm}");
+    }
+    hint_of_known(alloc, name, known)
+}
+
+/// The same of a name that nobody else is known to have.
+fn hint_of_known(alloc: Global, name: &str, known: &[&str]) -> Result<String, AllocError> {
     if is_one_of(name, LEFT_OUT) {
         return String::from_str(alloc, "Fuchsia has it, this profile doesn't");
     }
-    let known = names_for(field, is_platform);
-    if let Some(near) = nearest(alloc, name, known)? {
-        return format!(in alloc; "did you mean {near}?");
+    match nearest(alloc, name, known)? {
+        Some(near) => format!(in alloc; "did you mean {near}?"),
+        None => listed(alloc, "allowed: ", known, "or"),
     }
-    let mut words = String::from_str(alloc, "allowed: ")?;
-    put_joined(&mut words, known, "or")?;
+}
+
+/// Names after a text, the last with a word before it.
+pub(crate) fn listed(
+    alloc: Global,
+    text: &str,
+    names: &[&str],
+    word: &str,
+) -> Result<String, AllocError> {
+    let mut words = String::from_str(alloc, text)?;
+    put_joined(&mut words, names, word)?;
     Ok(words)
 }

@@ -36,10 +36,7 @@ pub(crate) fn put_path(text: &mut String, path: &[Step<'_>]) -> Result<(), Alloc
     for (k, step) in path.iter().enumerate() {
         match *step {
             Step::Key(key) => {
-                if 0 < k {
-                    text.push_str(".")?;
-                }
-                put_key(text, key)?;
+                put_key(text, if 0 < k { "." } else { "" }, key)?;
             }
             Step::Item(index) => write!(text, "[{index}]")?,
         }
@@ -47,25 +44,23 @@ pub(crate) fn put_path(text: &mut String, path: &[Step<'_>]) -> Result<(), Alloc
     Ok(())
 }
 
-/// Puts a path with a further step after a text.
-pub(crate) fn put_longer(
+/// Puts a path with further steps after a text.
+pub(crate) fn put_longer<'a>(
     text: &mut String,
-    path: &[Step<'_>],
-    step: Step<'_>,
+    path: &[Step<'a>],
+    steps: &[Step<'a>],
 ) -> Result<(), AllocError> {
-    let longer = with(*text.allocator(), path, step)?;
+    let longer = joined(*text.allocator(), path, steps)?;
     put_path(text, &longer)
 }
 
-/// Puts a key after a text, the front of it where it is long.
-fn put_key(text: &mut String, key: &str) -> Result<(), AllocError> {
-    let mut front = String::new(*text.allocator());
-    for c in key.chars().take(MOST) {
-        front.push(c)?;
-    }
-    put_visible(text, &front)?;
-    if front.len() < key.len() {
-        text.push_str("...")?;
-    }
-    Ok(())
+/// Puts a key after a text and a mark, the front of it where it is long.
+fn put_key(text: &mut String, mark: &str, key: &str) -> Result<(), AllocError> {
+    let front = match key.char_indices().nth(MOST) {
+        Some((end, _)) => key.get(..end).unwrap_or(key),
+        None => key,
+    };
+    text.push_str(mark)?;
+    put_visible(text, front)?;
+    text.push_str(if front.len() < key.len() { "..." } else { "" })
 }

@@ -8,11 +8,10 @@ use crate::keys::{
     due_at, is_one_of,
 };
 use crate::kinds::{is_number_within, wrong_kind, wrong_number, wrong_value};
-use crate::names::hint_of_name;
-use crate::paths::{joined, with};
+use crate::names::{hint_of_name, listed};
+use crate::paths::{Path, joined, with};
 use crate::record_place::place_of;
 use crate::unknown::{first_unknown, key_of};
-use explanation_text::wording::put_joined;
 use explanation_text::{Items, nearest};
 use json_places::Step;
 use serde_json::Value;
@@ -43,8 +42,7 @@ pub fn tell_record_fault<'a>(
     let Some(record) = document.at(base) else {
         return Ok(());
     };
-    let place = place_of(items.alloc(), record, fault, is_platform)?;
-    let path = joined(items.alloc(), base, &place)?;
+    let path = path_of(items.alloc(), base, record, fault, is_platform)?;
     let faulty = Faulty {
         document,
         depth,
@@ -56,6 +54,18 @@ pub fn tell_record_fault<'a>(
         Some(value) => tell_value(items, faulty, value),
         None => tell_missing(items, faulty),
     }
+}
+
+/// The path from the script to the value that the first fault of the record at a path is about.
+fn path_of<'a>(
+    alloc: Global,
+    base: &[Step<'a>],
+    record: &Value,
+    fault: Fault,
+    is_platform: bool,
+) -> Result<Path<'a>, AllocError> {
+    let place = place_of(alloc, record, fault, is_platform)?;
+    joined(alloc, base, &place)
 }
 
 /// Tells what is wrong with a value that is there.
@@ -297,14 +307,26 @@ fn first_like(
     code: Code,
 ) -> Result<Vec<String>, AllocError> {
     let mut helps = Vec::new(alloc);
-    let mut first = String::from_str(alloc, "first at ")?;
-    if put_first_like(&mut first, faulty.document.value, faulty.path, code)? {
+    if let Some(first) = first_words(alloc, faulty, code)? {
         helps.push(first)?;
     }
     if code == Code::RepeatedPair {
         helps.push(String::from_str(alloc, "an absent modifier is LINEAR")?)?;
     }
     Ok(helps)
+}
+
+/// `first at calls[4].constraints.usage[0]`.
+fn first_words(
+    alloc: Global,
+    faulty: Faulty<'_, '_>,
+    code: Code,
+) -> Result<Option<String>, AllocError> {
+    let mut first = String::from_str(alloc, "first at ")?;
+    if put_first_like(&mut first, faulty.document.value, faulty.path, code)? {
+        return Ok(Some(first));
+    }
+    Ok(None)
 }
 
 /// What an unknown key may be: one of another object, or a known one that is misspelt.
@@ -314,27 +336,18 @@ fn help_of_key(
     keys: &'static [&'static str],
     is_platform: bool,
 ) -> Result<Option<String>, AllocError> {
-    let owner = if is_platform {
-        None
-    } else {
-        owner_of(key, keys)
-    };
-    if let Some(owner) = owner {
-        return Ok(Some(format!(in alloc; "{key} belongs in {owner}")?));
+    match owner_of(key, keys) {
+        Some(owner) if !is_platform => Ok(Some(format!(in alloc; "{key} belongs in {owner}")?)),
+        _ => match nearest(alloc, key, keys)? {
+            Some(near) => did_you_mean(alloc, near),
+            None if is_platform => keys_here(alloc, keys),
+            None => help_elsewhere(alloc, key, keys),
+        },
     }
-    if let Some(near) = nearest(alloc, key, keys)? {
-        return Ok(Some(format!(in alloc; "did you mean {near}?")?));
-    }
-    if is_platform {
-        return keys_here(alloc, keys);
-    }
-    if let Some(help) = help_elsewhere(alloc, key, keys)? {
-        return Ok(Some(help));
-    }
-    match begins_alike(key, keys) {
-        Some(near) => Ok(Some(format!(in alloc; "did you mean {near}?")?)),
-        None => keys_here(alloc, keys),
-    }
+}
+
+fn did_you_mean(alloc: Global, near: &str) -> Result<Option<String>, AllocError> {
+    Ok(Some(format!(in alloc; "did you mean {near}?")?))
 }
 
 /// The keys that an object can have, where they are few.
@@ -342,9 +355,7 @@ fn keys_here(alloc: Global, keys: &[&str]) -> Result<Option<String>, AllocError>
     if keys.len() > 5 {
         return Ok(None);
     }
-    let mut help = String::from_str(alloc, "keys here: ")?;
-    put_joined(&mut help, keys, "and")?;
-    Ok(Some(help))
+    Ok(Some(listed(alloc, "keys here: ", keys, "and")?))
 }
 
 /// The objects of constraints, with their keys.
@@ -367,15 +378,34 @@ fn owner_of(key: &str, keys: &[&str]) -> Option<&'static str> {
     None
 }
 
-/// A key of another object that is near.
-fn help_elsewhere(alloc: Global, key: &str, keys: &[&str]) -> Result<Option<String>, AllocError> {
+/// A key of another object that is near, or one of these that begins alike; or else these.
+fn help_elsewhere(
+    alloc: Global,
+    key: &str,
+    keys: &'static [&'static str],
+) -> Result<Option<String>, AllocError> {
+    if let Some((near, name)) = near_elsewhere(alloc, key, keys)? {
+        let help = format!(in alloc; "did you mean {near}? It belongs in {name}")?;
+        return Ok(Some(help));
+    }
+    match begins_alike(key, keys) {
+        Some(near) => did_you_mean(alloc, near),
+        None => keys_here(alloc, keys),
+    }
+}
+
+/// A key of another object that is near, with that object.
+fn near_elsewhere(
+    alloc: Global,
+    key: &str,
+    keys: &[&str],
+) -> Result<Option<(&'static str, &'static str)>, AllocError> {
     for (name, others) in OBJECTS {
         if others.first() == keys.first() {
             continue;
         }
         if let Some(near) = nearest(alloc, key, others)? {
-            let help = format!(in alloc; "did you mean {near}? It belongs in {name}")?;
-            return Ok(Some(help));
+            return Ok(Some((near, *name)));
         }
     }
     Ok(None)

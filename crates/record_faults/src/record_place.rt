@@ -3,7 +3,7 @@
 use crate::cutting::Narrowing;
 use crate::keys::{ENTRY, HEAP_NAME, MEMORY, PAIR, is_one_of};
 use crate::names::MODIFIERS_OR_ANY;
-use crate::paths::{Path, with};
+use crate::paths::{Path, joined, with};
 use json_places::{Step, value_at};
 use serde_json::Value;
 use std::alloc::{AllocError, Global};
@@ -124,19 +124,28 @@ fn place_in_pairs(
     if at == "pixel_format_modifier" && has_wrong_modifier(value_at(record, entry)) {
         return Ok(None);
     }
-    let mut path = with(alloc, entry, Step::Key("pixel_format_and_modifiers"))?;
-    if !has_items(value_at(record, &path)) {
+    let pairs = with(alloc, entry, Step::Key("pixel_format_and_modifiers"))?;
+    if !has_items(value_at(record, &pairs)) {
         return Ok(None);
     }
     let own = value_at(record, entry).and_then(|entry| entry.get("pixel_format"));
-    let Some(index) = cut.item(&path, usize::from(own.is_none()))? else {
-        return Ok(None);
-    };
-    path.push(Step::Item(index))?;
-    if is_one_of(at, PAIR) {
-        path.push(Step::Key(at))?;
+    match cut.item(&pairs, usize::from(own.is_none()))? {
+        Some(index) => Ok(Some(pair_path(alloc, &pairs, index, at)?)),
+        None => Ok(None),
     }
-    Ok(Some(path))
+}
+
+/// The path of a further pair, or of what is faulty in it.
+fn pair_path(
+    alloc: Global,
+    pairs: &[Step<'static>],
+    index: usize,
+    at: &'static str,
+) -> Result<Path<'static>, AllocError> {
+    if is_one_of(at, PAIR) {
+        return joined(alloc, pairs, &[Step::Item(index), Step::Key(at)]);
+    }
+    with(alloc, pairs, Step::Item(index))
 }
 
 /// Whether a value is a list that isn't empty.

@@ -23,27 +23,39 @@ pub fn first_unknown<'a>(
     let Some(members) = object.as_object() else {
         return Ok(None);
     };
-    let mut first: Option<(usize, Path<'a>)> = None;
+    let mut first: Option<&'a str> = None;
+    let mut least = usize::MAX;
     let mut seen = 0usize;
     for key in members.keys() {
         if is_one_of(key, keys) || seen >= MOST {
             continue;
         }
         seen = seen.saturating_add(1);
-        let longer = with(alloc, path, Step::Key(key.as_str()))?;
-        let start = match document.span(alloc, &longer, Part::Key)? {
-            Some(span) => span.start,
-            None => usize::MAX,
-        };
-        let is_first = match &first {
-            Some((least, _)) => start < *least,
-            None => true,
-        };
-        if is_first {
-            first = Some((start, longer));
+        let start = start_of(alloc, document, path, key.as_str())?;
+        if start < least || first.is_none() {
+            least = start;
+            first = Some(key.as_str());
         }
     }
-    Ok(first.map(|(_, path)| path))
+    match first {
+        Some(key) => Ok(Some(with(alloc, path, Step::Key(key))?)),
+        None => Ok(None),
+    }
+}
+
+/// Where the key of a member of the object at a path stands; behind all others where it isn't
+/// found.
+fn start_of<'a>(
+    alloc: Global,
+    document: &Document<'a>,
+    path: &[Step<'a>],
+    key: &'a str,
+) -> Result<usize, AllocError> {
+    let longer = with(alloc, path, Step::Key(key))?;
+    match document.span(alloc, &longer, Part::Key)? {
+        Some(span) => Ok(span.start),
+        None => Ok(usize::MAX),
+    }
 }
 
 /// The key of the member at a path; empty where the path ends with no key.

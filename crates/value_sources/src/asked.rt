@@ -25,8 +25,8 @@ pub fn put_has(
     many: &str,
 ) -> Result<(), AllocError> {
     put_people(text, people)?;
-    text.push_str(" ")?;
-    text.push_str(if people.len() == 1 { one } else { many })
+    let word = if people.len() == 1 { one } else { many };
+    write!(text, " {word}")
 }
 
 /// Puts the names of participants after a text.

@@ -88,13 +88,11 @@ fn put_held(text: &mut String, people: &[Asked<'_>]) -> Result<(), AllocError> {
     let start = text.len();
     put_part(text, start, people, Part::Camping, "camping")?;
     put_part(text, start, people, Part::Dedicated, "dedicated slack")?;
-    if let Some((name, value)) = greatest(people, Part::Shared) {
-        if text.len() > start {
-            text.push_str(" + ")?;
-        }
-        write!(text, "{name} {value} (shared slack, the greatest)")?;
+    let mark = if text.len() > start { " + " } else { "" };
+    match greatest(people, Part::Shared) {
+        Some((name, value)) => write!(text, "{mark}{name} {value} (shared slack, the greatest)"),
+        None => Ok(()),
     }
-    Ok(())
 }
 
 fn put_part(
@@ -104,7 +102,19 @@ fn put_part(
     part: Part,
     word: &str,
 ) -> Result<(), AllocError> {
-    let alloc = *text.allocator();
+    let parts = parts_of(*text.allocator(), people, part)?;
+    if parts.is_empty() {
+        return Ok(());
+    }
+    let mark = if text.len() > start { " + " } else { "" };
+    if parts.len() > MOST_PARTS {
+        return put_many(text, mark, &parts, word, total(people, part));
+    }
+    put_sum(text, mark, &parts, word)
+}
+
+/// Who asks for some of a part, each with how many: `camera 2`.
+fn parts_of(alloc: Global, people: &[Asked<'_>], part: Part) -> Result<Vec<String>, AllocError> {
     let mut parts: Vec<String> = Vec::new(alloc);
     for one in people {
         let value = value_of(one, part);
@@ -113,31 +123,29 @@ fn put_part(
             parts.push(format!(in alloc; "{name} {value}")?)?;
         }
     }
-    if parts.is_empty() {
-        return Ok(());
-    }
-    if text.len() > start {
-        text.push_str(" + ")?;
-    }
-    let count = parts.len();
-    if count > MOST_PARTS {
-        let sum = total(people, part);
-        write!(text, "{sum} ({word} of {count}: ")?;
-        put_texts(text, &parts, MOST_PARTS.saturating_sub(1))?;
-        return text.push_str(")");
-    }
-    put_sum(text, &parts)?;
-    write!(text, " ({word})")
+    Ok(parts)
 }
 
-fn put_sum(text: &mut String, parts: &[String]) -> Result<(), AllocError> {
-    for (k, one) in parts.iter().enumerate() {
-        if 0 < k {
-            text.push_str(" + ")?;
-        }
-        text.push_str(one)?;
+fn put_many(
+    text: &mut String,
+    mark: &str,
+    parts: &[String],
+    word: &str,
+    sum: u64,
+) -> Result<(), AllocError> {
+    let count = parts.len();
+    write!(text, "{mark}{sum} ({word} of {count}: ")?;
+    put_texts(text, parts, MOST_PARTS.saturating_sub(1))?;
+    text.push_str(")")
+}
+
+fn put_sum(text: &mut String, mark: &str, parts: &[String], word: &str) -> Result<(), AllocError> {
+    let mut before = mark;
+    for one in parts {
+        write!(text, "{before}{one}")?;
+        before = " + ";
     }
-    Ok(())
+    write!(text, " ({word})")
 }
 
 /// The least count that the participants need.
@@ -152,21 +160,23 @@ fn needed(people: &[Asked<'_>]) -> u64 {
 /// Where that count comes from.
 pub fn why_needed(alloc: Global, people: &[Asked<'_>]) -> Result<String, AllocError> {
     let mut text = String::new(alloc);
-    let sum = held(people);
-    let most = greatest(people, Part::Minimum);
-    if sum >= needed(people) {
-        put_held(&mut text, people)?;
-        return Ok(text);
-    }
-    let Some((name, _)) = most else {
-        return String::from_str(alloc, "nobody asks for more than one");
-    };
-    write!(text, "{name} min_buffer_count")?;
-    if sum > 0 {
-        write!(text, "; held are {sum}: ")?;
-        put_held(&mut text, people)?;
-    }
+    put_why(&mut text, people)?;
     Ok(text)
+}
+
+fn put_why(text: &mut String, people: &[Asked<'_>]) -> Result<(), AllocError> {
+    let sum = held(people);
+    if sum >= needed(people) {
+        return put_held(text, people);
+    }
+    let Some((name, _)) = greatest(people, Part::Minimum) else {
+        return text.push_str("nobody asks for more than one");
+    };
+    if sum == 0 {
+        return write!(text, "{name} min_buffer_count");
+    }
+    write!(text, "{name} min_buffer_count; held are {sum}: ")?;
+    put_held(text, people)
 }
 
 /// Whether a line on the count is true of participants; of more than 128 only the first are asked.
@@ -180,17 +190,26 @@ pub fn is_count_line(field: Field, people: &[Asked<'_>]) -> bool
 pub fn count_text(alloc: Global, field: Field, people: &[Asked<'_>]) -> Result<String, AllocError> {
     let mut text = String::new(alloc);
     put_has(&mut text, people, "needs", "need")?;
-    let count = needed(people);
-    let why = why_needed(alloc, people)?;
-    write!(text, " {count} buffers: {why}")?;
-    if field == Field::BufferCountLimit {
-        write!(text, "; there are at most {BUFFER_COUNT_LIMIT}")?;
-        return Ok(text);
-    }
-    if let Some((name, most)) = least_maximum(people) {
-        write!(text, "; {name} takes at most {most} (max_buffer_count)")?;
-    }
+    put_needed(&mut text, people)?;
+    put_limit(&mut text, field, people)?;
     Ok(text)
+}
+
+fn put_needed(text: &mut String, people: &[Asked<'_>]) -> Result<(), AllocError> {
+    let count = needed(people);
+    write!(text, " {count} buffers: ")?;
+    put_why(text, people)
+}
+
+/// Puts the number that the count is above after a text.
+fn put_limit(text: &mut String, field: Field, people: &[Asked<'_>]) -> Result<(), AllocError> {
+    if field == Field::BufferCountLimit {
+        return write!(text, "; there are at most {BUFFER_COUNT_LIMIT}");
+    }
+    match least_maximum(people) {
+        Some((name, most)) => write!(text, "; {name} takes at most {most} (max_buffer_count)"),
+        None => Ok(()),
+    }
 }
 
 /// The first who takes the fewest buffers at most, with that.

@@ -49,11 +49,17 @@ fn lcm(a: u128, b: u128) -> u128 {
 /// The number that all are divisors of, and those who are needed for it.
 pub(crate) fn multiple_of(alloc: Global, parts: Vec<Multiple>) -> Result<Derived, AllocError> {
     let whole = lcm_but(&parts, usize::MAX, &[]);
-    let left_out = needless(alloc, &parts, whole)?;
-    let texts = texts_of(alloc, &parts, &left_out)?;
-    let mut why = String::new(alloc);
-    put_texts(&mut why, &texts, MOST_NAMES)?;
+    let why = who_asks(alloc, &parts, whole)?;
     Ok(Derived { value: whole, why })
+}
+
+/// Those of the parts that are needed for the multiple of all, in words.
+fn who_asks(alloc: Global, parts: &[Multiple], whole: u128) -> Result<String, AllocError> {
+    let left_out = needless(alloc, parts, whole)?;
+    let texts = texts_of(alloc, parts, &left_out)?;
+    let mut words = String::new(alloc);
+    put_texts(&mut words, &texts, MOST_NAMES)?;
+    Ok(words)
 }
 
 /// The indices of parts without which the others have the same multiple, from the last to the
@@ -81,18 +87,20 @@ fn texts_of(
     let kept = parts.len().saturating_sub(left_out.len());
     let mut texts: Vec<String> = Vec::new(alloc);
     for (k, part) in parts.iter().enumerate() {
-        if left_out.contains(&k) {
-            continue;
+        if !left_out.contains(&k) {
+            texts.push(text_of(alloc, part, kept == 1)?)?;
         }
-        let who = part.who.as_str();
-        let value = part.value;
-        texts.push(if kept == 1 {
-            String::from_str(alloc, who)?
-        } else {
-            format!(in alloc; "{who} {value}")?
-        })?;
     }
     Ok(texts)
+}
+
+/// Who asks for a part, with its number where others are asked for too.
+fn text_of(alloc: Global, part: &Multiple, is_alone: bool) -> Result<String, AllocError> {
+    let Multiple { value, who } = part;
+    if is_alone {
+        return String::from_str(alloc, who);
+    }
+    format!(in alloc; "{who} {value}")
 }
 
 /// The least common multiple of all parts but one and some others.

@@ -85,10 +85,12 @@ impl<'a> Wishes<'a, '_> {
     pub fn side(&self, alloc: Global, side: Side) -> Result<Derived, AllocError> {
         let (base, first) = self.side_asked(side);
         let why = match first {
-            Some((name, field)) => format!(in alloc; "{name} {field}")?,
-            None => String::from_str(alloc, "nobody asks for more than 1")?,
+            Some((name, field)) => format!(in alloc; "{name} {field}"),
+            None => String::from_str(alloc, "nobody asks for more than 1"),
         };
-        self.round_side(alloc, side, base, first.is_some(), why)
+        let mark = if first.is_some() { Some(" ") } else { None };
+        let multiple = multiple_of(alloc, self.side_multiples(alloc, side)?)?;
+        rounded(u128::from(base), multiple, mark, why?)
     }
 
     /// The least width or height that anybody asks for, before it is rounded.
@@ -112,22 +114,14 @@ impl<'a> Wishes<'a, '_> {
         }
     }
 
-    /// A side, rounded up to what it has to be a multiple of.
-    fn round_side(
-        &self,
-        alloc: Global,
-        side: Side,
-        base: u64,
-        is_asked: bool,
-        why: String,
-    ) -> Result<Derived, AllocError> {
+    /// What a side has to be a multiple of.
+    fn side_multiples(&self, alloc: Global, side: Side) -> Result<Vec<Multiple>, AllocError> {
         let (width, height) = own_alignment(&self.offer);
         let own = if side == Side::Width { width } else { height };
         let who = format!(in alloc; "{} itself", format_of(&self.offer))?;
         let mut parts = own_multiple(who, u128::from(own))?;
         self.add_multiples(&mut parts, "size_alignment", Wish::Alignment(side))?;
-        let mark = if is_asked { Some(" ") } else { None };
-        rounded(u128::from(base), parts, mark, why)
+        Ok(parts)
     }
 
     /// Where the least width and height come from.
@@ -142,44 +136,54 @@ impl<'a> Wishes<'a, '_> {
 
     /// The least row in bytes; where the width comes from is said too if that is asked for.
     pub fn row(&self, alloc: Global, is_alone: bool) -> Result<Derived, AllocError> {
+        let multiple = multiple_of(alloc, self.row_multiples(alloc)?)?;
+        let packed = self.packed_row(alloc, is_alone)?;
+        match self.greatest(Wish::LeastRow) {
+            Some((name, least)) if u128::from(least) > packed.value => {
+                let why = format!(in alloc; "{name} min_bytes_per_row")?;
+                rounded(u128::from(least), multiple, Some(" = "), why)
+            }
+            _ => rounded(packed.value, multiple, Some(" = "), packed.why),
+        }
+    }
+
+    /// A row of the least width in whole tiles.
+    fn packed_row(&self, alloc: Global, is_alone: bool) -> Result<Derived, AllocError> {
         let width = self.side(alloc, Side::Width)?;
         let pixel = u128::from(bytes_per_pixel(&self.offer));
         let packed = width.value.saturating_mul(pixel);
-        let tile = tile_bytes(&self.offer);
-        let plain = up(packed, tile);
+        let value = up(packed, tile_bytes(&self.offer));
         let mut why = String::new(alloc);
-        let mut base = plain;
-        match self.greatest(Wish::LeastRow) {
-            Some((name, least)) if u128::from(least) > plain => {
-                base = u128::from(least);
-                write!(why, "{name} min_bytes_per_row")?;
-            }
-            _ => {
-                put_pixels(&mut why, width.value, pixel)?;
-                if is_alone {
-                    let from = width.why.as_str();
-                    write!(why, " ({from})")?;
-                }
-                if plain != packed {
-                    write!(why, ", rounded up to tiles of {tile} bytes")?;
-                }
-            }
+        put_pixels(&mut why, width.value, pixel)?;
+        if is_alone {
+            write!(why, " ({})", width.why)?;
         }
-        self.round_row(alloc, base, why)
+        if value != packed {
+            write!(
+                why,
+                ", rounded up to tiles of {} bytes",
+                tile_bytes(&self.offer)
+            )?;
+        }
+        Ok(Derived { value, why })
     }
 
-    /// A row, rounded up to what it has to be a multiple of.
-    fn round_row(&self, alloc: Global, base: u128, why: String) -> Result<Derived, AllocError> {
+    /// What a row has to be a multiple of.
+    fn row_multiples(&self, alloc: Global) -> Result<Vec<Multiple>, AllocError> {
         let who = if modifier_of(&self.offer) == Modifier::Linear {
             format!(in alloc; "{} itself", format_of(&self.offer))
         } else {
             String::from_str(alloc, "tiles")
         };
         let mut parts = own_multiple(who?, u128::from(own_row_divisor(&self.offer)))?;
-        self.add_multiples(&mut parts, "bytes_per_row_divisor", Wish::RowDivisor)?;
+        self.add_row_multiples(&mut parts)?;
+        Ok(parts)
+    }
+
+    fn add_row_multiples(&self, parts: &mut Vec<Multiple>) -> Result<(), AllocError> {
+        self.add_multiples(parts, "bytes_per_row_divisor", Wish::RowDivisor)?;
         let whole = Wish::WholePixels(bytes_per_pixel(&self.offer));
-        self.add_multiples(&mut parts, "whole pixels in a row", whole)?;
-        rounded(base, parts, Some(" = "), why)
+        self.add_multiples(parts, "whole pixels in a row", whole)
     }
 
     /// The least size of a buffer in bytes; where the image's sides come from is said too if that
@@ -196,42 +200,79 @@ impl<'a> Wishes<'a, '_> {
                 return Ok(image);
             }
         }
-        match least {
-            Some((name, value)) => {
-                Ok(Derived {
-                    value: u128::from(value),
-                    why: format!(in alloc; "{name} min_size_bytes")?,
-                })
-            }
-            None => Ok(Derived {
-                value: 1,
-                why: String::from_str(alloc, "nobody asks for more")?,
-            }),
-        }
+        let why = match least {
+            Some((name, _)) => format!(in alloc; "{name} min_size_bytes"),
+            None => String::from_str(alloc, "nobody asks for more"),
+        };
+        Ok(Derived {
+            value: stated,
+            why: why?,
+        })
     }
 
     /// The bytes of the smallest image.
     fn image(&self, alloc: Global, is_alone: bool) -> Result<Derived, AllocError> {
-        let width = self.side(alloc, Side::Width)?.value;
-        let height = self.side(alloc, Side::Height)?.value;
-        let row = self.row(alloc, false)?.value;
-        let rows = up(height, tile_rows(&self.offer));
-        let word = if rows == 1 { "row" } else { "rows" };
-        let mut why = format!(in alloc; "row {row} x {rows} {word}")?;
-        if rows != height {
-            write!(why, " ({height}, rounded up to whole tiles)")?;
-        }
-        let mut value = row.saturating_mul(rows);
-        if has_half_plane(&self.offer) {
-            value = value.saturating_mul(3).saturating_add(1) / 2;
-            let format = format_of(&self.offer);
-            write!(why, " x 3/2 ({format})")?;
-        }
+        let image = Image {
+            width: self.side(alloc, Side::Width)?.value,
+            height: self.side(alloc, Side::Height)?.value,
+            row: self.row(alloc, false)?.value,
+            offer: self.offer,
+        };
+        let mut why = String::new(alloc);
+        image.put(&mut why)?;
         if is_alone {
-            let from = self.why_size(alloc)?;
-            write!(why, ", for {width}x{height} ({from})")?;
+            self.put_sides(&mut why, image)?;
         }
-        Ok(Derived { value, why })
+        Ok(Derived {
+            value: image.bytes(),
+            why,
+        })
+    }
+
+    /// Puts the sides of an image after a text, and where they come from.
+    fn put_sides(&self, text: &mut String, image: Image) -> Result<(), AllocError> {
+        let from = self.why_size(*text.allocator())?;
+        write!(text, ", for {}x{} ({from})", image.width, image.height)
+    }
+}
+
+/// The smallest image of an offer.
+#[derive(Clone, Copy)]
+struct Image {
+    width: u128,
+    height: u128,
+    /// The bytes of a row.
+    row: u128,
+    offer: Offer,
+}
+
+impl Image {
+    /// How many rows it has in whole tiles.
+    fn rows(&self) -> u128 {
+        up(self.height, tile_rows(&self.offer))
+    }
+
+    fn bytes(&self) -> u128 {
+        let plane = self.row.saturating_mul(self.rows());
+        if has_half_plane(&self.offer) {
+            return plane.saturating_mul(3).saturating_add(1) / 2;
+        }
+        plane
+    }
+
+    /// Puts its bytes as a product after a text.
+    fn put(&self, text: &mut String) -> Result<(), AllocError> {
+        let (row, rows) = (self.row, self.rows());
+        let word = if rows == 1 { "row" } else { "rows" };
+        write!(text, "row {row} x {rows} {word}")?;
+        if rows != self.height {
+            write!(text, " ({}, rounded up to whole tiles)", self.height)?;
+        }
+        if has_half_plane(&self.offer) {
+            let format = format_of(&self.offer);
+            write!(text, " x 3/2 ({format})")?;
+        }
+        Ok(())
     }
 }
 
@@ -245,24 +286,29 @@ fn own_multiple(who: String, value: u128) -> Result<Vec<Multiple>, AllocError> {
 /// after a mark, if there is one.
 fn rounded(
     base: u128,
-    parts: Vec<Multiple>,
+    multiple: Derived,
     mark: Option<&str>,
     why: String,
 ) -> Result<Derived, AllocError> {
     let mut why = why;
-    let multiple = multiple_of(*why.allocator(), parts)?;
     let value = up(base, multiple.value);
     if value != base {
-        if let Some(mark) = mark {
-            write!(why, "{mark}{base}")?;
-        }
-        write!(
-            why,
-            ", rounded up to a multiple of {} ({})",
-            multiple.value, multiple.why
-        )?;
+        put_rounding(&mut why, base, &multiple, mark)?;
     }
     Ok(Derived { value, why })
+}
+
+fn put_rounding(
+    text: &mut String,
+    base: u128,
+    multiple: &Derived,
+    mark: Option<&str>,
+) -> Result<(), AllocError> {
+    if let Some(mark) = mark {
+        write!(text, "{mark}{base}")?;
+    }
+    let Derived { value, why } = multiple;
+    write!(text, ", rounded up to a multiple of {value} ({why})")
 }
 
 /// Puts how many pixels of how many bytes after a text.
