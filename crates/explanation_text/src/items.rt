@@ -3,7 +3,7 @@
 use std::alloc::{AllocError, Global};
 
 /// How an item is shown.
-#[derive(Clone, Copy, Debug, PartialEq, Eq)]
+#[derive(Clone, Copy, PartialEq, Eq)]
 pub enum Kind {
     /// The answer, before all else.
     Answer,
@@ -18,7 +18,7 @@ pub enum Kind {
 }
 
 /// A line, or some, of what is told.
-#[derive(Debug, Drop)]
+#[derive(Drop)]
 pub struct Item {
     /// What the text is about, in one word; empty where it says so itself.
     pub label: &'static str,
@@ -30,7 +30,7 @@ pub struct Item {
 }
 
 /// A list of items that grows.
-#[derive(Debug, Drop)]
+#[derive(Drop)]
 pub struct Items {
     alloc: Global,
     list: Vec<Item>,

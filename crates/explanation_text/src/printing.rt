@@ -29,25 +29,33 @@ fn put_item(text: &mut String, indents: &mut Vec<usize>, item: &Item) -> Result<
         None => 0,
     };
     let label = label_width(item);
-    indents.truncate(item.depth);
-    for _missing in indents.len()..item.depth {
-        indents.push(indent)?;
-    }
-    indents.push(indent.saturating_add(below(item, label)))?;
-    if item.kind == Kind::Title {
-        text.push_str("\n")?;
-    }
+    let inner = indent.saturating_add(below(item, label));
+    keep_indent(indents, item.depth, indent, inner)?;
     if item.kind == Kind::Source {
         return put_source(text, indent, &item.text);
     }
-    put_repeated(text, ' ', indent)?;
-    put_label(text, item, label)?;
+    put_label(text, item, indent, label)?;
     if item.kind == Kind::Words {
-        put_words(text, indent, label, &item.text)
-    } else {
-        text.push_str(&item.text)?;
-        text.push_str("\n")
+        return put_words(text, indent, label, &item.text);
     }
+    let words = item.text.as_str();
+    write!(text, "{words}\n")
+}
+
+/// Keeps how far what stands below an item of this depth is indented, and forgets it of the items
+/// before that aren't above it.
+fn keep_indent(
+    indents: &mut Vec<usize>,
+    depth: usize,
+    indent: usize,
+    inner: usize,
+) -> Result<(), AllocError> {
+    indents.truncate(depth);
+    for _missing in indents.len()..depth {
+        indents.push(indent)?;
+    }
+    indents.push(inner)?;
+    Ok(())
 }
 
 /// How many columns an item's label takes, with the space after it.
@@ -74,7 +82,17 @@ fn below(item: &Item, label: usize) -> usize {
     }
 }
 
-fn put_label(text: &mut String, item: &Item, label: usize) -> Result<(), AllocError> {
+/// Puts an item's label after the text, at the line's begin; a title stands below an empty line.
+fn put_label(
+    text: &mut String,
+    item: &Item,
+    indent: usize,
+    label: usize,
+) -> Result<(), AllocError> {
+    if item.kind == Kind::Title {
+        text.push_str("\n")?;
+    }
+    put_repeated(text, ' ', indent)?;
     text.push_str(item.label)?;
     put_repeated(text, ' ', label.saturating_sub(width_of(item.label)))
 }
@@ -83,8 +101,7 @@ fn put_label(text: &mut String, item: &Item, label: usize) -> Result<(), AllocEr
 fn put_source(text: &mut String, indent: usize, source: &str) -> Result<(), AllocError> {
     for line in source.lines() {
         put_repeated(text, ' ', indent)?;
-        text.push_str(line)?;
-        text.push_str("\n")?;
+        write!(text, "{line}\n")?;
     }
     Ok(())
 }
@@ -103,24 +120,39 @@ fn put_words(
         .saturating_sub(2)
         .max(LEAST);
     let parts: Vec<&str> = words.split(' ').collect(*text.allocator())?;
+    put_parts(text, &parts, inner, most)
+}
+
+/// Puts words after the text, and a line's end: of a line that would be so wide or wider what is
+/// left goes to the next, which is indented.
+fn put_parts(
+    text: &mut String,
+    parts: &[&str],
+    inner: usize,
+    most: usize,
+) -> Result<(), AllocError> {
     let mut used = 0usize;
     for (k, word) in parts.iter().enumerate() {
         let width = width_of(word);
         let path = path_width(parts.get(k.saturating_add(1)));
         let needed = used.saturating_add(width).saturating_add(path);
         if 0 < k && needed >= most && !word.starts_with('/') {
-            text.push_str("\n")?;
-            put_repeated(text, ' ', inner)?;
-            used = width;
+            begin_line(text, inner)?;
+            used = 0;
         } else if 0 < k {
             text.push_str(" ")?;
-            used = used.saturating_add(width).saturating_add(1);
-        } else {
-            used = width;
+            used = used.saturating_add(1);
         }
         text.push_str(word)?;
+        used = used.saturating_add(width);
     }
     text.push_str("\n")
+}
+
+/// Ends the text's line, and begins one that is indented.
+fn begin_line(text: &mut String, indent: usize) -> Result<(), AllocError> {
+    text.push_str("\n")?;
+    put_repeated(text, ' ', indent)
 }
 
 /// How wide the path is that stays with the word before it, with a space; 0 where the word is none.

@@ -109,10 +109,9 @@ fn put_help(text: &mut String, width: usize, help: &str) -> Result<(), AllocErro
     for word in help.split(' ') {
         let more = width_of(word).saturating_add(1);
         if 0 < used && used.saturating_add(more) > HELP {
-            put_bar(text, width, "  ")?;
+            put_bar(text, width, "   ")?;
             used = 0;
-        }
-        if 0 < used || text.ends_with("  ") {
+        } else if 0 < used {
             text.push_str(" ")?;
         }
         text.push_str(word)?;

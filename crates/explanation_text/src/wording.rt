@@ -7,17 +7,21 @@ pub const MOST_NAMES: usize = 4;
 
 /// Puts the names after the text, as `a, b and c`.
 pub fn put_joined(text: &mut String, names: &[&str], word: &str) -> Result<(), AllocError> {
-    let last = names.len().saturating_sub(1);
+    let Some((last, others)) = names.split_last() else {
+        return Ok(());
+    };
+    if others.is_empty() {
+        return text.push_str(last);
+    }
+    put_listed(text, others)?;
+    write!(text, " {word} {last}")
+}
+
+/// Puts the names after the text, with commas between them.
+fn put_listed(text: &mut String, names: &[&str]) -> Result<(), AllocError> {
     for (k, name) in names.iter().enumerate() {
-        if 0 < k && k < last {
-            text.push_str(", ")?;
-        }
-        if 0 < k && k == last {
-            text.push_str(" ")?;
-            text.push_str(word)?;
-            text.push_str(" ")?;
-        }
-        text.push_str(name)?;
+        let before = if k == 0 { "" } else { ", " };
+        write!(text, "{before}{name}")?;
     }
     Ok(())
 }
@@ -27,12 +31,7 @@ pub fn put_few(text: &mut String, names: &[&str], most: usize) -> Result<(), All
     if names.len() <= most.saturating_add(1) {
         return put_joined(text, names, "and");
     }
-    for (k, name) in names.iter().take(most).enumerate() {
-        if 0 < k {
-            text.push_str(", ")?;
-        }
-        text.push_str(name)?;
-    }
+    put_listed(text, names.get(..most).unwrap_or(names))?;
     let more = names.len().saturating_sub(most);
     write!(text, " and {more} more")
 }
@@ -67,17 +66,23 @@ fn is_unseen(c: char) -> bool {
         .any(|(first, last)| *first <= code && code <= *last)
 }
 
+/// The character that is seen in place of one: a space for a tab, and U+FFFD for others that can't
+/// be seen.
+fn visible(c: char) -> char {
+    if c == '\t' {
+        ' '
+    } else if is_unseen(c) {
+        '\u{FFFD}'
+    } else {
+        c
+    }
+}
+
 /// Puts a text after another, each of its characters as one that can be seen: a tab as a space, and
 /// others as U+FFFD.
 pub fn put_visible(text: &mut String, source: &str) -> Result<(), AllocError> {
     for c in source.chars() {
-        if c == '\t' {
-            text.push(' ')?;
-        } else if is_unseen(c) {
-            text.push('\u{FFFD}')?;
-        } else {
-            text.push(c)?;
-        }
+        text.push(visible(c))?;
     }
     Ok(())
 }

@@ -47,6 +47,18 @@ impl<'a> Finder<'a> {
         }
     }
 
+    /// Takes all bytes of the text.
+    fn read(&mut self) -> Result<(), Halt> {
+        for (at, byte) in self.bytes.iter().enumerate() {
+            self.take(at, *byte)?;
+        }
+        let end = self.bytes.len();
+        if let Ok(true) = self.machine.finish(end) {
+            self.ended(end);
+        }
+        Ok(())
+    }
+
     /// Takes the byte at this place. Of a key that an object has twice the last counts.
     fn take(&mut self, at: usize, byte: u8) -> Result<(), Halt> {
         if self.machine.end_number(at, byte) {
@@ -58,15 +70,10 @@ impl<'a> Finder<'a> {
     }
 
     fn marked(&mut self, at: usize, mark: Mark) -> Result<(), AllocError> {
+        let around = self.machine.open().len();
         match mark {
-            Mark::Begins => {
-                let around = self.machine.open().len();
-                self.began(at, around, false)
-            }
-            Mark::Opens => {
-                let around = self.machine.open().len().saturating_sub(1);
-                self.began(at, around, true)
-            }
+            Mark::Begins => self.began(at, around, false),
+            Mark::Opens => self.began(at, around.saturating_sub(1), true),
             Mark::Ends => {
                 self.ended(at.saturating_add(1));
                 Ok(())
@@ -133,17 +140,11 @@ fn found_at<'a>(
     path: &'a [Step<'a>],
 ) -> Result<Option<Found>, AllocError> {
     let mut finder = Finder::new(alloc, bytes, path);
-    for (at, byte) in bytes.iter().enumerate() {
-        match finder.take(at, *byte) {
-            Ok(()) => {}
-            Err(Halt::NoMemory) => return Err(AllocError),
-            Err(Halt::Wrong(_)) => return Ok(None),
-        }
+    match finder.read() {
+        Ok(()) => Ok(finder.found),
+        Err(Halt::NoMemory) => Err(AllocError),
+        Err(Halt::Wrong(_)) => Ok(None),
     }
-    if let Ok(true) = finder.machine.finish(bytes.len()) {
-        finder.ended(bytes.len());
-    }
-    Ok(finder.found)
 }
 
 /// Where the value at a path stands in a text that spells this value. `None`: there is none at the

@@ -16,69 +16,91 @@ pub(crate) fn help_of(
     at: usize,
     expected: Expected,
 ) -> Result<String, AllocError> {
+    let mut words = String::new(alloc);
+    put_help(&mut words, machine, bytes, at, expected)?;
+    Ok(words)
+}
+
+fn put_help(
+    words: &mut String,
+    machine: &Machine,
+    bytes: &[u8],
+    at: usize,
+    expected: Expected,
+) -> Result<(), AllocError> {
     let Some(byte) = bytes.get(at).copied() else {
-        return help_at_end(alloc, machine, bytes);
+        return put_help_at_end(words, machine, bytes);
     };
     match expected {
-        Expected::Value => plain(alloc, help_of_value(bytes, at, byte)),
-        Expected::Key => plain(alloc, help_of_key(bytes, at, byte)),
-        Expected::Colon if byte == b',' || byte == b'}' => {
-            plain(alloc, "keys stand in objects, and this is one")
-        }
         Expected::CommaOrBrace | Expected::CommaOrBracket => {
-            help_after_value(alloc, machine, bytes, at, byte)
+            put_help_after_value(words, machine, bytes, at, byte)
         }
-        Expected::End => plain(alloc, "one JSON value is complete before this"),
-        Expected::Text => help_in_text(alloc, machine, bytes),
-        Expected::Null => plain(alloc, "it is written null"),
-        Expected::True => plain(alloc, "it is written true"),
-        Expected::False => plain(alloc, "it is written false"),
-        _ => Ok(String::new(alloc)),
+        Expected::Text => put_help_in_text(words, machine, bytes),
+        _ => words.push_str(plain_help(bytes, at, byte, expected)),
     }
 }
 
-fn plain(alloc: Global, words: &str) -> Result<String, AllocError> {
-    String::from_str(alloc, words)
+/// What helps without a word on other places.
+fn plain_help(bytes: &[u8], at: usize, byte: u8, expected: Expected) -> &'static str {
+    match expected {
+        Expected::Value => help_of_value(bytes, at, byte),
+        Expected::Key => help_of_key(bytes, at, byte),
+        Expected::Colon if byte == b',' || byte == b'}' => "keys stand in objects, and this is one",
+        Expected::End => "one JSON value is complete before this",
+        Expected::Null => "it is written null",
+        Expected::True => "it is written true",
+        Expected::False => "it is written false",
+        _ => "",
+    }
 }
 
-/// Puts where a byte stands after the words.
-fn put_place(words: &mut String, bytes: &[u8], at: usize) -> Result<(), AllocError> {
+/// Puts where a byte stands after the words, with what stands before that.
+fn put_place(words: &mut String, before: &str, bytes: &[u8], at: usize) -> Result<(), AllocError> {
     let line = if at <= bytes.len() {
         line_of(bytes, at)
     } else {
         0
     };
     let column = column_of(bytes, at);
-    write!(words, "line {line}, column {column}")
+    write!(words, "{before}line {line}, column {column}")
 }
 
 /// At the end of the text: what is still open.
-fn help_at_end(alloc: Global, machine: &Machine, bytes: &[u8]) -> Result<String, AllocError> {
+fn put_help_at_end(words: &mut String, machine: &Machine, bytes: &[u8]) -> Result<(), AllocError> {
     if bytes.iter().all(|b| b.is_ascii_whitespace()) {
-        return plain(alloc, "the file is empty");
+        return words.push_str("the file is empty");
     }
-    let mut words = plain(alloc, "the text ends here")?;
+    words.push_str("the text ends here")?;
     if machine.is_in_text() {
-        words.push_str("; still open: the string of ")?;
-        put_place(&mut words, bytes, machine.begin())?;
+        put_place(
+            words,
+            "; still open: the string of ",
+            bytes,
+            machine.begin(),
+        )?;
     }
+    put_opens(words, machine, bytes)
+}
+
+/// Names the lists and objects that are open, the innermost first.
+fn put_opens(words: &mut String, machine: &Machine, bytes: &[u8]) -> Result<(), AllocError> {
     let mut is_first = !machine.is_in_text();
     for open in machine.open().iter().rev().take(MOST_NAMED) {
         words.push_str(if is_first { "; still open: " } else { ", " })?;
-        put_open(&mut words, bytes, open)?;
+        put_open(words, bytes, open)?;
         is_first = false;
     }
-    Ok(words)
+    Ok(())
 }
 
 /// Names a list or an object that is open.
 fn put_open(words: &mut String, bytes: &[u8], open: &Open) -> Result<(), AllocError> {
-    words.push_str(if open.is_list {
+    let bracket = if open.is_list {
         "the [ of "
     } else {
         "the { of "
-    })?;
-    put_place(words, bytes, open.start)
+    };
+    put_place(words, bracket, bytes, open.start)
 }
 
 /// The last byte before a place that is no space, if there is one.
@@ -133,44 +155,46 @@ fn help_of_key(bytes: &[u8], at: usize, byte: u8) -> &'static str {
 }
 
 /// After a value, where a comma or the bracket that ends what is open is due.
-fn help_after_value(
-    alloc: Global,
+fn put_help_after_value(
+    words: &mut String,
     machine: &Machine,
     bytes: &[u8],
     at: usize,
     byte: u8,
-) -> Result<String, AllocError> {
+) -> Result<(), AllocError> {
     let Some(open) = machine.open().last() else {
-        return Ok(String::new(alloc));
+        return Ok(());
     };
     match byte {
         b'"' | b'{' | b'[' | b'-' | b'0'..=b'9' | b't' | b'f' | b'n' => {
-            let mut words = plain(alloc, "a comma is missing after ")?;
-            put_place(&mut words, bytes, machine.last_end())?;
-            Ok(words)
+            put_place(
+                words,
+                "a comma is missing after ",
+                bytes,
+                machine.last_end(),
+            )
         }
         b'}' | b']' => {
-            let mut words = String::new(alloc);
-            put_open(&mut words, bytes, open)?;
-            words.push_str(" is still open")?;
-            Ok(words)
+            put_open(words, bytes, open)?;
+            words.push_str(" is still open")
         }
         b':' if open.is_list => {
-            let mut words = plain(alloc, "a list has no keys; the [ stands at ")?;
-            put_place(&mut words, bytes, open.start)?;
-            Ok(words)
+            put_place(
+                words,
+                "a list has no keys; the [ stands at ",
+                bytes,
+                open.start,
+            )
         }
-        b'/' | b'#' => plain(alloc, "JSON has no comments"),
+        b'/' | b'#' => words.push_str("JSON has no comments"),
         b'x' | b'X' if before(bytes, at) == Some(b'0') => {
-            plain(alloc, "JSON has no hexadecimal numbers")
+            words.push_str("JSON has no hexadecimal numbers")
         }
-        _ => Ok(String::new(alloc)),
+        _ => Ok(()),
     }
 }
 
-fn help_in_text(alloc: Global, machine: &Machine, bytes: &[u8]) -> Result<String, AllocError> {
-    let mut words = plain(alloc, "the string begins at ")?;
-    put_place(&mut words, bytes, machine.begin())?;
-    words.push_str("; a line's end, a tab and other control characters stand in it as escapes")?;
-    Ok(words)
+fn put_help_in_text(words: &mut String, machine: &Machine, bytes: &[u8]) -> Result<(), AllocError> {
+    put_place(words, "the string begins at ", bytes, machine.begin())?;
+    words.push_str("; a line's end, a tab and other control characters stand in it as escapes")
 }

@@ -150,18 +150,10 @@ impl Machine {
     /// Takes the byte at this place, where no number ends before it.
     pub(crate) fn take(&mut self, at: usize, byte: u8) -> Result<Mark, Halt> {
         match self.state {
-            State::Value => self.value(at, byte),
-            State::FirstItem => if byte == b']' {
-                self.close(at)
-            } else {
-                self.value(at, byte)
-            },
-            State::FirstKey => if byte == b'}' {
-                self.close(at)
-            } else {
-                self.key(at, byte)
-            },
-            State::Key => self.key(at, byte),
+            State::FirstItem if byte == b']' => self.close(at),
+            State::FirstKey if byte == b'}' => self.close(at),
+            State::Value | State::FirstItem => self.value(at, byte),
+            State::FirstKey | State::Key => self.key(at, byte),
             State::Colon => self.colon(byte),
             State::After => self.after(at, byte),
             State::Text | State::Escape | State::Hex(_) | State::SecondSlash | State::SecondU => {
@@ -250,19 +242,18 @@ impl Machine {
             return self.open_at(at, byte == b'[');
         }
         self.begin = at;
-        match byte {
-            b'"' => {
-                self.in_key = false;
-                self.go(State::Text, Mark::Begins)
-            }
-            b'-' => self.go(State::Minus, Mark::Begins),
-            b'0' => self.go(State::Zero, Mark::Begins),
-            b'1'..=b'9' => self.go(State::Digits, Mark::Begins),
-            b'n' => self.go(State::Word(Word::Null, 1), Mark::Begins),
-            b't' => self.go(State::Word(Word::True, 1), Mark::Begins),
-            b'f' => self.go(State::Word(Word::False, 1), Mark::Begins),
-            _ => Err(Halt::Wrong(Expected::Value)),
-        }
+        self.in_key = false;
+        let next = match byte {
+            b'"' => State::Text,
+            b'-' => State::Minus,
+            b'0' => State::Zero,
+            b'1'..=b'9' => State::Digits,
+            b'n' => State::Word(Word::Null, 1),
+            b't' => State::Word(Word::True, 1),
+            b'f' => State::Word(Word::False, 1),
+            _ => return Err(Halt::Wrong(Expected::Value)),
+        };
+        self.go(next, Mark::Begins)
     }
 
     fn open_at(&mut self, at: usize, is_list: bool) -> Result<Mark, Halt> {

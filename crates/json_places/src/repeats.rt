@@ -27,22 +27,32 @@ pub fn repeated_keys(
     let mut machine = Machine::new(alloc);
     let mut keys = Vec::new(alloc);
     let mut repeats = Vec::new(alloc);
+    note_all(&mut machine, bytes, most, &mut keys, &mut repeats)?;
+    Ok(repeats)
+}
+
+/// Reads the text up to its end, to where it is no JSON, or to so many repeats.
+fn note_all(
+    machine: &mut Machine,
+    bytes: &[u8],
+    most: usize,
+    keys: &mut Vec<Key>,
+    repeats: &mut Vec<(Span, Span)>,
+) -> Result<(), AllocError> {
     for (at, byte) in bytes.iter().enumerate() {
         let _ended = machine.end_number(at, *byte);
         match machine.take(at, *byte) {
-            Ok(mark) => match mark {
-                Mark::KeyEnds => note(&machine, bytes, &mut keys, &mut repeats)?,
-                Mark::Ends => leave(&machine, &mut keys),
-                _ => {}
-            },
+            Ok(Mark::KeyEnds) => note(machine, bytes, keys, repeats)?,
+            Ok(Mark::Ends) => leave(machine, keys),
+            Ok(_) => {}
             Err(Halt::NoMemory) => return Err(AllocError),
-            Err(Halt::Wrong(_)) => return Ok(repeats),
+            Err(Halt::Wrong(_)) => return Ok(()),
         }
         if repeats.len() >= most {
-            return Ok(repeats);
+            return Ok(());
         }
     }
-    Ok(repeats)
+    Ok(())
 }
 
 /// Forgets the keys of objects that are complete.

@@ -20,26 +20,36 @@ pub struct Stop {
 /// isn't complete; `None` where it is JSON. The text is taken as UTF-8.
 pub fn stop_of(alloc: Global, bytes: &[u8]) -> Result<Option<Stop>, AllocError> {
     let mut machine = Machine::new(alloc);
+    match end_of_json(alloc, &mut machine, bytes)? {
+        Some((at, expected)) => stopped(alloc, &machine, bytes, at, expected),
+        None => Ok(None),
+    }
+}
+
+/// Where the text stops being the beginning of JSON, and what the grammar allows there.
+fn end_of_json(
+    alloc: Global,
+    machine: &mut Machine,
+    bytes: &[u8],
+) -> Result<Option<(usize, Expected)>, AllocError> {
     for (at, byte) in bytes.iter().enumerate() {
-        if machine.end_number(at, *byte) && is_too_great(alloc, &machine, bytes, at)? {
-            return stopped(alloc, &machine, bytes, machine.begin(), Expected::Smaller);
+        if machine.end_number(at, *byte) && is_too_great(alloc, machine, bytes, at)? {
+            return Ok(Some((machine.begin(), Expected::Smaller)));
         }
         match machine.take(at, *byte) {
             Ok(_) => {}
             Err(Halt::NoMemory) => return Err(AllocError),
-            Err(Halt::Wrong(expected)) => {
-                return stopped(alloc, &machine, bytes, at, expected);
-            }
+            Err(Halt::Wrong(expected)) => return Ok(Some((at, expected))),
         }
     }
     let end = bytes.len();
     match machine.finish(end) {
-        Ok(number_ended) => if number_ended && is_too_great(alloc, &machine, bytes, end)? {
-            stopped(alloc, &machine, bytes, machine.begin(), Expected::Smaller)
+        Ok(number_ended) => if number_ended && is_too_great(alloc, machine, bytes, end)? {
+            Ok(Some((machine.begin(), Expected::Smaller)))
         } else {
             Ok(None)
         },
-        Err(expected) => stopped(alloc, &machine, bytes, end, expected),
+        Err(expected) => Ok(Some((end, expected))),
     }
 }
 

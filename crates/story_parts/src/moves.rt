@@ -18,18 +18,28 @@ pub struct Move {
 pub fn moves_in(alloc: Global, story: &Story<'_>) -> Result<Vec<Move>, AllocError> {
     let mut moves = Vec::new(alloc);
     for (index, call) in story.calls.iter().enumerate() {
-        let number = index.saturating_add(1);
-        if let Some(after) = binding(story, call, number) {
-            moves.push(Move {
-                call: number,
-                after,
-            })?;
-        }
-        if needs_token(call) && is_last(story, call, number) {
-            add_held(&mut moves, story, call, number)?;
-        }
+        add_moves(&mut moves, story, call, index.saturating_add(1))?;
     }
     Ok(moves)
+}
+
+/// Adds what the answer to the call of a number says is to be moved.
+fn add_moves(
+    moves: &mut Vec<Move>,
+    story: &Story<'_>,
+    call: &Made<'_>,
+    number: usize,
+) -> Result<(), AllocError> {
+    if let Some(after) = binding(story, call, number) {
+        moves.push(Move {
+            call: number,
+            after,
+        })?;
+    }
+    if needs_token(call) && is_last(story, call, number) {
+        add_held(moves, story, call, number)?;
+    }
+    Ok(())
 }
 
 /// Whether a call was refused that needs a token.
@@ -66,7 +76,7 @@ fn add_held(
     for (index, other) in story.calls.iter().enumerate() {
         let own = index.saturating_add(1);
         let is_between = bound <= own && own < number;
-        if is_between && other.node == Some(node) && other.is_accepted() {
+        if is_between && other.node == call.node && other.is_accepted() {
             moves.push(Move {
                 call: own,
                 after: number,

@@ -37,16 +37,19 @@ fn is_refused(call: &Made<'_>) -> bool {
 
 /// Whether a call is to be looked at: the answers that its domain's own section tells are left out.
 fn is_told(story: &Story<'_>, call: &Made<'_>) -> bool {
-    if call.is_accepted() || call.code() == "E7" || call.code() == "E8" {
+    if call.is_accepted() {
         return false;
     }
-    if call.code() != "E9" {
-        return true;
+    match call.code() {
+        "E7" | "E8" => false,
+        "E9" => matches!(call.node, Some(node) if end_of(story, node).is_some()),
+        _ => true,
     }
-    match call.node.and_then(|node| story.domain_of(node)) {
-        Some(domain) => domain.ended.is_some(),
-        None => false,
-    }
+}
+
+/// The call after which the domain of a node was decided or failed.
+fn end_of(story: &Story<'_>, node: usize) -> Option<usize> {
+    story.domain_of(node)?.ended
 }
 
 /// Tells the calls that were refused, those with one cause in one row.
@@ -68,34 +71,44 @@ fn tell_rows(
     story: &Story<'_>,
     rows: &[Row],
 ) -> Result<(), AllocError> {
-    let title = String::from_str(items.alloc(), "calls to look at")?;
-    items.push(Kind::Title, 0, "", title)?;
     let most = if rows.len() <= MOST_ROWS.saturating_add(1) {
         rows.len()
     } else {
         MOST_ROWS
     };
+    put_title(items)?;
     for row in rows.iter().take(most) {
         tell_row(items, document, story, row)?;
     }
-    let more = rows.len().saturating_sub(most);
-    if more > 0 {
-        let text = format!(in items.alloc(); "and {more} more")?;
-        items.say(1, "", text)?;
+    tell_more(items, rows.len().saturating_sub(most))
+}
+
+fn put_title(items: &mut Items) -> Result<(), AllocError> {
+    let title = String::from_str(items.alloc(), "calls to look at")?;
+    items.push(Kind::Title, 0, "", title)
+}
+
+/// Tells how many rows aren't told, if there are any.
+fn tell_more(items: &mut Items, more: usize) -> Result<(), AllocError> {
+    if more == 0 {
+        return Ok(());
     }
-    Ok(())
+    let text = format!(in items.alloc(); "and {more} more")?;
+    items.say(1, "", text)
 }
 
 /// What is told of the calls that were refused, those with one cause together; where their
 /// constraints have a fault only its field and its code.
 pub fn refused_words(alloc: Global, story: &Story<'_>) -> Result<Vec<String>, AllocError> {
+    let rows = rows_of(alloc, story)?;
+    words_of(alloc, story, &rows)
+}
+
+fn words_of(alloc: Global, story: &Story<'_>, rows: &[Row]) -> Result<Vec<String>, AllocError> {
     let mut words: Vec<String> = Vec::new(alloc);
-    for row in &rows_of(alloc, story)? {
-        let number = row.numbers.first().copied().unwrap_or(0);
-        if let Some(call) = story.call(number) {
-            let mut text = String::new(alloc);
-            put_row(&mut text, call, row)?;
-            words.push(text)?;
+    for row in rows {
+        if let Some(call) = story.call(number_of(row)) {
+            words.push(row_text(alloc, call, row)?)?;
         }
     }
     Ok(words)
@@ -104,12 +117,23 @@ pub fn refused_words(alloc: Global, story: &Story<'_>) -> Result<Vec<String>, Al
 fn rows_of(alloc: Global, story: &Story<'_>) -> Result<Vec<Row>, AllocError> {
     let mut rows: Vec<Row> = Vec::new(alloc);
     for (index, call) in story.calls.iter().enumerate() {
-        if is_told(story, call) {
-            let row = row_of(alloc, story, call, index.saturating_add(1))?;
-            add_row(&mut rows, story, row)?;
-        }
+        add_call(&mut rows, story, call, index.saturating_add(1))?;
     }
     Ok(rows)
+}
+
+/// Adds a call that is told to the rows.
+fn add_call(
+    rows: &mut Vec<Row>,
+    story: &Story<'_>,
+    call: &Made<'_>,
+    number: usize,
+) -> Result<(), AllocError> {
+    if !is_told(story, call) {
+        return Ok(());
+    }
+    let row = row_of(*rows.allocator(), story, call, number)?;
+    add_row(rows, story, row)
 }
 
 /// The row of one call.
@@ -150,10 +174,15 @@ fn is_like(story: &Story<'_>, a: &Row, b: &Row) -> bool {
 }
 
 fn reply_of<'a>(story: &Story<'a>, row: &Row) -> &'a str {
-    match story.call(row.numbers.first().copied().unwrap_or(0)) {
+    match story.call(number_of(row)) {
         Some(call) => call.reply,
         None => "",
     }
+}
+
+/// The number of the first call of a row.
+fn number_of(row: &Row) -> usize {
+    row.numbers.first().copied().unwrap_or(0)
 }
 
 /// The fault of the constraints that a call states, of one that was refused for it.
@@ -177,13 +206,11 @@ fn tell_row(
     story: &Story<'_>,
     row: &Row,
 ) -> Result<(), AllocError> {
-    let number = row.numbers.first().copied().unwrap_or(0);
+    let number = number_of(row);
     let Some(call) = story.call(number) else {
         return Ok(());
     };
-    let mut text = String::new(items.alloc());
-    put_row(&mut text, call, row)?;
-    items.say(1, "", text)?;
+    say_row(items, call, row)?;
     let Some(fault) = row.fault else {
         return Ok(());
     };
@@ -195,22 +222,28 @@ fn tell_row(
     tell_record_fault(items, 2, document, &base, fault, false)
 }
 
+fn say_row(items: &mut Items, call: &Made<'_>, row: &Row) -> Result<(), AllocError> {
+    let text = row_text(items.alloc(), call, row)?;
+    items.say(1, "", text)
+}
+
+fn row_text(alloc: Global, call: &Made<'_>, row: &Row) -> Result<String, AllocError> {
+    let mut text = String::new(alloc);
+    put_row(&mut text, call, row)?;
+    Ok(text)
+}
+
 /// Puts calls and why they were refused after a text, and behind it their reply; of a fault only
 /// its field and its code, for it is told below.
 fn put_row(text: &mut String, call: &Made<'_>, row: &Row) -> Result<(), AllocError> {
     put_calls(text, call, &row.numbers)?;
     let (code, reply) = (call.code(), call.reply);
-    match row.fault {
-        None => {
-            let cause = row.cause.as_str();
-            write!(text, ": {cause} ({reply})")
-        }
-        Some(_) if code == "S2" => write!(text, ": a key that isn't known ({code})"),
-        Some(_) => {
-            let field = faulty_field(reply);
-            write!(text, ": a fault in {field} ({code})")
-        }
-    }
+    let (cause, field, answer) = match row.fault {
+        None => (row.cause.as_str(), "", reply),
+        Some(_) if code == "S2" => ("a key that isn't known", "", code),
+        Some(_) => ("a fault in ", faulty_field(reply), code),
+    };
+    write!(text, ": {cause}{field} ({answer})")
 }
 
 /// The field of a reply that names a fault: `S4 usage`.
@@ -226,17 +259,21 @@ fn put_calls(text: &mut String, call: &Made<'_>, numbers: &[usize]) -> Result<()
     let Some((number, others)) = numbers.split_first() else {
         return Ok(());
     };
-    if !others.is_empty() {
-        text.push_str("calls ")?;
-        return put_numbers(text, numbers);
+    if others.is_empty() {
+        return put_call(text, call, *number);
     }
+    text.push_str("calls ")?;
+    put_numbers(text, numbers)
+}
+
+fn put_call(text: &mut String, call: &Made<'_>, number: usize) -> Result<(), AllocError> {
     let name = call.name();
     let on = call.on;
-    write!(text, "call {number}, {name} {on}")?;
-    if let Some(made) = call.act.name_made() {
-        write!(text, " {made}")?;
-    }
-    Ok(())
+    let (space, made) = match call.act.name_made() {
+        Some(made) => (" ", made),
+        None => ("", ""),
+    };
+    write!(text, "call {number}, {name} {on}{space}{made}")
 }
 
 fn put_numbers(text: &mut String, numbers: &[usize]) -> Result<(), AllocError> {
@@ -255,32 +292,43 @@ fn cause_of(
     call: &Made<'_>,
     number: usize,
 ) -> Result<String, AllocError> {
+    let mut text = String::new(alloc);
+    put_cause(&mut text, story, call, number)?;
+    Ok(text)
+}
+
+/// Puts why a call was refused after a text.
+fn put_cause(
+    text: &mut String,
+    story: &Story<'_>,
+    call: &Made<'_>,
+    number: usize,
+) -> Result<(), AllocError> {
     let on = call.on;
     let Some(node) = call.node else {
-        return cause_of_skipped(alloc, story, call);
+        return put_unmade(text, story, on);
     };
     match call.code() {
-        "E1" => String::from_str(alloc, "memory was refused"),
-        "E2" => wrong_state(alloc, story, call, node, number),
-        "E3" => String::from_str(
-            alloc,
-            "there are 128 nodes already, those that are gone included",
-        ),
-        "E4" => format!(in alloc; "{on} has no child: create_child comes first"),
-        "E5" => left_out(alloc, story, node),
-        "E6" => ended(alloc, story, node),
-        "E9" => too_early(alloc, story, node, number),
-        _ => String::from_str(alloc, "its constraints have a fault, so it wasn't made"),
+        "E2" => put_wrong_state(text, story, call, node, number),
+        "E4" => write!(text, "{on} has no child: create_child comes first"),
+        "E5" => put_left_out(text, story, node),
+        "E6" => put_ended(text, story, node),
+        "E9" => put_too_early(text, story, node, number),
+        code => text.push_str(plain_cause(code)),
     }
 }
 
-/// Why a call was skipped: the call that makes its name wasn't made.
-fn cause_of_skipped(
-    alloc: Global,
-    story: &Story<'_>,
-    call: &Made<'_>,
-) -> Result<String, AllocError> {
-    let on = call.on;
+/// The cause that the code of a reply alone tells.
+fn plain_cause(code: &str) -> &'static str {
+    match code {
+        "E1" => "memory was refused",
+        "E3" => "there are 128 nodes already, those that are gone included",
+        _ => "its constraints have a fault, so it wasn't made",
+    }
+}
+
+/// Puts why a call on a name was skipped after a text: the call that makes the name wasn't made.
+fn put_unmade(text: &mut String, story: &Story<'_>, on: &str) -> Result<(), AllocError> {
     let maker = story
         .calls
         .iter()
@@ -288,9 +336,9 @@ fn cause_of_skipped(
     match maker {
         Some(index) => {
             let number = index.saturating_add(1);
-            format!(in alloc; "call {number}, which makes {on}, wasn't made")
+            write!(text, "call {number}, which makes {on}, wasn't made")
         }
-        None => format!(in alloc; "{on} wasn't made"),
+        None => write!(text, "{on} wasn't made"),
     }
 }
 
@@ -301,78 +349,91 @@ pub fn put_domain(text: &mut String, story: &Story<'_>, root: usize) -> Result<(
     write!(text, "domain {path} ({name})")
 }
 
-/// What became of the domain of a node, and after which call.
-fn ended(alloc: Global, story: &Story<'_>, node: usize) -> Result<String, AllocError> {
-    let mut text = String::new(alloc);
+/// Puts what became of the domain of a node, and after which call, after a text.
+fn put_ended(text: &mut String, story: &Story<'_>, node: usize) -> Result<(), AllocError> {
     let Some(domain) = story.domain_of(node) else {
-        return Ok(text);
+        return Ok(());
     };
-    put_domain(&mut text, story, domain.root)?;
+    put_domain(text, story, domain.root)?;
     let number = domain.ended.unwrap_or(0);
     let verdict = domain.verdict();
     if verdict == "failed" {
-        write!(text, " failed after call {number}")?;
+        write!(text, " failed after call {number}")
     } else {
-        write!(text, " was decided after call {number}: {verdict}")?;
+        write!(text, " was decided after call {number}: {verdict}")
     }
-    Ok(text)
 }
 
 /// Which group chose another child than the one above a node.
 pub fn left_out(alloc: Global, story: &Story<'_>, node: usize) -> Result<String, AllocError> {
+    let mut text = String::new(alloc);
+    put_left_out(&mut text, story, node)?;
+    Ok(text)
+}
+
+fn put_left_out(text: &mut String, story: &Story<'_>, node: usize) -> Result<(), AllocError> {
+    let Some((group, below)) = chooser(story, node) else {
+        return text.push_str("another selection was chosen");
+    };
+    let other = chosen_child(*text.allocator(), story, group)?.unwrap_or(below);
+    let name = story.name(group);
+    let yes = story.name(other);
+    let no = story.name(below);
+    let number = end_of(story, node).unwrap_or(0);
+    write!(text, "{name} chose {yes} and not {no}, after call {number}")
+}
+
+/// The next selected node above a node, with its child above the node or the node itself.
+fn chooser(story: &Story<'_>, node: usize) -> Option<(usize, usize)> {
     let mut below = node;
     let mut above = parent_of(story, node);
     for _level in 0..128 {
-        let Some(group) = above else {
-            break;
-        };
+        let group = above?;
         if story.is_selected(group) {
             break;
         }
         below = group;
         above = parent_of(story, group);
     }
-    let Some(group) = above else {
-        return String::from_str(alloc, "another selection was chosen");
-    };
-    let chosen = story.children(alloc, group)?;
-    let other = chosen
-        .iter()
-        .copied()
-        .find(|child| story.is_selected(*child))
-        .unwrap_or(below);
-    let name = story.name(group);
-    let yes = story.name(other);
-    let no = story.name(below);
-    let number = match story.domain_of(node) {
-        Some(domain) => domain.ended.unwrap_or(0),
-        None => 0,
-    };
-    format!(in alloc; "{name} chose {yes} and not {no}, after call {number}")
+    Some((above?, below))
+}
+
+/// The child of a group that is selected.
+fn chosen_child(
+    alloc: Global,
+    story: &Story<'_>,
+    group: usize,
+) -> Result<Option<usize>, AllocError> {
+    let children = story.children(alloc, group)?;
+    let chosen = children.iter().find(|child| story.is_selected(**child));
+    Ok(chosen.copied())
 }
 
 fn parent_of(story: &Story<'_>, node: usize) -> Option<usize> {
-    story.nodes.get(node)?.parent
+    match story.nodes.get(node) {
+        Some(node) => node.parent,
+        None => None,
+    }
 }
 
-/// Who was still awaited when a verdict was asked for, and when it came.
-fn too_early(
-    alloc: Global,
+/// Puts who was still awaited when a verdict was asked for, and when it came, after a text.
+fn put_too_early(
+    text: &mut String,
     story: &Story<'_>,
     node: usize,
     number: usize,
-) -> Result<String, AllocError> {
+) -> Result<(), AllocError> {
     let index = match story.nodes.get(node) {
         Some(node) => node.domain,
         None => 0,
     };
-    let mut text = String::from_str(alloc, "asked too early, ")?;
-    put_awaited(&mut text, story, index, number)?;
-    if let Some(domain) = story.domain_of(node) {
-        let last = domain.ended.unwrap_or(0);
-        write!(text, ": move it after call {last}, or use wait")?;
-    }
-    Ok(text)
+    text.push_str("asked too early, ")?;
+    put_awaited(text, story, index, number)?;
+    let Some(domain) = story.domain_of(node) else {
+        return Ok(());
+    };
+    let last = domain.ended.unwrap_or(0);
+    write!(text, ": move it after call {last}, or use wait")
 }
 
 /// Puts for whom the domain of an index waits before the call of a number after a text.
@@ -384,12 +445,16 @@ fn put_awaited(
 ) -> Result<(), AllocError> {
     let alloc = *text.allocator();
     let awaited = story.awaited(alloc, index, number)?;
-    if awaited.is_empty() {
+    let names = story.names(alloc, &awaited)?;
+    put_those_awaited(text, &names)
+}
+
+fn put_those_awaited(text: &mut String, names: &[&str]) -> Result<(), AllocError> {
+    if names.is_empty() {
         return text.push_str("the domain that it was attached to is still awaited");
     }
-    let names = story.names(alloc, &awaited)?;
-    put_few(text, &names, MOST_NAMES)?;
-    put_by_count(text, &names, " is still awaited", " are still awaited")
+    put_few(text, names, MOST_NAMES)?;
+    put_by_count(text, names, " is still awaited", " are still awaited")
 }
 
 /// Puts words on one name after a text, or those on several.
@@ -402,149 +467,187 @@ fn put_by_count(
     text.push_str(if names.len() == 1 { one } else { many })
 }
 
-/// Which state of a node doesn't allow a call.
-fn wrong_state(
-    alloc: Global,
+/// Puts which state of a node doesn't allow a call after a text.
+fn put_wrong_state(
+    text: &mut String,
     story: &Story<'_>,
     call: &Made<'_>,
     node: usize,
     number: usize,
-) -> Result<String, AllocError> {
+) -> Result<(), AllocError> {
     let on = call.on;
     if let Some(gone) = story.deed_before(node, Deed::End, number) {
-        let actor = story.actor(gone);
-        let how = match story.call(gone) {
-            Some(deed) if deed.name() == "close" => "closed",
-            _ => "released",
-        };
-        let mut text = format!(in alloc; "{on} was {how} by call {gone} ({actor})")?;
-        if matches!(call.act, Act::SetConstraints(_)) {
-            put_unset(&mut text, story, number, "; it may mean ")?;
-        }
-        return Ok(text);
+        return put_gone(text, story, call, number, gone);
     }
     let makes = matches!(call.act, Act::CreateChild(_) | Act::AllChildrenPresent);
     match story.kind_before(node, number) {
-        NodeKind::Token if makes => format!(in alloc; "{on} is a token, no group"),
-        NodeKind::Token => unbound(alloc, story, call, node, number),
-        NodeKind::Group => wrong_group(alloc, story, call, node, number, makes),
-        NodeKind::Collection => wrong_collection(alloc, story, call, node, number),
+        NodeKind::Token if makes => write!(text, "{on} is a token, no group"),
+        NodeKind::Token => put_unbound(text, story, call, node, number),
+        NodeKind::Group => put_wrong_group(text, story, call, node, number, makes),
+        NodeKind::Collection => put_wrong_collection(text, story, call, node, number),
     }
 }
 
+/// A call on a node that the call of the number `gone` released or closed.
+fn put_gone(
+    text: &mut String,
+    story: &Story<'_>,
+    call: &Made<'_>,
+    number: usize,
+    gone: usize,
+) -> Result<(), AllocError> {
+    let on = call.on;
+    let actor = story.actor(gone);
+    let how = match story.call(gone) {
+        Some(deed) if matches!(deed.act, Act::Close) => "closed",
+        _ => "released",
+    };
+    write!(text, "{on} was {how} by call {gone} ({actor})")?;
+    put_unset(text, story, call, number, "; it may mean ")
+}
+
 /// A call that needs a collection, on a token.
-fn unbound(
-    alloc: Global,
+fn put_unbound(
+    text: &mut String,
     story: &Story<'_>,
     call: &Made<'_>,
     node: usize,
     number: usize,
-) -> Result<String, AllocError> {
+) -> Result<(), AllocError> {
     let on = call.on;
     let Some(later) = story.deed(node, Deed::Bind) else {
-        return format!(in alloc; "{on} is a token: bind makes it a collection");
+        return write!(text, "{on} is a token: bind makes it a collection");
     };
-    let mut text = format!(in alloc;
+    write!(
+        text,
         "{on} is a token until call {later} binds it: move this call after call {later}"
     )?;
-    if matches!(call.act, Act::SetConstraints(_)) {
-        put_unset(&mut text, story, number, ", or it means ")?;
-    }
-    Ok(text)
+    put_unset(text, story, call, number, ", or it means ")
 }
 
-/// Puts who was bound before the call of a number and has no constraints after a text, if somebody
-/// is, with words before it: it may be meant.
+/// Of a call that states constraints puts who was bound before it and has none after a text, if
+/// somebody is, with words before it: it may be meant.
 fn put_unset(
     text: &mut String,
     story: &Story<'_>,
+    call: &Made<'_>,
     number: usize,
     before: &str,
 ) -> Result<(), AllocError> {
-    let mut names: Vec<&str> = Vec::new(*text.allocator());
+    if !matches!(call.act, Act::SetConstraints(_)) {
+        return Ok(());
+    }
+    let names = unset(*text.allocator(), story, number)?;
+    put_those_unset(text, &names, before)
+}
+
+/// The names of those who were bound before the call of a number and have no constraints.
+fn unset<'a>(alloc: Global, story: &Story<'a>, number: usize) -> Result<Vec<&'a str>, AllocError> {
+    let mut names = Vec::new(alloc);
     for node in 0..story.nodes.len() {
         let is_bound = story.deed_before(node, Deed::Bind, number).is_some();
         if is_bound && story.is_awaited(node, usize::MAX) {
             names.push(story.name(node))?;
         }
     }
+    Ok(names)
+}
+
+fn put_those_unset(text: &mut String, names: &[&str], before: &str) -> Result<(), AllocError> {
     if names.is_empty() {
         return Ok(());
     }
     text.push_str(before)?;
-    put_joined(text, &names, "or")?;
-    put_by_count(text, &names, ", which isn't set", ", which aren't set")
+    put_joined(text, names, "or")?;
+    put_by_count(text, names, ", which isn't set", ", which aren't set")
 }
 
-fn wrong_group(
-    alloc: Global,
+fn put_wrong_group(
+    text: &mut String,
     story: &Story<'_>,
     call: &Made<'_>,
     node: usize,
     number: usize,
     makes: bool,
-) -> Result<String, AllocError> {
+) -> Result<(), AllocError> {
     let on = call.on;
     if makes {
         let last = story.deed_before(node, Deed::Complete, number).unwrap_or(0);
-        return format!(in alloc;
+        return write!(
+            text,
             "{on} got its last child before call {last}, all_children_present"
         );
     }
-    if matches!(call.act, Act::Release) {
-        return format!(in alloc; "{on} isn't complete: all_children_present comes first");
-    }
-    format!(in alloc;
-        "{on} is a group: only create_child, all_children_present, release and close suit it"
-    )
+    let why = if matches!(call.act, Act::Release) {
+        "isn't complete: all_children_present comes first"
+    } else {
+        "is a group: only create_child, all_children_present, release and close suit it"
+    };
+    write!(text, "{on} {why}")
 }
 
-fn wrong_collection(
-    alloc: Global,
+fn put_wrong_collection(
+    text: &mut String,
     story: &Story<'_>,
     call: &Made<'_>,
     node: usize,
     number: usize,
-) -> Result<String, AllocError> {
+) -> Result<(), AllocError> {
     let on = call.on;
     match call.act {
-        Act::SetConstraints(_) => set_before(alloc, story, call, node, number),
+        Act::SetConstraints(_) => put_set_before(text, story, call, node, number),
         Act::Duplicate(_) | Act::CreateGroup(_) | Act::Bind => {
-            let bound = story.deed_before(node, Deed::Bind, number).unwrap_or(0);
-            let mut text = format!(in alloc; "{on} is no token any more: call {bound} bound it")?;
-            if call.act.name_made().is_some() {
-                write!(text, "; move call {bound} after this call")?;
-            }
-            Ok(text)
+            put_bound(text, story, call, node, number)
         }
-        _ => format!(in alloc; "{on} is a collection, no group"),
+        _ => write!(text, "{on} is a collection, no group"),
     }
+}
+
+/// A call that needs a token, on a collection.
+fn put_bound(
+    text: &mut String,
+    story: &Story<'_>,
+    call: &Made<'_>,
+    node: usize,
+    number: usize,
+) -> Result<(), AllocError> {
+    let on = call.on;
+    let bound = story.deed_before(node, Deed::Bind, number).unwrap_or(0);
+    write!(text, "{on} is no token any more: call {bound} bound it")?;
+    if call.act.name_made().is_none() {
+        return Ok(());
+    }
+    write!(text, "; move call {bound} after this call")
 }
 
 /// Constraints on a collection that has some; maybe a node whose name is that of the actor is
 /// meant.
-fn set_before(
-    alloc: Global,
+fn put_set_before(
+    text: &mut String,
     story: &Story<'_>,
     call: &Made<'_>,
     node: usize,
     number: usize,
-) -> Result<String, AllocError> {
+) -> Result<(), AllocError> {
     let on = call.on;
     let actor = call.actor;
     let first = story
         .deed_before(node, Deed::SetConstraints, number)
         .unwrap_or(0);
-    let mut text = format!(in alloc;
+    write!(
+        text,
         "call {first} already set {on}; call {number} changed nothing"
     )?;
-    let is_meant = story.nodes.iter().any(|other| other.name == actor);
-    if is_meant && actor != on {
-        put_meant(&mut text, actor)?;
+    if actor != on && is_name(story, actor) {
+        put_meant(text, actor)
     } else {
-        put_unset(&mut text, story, number, ": it may mean ")?;
+        put_unset(text, story, call, number, ": it may mean ")
     }
-    Ok(text)
+}
+
+/// Whether a node has this name.
+fn is_name(story: &Story<'_>, name: &str) -> bool {
+    story.nodes.iter().any(|node| node.name == name)
 }
 
 /// Puts who may be meant after a text.

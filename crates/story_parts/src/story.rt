@@ -66,7 +66,7 @@ fn name_of(act: &Act<'_>) -> &'static str {
 }
 
 /// What is done to a node once.
-#[derive(Clone, Copy, PartialEq, Eq)]
+#[derive(Clone, Copy)]
 pub enum Deed {
     Bind,
     SetConstraints,
@@ -219,7 +219,10 @@ impl<'a> Story<'a> {
 
     /// The call of this number, from 1.
     pub fn call(&self, number: usize) -> Option<&Made<'a>> {
-        self.calls.get(number.checked_sub(1)?)
+        match number.checked_sub(1) {
+            Some(index) => self.calls.get(index),
+            None => None,
+        }
     }
 
     /// The actor of the call of this number.
@@ -232,7 +235,10 @@ impl<'a> Story<'a> {
 
     /// The number of the first call that did this to a node.
     pub fn deed(&self, node: usize, deed: Deed) -> Option<usize> {
-        self.nodes.get(node)?.deeds.of(deed)
+        match self.nodes.get(node) {
+            Some(node) => node.deeds.of(deed),
+            None => None,
+        }
     }
 
     /// The same, before the call of a number.
@@ -277,7 +283,7 @@ impl<'a> Story<'a> {
         let Some(known) = self.nodes.get(node) else {
             return false;
         };
-        if known.made_by.is_some_and(|made| made >= number) {
+        if matches!(known.made_by, Some(made) if made >= number) {
             return false;
         }
         let is_open = self.deed_before(node, Deed::End, number).is_none();
@@ -321,6 +327,9 @@ impl<'a> Story<'a> {
 
     /// The domain of a node.
     pub fn domain_of(&self, node: usize) -> Option<&Domain<'a>> {
-        self.domains.get(self.nodes.get(node)?.domain)
+        match self.nodes.get(node) {
+            Some(node) => self.domains.get(node.domain),
+            None => None,
+        }
     }
 }
