@@ -2,12 +2,12 @@
 
 ghost use Rattle.sysmem_alloc.specs.Laws.{LegalIsSound, LegalAgrees, BaseIsGiven, FewEntries, ReadyWaits, NumbersStay, VerdictStays, NextStays, FitStays, FitIsRight, InitialShape, Confluence, ProvedClaimsAreTrue, DecisionsHaveProofs};
 
-use verdict_claims::laws::{one_answer, optimal_has_proof};
 use sysmem_tree::laws;
 use sysmem_tree::laws::{
     failed_stays, forest_stays, maps_of_logs, members_stand_once, members_stay, one_forest,
     ready_stays, sound_stays,
 };
+use verdict_claims::laws::{one_answer, optimal_has_proof};
 
 /// The state of each legal history: its tree is sound, each domain that waits is ready, undecided
 /// and there once, and what was decided is ready.

@@ -10,8 +10,8 @@ ghost use Rattle.sysmem_tree.specs.declared.fate.Fate.TheVariants as fates;
 
 use crate::entry::Entry;
 use std::sync::Arc;
-use verdict_claims::{Claim, Verdict};
 use sysmem_tree::{DomainId, Fate};
+use verdict_claims::{Claim, Verdict};
 
 /// Whether what became of a domain is that it failed.
 pub(crate) fn has_failed(fate: Fate) -> bool

@@ -8,9 +8,9 @@ ghost use Rattle.verdict_claims.specs.Asked.{asked_in};
 ghost use Rattle.sysmem_tree.specs.OpenGroups.{HasLeft, HoldsNodes};
 
 use crate::kept::Part;
-use verdict_claims::Base;
 use sysmem_sanitise::{Constraints, Platform};
 use sysmem_tree::{Layout, MOST_NODES, SettledNodes, Tree};
+use verdict_claims::Base;
 
 /// Adds what is asked, if anything is.
 fn add_asked(part: &mut Part, platform: &Platform, base: Option<&Base>, asked: Option<&Constraints>)

@@ -18,10 +18,10 @@ use std::marker::Model;
 use std::thread;
 use std::thread::Threads;
 use sysmem_merge::Settings;
-use verdict_claims::laws::{cuts_lose_nothing, one_answer};
-use verdict_claims::{Base, Chosen, MOST_SELECTIONS, Verdict};
 use sysmem_sanitise::Platform;
 use sysmem_tree::{DomainId, Tree};
+use verdict_claims::laws::{cuts_lose_nothing, one_answer};
+use verdict_claims::{Base, Chosen, MOST_SELECTIONS, Verdict};
 
 /// A domain of a tree on a platform, with its base where it is an attached one.
 #[derive(Drop)]
