@@ -1,8 +1,11 @@
 //! The value of a field of constraints, and values between two.
 
 use crate::edits::{Changed, Edit};
-use crate::objects::{ENTRIES, MEMORY, entries_of, number_value, values_in, with, with_in_memory};
-use serde_json::{Value, json};
+use crate::objects::{
+    ENTRIES, entries_of, entry_member, memory_member, number_value, object_of, values_in, with,
+    with_in_memory,
+};
+use serde_json::Value;
 use std::alloc::{AllocError, Global};
 use std::fmt;
 
@@ -117,7 +120,10 @@ impl Amount {
     fn value(self, alloc: Global) -> Result<Value, AllocError> {
         match self {
             Amount::Number(number) => Ok(number_value(number)),
-            Amount::Sides(width, height) => json!(in alloc; {"width": width, "height": height}),
+            Amount::Sides(width, height) => {
+                let (width, height) = (number_value(width), number_value(height));
+                object_of(alloc, ("width", width), ("height", height))
+            }
         }
     }
 }
@@ -144,11 +150,8 @@ pub(crate) fn amount_of(value: &Value) -> Option<Amount> {
 pub(crate) fn amount_in(value: &Value, edit: Edit) -> Option<Amount> {
     match edit {
         Edit::NoCount(field) => amount_of(value.get(field.name())?),
-        Edit::NoMemory(field) => amount_of(value.get(MEMORY)?.get(field.name())?),
-        Edit::NoBound(field) => {
-            let name = field.name();
-            amount_of(entries_of(value).iter().find_map(|entry| entry.get(name))?)
-        }
+        Edit::NoMemory(field) => amount_of(memory_member(value, field.name())?),
+        Edit::NoBound(field) => amount_of(entry_member(value, field.name())?),
         _ => None,
     }
 }

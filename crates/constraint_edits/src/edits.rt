@@ -2,7 +2,8 @@
 
 use crate::exchanging::{Bounds, exchanged};
 use crate::objects::{
-    ENTRIES, MEMORY, entries_of, have, lacking, values_in, with, with_in_memory, words_without,
+    ENTRIES, MEMORY, entries_of, entry_member, lacking, memory_member, values_in, with,
+    with_in_memory, words_without,
 };
 use crate::permitting::{meaning, permitting};
 use crate::taking::{putting_first, taking_colour, taking_pair};
@@ -113,16 +114,26 @@ fn put_edits(
         edits.push(Edit::MeansHeap(heap))?;
     }
     edits.extend_from_slice(&FIRST)?;
+    put_more(edits, pairs, colours)?;
+    for heap in 0..heaps {
+        edits.push(Edit::PermitsHeap(heap))?;
+    }
+    edits.extend_from_slice(&LAST)
+}
+
+/// Puts those that take a colour space or a pair more.
+fn put_more(
+    edits: &mut Vec<Edit>,
+    pairs: &[Pair],
+    colours: &[ColourSpace],
+) -> Result<(), AllocError> {
     for colour in colours {
         edits.push(Edit::TakesColour(*colour))?;
     }
     for pair in pairs {
         edits.push(Edit::TakesPair(*pair))?;
     }
-    for heap in 0..heaps {
-        edits.push(Edit::PermitsHeap(heap))?;
-    }
-    edits.extend_from_slice(&LAST)
+    Ok(())
 }
 
 /// Constraints after a change, with what is changed in words.
@@ -159,8 +170,7 @@ pub fn edited(
 }
 
 fn supporting(alloc: Global, value: &Value, key: &str) -> Result<Option<Changed>, AllocError> {
-    let memory = value.get(MEMORY);
-    let was = match memory.and_then(|memory| memory.get(key)) {
+    let was = match memory_member(value, key) {
         Some(Value::Bool(true)) => return Ok(None),
         Some(_) => "false",
         None if key == Field::CpuDomainSupported.name() => return Ok(None),
@@ -201,7 +211,7 @@ pub(crate) fn in_memory(
 }
 
 fn without_bound(alloc: Global, value: &Value, key: &str) -> Result<Option<Changed>, AllocError> {
-    if !have(value, key) {
+    if entry_member(value, key).is_none() {
         return Ok(None);
     }
     let words = words_without_bound(alloc, value, key)?;

@@ -9,10 +9,7 @@ pub(crate) const MEMORY: &str = "buffer_memory_constraints";
 pub(crate) const ENTRIES: &str = "image_format_constraints";
 
 /// The members of an object; none where there is no object.
-pub(crate) fn members_of(
-    alloc: Global,
-    object: Option<&Value>,
-) -> Result<Map<String, Value>, AllocError> {
+fn members_of(alloc: Global, object: Option<&Value>) -> Result<Map<String, Value>, AllocError> {
     if let Some(object) = object {
         if let Value::Object(members) = object.clone()? {
             return Ok(members);
@@ -58,6 +55,16 @@ pub(crate) fn number_value(number: u64) -> Value {
     }
 }
 
+/// An object of two members.
+pub(crate) fn object_of(
+    alloc: Global,
+    first: (&str, Value),
+    second: (&str, Value),
+) -> Result<Value, AllocError> {
+    let object = with(alloc, None, first.0, first.1)?;
+    with(alloc, Some(&object), second.0, second.1)
+}
+
 pub(crate) fn text_value(alloc: Global, text: &str) -> Result<Value, AllocError> {
     Ok(Value::String(String::from_str(alloc, text)?))
 }
@@ -70,11 +77,19 @@ pub(crate) fn entries_of(value: &Value) -> &[Value] {
     }
 }
 
-/// Whether an entry of constraints has a member.
-pub(crate) fn have(value: &Value, key: &str) -> bool {
-    entries_of(value)
-        .iter()
-        .any(|entry| entry.get(key).is_some())
+/// A member of the memory.
+pub(crate) fn memory_member<'a>(value: &'a Value, key: &str) -> Option<&'a Value> {
+    value.get(MEMORY)?.get(key)
+}
+
+/// A member of the first entry that has it.
+pub(crate) fn entry_member<'a>(value: &'a Value, key: &str) -> Option<&'a Value> {
+    for entry in entries_of(value) {
+        if let Some(member) = entry.get(key) {
+            return Some(member);
+        }
+    }
+    None
 }
 
 /// A value in short: a size as `1920x1080`.

@@ -1,9 +1,9 @@
 //! Constraints that permit a heap more, or another in the place of one that nearly has its name.
 
 use crate::edits::{Changed, change_in_memory};
-use crate::objects::MEMORY;
+use crate::objects::{memory_member, number_value, object_of, text_value};
 use explanation_text::nearest;
-use serde_json::{Value, json};
+use serde_json::Value;
 use std::alloc::{AllocError, Global};
 use sysmem_memory::{Heap, HeapInfo};
 
@@ -11,7 +11,7 @@ const HEAPS: &str = "permitted_heaps";
 
 /// The heaps that constraints permit, where they name some and not this one.
 fn others_than<'a>(value: &'a Value, heap: &Heap) -> Option<&'a [Value]> {
-    let list = value.get(MEMORY)?.get(HEAPS)?.as_array()?.as_slice();
+    let list = memory_member(value, HEAPS)?.as_array()?.as_slice();
     if list.is_empty() || list.iter().any(|item| is_heap(item, heap)) {
         return None;
     }
@@ -37,7 +37,8 @@ fn is_among(item: &Value, heaps: &[HeapInfo]) -> bool {
 }
 
 fn heap_value(alloc: Global, heap: &Heap) -> Result<Value, AllocError> {
-    json!(in alloc; {"heap_type": heap.heap_type.as_str(), "id": heap.id})
+    let name = text_value(alloc, &heap.heap_type)?;
+    object_of(alloc, ("heap_type", name), ("id", number_value(heap.id)))
 }
 
 /// The constraints with a heap more that they permit; `None` where they permit it.
@@ -91,7 +92,8 @@ fn near_in<'a>(
     Ok(None)
 }
 
-/// The constraints with the heap of an index in the place of one that nearly has its name and isn't there; `None` where none is.
+/// The constraints with the heap of an index in the place of one that nearly has its name and isn't
+/// there; `None` where none is.
 pub(crate) fn meaning(
     alloc: Global,
     value: &Value,

@@ -2,11 +2,10 @@
 //! first.
 
 use crate::edits::{Changed, with_entries};
-use crate::objects::{entries_of, members_of, text_value, with};
+use crate::objects::{entries_of, lacking, text_value, with};
 use explanation_text::wording::put_few;
-use serde_json::{Map, Value, put};
+use serde_json::Value;
 use std::alloc::{AllocError, Global};
-use std::fmt;
 use sysmem_formats::Pair;
 
 const COLOURS: &str = "color_spaces";
@@ -99,9 +98,15 @@ pub(crate) fn taking_pair(
         return Ok(None);
     };
     let words = words_on(alloc, like, index, pair)?;
-    let mut copy = vec![in alloc; naming(alloc, like, pair)?]?;
-    copy.extend_from_slice(entries)?;
+    let copy = in_front(alloc, naming(alloc, like, pair)?, entries)?;
     with_entries(alloc, value, copy, words)
+}
+
+/// Entries with another before them.
+fn in_front(alloc: Global, first: Value, entries: &[Value]) -> Result<Vec<Value>, AllocError> {
+    let mut copy = vec![in alloc; first]?;
+    copy.extend_from_slice(entries)?;
+    Ok(copy)
 }
 
 /// Whether an entry names a format as its own.
@@ -126,10 +131,15 @@ pub(crate) fn putting_first(
     if index == 0 {
         return Ok(None);
     }
-    let shown = index.saturating_add(1);
-    let named = Named(entry);
-    let words = format!(in alloc; "entry {shown} ({named}) put first")?;
+    let words = words_first(alloc, entry, index)?;
     with_entries(alloc, value, with_first(alloc, entries, index)?, words)
+}
+
+/// `entry 2 (NV12 LINEAR) put first`.
+fn words_first(alloc: Global, entry: &Value, index: usize) -> Result<String, AllocError> {
+    let named = named_words(alloc, entry)?;
+    let shown = index.saturating_add(1);
+    format!(in alloc; "entry {shown} ({named}) put first")
 }
 
 /// Entries with that of an index before the others.
@@ -144,51 +154,41 @@ fn with_first(alloc: Global, entries: &[Value], index: usize) -> Result<Vec<Valu
 
 /// An entry for a format and modifier alone, else like this one.
 fn naming(alloc: Global, entry: &Value, pair: Pair) -> Result<Value, AllocError> {
-    let mut members = members_of(alloc, Some(entry))?;
-    let _gone = members.remove("pixel_format_and_modifiers");
-    put_text(&mut members, alloc, FORMAT, pair.format.name())?;
-    put_text(&mut members, alloc, MODIFIER, pair.modifier.name())?;
-    Ok(Value::Object(members))
+    let single = lacking(alloc, entry, "pixel_format_and_modifiers")?;
+    let named = with_text(alloc, &single, FORMAT, pair.format.name())?;
+    with_text(alloc, &named, MODIFIER, pair.modifier.name())
 }
 
-fn put_text(
-    members: &mut Map<String, Value>,
-    alloc: Global,
-    key: &str,
-    text: &str,
-) -> Result<(), AllocError> {
-    put(members, alloc, key, text_value(alloc, text)?)
+fn with_text(alloc: Global, entry: &Value, key: &str, text: &str) -> Result<Value, AllocError> {
+    with(alloc, Some(entry), key, text_value(alloc, text)?)
 }
 
 /// `pixel_format NV12 LINEAR too, in an entry before the others that is else like the first
 /// (YUY2)`, or `like entry 2 (..)`.
 fn words_on(alloc: Global, like: &Value, index: usize, pair: Pair) -> Result<String, AllocError> {
-    let format = pair.format.name();
-    let modifier = pair.modifier.name();
-    let named = Named(like);
-    let mut words = format!(in alloc;
-        "pixel_format {format} {modifier} too, in an entry before the others that is else like "
-    )?;
-    if index == 0 {
-        write!(words, "the first ({named})")?;
-    } else {
-        let shown = index.saturating_add(1);
-        write!(words, "entry {shown} ({named})")?;
-    }
-    Ok(words)
+    let named = named_words(alloc, like)?;
+    let like = like_words(alloc, index)?;
+    let (format, modifier) = (pair.format.name(), pair.modifier.name());
+    format!(in alloc;
+        "pixel_format {format} {modifier} too, in an entry before the others {like} ({named})"
+    )
 }
 
-/// An entry, shown by the format and the modifier that it names.
-#[derive(Clone, Copy)]
-struct Named<'a>(&'a Value);
+/// `that is else like the first`, or the same of `entry 2`.
+fn like_words(alloc: Global, index: usize) -> Result<String, AllocError> {
+    if index == 0 {
+        return String::from_str(alloc, "that is else like the first");
+    }
+    let shown = index.saturating_add(1);
+    format!(in alloc; "that is else like entry {shown}")
+}
 
-impl fmt::Display for Named<'_> {
-    fn fmt<W: fmt::Write>(&self, f: &mut fmt::Formatter<W>) -> fmt::Result {
-        let format = text_in(self.0, FORMAT).unwrap_or("several pairs");
-        match text_in(self.0, MODIFIER) {
-            Some(modifier) => write!(f, "{format} {modifier}"),
-            None => write!(f, "{format}"),
-        }
+/// The format and the modifier that an entry names.
+fn named_words(alloc: Global, entry: &Value) -> Result<String, AllocError> {
+    let format = text_in(entry, FORMAT).unwrap_or("several pairs");
+    match text_in(entry, MODIFIER) {
+        Some(modifier) => format!(in alloc; "{format} {modifier}"),
+        None => String::from_str(alloc, format),
     }
 }
 

@@ -1,6 +1,6 @@
 //! Records with a list cut off, by which the item with a fault is found.
 
-use crate::paths::Path;
+use crate::paths::{Path, extended};
 use json_places::{Step, value_at};
 use serde_json::Value;
 use std::alloc::{AllocError, Global};
@@ -96,6 +96,18 @@ impl Narrowing {
         path: &[Step<'_>],
         least: usize,
     ) -> Result<Option<usize>, AllocError> {
+        let front = self.shortest_front(path, least)?;
+        let record = cut(self.alloc, &self.record, path, front)?;
+        if !self.has_fault(&record)? {
+            return Ok(None);
+        }
+        self.record = record;
+        Ok(front.checked_sub(1))
+    }
+
+    /// The length of the shortest front, of at least `least` items, with which the list at a path
+    /// has the fault, if any has it.
+    fn shortest_front(&self, path: &[Step<'_>], least: usize) -> Result<usize, AllocError> {
         let mut low = least;
         let mut high = self.len(path);
         for _halving in 0..64 {
@@ -109,12 +121,7 @@ impl Narrowing {
                 low = middle + 1;
             }
         }
-        let record = cut(self.alloc, &self.record, path, high)?;
-        if !self.has_fault(&record)? {
-            return Ok(None);
-        }
-        self.record = record;
-        Ok(high.checked_sub(1))
+        Ok(high)
     }
 
     /// The path of the faulty item of the list at a path, with the rest after it; or the path
@@ -127,11 +134,9 @@ impl Narrowing {
         if self.len(&path) == 0 {
             return Ok(path);
         }
-        let mut path = path;
-        if let Some(index) = self.item(&path, 1)? {
-            path.push(Step::Item(index))?;
-            path.extend_from_slice(rest)?;
+        match self.item(&path, 1)? {
+            Some(index) => extended(path, index, rest),
+            None => Ok(path),
         }
-        Ok(path)
     }
 }

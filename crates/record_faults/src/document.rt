@@ -22,6 +22,12 @@ fn pointed(span: Span, part: Part) -> Span {
     }
 }
 
+/// Says what is wrong at a path that isn't found in the text.
+fn say_unplaced(items: &mut Items, depth: usize, said: &str, note: &str) -> Result<(), AllocError> {
+    let text = format!(in items.alloc(); "{said}: {note}")?;
+    items.say(depth, "", text)
+}
+
 /// `: calls[4].constraints`.
 fn path_words(alloc: Global, path: &[Step<'_>]) -> Result<String, AllocError> {
     let mut words = String::from_str(alloc, ": ")?;
@@ -96,7 +102,7 @@ impl<'a> Document<'a> {
         let said = path_words(alloc, path)?;
         match span {
             Some(span) => self.show(items, depth, pointed(span, part), &said, note, helps),
-            None => items.say(depth, "", format!(in alloc; "{said}: {note}")?),
+            None => say_unplaced(items, depth, &said, note),
         }
     }
 

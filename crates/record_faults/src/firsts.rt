@@ -112,10 +112,7 @@ fn put_first_pair(
 /// The first entry of the list at a path that has the pair at another path, by its index, and where
 /// it has it.
 fn first_pair(script: &Value, path: &[Step<'_>], list: &[Step<'_>]) -> Option<(usize, Place)> {
-    let mine = match path.split_last() {
-        Some((Step::Key(_), entry)) => value_at(script, entry)?,
-        _ => value_at(script, path)?,
-    };
+    let mine = pair_at(script, path)?;
     let entries = value_at(script, list)?.as_array()?;
     for (index, entry) in entries.iter().enumerate() {
         if let Some(place) = place_in(entry, mine) {
@@ -123,6 +120,14 @@ fn first_pair(script: &Value, path: &[Step<'_>], list: &[Step<'_>]) -> Option<(u
         }
     }
     None
+}
+
+/// The entry or further pair at a path, or the one that a member at the path is of.
+fn pair_at<'a>(script: &'a Value, path: &[Step<'_>]) -> Option<&'a Value> {
+    match path.split_last() {
+        Some((Step::Key(_), entry)) => value_at(script, entry),
+        _ => value_at(script, path),
+    }
 }
 
 /// Where an entry has a pair first, if it does.

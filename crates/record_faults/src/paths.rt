@@ -28,6 +28,18 @@ pub(crate) fn joined<'a>(
     Ok(longer)
 }
 
+/// The path of an item of the list at a path, with further steps after it.
+pub(crate) fn extended<'a>(
+    path: Path<'a>,
+    index: usize,
+    rest: &[Step<'a>],
+) -> Result<Path<'a>, AllocError> {
+    let mut path = path;
+    path.push(Step::Item(index))?;
+    path.extend_from_slice(rest)?;
+    Ok(path)
+}
+
 /// Puts a path after a text: `calls[4].constraints.usage[0]`, or `the script`.
 pub(crate) fn put_path(text: &mut String, path: &[Step<'_>]) -> Result<(), AllocError> {
     if path.is_empty() {

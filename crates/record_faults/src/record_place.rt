@@ -1,7 +1,7 @@
 //! Where in a record its first fault stands.
 
 use crate::cutting::Narrowing;
-use crate::keys::{ENTRY, HEAP_NAME, MEMORY, PAIR, is_one_of};
+use crate::keys::{ENTRY, HEAP_NAME, MEMORY, PAIR, PLATFORM_HEAP, is_one_of};
 use crate::names::MODIFIERS_OR_ANY;
 use crate::paths::{Path, joined, with};
 use json_places::{Step, value_at};
@@ -40,7 +40,7 @@ fn place_in_constraints(
     } else if is_one_of(at, ENTRY) || at == "image_format_constraints" {
         place_in_entries(alloc, record, cut, at)
     } else {
-        Ok(vec![in alloc; Step::Key(at)]?)
+        Vec::from_slice(alloc, &[Step::Key(at)])
     }
 }
 
@@ -51,7 +51,7 @@ fn in_member(
     key: &'static str,
     rest: &[Step<'static>],
 ) -> Result<Path<'static>, AllocError> {
-    cut.in_list(vec![in alloc; Step::Key(key)]?, rest)
+    cut.in_list(Vec::from_slice(alloc, &[Step::Key(key)])?, rest)
 }
 
 fn place_in_platform(
@@ -59,19 +59,17 @@ fn place_in_platform(
     cut: &mut Narrowing,
     at: &'static str,
 ) -> Result<Path<'static>, AllocError> {
-    match at {
-        "heap_type" | "id" | "contiguous" | "secure" => {
-            in_member(alloc, cut, "heaps", &[Step::Key(at)])
-        }
-        "domains" => {
-            let path = in_member(alloc, cut, "heaps", &[Step::Key(at)])?;
-            cut.in_list(path, &[])
-        }
-        "pixel_format" | "pixel_format_modifier" => {
-            in_member(alloc, cut, "pairs", &[Step::Key(at)])
-        }
-        _ => in_member(alloc, cut, at, &[]),
+    if is_one_of(at, PAIR) {
+        return in_member(alloc, cut, "pairs", &[Step::Key(at)]);
     }
+    if !is_one_of(at, PLATFORM_HEAP) {
+        return in_member(alloc, cut, at, &[]);
+    }
+    let path = in_member(alloc, cut, "heaps", &[Step::Key(at)])?;
+    if at == "domains" {
+        return cut.in_list(path, &[]);
+    }
+    Ok(path)
 }
 
 fn place_in_memory(
@@ -81,7 +79,8 @@ fn place_in_memory(
 ) -> Result<Path<'static>, AllocError> {
     let is_heap = is_one_of(at, HEAP_NAME);
     let key = if is_heap { "permitted_heaps" } else { at };
-    let path = vec![in alloc; Step::Key("buffer_memory_constraints"), Step::Key(key)]?;
+    let steps = [Step::Key("buffer_memory_constraints"), Step::Key(key)];
+    let path = Vec::from_slice(alloc, &steps)?;
     if is_heap {
         return cut.in_list(path, &[Step::Key(at)]);
     }
@@ -97,7 +96,7 @@ fn place_in_entries(
     cut: &mut Narrowing,
     at: &'static str,
 ) -> Result<Path<'static>, AllocError> {
-    let mut path = in_member(alloc, cut, "image_format_constraints", &[])?;
+    let path = in_member(alloc, cut, "image_format_constraints", &[])?;
     if at == "image_format_constraints" {
         return Ok(path);
     }
@@ -106,6 +105,16 @@ fn place_in_entries(
             return Ok(further);
         }
     }
+    place_in_entry(cut, path, at)
+}
+
+/// The place in the entry at a path, outside its further pairs.
+fn place_in_entry(
+    cut: &mut Narrowing,
+    entry: Path<'static>,
+    at: &'static str,
+) -> Result<Path<'static>, AllocError> {
+    let mut path = entry;
     path.push(Step::Key(at))?;
     if at == "color_spaces" {
         return cut.in_list(path, &[]);
@@ -125,14 +134,24 @@ fn place_in_pairs(
         return Ok(None);
     }
     let pairs = with(alloc, entry, Step::Key("pixel_format_and_modifiers"))?;
-    if !has_items(value_at(record, &pairs)) {
-        return Ok(None);
-    }
-    let own = value_at(record, entry).and_then(|entry| entry.get("pixel_format"));
-    match cut.item(&pairs, usize::from(own.is_none()))? {
+    match faulty_pair(record, cut, entry, &pairs)? {
         Some(index) => Ok(Some(pair_path(alloc, &pairs, index, at)?)),
         None => Ok(None),
     }
+}
+
+/// The index of the faulty one of an entry's further pairs, which stand at a path.
+fn faulty_pair(
+    record: &Value,
+    cut: &mut Narrowing,
+    entry: &[Step<'static>],
+    pairs: &[Step<'static>],
+) -> Result<Option<usize>, AllocError> {
+    if !has_items(value_at(record, pairs)) {
+        return Ok(None);
+    }
+    let own = value_at(record, entry).and_then(|entry| entry.get("pixel_format"));
+    cut.item(pairs, usize::from(own.is_none()))
 }
 
 /// The path of a further pair, or of what is faulty in it.

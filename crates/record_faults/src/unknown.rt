@@ -4,6 +4,7 @@ use crate::document::{Document, Part};
 use crate::keys::is_one_of;
 use crate::paths::{Path, with};
 use json_places::Step;
+use serde_json::Value;
 use std::alloc::{AllocError, Global};
 
 /// How many unknown keys of one object are looked for in the text.
@@ -17,10 +18,20 @@ pub fn first_unknown<'a>(
     path: &[Step<'a>],
     keys: &[&str],
 ) -> Result<Option<Path<'a>>, AllocError> {
-    let Some(object) = document.at(path) else {
-        return Ok(None);
-    };
-    let Some(members) = object.as_object() else {
+    match first_key(alloc, document, path, keys)? {
+        Some(key) => Ok(Some(with(alloc, path, Step::Key(key))?)),
+        None => Ok(None),
+    }
+}
+
+/// The key of that member.
+fn first_key<'a>(
+    alloc: Global,
+    document: &Document<'a>,
+    path: &[Step<'a>],
+    keys: &[&str],
+) -> Result<Option<&'a str>, AllocError> {
+    let Some(members) = document.at(path).and_then(Value::as_object) else {
         return Ok(None);
     };
     let mut first: Option<&'a str> = None;
@@ -37,10 +48,7 @@ pub fn first_unknown<'a>(
             first = Some(key.as_str());
         }
     }
-    match first {
-        Some(key) => Ok(Some(with(alloc, path, Step::Key(key))?)),
-        None => Ok(None),
-    }
+    Ok(first)
 }
 
 /// Where the key of a member of the object at a path stands; behind all others where it isn't

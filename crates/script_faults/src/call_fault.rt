@@ -1,6 +1,6 @@
 //! The faults of a script's calls, in words.
 
-use crate::keys::CALLS;
+use crate::keys::{CALLS, KNOWN};
 use explanation_text::wording::{put_few, put_joined};
 use explanation_text::{Items, nearest};
 use json_places::Step;
@@ -58,30 +58,36 @@ impl<'a> Faulty<'a, '_> {
         items: &mut Items,
         key: &'static str,
         note: &str,
-        help: String,
+        help: Result<String, AllocError>,
     ) -> Result<(), AllocError> {
         let member = [Step::Key("calls"), Step::Item(self.index), Step::Key(key)];
         let steps = if self.call.get(key).is_some() { 3 } else { 2 };
         let path = member.get(..steps).unwrap_or(&member);
         self.document
-            .advise(items, 1, path, Part::Value, note, help)
+            .advise(items, 1, path, Part::Value, note, help?)
     }
 
     /// Points at the call, which lacks a member; or at a key that it can't have, which is likely
     /// meant.
-    fn lacks(&self, items: &mut Items, key: &'static str, help: String) -> Result<(), AllocError> {
+    fn lacks(
+        &self,
+        items: &mut Items,
+        key: &'static str,
+        help: Result<String, AllocError>,
+    ) -> Result<(), AllocError> {
         let alloc = items.alloc();
         let path = self.path();
-        let known = ["call", "on", "as", "actor", "constraints"];
-        if let Some(other) = first_unknown(alloc, self.document, &path, &known)? {
-            let meant = format!(in alloc; "did you mean {key}? It is missing")?;
-            return self
-                .document
-                .advise(items, 1, &other, Part::Key, "unknown key", meant);
+        let document = self.document;
+        match first_unknown(alloc, document, &path, KNOWN)? {
+            Some(other) => {
+                let meant = format!(in alloc; "did you mean {key}? It is missing")?;
+                document.advise(items, 1, &other, Part::Key, "unknown key", meant)
+            }
+            None => {
+                let note = format!(in alloc; "{key} is missing");
+                document.tell(items, 1, &path, Part::Begin, note, help)
+            }
         }
-        let note = format!(in alloc; "{key} is missing")?;
-        self.document
-            .advise(items, 1, &path, Part::Begin, &note, help)
     }
 
     fn text(&self, key: &str) -> Option<&'a str> {
@@ -98,7 +104,13 @@ pub fn actor_of(call: &Value) -> &str {
 }
 
 fn tell_actors(items: &mut Items, faulty: Faulty<'_, '_>) -> Result<(), AllocError> {
-    let alloc = items.alloc();
+    let actors = actors_before(items.alloc(), faulty)?;
+    let help = listed(items.alloc(), "at most 16 may call: ", &actors);
+    faulty.point(items, "actor", "the 17th actor", help)
+}
+
+/// The first 16 actors of the calls before one.
+fn actors_before<'a>(alloc: Global, faulty: Faulty<'a, '_>) -> Result<Vec<&'a str>, AllocError> {
     let mut actors: Vec<&str> = Vec::new(alloc);
     for call in faulty.calls.iter().take(faulty.index) {
         let actor = actor_of(call);
@@ -106,9 +118,14 @@ fn tell_actors(items: &mut Items, faulty: Faulty<'_, '_>) -> Result<(), AllocErr
             actors.push(actor)?;
         }
     }
-    let mut help = String::from_str(alloc, "at most 16 may call: ")?;
-    put_joined(&mut help, &actors, "and")?;
-    faulty.point(items, "actor", "the 17th actor", help)
+    Ok(actors)
+}
+
+/// Names after a text.
+fn listed(alloc: Global, text: &str, names: &[&str]) -> Result<String, AllocError> {
+    let mut words = String::from_str(alloc, text)?;
+    put_joined(&mut words, names, "and")?;
+    Ok(words)
 }
 
 /// Whether a call makes a name.
@@ -123,23 +140,25 @@ fn is_maker(name: &str) -> bool {
 fn tell_shape(items: &mut Items, faulty: Faulty<'_, '_>) -> Result<(), AllocError> {
     let alloc = items.alloc();
     if !faulty.call.is_object() {
-        let note = wrong_kind(alloc, faulty.call, "a call is")?;
-        return faulty
-            .document
-            .point(items, 1, &faulty.path(), Part::Value, &note, &[]);
+        return tell_no_object(items, faulty);
     }
     let Some(value) = faulty.call.get("call") else {
-        let help = calls_known(alloc)?;
-        return faulty.lacks(items, "call", help);
+        return faulty.lacks(items, "call", calls_known(alloc));
     };
     let Some(name) = value.as_str() else {
         return tell_kind(items, faulty, "call", value);
     };
     if !is_one_of(name, CALLS) {
-        let help = hint_of_call(alloc, name)?;
-        return faulty.point(items, "call", "unknown call", help);
+        return faulty.point(items, "call", "unknown call", hint_of_call(alloc, name));
     }
     tell_members(items, faulty, name)
+}
+
+fn tell_no_object(items: &mut Items, faulty: Faulty<'_, '_>) -> Result<(), AllocError> {
+    let note = wrong_kind(items.alloc(), faulty.call, "a call is")?;
+    faulty
+        .document
+        .point(items, 1, &faulty.path(), Part::Value, &note, &[])
 }
 
 /// What an unknown call may mean.
@@ -151,9 +170,7 @@ fn hint_of_call(alloc: Global, name: &str) -> Result<String, AllocError> {
 }
 
 fn calls_known(alloc: Global) -> Result<String, AllocError> {
-    let mut words = String::from_str(alloc, "calls: ")?;
-    put_joined(&mut words, CALLS, "and")?;
-    Ok(words)
+    listed(alloc, "calls: ", CALLS)
 }
 
 fn tell_kind(
@@ -164,27 +181,32 @@ fn tell_kind(
 ) -> Result<(), AllocError> {
     let alloc = items.alloc();
     let note = wrong_kind(alloc, value, "a name is")?;
-    let help = String::from_str(alloc, "names stand in double quotes")?;
+    let help = String::from_str(alloc, "names stand in double quotes");
     faulty.point(items, key, &note, help)
 }
 
 /// Tells what is wrong with the members of a call that has a name.
 fn tell_members(items: &mut Items, faulty: Faulty<'_, '_>, name: &str) -> Result<(), AllocError> {
     if is_maker(name) && faulty.call.get("as").is_none() {
-        let help = format!(in items.alloc(); "{name} makes a node: as gives it its name")?;
+        let help = format!(in items.alloc(); "{name} makes a node: as gives it its name");
         return faulty.lacks(items, "as", help);
     }
     if let Some((key, value)) = no_text(faulty, &["as"], is_maker(name)) {
         return tell_kind(items, faulty, key, value);
     }
     if faulty.call.get("on").is_none() {
-        let help = String::from_str(items.alloc(), "on names the node that the call is made on")?;
+        let help = String::from_str(items.alloc(), "on names the node that the call is made on");
         return faulty.lacks(items, "on", help);
     }
     let keys = keys_of(name);
-    if let Some(unknown) = first_unknown(items.alloc(), faulty.document, &faulty.path(), keys)? {
-        return tell_key(items, faulty, name, keys, &unknown);
+    match first_unknown(items.alloc(), faulty.document, &faulty.path(), keys)? {
+        Some(unknown) => tell_key(items, faulty, name, keys, &unknown),
+        None => tell_texts(items, faulty),
     }
+}
+
+/// Tells which of the members that name a node or an actor is no text.
+fn tell_texts(items: &mut Items, faulty: Faulty<'_, '_>) -> Result<(), AllocError> {
     match no_text(faulty, &["on", "actor"], true) {
         Some((key, value)) => tell_kind(items, faulty, key, value),
         None => Ok(()),
@@ -230,26 +252,24 @@ fn tell_key(
     let alloc = items.alloc();
     let key = key_of(path);
     let help = if is_one_of(key, CONSTRAINTS) {
-        String::from_str(alloc, "it belongs in constraints")?
+        String::from_str(alloc, "it belongs in constraints")
     } else if key == "as" {
-        format!(in alloc; "{name} makes no node")?
+        format!(in alloc; "{name} makes no node")
     } else if key == "constraints" {
-        String::from_str(alloc, "only set_constraints has constraints")?
+        String::from_str(alloc, "only set_constraints has constraints")
     } else {
-        hint_of_key(alloc, key, keys)?
+        hint_of_key(alloc, key, keys)
     };
     faulty
         .document
-        .advise(items, 1, path, Part::Key, "unknown key", help)
+        .advise(items, 1, path, Part::Key, "unknown key", help?)
 }
 
 fn hint_of_key(alloc: Global, key: &str, keys: &[&'static str]) -> Result<String, AllocError> {
     if let Some(near) = nearest(alloc, key, keys)? {
         return format!(in alloc; "did you mean {near}?");
     }
-    let mut words = String::from_str(alloc, "keys of this call: ")?;
-    put_joined(&mut words, keys, "and")?;
-    Ok(words)
+    listed(alloc, "keys of this call: ", keys)
 }
 
 /// Whether a text is 1 to 32 ASCII letters, digits, `_` and `-`.
@@ -264,30 +284,39 @@ fn is_name(text: &str) -> bool {
 
 /// Tells a bad name, a name that no earlier call made, or one that is made again.
 fn tell_name(items: &mut Items, faulty: Faulty<'_, '_>) -> Result<(), AllocError> {
-    let alloc = items.alloc();
-    for key in ["on", "as", "actor"] {
-        match faulty.text(key) {
-            Some(text) if !is_name(text) => {
-                let help = String::from_str(
-                    alloc,
-                    "a name is 1 to 32 ASCII letters, digits, _ or -",
-                )?;
-                return faulty.point(items, key, "a bad name", help);
-            }
-            _ => {}
-        }
+    if let Some(key) = bad_name(faulty) {
+        let words = "a name is 1 to 32 ASCII letters, digits, _ or -";
+        let help = String::from_str(items.alloc(), words);
+        return faulty.point(items, key, "a bad name", help);
     }
     let on = faulty.text("on").unwrap_or("");
     if on != "root" && maker_of(faulty, on).is_none() {
         return tell_unmade(items, faulty, on);
     }
+    tell_made(items, faulty)
+}
+
+/// The first member that is to be a name, and has a wrong length or character.
+fn bad_name(faulty: Faulty<'_, '_>) -> Option<&'static str> {
+    for key in ["on", "as", "actor"] {
+        match faulty.text(key) {
+            Some(text) if !is_name(text) => return Some(key),
+            _ => {}
+        }
+    }
+    None
+}
+
+/// Tells a name that is made again.
+fn tell_made(items: &mut Items, faulty: Faulty<'_, '_>) -> Result<(), AllocError> {
+    let alloc = items.alloc();
     let made = faulty.text("as").unwrap_or("");
     let help = match maker_of(faulty, made) {
         Some(index) => {
             let number = index.saturating_add(1);
-            format!(in alloc; "call {number} makes it")?
+            format!(in alloc; "call {number} makes it")
         }
-        None => String::from_str(alloc, "the program makes root")?,
+        None => String::from_str(alloc, "the program makes root"),
     };
     faulty.point(items, "as", "made before", help)
 }
@@ -305,9 +334,9 @@ fn tell_shared(items: &mut Items, faulty: Faulty<'_, '_>) -> Result<(), AllocErr
     let help = match earlier {
         Some(index) => {
             let number = index.saturating_add(1);
-            format!(in alloc; "call {number} is made on it by another actor")?
+            format!(in alloc; "call {number} is made on it by another actor")
         }
-        None => String::from_str(alloc, "an earlier call on it is another actor's")?,
+        None => String::from_str(alloc, "an earlier call on it is another actor's"),
     };
     faulty.point(items, "on", "another actor's name", help)
 }
@@ -340,29 +369,38 @@ fn tell_unmade(items: &mut Items, faulty: Faulty<'_, '_>, on: &str) -> Result<()
         .skip(faulty.index)
         .position(|call| makes(call, on));
     let help = match later {
-        Some(0) => String::from_str(alloc, "this call itself makes it")?,
+        Some(0) => String::from_str(alloc, "this call itself makes it"),
         Some(more) => {
             let number = faulty.index.saturating_add(more).saturating_add(1);
-            format!(in alloc; "call {number} makes it, and that comes later")?
+            format!(in alloc; "call {number} makes it, and that comes later")
         }
-        None => hint_of_made(alloc, faulty, on)?,
+        None => hint_of_made(alloc, faulty, on),
     };
     faulty.point(items, "on", note, help)
 }
 
 /// The name that was made and is near, or the names that were.
 fn hint_of_made(alloc: Global, faulty: Faulty<'_, '_>, on: &str) -> Result<String, AllocError> {
-    let mut made: Vec<&str> = Vec::new(alloc);
-    made.push("root")?;
+    let made = names_made(alloc, faulty)?;
+    match nearest(alloc, on, &made)? {
+        Some(near) => format!(in alloc; "did you mean {near}?"),
+        None => names_so_far(alloc, &made),
+    }
+}
+
+/// The names of the root and of what the calls before one make.
+fn names_made<'a>(alloc: Global, faulty: Faulty<'a, '_>) -> Result<Vec<&'a str>, AllocError> {
+    let mut made: Vec<&str> = vec![in alloc; "root"]?;
     for call in faulty.calls.iter().take(faulty.index) {
         if let Some(name) = call.get("as").and_then(Value::as_str) {
             made.push(name)?;
         }
     }
-    if let Some(near) = nearest(alloc, on, &made)? {
-        return format!(in alloc; "did you mean {near}?");
-    }
+    Ok(made)
+}
+
+fn names_so_far(alloc: Global, made: &[&str]) -> Result<String, AllocError> {
     let mut words = String::from_str(alloc, "names so far: ")?;
-    put_few(&mut words, &made, 8)?;
+    put_few(&mut words, made, 8)?;
     Ok(words)
 }

@@ -15,3 +15,6 @@ pub(crate) const CALLS: &[&str] = &[
     "all_children_present",
     "attach_token",
 ];
+
+/// The keys that a call may have.
+pub(crate) const KNOWN: &[&str] = &["call", "on", "as", "actor", "constraints"];

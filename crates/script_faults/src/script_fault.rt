@@ -7,7 +7,7 @@ use json_places::{Span, Step, stop_of};
 use record_faults::{Document, Part, first_unknown, key_of, tell_record_fault, wrong_kind};
 use script_reading::{LONGEST, ScriptFault};
 use serde_json::Value;
-use std::alloc::AllocError;
+use std::alloc::{AllocError, Global};
 
 /// Tells why a script is refused, and where.
 pub fn tell_fault<'a>(
@@ -35,12 +35,12 @@ pub fn tell_fault<'a>(
 /// The answer of a script that is refused.
 fn put_answer(items: &mut Items, fault: ScriptFault) -> Result<(), AllocError> {
     let alloc = items.alloc();
-    let mut text = format!(in alloc; "script refused: {fault}")?;
-    match fault {
-        ScriptFault::NotJson => text.push_str(", no JSON")?,
-        ScriptFault::Platform(_) => text.push_str(", the platform")?,
-        _ => {}
-    }
+    let what = match fault {
+        ScriptFault::NotJson => ", no JSON",
+        ScriptFault::Platform(_) => ", the platform",
+        _ => "",
+    };
+    let text = format!(in alloc; "script refused: {fault}{what}")?;
     items.push(Kind::Answer, 0, "", text)
 }
 
@@ -62,21 +62,25 @@ fn tell_calls(items: &mut Items, document: &Document<'_>) -> Result<(), AllocErr
 
 /// Tells where a text stops being JSON.
 pub fn tell_no_json(items: &mut Items, file: &str, bytes: &[u8]) -> Result<(), AllocError> {
-    let alloc = items.alloc();
     put_answer(items, ScriptFault::NotJson)?;
     if bytes.iter().all(|byte| byte.is_ascii_whitespace()) {
         let text = String::from_str(
-            alloc,
+            items.alloc(),
             "the file is empty: a script is an object with platform and calls",
         )?;
         return items.say(1, "", text);
     }
+    tell_break(items, file, bytes)
+}
+
+/// Tells where a text that isn't empty stops being UTF-8 or JSON.
+fn tell_break(items: &mut Items, file: &str, bytes: &[u8]) -> Result<(), AllocError> {
     let valid = match std::str::from_utf8(bytes) {
         Ok(_) => bytes.len(),
         Err(error) => error.valid_up_to(),
     };
     let front = bytes.get(..valid).unwrap_or(bytes);
-    match stop_of(alloc, front)? {
+    match stop_of(items.alloc(), front)? {
         Some(stop) if stop.at < valid || valid == bytes.len() => {
             tell_stop(
                 items,
@@ -99,21 +103,27 @@ fn tell_stop(
     expected: &str,
     help: String,
 ) -> Result<(), AllocError> {
-    let alloc = items.alloc();
-    let mut note = format!(in alloc; "expected {expected}")?;
-    if at >= bytes.len() {
-        note.push_str(", found the end")?;
-    }
+    let helps = helps_of(items.alloc(), help)?;
+    let end = if at >= bytes.len() {
+        ", found the end"
+    } else {
+        ""
+    };
+    let note = format!(in items.alloc(); "expected {expected}{end}")?;
     let mark = Mark {
         span: byte_at(at),
         said: "",
         note: &note,
     };
-    if help.is_empty() {
-        return show(items, 1, file, bytes, mark, &[]);
-    }
-    let helps = vec![in alloc; help]?;
     show(items, 1, file, bytes, mark, &helps)
+}
+
+/// A list of what helps, where something does.
+fn helps_of(alloc: Global, help: String) -> Result<Vec<String>, AllocError> {
+    if help.is_empty() {
+        return Ok(Vec::new(alloc));
+    }
+    Ok(vec![in alloc; help]?)
 }
 
 fn byte_at(at: usize) -> Span {
@@ -142,13 +152,17 @@ fn tell_misshapen(items: &mut Items, document: &Document<'_>) -> Result<(), Allo
         let due = "an object with platform and calls is";
         return tell_wrong(items, document, &[], document.value, due);
     }
-    if let Some(path) = first_unknown(items.alloc(), document, &[], SCRIPT)? {
-        return tell_key(items, document, &path);
+    match first_unknown(items.alloc(), document, &[], SCRIPT)? {
+        Some(path) => tell_key(items, document, &path),
+        None => tell_members(items, document),
     }
+}
+
+/// Tells a member that is missing, or calls that are no list.
+fn tell_members(items: &mut Items, document: &Document<'_>) -> Result<(), AllocError> {
     for key in SCRIPT {
         if document.value.get(*key).is_none() {
-            let note = format!(in items.alloc(); "{key} is missing")?;
-            return document.point(items, 1, &[], Part::Begin, &note, &[]);
+            return tell_missing(items, document, key);
         }
     }
     let path = [Step::Key("calls")];
@@ -156,6 +170,11 @@ fn tell_misshapen(items: &mut Items, document: &Document<'_>) -> Result<(), Allo
         Some(calls) => tell_wrong(items, document, &path, calls, "a list is"),
         None => Ok(()),
     }
+}
+
+fn tell_missing(items: &mut Items, document: &Document<'_>, key: &str) -> Result<(), AllocError> {
+    let note = format!(in items.alloc(); "{key} is missing")?;
+    document.point(items, 1, &[], Part::Begin, &note, &[])
 }
 
 /// Tells a value of a wrong kind.
@@ -178,8 +197,8 @@ fn tell_key(
 ) -> Result<(), AllocError> {
     let alloc = items.alloc();
     let help = match nearest(alloc, key_of(path), SCRIPT)? {
-        Some(near) => format!(in alloc; "did you mean {near}?")?,
-        None => String::from_str(alloc, "a script has just platform and calls")?,
+        Some(near) => format!(in alloc; "did you mean {near}?"),
+        None => String::from_str(alloc, "a script has just platform and calls"),
     };
-    document.advise(items, 1, path, Part::Key, "unknown key", help)
+    document.advise(items, 1, path, Part::Key, "unknown key", help?)
 }
