@@ -54,6 +54,21 @@ impl Page {
         }
     }
 
+    /// Puts numbers after the page, each with the markup before it.
+    pub(crate) fn put_numbers(&mut self, parts: &[(&'static str, usize)]) {
+        for (before, number) in parts {
+            self.put(before);
+            self.put_number(*number);
+        }
+    }
+
+    /// Puts words after the page, as `say` does, between markup.
+    pub(crate) fn say_in(&mut self, before: &'static str, words: &str, after: &'static str) {
+        self.put(before);
+        self.say(words);
+        self.put(after);
+    }
+
     /// Puts words after the page, as they are to be read: each character as one that can be seen,
     /// and those that HTML takes for its own by their names.
     pub(crate) fn say(&mut self, words: &str)

@@ -74,12 +74,12 @@ fn put_picture(page: &mut Page, drawing: &Drawing<'_>) {
     let columns = columns_of(drawing);
     let height = y_of(drawing.joints.len());
     page.put("<svg role=\"img\" aria-label=\"The tree of tokens; the list below says the same\"");
-    put_attribute(page, " width=\"", columns.end);
-    put_attribute(page, " height=\"", height);
-    page.put(" viewBox=\"0 0 ");
-    page.put_number(columns.end);
-    page.put(" ");
-    page.put_number(height);
+    page.put_numbers(&[
+        (" width=\"", columns.end),
+        ("\" height=\"", height),
+        ("\" viewBox=\"0 0 ", columns.end),
+        (" ", height),
+    ]);
     page.put("\">\n");
     for (row, joint) in drawing.joints.iter().enumerate() {
         put_branch(page, drawing, row, joint);
@@ -89,13 +89,6 @@ fn put_picture(page: &mut Page, drawing: &Drawing<'_>) {
         put_words(page, joint, y_of(row), columns);
     }
     page.put("</svg>\n")
-}
-
-/// Puts an attribute that is a number after the page.
-fn put_attribute(page: &mut Page, name: &'static str, value: usize) {
-    page.put(name);
-    page.put_number(value);
-    page.put("\"")
 }
 
 /// Puts the line from the joint above to a joint after the page: thick where both are chosen,
@@ -108,18 +101,17 @@ fn put_branch(page: &mut Page, drawing: &Drawing<'_>, row: usize, joint: &Joint<
         return;
     };
     let are_chosen = joint.standing == Standing::Chosen && other.standing == Standing::Chosen;
-    page.put(match (joint.is_late, are_chosen) {
+    let begin = match (joint.is_late, are_chosen) {
         (true, _) => "<path class=\"late\" d=\"M",
         (false, true) => "<path class=\"way\" d=\"M",
         (false, false) => "<path d=\"M",
-    });
-    page.put_number(x_of(other.depth));
-    page.put(" ");
-    page.put_number(y_of(above).saturating_add(7));
-    page.put("V");
-    page.put_number(y_of(row));
-    page.put("H");
-    page.put_number(x_of(joint.depth).saturating_sub(7));
+    };
+    page.put_numbers(&[
+        (begin, x_of(other.depth)),
+        (" ", y_of(above).saturating_add(7)),
+        ("V", y_of(row)),
+        ("H", x_of(joint.depth).saturating_sub(7)),
+    ]);
     page.put("\"/>\n")
 }
 
@@ -127,53 +119,46 @@ fn put_branch(page: &mut Page, drawing: &Drawing<'_>, row: usize, joint: &Joint<
 fn put_joint(page: &mut Page, joint: &Joint<'_>, y: usize) {
     let class = class_of(joint.standing);
     let x = x_of(joint.depth);
-    if joint.shape == Shape::Group {
-        page.put("<path class=\"shape ");
-        page.put(class);
-        page.put("\" d=\"M");
-        page.put_number(x);
-        page.put(" ");
-        page.put_number(y.saturating_sub(7));
-        page.put("l7 7l-7 7l-7 -7Z\"/>\n");
-        return;
-    }
     page.put(match joint.shape {
+        Shape::Group => "<path class=\"shape ",
         Shape::Token => "<circle class=\"shape token ",
-        _ => "<circle class=\"shape ",
+        Shape::Collection => "<circle class=\"shape ",
     });
     page.put(class);
-    put_attribute(page, "\" cx=\"", x);
-    put_attribute(page, " cy=\"", y);
-    page.put(" r=\"6\"/>\n")
+    if joint.shape == Shape::Group {
+        page.put_numbers(&[("\" d=\"M", x), (" ", y.saturating_sub(7))]);
+        page.put("l7 7l-7 7l-7 -7Z\"/>\n")
+    } else {
+        page.put_numbers(&[("\" cx=\"", x), ("\" cy=\"", y)]);
+        page.put("\" r=\"6\"/>\n")
+    }
 }
 
 /// Puts a joint's name, what it is and how it stands after the page.
 fn put_words(page: &mut Page, joint: &Joint<'_>, y: usize, columns: Columns) {
     let base = y.saturating_add(4);
-    put_attribute(page, "<text x=\"", x_of(joint.depth).saturating_add(22));
-    put_attribute(page, " y=\"", base);
-    page.put("><tspan class=\"name\">");
-    page.say(joint.name);
-    page.put("</tspan> ");
+    let x = x_of(joint.depth).saturating_add(22);
+    page.put_numbers(&[("<text x=\"", x), ("\" y=\"", base)]);
+    page.say_in("\"><tspan class=\"name\">", joint.name, "</tspan> ");
     page.say(joint.path);
-    put_attribute(page, " </text>\n<text class=\"soft\" x=\"", columns.states);
-    put_attribute(page, " y=\"", base);
-    page.put(">");
-    page.say(&joint.state);
     page.put(" </text>\n");
+    put_column(page, "soft", columns.states, base, &joint.state);
     if joint.word.is_empty() {
         return;
     }
-    page.put("<text class=\"");
-    page.put(match joint.standing {
+    let class = match joint.standing {
         Standing::Plain => "soft",
         standing => class_of(standing),
-    });
-    put_attribute(page, "\" x=\"", columns.words);
-    put_attribute(page, " y=\"", base);
-    page.put(">");
-    page.say(joint.word);
-    page.put(" </text>\n")
+    };
+    put_column(page, class, columns.words, base, joint.word)
+}
+
+/// Puts words of a class at a place after the page.
+fn put_column(page: &mut Page, class: &'static str, x: usize, y: usize, words: &str) {
+    page.put("<text class=\"");
+    page.put(class);
+    page.put_numbers(&[("\" x=\"", x), ("\" y=\"", y)]);
+    page.say_in("\">", words, " </text>\n")
 }
 
 /// Puts the joints as nested lists after the page.
@@ -204,9 +189,7 @@ fn close_lists(page: &mut Page, open: usize, wanted: usize) {
 
 fn put_entry(page: &mut Page, joint: &Joint<'_>) {
     page.say(joint.name);
-    page.put(" ");
-    page.say(joint.path);
-    page.put(": ");
+    page.say_in(" ", joint.path, ": ");
     page.say(&joint.state);
     if !joint.word.is_empty() {
         page.put("; ");

@@ -64,16 +64,12 @@ impl Sections<'_> {
             self.is_in_decisions = true;
         }
         if !is_domain {
-            self.page.put("<h2>");
-            self.page.say(title);
-            self.page.put("</h2>\n");
+            self.page.say_in("<h2>", title, "</h2>\n");
         }
         self.page.put(article_of(title));
         self.is_in_article = true;
         if is_domain {
-            self.page.put("<h3>");
-            self.page.say(title);
-            self.page.put("</h3>\n");
+            self.page.say_in("<h3>", title, "</h3>\n");
         }
     }
 
@@ -130,9 +126,8 @@ impl Sections<'_> {
     fn put_promise(&mut self, item: &Item) {
         self.want_article();
         self.close_lists(item.depth);
-        self.page.put("<br>&rarr; <code>");
-        self.page.say(&item.text);
-        self.page.put("</code>\n")
+        self.page
+            .say_in("<br>&rarr; <code>", &item.text, "</code>\n")
     }
 
     /// An entry of a list, which is open or a new one. What has no label is told of the term before
@@ -153,9 +148,7 @@ impl Sections<'_> {
         if item.kind != Kind::Decision {
             return self.page.say(&item.text);
         }
-        self.page.put("<code>");
-        self.page.say(&item.text);
-        self.page.put("</code>")
+        self.page.say_in("<code>", &item.text, "</code>")
     }
 
     /// Closes an entry, and begins the next of its list.
@@ -192,9 +185,7 @@ impl Sections<'_> {
     }
 
     fn put_term(&mut self, label: &'static str) {
-        self.page.put("<dt>");
-        self.page.say(label);
-        self.page.put("</dt>\n")
+        self.page.say_in("<dt>", label, "</dt>\n")
     }
 }
 

@@ -37,14 +37,11 @@ fn is_refused(call: &Made<'_>) -> bool {
 
 /// Whether a call is to be looked at: the answers that its domain's own section tells are left out.
 fn is_told(story: &Story<'_>, call: &Made<'_>) -> bool {
-    if call.is_accepted() {
+    let code = call.code();
+    if call.is_accepted() || code == "E7" || code == "E8" {
         return false;
     }
-    match call.code() {
-        "E7" | "E8" => false,
-        "E9" => matches!(call.node, Some(node) if end_of(story, node).is_some()),
-        _ => true,
-    }
+    code != "E9" || matches!(call.node, Some(node) if end_of(story, node).is_some())
 }
 
 /// The call after which the domain of a node was decided or failed.
