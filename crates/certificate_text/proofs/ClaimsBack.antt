@@ -10,8 +10,8 @@ use Rattle.verdict_claims.specs.declared.certificate.Proof.TheVariants as proves
 use Rattle.verdict_claims.specs.declared.refutation.Item.{Item}
 use Rattle.verdict_claims.specs.declared.verdict.Verdict.{Verdict}
 use Rattle.verdict_claims.specs.declared.verdict.Verdict.TheVariants as verdicts
-use Rattle.sysmem_proof.specs.CertificateFacts.{CertificateFacts}
-use Rattle.sysmem_proof.specs.Chosen.{ChosenFacts}
+use Rattle.verdict_claims.specs.CertificateFacts.{CertificateFacts}
+use Rattle.verdict_claims.specs.Chosen.{ChosenFacts}
 use Rattle.certificate_text.specs.Bounds.{count_data}
 use Rattle.certificate_text.specs.CanBeRead.{HasSteps, IsReadableRefutation, IsReadableCertificate, IsReadableChoice, CanBeRead}
 use Rattle.certificate_text.specs.Reading.{number_to, list_said, at_key}

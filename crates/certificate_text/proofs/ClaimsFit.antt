@@ -16,11 +16,11 @@ use Rattle.verdict_claims.specs.declared.certificate.Proof.{Proof}
 use Rattle.verdict_claims.specs.declared.certificate.Proof.TheVariants as proves
 use Rattle.verdict_claims.specs.declared.verdict.Verdict.{Verdict}
 use Rattle.verdict_claims.specs.declared.verdict.Verdict.TheVariants as verdicts
-use Rattle.sysmem_proof.specs.Base.{BaseFacts, terms_of}
-use Rattle.sysmem_proof.specs.CertificateFacts.{CertificateFacts}
-use Rattle.sysmem_proof.specs.Chosen.{ChosenFacts}
-use Rattle.sysmem_proof.specs.Claim.{IsProofIn}
-use Rattle.sysmem_proof.specs.Verdict.{IsBestFor, IsOptimalIn}
+use Rattle.verdict_claims.specs.Base.{BaseFacts, terms_of}
+use Rattle.verdict_claims.specs.CertificateFacts.{CertificateFacts}
+use Rattle.verdict_claims.specs.Chosen.{ChosenFacts}
+use Rattle.verdict_claims.specs.Claim.{IsProofIn}
+use Rattle.verdict_claims.specs.Verdict.{IsBestFor, IsOptimalIn}
 use Rattle.certificate_text.specs.CanBeRead.{AreReadableSettings, IsReadableChoice, CanBeRead, HasHeapIds, IsReadableBase}
 use Rattle.certificate_text.specs.Laws.{TrueClaimsCanBeRead}
 use Rattle.certificate_text.proofs.ProofsFit.{certificate_fits, items_fit}

@@ -4,7 +4,7 @@ use Rattle.json.specs.Print.{escape, escape_byte}
 use Rattle.serde_json.specs.Written.{compact_text}
 use Rattle.sysmem_counts.specs.Field.{field_name}
 use Rattle.sysmem_counts.specs.declared.field.Field.{Field}
-use Rattle.sysmem_proof.specs.Line.{LineFacts}
+use Rattle.verdict_claims.specs.Line.{LineFacts}
 use Rattle.certificate_text.specs.Out.{IsLineText}
 use Rattle.certificate_text.specs.Told.{named_data, paths_data}
 

@@ -17,12 +17,12 @@ use Rattle.verdict_claims.specs.declared.conflict.Conflict.{Conflict}
 use Rattle.verdict_claims.specs.declared.conflict.Conflict.TheVariants.{Count, Places, Offers, Fixed}
 use Rattle.verdict_claims.specs.declared.refutation.Item.{Item}
 use Rattle.verdict_claims.specs.declared.refutation.Item.TheVariants.{Split, Leaf}
-use Rattle.sysmem_proof.specs.Base.{BaseFacts, Terms, terms_of}
-use Rattle.sysmem_proof.specs.Certificate.{Refutes, RefutesEarlier, HoldBefore, RefuseBeforeFor, IsCertificate, IsRefutation}
-use Rattle.sysmem_proof.specs.CertificateFacts.{CertificateFacts}
-use Rattle.sysmem_proof.specs.Conflict.{RefusesPlace, RefusesOffer, IsConflictFor}
-use Rattle.sysmem_proof.specs.Line.{LineFacts}
-use Rattle.sysmem_proof.specs.Naming.{same_path, asked_at, IsTrueOf}
+use Rattle.verdict_claims.specs.Base.{BaseFacts, Terms, terms_of}
+use Rattle.verdict_claims.specs.Certificate.{Refutes, RefutesEarlier, HoldBefore, RefuseBeforeFor, IsCertificate, IsRefutation}
+use Rattle.verdict_claims.specs.CertificateFacts.{CertificateFacts}
+use Rattle.verdict_claims.specs.Conflict.{RefusesPlace, RefusesOffer, IsConflictFor}
+use Rattle.verdict_claims.specs.Line.{LineFacts}
+use Rattle.verdict_claims.specs.Naming.{same_path, asked_at, IsTrueOf}
 use Rattle.certificate_text.specs.CanBeRead.{HasSteps, NamesNodes, IsReadableConflict, IsReadableItem, IsReadableRefutation, IsReadableCertificate}
 use Rattle.verdict_claims.proofs.CallerLemmas.{both_all, in_settled}
 use Rattle.certificate_text.proofs.Shapes.{HasPath, accepted_paths, IsReached, whole_reached, choice_reached, choices_reached, selected_reached, reached_paths, few_there}

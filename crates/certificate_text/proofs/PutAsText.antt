@@ -11,7 +11,7 @@ use Rattle.serde_json.specs.Data.{Items, array}
 use Rattle.serde_json.specs.View.{items_of}
 use Rattle.serde_json.specs.Written.{outline, items_outline, items_text}
 use Rattle.serde_json.proofs.Texts.{print-outline}
-use Rattle.sysmem_proof.specs.Line.{LineFacts}
+use Rattle.verdict_claims.specs.Line.{LineFacts}
 use Rattle.certificate_text.specs.Certificate.{tokens_of}
 use Rattle.certificate_text.specs.Puts.{Adds}
 use Rattle.json.specs.Written.{Written, Writes}

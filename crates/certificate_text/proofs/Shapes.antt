@@ -15,7 +15,7 @@ use Rattle.sysmem_tree.specs.Path.{path_of}
 use Rattle.sysmem_tree.specs.Selection.{after}
 use Rattle.sysmem_tree.specs.Shape.{Member, by_number, by_path, forest_of, kid_of, before, tree_of, kids_from, rooted, shape_of}
 use Rattle.sysmem_tree.proofs.CallerLemmas.{first_many}
-use Rattle.sysmem_proof.specs.Members.{members_at}
+use Rattle.verdict_claims.specs.Members.{members_at}
 use Rattle.verdict_claims.proofs.CallerLemmas.{AllIn, in_after, in_tree}
 use Rattle.certificate_text.specs.CanBeRead.{HasSteps}
 use Rattle.certificate_text.proofs.Ordinals.{HasOrdinal, has_ordinal, path_steps, steps-append}

@@ -28,7 +28,7 @@ use Rattle.verdict_claims.specs.declared.refutation.Item.{Item}
 use Rattle.verdict_claims.specs.declared.refutation.Item.TheVariants.{Split, Leaf}
 use Rattle.verdict_claims.specs.declared.verdict.Verdict.{Verdict}
 use Rattle.verdict_claims.specs.declared.verdict.Verdict.TheVariants as verdicts
-use Rattle.sysmem_proof.specs.Line.{LineFacts}
+use Rattle.verdict_claims.specs.Line.{LineFacts}
 use Rattle.certificate_text.specs.Bounds.{count_data, size_data, bound_data, bounds_members}
 use Rattle.certificate_text.specs.CanBeRead.{HasSteps, NamesNodes, IsReadableConflict, IsReadableItem, IsReadableRefutation, AreReadableSettings, CanBeRead, IsReadableDecision}
 use Rattle.certificate_text.specs.Laws.{TextsReadBack}

@@ -18,10 +18,10 @@ use Rattle.verdict_claims.specs.declared.refutation.Item.{Item}
 use Rattle.verdict_claims.specs.declared.refutation.Item.TheVariants.{Split, Leaf}
 use Rattle.verdict_claims.specs.declared.verdict.Verdict.{Verdict}
 use Rattle.verdict_claims.specs.declared.verdict.Verdict.TheVariants as verdicts
-use Rattle.sysmem_proof.specs.Base.{BaseFacts}
-use Rattle.sysmem_proof.specs.CertificateFacts.{CertificateFacts}
-use Rattle.sysmem_proof.specs.Chosen.{ChosenFacts}
-use Rattle.sysmem_proof.specs.Line.{LineFacts}
+use Rattle.verdict_claims.specs.Base.{BaseFacts}
+use Rattle.verdict_claims.specs.CertificateFacts.{CertificateFacts}
+use Rattle.verdict_claims.specs.Chosen.{ChosenFacts}
+use Rattle.verdict_claims.specs.Line.{LineFacts}
 
 -- ordinals of 32 bits
 abbrev pub HasSteps : List ℕ → Type 0

@@ -10,8 +10,8 @@ use Rattle.sysmem_tree.specs.Path.{path_of}
 use Rattle.verdict_claims.specs.declared.certificate.Claim.{Claim}
 use Rattle.verdict_claims.specs.declared.certificate.Proof.{Proof}
 use Rattle.verdict_claims.specs.declared.verdict.Verdict.{Verdict}
-use Rattle.sysmem_proof.specs.Base.{BaseFacts}
-use Rattle.sysmem_proof.specs.Claim.{IsTrueClaim}
+use Rattle.verdict_claims.specs.Base.{BaseFacts}
+use Rattle.verdict_claims.specs.Claim.{IsTrueClaim}
 use Rattle.certificate_text.specs.CanBeRead.{HasSteps, CanBeRead, IsReadableDecision}
 use Rattle.certificate_text.specs.CanBeRead.{HasHeapIds, IsReadableBase}
 use Rattle.certificate_text.specs.Certificate.{certificate_text}

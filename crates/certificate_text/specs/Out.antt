@@ -5,7 +5,7 @@ use Rattle.json.specs.Print.{print, ends_value, ArePrintable}
 use Rattle.json.specs.Token.{Token}
 use Rattle.json.specs.Written.{Written}
 use Rattle.serde_json.specs.Written.{compact_text}
-use Rattle.sysmem_proof.specs.Line.{LineFacts}
+use Rattle.verdict_claims.specs.Line.{LineFacts}
 use Rattle.certificate_text.specs.Told.{line_data, paths_data}
 use Rattle.certificate_text.specs.declared.json_writer.Writer.TheInside.{Inside}
 

@@ -22,7 +22,7 @@ use Rattle.verdict_claims.specs.declared.refutation.Item.{Item}
 use Rattle.verdict_claims.specs.declared.refutation.Item.TheVariants.{Split, Leaf}
 use Rattle.verdict_claims.specs.declared.verdict.Verdict.{Verdict}
 use Rattle.verdict_claims.specs.declared.verdict.Verdict.TheVariants as verdicts
-use Rattle.sysmem_proof.specs.Line.{LineFacts}
+use Rattle.verdict_claims.specs.Line.{LineFacts}
 use Rattle.certificate_text.specs.Bounds.{count_data, bounds_data}
 use Rattle.certificate_text.specs.Paths.{path_text}
 

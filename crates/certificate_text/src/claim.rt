@@ -18,9 +18,9 @@ use crate::unread::Unread;
 use serde_json::Value;
 use std::alloc::{AllocError, Global};
 use sysmem_merge::Settings;
-use sysmem_proof::{Certificate, Chosen, Claim, Lines, Proof, Refutation, Verdict};
 use sysmem_sanitise::Platform;
 use sysmem_tree::{Path, Prefix};
+use verdict_claims::{Certificate, Chosen, Claim, Lines, Proof, Refutation, Verdict};
 
 impl Part for u8 {
     ghost told = { count_data };

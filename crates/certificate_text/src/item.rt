@@ -16,8 +16,8 @@ use crate::unread::Unread;
 use serde_json::Value;
 use std::alloc::{AllocError, Global};
 use sysmem_counts::Field;
-use sysmem_proof::{Conflict, EarlierChoices, Item, Line, Lines, PathList, Refutation};
 use sysmem_tree::Path;
+use verdict_claims::{Conflict, EarlierChoices, Item, Line, Lines, PathList, Refutation};
 
 impl Part for Item {
     ghost told = { item_data };

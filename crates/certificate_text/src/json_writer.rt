@@ -16,7 +16,7 @@ use json::Token;
 use std::alloc::{AllocError, Global};
 use std::marker::Model;
 use std::mem;
-use sysmem_proof::{Line, PathList};
+use verdict_claims::{Line, PathList};
 
 /// JSON that is being written. It places the commas and the colons, and leaves the nesting to its
 /// caller.

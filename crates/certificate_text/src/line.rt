@@ -16,7 +16,7 @@ use crate::unread::Unread;
 use serde_json::Value;
 use std::alloc::{AllocError, Global};
 use sysmem_counts::Field;
-use sysmem_proof::{Line, PathList};
+use verdict_claims::{Line, PathList};
 
 impl Part for Line {
     ghost told = { line_data };

@@ -11,7 +11,7 @@ use crate::path::read_path;
 use crate::unread::Unread;
 use serde_json::Value;
 use std::alloc::{AllocError, Global};
-use sysmem_proof::PathList;
+use verdict_claims::PathList;
 
 impl Part for PathList {
     ghost told = { paths_data };

@@ -10,7 +10,7 @@ ghost use Rattle.std.specs.Fmt.{decimal};
 
 use std::alloc::AllocError;
 use sysmem_counts::Field;
-use sysmem_proof::{Line, PathList};
+use verdict_claims::{Line, PathList};
 
 /// Puts the lines of a list after bytes, with a comma between two. A line that has the paths of the
 /// one before it takes over their text, and one that has its field too takes over the whole.

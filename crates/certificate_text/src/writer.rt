@@ -9,9 +9,9 @@ use crate::claim::put_decision;
 use crate::json_writer::Writer;
 use std::alloc::{AllocError, Global};
 use std::marker::Model;
-use sysmem_proof::Claim;
 use sysmem_sanitise::Platform;
 use sysmem_tree::Path;
+use verdict_claims::Claim;
 
 /// A certificate that is being written: the list of decisions so far.
 #[derive(Drop)]

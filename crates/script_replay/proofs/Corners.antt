@@ -13,10 +13,10 @@ use Rattle.sysmem_merge.specs.declared.settings.Settings.{Settings}
 use Rattle.sysmem_merge.specs.Best.{IsBest}
 use Rattle.verdict_claims.specs.declared.verdict.Verdict.{Verdict}
 use Rattle.verdict_claims.specs.declared.verdict.Verdict.TheVariants.{Chosen, IntersectionEmpty, TooMany, Failed, NoMemory}
-use Rattle.sysmem_proof.specs.Base.{BaseFacts, terms_of}
-use Rattle.sysmem_proof.specs.Chosen.{ChosenFacts}
-use Rattle.sysmem_proof.specs.Members.{participants}
-use Rattle.sysmem_proof.specs.Verdict.{IsBestFor, IsOptimalIn}
+use Rattle.verdict_claims.specs.Base.{BaseFacts, terms_of}
+use Rattle.verdict_claims.specs.Chosen.{ChosenFacts}
+use Rattle.verdict_claims.specs.Members.{participants}
+use Rattle.verdict_claims.specs.Verdict.{IsBestFor, IsOptimalIn}
 use Rattle.sysmem_sanitise.specs.Participant.{Participant}
 use Rattle.sysmem_sanitise.specs.Platform.{PlatformFacts}
 use Rattle.sysmem_tree.specs.declared.refusal.Refusal.{Refusal}

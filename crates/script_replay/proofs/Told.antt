@@ -7,7 +7,7 @@ use Rattle.sysmem_alloc.specs.State.{State, base_of}
 use Rattle.sysmem_image.specs.Laws.{NoCorner}
 use Rattle.verdict_claims.specs.declared.verdict.Verdict.{Verdict}
 use Rattle.verdict_claims.specs.declared.verdict.Verdict.TheVariants.{Chosen, IntersectionEmpty, TooMany, Failed, NoMemory}
-use Rattle.sysmem_proof.specs.Verdict.{IsOptimalIn}
+use Rattle.verdict_claims.specs.Verdict.{IsOptimalIn}
 use Rattle.sysmem_sanitise.specs.Platform.{PlatformFacts}
 use Rattle.sysmem_tree.specs.Domain.{TreeFacts, IsSoundTree}
 use Rattle.script_replay.specs.Deciding.{CanBeTold, TellsIn}

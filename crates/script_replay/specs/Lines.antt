@@ -12,7 +12,7 @@ use Rattle.sysmem_formats.specs.declared.offer.Pair.{Pair}
 use Rattle.sysmem_formats.specs.Names.{colour_name, format_name, modifier_name}
 use Rattle.sysmem_image.specs.declared.size.Corner.{Corner}
 use Rattle.sysmem_merge.specs.declared.settings.Settings.{Settings}
-use Rattle.sysmem_proof.specs.Chosen.{ChosenFacts}
+use Rattle.verdict_claims.specs.Chosen.{ChosenFacts}
 use Rattle.sysmem_sanitise.specs.Platform.{PlatformFacts}
 use Rattle.sysmem_sanitise.specs.Faults.{fault_text}
 use Rattle.sysmem_tree.specs.Refusal.{refusal_text}

@@ -9,7 +9,7 @@ use Rattle.sysmem_alloc.specs.Sound.{roots_of}
 use Rattle.sysmem_alloc.specs.State.{State as BookState, after_decision, next_ready, verdict_of}
 use Rattle.sysmem_image.specs.declared.size.Corner.{Corner}
 use Rattle.sysmem_image.specs.Corners.{IsCorner}
-use Rattle.sysmem_proof.specs.Chosen.{ChosenFacts}
+use Rattle.verdict_claims.specs.Chosen.{ChosenFacts}
 use Rattle.verdict_claims.specs.declared.certificate.Claim.{Claim}
 use Rattle.verdict_claims.specs.declared.verdict.Verdict.{Verdict}
 use Rattle.verdict_claims.specs.declared.verdict.Verdict.TheVariants.{Chosen, IntersectionEmpty}

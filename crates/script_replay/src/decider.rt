@@ -17,8 +17,8 @@ ghost use Rattle.script_replay.specs.declared.decider.Stop.TheVariants.{NoMemory
 use std::alloc::{AllocError, Global};
 use std::sync::Arc;
 use sysmem_alloc::Book;
-use sysmem_proof::{Claim, No};
 use sysmem_tree::{DomainId, Path};
+use verdict_claims::{Claim, No};
 
 /// What fails of the certificate of a decision.
 #[derive(Drop)]

@@ -9,8 +9,8 @@ ghost use Rattle.sysmem_alloc.specs.Entry.{Decided};
 ghost use Rattle.sysmem_alloc.specs.History.{Allows};
 ghost use Rattle.sysmem_alloc.specs.Sound.{MayWait};
 ghost use Rattle.sysmem_alloc.specs.State.{next_ready};
-ghost use Rattle.sysmem_proof.specs.Base.{IsGivenBase};
-ghost use Rattle.sysmem_proof.specs.Claim.{IsTrueClaim};
+ghost use Rattle.verdict_claims.specs.Base.{IsGivenBase};
+ghost use Rattle.verdict_claims.specs.Claim.{IsTrueClaim};
 ghost use Rattle.verdict_claims.specs.declared.verdict.Verdict.TheVariants as verdicts;
 ghost use Rattle.sysmem_tree.specs.Domain.{HasDomain};
 ghost use Rattle.sysmem_tree.specs.Path.{path_of};
@@ -22,10 +22,10 @@ use std::sync::Arc;
 use sysmem_alloc::Book;
 use sysmem_image::corner;
 use sysmem_image::laws::no_corner;
-use sysmem_proof::{Base, Chosen, Claim, Proof, Verdict};
 use sysmem_sanitise::Platform;
 use sysmem_search::{NoGate, prove, search};
 use sysmem_tree::{DomainId, Path, Tree};
+use verdict_claims::{Base, Chosen, Claim, Proof, Verdict};
 
 /// An optimal verdict of the first domain that waits, without what proves it; `None` where memory
 /// is refused. The prefixes that its search visits are added to those visited before.

@@ -14,9 +14,9 @@ use sysmem_formats::{ColourSpace, Offer, Pair};
 use sysmem_image::Corner;
 use sysmem_memory::HeapInfo;
 use sysmem_merge::Settings;
-use sysmem_proof::Chosen;
 use sysmem_sanitise::Platform;
 use sysmem_tree::{DomainId, Path, Tree};
+use verdict_claims::Chosen;
 
 /// Puts the line of a domain that was decided after the text: `domain /0 chosen 1 count 2 size
 /// 4096 place ram#0 cpu image none`.

@@ -34,9 +34,9 @@ use std::alloc::{AllocError, Global};
 use std::sync::Arc;
 use sysmem_alloc::Book;
 use sysmem_alloc::laws::{few_entries, legal_is_sound};
-use sysmem_proof::Claim;
 use sysmem_sanitise::{Code, Fault, Platform, read_constraints};
 use sysmem_tree::{Action, DomainId, Event, NodeId, Refusal};
+use verdict_claims::Claim;
 
 /// A collection with the names of its nodes.
 #[derive(Debug, Drop)]

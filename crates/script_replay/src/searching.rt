@@ -7,8 +7,8 @@ use crate::deciding::claim_for;
 use std::alloc::Global;
 use std::sync::Arc;
 use sysmem_alloc::Book;
-use sysmem_proof::Claim;
 use sysmem_tree::DomainId;
+use verdict_claims::Claim;
 
 /// Searches for each verdict, and asks for no proof. Where memory is refused to a search, that is
 /// the decision.

@@ -6,8 +6,8 @@ ghost use Rattle.sysmem_tree.specs.Nodes.{HasNode};
 
 use crate::reply::Reply;
 use sysmem_alloc::Book;
-use sysmem_proof::Verdict;
 use sysmem_tree::{NodeId, NodeKind, Refusal, Tree};
+use verdict_claims::Verdict;
 
 /// The answer to a check of a node, and to a wait.
 pub(crate) fn told(book: &Book, node: NodeId) -> Reply

@@ -14,8 +14,8 @@ use script_replay::{Decider, Stop, proved_claim_for};
 use std::alloc::{AllocError, Global};
 use std::sync::Arc;
 use sysmem_alloc::Book;
-use sysmem_proof::Claim;
 use sysmem_tree::DomainId;
+use verdict_claims::Claim;
 
 /// Searches for each verdict, proves it, and writes it with its proof.
 #[derive(Drop)]

@@ -17,8 +17,8 @@ use std::alloc::{AllocError, Global};
 use story_parts::{Deeds, Domain, Made, Node, Story, first_word};
 use sysmem_alloc::Book;
 use sysmem_merge::Settings;
-use sysmem_proof::Verdict;
 use sysmem_tree::{DomainId, NodeId, Tree};
+use verdict_claims::Verdict;
 
 /// The story of a script's calls, whose actors the script's value names.
 pub fn story_of<'a>(

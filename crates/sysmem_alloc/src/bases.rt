@@ -16,8 +16,8 @@ use crate::verdicts::{choices_of, entered_for};
 use std::alloc::{AllocError, Global};
 use std::sync::Arc;
 use sysmem_merge::Settings;
-use verdict_claims::{Claim, Verdict};
 use sysmem_tree::{DomainId, NodeId, Tree};
+use verdict_claims::{Claim, Verdict};
 
 /// The settings of a verdict that chose.
 fn settings_of(claim: &Option<Arc<Claim>>) -> Option<Settings>

@@ -28,10 +28,10 @@ use std::alloc::{AllocError, Global};
 use std::marker::Model;
 use std::sync::Arc;
 use sysmem_merge::Settings;
-use verdict_claims::{Base, Claim, Verdict};
 use sysmem_sanitise::Platform;
 use sysmem_tree::laws::{forest_stays, members_stand_once, numbers_stay, one_forest};
 use sysmem_tree::{DomainId, Event, MOST_NODES, NodeId, Refusal, Tree};
+use verdict_claims::{Base, Claim, Verdict};
 
 /// The number of entries for which a book has room; no history has more than 639.
 const ROOM: usize = 1024;

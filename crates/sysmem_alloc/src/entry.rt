@@ -5,8 +5,8 @@ ghost use Rattle.std.specs.Vec.{vec_capacity, vec_len};
 ghost use Rattle.sysmem_alloc.specs.declared.entry.Entry.TheVariants as entries;
 
 use std::sync::Arc;
-use verdict_claims::Claim;
 use sysmem_tree::{ActionKind, DomainId, NodeId};
+use verdict_claims::Claim;
 
 /// An entry of a book's history.
 #[derive(Debug, Drop)]

@@ -5,9 +5,9 @@ ghost use Rattle.sysmem_alloc.specs.Sound.{MayWait};
 ghost use Rattle.verdict_claims.specs.Base.{IsGivenBase};
 
 use std::marker::Model;
-use verdict_claims::Base;
 use sysmem_sanitise::Platform;
 use sysmem_tree::{DomainId, Tree};
+use verdict_claims::Base;
 
 /// Copies of a book's platform and tree, with the domain that is to be
 /// decided next and what it is decided on.

@@ -26,5 +26,5 @@ pub record ArePlaces (es : List BookEntry) (places : Places) : Type 0 where
   pub counts : length places.duplicates ≡ 128
   pub last : (i : ℕ) → i < 128 → HasAllOf es i (get_or places.last i 0)
   pub before : (k i : ℕ) (deed : Deed) → slice_get es k ≡ Some (Acted i deed)
-    → HasAllOf (take k es) i (get_or places.before k 0)
+      → HasAllOf (take k es) i (get_or places.before k 0)
   pub end : (i : ℕ) → i < 128 → EndsWith es i (get_or places.other i 0) (get_or places.duplicates i 0)

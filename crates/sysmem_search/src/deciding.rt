@@ -10,9 +10,9 @@ use crate::gate::Gate;
 use crate::question::Question;
 use crate::searching::search_from;
 use std::alloc::{AllocError, Global};
-use verdict_claims::{Base, Chosen, MOST_SELECTIONS, Verdict};
 use sysmem_sanitise::Platform;
 use sysmem_tree::{DomainId, Tree};
+use verdict_claims::{Base, Chosen, MOST_SELECTIONS, Verdict};
 
 /// What a search found.
 #[derive(Debug, Drop)]

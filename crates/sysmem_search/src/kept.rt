@@ -16,9 +16,9 @@ ghost use Rattle.sysmem_tree.specs.Shape.{Member};
 use crate::on_base::OnBase;
 use std::alloc::{AllocError, Global};
 use sysmem_merge::{Settings, Share, Sum};
-use verdict_claims::Base;
 use sysmem_sanitise::{Constraints, Platform};
 use sysmem_tree::{DomainId, Tree};
+use verdict_claims::Base;
 
 /// What is kept of the participants that one choice settles, made once for a search.
 #[derive(Drop)]

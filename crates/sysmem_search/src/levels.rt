@@ -16,9 +16,9 @@ ghost use Rattle.sysmem_tree.specs.Shape.{by_number, forest_of};
 use crate::kept::{Kept, Part};
 use crate::settling::add_settled;
 use std::alloc::{AllocError, Global};
-use verdict_claims::Base;
 use sysmem_sanitise::Platform;
 use sysmem_tree::{ChildPlace, DomainId, GroupPlace, Layout, MOST_NODES, Tree};
+use verdict_claims::Base;
 
 /// What is kept at a prefix. Those of longer prefixes are written over,
 /// so that a visit takes no memory.

@@ -11,12 +11,12 @@ ghost use Rattle.sysmem_tree.specs.Domain.{HasDomain};
 
 use crate::question::Question;
 use crate::refuting::{refute_earlier, refute_from};
-use std::alloc::{AllocError, Global};
 use conflict_finding::lines_before;
-use verdict_claims::{Base, Certificate, Chosen, Proof, Refutation, Verdict};
+use std::alloc::{AllocError, Global};
 use sysmem_sanitise::Platform;
 use sysmem_tree::layout_laws::few_choices;
 use sysmem_tree::{DomainId, Tree};
+use verdict_claims::{Base, Certificate, Chosen, Proof, Refutation, Verdict};
 
 /// What proves a verdict that is optimal for a domain, for an attached one on the base that is
 /// given: of a choice refutations of each choice before those of its selection, and lines that

@@ -13,15 +13,15 @@ ghost use Rattle.sysmem_tree.specs.Selection.{IsPrefix, after};
 
 use crate::kept::Part;
 use crate::levels::{Level, first_level, join_level, keep_part, reserve_level, slot_of};
+use conflict_finding::{Learnt, find_conflict_as};
 use std::alloc::{AllocError, Global};
 use std::marker::Model;
 use sysmem_merge::Settings;
 use sysmem_merge::laws::sums_in_any_order;
-use conflict_finding::{Learnt, find_conflict_as};
-use verdict_claims::{Base, Conflict};
 use sysmem_sanitise::Platform;
 use sysmem_tree::layout_laws::{choice_settles_share, none_open_is_selection};
 use sysmem_tree::{DomainId, Layout, Prefix, Tree};
+use verdict_claims::{Base, Conflict};
 
 /// A domain of a tree on a platform, with its base where it is an attached one, and a prefix of
 /// choices at which a search stands. What a choice settles is read once, when the choice is first

@@ -13,8 +13,8 @@ ghost use Rattle.sysmem_tree.specs.Selection.{IsPrefix, after};
 
 use crate::question::Question;
 use std::alloc::{AllocError, Global};
-use verdict_claims::{EarlierChoices, Item, Refutation};
 use sysmem_tree::Prefix;
+use verdict_claims::{EarlierChoices, Item, Refutation};
 
 /// Adds a conflict of what the question's choices settle, where no settings meet it: it
 /// refutes all that goes on from there.

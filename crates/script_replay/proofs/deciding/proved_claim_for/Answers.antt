@@ -3,7 +3,7 @@ use Rattle.sysmem_alloc.specs.Claims.{HasProof}
 use Rattle.sysmem_alloc.specs.Sound.{MayWait}
 use Rattle.sysmem_alloc.specs.State.{base_of}
 use Rattle.sysmem_alloc.proofs.CallerLemmas.{true_has_proof, true_is_right}
-use Rattle.sysmem_proof.specs.Claim.{IsTrueClaim}
+use Rattle.verdict_claims.specs.Claim.{IsTrueClaim}
 use Rattle.sysmem_tree.specs.Domain.{TreeFacts}
 use Rattle.script_replay.proofs.CallerLemmas.{claim_as}
 use Rattle.script_replay.proofs.deciding.proved_claim_for.Goals as goal
