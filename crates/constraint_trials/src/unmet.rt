@@ -98,20 +98,15 @@ fn all_with<'a>(
 ) -> Result<Vec<Asked<'a>>, AllocError> {
     let mut others = Vec::new(alloc);
     for one in people {
-        others.push(with_read(*one, read))?;
+        let mut other = *one;
+        for known in read {
+            if known.node == one.node {
+                other.asked = known.asked;
+            }
+        }
+        others.push(other)?;
     }
     Ok(others)
-}
-
-/// A participant that asks what was read for it, if something was.
-fn with_read<'a>(one: Asked<'a>, read: &[Read<'a>]) -> Asked<'a> {
-    let mut other = one;
-    for known in read {
-        if known.node == one.node {
-            other.asked = known.asked;
-        }
-    }
-    other
 }
 
 /// The least change of the field that an edit of the constraints of the call at a place, from 0,
