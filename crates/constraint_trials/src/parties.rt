@@ -1,7 +1,7 @@
 //! Participants who are asked together whichever children of groups are selected.
 
 use crate::group::Group;
-use crate::need::need_too_many;
+use crate::need::need_in;
 use crate::unmet::{Read, has_groups};
 use settings_reasons::{in_the_way, is_unmet};
 use std::alloc::{AllocError, Global};
@@ -39,7 +39,7 @@ impl Party<'_> {
 /// tells it. Without groups of tokens it is one of all.
 pub fn parties_of<'a>(alloc: Global, group: Group<'a, '_>) -> Result<Vec<Party<'a>>, AllocError> {
     let mut parties = Vec::new(alloc);
-    if has_groups(group.story) && need_too_many(alloc, group, group.people)? {
+    if has_groups(group.story) && need_in(alloc, group, group.people, None)?.is_too_great() {
         return Ok(parties);
     }
     for chosen in selections(alloc, group)? {

@@ -65,15 +65,15 @@ pub fn read_asked(alloc: Global, value: &Value) -> Result<Option<Constraints>, A
 }
 
 /// Whether those of a group, whose parties these are, have no settings, of whom some ask what was
-/// read: whatever is selected they need too many buffers, or one party of them is asked, each of
-/// which leaves none. Only a yes says something.
+/// read: whatever is selected one party of them is asked, each of which leaves none, or, where there
+/// are no parties, they need too many buffers in each place. Only a yes says something.
 pub fn leave_none(
     alloc: Global,
     group: Group<'_, '_>,
     parties: &[Party<'_>],
     read: &[Read<'_>],
 ) -> Result<bool, AllocError> {
-    if has_groups(group.story) {
+    if parties.is_empty() && has_groups(group.story) {
         let people = all_with(alloc, group.people, read)?;
         if need_too_many(alloc, group, &people)? {
             return Ok(true);
