@@ -115,23 +115,14 @@ fn add_object<'a>(
     }
     for (key, _) in others.iter() {
         if was.get(key.as_str()).is_none() {
-            add_own_line(lines, document, path)?;
+            let part = match path.last() {
+                Some(Step::Key(_)) => Part::Key,
+                _ => Part::Value,
+            };
+            add_line(lines, document, path, part)?;
         }
     }
     Ok(())
-}
-
-/// Adds the line in which the object at a path begins.
-fn add_own_line(
-    lines: &mut Vec<usize>,
-    document: &Document<'_>,
-    path: &[Step<'_>],
-) -> Result<(), AllocError> {
-    let part = match path.last() {
-        Some(Step::Key(_)) => Part::Key,
-        _ => Part::Value,
-    };
-    add_line(lines, document, path, part)
 }
 
 /// Adds the lines in which entries differ, entry by entry; where there are more than before, that

@@ -88,17 +88,10 @@ fn is_behind(pairs: &[Pair], entries: &[Entry], items: &[usize], index: usize) -
         return false;
     };
     for pair in pairs {
-        if takes(entry, *pair) && is_taken_before(entries, items, *item, *pair) {
-            return true;
-        }
-    }
-    false
-}
-
-fn is_taken_before(entries: &[Entry], items: &[usize], item: usize, pair: Pair) -> bool {
-    for (entry, place) in entries.iter().zip(items) {
-        if *place < item && takes(entry, pair) {
-            return true;
+        for (other, place) in entries.iter().zip(items) {
+            if *place < *item && takes(other, *pair) && takes(entry, *pair) {
+                return true;
+            }
         }
     }
     false

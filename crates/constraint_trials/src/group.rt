@@ -26,19 +26,12 @@ pub struct Group<'a, 'b> {
 }
 
 impl Group<'_, '_> {
-    /// The index of the domain.
-    pub(crate) fn domain(&self) -> usize {
-        self.story
-            .nodes
-            .get(self.root)
-            .map_or(0, |node| node.domain)
-    }
-
     /// Whether a node is in the domain.
     pub(crate) fn is_inside(&self, node: usize) -> bool {
-        match self.story.nodes.get(node) {
-            Some(known) => known.domain == self.domain(),
-            None => false,
+        let nodes = &self.story.nodes;
+        match (nodes.get(node), nodes.get(self.root)) {
+            (Some(known), Some(root)) => known.domain == root.domain,
+            _ => false,
         }
     }
 

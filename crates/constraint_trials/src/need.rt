@@ -1,15 +1,23 @@
-//! How many buffers participants need, whichever children of groups are selected.
+//! Whether participants need too many buffers in each place, whichever children of groups are
+//! selected.
 
 use crate::group::Group;
 use std::alloc::{AllocError, Global};
+use sysmem_memory::{CoherencyDomain, HeapInfo, refuses};
 use value_sources::Asked;
 
 /// The most buffers that there can be.
 const LIMIT: u32 = 128;
 
+const DOMAINS: [CoherencyDomain; 3] = [
+    CoherencyDomain::Cpu,
+    CoherencyDomain::Ram,
+    CoherencyDomain::Inaccessible,
+];
+
 /// How many buffers participants need at least, and how many they take at most.
 #[derive(Clone, Copy)]
-struct Need {
+pub(crate) struct Need {
     /// Their camping and dedicated slack, in sum.
     own: u64,
     /// Their shared slack, the greatest.
@@ -29,15 +37,24 @@ impl Need {
         }
     }
 
-    /// That of a participant.
-    fn of(one: &Asked<'_>) -> Need {
+    /// That of a participant, in a place if one is given: without end where it refuses that.
+    fn of(one: &Asked<'_>, place: Option<(&HeapInfo, CoherencyDomain)>) -> Need {
+        let (memory, usage) = (one.asked.memory(), one.asked.usage());
+        let is_refused = match place {
+            Some((heap, coherency)) => refuses(memory, usage, heap, coherency).is_some(),
+            None => false,
+        };
         let counts = one.asked.counts();
         let camping = u64::from(counts.min_buffer_count_for_camping);
         let dedicated = u64::from(counts.min_buffer_count_for_dedicated_slack);
         Need {
             own: camping.saturating_add(dedicated),
             shared: counts.min_buffer_count_for_shared_slack,
-            least: counts.min_buffer_count,
+            least: if is_refused {
+                u32::MAX
+            } else {
+                counts.min_buffer_count
+            },
             most: counts.max_buffer_count,
         }
     }
@@ -63,7 +80,7 @@ impl Need {
     }
 
     /// Whether there is no count for it.
-    fn is_too_great(self) -> bool {
+    pub(crate) fn is_too_great(self) -> bool {
         let together = self.own.saturating_add(u64::from(self.shared));
         let needed = together.max(u64::from(self.least));
         needed > u64::from(self.most.min(LIMIT))
@@ -71,74 +88,67 @@ impl Need {
 }
 
 /// Whether those of a group, asked so, need more buffers than they take or than there can be,
-/// whichever children of groups are selected: of a group at least as many as the child that needs
-/// the fewest.
+/// whichever children of groups are selected, or else do so in each place of the platform.
 pub(crate) fn need_too_many(
     alloc: Global,
     group: Group<'_, '_>,
     people: &[Asked<'_>],
 ) -> Result<bool, AllocError> {
-    let mut needs = own_needs(alloc, group, people)?;
-    let mut chosen: Vec<Option<Need>> = Vec::new(alloc);
-    for _node in 0..needs.len() {
-        chosen.push(None)?;
+    if need_in(alloc, group, people, None)?.is_too_great() {
+        return Ok(true);
     }
-    for node in (0..needs.len()).rev() {
-        let (Some(own), Some(known)) = (needs.get(node), group.story.nodes.get(node)) else {
-            continue;
-        };
-        let total = match chosen.get(node) {
-            Some(Some(least)) => own.with(*least),
-            _ => *own,
-        };
-        if node == group.root {
-            return Ok(total.is_too_great());
-        }
-        if group.is_inside(node) {
-            add_below(group, &mut needs, &mut chosen, known.parent, total);
+    for heap in group.setting.platform.heaps() {
+        for coherency in DOMAINS {
+            if heap.domains.has(coherency)
+                && !need_in(alloc, group, people, Some((heap, coherency)))?.is_too_great()
+            {
+                return Ok(false);
+            }
         }
     }
-    Ok(false)
+    Ok(true)
 }
 
-/// What each node's participant needs by itself.
-fn own_needs(
+/// What those of a group need, in a place if one is given, whichever children of groups are
+/// selected: of a group at least as much as the child that needs the least.
+pub(crate) fn need_in(
     alloc: Global,
     group: Group<'_, '_>,
     people: &[Asked<'_>],
-) -> Result<Vec<Need>, AllocError> {
-    let mut needs = Vec::new(alloc);
-    for _node in 0..group.story.nodes.len() {
-        needs.push(Need::none())?;
+    place: Option<(&HeapInfo, CoherencyDomain)>,
+) -> Result<Need, AllocError> {
+    let nodes = &group.story.nodes;
+    let mut needs: Vec<Option<Need>> = Vec::new(alloc);
+    for _node in 0..nodes.len() {
+        needs.push(None)?;
     }
     for one in people {
         if let Some(need) = needs.get_mut(one.node) {
-            *need = Need::of(one);
+            *need = Some(Need::of(one, place));
         }
     }
-    Ok(needs)
+    let mut total = Need::none();
+    for node in (group.root..needs.len()).rev() {
+        total = match needs.get(node) {
+            Some(Some(need)) => *need,
+            _ => Need::none(),
+        };
+        let parent = nodes.get(node).and_then(|known| known.parent);
+        if let (Some(above), true) = (parent, group.is_inside(node)) {
+            add_below(group, &mut needs, above, total);
+        }
+    }
+    Ok(total)
 }
 
-/// Adds what a child and those below it need to what its parent's others do: to a group's where it
-/// needs less.
-fn add_below(
-    group: Group<'_, '_>,
-    needs: &mut [Need],
-    chosen: &mut [Option<Need>],
-    parent: Option<usize>,
-    total: Need,
-) {
-    let Some(above) = parent else {
-        return;
-    };
-    if group.story.is_group(above) {
-        if let Some(least) = chosen.get_mut(above) {
-            *least = match *least {
-                Some(need) => Some(need.or(total)),
-                None => Some(total),
-            };
-        }
-    } else if let Some(need) = needs.get_mut(above) {
-        *need = need.with(total);
+/// Adds what a child and those below it need to what its parent and others below that do: to a
+/// group's where it needs less.
+fn add_below(group: Group<'_, '_>, needs: &mut [Option<Need>], above: usize, total: Need) {
+    if let Some(need) = needs.get_mut(above) {
+        *need = Some(match *need {
+            None => total,
+            Some(least) if group.story.is_group(above) => least.or(total),
+            Some(own) => own.with(total),
+        });
     }
 }

@@ -1,7 +1,7 @@
 //! Participants who are asked together whichever children of groups are selected.
 
 use crate::group::Group;
-use crate::need::need_too_many;
+use crate::need::need_in;
 use crate::unmet::{Read, has_groups};
 use settings_reasons::{in_the_way, is_unmet};
 use std::alloc::{AllocError, Global};
@@ -39,7 +39,7 @@ impl Party<'_> {
 /// tells it. Without groups of tokens it is one of all.
 pub fn parties_of<'a>(alloc: Global, group: Group<'a, '_>) -> Result<Vec<Party<'a>>, AllocError> {
     let mut parties = Vec::new(alloc);
-    if has_groups(group.story) && need_too_many(alloc, group, group.people)? {
+    if has_groups(group.story) && need_in(alloc, group, group.people, None)?.is_too_great() {
         return Ok(parties);
     }
     for chosen in selections(alloc, group)? {
@@ -65,7 +65,9 @@ fn selections(alloc: Global, group: Group<'_, '_>) -> Result<Vec<Vec<usize>>, Al
         match next_group(alloc, group, &chosen)? {
             Some(open) => {
                 for child in group.story.children(alloc, open)? {
-                    left.push(with_child(alloc, &chosen, child)?)?;
+                    let mut longer = Vec::from_slice(alloc, &chosen)?;
+                    longer.push(child)?;
+                    left.push(longer)?;
                 }
             }
             None => settled.push(chosen)?,
@@ -77,12 +79,6 @@ fn selections(alloc: Global, group: Group<'_, '_>) -> Result<Vec<Vec<usize>>, Al
     Ok(Vec::new(alloc))
 }
 
-fn with_child(alloc: Global, chosen: &[usize], child: usize) -> Result<Vec<usize>, AllocError> {
-    let mut longer = Vec::from_slice(alloc, chosen)?;
-    longer.push(child)?;
-    Ok(longer)
-}
-
 /// The group of which a child is to be selected next: where those who are asked leave some settings,
 /// one of those on which it hangs who is in the way once the first children of all others are
 /// selected; `None` where those leave none, or nobody is in the way then.
@@ -91,12 +87,14 @@ fn next_group(
     group: Group<'_, '_>,
     chosen: &[usize],
 ) -> Result<Option<usize>, AllocError> {
-    if are_unmet(alloc, group, chosen)? {
+    let platform = group.setting.platform;
+    let people = asked_with(alloc, group, chosen)?;
+    if is_unmet(alloc, platform, &people)? {
         return Ok(None);
     }
     let longer = with_firsts(alloc, group, chosen)?;
     let people = asked_with(alloc, group, &longer)?;
-    if let Some(few) = in_the_way(alloc, group.setting.platform, &people)? {
+    if let Some(few) = in_the_way(alloc, platform, &people)? {
         for one in &few {
             if let Some(open) = open_above(group, chosen, one.node) {
                 return Ok(Some(open));
@@ -143,12 +141,6 @@ fn open_above(group: Group<'_, '_>, chosen: &[usize], node: usize) -> Option<usi
         at = above;
     }
     open
-}
-
-/// Whether those who are asked where these children are selected leave no settings.
-fn are_unmet(alloc: Global, group: Group<'_, '_>, chosen: &[usize]) -> Result<bool, AllocError> {
-    let people = asked_with(alloc, group, chosen)?;
-    is_unmet(alloc, group.setting.platform, &people)
 }
 
 /// Those of a group who are asked wherever these children are selected.

@@ -65,15 +65,15 @@ pub fn read_asked(alloc: Global, value: &Value) -> Result<Option<Constraints>, A
 }
 
 /// Whether those of a group, whose parties these are, have no settings, of whom some ask what was
-/// read: whatever is selected they need too many buffers, or one party of them is asked, each of
-/// which leaves none. Only a yes says something.
+/// read: whatever is selected one party of them is asked, each of which leaves none, or, where there
+/// are no parties, they need too many buffers in each place. Only a yes says something.
 pub fn leave_none(
     alloc: Global,
     group: Group<'_, '_>,
     parties: &[Party<'_>],
     read: &[Read<'_>],
 ) -> Result<bool, AllocError> {
-    if has_groups(group.story) {
+    if parties.is_empty() && has_groups(group.story) {
         let people = all_with(alloc, group.people, read)?;
         if need_too_many(alloc, group, &people)? {
             return Ok(true);
@@ -98,20 +98,15 @@ fn all_with<'a>(
 ) -> Result<Vec<Asked<'a>>, AllocError> {
     let mut others = Vec::new(alloc);
     for one in people {
-        others.push(with_read(*one, read))?;
+        let mut other = *one;
+        for known in read {
+            if known.node == one.node {
+                other.asked = known.asked;
+            }
+        }
+        others.push(other)?;
     }
     Ok(others)
-}
-
-/// A participant that asks what was read for it, if something was.
-fn with_read<'a>(one: Asked<'a>, read: &[Read<'a>]) -> Asked<'a> {
-    let mut other = one;
-    for known in read {
-        if known.node == one.node {
-            other.asked = known.asked;
-        }
-    }
-    other
 }
 
 /// The least change of the field that an edit of the constraints of the call at a place, from 0,

@@ -69,15 +69,9 @@ fn lacks_colour(one: &Asked<'_>, colour: ColourSpace) -> bool {
 
 /// Whether somebody names a pair, and takes it not only as any.
 fn is_named(people: &[Asked<'_>], pair: Pair) -> bool {
-    people.iter().any(|one| one
-        .asked
-        .entries()
-        .iter()
-        .any(|entry| names_pair(entry, pair)))
-}
-
-fn names_pair(entry: &Entry, pair: Pair) -> bool {
-    entry.format == Some(pair.format) && entry.modifier == Some(pair.modifier)
+    people.iter().any(|one| one.asked.entries().iter().any(|entry| {
+        entry.format == Some(pair.format) && entry.modifier == Some(pair.modifier)
+    }))
 }
 
 fn is_colour_named(people: &[Asked<'_>], colour: ColourSpace) -> bool {

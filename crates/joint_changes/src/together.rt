@@ -152,7 +152,7 @@ impl Joint<'_, '_> {
         all: &[Part],
         from_last: bool,
     ) -> Result<Vec<Part>, AllocError> {
-        if let Some(mut known) = self.known(shelf, alloc, all)? {
+        if let Some(mut known) = self.known_of(shelf, alloc, all, all)? {
             let kept = self.needed_unrun(shelf, alloc, all, from_last, &mut known)?;
             if self.outcome(alloc, &kept)?.is_some() {
                 return Ok(kept);
@@ -241,17 +241,8 @@ impl Joint<'_, '_> {
         Ok(read)
     }
 
-    /// What each participant asks after some parts; `None` where that has a fault.
-    fn known(
-        &self,
-        shelf: &mut Shelf,
-        alloc: Global,
-        parts: &[Part],
-    ) -> Result<Option<Known>, AllocError> {
-        self.known_of(shelf, alloc, parts, parts)
-    }
-
-    /// The same, of those alone who have one of some other parts.
+    /// What those participants ask after some parts who have one of some others; `None` where that
+    /// has a fault.
     fn known_of(
         &self,
         shelf: &mut Shelf,
@@ -308,7 +299,7 @@ impl Joint<'_, '_> {
         index: usize,
         line: &str,
     ) -> Result<Option<String>, AllocError> {
-        let known = self.known(shelf, alloc, parts)?;
+        let known = self.known_of(shelf, alloc, parts, parts)?;
         for others in [known.as_ref(), None] {
             let best = self.least(shelf, alloc, parts, index, line, others)?;
             set_amount(parts, index, best);
@@ -335,7 +326,11 @@ impl Joint<'_, '_> {
         others: Option<&Known>,
     ) -> Result<Option<Amount>, AllocError> {
         let mut best = None;
-        let Some(mut halving) = self.halving(parts, index, line) else {
+        let halving = parts.get(index).and_then(|part| {
+            let value = self.group.people.get(part.person)?.stated?;
+            Halving::of(value, part.edit, line)
+        });
+        let Some(mut halving) = halving else {
             return Ok(best);
         };
         for _halving in 0..MOST_HALVINGS {
@@ -373,13 +368,6 @@ impl Joint<'_, '_> {
             }
             None => Ok(false),
         }
-    }
-
-    /// The values between of the part of an index, if it leaves a field out, which gives this line.
-    fn halving(&self, parts: &[Part], index: usize, line: &str) -> Option<Halving> {
-        let part = parts.get(index)?;
-        let value = self.group.people.get(part.person)?.stated?;
-        Halving::of(value, part.edit, line)
     }
 
     /// What the domain becomes by some changes, if it is chosen then with a row that may be meant.
