@@ -27,16 +27,21 @@ pub(crate) fn tell_pending(
     index: usize,
     domain: &Domain<'_>,
 ) -> Result<(), AllocError> {
-    let alloc = items.alloc();
-    let mut awaited: Vec<Awaited> = Vec::new(alloc);
-    for node in &story.awaited(alloc, index, usize::MAX)? {
-        awaited.push(awaited_of(alloc, story, *node)?)?;
-    }
+    let awaited = all_awaited(items.alloc(), story, index)?;
     tell_awaited(items, story, &awaited)?;
     match awaited_host(story, domain) {
         Some(above) => tell_host(items, story, domain, above),
         None => Ok(()),
     }
+}
+
+/// Whom the domain of an index waits for.
+fn all_awaited(alloc: Global, story: &Story<'_>, index: usize) -> Result<Vec<Awaited>, AllocError> {
+    let mut awaited = Vec::new(alloc);
+    for node in &story.awaited(alloc, index, usize::MAX)? {
+        awaited.push(awaited_of(alloc, story, *node)?)?;
+    }
+    Ok(awaited)
 }
 
 /// Tells that the domain of a root is awaited, to which this one was attached.

@@ -297,16 +297,21 @@ fn tell_room<'a>(
     people: &[Asked<'a>],
     count: u32,
 ) -> Result<(), AllocError> {
-    let alloc = items.alloc();
-    let mut all = Vec::from_slice(alloc, before)?;
+    let mut all = Vec::from_slice(items.alloc(), before)?;
     all.extend_from_slice(people)?;
-    let most = needed_by(&all);
+    tell_lacking(items, &all, count)
+}
+
+/// Tells how many buffers all need together, where more than were decided.
+fn tell_lacking(items: &mut Items, all: &[Asked<'_>], count: u32) -> Result<(), AllocError> {
+    let alloc = items.alloc();
+    let most = needed_by(all);
     let lacking = most.saturating_sub(u64::from(count));
     if lacking == 0 {
         return Ok(());
     }
     let were = if count == 1 { "was" } else { "were" };
-    let why = why_needed(alloc, &all)?;
+    let why = why_needed(alloc, all)?;
     let text = format!(in alloc;
         "{most} buffers are needed, {count} {were} decided, {lacking} too few: {why}"
     );

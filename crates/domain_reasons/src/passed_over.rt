@@ -1,6 +1,6 @@
 //! Children of groups after the chosen one that couldn't have been chosen.
 
-use crate::selecting::{Choice, Empty, open_group, reach, with_choice};
+use crate::selecting::{Choice, Empty, Reached, open_group, reach, with_choice};
 use crate::short::tell;
 use explanation_text::Items;
 use settings_reasons::{is_unmet, tell_conflict};
@@ -87,8 +87,19 @@ fn tell_unmet(
         return Ok(());
     }
     *told = told.saturating_add(1);
+    tell_why(items, empty, chosen, child, &reached)
+}
+
+/// Tells why a child can't be met in the place of the chosen one, which leaves these.
+fn tell_why(
+    items: &mut Items,
+    empty: Empty<'_, '_>,
+    chosen: Choice,
+    child: usize,
+    reached: &Reached<'_>,
+) -> Result<(), AllocError> {
     let (later, before) = (empty.story.name(child), empty.story.name(chosen.child));
-    let text = format!(in alloc; "{later}, which comes after {before}, can't be met:");
+    let text = format!(in items.alloc(); "{later}, which comes after {before}, can't be met:");
     tell(items, 2, "", text)?;
     tell_conflict(
         items,

@@ -299,19 +299,31 @@ pub fn choices_in(
     line: &str,
 ) -> Result<String, AllocError> {
     let mut texts: Vec<String> = Vec::new(alloc);
-    let mut choices: Vec<Choice> = Vec::new(alloc);
-    let ordinals = line.split(' ').nth(1).unwrap_or("-");
-    for ordinal in ordinals.split('.') {
-        let Some(choice) = choice_at(alloc, story, root, &choices, ordinal)? else {
-            break;
-        };
+    for choice in &choices_of(alloc, story, root, line)? {
         let (name, chosen) = (story.name(choice.group), story.name(choice.child));
         texts.push(format!(in alloc; "{name}: {chosen}")?)?;
-        choices.push(choice)?;
     }
     let mut text = String::new(alloc);
     put_texts(&mut text, &texts, MOST_CHOICES)?;
     Ok(text)
+}
+
+/// The choices of a line on a domain.
+fn choices_of(
+    alloc: Global,
+    story: &Story<'_>,
+    root: usize,
+    line: &str,
+) -> Result<Vec<Choice>, AllocError> {
+    let mut choices: Vec<Choice> = Vec::new(alloc);
+    let ordinals = line.split(' ').nth(1).unwrap_or("-");
+    for ordinal in ordinals.split('.') {
+        match choice_at(alloc, story, root, &choices, ordinal)? {
+            Some(choice) => choices.push(choice)?,
+            None => break,
+        }
+    }
+    Ok(choices)
 }
 
 /// The child that an ordinal names of the first group of which these choices choose none.
