@@ -13,16 +13,23 @@ pub fn answer_of(alloc: Global, story: &Story<'_>) -> Result<String, AllocError>
         0 => text.push_str(", none refused")?,
         count => write!(text, ", {count} refused")?,
     }
-    let more = story
-        .calls
-        .iter()
-        .filter(|call| is_odd_answer(story, call))
-        .count();
+    let more = odd_answers(story);
     if more > 0 {
         write!(text, ", {more} answered otherwise than ok")?;
     }
     put_verdicts(&mut text, story)?;
     Ok(text)
+}
+
+/// How many verdicts were asked for in vain, where the domain's own section doesn't tell why.
+fn odd_answers(story: &Story<'_>) -> usize {
+    let mut count = 0usize;
+    for call in &story.calls {
+        if is_odd_answer(story, call) {
+            count = count.saturating_add(1);
+        }
+    }
+    count
 }
 
 /// Whether a verdict was asked for in vain, where the domain's own section doesn't tell why.
@@ -31,13 +38,15 @@ fn is_odd_answer(story: &Story<'_>, call: &Made<'_>) -> bool {
         return false;
     }
     match call.code() {
-        "E9" => match call.node.and_then(|node| story.domain_of(node)) {
-            Some(domain) => domain.ended.is_some(),
-            None => false,
-        },
+        "E9" => verdict_of(story, call).is_some(),
         "E5" | "E6" => true,
         _ => false,
     }
+}
+
+/// The call after which the domain of a call's node had its verdict.
+fn verdict_of(story: &Story<'_>, call: &Made<'_>) -> Option<usize> {
+    story.domain_of(call.node?)?.ended
 }
 
 /// Puts what became of each domain after a text.

@@ -1,5 +1,6 @@
 //! Who is awaited, and what helps.
 
+use crate::short::tell;
 use explanation_text::Items;
 use explanation_text::wording::put_count;
 use script_reading::Act;
@@ -26,16 +27,21 @@ pub(crate) fn tell_pending(
     index: usize,
     domain: &Domain<'_>,
 ) -> Result<(), AllocError> {
-    let alloc = items.alloc();
-    let mut awaited: Vec<Awaited> = Vec::new(alloc);
-    for node in story.awaited(alloc, index, usize::MAX)? {
-        awaited.push(awaited_of(alloc, story, node)?)?;
-    }
+    let awaited = all_awaited(items.alloc(), story, index)?;
     tell_awaited(items, story, &awaited)?;
     match awaited_host(story, domain) {
         Some(above) => tell_host(items, story, domain, above),
         None => Ok(()),
     }
+}
+
+/// Whom the domain of an index waits for.
+fn all_awaited(alloc: Global, story: &Story<'_>, index: usize) -> Result<Vec<Awaited>, AllocError> {
+    let mut awaited = Vec::new(alloc);
+    for node in &story.awaited(alloc, index, usize::MAX)? {
+        awaited.push(awaited_of(alloc, story, *node)?)?;
+    }
+    Ok(awaited)
 }
 
 /// Tells that the domain of a root is awaited, to which this one was attached.
@@ -45,11 +51,22 @@ fn tell_host(
     domain: &Domain<'_>,
     above: usize,
 ) -> Result<(), AllocError> {
-    let mut text = String::new(items.alloc());
-    put_domain(&mut text, story, above)?;
+    let text = host_text(items.alloc(), story, domain, above);
+    tell(items, 1, "awaits", text)
+}
+
+/// That a domain was attached to that of a root.
+fn host_text(
+    alloc: Global,
+    story: &Story<'_>,
+    domain: &Domain<'_>,
+    above: usize,
+) -> Result<String, AllocError> {
     let name = story.name(domain.root);
+    let mut text = String::new(alloc);
+    put_domain(&mut text, story, above)?;
     write!(text, ", to which {name} was attached")?;
-    items.say(1, "awaits", text)
+    Ok(text)
 }
 
 /// The root of the domain to which this one was attached, where that has no verdict.
@@ -69,19 +86,25 @@ pub fn who_holds_up(
     story: &Story<'_>,
     index: usize,
 ) -> Result<Vec<usize>, AllocError> {
-    let awaited = story.awaited(alloc, index, usize::MAX)?;
     let waits_for_host = match story.domains.get(index) {
         Some(domain) => awaited_host(story, domain).is_some(),
         None => true,
     };
-    if waits_for_host
-        || awaited
-            .iter()
-            .any(|node| refused_on(story, *node).is_some())
-    {
+    let awaited = story.awaited(alloc, index, usize::MAX)?;
+    if waits_for_host || is_one_refused(story, &awaited) {
         return Ok(Vec::new(alloc));
     }
     Ok(awaited)
+}
+
+/// Whether a call on one of some nodes was refused that would have helped.
+fn is_one_refused(story: &Story<'_>, nodes: &[usize]) -> bool {
+    for node in nodes {
+        if refused_on(story, *node).is_some() {
+            return true;
+        }
+    }
+    false
 }
 
 /// Tells who is awaited, those for whom the same helps together.
@@ -91,12 +114,21 @@ fn tell_awaited(
     awaited: &[Awaited],
 ) -> Result<(), AllocError> {
     for (k, first) in awaited.iter().enumerate() {
-        let is_again = awaited.iter().take(k).any(|one| one.help == first.help);
-        if !is_again {
-            tell_those(items, story, awaited, first.help.as_str())?;
+        if !helps_before(awaited, k, &first.help) {
+            tell_those(items, story, awaited, &first.help)?;
         }
     }
     Ok(())
+}
+
+/// Whether the same helps for one of the first so many.
+fn helps_before(awaited: &[Awaited], count: usize, help: &str) -> bool {
+    for one in awaited.iter().take(count) {
+        if one.help.as_str() == help {
+            return true;
+        }
+    }
+    false
 }
 
 /// Tells those who are awaited for whom this helps.
@@ -116,12 +148,12 @@ fn tell_those(
             tell_one(items, story, one)?;
         }
     }
-    if seen > MOST_ROWS {
-        let more = seen.saturating_sub(MOST_ROWS);
-        let text = format!(in items.alloc(); "{more} more: {help}")?;
-        items.say(1, "awaits", text)?;
+    let more = seen.saturating_sub(MOST_ROWS);
+    if more == 0 {
+        return Ok(());
     }
-    Ok(())
+    let text = format!(in items.alloc(); "{more} more: {help}");
+    tell(items, 1, "awaits", text)
 }
 
 fn tell_one(items: &mut Items, story: &Story<'_>, one: &Awaited) -> Result<(), AllocError> {
@@ -129,16 +161,19 @@ fn tell_one(items: &mut Items, story: &Story<'_>, one: &Awaited) -> Result<(), A
     let path = story.path(one.node);
     let what = one.what.as_str();
     let help = one.help.as_str();
-    let text = format!(in items.alloc(); "{name} {path}, a {what}: {help}")?;
-    items.say(1, "awaits", text)
+    let text = format!(in items.alloc(); "{name} {path}, a {what}: {help}");
+    tell(items, 1, "awaits", text)
 }
 
 /// The last call on a node that was refused and would have helped.
 fn refused_on(story: &Story<'_>, node: usize) -> Option<usize> {
-    let last = story.calls.iter().rposition(|call| {
-        call.node == Some(node) && !call.is_accepted() && is_helpful(&call.act)
-    });
-    last.map(|index| index.saturating_add(1))
+    let mut last = None;
+    for (index, call) in story.calls.iter().enumerate() {
+        if call.node == Some(node) && !call.is_accepted() && is_helpful(&call.act) {
+            last = Some(index.saturating_add(1));
+        }
+    }
+    last
 }
 
 fn is_helpful(act: &Act<'_>) -> bool {
@@ -151,18 +186,27 @@ fn is_helpful(act: &Act<'_>) -> bool {
 /// What an awaited node is, and what helps.
 fn awaited_of(alloc: Global, story: &Story<'_>, node: usize) -> Result<Awaited, AllocError> {
     let kind = story.kind_before(node, usize::MAX);
+    let tried = refused_on(story, node);
+    let what = what_of(alloc, story, node, kind, tried)?;
+    let help = help_of(alloc, story, node, kind, tried)?;
+    Ok(Awaited { node, what, help })
+}
+
+/// What an awaited node is, and which call on it was refused.
+fn what_of(
+    alloc: Global,
+    story: &Story<'_>,
+    node: usize,
+    kind: NodeKind,
+    tried: Option<usize>,
+) -> Result<String, AllocError> {
     let mut what = String::new(alloc);
     put_what(&mut what, story, node, kind)?;
-    let tried = refused_on(story, node);
-    if let Some(call) = tried.and_then(|number| story.call(number)) {
+    if let Some(call) = story.call(tried.unwrap_or(0)) {
         let name = call.name();
         write!(what, ", whose {name} was refused")?;
     }
-    Ok(Awaited {
-        node,
-        what,
-        help: help_of(alloc, story, node, kind, tried)?,
-    })
+    Ok(what)
 }
 
 /// Puts what an awaited node is after a text: `a token of call 3 (main)`, without the article.
@@ -172,27 +216,29 @@ fn put_what(
     node: usize,
     kind: NodeKind,
 ) -> Result<(), AllocError> {
-    let made = match story.nodes.get(node) {
-        Some(known) => known.made_by,
-        None => None,
+    let (what, origin) = match kind {
+        NodeKind::Token => ("token", maker(story, node)),
+        NodeKind::Collection => ("collection", story.deed(node, Deed::Bind)),
+        NodeKind::Group => ("group", maker(story, node)),
     };
+    write!(text, "{what} of ")?;
+    put_origin(text, story, origin)?;
     match kind {
-        NodeKind::Token => {
-            text.push_str("token of ")?;
-            put_origin(text, story, made)
-        }
-        NodeKind::Collection => {
-            text.push_str("collection of ")?;
-            put_origin(text, story, story.deed(node, Deed::Bind))
-        }
-        NodeKind::Group => {
-            text.push_str("group of ")?;
-            put_origin(text, story, made)?;
-            text.push_str(" of ")?;
-            let count = story.children(*text.allocator(), node)?.len();
-            put_count(text, count, "child", "children")
-        }
+        NodeKind::Group => put_children(text, story, node),
+        _ => Ok(()),
     }
+}
+
+/// The call that made a node, by number.
+fn maker(story: &Story<'_>, node: usize) -> Option<usize> {
+    story.nodes.get(node)?.made_by
+}
+
+/// Puts how many children a group has after a text.
+fn put_children(text: &mut String, story: &Story<'_>, node: usize) -> Result<(), AllocError> {
+    let count = story.children(*text.allocator(), node)?.len();
+    text.push_str(" of ")?;
+    put_count(text, count, "child", "children")
 }
 
 fn put_origin(
@@ -218,18 +264,7 @@ fn help_of(
     tried: Option<usize>,
 ) -> Result<String, AllocError> {
     if let Some(number) = tried {
-        let is_set = match story.call(number) {
-            Some(call) => matches!(call.act, Act::SetConstraints(_)),
-            None => false,
-        };
-        if kind == NodeKind::Token && is_set {
-            return format!(in alloc; "bind it before call {number}");
-        }
-        if is_set && story.kind_before(node, number) == NodeKind::Token {
-            let bound = story.deed(node, Deed::Bind).unwrap_or(0);
-            return format!(in alloc; "move call {number} after call {bound}, which binds it");
-        }
-        return format!(in alloc; "correct call {number}");
+        return help_after(alloc, story, node, kind, number);
     }
     let words = match kind {
         NodeKind::Token => "bind it and set_constraints, or release it",
@@ -241,4 +276,29 @@ fn help_of(
         },
     };
     String::from_str(alloc, words)
+}
+
+/// What helps after the call of a number was refused.
+fn help_after(
+    alloc: Global,
+    story: &Story<'_>,
+    node: usize,
+    kind: NodeKind,
+    number: usize,
+) -> Result<String, AllocError> {
+    let is_set = match story.call(number) {
+        Some(call) => matches!(call.act, Act::SetConstraints(_)),
+        None => false,
+    };
+    if !is_set {
+        return format!(in alloc; "correct call {number}");
+    }
+    if kind == NodeKind::Token {
+        return format!(in alloc; "bind it before call {number}");
+    }
+    if story.kind_before(node, number) == NodeKind::Token {
+        let bound = story.deed(node, Deed::Bind).unwrap_or(0);
+        return format!(in alloc; "move call {number} after call {bound}, which binds it");
+    }
+    format!(in alloc; "correct call {number}")
 }

@@ -2,10 +2,10 @@
 
 use crate::passed_over::tell_passed_over;
 use crate::selecting::{Empty, tell_left_out};
+use crate::short::tell;
 use explanation_text::Items;
 use settings_reasons::tell_settings;
 use std::alloc::{AllocError, Global};
-use std::fmt::Write;
 use story_parts::{Domain, Story, asked_in, put_domain};
 use sysmem_sanitise::Platform;
 use value_sources::put_texts;
@@ -41,29 +41,41 @@ pub(crate) fn tell_choice(
 
 /// Tells from which domain an attached one has its settings.
 fn tell_from(items: &mut Items, story: &Story<'_>, host: usize) -> Result<(), AllocError> {
-    let mut text = String::new(items.alloc());
+    let text = from_text(items.alloc(), story, host);
+    tell(items, 1, "from", text)
+}
+
+/// From which domain settings are.
+fn from_text(alloc: Global, story: &Story<'_>, host: usize) -> Result<String, AllocError> {
+    let mut text = String::new(alloc);
     if let Some(above) = story.domain_of(host) {
         put_domain(&mut text, story, above.root)?;
     }
     text.push_str(", unchanged: these accept its settings")?;
-    items.say(1, "from", text)
+    Ok(text)
 }
 
 /// Tells which child was chosen of each group that is selected.
 fn tell_children(items: &mut Items, story: &Story<'_>, index: usize) -> Result<(), AllocError> {
     let alloc = items.alloc();
-    let mut texts: Vec<String> = Vec::new(alloc);
-    for group in groups_in(alloc, story, index)? {
-        if let Some(text) = choice_of(alloc, story, group)? {
-            texts.push(text)?;
-        }
-    }
+    let texts = choices_of(alloc, story, index)?;
     if texts.is_empty() {
         return Ok(());
     }
     let mut text = String::new(alloc);
     put_texts(&mut text, &texts, MOST_CHOICES)?;
     items.say(1, "choice", text)
+}
+
+/// The child that was chosen of each group of a domain that is selected.
+fn choices_of(alloc: Global, story: &Story<'_>, index: usize) -> Result<Vec<String>, AllocError> {
+    let mut texts: Vec<String> = Vec::new(alloc);
+    for group in &groups_in(alloc, story, index)? {
+        if let Some(text) = choice_of(alloc, story, *group)? {
+            texts.push(text)?;
+        }
+    }
+    Ok(texts)
 }
 
 /// The groups of a domain.
@@ -89,15 +101,25 @@ fn choice_of(alloc: Global, story: &Story<'_>, group: usize) -> Result<Option<St
     let children = story.children(alloc, group)?;
     for (place, child) in children.iter().enumerate() {
         if story.is_selected(*child) {
-            let group = story.name(group);
-            let name = story.name(*child);
-            let mut text = format!(in alloc; "{group}: {name}")?;
-            if place == 0 && children.len() > 1 {
-                let count = children.len();
-                write!(text, " (first of {count})")?;
-            }
-            return Ok(Some(text));
+            let count = if place == 0 { children.len() } else { 0 };
+            return Ok(Some(choice_text(alloc, story, group, *child, count)?));
         }
     }
     Ok(None)
+}
+
+/// A group with its chosen child: the first of so many, if several are counted.
+fn choice_text(
+    alloc: Global,
+    story: &Story<'_>,
+    group: usize,
+    child: usize,
+    count: usize,
+) -> Result<String, AllocError> {
+    let group = story.name(group);
+    let name = story.name(child);
+    if count > 1 {
+        return format!(in alloc; "{group}: {name} (first of {count})");
+    }
+    format!(in alloc; "{group}: {name}")
 }

@@ -2,11 +2,10 @@
 
 use crate::awaiting::tell_pending;
 use crate::choosing::tell_choice;
-use crate::exchanged::{are_exchanged, is_named_so, states_usage, usage_meant};
+use crate::exchanged::{are_exchanged, is_named_so, states_usage, usage_meant, usages_of};
 use crate::failing::{tell_failed, tell_none, tell_too_many};
+use crate::short::tell;
 use explanation_text::{Items, Kind};
-use script_reading::Act;
-use serde_json::Value;
 use std::alloc::{AllocError, Global};
 use std::fmt::Write;
 use story_parts::{Deed, Domain, Story, asked_in, put_domain};
@@ -84,11 +83,11 @@ fn tell_who(
     index: usize,
     are_selected: bool,
 ) -> Result<(), AllocError> {
-    let mut text = String::new(items.alloc());
-    put_who(&mut text, story, index, are_selected)?;
-    items.say(1, "who", text)?;
-    for one in asked_in(items.alloc(), story, index, are_selected)? {
-        note_usage(items, story, one)?;
+    let alloc = items.alloc();
+    let people = asked_in(alloc, story, index, are_selected)?;
+    tell(items, 1, "who", who_text(alloc, story, &people))?;
+    for one in &people {
+        note_usage(items, story, *one)?;
     }
     Ok(())
 }
@@ -96,62 +95,80 @@ fn tell_who(
 /// Notes a usage that doesn't go with what a participant is called, or its actor where its
 /// constraints may be exchanged with somebody's; and with whom they may be.
 fn note_usage(items: &mut Items, story: &Story<'_>, one: Asked<'_>) -> Result<(), AllocError> {
-    let alloc = items.alloc();
     let Some(usage) = usage_meant(story, one) else {
         return Ok(());
     };
-    let number = story.deed(one.node, Deed::SetConstraints).unwrap_or(0);
-    let mut stated = String::new(alloc);
-    put_usage(&mut stated, story, number)?;
-    if stated.is_empty() || states_usage(story, one, usage) {
+    let number = setting(story, one);
+    if usages_of(story, number).is_none() || states_usage(story, one, usage) {
         return Ok(());
     }
-    let name = one.name;
-    let mut text = format!(in alloc;
-        "{name} (call {number}) doesn't state usage {usage}: are these the constraints that are meant for it?"
-    )?;
-    let alone = text.len();
-    put_other(&mut text, story, one)?;
-    if text.len() == alone && !is_named_so(one) {
-        return Ok(());
+    let alloc = items.alloc();
+    match exchanged_with(alloc, story, one)? {
+        None if !is_named_so(one) => Ok(()),
+        other => {
+            let text = note_of(alloc, story, one, usage, other);
+            tell(items, 1, "note", text)
+        }
     }
-    items.say(1, "note", text)
 }
 
-/// Puts with whom the constraints of a participant may be exchanged after a text, of all domains,
-/// if somebody is found.
-fn put_other(text: &mut String, story: &Story<'_>, one: Asked<'_>) -> Result<(), AllocError> {
+/// The call by which a participant set its constraints, by number.
+fn setting(story: &Story<'_>, one: Asked<'_>) -> usize {
+    story.deed(one.node, Deed::SetConstraints).unwrap_or(0)
+}
+
+/// The first, of all domains, with whom the constraints of a participant may be exchanged.
+fn exchanged_with<'a>(
+    alloc: Global,
+    story: &Story<'a>,
+    one: Asked<'_>,
+) -> Result<Option<Asked<'a>>, AllocError> {
     for index in 0..story.domains.len() {
-        for other in asked_in(*text.allocator(), story, index, false)? {
-            if are_exchanged(story, one, other) {
-                let name = other.name;
-                let number = story.deed(other.node, Deed::SetConstraints).unwrap_or(0);
-                return write!(
-                    text,
-                    " They may be exchanged with those of {name} (call {number})"
-                );
+        for other in &asked_in(alloc, story, index, false)? {
+            if are_exchanged(story, one, *other) {
+                return Ok(Some(*other));
             }
         }
     }
-    Ok(())
+    Ok(None)
 }
 
-fn put_who(
-    text: &mut String,
+/// That a participant doesn't state a usage, and with whom its constraints may be exchanged.
+fn note_of(
+    alloc: Global,
     story: &Story<'_>,
-    index: usize,
-    are_selected: bool,
-) -> Result<(), AllocError> {
-    let alloc = *text.allocator();
-    let people = asked_in(alloc, story, index, are_selected)?;
+    one: Asked<'_>,
+    usage: &str,
+    other: Option<Asked<'_>>,
+) -> Result<String, AllocError> {
+    let name = one.name;
+    let number = setting(story, one);
+    let mut text = format!(in alloc;
+        "{name} (call {number}) doesn't state usage {usage}: are these the constraints that are meant for it?"
+    )?;
+    if let Some(other) = other {
+        let name = other.name;
+        let number = setting(story, other);
+        write!(
+            text,
+            " They may be exchanged with those of {name} (call {number})"
+        )?;
+    }
+    Ok(text)
+}
+
+/// Participants in words.
+fn who_text(alloc: Global, story: &Story<'_>, people: &[Asked<'_>]) -> Result<String, AllocError> {
+    if people.is_empty() {
+        return String::from_str(alloc, "nobody has constraints");
+    }
     let mut names: Vec<String> = Vec::new(alloc);
-    for one in &people {
+    for one in people {
         names.push(who(alloc, story, one.node)?)?;
     }
-    if names.is_empty() {
-        return text.push_str("nobody has constraints");
-    }
-    put_texts(text, &names, MOST_WHO)
+    let mut text = String::new(alloc);
+    put_texts(&mut text, &names, MOST_WHO)?;
+    Ok(text)
 }
 
 /// A participant with its path, its actor and what it uses the buffers for:
@@ -187,19 +204,13 @@ fn put_setter(
 
 /// Puts the usage that a call states after a text.
 fn put_usage(text: &mut String, story: &Story<'_>, number: usize) -> Result<(), AllocError> {
-    let Some(call) = story.call(number) else {
-        return Ok(());
-    };
-    let Act::SetConstraints(Some(value)) = call.act else {
-        return Ok(());
-    };
-    let Some(usages) = value.get("usage").and_then(Value::as_array) else {
+    let Some(usages) = usages_of(story, number) else {
         return Ok(());
     };
     text.push_str(", usage")?;
     for usage in usages.iter().take(5) {
-        text.push_str(" ")?;
-        text.push_str(usage.as_str().unwrap_or(""))?;
+        let name = usage.as_str().unwrap_or("");
+        write!(text, " {name}")?;
     }
     Ok(())
 }

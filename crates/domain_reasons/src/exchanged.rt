@@ -26,21 +26,23 @@ pub(crate) fn is_named_so(one: Asked<'_>) -> bool {
     usage_of(one.name).is_some()
 }
 
+/// The usages that a call states, if it states a list of them.
+pub(crate) fn usages_of<'a>(story: &Story<'a>, number: usize) -> Option<&'a [Value]> {
+    match story.call(number)?.act {
+        Act::SetConstraints(Some(value)) => Some(value.get("usage")?.as_array()?.as_slice()),
+        _ => None,
+    }
+}
+
 /// Whether a participant states a usage.
 pub(crate) fn states_usage(story: &Story<'_>, one: Asked<'_>, usage: &str) -> bool {
     let number = story.deed(one.node, Deed::SetConstraints).unwrap_or(0);
-    let Some(call) = story.call(number) else {
-        return false;
-    };
-    let Act::SetConstraints(Some(value)) = call.act else {
-        return false;
-    };
-    match value.get("usage").and_then(Value::as_array) {
-        Some(usages) => usages
-            .iter()
-            .any(|known| known.as_str().is_some_and(|name| name == usage)),
-        None => false,
+    for known in usages_of(story, number).unwrap_or(&[]) {
+        if known.as_str() == Some(usage) {
+            return true;
+        }
     }
+    false
 }
 
 /// Whether each of two participants states the usage that is expected of the other, and not its

@@ -3,6 +3,7 @@
 
 use crate::choosing::groups_in;
 use crate::selecting::{Empty, MOST_TOLD, tell_empty};
+use crate::short::tell;
 use explanation_text::Items;
 use explanation_text::wording::{MOST_NAMES, put_few};
 use script_reading::Act;
@@ -19,19 +20,28 @@ pub(crate) fn tell_failed(
     story: &Story<'_>,
     domain: &Domain<'_>,
 ) -> Result<(), AllocError> {
-    if let Some(call) = closing(story, domain) {
-        let actor = call.actor;
-        let on = call.on;
-        let mut text = format!(in items.alloc(); "{actor} closed {on} while ")?;
-        put_awaited(&mut text, story, domain)?;
-        text.push_str(" still awaited: a close then fails its domain, a release doesn't")?;
-        return items.say(1, "why", text);
-    }
-    let Some(host) = domain.host else {
-        return Ok(());
+    let alloc = items.alloc();
+    let text = match closing(story, domain) {
+        Some(call) => why_of_close(alloc, story, domain, call),
+        None => match domain.host {
+            Some(host) => why_of_host(alloc, story, host),
+            None => return Ok(()),
+        },
     };
-    let text = why_of_host(items.alloc(), story, host)?;
-    items.say(1, "why", text)
+    tell(items, 1, "why", text)
+}
+
+/// Why a domain failed that a call closed.
+fn why_of_close(
+    alloc: Global,
+    story: &Story<'_>,
+    domain: &Domain<'_>,
+    call: &Made<'_>,
+) -> Result<String, AllocError> {
+    let mut text = format!(in alloc; "{} closed {} while ", call.actor, call.on)?;
+    put_awaited(&mut text, story, domain)?;
+    text.push_str(" still awaited: a close then fails its domain, a release doesn't")?;
+    Ok(text)
 }
 
 /// Puts for whom a domain waited when the call was made after which it failed after a text: `camera
@@ -49,17 +59,16 @@ fn put_awaited(
     };
     let awaited = story.awaited(alloc, index, number)?;
     let names = story.names(alloc, &awaited)?;
-    match names.len() {
-        0 => text.push_str("the domain that it was attached to was"),
-        1 => {
-            put_few(text, &names, MOST_NAMES)?;
-            text.push_str(" was")
-        }
-        _ => {
-            put_few(text, &names, MOST_NAMES)?;
-            text.push_str(" were")
-        }
+    put_waiting(text, &names)
+}
+
+/// Puts who were awaited after a text; nobody but the domain above where there are no names.
+fn put_waiting(text: &mut String, names: &[&str]) -> Result<(), AllocError> {
+    if names.is_empty() {
+        return text.push_str("the domain that it was attached to was");
     }
+    put_few(text, names, MOST_NAMES)?;
+    text.push_str(if names.len() == 1 { " was" } else { " were" })
 }
 
 /// The call after which a domain failed, if it closes one of its nodes.
@@ -100,19 +109,24 @@ pub(crate) fn tell_too_many(
     let why = String::from_str(
         alloc,
         "the groups' children make more selections than the 4096 that are tried",
-    )?;
-    items.say(1, "why", why)?;
+    );
+    tell(items, 1, "why", why)?;
+    tell(items, 1, "groups", groups_text(alloc, story, index))
+}
+
+/// A domain's groups, and how many children each has.
+fn groups_text(alloc: Global, story: &Story<'_>, index: usize) -> Result<String, AllocError> {
     let mut text = String::from_str(alloc, "children: ")?;
     put_groups(&mut text, story, index)?;
-    items.say(1, "groups", text)
+    Ok(text)
 }
 
 /// Puts a domain's groups and how many children each has after a text.
 fn put_groups(text: &mut String, story: &Story<'_>, index: usize) -> Result<(), AllocError> {
     let alloc = *text.allocator();
     let mut parts: Vec<String> = Vec::new(alloc);
-    for group in groups_in(alloc, story, index)? {
-        parts.push(children_of(alloc, story, group)?)?;
+    for group in &groups_in(alloc, story, index)? {
+        parts.push(children_of(alloc, story, *group)?)?;
     }
     put_texts(text, &parts, 12)
 }
@@ -142,11 +156,11 @@ pub(crate) fn tell_none(
     };
     let mut told = 0usize;
     tell_empty(items, 1, empty, &[], &mut told, story.nodes.len())?;
-    if told >= MOST_TOLD {
-        let text = String::from_str(items.alloc(), "further selections fail too")?;
-        items.say(1, "", text)?;
+    if told < MOST_TOLD {
+        return Ok(());
     }
-    Ok(())
+    let text = String::from_str(items.alloc(), "further selections fail too");
+    tell(items, 1, "", text)
 }
 
 /// Tells why settings that were decided before don't suit those of an attached domain.
@@ -157,19 +171,19 @@ fn tell_late(
     index: usize,
     domain: &Domain<'_>,
 ) -> Result<(), AllocError> {
-    let Some(above) = domain.host.and_then(|host| story.domain_of(host)) else {
-        return Ok(());
-    };
-    let Some(settings) = &above.settings else {
+    let Some(settings) = settings_above(story, domain) else {
         return Ok(());
     };
     let people = asked_in(items.alloc(), story, index, false)?;
-    let mut all = accepted_before(items.alloc(), story, index)?;
-    all.extend_from_slice(&people)?;
-    tell_room(items, &all, settings.count)?;
-    tell_fewer(items, &people, settings.count)?;
     let before = accepted_before(items.alloc(), story, index)?;
+    tell_room(items, &before, &people, settings.count)?;
+    tell_fewer(items, &people, settings.count)?;
     tell_unsuited(items, platform, &people, &before, settings)
+}
+
+/// The settings of the domain to which one was attached.
+fn settings_above<'b>(story: &'b Story<'_>, domain: &Domain<'_>) -> Option<&'b Settings> {
+    story.domain_of(domain.host?)?.settings.as_ref()
 }
 
 /// How many buffers all need together who share those of the domain of an index, where that is more
@@ -179,19 +193,21 @@ pub fn room_needed(
     story: &Story<'_>,
     index: usize,
 ) -> Result<Option<u32>, AllocError> {
-    let host = story.domains.get(index).and_then(|domain| domain.host);
-    let Some(above) = host.and_then(|host| story.domain_of(host)) else {
-        return Ok(None);
-    };
-    let Some(settings) = &above.settings else {
+    let Some(count) = count_above(story, index) else {
         return Ok(None);
     };
     let mut all = accepted_before(alloc, story, index)?;
     all.extend_from_slice(&asked_in(alloc, story, index, false)?)?;
     match u32::try_from(needed_by(&all)) {
-        Ok(most) if most > settings.count => Ok(Some(most)),
+        Ok(most) if most > count => Ok(Some(most)),
         _ => Ok(None),
     }
+}
+
+/// How many buffers were decided for the domain to which that of an index was attached.
+fn count_above(story: &Story<'_>, index: usize) -> Option<u32> {
+    let settings = settings_above(story, story.domains.get(index)?)?;
+    Some(settings.count)
 }
 
 /// Tells in which fields settings fail participants, where they fail one.
@@ -227,26 +243,29 @@ pub fn accepted_before<'a>(
         if *earlier == index {
             break;
         }
-        let is_chosen = match story.domains.get(*earlier) {
-            Some(domain) => domain.verdict() == "chosen",
-            None => false,
-        };
-        if is_chosen {
-            let people = asked_in(alloc, story, *earlier, true)?;
-            add_open(&mut accepted, story, &people, decided)?;
+        if is_chosen(story, *earlier) {
+            add_open(&mut accepted, story, *earlier, decided)?;
         }
     }
     Ok(accepted)
 }
 
-/// Adds those who weren't released or closed before the call of a number.
+/// Whether settings were chosen in the domain of an index.
+fn is_chosen(story: &Story<'_>, index: usize) -> bool {
+    match story.domains.get(index) {
+        Some(domain) => domain.verdict() == "chosen",
+        None => false,
+    }
+}
+
+/// Adds those of a domain who weren't released or closed before the call of a number.
 fn add_open<'a>(
     accepted: &mut Vec<Asked<'a>>,
     story: &Story<'a>,
-    people: &[Asked<'a>],
+    index: usize,
     number: usize,
 ) -> Result<(), AllocError> {
-    for one in people {
+    for one in &asked_in(*accepted.allocator(), story, index, true)? {
         if story.deed_before(one.node, Deed::End, number).is_none() {
             accepted.push(*one)?;
         }
@@ -271,20 +290,32 @@ fn needed_by(people: &[Asked<'_>]) -> u64 {
     held.saturating_add(u64::from(shared)).max(u64::from(least))
 }
 
+/// Tells how many buffers all need together, those before and these, where more than were decided.
+fn tell_room<'a>(
+    items: &mut Items,
+    before: &[Asked<'a>],
+    people: &[Asked<'a>],
+    count: u32,
+) -> Result<(), AllocError> {
+    let mut all = Vec::from_slice(items.alloc(), before)?;
+    all.extend_from_slice(people)?;
+    tell_lacking(items, &all, count)
+}
+
 /// Tells how many buffers all need together, where more than were decided.
-fn tell_room(items: &mut Items, all: &[Asked<'_>], count: u32) -> Result<(), AllocError> {
+fn tell_lacking(items: &mut Items, all: &[Asked<'_>], count: u32) -> Result<(), AllocError> {
     let alloc = items.alloc();
     let most = needed_by(all);
     let lacking = most.saturating_sub(u64::from(count));
     if lacking == 0 {
         return Ok(());
     }
-    let why = why_needed(alloc, all)?;
     let were = if count == 1 { "was" } else { "were" };
+    let why = why_needed(alloc, all)?;
     let text = format!(in alloc;
         "{most} buffers are needed, {count} {were} decided, {lacking} too few: {why}"
-    )?;
-    items.say(1, "count", text)
+    );
+    tell(items, 1, "count", text)
 }
 
 /// Tells who takes fewer buffers than were decided.
@@ -295,8 +326,8 @@ fn tell_fewer(items: &mut Items, people: &[Asked<'_>], count: u32) -> Result<(),
             let name = one.name;
             let text = format!(in items.alloc();
                 "{name} takes at most {most} buffers (max_buffer_count), {count} were decided"
-            )?;
-            items.say(1, "count", text)?;
+            );
+            tell(items, 1, "count", text)?;
         }
     }
     Ok(())

@@ -1,10 +1,10 @@
 //! Children of groups after the chosen one that couldn't have been chosen.
 
-use crate::selecting::{Choice, Empty, walk, with_choice};
+use crate::selecting::{Choice, Empty, Reached, open_group, reach, with_choice};
+use crate::short::tell;
 use explanation_text::Items;
 use settings_reasons::{is_unmet, tell_conflict};
 use std::alloc::{AllocError, Global};
-use story_parts::asked_by;
 
 /// How many of them are told.
 const MOST: usize = 3;
@@ -16,16 +16,25 @@ pub(crate) fn tell_passed_over(items: &mut Items, empty: Empty<'_, '_>) -> Resul
     let mut choices: Vec<Choice> = Vec::new(alloc);
     let mut told = 0usize;
     for _group in 0..empty.story.nodes.len() {
-        let Some(group) = walk(alloc, empty.story, empty.root, &choices)?.open else {
+        let Some(chosen) = next_chosen(alloc, empty, &choices)? else {
             break;
         };
-        let Some(child) = chosen_of(alloc, empty, group)? else {
-            break;
-        };
-        tell_later(items, empty, &choices, &mut told, Choice { group, child })?;
-        choices.push(Choice { group, child })?;
+        tell_later(items, empty, &choices, &mut told, chosen)?;
+        choices.push(chosen)?;
     }
     Ok(())
+}
+
+/// The choice that was made of the first group of which these choose no child.
+fn next_chosen(
+    alloc: Global,
+    empty: Empty<'_, '_>,
+    choices: &[Choice],
+) -> Result<Option<Choice>, AllocError> {
+    match open_group(alloc, empty, choices)? {
+        Some(group) => chosen_of(alloc, empty, group),
+        None => Ok(None),
+    }
 }
 
 /// The child that a group chose.
@@ -33,14 +42,14 @@ fn chosen_of(
     alloc: Global,
     empty: Empty<'_, '_>,
     group: usize,
-) -> Result<Option<usize>, AllocError> {
-    let children = empty.story.children(alloc, group)?;
-    Ok(
-        children
-            .iter()
-            .copied()
-            .find(|child| empty.story.is_selected(*child)),
-    )
+) -> Result<Option<Choice>, AllocError> {
+    for child in &empty.story.children(alloc, group)? {
+        if empty.story.is_selected(*child) {
+            let child = *child;
+            return Ok(Some(Choice { group, child }));
+        }
+    }
+    Ok(None)
 }
 
 /// Tells why the children of a group after the chosen one can't be met, of those that can't.
@@ -51,24 +60,52 @@ fn tell_later(
     told: &mut usize,
     chosen: Choice,
 ) -> Result<(), AllocError> {
-    let alloc = items.alloc();
-    let children = empty.story.children(alloc, chosen.group)?;
-    let later = children
-        .iter()
-        .copied()
-        .skip_while(|child| *child != chosen.child);
-    for child in later.skip(1) {
-        let longer = with_choice(alloc, choices, chosen.group, child)?;
-        let settled = walk(alloc, empty.story, empty.root, &longer)?;
-        let people = asked_by(alloc, empty.story, &settled.nodes)?;
-        if *told >= MOST || !is_unmet(alloc, empty.platform, &people)? {
-            continue;
+    let children = empty.story.children(items.alloc(), chosen.group)?;
+    let mut is_later = false;
+    for child in &children {
+        if is_later && *told < MOST {
+            tell_unmet(items, empty, choices, told, chosen, *child)?;
         }
-        *told = told.saturating_add(1);
-        let (later, before) = (empty.story.name(child), empty.story.name(chosen.child));
-        let text = format!(in alloc; "{later}, which comes after {before}, can't be met:")?;
-        items.say(2, "", text)?;
-        tell_conflict(items, 3, empty.platform, &people, settled.open.is_none())?;
+        is_later = is_later || *child == chosen.child;
     }
     Ok(())
+}
+
+/// Tells why a child can't be met in the place of the chosen one, if nothing meets it.
+fn tell_unmet(
+    items: &mut Items,
+    empty: Empty<'_, '_>,
+    choices: &[Choice],
+    told: &mut usize,
+    chosen: Choice,
+    child: usize,
+) -> Result<(), AllocError> {
+    let alloc = items.alloc();
+    let longer = with_choice(alloc, choices, chosen.group, child)?;
+    let reached = reach(alloc, empty, &longer)?;
+    if !is_unmet(alloc, empty.platform, &reached.people)? {
+        return Ok(());
+    }
+    *told = told.saturating_add(1);
+    tell_why(items, empty, chosen, child, &reached)
+}
+
+/// Tells why a child can't be met in the place of the chosen one, which leaves these.
+fn tell_why(
+    items: &mut Items,
+    empty: Empty<'_, '_>,
+    chosen: Choice,
+    child: usize,
+    reached: &Reached<'_>,
+) -> Result<(), AllocError> {
+    let (later, before) = (empty.story.name(child), empty.story.name(chosen.child));
+    let text = format!(in items.alloc(); "{later}, which comes after {before}, can't be met:");
+    tell(items, 2, "", text)?;
+    tell_conflict(
+        items,
+        3,
+        empty.platform,
+        &reached.people,
+        reached.open.is_none(),
+    )
 }

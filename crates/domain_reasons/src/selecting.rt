@@ -1,13 +1,14 @@
 //! Why no selection of groups' children has settings.
 
 use crate::choosing::MOST_CHOICES;
+use crate::short::tell;
 use explanation_text::wording::put_joined;
 use explanation_text::{Items, are_same};
 use settings_reasons::{is_unmet, tell_conflict};
 use std::alloc::{AllocError, Global};
 use story_parts::{Story, asked_by};
 use sysmem_sanitise::Platform;
-use value_sources::put_texts;
+use value_sources::{Asked, put_texts};
 
 /// How many failing selections are told.
 pub(crate) const MOST_TOLD: usize = 12;
@@ -59,19 +60,24 @@ fn put_below(
     choices: &[Choice],
 ) -> Result<bool, AllocError> {
     if story.is_group(node) {
-        return match choices.iter().find(|choice| choice.group == node) {
-            Some(choice) => {
-                left.push(choice.child)?;
-                Ok(true)
-            }
-            None => Ok(false),
-        };
+        return put_chosen(left, node, choices);
     }
     let children = story.children(*left.allocator(), node)?;
     for child in children.iter().rev() {
         left.push(*child)?;
     }
     Ok(true)
+}
+
+/// Puts the child that is chosen of a group, and says whether one is.
+fn put_chosen(left: &mut Vec<usize>, group: usize, choices: &[Choice]) -> Result<bool, AllocError> {
+    for choice in choices {
+        if choice.group == group {
+            left.push(choice.child)?;
+            return Ok(true);
+        }
+    }
+    Ok(false)
 }
 
 /// Choices, and that of one more group's child.
@@ -94,6 +100,35 @@ pub(crate) struct Empty<'a, 'b> {
     pub(crate) root: usize,
 }
 
+/// Whom choices select.
+#[derive(Drop)]
+pub(crate) struct Reached<'a> {
+    pub(crate) people: Vec<Asked<'a>>,
+    /// The first group of which no child is chosen.
+    pub(crate) open: Option<usize>,
+}
+
+/// Whom choices select in a domain.
+pub(crate) fn reach<'a>(
+    alloc: Global,
+    empty: Empty<'a, '_>,
+    choices: &[Choice],
+) -> Result<Reached<'a>, AllocError> {
+    let settled = walk(alloc, empty.story, empty.root, choices)?;
+    let people = asked_by(alloc, empty.story, &settled.nodes)?;
+    let open = settled.open;
+    Ok(Reached { people, open })
+}
+
+/// The first group of which choices choose no child.
+pub(crate) fn open_group(
+    alloc: Global,
+    empty: Empty<'_, '_>,
+    choices: &[Choice],
+) -> Result<Option<usize>, AllocError> {
+    Ok(walk(alloc, empty.story, empty.root, choices)?.open)
+}
+
 /// Tells why no selection that goes on from these choices has settings; `levels` is more than the
 /// groups that may be left, and `told` counts the failing selections.
 #[cycle(tell_empty)]
@@ -106,14 +141,13 @@ pub(crate) fn tell_empty(
     levels: usize,
 ) -> Result<(), AllocError> {
     let alloc = items.alloc();
-    let settled = walk(alloc, empty.story, empty.root, choices)?;
-    let people = asked_by(alloc, empty.story, &settled.nodes)?;
-    let whole = settled.open.is_none();
-    if whole || is_unmet(alloc, empty.platform, &people)? {
+    let reached = reach(alloc, empty, choices)?;
+    let whole = reached.open.is_none();
+    if whole || is_unmet(alloc, empty.platform, &reached.people)? {
         *told = told.saturating_add(1);
-        return tell_conflict(items, depth, empty.platform, &people, whole);
+        return tell_conflict(items, depth, empty.platform, &reached.people, whole);
     }
-    let (Some(group), Some(fewer)) = (settled.open, levels.checked_sub(1)) else {
+    let (Some(group), Some(fewer)) = (reached.open, levels.checked_sub(1)) else {
         return Ok(());
     };
     tell_group(items, depth, empty, choices, told, fewer, group)
@@ -148,10 +182,7 @@ fn tell_group(
         )?;
         add_case(&mut cases, empty.story.name(child), below)?;
     }
-    for case in cases {
-        put_case(items, depth, empty.story.name(group), case)?;
-    }
-    Ok(())
+    put_cases(items, depth, empty.story.name(group), cases)
 }
 
 /// Children of a group of which the same is told.
@@ -174,6 +205,19 @@ fn add_case<'a>(cases: &mut Vec<Case<'a>>, name: &'a str, below: Items) -> Resul
     Ok(())
 }
 
+/// Puts what holds for each child of a group after the items.
+fn put_cases(
+    items: &mut Items,
+    depth: usize,
+    group: &str,
+    cases: Vec<Case<'_>>,
+) -> Result<(), AllocError> {
+    for case in cases {
+        put_case(items, depth, group, case)?;
+    }
+    Ok(())
+}
+
 /// Puts what holds for some children of a group after the items.
 fn put_case(
     items: &mut Items,
@@ -181,11 +225,17 @@ fn put_case(
     group: &str,
     case: Case<'_>,
 ) -> Result<(), AllocError> {
-    let mut text = format!(in items.alloc(); "{group} as ")?;
-    put_joined(&mut text, &case.names, "or")?;
-    text.push_str(":")?;
-    items.say(depth, "", text)?;
+    let head = head_of(items.alloc(), group, &case.names);
+    tell(items, depth, "", head)?;
     items.append(case.below)
+}
+
+/// What stands above what is told of some children of a group.
+fn head_of(alloc: Global, group: &str, names: &[&str]) -> Result<String, AllocError> {
+    let mut text = format!(in alloc; "{group} as ")?;
+    put_joined(&mut text, names, "or")?;
+    text.push_str(":")?;
+    Ok(text)
 }
 
 /// Tells of each group in a chosen selection why its children before the chosen one aren't chosen.
@@ -194,7 +244,7 @@ pub(crate) fn tell_left_out(items: &mut Items, empty: Empty<'_, '_>) -> Result<(
     let mut choices: Vec<Choice> = Vec::new(alloc);
     let mut told = 0usize;
     for _group in 0..empty.story.nodes.len() {
-        let Some(group) = walk(alloc, empty.story, empty.root, &choices)?.open else {
+        let Some(group) = open_group(alloc, empty, &choices)? else {
             break;
         };
         let Some(child) = tell_before(items, empty, &choices, &mut told, group)? else {
@@ -213,30 +263,31 @@ fn tell_before(
     told: &mut usize,
     group: usize,
 ) -> Result<Option<usize>, AllocError> {
-    for child in empty.story.children(items.alloc(), group)? {
+    for child in &empty.story.children(items.alloc(), group)? {
+        let child = *child;
         if empty.story.is_selected(child) {
             return Ok(Some(child));
         }
         if *told < MOST_TOLD {
-            let longer = with_choice(items.alloc(), choices, group, child)?;
-            tell_not(items, empty, &longer, told, child)?;
+            tell_not(items, empty, choices, told, Choice { group, child })?;
         }
     }
     Ok(None)
 }
 
-/// Tells why the child of the last choice isn't chosen.
+/// Tells why a child isn't chosen beside these choices.
 fn tell_not(
     items: &mut Items,
     empty: Empty<'_, '_>,
     choices: &[Choice],
     told: &mut usize,
-    child: usize,
+    other: Choice,
 ) -> Result<(), AllocError> {
-    let name = empty.story.name(child);
-    let text = format!(in items.alloc(); "not {name}:")?;
-    items.say(2, "", text)?;
-    tell_empty(items, 3, empty, choices, told, empty.story.nodes.len())
+    let name = empty.story.name(other.child);
+    let text = format!(in items.alloc(); "not {name}:");
+    tell(items, 2, "", text)?;
+    let longer = with_choice(items.alloc(), choices, other.group, other.child)?;
+    tell_empty(items, 3, empty, &longer, told, empty.story.nodes.len())
 }
 
 /// The children that the choices of a line on a domain name, as `layouts: tiled`; empty where it
@@ -248,23 +299,52 @@ pub fn choices_in(
     line: &str,
 ) -> Result<String, AllocError> {
     let mut texts: Vec<String> = Vec::new(alloc);
-    let mut choices: Vec<Choice> = Vec::new(alloc);
-    let ordinals = line.split(' ').nth(1).unwrap_or("-");
-    for ordinal in ordinals.split('.') {
-        let Ok(place) = ordinal.parse::<usize>() else {
-            break;
-        };
-        let Some(group) = walk(alloc, story, root, &choices)?.open else {
-            break;
-        };
-        let Some(child) = story.children(alloc, group)?.get(place).copied() else {
-            break;
-        };
-        let (name, chosen) = (story.name(group), story.name(child));
+    for choice in &choices_of(alloc, story, root, line)? {
+        let (name, chosen) = (story.name(choice.group), story.name(choice.child));
         texts.push(format!(in alloc; "{name}: {chosen}")?)?;
-        choices.push(Choice { group, child })?;
     }
     let mut text = String::new(alloc);
     put_texts(&mut text, &texts, MOST_CHOICES)?;
     Ok(text)
+}
+
+/// The choices of a line on a domain.
+fn choices_of(
+    alloc: Global,
+    story: &Story<'_>,
+    root: usize,
+    line: &str,
+) -> Result<Vec<Choice>, AllocError> {
+    let mut choices: Vec<Choice> = Vec::new(alloc);
+    let ordinals = line.split(' ').nth(1).unwrap_or("-");
+    for ordinal in ordinals.split('.') {
+        match choice_at(alloc, story, root, &choices, ordinal)? {
+            Some(choice) => choices.push(choice)?,
+            None => break,
+        }
+    }
+    Ok(choices)
+}
+
+/// The child that an ordinal names of the first group of which these choices choose none.
+fn choice_at(
+    alloc: Global,
+    story: &Story<'_>,
+    root: usize,
+    choices: &[Choice],
+    ordinal: &str,
+) -> Result<Option<Choice>, AllocError> {
+    let Ok(place) = ordinal.parse::<usize>() else {
+        return Ok(None);
+    };
+    let Some(group) = walk(alloc, story, root, choices)?.open else {
+        return Ok(None);
+    };
+    match story.children(alloc, group)?.get(place) {
+        Some(child) => {
+            let child = *child;
+            Ok(Some(Choice { group, child }))
+        }
+        None => Ok(None),
+    }
 }

@@ -11,6 +11,16 @@ use sysmem_sanitise::Platform;
 /// How many lines are told of a domain.
 const MOST: usize = 8;
 
+/// Tells words with a label, if there was memory for them.
+pub(crate) fn tell(
+    items: &mut Items,
+    depth: usize,
+    label: &'static str,
+    words: Result<String, AllocError>,
+) -> Result<(), AllocError> {
+    items.say(depth, label, words?)
+}
+
 /// Tells the answer of a story, which calls are refused, and why each domain has no settings, or
 /// none with an earlier child.
 pub fn tell_in_short(
@@ -19,7 +29,7 @@ pub fn tell_in_short(
     story: &Story<'_>,
 ) -> Result<(), AllocError> {
     let alloc = items.alloc();
-    items.say(2, "", answer_of(alloc, story)?)?;
+    tell(items, 2, "", answer_of(alloc, story))?;
     for words in refused_words(alloc, story)? {
         items.say(2, "", words)?;
     }
@@ -75,6 +85,5 @@ fn tell_reasons<'a, 'b>(
         story,
         root: domain.root,
     };
-    tell_left_out(items, selections)?;
-    Ok(())
+    tell_left_out(items, selections)
 }

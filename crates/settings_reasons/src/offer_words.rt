@@ -9,7 +9,7 @@ use std::alloc::{AllocError, Global};
 use sysmem_counts::Field;
 use sysmem_formats::{ColourSpace, Modifier, Offer, PixelFormat};
 use sysmem_image::{ColourSet, entry_for};
-use value_sources::{Asked, Side, Wish, Wishes, format_of, put_has, put_texts};
+use value_sources::{Asked, Derived, Side, Wish, Wishes, format_of, put_has, put_texts};
 
 const COLOURS: &[ColourSpace] = &[
     ColourSpace::Srgb,
@@ -66,9 +66,9 @@ pub(crate) fn put_offer_reason(
         Field::UnnamedColorSpace => put_unnamed(text, people, "colour space"),
         Field::RequiredMinSize => put_required(text, wishes),
         Field::MaxSize => put_too_large(text, wishes),
-        Field::MaxWidthTimesHeight => put_too_many_pixels(text, wishes),
-        Field::MaxBytesPerRow => put_too_long(text, wishes),
-        Field::MaxSizeBytes => put_too_big(text, wishes),
+        Field::MaxWidthTimesHeight | Field::MaxBytesPerRow | Field::MaxSizeBytes => {
+            put_too_great(text, wishes, field)
+        }
         _ => put_no_multiple(text, wishes, field),
     }
 }
@@ -208,14 +208,6 @@ fn put_required_side(
     )
 }
 
-/// Puts who takes at most so much, by a field, after a text, if somebody does.
-fn put_most(text: &mut String, most: Option<(&str, u64)>, field: &str) -> Result<(), AllocError> {
-    match most {
-        Some((who, most)) => write!(text, "; {who} takes at most {most} ({field})"),
-        None => Ok(()),
-    }
-}
-
 /// Puts that the smallest image is larger than somebody takes after a text.
 fn put_too_large(text: &mut String, wishes: Wishes<'_, '_>) -> Result<(), AllocError> {
     put_too_large_side(text, wishes, Side::Width)?;
@@ -254,36 +246,60 @@ pub(crate) fn least_side(
     Ok(wishes.side(alloc, side)?.value)
 }
 
-fn put_too_many_pixels(text: &mut String, wishes: Wishes<'_, '_>) -> Result<(), AllocError> {
+/// Puts how great the smallest image, row or buffer is, of which a field bounds the greatest, and
+/// who takes less, after a text.
+fn put_too_great(
+    text: &mut String,
+    wishes: Wishes<'_, '_>,
+    field: Field,
+) -> Result<(), AllocError> {
+    let alloc = *text.allocator();
+    let most = match field {
+        Field::MaxWidthTimesHeight => {
+            put_pixels(text, wishes)?;
+            wishes.least(Wish::MostPixels)
+        }
+        Field::MaxBytesPerRow => {
+            put_derived(text, "the least row is", wishes.row(alloc, true), "bytes")?;
+            wishes.least(Wish::MostRow)
+        }
+        _ => {
+            put_derived(
+                text,
+                "a buffer has",
+                wishes.size(alloc, true),
+                "bytes at least",
+            )?;
+            wishes.greatest_size()
+        }
+    };
+    match most {
+        Some((who, most)) => write!(text, "; {who} takes at most {most} ({})", field.name()),
+        None => Ok(()),
+    }
+}
+
+fn put_pixels(text: &mut String, wishes: Wishes<'_, '_>) -> Result<(), AllocError> {
     let alloc = *text.allocator();
     let width = least_side(alloc, wishes, Side::Width)?;
     let height = least_side(alloc, wishes, Side::Height)?;
     let pixels = width.saturating_mul(height);
-    let most = wishes.least(Wish::MostPixels);
     let why = wishes.why_size(alloc)?;
     write!(
         text,
         "the smallest image has {width}x{height} = {pixels} pixels: {why}"
-    )?;
-    put_most(text, most, "max_width_times_height")
+    )
 }
 
-fn put_too_long(text: &mut String, wishes: Wishes<'_, '_>) -> Result<(), AllocError> {
-    let most = wishes.least(Wish::MostRow);
-    let row = wishes.row(*text.allocator(), true)?;
-    write!(text, "the least row is {} bytes: {}", row.value, row.why)?;
-    put_most(text, most, "max_bytes_per_row")
-}
-
-fn put_too_big(text: &mut String, wishes: Wishes<'_, '_>) -> Result<(), AllocError> {
-    let most = wishes.greatest_size();
-    let size = wishes.size(*text.allocator(), true)?;
-    write!(
-        text,
-        "a buffer has {} bytes at least: {}",
-        size.value, size.why
-    )?;
-    put_most(text, most, "max_size_bytes")
+/// Puts a number of something, and where it comes from, after a text, if there was memory for that.
+fn put_derived(
+    text: &mut String,
+    start: &str,
+    derived: Result<Derived, AllocError>,
+    unit: &str,
+) -> Result<(), AllocError> {
+    let Derived { value, why } = derived?;
+    write!(text, "{start} {value} {unit}: {why}")
 }
 
 /// Puts that what participants want multiples of has no common multiple after a text.
