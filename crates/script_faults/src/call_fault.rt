@@ -79,15 +79,24 @@ impl<'a> Faulty<'a, '_> {
         let path = self.path();
         let document = self.document;
         match first_unknown(alloc, document, &path, KNOWN)? {
-            Some(other) => {
-                let meant = format!(in alloc; "did you mean {key}? It is missing")?;
-                document.advise(items, 1, &other, Part::Key, "unknown key", meant)
-            }
+            Some(other) => self.tell_meant(items, &other, key),
             None => {
                 let note = format!(in alloc; "{key} is missing");
                 document.tell(items, 1, &path, Part::Begin, note, help)
             }
         }
+    }
+
+    /// Tells a key that the call can't have, in the place of which one that it lacks is meant.
+    fn tell_meant(
+        &self,
+        items: &mut Items,
+        other: &[Step<'_>],
+        key: &str,
+    ) -> Result<(), AllocError> {
+        let meant = format!(in items.alloc(); "did you mean {key}? It is missing")?;
+        self.document
+            .advise(items, 1, other, Part::Key, "unknown key", meant)
     }
 
     fn text(&self, key: &str) -> Option<&'a str> {
@@ -198,6 +207,11 @@ fn tell_members(items: &mut Items, faulty: Faulty<'_, '_>, name: &str) -> Result
         let help = String::from_str(items.alloc(), "on names the node that the call is made on");
         return faulty.lacks(items, "on", help);
     }
+    tell_keys(items, faulty, name)
+}
+
+/// Tells a key that the call can't have, or a name that is no text.
+fn tell_keys(items: &mut Items, faulty: Faulty<'_, '_>, name: &str) -> Result<(), AllocError> {
     let keys = keys_of(name);
     match first_unknown(items.alloc(), faulty.document, &faulty.path(), keys)? {
         Some(unknown) => tell_key(items, faulty, name, keys, &unknown),
@@ -249,9 +263,20 @@ fn tell_key(
     keys: &'static [&'static str],
     path: &[Step<'_>],
 ) -> Result<(), AllocError> {
-    let alloc = items.alloc();
-    let key = key_of(path);
-    let help = if is_one_of(key, CONSTRAINTS) {
+    let help = help_of_key(items.alloc(), key_of(path), name, keys)?;
+    faulty
+        .document
+        .advise(items, 1, path, Part::Key, "unknown key", help)
+}
+
+/// What helps with such a key of a call that has a name.
+fn help_of_key(
+    alloc: Global,
+    key: &str,
+    name: &str,
+    keys: &[&'static str],
+) -> Result<String, AllocError> {
+    if is_one_of(key, CONSTRAINTS) {
         String::from_str(alloc, "it belongs in constraints")
     } else if key == "as" {
         format!(in alloc; "{name} makes no node")
@@ -259,10 +284,7 @@ fn tell_key(
         String::from_str(alloc, "only set_constraints has constraints")
     } else {
         hint_of_key(alloc, key, keys)
-    };
-    faulty
-        .document
-        .advise(items, 1, path, Part::Key, "unknown key", help?)
+    }
 }
 
 fn hint_of_key(alloc: Global, key: &str, keys: &[&'static str]) -> Result<String, AllocError> {

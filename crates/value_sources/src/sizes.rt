@@ -84,13 +84,9 @@ impl<'a> Wishes<'a, '_> {
     /// The least width or height.
     pub fn side(&self, alloc: Global, side: Side) -> Result<Derived, AllocError> {
         let (base, first) = self.side_asked(side);
-        let why = match first {
-            Some((name, field)) => format!(in alloc; "{name} {field}"),
-            None => String::from_str(alloc, "nobody asks for more than 1"),
-        };
         let mark = if first.is_some() { Some(" ") } else { None };
-        let multiple = multiple_of(alloc, self.side_multiples(alloc, side)?)?;
-        rounded(u128::from(base), multiple, mark, why?)
+        let multiple = self.side_multiple(alloc, side)?;
+        rounded(u128::from(base), multiple, mark, side_words(alloc, first)?)
     }
 
     /// The least width or height that anybody asks for, before it is rounded.
@@ -115,13 +111,13 @@ impl<'a> Wishes<'a, '_> {
     }
 
     /// What a side has to be a multiple of.
-    fn side_multiples(&self, alloc: Global, side: Side) -> Result<Vec<Multiple>, AllocError> {
+    fn side_multiple(&self, alloc: Global, side: Side) -> Result<Derived, AllocError> {
         let (width, height) = own_alignment(&self.offer);
         let own = if side == Side::Width { width } else { height };
         let who = format!(in alloc; "{} itself", format_of(&self.offer))?;
         let mut parts = own_multiple(who, u128::from(own))?;
         self.add_multiples(&mut parts, "size_alignment", Wish::Alignment(side))?;
-        Ok(parts)
+        multiple_of(alloc, parts)
     }
 
     /// Where the least width and height come from.
@@ -136,40 +132,55 @@ impl<'a> Wishes<'a, '_> {
 
     /// The least row in bytes; where the width comes from is said too if that is asked for.
     pub fn row(&self, alloc: Global, is_alone: bool) -> Result<Derived, AllocError> {
-        let multiple = multiple_of(alloc, self.row_multiples(alloc)?)?;
+        let multiple = self.row_multiple(alloc)?;
+        let plain = self.plain_row(alloc, is_alone)?;
+        rounded(plain.value, multiple, Some(" = "), plain.why)
+    }
+
+    /// The least row before it is rounded: that of the least width, or a longer one that somebody
+    /// asks for.
+    fn plain_row(&self, alloc: Global, is_alone: bool) -> Result<Derived, AllocError> {
         let packed = self.packed_row(alloc, is_alone)?;
         match self.greatest(Wish::LeastRow) {
-            Some((name, least)) if u128::from(least) > packed.value => {
-                let why = format!(in alloc; "{name} min_bytes_per_row")?;
-                rounded(u128::from(least), multiple, Some(" = "), why)
-            }
-            _ => rounded(packed.value, multiple, Some(" = "), packed.why),
+            Some((name, least)) if u128::from(least) > packed.value => Ok(Derived {
+                value: u128::from(least),
+                why: format!(in alloc; "{name} min_bytes_per_row")?,
+            }),
+            _ => Ok(packed),
         }
     }
 
     /// A row of the least width in whole tiles.
     fn packed_row(&self, alloc: Global, is_alone: bool) -> Result<Derived, AllocError> {
         let width = self.side(alloc, Side::Width)?;
-        let pixel = u128::from(bytes_per_pixel(&self.offer));
-        let packed = width.value.saturating_mul(pixel);
-        let value = up(packed, tile_bytes(&self.offer));
         let mut why = String::new(alloc);
-        put_pixels(&mut why, width.value, pixel)?;
-        if is_alone {
-            write!(why, " ({})", width.why)?;
-        }
-        if value != packed {
-            write!(
-                why,
-                ", rounded up to tiles of {} bytes",
-                tile_bytes(&self.offer)
-            )?;
-        }
+        let value = self.put_packed(&mut why, &width, is_alone)?;
         Ok(Derived { value, why })
     }
 
+    /// Puts where that row comes from after a text, and gives its bytes.
+    fn put_packed(
+        &self,
+        text: &mut String,
+        width: &Derived,
+        is_alone: bool,
+    ) -> Result<u128, AllocError> {
+        let pixel = u128::from(bytes_per_pixel(&self.offer));
+        let packed = width.value.saturating_mul(pixel);
+        let tile = tile_bytes(&self.offer);
+        let value = up(packed, tile);
+        put_pixels(text, width.value, pixel)?;
+        if is_alone {
+            write!(text, " ({})", width.why)?;
+        }
+        if value != packed {
+            write!(text, ", rounded up to tiles of {tile} bytes")?;
+        }
+        Ok(value)
+    }
+
     /// What a row has to be a multiple of.
-    fn row_multiples(&self, alloc: Global) -> Result<Vec<Multiple>, AllocError> {
+    fn row_multiple(&self, alloc: Global) -> Result<Derived, AllocError> {
         let who = if modifier_of(&self.offer) == Modifier::Linear {
             format!(in alloc; "{} itself", format_of(&self.offer))
         } else {
@@ -177,7 +188,7 @@ impl<'a> Wishes<'a, '_> {
         };
         let mut parts = own_multiple(who?, u128::from(own_row_divisor(&self.offer)))?;
         self.add_row_multiples(&mut parts)?;
-        Ok(parts)
+        multiple_of(alloc, parts)
     }
 
     fn add_row_multiples(&self, parts: &mut Vec<Multiple>) -> Result<(), AllocError> {
@@ -212,12 +223,7 @@ impl<'a> Wishes<'a, '_> {
 
     /// The bytes of the smallest image.
     fn image(&self, alloc: Global, is_alone: bool) -> Result<Derived, AllocError> {
-        let image = Image {
-            width: self.side(alloc, Side::Width)?.value,
-            height: self.side(alloc, Side::Height)?.value,
-            row: self.row(alloc, false)?.value,
-            offer: self.offer,
-        };
+        let image = self.smallest(alloc)?;
         let mut why = String::new(alloc);
         image.put(&mut why)?;
         if is_alone {
@@ -226,6 +232,15 @@ impl<'a> Wishes<'a, '_> {
         Ok(Derived {
             value: image.bytes(),
             why,
+        })
+    }
+
+    fn smallest(&self, alloc: Global) -> Result<Image, AllocError> {
+        Ok(Image {
+            width: self.side(alloc, Side::Width)?.value,
+            height: self.side(alloc, Side::Height)?.value,
+            row: self.row(alloc, false)?.value,
+            offer: self.offer,
         })
     }
 
@@ -273,6 +288,14 @@ impl Image {
             write!(text, " x 3/2 ({format})")?;
         }
         Ok(())
+    }
+}
+
+/// Who asks for a side, and by which field.
+fn side_words(alloc: Global, first: Option<(&str, &str)>) -> Result<String, AllocError> {
+    match first {
+        Some((name, field)) => format!(in alloc; "{name} {field}"),
+        None => String::from_str(alloc, "nobody asks for more than 1"),
     }
 }
 
