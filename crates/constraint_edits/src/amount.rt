@@ -1,10 +1,7 @@
 //! The value of a field of constraints, and values between two.
 
 use crate::edits::{Changed, Edit};
-use crate::objects::{
-    ENTRIES, entries_of, entry_member, memory_member, number_value, object_of, values_in, with,
-    with_in_memory,
-};
+use crate::objects::{ENTRIES, MEMORY, entries_of, number_value, values_in, with};
 use serde_json::Value;
 use std::alloc::{AllocError, Global};
 use std::fmt;
@@ -121,8 +118,8 @@ impl Amount {
         match self {
             Amount::Number(number) => Ok(number_value(number)),
             Amount::Sides(width, height) => {
-                let (width, height) = (number_value(width), number_value(height));
-                object_of(alloc, ("width", width), ("height", height))
+                let sides = with(alloc, None, "width", number_value(width))?;
+                with(alloc, Some(&sides), "height", number_value(height))
             }
         }
     }
@@ -150,8 +147,11 @@ pub(crate) fn amount_of(value: &Value) -> Option<Amount> {
 pub(crate) fn amount_in(value: &Value, edit: Edit) -> Option<Amount> {
     match edit {
         Edit::NoCount(field) => amount_of(value.get(field.name())?),
-        Edit::NoMemory(field) => amount_of(memory_member(value, field.name())?),
-        Edit::NoBound(field) => amount_of(entry_member(value, field.name())?),
+        Edit::NoMemory(field) => amount_of(value.get(MEMORY)?.get(field.name())?),
+        Edit::NoBound(field) => {
+            let name = field.name();
+            amount_of(entries_of(value).iter().find_map(|entry| entry.get(name))?)
+        }
         _ => None,
     }
 }
@@ -169,41 +169,22 @@ pub(crate) fn with_amount(
         Some(field) => field.name(),
         None => "",
     };
-    let words = if let Edit::NoBound(_) = edit {
-        words_on_bound(alloc, value, name, amount)?
-    } else {
-        format!(in alloc; "{name} {stated} becomes {amount}")?
+    let changed = match edit {
+        Edit::NoBound(_) => with_bound(alloc, value, name, amount)?,
+        Edit::NoMemory(_) => {
+            let memory = with(alloc, value.get(MEMORY), name, amount.value(alloc)?)?;
+            with(alloc, Some(value), MEMORY, memory)?
+        }
+        _ => with(alloc, Some(value), name, amount.value(alloc)?)?,
+    };
+    let was = match edit {
+        Edit::NoBound(_) => values_in(alloc, entries_of(value), name)?,
+        _ => format!(in alloc; "{stated}")?,
     };
     Ok(Changed {
-        value: value_with(alloc, value, edit, name, amount)?,
-        words,
+        value: changed,
+        words: format!(in alloc; "{name} {was} becomes {amount}")?,
     })
-}
-
-/// `max_size 1280x720 and 4096x2160 becomes 1920x1080`.
-fn words_on_bound(
-    alloc: Global,
-    value: &Value,
-    name: &str,
-    amount: Amount,
-) -> Result<String, AllocError> {
-    let was = values_in(alloc, entries_of(value), name)?;
-    format!(in alloc; "{name} {was} becomes {amount}")
-}
-
-/// The constraints with another value of a field, which stands where a change leaves it out.
-fn value_with(
-    alloc: Global,
-    value: &Value,
-    edit: Edit,
-    name: &str,
-    amount: Amount,
-) -> Result<Value, AllocError> {
-    match edit {
-        Edit::NoBound(_) => with_bound(alloc, value, name, amount),
-        Edit::NoMemory(_) => with_in_memory(alloc, value, name, amount.value(alloc)?),
-        _ => with(alloc, Some(value), name, amount.value(alloc)?),
-    }
 }
 
 /// The constraints with another value of the field that a change would leave out; `None` where it

@@ -1,10 +1,7 @@
 //! Constraints with one field changed.
 
-use crate::exchanging::{Bounds, exchanged};
-use crate::objects::{
-    ENTRIES, MEMORY, entries_of, entry_member, lacking, memory_member, values_in, with,
-    with_in_memory, words_without,
-};
+use crate::exchanging::exchanged;
+use crate::objects::{ENTRIES, MEMORY, entries_of, have, lacking, values_in, with, words_without};
 use crate::permitting::{meaning, permitting};
 use crate::taking::{putting_first, taking_colour, taking_pair};
 use crate::using::{asking_for, without_cpu};
@@ -100,40 +97,21 @@ pub fn edits_on(
     colours: &[ColourSpace],
 ) -> Result<Vec<Edit>, AllocError> {
     let mut edits: Vec<Edit> = Vec::new(alloc);
-    put_edits(&mut edits, heaps, pairs, colours)?;
-    Ok(edits)
-}
-
-fn put_edits(
-    edits: &mut Vec<Edit>,
-    heaps: usize,
-    pairs: &[Pair],
-    colours: &[ColourSpace],
-) -> Result<(), AllocError> {
     for heap in 0..heaps {
         edits.push(Edit::MeansHeap(heap))?;
     }
     edits.extend_from_slice(&FIRST)?;
-    put_more(edits, pairs, colours)?;
-    for heap in 0..heaps {
-        edits.push(Edit::PermitsHeap(heap))?;
-    }
-    edits.extend_from_slice(&LAST)
-}
-
-/// Puts those that take a colour space or a pair more.
-fn put_more(
-    edits: &mut Vec<Edit>,
-    pairs: &[Pair],
-    colours: &[ColourSpace],
-) -> Result<(), AllocError> {
     for colour in colours {
         edits.push(Edit::TakesColour(*colour))?;
     }
     for pair in pairs {
         edits.push(Edit::TakesPair(*pair))?;
     }
-    Ok(())
+    for heap in 0..heaps {
+        edits.push(Edit::PermitsHeap(heap))?;
+    }
+    edits.extend_from_slice(&LAST)?;
+    Ok(edits)
 }
 
 /// Constraints after a change, with what is changed in words.
@@ -152,10 +130,7 @@ pub fn edited(
 ) -> Result<Option<Changed>, AllocError> {
     match edit {
         Edit::MeansHeap(index) => meaning(alloc, value, heaps, index),
-        Edit::Exchanges(least, most) => {
-            let (least, most) = (least.name(), most.name());
-            exchanged(alloc, value, Bounds { least, most })
-        }
+        Edit::Exchanges(least, most) => exchanged(alloc, value, least.name(), most.name()),
         Edit::Supports(field) => supporting(alloc, value, field.name()),
         Edit::NoCount(field) => without(alloc, value, field.name()),
         Edit::NoMemory(field) => without_memory(alloc, value, field.name()),
@@ -170,66 +145,54 @@ pub fn edited(
 }
 
 fn supporting(alloc: Global, value: &Value, key: &str) -> Result<Option<Changed>, AllocError> {
-    let was = match memory_member(value, key) {
+    let memory = value.get(MEMORY);
+    let was = match memory.and_then(|memory| memory.get(key)) {
         Some(Value::Bool(true)) => return Ok(None),
         Some(_) => "false",
         None if key == Field::CpuDomainSupported.name() => return Ok(None),
         None => "(absent, so false)",
     };
-    let words = format!(in alloc; "{key} {was} becomes true")?;
-    change_in_memory(alloc, value, key, Value::Bool(true), words)
+    let object = with(alloc, memory, key, Value::Bool(true))?;
+    Ok(Some(Changed {
+        value: with(alloc, Some(value), MEMORY, object)?,
+        words: format!(in alloc; "{key} {was} becomes true")?,
+    }))
 }
 
 fn without(alloc: Global, value: &Value, key: &str) -> Result<Option<Changed>, AllocError> {
     let Some(member) = value.get(key) else {
         return Ok(None);
     };
-    let words = words_without(alloc, key, member)?;
     Ok(Some(Changed {
         value: lacking(alloc, value, key)?,
-        words,
+        words: words_without(alloc, key, member)?,
     }))
 }
 
 fn without_memory(alloc: Global, value: &Value, key: &str) -> Result<Option<Changed>, AllocError> {
-    match value.get(MEMORY) {
-        Some(memory) => in_memory(alloc, value, without(alloc, memory, key)?),
-        None => Ok(None),
-    }
-}
-
-/// A change of the memory as one of the constraints.
-pub(crate) fn in_memory(
-    alloc: Global,
-    value: &Value,
-    change: Option<Changed>,
-) -> Result<Option<Changed>, AllocError> {
-    match change {
-        Some(change) => change_of(alloc, value, MEMORY, change.value, change.words),
-        None => Ok(None),
-    }
+    let Some(memory) = value.get(MEMORY) else {
+        return Ok(None);
+    };
+    let Some(change) = without(alloc, memory, key)? else {
+        return Ok(None);
+    };
+    Ok(Some(Changed {
+        value: with(alloc, Some(value), MEMORY, change.value)?,
+        words: change.words,
+    }))
 }
 
 fn without_bound(alloc: Global, value: &Value, key: &str) -> Result<Option<Changed>, AllocError> {
-    if entry_member(value, key).is_none() {
+    if !have(value, key) {
         return Ok(None);
     }
-    let words = words_without_bound(alloc, value, key)?;
-    with_entries(alloc, value, entries_lacking(alloc, value, key)?, words)
-}
-
-/// `max_size 1280x720 and 4096x2160 left out`.
-fn words_without_bound(alloc: Global, value: &Value, key: &str) -> Result<String, AllocError> {
-    let was = values_in(alloc, entries_of(value), key)?;
-    format!(in alloc; "{key} {was} left out")
-}
-
-fn entries_lacking(alloc: Global, value: &Value, key: &str) -> Result<Vec<Value>, AllocError> {
     let mut copy = Vec::new(alloc);
     for entry in entries_of(value) {
         copy.push(lacking(alloc, entry, key)?)?;
     }
-    Ok(copy)
+    let was = values_in(alloc, entries_of(value), key)?;
+    let words = format!(in alloc; "{key} {was} left out")?;
+    with_entries(alloc, value, copy, words)
 }
 
 /// The constraints with other entries, and what is changed; `None` where nothing is.
@@ -242,33 +205,8 @@ pub(crate) fn with_entries(
     if words.is_empty() {
         return Ok(None);
     }
-    change_of(alloc, value, ENTRIES, Value::Array(entries), words)
-}
-
-/// The constraints with a member, in the place of one with that key, and what is changed.
-pub(crate) fn change_of(
-    alloc: Global,
-    value: &Value,
-    key: &str,
-    member: Value,
-    words: String,
-) -> Result<Option<Changed>, AllocError> {
     Ok(Some(Changed {
-        value: with(alloc, Some(value), key, member)?,
-        words,
-    }))
-}
-
-/// The same of a member of the memory.
-pub(crate) fn change_in_memory(
-    alloc: Global,
-    value: &Value,
-    key: &str,
-    member: Value,
-    words: String,
-) -> Result<Option<Changed>, AllocError> {
-    Ok(Some(Changed {
-        value: with_in_memory(alloc, value, key, member)?,
+        value: with(alloc, Some(value), ENTRIES, Value::Array(entries))?,
         words,
     }))
 }

@@ -1,7 +1,7 @@
 //! Values of JSON with a member put in or left out, and their words.
 
 use explanation_text::wording::put_few;
-use serde_json::{Map, Number, Value, put};
+use serde_json::{Map, Number, Value};
 use std::alloc::{AllocError, Global};
 
 pub(crate) const MEMORY: &str = "buffer_memory_constraints";
@@ -26,19 +26,9 @@ pub(crate) fn with(
     member: Value,
 ) -> Result<Value, AllocError> {
     let mut members = members_of(alloc, object)?;
-    put(&mut members, alloc, key, member)?;
+    let name = String::from_str(alloc, key)?;
+    let _before = members.insert(name, member)?;
     Ok(Value::Object(members))
-}
-
-/// Constraints with a member of their memory, in the place of one with that key.
-pub(crate) fn with_in_memory(
-    alloc: Global,
-    value: &Value,
-    key: &str,
-    member: Value,
-) -> Result<Value, AllocError> {
-    let memory = with(alloc, value.get(MEMORY), key, member)?;
-    with(alloc, Some(value), MEMORY, memory)
 }
 
 /// An object without a member.
@@ -55,16 +45,6 @@ pub(crate) fn number_value(number: u64) -> Value {
     }
 }
 
-/// An object of two members.
-pub(crate) fn object_of(
-    alloc: Global,
-    first: (&str, Value),
-    second: (&str, Value),
-) -> Result<Value, AllocError> {
-    let object = with(alloc, None, first.0, first.1)?;
-    with(alloc, Some(&object), second.0, second.1)
-}
-
 pub(crate) fn text_value(alloc: Global, text: &str) -> Result<Value, AllocError> {
     Ok(Value::String(String::from_str(alloc, text)?))
 }
@@ -77,34 +57,36 @@ pub(crate) fn entries_of(value: &Value) -> &[Value] {
     }
 }
 
-/// A member of the memory.
-pub(crate) fn memory_member<'a>(value: &'a Value, key: &str) -> Option<&'a Value> {
-    value.get(MEMORY)?.get(key)
+/// Whether an entry of constraints has a member.
+pub(crate) fn have(value: &Value, key: &str) -> bool {
+    entries_of(value)
+        .iter()
+        .any(|entry| entry.get(key).is_some())
 }
 
-/// A member of the first entry that has it.
-pub(crate) fn entry_member<'a>(value: &'a Value, key: &str) -> Option<&'a Value> {
-    for entry in entries_of(value) {
-        if let Some(member) = entry.get(key) {
-            return Some(member);
-        }
-    }
-    None
-}
-
-/// A value in short: a size as `1920x1080`.
-fn text_of(alloc: Global, value: &Value) -> Result<String, AllocError> {
+/// Puts a value in short after a text: a size as `1920x1080`.
+fn put_value(text: &mut String, value: &Value) -> Result<(), AllocError> {
     if let (Some(width), Some(height)) = (value.get("width"), value.get("height")) {
         if let (Some(width), Some(height)) = (width.as_u64(), height.as_u64()) {
-            return format!(in alloc; "{width}x{height}");
+            return write!(text, "{width}x{height}");
         }
     }
-    value.to_string(alloc)
+    let written = value.to_string(*text.allocator())?;
+    text.push_str(&written)
 }
 
 /// The values in short that a key has in entries, each once: `1280x720 and 4096x2160`.
 pub(crate) fn values_in(alloc: Global, entries: &[Value], key: &str) -> Result<String, AllocError> {
-    let texts = texts_in(alloc, entries, key)?;
+    let mut texts: Vec<String> = Vec::new(alloc);
+    for entry in entries {
+        if let Some(member) = entry.get(key) {
+            let mut text = String::new(alloc);
+            put_value(&mut text, member)?;
+            if !texts.contains(&text) {
+                texts.push(text)?;
+            }
+        }
+    }
     let mut words: Vec<&str> = Vec::new(alloc);
     for text in &texts {
         words.push(text.as_str())?;
@@ -114,22 +96,10 @@ pub(crate) fn values_in(alloc: Global, entries: &[Value], key: &str) -> Result<S
     Ok(joined)
 }
 
-/// The values in short that a key has in entries, each once.
-fn texts_in(alloc: Global, entries: &[Value], key: &str) -> Result<Vec<String>, AllocError> {
-    let mut texts: Vec<String> = Vec::new(alloc);
-    for entry in entries {
-        if let Some(member) = entry.get(key) {
-            let text = text_of(alloc, member)?;
-            if !texts.contains(&text) {
-                texts.push(text)?;
-            }
-        }
-    }
-    Ok(texts)
-}
-
 /// `max_size 1920x1080 left out`.
 pub(crate) fn words_without(alloc: Global, key: &str, value: &Value) -> Result<String, AllocError> {
-    let was = text_of(alloc, value)?;
-    format!(in alloc; "{key} {was} left out")
+    let mut words = format!(in alloc; "{key} ")?;
+    put_value(&mut words, value)?;
+    words.push_str(" left out")?;
+    Ok(words)
 }

@@ -1,7 +1,7 @@
 //! Constraints that permit a heap more, or another in the place of one that nearly has its name.
 
-use crate::edits::{Changed, change_in_memory};
-use crate::objects::{memory_member, number_value, object_of, text_value};
+use crate::edits::Changed;
+use crate::objects::{MEMORY, number_value, text_value, with};
 use explanation_text::nearest;
 use serde_json::Value;
 use std::alloc::{AllocError, Global};
@@ -11,7 +11,7 @@ const HEAPS: &str = "permitted_heaps";
 
 /// The heaps that constraints permit, where they name some and not this one.
 fn others_than<'a>(value: &'a Value, heap: &Heap) -> Option<&'a [Value]> {
-    let list = memory_member(value, HEAPS)?.as_array()?.as_slice();
+    let list = value.get(MEMORY)?.get(HEAPS)?.as_array()?.as_slice();
     if list.is_empty() || list.iter().any(|item| is_heap(item, heap)) {
         return None;
     }
@@ -38,7 +38,8 @@ fn is_among(item: &Value, heaps: &[HeapInfo]) -> bool {
 
 fn heap_value(alloc: Global, heap: &Heap) -> Result<Value, AllocError> {
     let name = text_value(alloc, &heap.heap_type)?;
-    object_of(alloc, ("heap_type", name), ("id", number_value(heap.id)))
+    let typed = with(alloc, None, "heap_type", name)?;
+    with(alloc, Some(&typed), "id", number_value(heap.id))
 }
 
 /// The constraints with a heap more that they permit; `None` where they permit it.
@@ -54,16 +55,15 @@ pub(crate) fn permitting(
     let Some(list) = others_than(value, heap) else {
         return Ok(None);
     };
-    let (name, id) = (heap.heap_type.as_str(), heap.id);
-    let words = format!(in alloc; "permitted_heaps with {name}#{id} too")?;
-    permitted(alloc, value, with_heap(alloc, list, heap)?, words)
-}
-
-/// A list of heaps with one more.
-fn with_heap(alloc: Global, list: &[Value], heap: &Heap) -> Result<Vec<Value>, AllocError> {
-    let mut copy = list.to_vec(alloc)?;
+    let mut copy = Vec::new(alloc);
+    for item in list {
+        copy.push(item.clone()?)?;
+    }
     copy.push(heap_value(alloc, heap)?)?;
-    Ok(copy)
+    let name = heap.heap_type.as_str();
+    let id = heap.id;
+    let words = format!(in alloc; "permitted_heaps with {name}#{id} too")?;
+    permitted(alloc, value, copy, words)
 }
 
 fn permitted(
@@ -72,28 +72,30 @@ fn permitted(
     list: Vec<Value>,
     words: String,
 ) -> Result<Option<Changed>, AllocError> {
-    change_in_memory(alloc, value, HEAPS, Value::Array(list), words)
+    let memory = with(alloc, value.get(MEMORY), HEAPS, Value::Array(list))?;
+    Ok(Some(Changed {
+        value: with(alloc, Some(value), MEMORY, memory)?,
+        words,
+    }))
 }
 
-/// The first heap of a list that the platform lacks and that nearly has the name of this one, with
-/// its index.
-fn near_in<'a>(
+/// The index of the first heap of a list that the platform lacks and that nearly has the name of this one.
+fn near_in(
     alloc: Global,
-    list: &'a [Value],
+    list: &[Value],
     heap: &Heap,
     heaps: &[HeapInfo],
-) -> Result<Option<(usize, &'a Value)>, AllocError> {
+) -> Result<Option<usize>, AllocError> {
     let known = [heap.heap_type.as_str()];
     for (index, item) in list.iter().enumerate() {
         if !is_among(item, heaps) && nearest(alloc, type_in(item), &known)?.is_some() {
-            return Ok(Some((index, item)));
+            return Ok(Some(index));
         }
     }
     Ok(None)
 }
 
-/// The constraints with the heap of an index in the place of one that nearly has its name and isn't
-/// there; `None` where none is.
+/// The constraints with the heap of an index in the place of one that nearly has its name and isn't there; `None` where none is.
 pub(crate) fn meaning(
     alloc: Global,
     value: &Value,
@@ -107,27 +109,20 @@ pub(crate) fn meaning(
     let Some(list) = others_than(value, heap) else {
         return Ok(None);
     };
-    match near_in(alloc, list, heap, heaps)? {
-        Some((place, item)) => {
-            let words = words_for(alloc, heap, item)?;
-            permitted(alloc, value, with_heap_at(alloc, list, place, heap)?, words)
+    let Some(place) = near_in(alloc, list, heap, heaps)? else {
+        return Ok(None);
+    };
+    let mut copy = Vec::new(alloc);
+    let mut words = String::new(alloc);
+    for (index, item) in list.iter().enumerate() {
+        if index == place {
+            words = words_for(alloc, heap, item)?;
+            copy.push(heap_value(alloc, heap)?)?;
+        } else {
+            copy.push(item.clone()?)?;
         }
-        None => Ok(None),
     }
-}
-
-/// A list of heaps with another one at an index.
-fn with_heap_at(
-    alloc: Global,
-    list: &[Value],
-    place: usize,
-    heap: &Heap,
-) -> Result<Vec<Value>, AllocError> {
-    let mut copy = list.to_vec(alloc)?;
-    if let Some(item) = copy.get_mut(place) {
-        *item = heap_value(alloc, heap)?;
-    }
-    Ok(copy)
+    permitted(alloc, value, copy, words)
 }
 
 /// `permitted_heaps with cma#0 in the place of cmma#0`.

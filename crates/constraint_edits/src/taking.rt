@@ -14,68 +14,54 @@ const FORMAT: &str = "pixel_format";
 
 const MODIFIER: &str = "pixel_format_modifier";
 
+/// The names in a list of texts.
+fn names_in<'a>(alloc: Global, list: Option<&'a Value>) -> Result<Vec<&'a str>, AllocError> {
+    let mut names = Vec::new(alloc);
+    if let Some(items) = list.and_then(Value::as_array) {
+        for item in items {
+            names.push(item.as_str().unwrap_or(""))?;
+        }
+    }
+    Ok(names)
+}
+
 /// The constraints with a colour space more in each entry; `None` where each has it.
 pub(crate) fn taking_colour(
     alloc: Global,
     value: &Value,
     colour: &str,
 ) -> Result<Option<Changed>, AllocError> {
-    let entries = entries_of(value);
-    let Some(first) = entries.iter().find(|entry| !takes(entry, colour)) else {
-        return Ok(None);
-    };
-    let words = words_beside(alloc, colour, first)?;
-    with_entries(alloc, value, entries_taking(alloc, entries, colour)?, words)
-}
-
-/// The colour spaces of an entry.
-fn colours_of(entry: &Value) -> &[Value] {
-    match entry.get(COLOURS).and_then(Value::as_array) {
-        Some(colours) => colours.as_slice(),
-        None => &[],
+    let mut words = String::new(alloc);
+    let mut copy = Vec::new(alloc);
+    for entry in entries_of(value) {
+        let names = names_in(alloc, entry.get(COLOURS))?;
+        if names.iter().any(|name| *name == colour) {
+            copy.push(entry.clone()?)?;
+            continue;
+        }
+        if words.is_empty() {
+            words = words_beside(alloc, colour, &names)?;
+        }
+        copy.push(with_colour(alloc, entry, colour)?)?;
     }
-}
-
-fn takes(entry: &Value, colour: &str) -> bool {
-    colours_of(entry)
-        .iter()
-        .any(|item| item.as_str() == Some(colour))
+    with_entries(alloc, value, copy, words)
 }
 
 /// `color_spaces SRGB, with REC709 too`.
-fn words_beside(alloc: Global, colour: &str, entry: &Value) -> Result<String, AllocError> {
+fn words_beside(alloc: Global, colour: &str, names: &[&str]) -> Result<String, AllocError> {
     let mut words = String::from_str(alloc, "color_spaces ")?;
-    put_colours(&mut words, colours_of(entry))?;
+    put_few(&mut words, names, 3)?;
     write!(words, ", with {colour} too")?;
     Ok(words)
 }
 
-fn put_colours(text: &mut String, colours: &[Value]) -> Result<(), AllocError> {
-    let mut names = Vec::new(*text.allocator());
-    for colour in colours {
-        names.push(colour.as_str().unwrap_or(""))?;
-    }
-    put_few(text, &names, 3)
-}
-
-fn entries_taking(
-    alloc: Global,
-    entries: &[Value],
-    colour: &str,
-) -> Result<Vec<Value>, AllocError> {
-    let mut copy = Vec::new(alloc);
-    for entry in entries {
-        copy.push(if takes(entry, colour) {
-            entry.clone()?
-        } else {
-            with_colour(alloc, entry, colour)?
-        })?;
-    }
-    Ok(copy)
-}
-
 fn with_colour(alloc: Global, entry: &Value, colour: &str) -> Result<Value, AllocError> {
-    let mut list = colours_of(entry).to_vec(alloc)?;
+    let mut list = Vec::new(alloc);
+    if let Some(items) = entry.get(COLOURS).and_then(Value::as_array) {
+        for item in items {
+            list.push(item.clone()?)?;
+        }
+    }
     list.push(text_value(alloc, colour)?)?;
     with(alloc, Some(entry), COLOURS, Value::Array(list))
 }
@@ -97,16 +83,13 @@ pub(crate) fn taking_pair(
     let Some(like) = entries.get(index) else {
         return Ok(None);
     };
+    let mut copy = Vec::new(alloc);
+    copy.push(naming(alloc, like, pair)?)?;
+    for entry in entries {
+        copy.push(entry.clone()?)?;
+    }
     let words = words_on(alloc, like, index, pair)?;
-    let copy = in_front(alloc, naming(alloc, like, pair)?, entries)?;
     with_entries(alloc, value, copy, words)
-}
-
-/// Entries with another before them.
-fn in_front(alloc: Global, first: Value, entries: &[Value]) -> Result<Vec<Value>, AllocError> {
-    let mut copy = vec![in alloc; first]?;
-    copy.extend_from_slice(entries)?;
-    Ok(copy)
 }
 
 /// Whether an entry names a format as its own.
@@ -131,65 +114,56 @@ pub(crate) fn putting_first(
     if index == 0 {
         return Ok(None);
     }
-    let words = words_first(alloc, entry, index)?;
-    with_entries(alloc, value, with_first(alloc, entries, index)?, words)
-}
-
-/// `entry 2 (NV12 LINEAR) put first`.
-fn words_first(alloc: Global, entry: &Value, index: usize) -> Result<String, AllocError> {
-    let named = named_words(alloc, entry)?;
-    let shown = index.saturating_add(1);
-    format!(in alloc; "entry {shown} ({named}) put first")
-}
-
-/// Entries with that of an index before the others.
-fn with_first(alloc: Global, entries: &[Value], index: usize) -> Result<Vec<Value>, AllocError> {
-    let end = index.saturating_add(1);
-    let mut copy: Vec<Value> = Vec::new(alloc);
-    for part in [index..end, 0..index, end..entries.len()] {
-        copy.extend_from_slice(entries.get(part).unwrap_or(&[]))?;
+    let mut copy = Vec::new(alloc);
+    copy.push(entry.clone()?)?;
+    for (k, other) in entries.iter().enumerate() {
+        if k != index {
+            copy.push(other.clone()?)?;
+        }
     }
-    Ok(copy)
+    let shown = index.saturating_add(1);
+    let mut words = format!(in alloc; "entry {shown} (")?;
+    put_named(&mut words, entry)?;
+    words.push_str(") put first")?;
+    with_entries(alloc, value, copy, words)
 }
 
 /// An entry for a format and modifier alone, else like this one.
 fn naming(alloc: Global, entry: &Value, pair: Pair) -> Result<Value, AllocError> {
     let single = lacking(alloc, entry, "pixel_format_and_modifiers")?;
-    let named = with_text(alloc, &single, FORMAT, pair.format.name())?;
-    with_text(alloc, &named, MODIFIER, pair.modifier.name())
-}
-
-fn with_text(alloc: Global, entry: &Value, key: &str, text: &str) -> Result<Value, AllocError> {
-    with(alloc, Some(entry), key, text_value(alloc, text)?)
+    let format = text_value(alloc, pair.format.name())?;
+    let named = with(alloc, Some(&single), FORMAT, format)?;
+    let modifier = text_value(alloc, pair.modifier.name())?;
+    with(alloc, Some(&named), MODIFIER, modifier)
 }
 
 /// `pixel_format NV12 LINEAR too, in an entry before the others that is else like the first
 /// (YUY2)`, or `like entry 2 (..)`.
 fn words_on(alloc: Global, like: &Value, index: usize, pair: Pair) -> Result<String, AllocError> {
-    let named = named_words(alloc, like)?;
-    let like = like_words(alloc, index)?;
-    let (format, modifier) = (pair.format.name(), pair.modifier.name());
-    format!(in alloc;
-        "pixel_format {format} {modifier} too, in an entry before the others {like} ({named})"
-    )
-}
-
-/// `that is else like the first`, or the same of `entry 2`.
-fn like_words(alloc: Global, index: usize) -> Result<String, AllocError> {
+    let format = pair.format.name();
+    let modifier = pair.modifier.name();
+    let mut words = format!(in alloc;
+        "pixel_format {format} {modifier} too, in an entry before the others that is else like "
+    )?;
     if index == 0 {
-        return String::from_str(alloc, "that is else like the first");
+        words.push_str("the first (")?;
+    } else {
+        let shown = index.saturating_add(1);
+        write!(words, "entry {shown} (")?;
     }
-    let shown = index.saturating_add(1);
-    format!(in alloc; "that is else like entry {shown}")
+    put_named(&mut words, like)?;
+    words.push_str(")")?;
+    Ok(words)
 }
 
-/// The format and the modifier that an entry names.
-fn named_words(alloc: Global, entry: &Value) -> Result<String, AllocError> {
-    let format = text_in(entry, FORMAT).unwrap_or("several pairs");
-    match text_in(entry, MODIFIER) {
-        Some(modifier) => format!(in alloc; "{format} {modifier}"),
-        None => String::from_str(alloc, format),
+/// Puts the format and the modifier that an entry names after a text.
+fn put_named(text: &mut String, entry: &Value) -> Result<(), AllocError> {
+    text.push_str(text_in(entry, FORMAT).unwrap_or("several pairs"))?;
+    if let Some(modifier) = text_in(entry, MODIFIER) {
+        text.push_str(" ")?;
+        text.push_str(modifier)?;
     }
+    Ok(())
 }
 
 fn text_in<'a>(entry: &'a Value, key: &str) -> Option<&'a str> {

@@ -1,7 +1,7 @@
 //! Constraints of one whose buffers no CPU uses, or who asks for more of them.
 
-use crate::edits::{Changed, change_of};
-use crate::objects::{number_value, text_value};
+use crate::edits::Changed;
+use crate::objects::{number_value, text_value, with};
 use serde_json::Value;
 use std::alloc::{AllocError, Global};
 use sysmem_counts::Field;
@@ -14,32 +14,25 @@ pub(crate) fn without_cpu(alloc: Global, value: &Value) -> Result<Option<Changed
     let Some(usages) = value.get(USAGE).and_then(Value::as_array) else {
         return Ok(None);
     };
-    if !usages.iter().any(is_cpu) {
-        return Ok(None);
-    }
-    let is_all = usages.iter().all(is_cpu);
-    let words = if is_all {
-        "usage cpu becomes none"
-    } else {
-        "usage without cpu"
-    };
-    let words = String::from_str(alloc, words)?;
-    let others = others_than_cpu(alloc, usages)?;
-    change_of(alloc, value, USAGE, Value::Array(others), words)
-}
-
-/// The usages but that by a CPU; `none` where there is no other.
-fn others_than_cpu(alloc: Global, usages: &[Value]) -> Result<Vec<Value>, AllocError> {
     let mut others = Vec::new(alloc);
     for usage in usages {
         if !is_cpu(usage) {
             others.push(usage.clone()?)?;
         }
     }
-    if others.is_empty() {
-        others.push(text_value(alloc, "none")?)?;
+    if others.len() == usages.len() {
+        return Ok(None);
     }
-    Ok(others)
+    let words = if others.is_empty() {
+        others.push(text_value(alloc, "none")?)?;
+        "usage cpu becomes none"
+    } else {
+        "usage without cpu"
+    };
+    Ok(Some(Changed {
+        value: with(alloc, Some(value), USAGE, Value::Array(others))?,
+        words: String::from_str(alloc, words)?,
+    }))
 }
 
 fn is_cpu(usage: &Value) -> bool {
@@ -59,5 +52,8 @@ pub(crate) fn asking_for(
         Some(least) => format!(in alloc; "{name} {least} becomes {count}")?,
         None => format!(in alloc; "{name} (absent) becomes {count}")?,
     };
-    change_of(alloc, value, name, number_value(u64::from(count)), words)
+    Ok(Some(Changed {
+        value: with(alloc, Some(value), name, number_value(u64::from(count)))?,
+        words,
+    }))
 }
