@@ -5,7 +5,7 @@ FILE ?= examples/one_participant.json
 # is made by one process, which takes about a third less processor time than several.
 JOBS ?= $(shell awk -v n=$$(nproc) '/^MemAvailable/ { m = int($$2 / 4000000); print m < 1 ? 1 : m < n ? m : n }' /proc/meminfo)
 
-.PHONY: run proved test program-test built-test wrong-bodies bench lib install lib-test
+.PHONY: run proved test program-test wrong-bodies bench lib install lib-test
 
 # Runs a script: with the proved program where `make proved` has built it, else without proving.
 run:
@@ -29,28 +29,21 @@ test:
 program-test: proved
 	@$(MAKE) --no-print-directory built-test
 
-# The same where `make test` or `make proved` has just built the program.
-built-test:
-	docs/columns --check
-	docs/definitions --check
-	tests/names
-	tests/reports
-	tests/json_reports
-	tests/refusals
-	tests/records
-	tests/values
-	tests/every_selection
-	tests/orders
-	tests/run_command
-	tests/certificates
-	tests/checks
-	tests/failing_files
-	tests/want_of_memory
-	tests/handles
-	tests/threads
-	tests/explanations
-	tests/json_explanations
-	@$(MAKE) --no-print-directory lib-test
+# The same where `make test` or `make proved` has just built the program. With `-j` they run side by
+# side: none reads what another writes.
+OF_TEXT := docs/columns docs/definitions
+OF_PROGRAM := names reports json_reports refusals records values every_selection orders \
+	run_command certificates checks failing_files want_of_memory handles threads explanations \
+	json_explanations
+
+.PHONY: built-test $(OF_TEXT) $(OF_PROGRAM:%=tests/%)
+built-test: $(OF_TEXT) $(OF_PROGRAM:%=tests/%) lib-test
+
+$(OF_TEXT):
+	$@ --check
+
+$(OF_PROGRAM:%=tests/%):
+	$@
 
 # The library for C, C++ and Python, proved, as an archive and as a shared object, in out/. It
 # needs a C compiler and binutils.
