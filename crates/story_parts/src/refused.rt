@@ -429,6 +429,10 @@ fn put_too_early(
     let Some(domain) = story.domain_of(node) else {
         return Ok(());
     };
+    // Later there is no verdict to be had either.
+    if domain.verdict() == "failed" {
+        return Ok(());
+    }
     let last = domain.ended.unwrap_or(0);
     write!(text, ": move it after call {last}, or use wait")
 }
