@@ -1,5 +1,5 @@
-//! Several changes of participants' constraints that together make an empty decision one that chooses: the fewest found, each as small as it can
-//! be.
+//! Several changes of participants' constraints that together make an empty decision one that
+//! chooses: the fewest found, each as small as it can be.
 //!
 //! ```
 //! tell_together(&mut items, group, &edits)?;

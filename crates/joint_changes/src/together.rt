@@ -28,8 +28,9 @@ const MOST_STEPS: usize = 1024;
 /// How many changes together are told.
 const TOLD: usize = 6;
 
-/// Tells the fewest changes found with which, made together, the domain at a path would have settings, and the decision that would come: the
-/// line of the report of the changed script. Where others do that take the use by a CPU away, those are told beside them.
+/// Tells the fewest changes found with which, made together, the domain at a path would have
+/// settings, and the decision that would come: the line of the report of the changed script. Where
+/// others do that take the use by a CPU away, those are told beside them.
 pub fn tell_together(
     items: &mut Items,
     group: Group<'_, '_>,
@@ -124,7 +125,8 @@ impl Joint<'_, '_> {
         Ok(())
     }
 
-    /// Of changes that help together some without each of which the others don't; `None` where all together don't help.
+    /// Of changes that help together some without each of which the others don't; `None` where all
+    /// together don't help.
     fn fewest(
         &self,
         shelf: &mut Shelf,
@@ -143,8 +145,8 @@ impl Joint<'_, '_> {
     }
 
     /// What is left of changes that help together, once each is taken back without which the rest
-    /// do: from the last on, or from the first. Several are taken back at once as long as that goes.
-    /// That the rest do is run once for all, and each time only where that isn't so.
+    /// do: from the last on, or from the first. Several are taken back at once as long as that
+    /// goes. That the rest do is run once for all, and each time only where that isn't so.
     fn needed(
         &self,
         shelf: &mut Shelf,

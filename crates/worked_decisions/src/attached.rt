@@ -13,8 +13,9 @@ use sysmem_memory::{CoherencyDomain, Place};
 use sysmem_proof::Base;
 use sysmem_tree::DomainId;
 
-/// Two participants a and b, who need 8 buffers, of which b wants 9; a token x attached to a, who takes the ninth; a token attached to
-/// b, duplicated for two, of whom one wants another; then a is released, and the domain of those two waits.
+/// Two participants a and b, who need 8 buffers, of which b wants 9; a token x attached to a, who
+/// takes the ninth; a token attached to b, duplicated for two, of whom one wants another; then a is
+/// released, and the domain of those two waits.
 pub(crate) const RELEASED: &str =
     "/ duplicate duplicate release /0 bind camps_on_2_and_slack /1 bind camps_on_3 decide /0 attach_token /0/0 bind camps_on_1 decide /1 attach_token /1/0 duplicate duplicate release /1/0/1 bind cpu /1/0/0 bind camps_on_1 /0 release";
 

@@ -13,7 +13,8 @@ use sysmem_tree::{Action, ActionKind, Event, Refusal};
 const ATTACHED: &str =
     "/ duplicate /0 bind cpu attach_token /0/0 bind attach_token cpu /0 attach_token";
 
-// What is played in turn, and how the domains stand then: a release in between changes no counts, a close fails four domains.
+// What is played in turn, and how the domains stand then: a release in between changes no counts, a
+// close fails four domains.
 const TURNS: &[&[(&str, &str)]] = &[
     &[
         (RELEASED, "21: 9 9 > pending"),
@@ -111,7 +112,8 @@ fn a_refused_action_is_not_entered(rt: HostRuntime) -> Result<(), Fail> {
     answered
 }
 
-// Whether the root's release makes a domain ready, and is one of the root; `None` where it is refused.
+// Whether the root's release makes a domain ready, and is one of the root; `None` where it is
+// refused.
 fn release_root(book: &mut Book) -> Option<(bool, bool)> {
     let node = book.tree().root();
     let action = Action::Release;

@@ -1,4 +1,5 @@
-//! What a search finds of what a book froze, as text. What proves it is shown by the certificates of `tests/rows`.
+//! What a search finds of what a book froze, as text. What proves it is shown by the certificates
+//! of `tests/rows`.
 
 use std::alloc::{AllocError, Global};
 use std::cell::Cell;
@@ -20,7 +21,8 @@ impl Gate for Counted {
     }
 }
 
-/// A verdict without what proves it, the number of visits, and what the gate was told: how many visits, and of how many choices at most.
+/// A verdict without what proves it, the number of visits, and what the gate was told: how many
+/// visits, and of how many choices at most.
 #[derive(Drop)]
 pub(crate) struct Searched {
     pub(crate) claim: Claim,
@@ -87,8 +89,8 @@ fn tell_found(text: &mut String, frozen: &Frozen, found: &Searched) -> Result<()
     write!(text, " visits {visits} told {told} most {most}; {said}")
 }
 
-/// What is found of what is frozen: the verdict, the visits, those of which the gate is told with the most choices of one, and what a
-/// checker says to the verdict without what proves it.
+/// What is found of what is frozen: the verdict, the visits, those of which the gate is told with
+/// the most choices of one, and what a checker says to the verdict without what proves it.
 pub(crate) fn tell_search(
     text: &mut String,
     alloc: Global,

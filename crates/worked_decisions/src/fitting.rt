@@ -12,14 +12,16 @@ use sysmem_alloc::Frozen;
 const FROZEN: &str =
     "/ duplicate duplicate /0 duplicate bind cpu /1 bind camps_on_2 /0/0 bind cpu / release";
 
-// Books that have what was frozen of that one still: itself, with a token attached since, and with c made before b.
+// Books that have what was frozen of that one still: itself, with a token attached since, and with
+// c made before b.
 const FITTING: [&str; 3] = [
     FROZEN,
     "/ duplicate duplicate /0 duplicate bind cpu /1 bind camps_on_2 /0/0 bind cpu / release /1 attach_token",
     "/ duplicate /0 duplicate / duplicate /0 bind cpu /0/0 bind cpu /1 bind camps_on_2 / release",
 ];
 
-// Books that haven't: decided, not ready, with other constraints, with one more token, with c made by b.
+// Books that haven't: decided, not ready, with other constraints, with one more token, with c made
+// by b.
 const OTHER: [&str; 5] = [
     "/ duplicate duplicate /0 duplicate bind cpu /1 bind camps_on_2 /0/0 bind cpu / release decide",
     "/ duplicate duplicate /0 duplicate bind cpu /1 bind camps_on_2 /0/0 bind cpu",
@@ -28,7 +30,8 @@ const OTHER: [&str; 5] = [
     "/ duplicate duplicate /1 duplicate bind camps_on_2 /0 bind cpu /1/0 bind cpu / release",
 ];
 
-// As the books of an attached domain, but a participant who was accepted asks less, though all have the same settings.
+// As the books of an attached domain, but a participant who was accepted asks less, though all have
+// the same settings.
 const ACCEPTED_ASKS_LESS: &str =
     "/ duplicate duplicate release /0 bind camps_on_2 /1 bind camps_on_3 decide /0 attach_token /0/0 bind camps_on_1 decide /1 attach_token /1/0 duplicate duplicate release /1/0/1 bind cpu /1/0/0 bind camps_on_1 /0 release";
 

@@ -1,4 +1,5 @@
-//! Collections through their handles, beside what was worked out by hand. These tests start threads and wait.
+//! Collections through their handles, beside what was worked out by hand. These tests start threads
+//! and wait.
 
 mod actors;
 mod asking;

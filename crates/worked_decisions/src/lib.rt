@@ -1,6 +1,6 @@
-//! Searches of small trees, books step by step and collections through their handles, beside what was worked out by hand, and
-//! values of the crates below. It is a crate of tests alone, so that none of those crates is proved again with its tests, and
-//! searches and books meet in it.
+//! Searches of small trees, books step by step and collections through their handles, beside what
+//! was worked out by hand, and values of the crates below. It is a crate of tests alone, so that
+//! none of those crates is proved again with its tests, and searches and books meet in it.
 #![tactic(auto)]
 
 #[cfg(test)]

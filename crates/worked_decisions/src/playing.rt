@@ -26,7 +26,8 @@ pub(crate) fn at(alloc: Global, book: &Book, text: &str) -> Result<NodeId, Fail>
     }
 }
 
-/// Does what the word says to the node at the path, and gives the refusal; an action is entered exactly where it is accepted.
+/// Does what the word says to the node at the path, and gives the refusal; an action is entered
+/// exactly where it is accepted.
 pub(crate) fn refusal(
     alloc: Global,
     book: &mut Book,
@@ -78,8 +79,8 @@ fn decide_next(alloc: Global, book: &mut Book) -> Result<(), Fail> {
     Ok(())
 }
 
-/// Plays a script: a path that begins with `/`, and what is done to its node, a word each, each of which has to be accepted.
-/// `decide` decides the domain that waits.
+/// Plays a script: a path that begins with `/`, and what is done to its node, a word each, each of
+/// which has to be accepted. `decide` decides the domain that waits.
 pub(crate) fn play(alloc: Global, book: &mut Book, script: &str) -> Result<(), Fail> {
     let mut place = "/";
     for word in script.split_whitespace() {
@@ -141,8 +142,9 @@ fn tell_standings(text: &mut String, book: &Book) -> Result<(), AllocError> {
     Ok(())
 }
 
-/// The number of entries, and how each domain stands, in order of creation of their roots: the number of its buffers, why it has
-/// none, or `pending`; before the one that is to be decided next stands `>`.
+/// The number of entries, and how each domain stands, in order of creation of their roots: the
+/// number of its buffers, why it has none, or `pending`; before the one that is to be decided next
+/// stands `>`.
 pub(crate) fn standings(alloc: Global, book: &Book) -> Result<String, AllocError> {
     let mut text = String::new(alloc);
     tell_standings(&mut text, book)?;

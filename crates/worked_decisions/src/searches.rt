@@ -1,5 +1,5 @@
-//! Searches of small trees and of attached domains: verdicts, and how many prefixes are visited. The scripts of the same names in
-//! `tests/rows` have what proves the verdicts.
+//! Searches of small trees and of attached domains: verdicts, and how many prefixes are visited.
+//! The scripts of the same names in `tests/rows` have what proves the verdicts.
 
 use crate::equal::is_equal;
 use crate::finding::tell_search;
@@ -9,8 +9,8 @@ use std::process::Abort;
 use std::test::Fail;
 use sysmem_alloc::Frozen;
 
-// Groups of two children each, below the root, without the second ones, and without the first ones but that of the first group;
-// then the root's release.
+// Groups of two children each, below the root, without the second ones, and without the first ones
+// but that of the first group; then the root's release.
 fn tell_groups(script: &mut String, many: u32) -> Result<(), AllocError> {
     for group in 0..many {
         let first = if group > 0 { "release" } else { "" };

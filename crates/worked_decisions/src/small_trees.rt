@@ -1,5 +1,5 @@
-//! How many prefixes of small trees are visited. What is chosen of them is compared with going through every selection by
-//! `tests/every_selection`.
+//! How many prefixes of small trees are visited. What is chosen of them is compared with going
+//! through every selection by `tests/every_selection`.
 
 use crate::equal::is_equal;
 use crate::finding::search_frozen;
@@ -41,7 +41,8 @@ const WORDS: [&str; 7] = [
     "short_rows",
 ];
 
-// What the participant of this number asks in the tree of this number: for 49 trees no two are alike.
+// What the participant of this number asks in the tree of this number: for 49 trees no two are
+// alike.
 fn asked(tree: usize, participant: usize) -> &'static str {
     let square = participant.wrapping_mul(participant).wrapping_add(3);
     let first = (tree % 7).wrapping_mul(square);
@@ -97,7 +98,8 @@ fn frozen_tree(alloc: Global, shape: &[Group], tree: usize) -> Result<Frozen, Fa
     frozen_after(alloc, &script)
 }
 
-// What of one search was visited: the visits of which its gate was told, its visits, and whether it chose.
+// What of one search was visited: the visits of which its gate was told, its visits, and whether it
+// chose.
 type Visited = (u64, u64, bool);
 
 fn visited(alloc: Global, shape: &[Group], tree: usize) -> Result<Visited, Fail> {
@@ -111,7 +113,8 @@ fn visited_of(alloc: Global, frozen: &Frozen) -> Result<Visited, AllocError> {
     Ok((found.told, found.visits, is_chosen))
 }
 
-// How many of the 49 trees of a shape have a choice, and the visits of all; the gate of each search is told of each visit.
+// How many of the 49 trees of a shape have a choice, and the visits of all; the gate of each search
+// is told of each visit.
 fn tally(rt: &impl Abort, alloc: Global, shape: &[Group]) -> Result<(u64, u64), Fail> {
     let (mut chosen, mut visits) = (0u64, 0u64);
     for tree in 0..49 {
@@ -123,7 +126,8 @@ fn tally(rt: &impl Abort, alloc: Global, shape: &[Group]) -> Result<(u64, u64), 
     Ok((chosen, visits))
 }
 
-// Each shape with 49 trees; how many are chosen and visited was counted by a program of other hands.
+// Each shape with 49 trees; how many are chosen and visited was counted by a program of other
+// hands.
 #[test]
 fn visits_of_small_trees(rt: HostRuntime) -> Result<(), Fail> {
     let (mut chosen, mut visits) = (0u64, 0u64);

@@ -1,4 +1,5 @@
-//! Values that were worked out by hand or stand in public tables, beside what the calls of the crates below answer.
+//! Values that were worked out by hand or stand in public tables, beside what the calls of the
+//! crates below answer.
 
 mod copies;
 mod counts;

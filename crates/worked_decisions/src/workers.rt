@@ -165,7 +165,8 @@ fn is_met_by_all<R: Threads + Abort + Clock + Sync>(
     Ok(())
 }
 
-// What is frozen is kept by one function for each group: a test that kept both would be proved to free both at each `?`.
+// What is frozen is kept by one function for each group: a test that kept both would be proved to
+// free both at each `?`.
 fn meet<R: Threads + Abort + Clock + Sync>(
     rt: &R,
     alloc: Global,

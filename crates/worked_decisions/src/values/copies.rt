@@ -14,8 +14,8 @@ const NV12: &str =
 const R8: &str =
     r#"{"usage":["video"],"image_format_constraints":[{"pixel_format":"R8","color_spaces":["SRGB"]}]}"#;
 
-// Whether a copy of an aggregate of one participant answers as its source; and then, with another added to the source, whether that has no
-// offer, and the copy answers as before.
+// Whether a copy of an aggregate of one participant answers as its source; and then, with another
+// added to the source, whether that has no offer, and the copy answers as before.
 fn with_copy(
     alloc: Global,
     platform: &Platform,

@@ -52,7 +52,8 @@ fn same_copy(alloc: Global) -> Result<[bool; 3], Fail> {
     Ok([first == other, first.is_same(&other), first != other])
 }
 
-// The heap's id and the colour spaces of another platform, and whether it is equal to that of heap 1 in sRGB.
+// The heap's id and the colour spaces of another platform, and whether it is equal to that of heap
+// 1 in sRGB.
 const OTHERS: [(u32, &str, bool); 3] = [
     (1, "\"SRGB\"", true),
     (2, "\"SRGB\"", false),

@@ -1,5 +1,5 @@
-//! How a fault is printed. `tests/records` has records with their first faults, as data for the built program; no record
-//! gives want of memory.
+//! How a fault is printed. `tests/records` has records with their first faults, as data for the
+//! built program; no record gives want of memory.
 
 use std::test::Fail;
 use sysmem_counts::Field;

@@ -1,4 +1,5 @@
-//! Bounds and entries as they were worked out by hand, beyond those that records state and reports show (`tests/values`).
+//! Bounds and entries as they were worked out by hand, beyond those that records state and reports
+//! show (`tests/values`).
 
 ghost use Rattle.std.specs.Prelude.{◌≤◌};
 
@@ -119,8 +120,8 @@ fn colours(rt: HostRuntime) {
     );
 }
 
-/// What joining the bounds of two entries to those of the second again answers where their starts have no common multiple, and whether
-/// they are left as they were.
+/// What joining the bounds of two entries to those of the second again answers where their starts
+/// have no common multiple, and whether they are left as they were.
 fn starts_joined(
     first: Entry,
     second: Entry,
@@ -136,7 +137,8 @@ fn starts_joined(
     Ok((refused, large == before))
 }
 
-/// What merging an entry into bounds of R8G8B8 images with a great alignment and a great divisor answers.
+/// What merging an entry into bounds of R8G8B8 images with a great alignment and a great divisor
+/// answers.
 fn with_great_multiples(asked: Entry) -> Result<(), Field> {
     let three = linear(PixelFormat::R8G8B8);
     let mut bounds = ImageBounds::of(&three);
@@ -230,7 +232,8 @@ fn read(format: PixelFormat, sizes: &[Size]) -> BoundsRead {
     kept
 }
 
-/// The sides and the row of the smallest image are told where they don't fit into 32 bits too; nobody's bounds are the format's.
+/// The sides and the row of the smallest image are told where they don't fit into 32 bits too;
+/// nobody's bounds are the format's.
 #[test]
 fn least_images(rt: HostRuntime) {
     let size = Size {

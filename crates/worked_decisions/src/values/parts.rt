@@ -1,4 +1,5 @@
-//! Platforms and constraints that are made of parts, beside those that records state, and parts that make none.
+//! Platforms and constraints that are made of parts, beside those that records state, and parts
+//! that make none.
 
 use crate::values::equal::{asked, had};
 use crate::values::rows::are_equal;
@@ -66,7 +67,8 @@ fn same_platform(alloc: Global) -> Result<bool, Fail> {
     Ok(made.is_ok_and(|platform| platform.is_same(&stated)))
 }
 
-// A heap type, the ids of its heaps, pairs and colour spaces that make no platform, and the field that is amiss.
+// A heap type, the ids of its heaps, pairs and colour spaces that make no platform, and the field
+// that is amiss.
 const NO_PLATFORMS: [(&str, &[u64], &[Pair], &[ColourSpace], Field); 6] = [
     ("a", &[], &[R8], &[ColourSpace::Srgb], Field::Heaps),
     ("a", &[1, 2, 1], &[R8], &[ColourSpace::Srgb], Field::Heaps),
@@ -92,7 +94,8 @@ fn platforms(rt: HostRuntime) -> Result<(), Fail> {
     Ok(())
 }
 
-/// The participant that permits the heap a#1, without entries or with the entries of a record, once or twice.
+/// The participant that permits the heap a#1, without entries or with the entries of a record, once
+/// or twice.
 fn participant(
     alloc: Global,
     families: u8,
@@ -134,7 +137,8 @@ fn same_participant(alloc: Global) -> Result<bool, Fail> {
     Ok(made.is_ok_and(|constraints| constraints.is_same(&stated)))
 }
 
-// Usages as bits, how often the entries of the record stand, and the field that is amiss, if one is.
+// Usages as bits, how often the entries of the record stand, and the field that is amiss, if one
+// is.
 const PARTICIPANTS: [(u8, usize, Option<Field>); 5] = [
     (0, 0, Some(Field::Usage)),
     (3, 0, Some(Field::Usage)),

@@ -1,5 +1,6 @@
-//! The best settings that an aggregate answers, and whether a platform can provide settings, as they were worked out by hand, on a
-//! platform of one heap and two formats. What a search chooses is shown by reports (`tests/values`).
+//! The best settings that an aggregate answers, and whether a platform can provide settings, as
+//! they were worked out by hand, on a platform of one heap and two formats. What a search chooses
+//! is shown by reports (`tests/values`).
 
 use crate::records::{asked, had};
 use crate::values::rows::are_equal;
@@ -112,8 +113,8 @@ const CAMERA: &str =
 const ANY_IMAGE: &str =
     r#"{"usage":["cpu"],"image_format_constraints":[{"pixel_format":"DO_NOT_CARE","color_spaces":["DO_NOT_CARE"]}]}"#;
 
-// What two ask, whether they are all, and what they get. NV12, the first format, is passed by where only R8 is named, and taken where
-// nobody has to name it yet.
+// What two ask, whether they are all, and what they get. NV12, the first format, is passed by where
+// only R8 is named, and taken where nobody has to name it yet.
 const ROWS: [(&str, &str, bool, Result<Told, Reason>); 9] = [
     (
         CAMPS_ON_2,
@@ -214,7 +215,8 @@ fn image_settings(rt: &impl Abort, platform: &Platform) {
     );
 }
 
-// NV12 has two rows and columns at least, of 6 bytes; the platform has one heap, which isn't inaccessible.
+// NV12 has two rows and columns at least, of 6 bytes; the platform has one heap, which isn't
+// inaccessible.
 #[test]
 fn sound_settings(rt: HostRuntime) -> Result<(), Fail> {
     let platform = platform(rt.alloc())?;
