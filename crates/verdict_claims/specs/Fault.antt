@@ -43,6 +43,10 @@ First Holds faults others why = faults why ⊎ (Holds × others why)
 abbrev pub Fails : Type 0 → No → Faults
 Fails Holds number why = (¬ Holds) × (why ≡ number)
 
+-- a test with its number, and what fails where it holds
+abbrev pub Tested : Type 0 → No → Faults → Faults
+Tested Holds number others = First Holds (Fails Holds number) others
+
 -- no test is left
 abbrev pub NoFault : Faults
 NoFault why = ⊥
@@ -53,8 +57,7 @@ AreNamed ms paths = (ps : List Participant) × Names ms paths ps
 
 -- a line's nodes are named, and then it is true
 abbrev pub LineFaults : List Member → Type 0 → LineFacts → Faults
-LineFaults ms True line = First (AreNamed ms line.nodes) (Fails (AreNamed ms line.nodes) WrongNode)
-    (Fails True NoConflict)
+LineFaults ms True line = Tested (AreNamed ms line.nodes) WrongNode (Fails True NoConflict)
 
 -- the lines of a conflict
 abbrev pub lines_of : Conflict → List LineFacts
@@ -77,10 +80,8 @@ namable terms ms c = ms
 
 -- a conflict as one item: its form, then all whom it names, then whether it is true
 abbrev pub ConflictFaults : PlatformFacts → Option Terms → Forest Member → Conflict → Faults
-ConflictFaults platform terms d c =
-    First (HasEachLine platform c) (Fails (HasEachLine platform c) WrongShape)
-    (First (All (λ line. AreNamed (namable terms (settled d) c) line.nodes) (lines_of c))
-    (Fails (All (λ line. AreNamed (namable terms (settled d) c) line.nodes) (lines_of c)) WrongNode)
+ConflictFaults platform terms d c = Tested (HasEachLine platform c) WrongShape
+    (Tested (All (λ line. AreNamed (namable terms (settled d) c) line.nodes) (lines_of c)) WrongNode
     (Fails (IsConflictFor platform terms d c) NoConflict))
 
 -- the items of a refutation as they are listed
@@ -94,8 +95,7 @@ RefutationFaults platform terms (Leaf c ∷ items) (d ∷ ds) why =
     (RefutationFaults platform terms items ds) why
 RefutationFaults platform terms (Split n ∷ items) (d ∷ ds) why =
     MatchOption (choices d) (why ≡ WrongShape)
-    (λ es. First (length es ≡ n) (Fails (length es ≡ n) WrongShape)
-    (RefutationFaults platform terms items (es ++ ds)) why)
+    (λ es. Tested (length es ≡ n) WrongShape (RefutationFaults platform terms items (es ++ ds)) why)
 
 -- something for each of a list: one after the other; where one is
 -- missing, and where one is too many
@@ -157,12 +157,10 @@ HasFittingLines (Some terms) certificate = HasNoLines certificate
 -- the settings are met, and of an initial domain the least of their
 -- offer in their place; then the others
 abbrev pub SettingsFaults : PlatformFacts → Option Terms → List Member → Settings → Faults → Faults
-SettingsFaults platform None ms s others =
-    First (MeetsFor platform None ms s) (Fails (MeetsFor platform None ms s) NotMet)
-    (First (IsLeastAt platform (participants ms) s)
-    (Fails (IsLeastAt platform (participants ms) s) NotLeast) others)
-SettingsFaults platform (Some terms) ms s others = First (MeetsFor platform (Some terms) ms s)
-    (Fails (MeetsFor platform (Some terms) ms s) NotMet) others
+SettingsFaults platform None ms s others = Tested (MeetsFor platform None ms s) NotMet
+    (Tested (IsLeastAt platform (participants ms) s) NotLeast others)
+SettingsFaults platform (Some terms) ms s others =
+    Tested (MeetsFor platform (Some terms) ms s) NotMet others
 
 -- what fails where the choices are a selection with these members
 pub record MembersFault (d : Forest Member) (selection : List ℕ) (faults : List Member → Faults)
@@ -183,10 +181,9 @@ AreFew d = count d ≤ most_selections
 abbrev pub ChoiceFaults : PlatformFacts → Option Terms → Forest Member → List ℕ → Settings
     → CertificateFacts → Faults
 ChoiceFaults platform terms d selection s certificate =
-    First (AreFew d) (Fails (AreFew d) WrongShape)
-    (First (IsSelected d selection) (Fails (IsSelected d selection) WrongShape)
-    (First (HasFittingLines terms certificate)
-    (Fails (HasFittingLines terms certificate) WrongShape)
+    Tested (AreFew d) WrongShape
+    (Tested (IsSelected d selection) WrongShape
+    (Tested (HasFittingLines terms certificate) WrongShape
     (MembersFault d selection (λ ms. SettingsFaults platform terms ms s
     (First (RefutesEarlier (IsConflictFor platform terms) d selection certificate.earlier)
     (EarlierFaults platform terms d selection certificate.earlier)
@@ -195,7 +192,7 @@ ChoiceFaults platform terms d selection s certificate =
 -- that nothing is met, with its refutation
 abbrev pub EmptyFaults : PlatformFacts → Option Terms → Forest Member → List Item → Faults
 EmptyFaults platform terms d items =
-    First (AreFew d) (Fails (AreFew d) WrongShape) (RefutationFaults platform terms items (d ∷ []))
+    Tested (AreFew d) WrongShape (RefutationFaults platform terms items (d ∷ []))
 
 -- more selections than a decision goes through
 abbrev pub AreMany : Forest Member → Type 0
