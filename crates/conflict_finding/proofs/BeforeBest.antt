@@ -27,7 +27,7 @@ use Rattle.verdict_claims.specs.Conflict.{RefusesOffer, RefusesPlace}
 use Rattle.verdict_claims.specs.Line.{LineFacts}
 use Rattle.verdict_claims.specs.Members.{participants}
 use Rattle.conflict_finding.specs.Refusals.{ShareOffer, SharePlace, Ends, EndsAt, AreRefusals}
-use Rattle.verdict_claims.specs.Verdict.{IsBestFor, IsBestOfAll}
+use Rattle.verdict_claims.specs.Verdict.{IsBestFor}
 use Rattle.verdict_claims.proofs.Conflicts.{LineLaws, offer_refused, place_refused, zip_has}
 use Rattle.conflict_finding.proofs.FoundConflicts.{there_is}
 use Rattle.verdict_claims.proofs.Growing.{sub_itself}
@@ -196,7 +196,7 @@ module _ (laws : LineLaws) (platform : PlatformFacts) (ms : List Member) (s : Se
 
 -- without a base a domain is an initial one
 pub best_initial : {B : Type 0} (f : B → BaseFacts) (o : Option B) (platform : PlatformFacts) (nodes : List NodeFacts) (ms : List Member) (s : Settings) → is_some o ≡ false
-    → IsBestFor platform (option_map (terms_of nodes) (option_map f o)) ms s → IsBestOfAll platform ms s
+    → IsBestFor platform (option_map (terms_of nodes) (option_map f o)) ms s → IsBestFor platform None ms s
 best_initial f None platform nodes ms s none best = best
 best_initial f (Some b) platform nodes ms s none best = absurd (cc)
 

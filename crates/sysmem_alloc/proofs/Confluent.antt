@@ -6,7 +6,7 @@ use Rattle.std.specs.List.{AllByRecursion}
 use Rattle.verdict_claims.specs.declared.verdict.Verdict.{Verdict}
 use Rattle.verdict_claims.specs.Base.{terms_of}
 use Rattle.verdict_claims.specs.Laws.{OneAnswer}
-use Rattle.verdict_claims.specs.Verdict.{IsOptimalFor, IsOptimalIn}
+use Rattle.verdict_claims.specs.Verdict.{IsOptimal, IsOptimalIn}
 use Rattle.sysmem_sanitise.specs.Platform.{PlatformFacts}
 use Rattle.sysmem_tree.specs.declared.refusal.Refusal.{Refusal}
 use Rattle.sysmem_tree.specs.Domain.{TreeFacts, HasDomain, host_node, is_ready}
@@ -56,7 +56,7 @@ decision_push (x ∷ ds) e r d is = by (x.domain == r) (decision_push ds e r d) 
 
 -- each verdict that was entered for the initial domain is optimal for it as it is now
 abbrev pub IsRight : PlatformFacts → State → Type 0
-IsRight platform s = (d : Decision) (v : Verdict) → decision_for s.decisions 0 ≡ Some d → d.verdict ≡ Some v → IsOptimalFor platform None (shape_of s.tree.nodes 0) v
+IsRight platform s = (d : Decision) (v : Verdict) → decision_for s.decisions 0 ≡ Some d → d.verdict ≡ Some v → IsOptimal platform None (shape_of s.tree.nodes 0) v
 
 -- the initial domain has no host, and so no base
 no_host : (nodes : List NodeFacts) → IsSomeAnd (slice_get nodes 0) (λ n. (n.birth ≡ None) × (n.domain ≡ 0)) → host_node nodes 0 ≡ None
@@ -78,10 +78,10 @@ same_domain : (s : State) (d : Decision) → IsOfReady s.tree d × (d.domain ≡
 same_domain s d h = (subst (HasDomain s.tree.nodes) h.1 h.0.there, subst (λ r. is_ready s.tree r ≡ true) h.1 h.0.ready)
 
 right_kept : ForestStays → OneForest → (platform : PlatformFacts) (s : State) (e : BookEntry) → IsSoundState s → Allows platform s e → IsRight platform s
-    → (d : Decision) (v : Verdict) → decision_for s.decisions 0 ≡ Some d → d.verdict ≡ Some v → IsOptimalFor platform None (shape_of (after_entry s e).tree.nodes 0) v
+    → (d : Decision) (v : Verdict) → decision_for s.decisions 0 ≡ Some d → d.verdict ≡ Some v → IsOptimal platform None (shape_of (after_entry s e).tree.nodes 0) v
 right_kept stays one platform s e sound ok right d v has is =
     let (there, ready) = same_domain s d (of_decisions (IsOfReady s.tree) s.decisions 0 d sound.decided has) in
-    subst (λ shape. IsOptimalFor platform None shape v) (sym (shape_kept stays one platform s e sound ok there ready)) (right d v has is)
+    subst (λ shape. IsOptimal platform None shape v) (sym (shape_kept stays one platform s e sound ok there ready)) (right d v has is)
 
 right_step : ForestStays → OneForest → (platform : PlatformFacts) (s : State) (e : BookEntry) → IsSoundState s → Allows platform s e → IsRight platform s → IsRight platform (after_entry s e)
 right_step stays one platform s (Acted i deed) sound ok right = λ d v has is. right_kept stays one platform s (Acted i deed) sound ok right d v (same d has) is where
@@ -97,7 +97,7 @@ right_step stays one platform s (Decided c) sound ok right = λ d v has is. elim
   e : Decision
   e = answer_of c
 
-  now : (d : Decision) (v : Verdict) → e ≡ d → e.domain ≡ 0 → d.verdict ≡ Some v → IsOptimalFor platform None (shape_of (after_entry s (Decided c)).tree.nodes 0) v
+  now : (d : Decision) (v : Verdict) → e ≡ d → e.domain ≡ 0 → d.verdict ≡ Some v → IsOptimal platform None (shape_of (after_entry s (Decided c)).tree.nodes 0) v
   now d v same own is =
       let w = accepts one platform s (Decided c) sound ok in
       let right_now = claims_optimal platform s.tree.nodes e.domain (base_of s e.domain) c.claim ok.1 in
@@ -106,8 +106,8 @@ right_step stays one platform s (Decided c) sound ok right = λ d v has is. elim
       let verdict : e.verdict ≡ Some v = ap (λ (z : Decision). z.verdict) same ∙ is in
       let optimal : IsOptimalIn platform s.tree.nodes e.domain (base_of s e.domain) v = subst (λ o. IfSome o (IsOptimalIn platform s.tree.nodes e.domain (base_of s e.domain))) verdict right_now in
       let first : IsOptimalIn platform s.tree.nodes 0 (base_of s 0) v = subst (λ r. IsOptimalIn platform s.tree.nodes r (base_of s r) v) own optimal in
-      let alone : IsOptimalFor platform None (shape_of s.tree.nodes 0) v = subst (λ b. IsOptimalFor platform (option_map (terms_of s.tree.nodes) b) (shape_of s.tree.nodes 0) v) (no_base s sound) first in
-      subst (λ shape. IsOptimalFor platform None shape v) (sym (shape_kept stays one platform s (Decided c) sound ok there ready)) alone
+      let alone : IsOptimal platform None (shape_of s.tree.nodes 0) v = subst (λ b. IsOptimal platform (option_map (terms_of s.tree.nodes) b) (shape_of s.tree.nodes 0) v) (no_base s sound) first in
+      subst (λ shape. IsOptimal platform None shape v) (sym (shape_kept stays one platform s (Decided c) sound ok there ready)) alone
 
 -- what is known of the end of a legal history
 pub record Ends (platform : PlatformFacts) (s : State) (es : List BookEntry) : Type 0 where
@@ -145,5 +145,5 @@ module _ (sound_stays : SoundStays) (ready_stays : ReadyStays) (stays : ForestSt
       record {
         ready = ready;
         answer = λ d e v w has_d has_e is_v is_w. answer platform None (shape_of (replay fs).tree.nodes 0) v w
-            (subst (λ shape. IsOptimalFor platform None shape v) ready.shape (ends_es.right d v has_d is_v)) (ends_fs.right e w has_e is_w);
+            (subst (λ shape. IsOptimal platform None shape v) ready.shape (ends_es.right d v has_d is_v)) (ends_fs.right e w has_e is_w);
       }

@@ -12,7 +12,7 @@ use Rattle.verdict_claims.specs.Base.{BaseFacts, terms_of}
 use Rattle.verdict_claims.specs.Check.{IsProof}
 use Rattle.verdict_claims.specs.Claim.{IsTrueClaim}
 use Rattle.verdict_claims.specs.Members.{members_at}
-use Rattle.verdict_claims.specs.Verdict.{IsOptimalFor, IsOptimalIn}
+use Rattle.verdict_claims.specs.Verdict.{IsOptimal, IsOptimalIn}
 use Rattle.sysmem_sanitise.specs.Platform.{PlatformFacts}
 use Rattle.sysmem_tree.specs.declared.refusal.Refusal.{Refusal}
 use Rattle.sysmem_tree.specs.ActionKind.{Deed}
@@ -98,8 +98,8 @@ same_terms old new acc (Some b) has same =
 still_optimal : (platform : PlatformFacts) (s u : State) (r : ℕ) (v : Verdict) → base_of u r ≡ base_of s r → shape_of u.tree.nodes r ≡ shape_of s.tree.nodes r
     → option_map (terms_of u.tree.nodes) (base_of s r) ≡ option_map (terms_of s.tree.nodes) (base_of s r) → IsOptimalIn platform s.tree.nodes r (base_of s r) v → IsOptimalIn platform u.tree.nodes r (base_of u r) v
 still_optimal platform s u r v base shape terms h =
-    subst (λ t. IsOptimalFor platform t (shape_of u.tree.nodes r) v) (sym (ap (option_map (terms_of u.tree.nodes)) base ∙ terms))
-    (subst (λ d. IsOptimalFor platform (option_map (terms_of s.tree.nodes) (base_of s r)) d v) (sym shape) h)
+    subst (λ t. IsOptimal platform t (shape_of u.tree.nodes r) v) (sym (ap (option_map (terms_of u.tree.nodes)) base ∙ terms))
+    (subst (λ d. IsOptimal platform (option_map (terms_of s.tree.nodes) (base_of s r)) d v) (sym shape) h)
 
 -- and what is true of it
 still_true : (platform : PlatformFacts) (s u : State) (r : ℕ) (c : Claim) → base_of u r ≡ base_of s r → shape_of u.tree.nodes r ≡ shape_of s.tree.nodes r

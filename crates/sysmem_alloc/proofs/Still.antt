@@ -10,7 +10,7 @@ use Rattle.verdict_claims.specs.declared.certificate.Claim.{Claim}
 use Rattle.verdict_claims.specs.Base.{Terms, terms_of}
 use Rattle.verdict_claims.specs.Check.{IsProof}
 use Rattle.verdict_claims.specs.Claim.{IsTrueClaim}
-use Rattle.verdict_claims.specs.Verdict.{IsOptimalFor}
+use Rattle.verdict_claims.specs.Verdict.{IsOptimal}
 use Rattle.sysmem_sanitise.specs.Platform.{PlatformFacts}
 use Rattle.sysmem_tree.specs.Forest.{Forest}
 use Rattle.sysmem_tree.specs.Shape.{Member, shape_of}
@@ -33,9 +33,9 @@ fit_is_right b f c still = record {
   proved = λ h. record { optimal = optimal h.optimal; proved = is_proved h.proved };
   right = λ h. record { optimal = optimal h.optimal; proved = elim h.proved [ inl bare ↦ inl bare | inr proof ↦ inr (is_proved proof) ] };
 } where
-  optimal : IsOptimalFor f.platform (option_map (terms_of f.tree.nodes) f.base) (shape_of f.tree.nodes f.domain) c.verdict
-      → IsOptimalFor b.platform (option_map (terms_of b.state.tree.nodes) (base_of b.state f.domain)) (shape_of b.state.tree.nodes f.domain) c.verdict
-  optimal h = goes_over (λ p t d. IsOptimalFor p t d c.verdict) b f still h
+  optimal : IsOptimal f.platform (option_map (terms_of f.tree.nodes) f.base) (shape_of f.tree.nodes f.domain) c.verdict
+      → IsOptimal b.platform (option_map (terms_of b.state.tree.nodes) (base_of b.state f.domain)) (shape_of b.state.tree.nodes f.domain) c.verdict
+  optimal h = goes_over (λ p t d. IsOptimal p t d c.verdict) b f still h
 
   is_proved : IsProof f.platform (option_map (terms_of f.tree.nodes) f.base) (shape_of f.tree.nodes f.domain) c.verdict c.proof
       → IsProof b.platform (option_map (terms_of b.state.tree.nodes) (base_of b.state f.domain)) (shape_of b.state.tree.nodes f.domain) c.verdict c.proof

@@ -10,7 +10,7 @@ use Rattle.verdict_claims.specs.declared.verdict.Verdict.{Verdict}
 use Rattle.verdict_claims.specs.declared.verdict.Verdict.TheVariants.{Chosen, IntersectionEmpty, TooMany, Failed, NoMemory}
 use Rattle.verdict_claims.specs.Laws.{OneAnswer}
 use Rattle.verdict_claims.specs.Members.{participants}
-use Rattle.verdict_claims.specs.Verdict.{Meeting, IsChosen, IsRight, MeetsAll, IsBestOfAll, MeetsFixed, IsSameAnswer}
+use Rattle.verdict_claims.specs.Verdict.{Meeting, IsChosen, IsRight, MeetsFor, IsBestFor, MeetsFixed, IsSameAnswer}
 use Rattle.verdict_claims.proofs.Walks.{three_cases}
 
 module _ (Met Best : Meeting) (meets : (ms : List Member) (s : Settings) → Best ms s → Met ms s) (one : (ms : List Member) (s t : Settings) → Best ms s → Best ms t → s ≡ t) where
@@ -43,6 +43,6 @@ module _ (Met Best : Meeting) (meets : (ms : List Member) (s : Settings) → Bes
   one_right d TooMany NoMemory x y = absurd y
 
 pub one_answer : OneBest → OneAnswer
-one_answer best platform None d v w = one_right (MeetsAll platform) (IsBestOfAll platform) (λ ms s is. is.meets)
+one_answer best platform None d v w = one_right (MeetsFor platform None) (IsBestFor platform None) (λ ms s is. is.meets)
     (λ ms s t a b. best true platform (participants ms) s t a b) d v w
 one_answer best platform (Some terms) d v w = one_right (MeetsFixed platform terms) (MeetsFixed platform terms) (λ ms s met. met) (λ ms s t a b. a.same ∙ sym b.same) d v w

@@ -20,7 +20,7 @@ use Rattle.verdict_claims.specs.declared.conflict.Conflict.{Conflict}
 use Rattle.verdict_claims.specs.declared.conflict.Conflict.TheVariants.{Count, Places, Offers, Fixed}
 use Rattle.verdict_claims.specs.Conflict.{RefusesPlace, RefusesOffer, IsConflict}
 use Rattle.verdict_claims.specs.Members.{participants}
-use Rattle.verdict_claims.specs.Verdict.{IsForestUnmet, MeetsAll}
+use Rattle.verdict_claims.specs.Verdict.{IsForestUnmet, MeetsFor}
 use Rattle.verdict_claims.proofs.Growing.{settled_grows, sub_itself}
 use Rattle.verdict_claims.proofs.Naming.{named_of}
 use Rattle.verdict_claims.proofs.Walks.{whole_alone}
@@ -96,7 +96,7 @@ module _ (laws : LineLaws) (platform : PlatformFacts) where
     by (Some es) is none = absurd (cc (none))
 
   -- a conflict of an initial domain is true
-  pub conflict_unmet : (d : Forest Member) (c : Conflict) → IsConflict platform d c → IsForestUnmet (MeetsAll platform) d
+  pub conflict_unmet : (d : Forest Member) (c : Conflict) → IsConflict platform d c → IsForestUnmet (MeetsFor platform None) d
   conflict_unmet d c conflict sel e t s =
       conflict_clash d c conflict true (settled e) t (settled_grows sel d e s.leads) (λ whole. (same_end d e sel s whole, refl))
 

@@ -28,7 +28,7 @@ use Rattle.verdict_claims.specs.declared.conflict.Conflict.{Conflict}
 use Rattle.verdict_claims.specs.Conflict.{RefusesPlace, RefusesOffer, IsConflictFor}
 use Rattle.verdict_claims.specs.Laws.{ConflictsAreTrue, TestsAreExact}
 use Rattle.verdict_claims.specs.Members.{participants}
-use Rattle.verdict_claims.specs.Verdict.{IsForestUnmet, IsOptimalFor, MeetsFor, IsBestFor}
+use Rattle.verdict_claims.specs.Verdict.{IsForestUnmet, IsOptimal, MeetsFor, IsBestFor}
 use Rattle.verdict_claims.proofs.Conflicts.{LineLaws, offer_refused, place_refused, conflict_unmet, conflict_leaves_none, zip_has}
 use Rattle.verdict_claims.proofs.Fixing.{fixed_conflict_unmet, fixed_conflict_leaves_none}
 use Rattle.verdict_claims.proofs.Growing.{sub_itself}
@@ -117,9 +117,9 @@ module _ (laws : LineLaws) (platform : PlatformFacts) where
 -- what is tested of a choice, and of a refutation
 record AreExact (platform : PlatformFacts) (terms : Option Terms) (d : Forest Member) : Type 0 where
   chosen : (chosen : ChosenFacts) (certificate : CertificateFacts) → ChoicePasses platform terms d chosen.selection chosen.settings certificate
-      ↔ (IsOptimalFor platform terms d (verdicts.Chosen chosen) × IsCertificate platform terms d chosen.selection chosen.settings certificate)
+      ↔ (IsOptimal platform terms d (verdicts.Chosen chosen) × IsCertificate platform terms d chosen.selection chosen.settings certificate)
   empty : (items : List Item) → RefutationPasses platform terms d items
-      ↔ (IsOptimalFor platform terms d verdicts.IntersectionEmpty × IsRefutation platform terms d items)
+      ↔ (IsOptimal platform terms d verdicts.IntersectionEmpty × IsRefutation platform terms d items)
 
 parts_are_exact : LineLaws → (platform : PlatformFacts) (terms : Option Terms) (d : Forest Member) → AreExact platform terms d
 parts_are_exact laws platform terms d = record {
@@ -149,7 +149,7 @@ parts_are_exact laws platform terms d = record {
 
 -- each kind of verdict passes by its own kind of proof
 verdict_exact : (platform : PlatformFacts) (terms : Option Terms) (d : Forest Member) → AreExact platform terms d → (v : Verdict) (proof : Proof)
-    → VerdictPasses platform terms d v proof ↔ (IsOptimalFor platform terms d v × IsProof platform terms d v proof)
+    → VerdictPasses platform terms d v proof ↔ (IsOptimal platform terms d v × IsProof platform terms d v proof)
 verdict_exact platform terms d parts (verdicts.Chosen chosen) (proves.Choice certificate) = parts.chosen chosen certificate
 verdict_exact platform terms d parts verdicts.IntersectionEmpty (proves.Empty items) = parts.empty items
 verdict_exact platform terms d parts verdicts.TooMany proves.Nothing = (λ many. (many, tt), λ p. p.0)

@@ -17,13 +17,13 @@ use Rattle.verdict_claims.specs.declared.verdict.Verdict.TheVariants as verdicts
 use Rattle.verdict_claims.specs.Base.{BaseFacts, Terms, IsGivenBase, terms_of}
 use Rattle.verdict_claims.specs.Check.{IsProof}
 use Rattle.verdict_claims.specs.Laws.{OptimalHasProof}
-use Rattle.verdict_claims.specs.Verdict.{IsOptimalFor}
+use Rattle.verdict_claims.specs.Verdict.{IsOptimal}
 use Rattle.verdict_claims.proofs.Certifying.{certified}
 use Rattle.verdict_claims.proofs.Refutable.{Apart, FitTerms, refuted}
 use Rattle.verdict_claims.proofs.SettledNodes.{stand_for, no_pairs}
 
 -- of forests
-proved : (platform : PlatformFacts) (terms : Option Terms) (d : Forest Member) (v : Verdict) → FitTerms platform terms → Apart terms d → IsOptimalFor platform terms d v
+proved : (platform : PlatformFacts) (terms : Option Terms) (d : Forest Member) (v : Verdict) → FitTerms platform terms → Apart terms d → IsOptimal platform terms d v
     → (proof : Proof) × IsProof platform terms d v proof
 proved platform terms d (verdicts.Chosen chosen) fit apart optimal = let c = certified platform terms d chosen.selection chosen.settings fit apart optimal.1 in (proves.Choice c.0, c.1)
 proved platform terms d verdicts.IntersectionEmpty fit apart optimal = let r = refuted platform terms fit d apart optimal.1 in (proves.Empty r.0, r.1)

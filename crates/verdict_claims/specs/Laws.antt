@@ -32,12 +32,12 @@ use Rattle.verdict_claims.specs.Conflict.{IsConflictFor}
 use Rattle.verdict_claims.specs.declared.no.No.{No}
 use Rattle.verdict_claims.specs.Fault.{ChoiceFaults, EmptyFaults, VerdictFaults}
 use Rattle.verdict_claims.specs.Verdict.{IsForestUnmet, MeetsFor, MeetsLooselyFor, MeetsSettled}
-use Rattle.verdict_claims.specs.Verdict.{IsOptimalFor, IsOptimalIn, IsSameAnswer}
+use Rattle.verdict_claims.specs.Verdict.{IsOptimal, IsOptimalIn, IsSameAnswer}
 
 -- two optimal verdicts of one domain on the same terms are equal in kind, selection and settings
 abbrev pub OneAnswer : Type 0
 OneAnswer = (platform : PlatformFacts) (terms : Option Terms) (d : Forest Member) (v w : Verdict)
-    → IsOptimalFor platform terms d v → IsOptimalFor platform terms d w → IsSameAnswer v w
+    → IsOptimal platform terms d v → IsOptimal platform terms d w → IsSameAnswer v w
 
 -- cuts lose nothing: where nothing meets what is settled, but for the names of an image, nothing
 -- meets a selection that goes on from there
@@ -104,14 +104,14 @@ pub record AreExactTests (platform : PlatformFacts) (terms : Option Terms)
     (d : Forest Member) : Type 0 where
   pub chosen : (chosen : ChosenFacts) (certificate : CertificateFacts)
       → ChoicePasses platform terms d chosen.selection chosen.settings certificate
-      ↔ (IsOptimalFor platform terms d (verdicts.Chosen chosen)
+      ↔ (IsOptimal platform terms d (verdicts.Chosen chosen)
       × IsCertificate platform terms d chosen.selection chosen.settings certificate)
   pub empty : (items : List Item) → RefutationPasses platform terms d items
-      ↔ (IsOptimalFor platform terms d verdicts.IntersectionEmpty
+      ↔ (IsOptimal platform terms d verdicts.IntersectionEmpty
       × IsRefutation platform terms d items)
   pub verdict : (v : Verdict) (proof : Proof)
       → VerdictPasses platform terms d v proof
-      ↔ (IsOptimalFor platform terms d v × IsProof platform terms d v proof)
+      ↔ (IsOptimal platform terms d v × IsProof platform terms d v proof)
 
 abbrev pub TestsAreExact : Type 0
 TestsAreExact = (platform : PlatformFacts) (terms : Option Terms) (d : Forest Member)

@@ -54,18 +54,6 @@ IsRight Met Best d verdicts.TooMany = most_selections < count d
 IsRight Met Best d verdicts.Failed = ⊥
 IsRight Met Best d verdicts.NoMemory = ⊥
 
--- of an initial domain: settings that meet the participants among the members
-abbrev pub MeetsAll : PlatformFacts → Meeting
-MeetsAll platform ms s = Meets platform (participants ms) s
-
--- but for the names of the image, as long as more members may come
-abbrev pub MeetsAllLoosely : PlatformFacts → Meeting
-MeetsAllLoosely platform ms s = MeetsLoosely platform (participants ms) s
-
--- and the best of them
-abbrev pub IsBestOfAll : PlatformFacts → Meeting
-IsBestOfAll platform ms s = IsBest true platform (participants ms) s
-
 -- of an attached domain: the settings of its terms and no others, where each participant among the
 -- members accepts them and the count suits them together with those accepted before
 pub record MeetsFixed (platform : PlatformFacts) (terms : Terms) (ms : List Member)
@@ -74,25 +62,19 @@ pub record MeetsFixed (platform : PlatformFacts) (terms : Terms) (ms : List Memb
   pub covers : All (CoversOn platform s) (participants ms)
   pub counted : IsCounted (counts_asked (participants (terms.accepted ++ ms))) s.count
 
--- the verdict of an initial domain is optimal
-abbrev pub IsOptimal : PlatformFacts → Forest Member → Verdict → Type 0
-IsOptimal platform = IsRight (MeetsAll platform) (IsBestOfAll platform)
-
--- the verdict of an attached domain is
-abbrev pub IsOptimalFixed : PlatformFacts → Terms → Forest Member → Verdict → Type 0
-IsOptimalFixed platform terms = IsRight (MeetsFixed platform terms) (MeetsFixed platform terms)
-
--- of both kinds of domain: an attached one has terms
+-- settings meet members: of an initial domain, which has no terms, the participants among them
 abbrev pub MeetsFor : PlatformFacts → Option Terms → Meeting
-MeetsFor platform None = MeetsAll platform
+MeetsFor platform None = λ ms s. Meets platform (participants ms) s
 MeetsFor platform (Some terms) = MeetsFixed platform terms
 
+-- the same but for the names of the image, as long as more members may come
 abbrev pub MeetsLooselyFor : PlatformFacts → Option Terms → Meeting
-MeetsLooselyFor platform None = MeetsAllLoosely platform
+MeetsLooselyFor platform None = λ ms s. MeetsLoosely platform (participants ms) s
 MeetsLooselyFor platform (Some terms) = MeetsFixed platform terms
 
+-- the best of the settings that meet members; where there are terms, all that do are theirs
 abbrev pub IsBestFor : PlatformFacts → Option Terms → Meeting
-IsBestFor platform None = IsBestOfAll platform
+IsBestFor platform None = λ ms s. IsBest true platform (participants ms) s
 IsBestFor platform (Some terms) = MeetsFixed platform terms
 
 -- settings meet what choices have settled: with the names of the image where no
@@ -101,14 +83,15 @@ abbrev pub MeetsSettled : PlatformFacts → Option Terms → Forest Member → S
 MeetsSettled platform None d t = MeetsAs (is_none (choices d)) platform (participants (settled d)) t
 MeetsSettled platform (Some terms) d t = MeetsFixed platform terms (settled d) t
 
--- optimal, whichever kind of domain it is
-abbrev pub IsOptimalFor : PlatformFacts → Option Terms → Forest Member → Verdict → Type 0
-IsOptimalFor platform terms = IsRight (MeetsFor platform terms) (IsBestFor platform terms)
+-- the verdict of a domain of this shape is optimal: of an initial one, or of an attached one on
+-- these terms
+abbrev pub IsOptimal : PlatformFacts → Option Terms → Forest Member → Verdict → Type 0
+IsOptimal platform terms = IsRight (MeetsFor platform terms) (IsBestFor platform terms)
 
 -- of a domain of a tree
 abbrev pub IsOptimalIn : PlatformFacts → List NodeFacts → ℕ → Option BaseFacts → Verdict → Type 0
 IsOptimalIn platform nodes domain base =
-    IsOptimalFor platform (option_map (terms_of nodes) base) (shape_of nodes domain)
+    IsOptimal platform (option_map (terms_of nodes) base) (shape_of nodes domain)
 
 -- two verdicts are equal in kind, selection and settings, whatever proves them
 abbrev pub IsSameAnswer : Verdict → Verdict → Type 0

@@ -1,5 +1,5 @@
 -- The lines end at the offer and the place of the settings.
-use Rattle.std.proofs.Common.{◌≡◌, true, [], sym, ◌∙◌, subst}
+use Rattle.std.proofs.Common.{◌≡◌, true, None, [], sym, ◌∙◌, subst}
 use Rattle.sysmem_memory.specs.Listed.{places_of}
 use Rattle.sysmem_sanitise.specs.Platform.{offers_of}
 use Rattle.std.proofs.lemmas.Option.{same_Some}
@@ -7,7 +7,7 @@ use Rattle.sysmem_tree.specs.Forest.{settled}
 use Rattle.verdict_claims.specs.Base.{IsElsewhere}
 use Rattle.verdict_claims.specs.Conflict.{RefusesOffer, RefusesPlace}
 use Rattle.verdict_claims.specs.FirstConflict.{IsOfferLineGiven, IsPlaceLineGiven}
-use Rattle.verdict_claims.specs.Verdict.{IsBestOfAll}
+use Rattle.verdict_claims.specs.Verdict.{IsBestFor}
 use Rattle.conflict_finding.proofs.BeforeBest.{before_initial, best_initial, offers_before, places_before}
 use Rattle.verdict_claims.proofs.Conflicts.{LineLaws}
 use Rattle.conflict_finding.proofs.FirstKinds.{refusals_weaker}
@@ -34,7 +34,7 @@ returns c = λ members selects earlier.
     let laws : LineLaws = record { offer = c.offer_line_leaves_none.ensures; place = c.place_line_leaves_none.ensures; count = c.count_line_leaves_none.ensures; unnamed = c.unnamed_line_leaves_none.ensures } in
     let none = sym c.is_some.ensures ∙ c.if-is_some.false in
     let same : c.requires.best.members ≡ members = same_Some c.requires.best.members members (sym c.requires.best.selects.leads ∙ selects.leads) in
-    let best = subst (λ e. IsBestOfAll c.args.platform.now (settled e) c.args.settings.now) same
+    let best = subst (λ e. IsBestFor c.args.platform.now None (settled e) c.args.settings.now) same
     (best_initial _ c.args.base c.args.platform.now c.args.tree.now.nodes (settled c.requires.best.members) c.args.settings.now none c.requires.best.best) in
     let one = found_at c.args.tree.now.nodes members [] c.in_ok-nodes.nodes.items c.deref.result.now c.deref.ensures.value
     (c.in_ok-nodes.ensures members [] selects.leads (no_nodes (IsElsewhere c.args.tree.now.nodes c.args.domain)) no_pairs) in
