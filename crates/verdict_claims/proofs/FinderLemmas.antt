@@ -25,7 +25,7 @@ use Rattle.verdict_claims.specs.Certificate.{Conflicts, Refutes, RefutesEarlier}
 use Rattle.verdict_claims.specs.Line.{LineFacts}
 use Rattle.verdict_claims.specs.declared.conflict.Conflict.TheVariants.{Count, Places, Offers}
 use Rattle.verdict_claims.specs.Conflict.{RefusesPlace, RefusesOffer}
-use Rattle.verdict_claims.specs.Finder.{SomeAreNamed, has_entry, BoundsAreOfSome, ReasonsAreConflicts, SplitsRefute, EarlierGrows}
+use Rattle.verdict_claims.specs.Finder.{SomeAreNamed, has_entry, BoundsAreOfSome, ReasonsAreConflicts}
 use Rattle.verdict_claims.specs.Members.{participants}
 use Rattle.verdict_claims.specs.Naming.{same_path, asked_at}
 use Rattle.verdict_claims.proofs.Cutting.{some_of_sublist}
@@ -99,11 +99,16 @@ module _ (L : Conflicts) where
   refute_each (e ∷ es) [] zip = absurd zip
   refute_each (e ∷ es) (r ∷ rs) zip = refutes_append r (flat_map (λ items. items) rs) (e ∷ []) es zip.0 (refute_each es rs zip.1)
 
-pub splits_refute : SplitsRefute
+-- a split and behind it refutations of each choice refute a forest
+pub splits_refute : (L : Conflicts) (d : Forest Member) (es : List (Forest Member)) (rs : List (List Item)) → choices d ≡ Some es
+    → AllZip (λ e items. Refutes L items (e ∷ [])) es rs → Refutes L (Split (length es) ∷ flat_map (λ items. items) rs) (d ∷ [])
 splits_refute L d es rs open' zip = subst (λ o. IsSomeAnd o (λ fs. (length fs ≡ length es) × Refutes L (flat_map (λ items. items) rs) (fs ++ []))) (sym open')
     (refl, subst (Refutes L (flat_map (λ items. items) rs)) (sym (append-nil es)) (refute_each L es rs zip))
 
-pub earlier_grows : EarlierGrows
+-- where refutations of the choices before one are followed by those after it, they refute what is
+-- before the selection from here on
+pub earlier_grows : (L : Conflicts) (d e : Forest Member) (es : List (Forest Member)) (c : ℕ) (cs : List ℕ) (rs : List (List Item)) (rss : List (List (List Item)))
+    → choices d ≡ Some es → slice_get es c ≡ Some e → AllZip (λ e items. Refutes L items (e ∷ [])) (take c es) rs → RefutesEarlier L e cs rss → RefutesEarlier L d (c ∷ cs) (rs ∷ rss)
 earlier_grows L d e es c cs rs rss open' here before behind =
     subst (λ o. IsSomeAnd o (λ es. AllZip (λ e items. Refutes L items (e ∷ [])) (take c es) rs × IsSomeAnd (slice_get es c) (λ e. RefutesEarlier L e cs rss))) (sym open')
     (before, subst (λ o. IsSomeAnd o (λ e. RefutesEarlier L e cs rss)) (sym here) behind)

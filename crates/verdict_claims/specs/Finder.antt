@@ -1,8 +1,7 @@
 -- What one who looks for conflicts has to know: whom he can name, and
 -- that what he says of them is one.
-use Rattle.std.specs.Prelude.{◌≡◌, ℕ, ◌≤◌, ◌||◌, ◌==◌, not, Bool, true, List, [], ◌∷◌, length, map}
-use Rattle.std.specs.Prelude.{is_some, is_none, Some, All, filter, take, slice_get}
-use Rattle.std.specs.List.{AllZip, flat_map}
+use Rattle.std.specs.Prelude.{◌≡◌, ℕ, ◌≤◌, ◌||◌, ◌==◌, not, Bool, true, List, map}
+use Rattle.std.specs.Prelude.{is_some, is_none, All, filter}
 use Rattle.sysmem_counts.specs.Bounds.{most_number}
 use Rattle.sysmem_counts.specs.Counts.{IsCountLine, IsFixedCountLine}
 use Rattle.sysmem_counts.specs.declared.constraints.CountConstraints.{CountConstraints}
@@ -19,9 +18,6 @@ use Rattle.sysmem_tree.specs.Forest.{Forest, choices, settled}
 use Rattle.sysmem_tree.specs.Laws.{PathsDiffer}
 use Rattle.sysmem_tree.specs.Shape.{Member}
 use Rattle.sysmem_tree.specs.Sublist.{IsSublist}
-use Rattle.verdict_claims.specs.declared.refutation.Item.{Item}
-use Rattle.verdict_claims.specs.declared.refutation.Item.TheVariants.{Split}
-use Rattle.verdict_claims.specs.Certificate.{Conflicts, Refutes, RefutesEarlier}
 use Rattle.verdict_claims.specs.declared.conflict.Conflict.{Conflict}
 use Rattle.verdict_claims.specs.declared.conflict.Conflict.TheVariants.{Count, Places, Offers}
 use Rattle.verdict_claims.specs.Conflict.{IsConflict}
@@ -77,18 +73,3 @@ ReasonsAreConflicts = (platform : PlatformFacts) (d : Forest Member) (paths : Li
     → Names (settled d) paths (participants (settled d)) → (reason : Reason)
     → IsReason (is_none (choices d)) platform (participants (settled d)) reason
     → (c : Conflict) × IsConflict platform d c × IsOfReason reason c
-
--- a split and behind it refutations of each choice refute a forest
-abbrev pub SplitsRefute : Type 1
-SplitsRefute = (L : Conflicts) (d : Forest Member) (es : List (Forest Member))
-    (rs : List (List Item)) → choices d ≡ Some es
-    → AllZip (λ e items. Refutes L items (e ∷ [])) es rs
-    → Refutes L (Split (length es) ∷ flat_map (λ items. items) rs) (d ∷ [])
-
--- where refutations of the choices before one are followed by those after it, they refute what is
--- before the selection from here on
-abbrev pub EarlierGrows : Type 1
-EarlierGrows = (L : Conflicts) (d e : Forest Member) (es : List (Forest Member)) (c : ℕ)
-    (cs : List ℕ) (rs : List (List Item)) (rss : List (List (List Item))) → choices d ≡ Some es
-    → slice_get es c ≡ Some e → AllZip (λ e items. Refutes L items (e ∷ [])) (take c es) rs
-    → RefutesEarlier L e cs rss → RefutesEarlier L d (c ∷ cs) (rs ∷ rss)
