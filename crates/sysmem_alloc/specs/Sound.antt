@@ -2,6 +2,7 @@
 use Rattle.std.specs.Prelude.{◌≡◌, ◌≢◌, ◌+◌, ◌^◌, ◌<◌, ◌≤◌, ℕ, true, List, [], ◌∷◌, Option, Some}
 use Rattle.std.specs.Prelude.{None, IfSome, length, map, filter, is_some, if◌then◌else◌}
 use Rattle.std.specs.List.{AllByRecursion}
+use Rattle.sysmem_counts.specs.declared.bounds.TheConstants.{BUFFER_COUNT_LIMIT}
 use Rattle.sysmem_image.specs.Bounds.{IsInRange}
 use Rattle.sysmem_merge.specs.declared.settings.Settings.{Settings}
 use Rattle.sysmem_sanitise.specs.Platform.{PlatformFacts}
@@ -55,7 +56,7 @@ standing_of (Some d) = if is_some (choices_of d.verdict) then Chosen else NoneCh
 -- settings that fit their types, with a count from 1 to 128 and a heap of the platform
 pub record AreSettingsOn (platform : PlatformFacts) (s : Settings) : Type 0 where
   pub some : 1 ≤ s.count
-  pub few : s.count ≤ 128
+  pub few : s.count ≤ BUFFER_COUNT_LIMIT
   pub heap : s.place.heap < length platform.heaps
   pub size : s.size_bytes < 2 ^ 64
   pub bounds : IsInRange s.bounds

@@ -16,7 +16,7 @@ use crate::verdicts::{choices_of, entered_for};
 use std::alloc::{AllocError, Global};
 use std::sync::Arc;
 use sysmem_merge::Settings;
-use sysmem_tree::{DomainId, NodeId, Tree};
+use sysmem_tree::{DomainId, MOST_NODES, NodeId, Tree};
 use verdict_claims::{Claim, Verdict};
 
 /// The settings of a verdict that chose.
@@ -73,7 +73,7 @@ pub(crate) fn accepted_in(
     alloc: Global,
     tree: &Tree,
     chosen: &[NodeId],
-    marks: &[bool; 128],
+    marks: &[bool; MOST_NODES],
 ) -> Result<Vec<NodeId>, AllocError>
     requires { All (HasNode tree.now.nodes) chosen.now }
     ensures { IfOk result (λ kept. kept.items ≡ marked_of marks.now chosen.now) }

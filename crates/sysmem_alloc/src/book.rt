@@ -48,7 +48,7 @@ pub struct Book {
     chosen: Vec<NodeId>,
     /// As long as a domain waits, the nodes that were open when the accepted participants were
     /// taken for the first one, marked by their numbers.
-    were_open: [bool; 128],
+    were_open: [bool; MOST_NODES],
     /// What `verdict_of` lends for a domain that failed.
     failed: Verdict,
     /// What it lends for one whose decision wanted memory.
@@ -62,6 +62,8 @@ impl Model for Book {
     ghost use Rattle.sysmem_alloc.specs.Book.{BookFacts, IsBook, kept_book};
     ghost use Rattle.sysmem_alloc.specs.Entry.{decision_in};
     ghost use Rattle.sysmem_alloc.specs.State.{chosen_in};
+    ghost use Rattle.sysmem_alloc.specs.declared.book.TheConstants.{ROOM};
+    ghost use Rattle.sysmem_tree.specs.declared.tree.TheConstants.{MOST_NODES};
     ghost use Rattle.verdict_claims.specs.declared.verdict.Verdict.TheVariants as verdicts;
 
     ghost Value = { BookFacts };
@@ -70,9 +72,9 @@ impl Model for Book {
 
     ghost invariant = { λ b.
         IsBook (kept_book b.platform b.tree b.history.items b.waiting.items b.were_open)
-        × (1024 ≤ vec_capacity b.history) × (128 ≤ vec_capacity b.waiting)
+        × (ROOM ≤ vec_capacity b.history) × (MOST_NODES ≤ vec_capacity b.waiting)
         × (b.failed ≡ verdicts.Failed) × (b.no_memory ≡ verdicts.NoMemory)
-        × (128 ≤ vec_capacity b.chosen)
+        × (MOST_NODES ≤ vec_capacity b.chosen)
         × (b.chosen.items ≡ chosen_in b.tree.nodes (filter_map decision_in b.history.items)) };
 }
 
@@ -101,7 +103,7 @@ impl Book {
             history,
             waiting,
             chosen,
-            were_open: [false; 128],
+            were_open: [false; MOST_NODES],
             failed: Verdict::Failed,
             no_memory: Verdict::NoMemory,
         })

@@ -7,7 +7,7 @@ ghost use Rattle.sysmem_alloc.specs.Sound.{roots_of};
 ghost use Rattle.sysmem_alloc.specs.State.{is_open};
 ghost use Rattle.sysmem_tree.specs.Domain.{HasDomain};
 
-use sysmem_tree::{DomainId, Tree};
+use sysmem_tree::{DomainId, MOST_NODES, Tree};
 
 /// Whether the domain of this index is ready.
 fn is_ready_at(tree: &Tree, index: u32) -> bool
@@ -21,13 +21,13 @@ fn is_ready_at(tree: &Tree, index: u32) -> bool
 
 /// The domains that are ready, marked in order of creation of their roots. Whether a single one is
 /// ends at the first of its nodes that is awaited; several are asked for at once.
-pub(crate) fn ready_domains(tree: &Tree) -> [bool; 128]
+pub(crate) fn ready_domains(tree: &Tree) -> [bool; MOST_NODES]
     ensures { (k : ℕ) → get_or result k false ≡ ready_at tree.now k }
 {
     if tree.domain_count() > 1 {
         return tree.ready_domains();
     }
-    let mut marks = [false; 128];
+    let mut marks = [false; MOST_NODES];
     marks[0] = is_ready_at(tree, 0);
     marks
 }
@@ -35,11 +35,11 @@ pub(crate) fn ready_domains(tree: &Tree) -> [bool; 128]
 /// The domain of this index, if it is ready and wasn't, both by marks.
 fn newly_ready_at(
     tree: &Tree,
-    are_ready: &[bool; 128],
-    were_ready: &[bool; 128],
+    are_ready: &[bool; MOST_NODES],
+    were_ready: &[bool; MOST_NODES],
     index: u32,
 ) -> Option<DomainId>
-    requires small { index < 128 }
+    requires small { index < MOST_NODES }
     requires marks { (k : ℕ) → get_or are_ready.now k false ≡ ready_at tree.now k }
     ensures { result ≡ unmarked_at tree.now were_ready.now index }
 {
@@ -48,7 +48,7 @@ fn newly_ready_at(
 }
 
 /// Adds the domains that are ready and aren't marked, in order of creation of their roots.
-pub(crate) fn add_ready(tree: &Tree, marks: &[bool; 128], waiting: &mut Vec<DomainId>)
+pub(crate) fn add_ready(tree: &Tree, marks: &[bool; MOST_NODES], waiting: &mut Vec<DomainId>)
     requires { length waiting.old.items
         + length (ready_unmarked tree.now marks.now 0 (roots_of tree.now))
         ≤ vec_capacity waiting.old }
@@ -91,10 +91,10 @@ fn is_open_at(tree: &Tree, number: u32) -> bool
 }
 
 /// The nodes that are open, marked by their numbers.
-pub(crate) fn open_nodes(tree: &Tree) -> [bool; 128]
+pub(crate) fn open_nodes(tree: &Tree) -> [bool; MOST_NODES]
     ensures { (k : ℕ) → get_or result k false ≡ is_open tree.now.nodes k }
 {
-    let mut marks = [false; 128];
+    let mut marks = [false; MOST_NODES];
     for number in 0..tree.node_count() {
         marks[number as usize] = is_open_at(tree, number);
     }
@@ -107,7 +107,7 @@ pub(crate) fn mark_for_first(
     tree: &Tree,
     none_waited: bool,
     waiting: &[DomainId],
-    were_open: &mut [bool; 128],
+    were_open: &mut [bool; MOST_NODES],
 )
     ensures open { none_waited ≡ true → waiting.now ≢ []
         → (k : ℕ) → get_or were_open.new k false ≡ is_open tree.now.nodes k }

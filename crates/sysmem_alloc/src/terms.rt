@@ -6,7 +6,7 @@ ghost use Rattle.verdict_claims.specs.Members.{members_at};
 ghost use Rattle.sysmem_tree.specs.Nodes.{HasNode};
 
 use sysmem_merge::Settings;
-use sysmem_tree::{NodeId, Tree};
+use sysmem_tree::{MOST_NODES, NodeId, Tree};
 
 /// Whether settings are the same.
 pub(crate) fn are_same_settings(settings: &Settings, other: &Settings) -> bool
@@ -20,7 +20,7 @@ pub(crate) fn are_same_settings(settings: &Settings, other: &Settings) -> bool
 pub(crate) fn accept_same(
     tree: &Tree,
     chosen: &[NodeId],
-    marks: &[bool; 128],
+    marks: &[bool; MOST_NODES],
     others: &Tree,
     accepted: &[NodeId],
 ) -> bool

@@ -1,6 +1,7 @@
 -- What an attached domain is decided on.
 use Rattle.std.specs.Prelude.{◌≡◌, ◌≢◌, ◌^◌, ◌<◌, ◌≤◌, ℕ, List, length, Option, Some, None, All}
 use Rattle.std.specs.Prelude.{AllPairs, IsSome, IsSomeAnd, slice_get}
+use Rattle.sysmem_counts.specs.declared.bounds.TheConstants.{BUFFER_COUNT_LIMIT}
 use Rattle.sysmem_image.specs.Bounds.{IsInRange}
 use Rattle.sysmem_merge.specs.declared.settings.Settings.{Settings}
 use Rattle.sysmem_sanitise.specs.Platform.{PlatformFacts}
@@ -33,7 +34,7 @@ IsElsewhere nodes domain i = IsSomeAnd (slice_get nodes i) (λ n. n.domain ≢ d
 pub record IsBase (platform : PlatformFacts) (nodes : List NodeFacts) (domain : ℕ)
     (base : BaseFacts) : Type 0 where
   pub some : 1 ≤ base.settings.count
-  pub few : base.settings.count ≤ 128
+  pub few : base.settings.count ≤ BUFFER_COUNT_LIMIT
   pub heap : base.settings.place.heap < length platform.heaps
   pub size : base.settings.size_bytes < 2 ^ 64
   pub bounds : IsInRange base.settings.bounds

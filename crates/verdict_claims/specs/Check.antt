@@ -10,6 +10,7 @@ use Rattle.sysmem_tree.specs.Selection.{IsSelection}
 use Rattle.sysmem_tree.specs.Shape.{Member}
 use Rattle.verdict_claims.specs.declared.certificate.Proof.{Proof}
 use Rattle.verdict_claims.specs.declared.certificate.Proof.TheVariants as proves
+use Rattle.verdict_claims.specs.declared.verdict.TheConstants.{MOST_SELECTIONS}
 use Rattle.verdict_claims.specs.declared.verdict.Verdict.{Verdict}
 use Rattle.verdict_claims.specs.declared.verdict.Verdict.TheVariants as verdicts
 use Rattle.verdict_claims.specs.Base.{Terms}
@@ -17,7 +18,7 @@ use Rattle.verdict_claims.specs.declared.refutation.Item.{Item}
 use Rattle.verdict_claims.specs.CertificateFacts.{CertificateFacts}
 use Rattle.verdict_claims.specs.Certificate.{IsCertificate, IsRefutation}
 use Rattle.verdict_claims.specs.Members.{participants}
-use Rattle.verdict_claims.specs.Verdict.{Meeting, MeetsFixed, most_selections}
+use Rattle.verdict_claims.specs.Verdict.{Meeting, MeetsFixed}
 
 -- settings that meet participants, and than which no others that do, of the same
 -- offer in the same place, are better
@@ -44,13 +45,13 @@ pub record IsFit (platform : PlatformFacts) (terms : Option Terms) (d : Forest M
 abbrev pub ChoicePasses : PlatformFacts → Option Terms → Forest Member → List ℕ → Settings
     → CertificateFacts → Type 0
 ChoicePasses platform terms d selection s certificate =
-    (count d ≤ most_selections) × IsFit platform terms d selection s
+    (count d ≤ MOST_SELECTIONS) × IsFit platform terms d selection s
     × IsCertificate platform terms d selection s certificate
 
 -- that nothing is met passes: there are few enough selections, and the items refute the forest
 abbrev pub RefutationPasses : PlatformFacts → Option Terms → Forest Member → List Item → Type 0
 RefutationPasses platform terms d items =
-    (count d ≤ most_selections) × IsRefutation platform terms d items
+    (count d ≤ MOST_SELECTIONS) × IsRefutation platform terms d items
 
 -- a verdict passes with what proves it: more selections than a decision goes through need no proof,
 -- and what failed or wanted memory never does
@@ -59,7 +60,7 @@ VerdictPasses platform terms d (verdicts.Chosen chosen) (proves.Choice certifica
     ChoicePasses platform terms d chosen.selection chosen.settings certificate
 VerdictPasses platform terms d verdicts.IntersectionEmpty (proves.Empty items) =
     RefutationPasses platform terms d items
-VerdictPasses platform terms d verdicts.TooMany proves.Nothing = most_selections < count d
+VerdictPasses platform terms d verdicts.TooMany proves.Nothing = MOST_SELECTIONS < count d
 VerdictPasses platform terms d v proof = ⊥
 
 -- what proves a verdict of its kind

@@ -14,6 +14,7 @@ use Rattle.verdict_claims.specs.declared.no.No.TheVariants.{WrongShape, WrongNod
 use Rattle.verdict_claims.specs.declared.no.No.TheVariants.{NotMet, Missing, NotLeast}
 use Rattle.verdict_claims.specs.declared.certificate.Proof.{Proof}
 use Rattle.verdict_claims.specs.declared.certificate.Proof.TheVariants as proves
+use Rattle.verdict_claims.specs.declared.verdict.TheConstants.{MOST_SELECTIONS}
 use Rattle.verdict_claims.specs.declared.verdict.Verdict.{Verdict}
 use Rattle.verdict_claims.specs.declared.verdict.Verdict.TheVariants as verdicts
 use Rattle.verdict_claims.specs.Base.{Terms}
@@ -28,7 +29,7 @@ use Rattle.verdict_claims.specs.declared.conflict.Conflict.TheVariants.{Count, P
 use Rattle.verdict_claims.specs.Conflict.{RefusesPlace, RefusesOffer, IsConflictFor}
 use Rattle.verdict_claims.specs.Members.{participants}
 use Rattle.verdict_claims.specs.Naming.{Names}
-use Rattle.verdict_claims.specs.Verdict.{MeetsFor, most_selections}
+use Rattle.verdict_claims.specs.Verdict.{MeetsFor}
 
 -- which numbers a test, or a walk over tests, fails with
 abbrev pub Faults : Type 1
@@ -175,7 +176,7 @@ IsSelected d selection = (members : Forest Member) × IsSelection d selection me
 
 -- there are few enough selections
 abbrev pub AreFew : Forest Member → Type 0
-AreFew d = count d ≤ most_selections
+AreFew d = count d ≤ MOST_SELECTIONS
 
 -- a choice with its certificate: its form, its settings, what is earlier, the lines
 abbrev pub ChoiceFaults : PlatformFacts → Option Terms → Forest Member → List ℕ → Settings
@@ -196,7 +197,7 @@ EmptyFaults platform terms d items =
 
 -- more selections than a decision goes through
 abbrev pub AreMany : Forest Member → Type 0
-AreMany d = most_selections < count d
+AreMany d = MOST_SELECTIONS < count d
 
 -- a verdict with what proves it. One with a proof of another kind has the wrong shape, and so
 -- has what failed or wanted memory.

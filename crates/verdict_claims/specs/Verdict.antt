@@ -11,6 +11,7 @@ use Rattle.sysmem_tree.specs.Forest.{Forest, choices, settled, count}
 use Rattle.sysmem_tree.specs.Node.{NodeFacts}
 use Rattle.sysmem_tree.specs.Selection.{IsSelection, IsEarlierSelection}
 use Rattle.sysmem_tree.specs.Shape.{Member, shape_of}
+use Rattle.verdict_claims.specs.declared.verdict.TheConstants.{MOST_SELECTIONS}
 use Rattle.verdict_claims.specs.declared.verdict.Verdict.{Verdict}
 use Rattle.verdict_claims.specs.declared.verdict.Verdict.TheVariants as verdicts
 use Rattle.verdict_claims.specs.Base.{BaseFacts, Terms, terms_of}
@@ -39,18 +40,14 @@ pub record IsChosen (Met Best : Meeting) (d : Forest Member) (selection : List �
   pub best : Best (settled members) s
   pub first : IsUnmetBefore Met d selection
 
--- the most selections that a decision goes through
-abbrev pub most_selections : ℕ
-most_selections = 4096
-
 -- a verdict is right for a forest: too many exactly where there are more selections than a decision
 -- goes through; else the first selection that is met, with the best settings for it, or none where
 -- none is. What failed or wanted memory isn't.
 abbrev pub IsRight : Meeting → Meeting → Forest Member → Verdict → Type 0
 IsRight Met Best d (verdicts.Chosen chosen) =
-    (count d ≤ most_selections) × IsChosen Met Best d chosen.selection chosen.settings
-IsRight Met Best d verdicts.IntersectionEmpty = (count d ≤ most_selections) × IsForestUnmet Met d
-IsRight Met Best d verdicts.TooMany = most_selections < count d
+    (count d ≤ MOST_SELECTIONS) × IsChosen Met Best d chosen.selection chosen.settings
+IsRight Met Best d verdicts.IntersectionEmpty = (count d ≤ MOST_SELECTIONS) × IsForestUnmet Met d
+IsRight Met Best d verdicts.TooMany = MOST_SELECTIONS < count d
 IsRight Met Best d verdicts.Failed = ⊥
 IsRight Met Best d verdicts.NoMemory = ⊥
 
