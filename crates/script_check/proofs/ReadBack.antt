@@ -16,7 +16,7 @@ use Rattle.verdict_claims.specs.declared.certificate.Proof.TheVariants as proves
 use Rattle.verdict_claims.specs.declared.verdict.Verdict.{Verdict}
 use Rattle.verdict_claims.specs.declared.verdict.Verdict.TheVariants as verdicts
 use Rattle.sysmem_alloc.specs.Claims.{HasProof, IsRightClaim}
-use Rattle.sysmem_alloc.specs.Decision.{Claimed, Decision, answer_of, decision_for, settings_for, settings_of, verdict_in}
+use Rattle.sysmem_alloc.specs.Decision.{Claimed, DomainVerdict, answer_of, decision_for, settings_for, settings_of, verdict_in}
 use Rattle.sysmem_alloc.specs.Entry.{BookEntry, Acted, Decided}
 use Rattle.sysmem_alloc.specs.History.{Allows, AreAllowed, IsLegal, after_answer, after_entry, replay, replay_from}
 use Rattle.sysmem_alloc.specs.Laws.{LegalIsSound}
@@ -45,7 +45,7 @@ allowed_more platform s [] e all one = (one, tt)
 allowed_more platform s (x ∷ es) e all one = (all.0, allowed_more platform (after_entry s x) es e all.1 one)
 
 -- what a decision chose can be read
-abbrev ChoseReadable : PlatformFacts → Decision → Type 0
+abbrev ChoseReadable : PlatformFacts → DomainVerdict → Type 0
 ChoseReadable platform d = IfSome (settings_of d.verdict) (AreReadableSettings platform)
 
 -- a state that a legal history leads to, and what its decisions chose can be read
@@ -92,11 +92,11 @@ replied_platform s _ r _ (accepts k made deed tree here asks done) = refl
 replied_platform s _ r _ (tells k here asks) = refl
 
 -- what was chosen for a domain can be read
-settings_read : (platform : PlatformFacts) (ds : List Decision) (r : ℕ) → AllByRecursion (ChoseReadable platform) ds → IfSome (settings_for ds r) (AreReadableSettings platform)
+settings_read : (platform : PlatformFacts) (ds : List DomainVerdict) (r : ℕ) → AllByRecursion (ChoseReadable platform) ds → IfSome (settings_for ds r) (AreReadableSettings platform)
 settings_read platform [] r all = tt
 settings_read platform (d ∷ ds) r all = by (d.domain == r) (settings_read platform ds r all.1) where
   by : (t : Bool) → IfSome (settings_for ds r) (AreReadableSettings platform)
-      → IfSome (option_and_then (λ (e : Decision). settings_of e.verdict) (if t then Some d else decision_for ds r)) (AreReadableSettings platform)
+      → IfSome (option_and_then (λ (e : DomainVerdict). settings_of e.verdict) (if t then Some d else decision_for ds r)) (AreReadableSettings platform)
   by true rest = all.0
   by false rest = rest
 

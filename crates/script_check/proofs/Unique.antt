@@ -3,7 +3,7 @@ use Rattle.std.proofs.Common.{◌≡◌, ℕ, ◌+◌, ◌++◌, ◌||◌, List,
 use Rattle.std.specs.Prelude.{IfSome, is_none}
 use Rattle.std.proofs.lemmas.Option.{same_Some}
 use Rattle.sysmem_alloc.proofs.CallerLemmas.{claims_optimal}
-use Rattle.sysmem_alloc.specs.Decision.{Claimed, Decision, answer_of}
+use Rattle.sysmem_alloc.specs.Decision.{Claimed, DomainVerdict, answer_of}
 use Rattle.sysmem_alloc.specs.Entry.{Acted, Decided}
 use Rattle.sysmem_alloc.specs.History.{Allows}
 use Rattle.sysmem_alloc.specs.State.{base_of, next_ready}
@@ -161,10 +161,10 @@ same_verdict NoMemory IntersectionEmpty h = absurd h
 same_verdict NoMemory TooMany h = absurd h
 same_verdict NoMemory Failed h = absurd h
 
-same_decision : (d e : Decision) → d.domain ≡ e.domain → d.verdict ≡ e.verdict → d ≡ e
+same_decision : (d e : DomainVerdict) → d.domain ≡ e.domain → d.verdict ≡ e.verdict → d ≡ e
 same_decision d e own verdict =
-    let first : d ≡ record { domain = e.domain; verdict = d.verdict } = ap (λ (r : ℕ). let z : Decision = record { domain = r; verdict = d.verdict } in z) own in
-    first ∙ ap (λ (v : Option Verdict). let z : Decision = record { domain = e.domain; verdict = v } in z) verdict
+    let first : d ≡ record { domain = e.domain; verdict = d.verdict } = ap (λ (r : ℕ). let z : DomainVerdict = record { domain = r; verdict = d.verdict } in z) own in
+    first ∙ ap (λ (v : Option Verdict). let z : DomainVerdict = record { domain = e.domain; verdict = v } in z) verdict
 
 module _ (one : OneAnswer) (least : CornerIsLeast) where
   -- a domain has one verdict, where memory is not refused
@@ -237,10 +237,10 @@ module _ (one : OneAnswer) (least : CornerIsLeast) where
       let short : is_none (answer_of c).verdict ≡ false = or_right s.starved (is_none (answer_of c).verdict) (unstarved_before number (with_decision s (answer_of c)) t rs text cs rest e) in
       let short' : is_none (answer_of c').verdict ≡ false = or_right s.starved (is_none (answer_of c').verdict) (unstarved_before number (with_decision s (answer_of c')) u rs text' ds rest' f) in
       let same : answer_of c ≡ answer_of c' = one_decision s c c' allowed allowed' short short' in
-      let telling : what ≡ what' = one_telling s.platform (answer_of c).verdict (answer_of c').verdict what what' (ap (λ (z : Decision). z.verdict) same) said said' in
-      let there : Goes number (with_decision s (answer_of c)) rs text' ds u = subst (λ (z : Decision). Goes number (with_decision s z) rs text' ds u) (sym same) rest' in
+      let telling : what ≡ what' = one_telling s.platform (answer_of c).verdict (answer_of c').verdict what what' (ap (λ (z : DomainVerdict). z.verdict) same) said said' in
+      let there : Goes number (with_decision s (answer_of c)) rs text' ds u = subst (λ (z : DomainVerdict). Goes number (with_decision s z) rs text' ds u) (sym same) rest' in
       let (ends, rests) = one_way number (with_decision s (answer_of c)) t u rs text text' cs ds rest there x y e f in
-      (ends, joined (decision_lines s (answer_of c) what) (decision_lines s (answer_of c') what') text text' (ap (λ (z : Decision). decision_lines s z what) same ∙ ap (decision_lines s (answer_of c')) telling) rests)
+      (ends, joined (decision_lines s (answer_of c) what) (decision_lines s (answer_of c') what') text text' (ap (λ (z : DomainVerdict). decision_lines s z what) same ∙ ap (decision_lines s (answer_of c')) telling) rests)
 
   pub one_report : OneReport
   one_report platform rs a b cs ds x y =

@@ -4,7 +4,7 @@ use Rattle.std.specs.Prelude.{IfSome, option_map, option_and_then, if◌then◌e
 use Rattle.std.proofs.lemmas.Option.{same_Some}
 use Rattle.sysmem_alloc.specs.Book.{BookFacts, IsBook}
 use Rattle.sysmem_alloc.proofs.CallerLemmas.{claims_optimal}
-use Rattle.sysmem_alloc.specs.Decision.{Decision, answer_of, decision_for, settings_for, settings_of}
+use Rattle.sysmem_alloc.specs.Decision.{DomainVerdict, answer_of, decision_for, settings_for, settings_of}
 use Rattle.sysmem_alloc.specs.Entry.{BookEntry, Acted, Decided}
 use Rattle.sysmem_alloc.specs.History.{Allows, AreAllowed, after_answer, after_entry, replay_from}
 use Rattle.sysmem_alloc.specs.State.{State, base_of, first_state}
@@ -56,19 +56,19 @@ chosen_corner none platform s r chosen all optimal = by (base_of s r) refl _ opt
   by (Some base) is ms best = subst HasCorner (sym best.same) (base_corner s r base all is)
 
 -- the settings of one decision more are those of the earlier ones or its own
-pushed : (ds : List Decision) (d : Decision) (r : ℕ) (x : Settings) (P : Type 0) → (settings_for ds r ≡ Some x → P) → (settings_of d.verdict ≡ Some x → P)
+pushed : (ds : List DomainVerdict) (d : DomainVerdict) (r : ℕ) (x : Settings) (P : Type 0) → (settings_for ds r ≡ Some x → P) → (settings_of d.verdict ≡ Some x → P)
     → settings_for (ds ++ d ∷ []) r ≡ Some x → P
 pushed [] d r x P old own is = by (d.domain == r) is where
-  by : (b : Bool) → option_and_then (λ (e : Decision). settings_of e.verdict) (if b then Some d else None) ≡ Some x → P
+  by : (b : Bool) → option_and_then (λ (e : DomainVerdict). settings_of e.verdict) (if b then Some d else None) ≡ Some x → P
   by true e = own e
   by false e = absurd (cc)
 pushed (e ∷ ds) d r x P old own is = by (λ h. pushed ds d r x P h own) (e.domain == r) old is where
-  by : ((settings_for ds r ≡ Some x → P) → settings_for (ds ++ d ∷ []) r ≡ Some x → P) → (b : Bool) → (option_and_then (λ (z : Decision). settings_of z.verdict) (if b then Some e else decision_for ds r) ≡ Some x → P)
-      → option_and_then (λ (z : Decision). settings_of z.verdict) (if b then Some e else decision_for (ds ++ d ∷ []) r) ≡ Some x → P
+  by : ((settings_for ds r ≡ Some x → P) → settings_for (ds ++ d ∷ []) r ≡ Some x → P) → (b : Bool) → (option_and_then (λ (z : DomainVerdict). settings_of z.verdict) (if b then Some e else decision_for ds r) ≡ Some x → P)
+      → option_and_then (λ (z : DomainVerdict). settings_of z.verdict) (if b then Some e else decision_for (ds ++ d ∷ []) r) ≡ Some x → P
   by on true h i = h i
   by on false h i = on h i
 
-decided_corners : NoCorner → (platform : PlatformFacts) (s : State) (d : Decision) → HaveCorners s → IfSome d.verdict (IsOptimalIn platform s.tree.nodes d.domain (base_of s d.domain))
+decided_corners : NoCorner → (platform : PlatformFacts) (s : State) (d : DomainVerdict) → HaveCorners s → IfSome d.verdict (IsOptimalIn platform s.tree.nodes d.domain (base_of s d.domain))
     → (x : Settings) → settings_of d.verdict ≡ Some x → HasCorner x
 decided_corners none platform s d all optimal x is = by d.verdict optimal is where
   by : (v : Option Verdict) → IfSome v (IsOptimalIn platform s.tree.nodes d.domain (base_of s d.domain)) → settings_of v ≡ Some x → HasCorner x

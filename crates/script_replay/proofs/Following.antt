@@ -2,7 +2,7 @@
 use Rattle.std.proofs.Common.{◌≡◌, ◌≤◌, ℕ, suc, ◌+◌, ◌++◌, ◌||◌, Bool, true, false, not, List, [], ◌∷◌, length, length-append, Option, get_or, sym, ◌∙◌, ap, subst, arith, append-nil, append_assoc}
 use Rattle.std.specs.Prelude.{is_none}
 use Rattle.sysmem_alloc.specs.Book.{BookFacts, IsBook, entered}
-use Rattle.sysmem_alloc.specs.Decision.{Claimed, Decision, answer_of, choices_of}
+use Rattle.sysmem_alloc.specs.Decision.{Claimed, DomainVerdict, answer_of, choices_of}
 use Rattle.sysmem_alloc.specs.Entry.{Decided}
 use Rattle.sysmem_alloc.specs.Laws.{FewEntries}
 use Rattle.sysmem_sanitise.specs.Platform.{PlatformFacts}
@@ -48,7 +48,7 @@ enters_as s t c what before between after marks said line marked failed is = rec
   put = all ∙ (ap (λ ts. ts ++ failed_lines (collection_tree s) (collection_tree (with_decision s d))) line
       ∙ append_assoc before (domain_line (path_of (collection_tree s).nodes d.domain) what) (failed_lines (collection_tree s) (collection_tree (with_decision s d))));
 } where
-  d : Decision
+  d : DomainVerdict
   d = answer_of c
 
   all : after ≡ between ++ failed_lines (collection_tree s) (collection_tree (with_decision s d))

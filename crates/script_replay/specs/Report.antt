@@ -2,7 +2,7 @@
 -- that follow; and what was decided.
 use Rattle.std.specs.Prelude.{◌≡◌, ℕ, ◌+◌, ◌++◌, ◌||◌, List, [], ◌∷◌, Bool, Option, Some, None}
 use Rattle.std.specs.Prelude.{codes, filter, flat_map, is_none}
-use Rattle.sysmem_alloc.specs.Decision.{Claimed, Decision, answer_of, choices_of}
+use Rattle.sysmem_alloc.specs.Decision.{Claimed, DomainVerdict, answer_of, choices_of}
 use Rattle.sysmem_alloc.specs.Entry.{Decided}
 use Rattle.sysmem_alloc.specs.History.{Allows}
 use Rattle.sysmem_alloc.specs.Sound.{roots_of}
@@ -43,7 +43,7 @@ pub data Tells (platform : PlatformFacts) : Option Verdict → List ℕ → Type
   wants_memory : Tells platform None (codes "no_memory")
 
 -- a decision was entered
-abbrev pub with_decision : RunState → Decision → RunState
+abbrev pub with_decision : RunState → DomainVerdict → RunState
 with_decision s d = record s {
   book =
       after_decision s.book d (trees.decided (collection_tree s) d.domain (choices_of d.verdict));
@@ -51,7 +51,7 @@ with_decision s d = record s {
 }
 
 -- the lines of a decision: its own, and those of the domains that it makes fail
-abbrev pub decision_lines : RunState → Decision → List ℕ → List ℕ
+abbrev pub decision_lines : RunState → DomainVerdict → List ℕ → List ℕ
 decision_lines s d what = domain_line (path_of (collection_tree s).nodes d.domain) what
     ++ failed_lines (collection_tree s) (collection_tree (with_decision s d))
 

@@ -26,7 +26,7 @@ use Rattle.sysmem_tree.specs.Selection.{IsSelection}
 use Rattle.sysmem_tree.specs.Shape.{Member, by_number, forest_of}
 use Rattle.sysmem_tree.specs.Sublist.{IsSublist, ended, taken, left_out}
 use Rattle.sysmem_tree.specs.Tree.{Applied, applied, decided, decided_domain}
-use Rattle.sysmem_alloc.specs.Decision.{Claimed, Decision, answer_of, choices_of, decision_for, settings_for, settings_of}
+use Rattle.sysmem_alloc.specs.Decision.{Claimed, DomainVerdict, answer_of, choices_of, decision_for, settings_for, settings_of}
 use Rattle.sysmem_alloc.specs.Entry.{BookEntry, Acted, Decided}
 use Rattle.sysmem_alloc.specs.History.{after_answer, after_entry, replay_from, replay, Allows, AreAllowed, IsLegal}
 use Rattle.sysmem_alloc.specs.Laws.{LegalIsSound, LegalAgrees}
@@ -73,7 +73,7 @@ decided_own t r choices domains has = either choices (root_among t r domains has
   either (Some cs) (k, at) = entered_own Chosen t.domains r k at
 
 -- the decision of a domain, with one more entered
-entered_last : (ds : List Decision) (d : Decision) → decision_for ds d.domain ≡ None → decision_for (ds ++ d ∷ []) d.domain ≡ Some d
+entered_last : (ds : List DomainVerdict) (d : DomainVerdict) → decision_for ds d.domain ≡ None → decision_for (ds ++ d ∷ []) d.domain ≡ Some d
 entered_last [] d none = ap (λ b. if b then Some d else None) (eq-eqb d.domain d.domain refl)
 entered_last (x ∷ ds) d none = by (x.domain == d.domain) none (entered_last ds d) where
   by : (b : Bool) → (if b then Some x else decision_for ds d.domain) ≡ None → (decision_for ds d.domain ≡ None → decision_for (ds ++ d ∷ []) d.domain ≡ Some d)
@@ -81,19 +81,19 @@ entered_last (x ∷ ds) d none = by (x.domain == d.domain) none (entered_last ds
   by true e rest = absurd (cc)
   by false e rest = rest e
 
-entered_other : (ds : List Decision) (d : Decision) (r : ℕ) → r ≢ d.domain → decision_for (ds ++ d ∷ []) r ≡ decision_for ds r
+entered_other : (ds : List DomainVerdict) (d : DomainVerdict) (r : ℕ) → r ≢ d.domain → decision_for (ds ++ d ∷ []) r ≡ decision_for ds r
 entered_other [] d r other = ap (λ b. if b then Some d else None) (ne_eqb d.domain r (λ e. other (sym e)))
 entered_other (x ∷ ds) d r other = ap (λ o. if x.domain == r then Some x else o) (entered_other ds d r other)
 
 -- where none is entered, all are of other domains
-pub none_entered : (ds : List Decision) (r : ℕ) → decision_for ds r ≡ None → AllByRecursion (λ (d : Decision). d.domain ≢ r) ds
+pub none_entered : (ds : List DomainVerdict) (r : ℕ) → decision_for ds r ≡ None → AllByRecursion (λ (d : DomainVerdict). d.domain ≢ r) ds
 none_entered [] r none = tt
 none_entered (x ∷ ds) r none = by (x.domain == r) refl none (none_entered ds r) where
-  by : (b : Bool) → (x.domain == r) ≡ b → (if b then Some x else decision_for ds r) ≡ None → (decision_for ds r ≡ None → AllByRecursion (λ (d : Decision). d.domain ≢ r) ds) → AllByRecursion (λ (d : Decision). d.domain ≢ r) (x ∷ ds)
+  by : (b : Bool) → (x.domain == r) ≡ b → (if b then Some x else decision_for ds r) ≡ None → (decision_for ds r ≡ None → AllByRecursion (λ (d : DomainVerdict). d.domain ≢ r) ds) → AllByRecursion (λ (d : DomainVerdict). d.domain ≢ r) (x ∷ ds)
   by true is e rest = absurd (cc)
   by false is e rest = ((λ same. (let own : (x.domain == r) ≡ true = eq-eqb x.domain r same in absurd (cc))), rest e)
 
-undecided_none : (o : Option Decision) → is_undecided (standing_of o) ≡ true → o ≡ None
+undecided_none : (o : Option DomainVerdict) → is_undecided (standing_of o) ≡ true → o ≡ None
 undecided_none None e = refl
 undecided_none (Some d) e = absurd (by (is_some (choices_of d.verdict)) e) where
   by : (b : Bool) → is_undecided (if b then Chosen else NoneChosen) ≡ true → ⊥
@@ -105,10 +105,10 @@ pub none_for : (platform : PlatformFacts) (s : State) (r : ℕ) → AgreesWithTr
 none_for platform s r agrees open' = undecided_none (decision_for s.decisions r) (ap is_undecided (sym (agrees.standing r)) ∙ open')
 
 -- settings of a decision are some on the platform
-pub settings_fit : (platform : PlatformFacts) (nodes : List NodeFacts) (ds : List Decision) (r : ℕ) → AllByRecursion (IsDecisionOn platform nodes) ds → IfSome (settings_for ds r) (AreSettingsOn platform)
+pub settings_fit : (platform : PlatformFacts) (nodes : List NodeFacts) (ds : List DomainVerdict) (r : ℕ) → AllByRecursion (IsDecisionOn platform nodes) ds → IfSome (settings_for ds r) (AreSettingsOn platform)
 settings_fit platform nodes [] r all = tt
 settings_fit platform nodes (d ∷ ds) r all = by (d.domain == r) (settings_fit platform nodes ds r all.1) where
-  by : (b : Bool) → IfSome (settings_for ds r) (AreSettingsOn platform) → IfSome (option_and_then (λ (x : Decision). settings_of x.verdict) (if b then Some d else decision_for ds r)) (AreSettingsOn platform)
+  by : (b : Bool) → IfSome (settings_for ds r) (AreSettingsOn platform) → IfSome (option_and_then (λ (x : DomainVerdict). settings_of x.verdict) (if b then Some d else decision_for ds r)) (AreSettingsOn platform)
   by true rest = all.0.settings
   by false rest = rest
 
@@ -152,14 +152,14 @@ same_numbers : (old new : List NodeFacts) (r : ℕ) → OneForest → IsSameDoma
 same_numbers old new r one same = sym (one new r).numbers ∙ (ap (relabel (λ (l : ℕ × Member). l.0)) same.forest ∙ (one old r).numbers)
 
 -- and a decision of it is one still
-still_decided : (platform : PlatformFacts) (old new : List NodeFacts) (d : Decision) → OneForest → IsSameDomain old new d.domain → IsDecisionOn platform old d → IsDecisionOn platform new d
+still_decided : (platform : PlatformFacts) (old new : List NodeFacts) (d : DomainVerdict) → OneForest → IsSameDomain old new d.domain → IsDecisionOn platform old d → IsDecisionOn platform new d
 still_decided platform old new d one same is = record {
   settings = is.settings;
   selects = subst (λ f. IfSome (choices_of d.verdict) (λ cs. (e : Forest ℕ) × IsSelection f cs e)) (sym (same_numbers old new d.domain one same)) is.selects;
 }
 
 -- who is accepted is some of the chosen still
-still_accepted : (old new : List NodeFacts) (ds : List Decision) (waiting acc : List ℕ) → chosen_in new ds ≡ chosen_in old ds → IsSublist acc (chosen_in old ds)
+still_accepted : (old new : List NodeFacts) (ds : List DomainVerdict) (waiting acc : List ℕ) → chosen_in new ds ≡ chosen_in old ds → IsSublist acc (chosen_in old ds)
     → IsSublist (kept_for waiting acc (open_in new ds)) (chosen_in new ds)
 still_accepted old new ds [] acc same is = sub_filter (is_open new) (chosen_in new ds)
 still_accepted old new ds (w ∷ ws) acc same is = subst (IsSublist acc) (sym same) is
@@ -167,13 +167,13 @@ still_accepted old new ds (w ∷ ws) acc same is = subst (IsSublist acc) (sym sa
 module _ (stays : ForestStays) (one : OneForest) (platform : PlatformFacts) where
   -- the decisions' domains stay
   pub decided_stay : (s : State) (e : trees.HistoryEntry) (u : TreeFacts) → trees.after_entry s.tree e ≡ u → IsSoundState s → trees.Accepts s.tree e
-      → AllByRecursion (λ (d : Decision). IsSameDomain s.tree.nodes u.nodes d.domain) s.decisions
-  decided_stay s e u is sound ok = all_weaken (IsOfReady s.tree) (λ (d : Decision). IsSameDomain s.tree.nodes u.nodes d.domain) s.decisions
+      → AllByRecursion (λ (d : DomainVerdict). IsSameDomain s.tree.nodes u.nodes d.domain) s.decisions
+  decided_stay s e u is sound ok = all_weaken (IsOfReady s.tree) (λ (d : DomainVerdict). IsSameDomain s.tree.nodes u.nodes d.domain) s.decisions
       (λ d ready. subst (λ (x : TreeFacts). IsSameDomain s.tree.nodes x.nodes d.domain) is (stays s.tree e d.domain sound.tree.tree ok ready.there ready.ready)) sound.decided
 
-  all_still : (s : State) (u : TreeFacts) → AgreesWithTree platform s → AllByRecursion (λ (d : Decision). IsSameDomain s.tree.nodes u.nodes d.domain) s.decisions → AllByRecursion (IsDecisionOn platform u.nodes) s.decisions
-  all_still s u agrees same = all_weaken (λ (d : Decision). IsSameDomain s.tree.nodes u.nodes d.domain × IsDecisionOn platform s.tree.nodes d) (IsDecisionOn platform u.nodes) s.decisions
-      (λ d h. still_decided platform s.tree.nodes u.nodes d one h.0 h.1) (all_both (λ (d : Decision). IsSameDomain s.tree.nodes u.nodes d.domain) (IsDecisionOn platform s.tree.nodes) s.decisions same agrees.chosen)
+  all_still : (s : State) (u : TreeFacts) → AgreesWithTree platform s → AllByRecursion (λ (d : DomainVerdict). IsSameDomain s.tree.nodes u.nodes d.domain) s.decisions → AllByRecursion (IsDecisionOn platform u.nodes) s.decisions
+  all_still s u agrees same = all_weaken (λ (d : DomainVerdict). IsSameDomain s.tree.nodes u.nodes d.domain × IsDecisionOn platform s.tree.nodes d) (IsDecisionOn platform u.nodes) s.decisions
+      (λ d h. still_decided platform s.tree.nodes u.nodes d one h.0 h.1) (all_both (λ (d : DomainVerdict). IsSameDomain s.tree.nodes u.nodes d.domain) (IsDecisionOn platform s.tree.nodes) s.decisions same agrees.chosen)
 
   -- after an action
   acted_agrees : (s : State) (i : ℕ) (deed : Deed) (made : Applied) → IsSoundState s → AgreesWithTree platform s → applied s.tree i deed ≡ Ok made → AgreesWithTree platform (after_action s made.tree)
@@ -191,7 +191,7 @@ module _ (stays : ForestStays) (one : OneForest) (platform : PlatformFacts) wher
   -- after a decision
   decided_agrees : (s : State) (e : Claimed) → IsSoundState s → AgreesWithTree platform s → Allows platform s (Decided e) → AgreesWithTree platform (after_entry s (Decided e))
   decided_agrees s e sound agrees ok =
-      let d : Decision = answer_of e in
+      let d : DomainVerdict = answer_of e in
       let optimal = claims_optimal platform s.tree.nodes d.domain (base_of s d.domain) e.claim ok.1 in
       let u : TreeFacts = decided s.tree d.domain (choices_of d.verdict) in
       let fine = accepts one platform s (Decided e) sound ok in
@@ -208,12 +208,12 @@ module _ (stays : ForestStays) (one : OneForest) (platform : PlatformFacts) wher
               (decided_own s.tree d.domain (choices_of d.verdict) sound.tree.domains fine.there ∙ ap standing_of (sym (entered_last s.decisions d none)))
           | inr other ↦ decision_by s.tree d.domain r (choices_of d.verdict) other ∙ (agrees.standing r ∙ ap standing_of (sym (entered_other s.decisions d r other)))
         ];
-        once = subst AreDistinct (sym (map-append (λ (x : Decision). x.domain) s.decisions (d ∷ []))) (apart_append (map (λ (x : Decision). x.domain) s.decisions) (d.domain ∷ []) agrees.once (tt, tt)
+        once = subst AreDistinct (sym (map-append (λ (x : DomainVerdict). x.domain) s.decisions (d ∷ []))) (apart_append (map (λ (x : DomainVerdict). x.domain) s.decisions) (d.domain ∷ []) agrees.once (tt, tt)
             (apart_last s.decisions (none_entered s.decisions d.domain none)));
         chosen = all_append (IsDecisionOn platform u.nodes) s.decisions (d ∷ []) (all_still s u agrees same) (still_decided platform s.tree.nodes u.nodes d one own new, tt);
         accepted = sub_filter (is_open u.nodes) (chosen_in u.nodes (s.decisions ++ d ∷ []));
       } where
-        apart_last : (ds : List Decision) → AllByRecursion (λ (x : Decision). x.domain ≢ e.domain) ds → AllByRecursion (λ x. AllByRecursion (λ y. x ≢ y) (e.domain ∷ [])) (map (λ (x : Decision). x.domain) ds)
+        apart_last : (ds : List DomainVerdict) → AllByRecursion (λ (x : DomainVerdict). x.domain ≢ e.domain) ds → AllByRecursion (λ x. AllByRecursion (λ y. x ≢ y) (e.domain ∷ [])) (map (λ (x : DomainVerdict). x.domain) ds)
         apart_last [] a = tt
         apart_last (x ∷ ds) a = ((a.0, tt), apart_last ds a.1)
 

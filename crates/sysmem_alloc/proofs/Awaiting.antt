@@ -7,7 +7,7 @@ use Rattle.std.proofs.lemmas.Option.{same_Some}
 use Rattle.sysmem_tree.specs.declared.domain.Decision.TheVariants.{Chosen, NoneChosen}
 use Rattle.sysmem_tree.specs.Domain.{HasDomain, decision_of, is_ready, is_undecided, roots_from}
 use Rattle.sysmem_tree.specs.Node.{NodeFacts}
-use Rattle.sysmem_alloc.specs.Decision.{Decision, choices_of, decision_for}
+use Rattle.sysmem_alloc.specs.Decision.{DomainVerdict, choices_of, decision_for}
 use Rattle.sysmem_alloc.specs.History.{replay}
 use Rattle.sysmem_alloc.specs.Laws.{LegalAgrees, LegalIsSound, ReadyWaits}
 use Rattle.sysmem_alloc.specs.Sound.{AreDistinct, IsOfReady, IsSoundState, MayWait, roots_of, standing_of}
@@ -129,29 +129,29 @@ root_here nodes r has = by (slice_get nodes r) refl has where
   by None is h = absurd h
   by (Some n) is h = let z : 0 + r ≡ r = omega arith in subst (λ k. here k (roots_from 0 nodes) ≡ true) z (listed 0 r nodes n is (h ∙ sym z))
 
-abbrev decided_domains : List Decision → List ℕ
-decided_domains ds = map (λ (d : Decision). d.domain) ds
+abbrev decided_domains : List DomainVerdict → List ℕ
+decided_domains ds = map (λ (d : DomainVerdict). d.domain) ds
 
 -- a decision was entered for those that were decided
-is_decided : (r : ℕ) (ds : List Decision) → here r (decided_domains ds) ≡ is_some (decision_for ds r)
+is_decided : (r : ℕ) (ds : List DomainVerdict) → here r (decided_domains ds) ≡ is_some (decision_for ds r)
 is_decided r [] = refl
 is_decided r (d ∷ ds) = by (d.domain == r) (is_decided r ds) where
   by : (b : Bool) → here r (decided_domains ds) ≡ is_some (decision_for ds r) → (if b then true else here r (decided_domains ds)) ≡ is_some (if b then Some d else decision_for ds r)
   by true rest = refl
   by false rest = rest
 
-none_entered : (o : Option Decision) → is_undecided (standing_of o) ≡ true → is_some o ≡ false
+none_entered : (o : Option DomainVerdict) → is_undecided (standing_of o) ≡ true → is_some o ≡ false
 none_entered None e = refl
 none_entered (Some d) e = by (is_some (choices_of d.verdict)) e where
   by : (b : Bool) → is_undecided (if b then Chosen else NoneChosen) ≡ true → true ≡ false
   by true e = absurd (cc)
   by false e = absurd (cc)
 
-many_mapped : (ds : List Decision) → length (decided_domains ds) ≡ length ds
+many_mapped : (ds : List DomainVerdict) → length (decided_domains ds) ≡ length ds
 many_mapped [] = refl
 many_mapped (d ∷ ds) = ap suc (many_mapped ds)
 
-of_decided : (P : ℕ → Type 0) (Q : Decision → Type 0) (ds : List Decision) → ((d : Decision) → Q d → P d.domain) → AllByRecursion Q ds → AllByRecursion P (decided_domains ds)
+of_decided : (P : ℕ → Type 0) (Q : DomainVerdict → Type 0) (ds : List DomainVerdict) → ((d : DomainVerdict) → Q d → P d.domain) → AllByRecursion Q ds → AllByRecursion P (decided_domains ds)
 of_decided P Q [] each all = tt
 of_decided P Q (d ∷ ds) each all = (each d all.0, of_decided P Q ds each all.1)
 

@@ -13,7 +13,7 @@ use Rattle.sysmem_tree.specs.Path.{path_of}
 use Rattle.sysmem_tree.specs.Selection.{after, settled_by}
 use Rattle.sysmem_tree.specs.Shape.{Member, kid_of, before, tree_of, kids_from, rooted, forest_of, members_of, participants_of}
 use Rattle.verdict_claims.specs.Asked.{asks_at}
-use Rattle.sysmem_alloc.specs.Decision.{Decision, choices_of}
+use Rattle.sysmem_alloc.specs.Decision.{DomainVerdict, choices_of}
 use Rattle.sysmem_alloc.specs.State.{chosen_by, chosen_in}
 use Rattle.sysmem_tree.proofs.CallerLemmas.{after_relabel, settled_relabel, all_mapped}
 use Rattle.verdict_claims.proofs.CallerLemmas.{AllIn, in_after, in_settled, in_tree}
@@ -88,7 +88,7 @@ same_participants old new r cs one same =
       paired (l ∷ ls) a b = ((a.0, b.0), paired ls a.1 b.1)
 
 -- so do all decisions of domains that stay
-pub same_chosen : (old new : List NodeFacts) (ds : List Decision) → ((r : ℕ) → AreOneForest old r) → AllByRecursion (λ (d : Decision). IsSameDomain old new d.domain) ds → chosen_in new ds ≡ chosen_in old ds
+pub same_chosen : (old new : List NodeFacts) (ds : List DomainVerdict) → ((r : ℕ) → AreOneForest old r) → AllByRecursion (λ (d : DomainVerdict). IsSameDomain old new d.domain) ds → chosen_in new ds ≡ chosen_in old ds
 same_chosen old new [] one all = refl
 same_chosen old new (d ∷ ds) one all =
     flat_map-cons (chosen_by new) d ds ∙ (ap (λ xs. xs ++ chosen_in new ds) (by (choices_of d.verdict)) ∙ (ap (λ ys. chosen_by old d ++ ys) (same_chosen old new ds one all.1) ∙ sym (flat_map-cons (chosen_by old) d ds))) where

@@ -18,7 +18,7 @@ use Rattle.sysmem_tree.specs.Path.{at_path}
 use Rattle.sysmem_tree.specs.Shape.{shape_of}
 use Rattle.sysmem_tree.specs.Step.{IsInitial}
 use Rattle.sysmem_tree.specs.Tree.{Applied, applied}
-use Rattle.sysmem_alloc.specs.Decision.{Decision, answer_of, decision_for, settings_for}
+use Rattle.sysmem_alloc.specs.Decision.{DomainVerdict, answer_of, decision_for, settings_for}
 use Rattle.sysmem_alloc.specs.Entry.{BookEntry, Acted, Decided, tree_entry}
 use Rattle.sysmem_alloc.specs.History.{after_answer, after_entry, replay_from, replay, Allows, AreAllowed, IsLegal}
 use Rattle.sysmem_alloc.specs.Laws.{InitialShape, Confluence}
@@ -32,18 +32,18 @@ tree_of_replay s [] = refl
 tree_of_replay s (e ∷ es) = tree_of_replay (after_entry s e) es ∙ ap (λ t. trees.replay_from t (map tree_entry es)) (tree_of_entry s e)
 
 -- the decision of a domain is one of the decisions
-of_decisions : (P : Decision → Type 0) (ds : List Decision) (r : ℕ) (d : Decision) → AllByRecursion P ds → decision_for ds r ≡ Some d → P d × (d.domain ≡ r)
+of_decisions : (P : DomainVerdict → Type 0) (ds : List DomainVerdict) (r : ℕ) (d : DomainVerdict) → AllByRecursion P ds → decision_for ds r ≡ Some d → P d × (d.domain ≡ r)
 of_decisions P [] r d all is = absurd (cc)
 of_decisions P (x ∷ ds) r d all is = by (x.domain == r) refl (of_decisions P ds r d all.1) is where
   by : (b : Bool) → (x.domain == r) ≡ b → (decision_for ds r ≡ Some d → P d × (d.domain ≡ r)) → (if b then Some x else decision_for ds r) ≡ Some d → P d × (d.domain ≡ r)
   by true own rest h =
       let same : x ≡ d = same_Some x d h in
       let mine : x.domain ≡ r = search (rules, tests, own) in
-      (subst P same all.0, ap (λ (z : Decision). z.domain) (sym same) ∙ mine)
+      (subst P same all.0, ap (λ (z : DomainVerdict). z.domain) (sym same) ∙ mine)
   by false own rest h = rest h
 
 -- of a domain with one more decision: the one that it had, or this
-decision_push : (ds : List Decision) (e : Decision) (r : ℕ) (d : Decision) → decision_for (ds ++ e ∷ []) r ≡ Some d → (decision_for ds r ≡ Some d) ⊎ ((e ≡ d) × (e.domain ≡ r))
+decision_push : (ds : List DomainVerdict) (e : DomainVerdict) (r : ℕ) (d : DomainVerdict) → decision_for (ds ++ e ∷ []) r ≡ Some d → (decision_for ds r ≡ Some d) ⊎ ((e ≡ d) × (e.domain ≡ r))
 decision_push [] e r d is = by (e.domain == r) refl is where
   by : (b : Bool) → (e.domain == r) ≡ b → (if b then Some e else None) ≡ Some d → (None ≡ Some d) ⊎ ((e ≡ d) × (e.domain ≡ r))
   by true own h = let mine : e.domain ≡ r = search (rules, tests, own) in inr (same_Some e d h, mine)
@@ -56,7 +56,7 @@ decision_push (x ∷ ds) e r d is = by (x.domain == r) (decision_push ds e r d) 
 
 -- each verdict that was entered for the initial domain is optimal for it as it is now
 abbrev pub IsRight : PlatformFacts → State → Type 0
-IsRight platform s = (d : Decision) (v : Verdict) → decision_for s.decisions 0 ≡ Some d → d.verdict ≡ Some v → IsOptimal platform None (shape_of s.tree.nodes 0) v
+IsRight platform s = (d : DomainVerdict) (v : Verdict) → decision_for s.decisions 0 ≡ Some d → d.verdict ≡ Some v → IsOptimal platform None (shape_of s.tree.nodes 0) v
 
 -- the initial domain has no host, and so no base
 no_host : (nodes : List NodeFacts) → IsSomeAnd (slice_get nodes 0) (λ n. (n.birth ≡ None) × (n.domain ≡ 0)) → host_node nodes 0 ≡ None
@@ -74,18 +74,18 @@ shape_kept : ForestStays → OneForest → (platform : PlatformFacts) (s : State
 shape_kept stays one platform s e sound ok has ready =
     ap (λ (t : TreeFacts). shape_of t.nodes 0) (tree_of_entry s e) ∙ (stays s.tree (tree_entry e) 0 sound.tree.tree (accepts one platform s e sound ok) has ready).shape
 
-same_domain : (s : State) (d : Decision) → IsOfReady s.tree d × (d.domain ≡ 0) → HasDomain s.tree.nodes 0 × (is_ready s.tree 0 ≡ true)
+same_domain : (s : State) (d : DomainVerdict) → IsOfReady s.tree d × (d.domain ≡ 0) → HasDomain s.tree.nodes 0 × (is_ready s.tree 0 ≡ true)
 same_domain s d h = (subst (HasDomain s.tree.nodes) h.1 h.0.there, subst (λ r. is_ready s.tree r ≡ true) h.1 h.0.ready)
 
 right_kept : ForestStays → OneForest → (platform : PlatformFacts) (s : State) (e : BookEntry) → IsSoundState s → Allows platform s e → IsRight platform s
-    → (d : Decision) (v : Verdict) → decision_for s.decisions 0 ≡ Some d → d.verdict ≡ Some v → IsOptimal platform None (shape_of (after_entry s e).tree.nodes 0) v
+    → (d : DomainVerdict) (v : Verdict) → decision_for s.decisions 0 ≡ Some d → d.verdict ≡ Some v → IsOptimal platform None (shape_of (after_entry s e).tree.nodes 0) v
 right_kept stays one platform s e sound ok right d v has is =
     let (there, ready) = same_domain s d (of_decisions (IsOfReady s.tree) s.decisions 0 d sound.decided has) in
     subst (λ shape. IsOptimal platform None shape v) (sym (shape_kept stays one platform s e sound ok there ready)) (right d v has is)
 
 right_step : ForestStays → OneForest → (platform : PlatformFacts) (s : State) (e : BookEntry) → IsSoundState s → Allows platform s e → IsRight platform s → IsRight platform (after_entry s e)
 right_step stays one platform s (Acted i deed) sound ok right = λ d v has is. right_kept stays one platform s (Acted i deed) sound ok right d v (same d has) is where
-  same : (d : Decision) → decision_for (after_entry s (Acted i deed)).decisions 0 ≡ Some d → decision_for s.decisions 0 ≡ Some d
+  same : (d : DomainVerdict) → decision_for (after_entry s (Acted i deed)).decisions 0 ≡ Some d → decision_for s.decisions 0 ≡ Some d
   same d has = by (applied s.tree i deed) has where
     by : (o : Result Applied Refusal) → decision_for (after_answer s o).decisions 0 ≡ Some d → decision_for s.decisions 0 ≡ Some d
     by (Ok made) h = h
@@ -94,16 +94,16 @@ right_step stays one platform s (Decided c) sound ok right = λ d v has is. elim
   | inl before ↦ right_kept stays one platform s (Decided c) sound ok right d v before is
   | inr (same, own) ↦ now d v same own is
 ] where
-  e : Decision
+  e : DomainVerdict
   e = answer_of c
 
-  now : (d : Decision) (v : Verdict) → e ≡ d → e.domain ≡ 0 → d.verdict ≡ Some v → IsOptimal platform None (shape_of (after_entry s (Decided c)).tree.nodes 0) v
+  now : (d : DomainVerdict) (v : Verdict) → e ≡ d → e.domain ≡ 0 → d.verdict ≡ Some v → IsOptimal platform None (shape_of (after_entry s (Decided c)).tree.nodes 0) v
   now d v same own is =
       let w = accepts one platform s (Decided c) sound ok in
       let right_now = claims_optimal platform s.tree.nodes e.domain (base_of s e.domain) c.claim ok.1 in
       let there : HasDomain s.tree.nodes 0 = subst (HasDomain s.tree.nodes) own w.there in
       let ready : is_ready s.tree 0 ≡ true = subst (λ r. is_ready s.tree r ≡ true) own w.ready in
-      let verdict : e.verdict ≡ Some v = ap (λ (z : Decision). z.verdict) same ∙ is in
+      let verdict : e.verdict ≡ Some v = ap (λ (z : DomainVerdict). z.verdict) same ∙ is in
       let optimal : IsOptimalIn platform s.tree.nodes e.domain (base_of s e.domain) v = subst (λ o. IfSome o (IsOptimalIn platform s.tree.nodes e.domain (base_of s e.domain))) verdict right_now in
       let first : IsOptimalIn platform s.tree.nodes 0 (base_of s 0) v = subst (λ r. IsOptimalIn platform s.tree.nodes r (base_of s r) v) own optimal in
       let alone : IsOptimal platform None (shape_of s.tree.nodes 0) v = subst (λ b. IsOptimal platform (option_map (terms_of s.tree.nodes) b) (shape_of s.tree.nodes 0) v) (no_base s sound) first in

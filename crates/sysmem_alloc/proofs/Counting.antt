@@ -18,7 +18,7 @@ use Rattle.sysmem_tree.specs.Nodes.{AreProper}
 use Rattle.sysmem_tree.specs.Shape.{members_of}
 use Rattle.sysmem_tree.specs.Table.{allows, suits_node, state_after, makes}
 use Rattle.sysmem_tree.specs.Tree.{Applied, applied, tree_after, node_after, nodes_made, left_out_but, decided}
-use Rattle.sysmem_alloc.specs.Decision.{Decision, answer_of, choices_of}
+use Rattle.sysmem_alloc.specs.Decision.{DomainVerdict, answer_of, choices_of}
 use Rattle.sysmem_alloc.specs.Entry.{BookEntry, Acted, Decided}
 use Rattle.sysmem_alloc.specs.History.{after_answer, after_entry, replay_from, replay, Allows, AreAllowed, IsLegal}
 use Rattle.sysmem_alloc.specs.Sound.{IsSoundState, roots_of}
@@ -137,7 +137,7 @@ tells_step platform s (Acted i deed) many ok h = by (applied s.tree i deed) refl
       let more = subst (λ (t : TreeFacts). length t.nodes + spent t.nodes ≡ suc (length s.tree.nodes + spent s.tree.nodes)) fine.tree (acted_spends s.tree i n deed fine.there fine.allowed) in
       omega (arith, h, more)
 tells_step platform s (Decided c) many ok h = by (choices_of (answer_of c).verdict) where
-  d : Decision
+  d : DomainVerdict
   d = answer_of c
 
   by : (o : Option (List ℕ)) → suc many + 1 ≡ (length (decided s.tree d.domain o).nodes + spent (decided s.tree d.domain o).nodes) + length (s.decisions ++ d ∷ [])

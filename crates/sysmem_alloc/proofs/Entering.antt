@@ -17,7 +17,7 @@ use Rattle.sysmem_tree.specs.Laws.{ForestStays, OneForest, IsSameDomain}
 use Rattle.sysmem_tree.specs.Node.{NodeFacts}
 use Rattle.sysmem_tree.specs.Tree.{Applied, applied, decided}
 use Rattle.sysmem_alloc.specs.Book.{BookFacts, IsBook, entered, kept_book}
-use Rattle.sysmem_alloc.specs.Decision.{Claimed, Decision, answer_of, choices_of}
+use Rattle.sysmem_alloc.specs.Decision.{Claimed, DomainVerdict, answer_of, choices_of}
 use Rattle.sysmem_alloc.specs.Entry.{BookEntry, Acted, Decided, entry_in, decision_in}
 use Rattle.sysmem_alloc.specs.History.{after_answer, after_entry, replay_from, Allows, AreAllowed}
 use Rattle.sysmem_alloc.specs.Laws.{LegalIsSound}
@@ -56,7 +56,7 @@ state_sound sound b is = subst IsSoundState (sym is.replayed) (sound b.platform 
 pub room_after : LegalIsSound → (b : BookFacts) (e : BookEntry) → IsBook b → Allows b.platform b.state e → length (after_entry b.state e).waiting ≤ 128
 room_after sound b e is ok = omega (arith, few_waiting (after_entry b.state e) (state_sound sound (entered b e) (book_push b e is ok)))
 
-same_state : (t : TreeFacts) (ds ds' : List Decision) (w w' a a' : List ℕ) → ds ≡ ds' → w ≡ w' → a ≡ a'
+same_state : (t : TreeFacts) (ds ds' : List DomainVerdict) (w w' a a' : List ℕ) → ds ≡ ds' → w ≡ w' → a ≡ a'
     → ◌≡◌ {A = State} (record { tree = t; decisions = ds; waiting = w; accepted = a }) (record { tree = t; decisions = ds'; waiting = w'; accepted = a' })
 same_state t ds ds' w w' a a' d e f =
     ap (λ x. record { tree = t; decisions = x; waiting = w; accepted = a }) d
@@ -78,27 +78,27 @@ read_push platform t u raw x e waiting marks is keeps read =
 
 pub no_decision : (raw : List Entry) (x : Entry) → decision_in x ≡ None → filter_map decision_in (raw ++ x ∷ []) ≡ filter_map decision_in raw
 no_decision raw x none = filter_map-append decision_in raw (x ∷ []) ∙ (ap (λ ys. filter_map decision_in raw ++ ys) (at (decision_in x) refl none) ∙ append-nil (filter_map decision_in raw)) where
-  at : (o : Option Decision) → decision_in x ≡ o → o ≡ None → filter_map decision_in (x ∷ []) ≡ []
+  at : (o : Option DomainVerdict) → decision_in x ≡ o → o ≡ None → filter_map decision_in (x ∷ []) ≡ []
   at None is e = rw is refl
   at (Some d) is e = absurd (cc)
 
-pub one_decision : (raw : List Entry) (x : Entry) (d : Decision) → decision_in x ≡ Some d → filter_map decision_in (raw ++ x ∷ []) ≡ filter_map decision_in raw ++ d ∷ []
+pub one_decision : (raw : List Entry) (x : Entry) (d : DomainVerdict) → decision_in x ≡ Some d → filter_map decision_in (raw ++ x ∷ []) ≡ filter_map decision_in raw ++ d ∷ []
 one_decision raw x d is = filter_map-append decision_in raw (x ∷ []) ∙ ap (λ ys. filter_map decision_in raw ++ ys) one where
   one : filter_map decision_in (x ∷ []) ≡ d ∷ []
   one = rw is refl
 
 -- who is accepted, by the domains that wait and by marks of the nodes that were open
-abbrev kept_in : List NodeFacts → List Decision → List ℕ → List Bool → List ℕ
+abbrev kept_in : List NodeFacts → List DomainVerdict → List ℕ → List Bool → List ℕ
 kept_in nodes ds waiting marks = kept_for waiting (filter (λ i. get_or marks i false) (chosen_in nodes ds)) (open_in nodes ds)
 
 -- where the marks are of those open now, or none waits, those open now are accepted
-opened : (nodes : List NodeFacts) (ds : List Decision) (waiting : List ℕ) (now : List Bool) → (waiting ≢ [] → (k : ℕ) → get_or now k false ≡ is_open nodes k) → kept_in nodes ds waiting now ≡ open_in nodes ds
+opened : (nodes : List NodeFacts) (ds : List DomainVerdict) (waiting : List ℕ) (now : List Bool) → (waiting ≢ [] → (k : ℕ) → get_or now k false ≡ is_open nodes k) → kept_in nodes ds waiting now ≡ open_in nodes ds
 opened nodes ds [] now taken = refl
 opened nodes ds (r ∷ rs) now taken =
     same_filter (λ i. get_or now i false) (is_open nodes) (chosen_in nodes ds) (all_each (λ i. get_or now i false ≡ is_open nodes i) (chosen_in nodes ds) (taken (λ e. absurd (cc))))
 
 -- after an action as it says
-accepted_kept : (old new : List NodeFacts) (ds : List Decision) (waiting newly later : List ℕ) (marks now : List Bool) → chosen_in new ds ≡ chosen_in old ds → later ≡ waiting ++ newly
+accepted_kept : (old new : List NodeFacts) (ds : List DomainVerdict) (waiting newly later : List ℕ) (marks now : List Bool) → chosen_in new ds ≡ chosen_in old ds → later ≡ waiting ++ newly
     → (waiting ≡ [] → later ≢ [] → (k : ℕ) → get_or now k false ≡ is_open new k) → (waiting ≢ [] → now ≡ marks)
     → kept_in new ds later now ≡ kept_for waiting (kept_in old ds waiting marks) (open_in new ds)
 accepted_kept old new ds [] newly later marks now same grown taken kept = opened new ds later now (taken refl)
@@ -114,7 +114,7 @@ module _ (sound : LegalIsSound) (stays : ForestStays) (one : OneForest) where
       let state = state_sound sound (kept_book platform t raw waiting marks) is in
       let let_in : IsOk (applied t i deed) = subst IsOk (sym ok) refl in
       same_chosen t.nodes made.tree.nodes (filter_map decision_in raw) (one t.nodes)
-      (all_weaken (IsOfReady t) (λ (d : Decision). IsSameDomain t.nodes made.tree.nodes d.domain) (filter_map decision_in raw)
+      (all_weaken (IsOfReady t) (λ (d : DomainVerdict). IsSameDomain t.nodes made.tree.nodes d.domain) (filter_map decision_in raw)
       (λ d r. subst (λ o. IsSameDomain t.nodes (trees.after_answer t o).nodes d.domain) ok (stays t (trees.Acted i deed) d.domain state.tree.tree let_in r.there r.ready)) state.decided)
 
   -- an action
@@ -124,7 +124,7 @@ module _ (sound : LegalIsSound) (stays : ForestStays) (one : OneForest) where
       → kept_book platform made.tree (raw ++ entries.Acted i (kind_of deed) ∷ []) later now ≡ entered (kept_book platform t raw waiting marks) (Acted i deed)
   acted_kept platform t raw waiting later marks now i deed made is ok grown taken kept =
       let b : BookFacts = kept_book platform t raw waiting marks in
-      let ds : List Decision = filter_map decision_in raw in
+      let ds : List DomainVerdict = filter_map decision_in raw in
       let x : Entry = entries.Acted i (kind_of deed) in
       let chosen : chosen_in made.tree.nodes ds ≡ chosen_in t.nodes ds = acted_chosen platform t raw waiting marks i deed made is ok in
       let none : filter_map decision_in (raw ++ x ∷ []) ≡ ds = no_decision raw x refl in
@@ -143,10 +143,10 @@ pub decided_kept : (platform : PlatformFacts) (t : TreeFacts) (raw : List Entry)
     → ((k : ℕ) → get_or now k false ≡ is_open (decided t e.domain (choices_of (answer_of e).verdict)).nodes k)
     → kept_book platform (decided t e.domain (choices_of (answer_of e).verdict)) (raw ++ x ∷ []) later now ≡ entered (kept_book platform t raw waiting marks) (Decided e)
 decided_kept platform t raw waiting later marks now x e is decides read grown taken =
-    let d : Decision = answer_of e in
+    let d : DomainVerdict = answer_of e in
     let b : BookFacts = kept_book platform t raw waiting marks in
     let u : TreeFacts = decided t d.domain (choices_of d.verdict) in
-    let ds : List Decision = filter_map decision_in raw in
+    let ds : List DomainVerdict = filter_map decision_in raw in
     let more : filter_map decision_in (raw ++ x ∷ []) ≡ ds ++ d ∷ [] = one_decision raw x d decides in
     same_book platform (map (entry_in u.nodes) (raw ++ x ∷ [])) (map (entry_in t.nodes) raw ++ Decided e ∷ [])
     (kept_book platform u (raw ++ x ∷ []) later now).state (after_entry b.state (Decided e))
@@ -202,7 +202,7 @@ pub decided_room : LegalIsSound → (platform : PlatformFacts) (t : TreeFacts) (
     → (is : IsBook (kept_book platform t raw waiting marks)) → Allows platform (kept_book platform t raw waiting marks).state (Decided e) → ((k : ℕ) → get_or were k false ≡ ready_at t k)
     → length (drop 1 waiting) + length (ready_unmarked (decided t e.domain (choices_of (answer_of e).verdict)) were 0 (roots_of (decided t e.domain (choices_of (answer_of e).verdict)))) ≤ 128
 decided_room sound platform t raw waiting marks were e is ok marked =
-    let d : Decision = answer_of e in
+    let d : DomainVerdict = answer_of e in
     let b : BookFacts = kept_book platform t raw waiting marks in
     let u : TreeFacts = decided t d.domain (choices_of d.verdict) in
     let room : length (drop 1 waiting ++ newly_ready t u) ≤ 128 = room_after sound b (Decided e) is ok in
@@ -215,7 +215,7 @@ pub decided_shows : (platform : PlatformFacts) (t u : TreeFacts) (raw new : List
     → ((k : ℕ) → get_or were k false ≡ ready_at t k) → later ≡ drop 1 waiting ++ ready_unmarked u were 0 (roots_of u) → ((k : ℕ) → get_or now k false ≡ is_open u.nodes k)
     → Shows (entered (kept_book platform t raw waiting marks) (Decided e)) (kept_book platform u new later now)
 decided_shows platform t u raw new waiting later marks now were x e is ok decides read tree pushed marked grown taken =
-    let d : Decision = answer_of e in
+    let d : DomainVerdict = answer_of e in
     let b : BookFacts = kept_book platform t raw waiting marks in
     let v : TreeFacts = decided t d.domain (choices_of d.verdict) in
     let grown' : later ≡ drop 1 waiting ++ ready_unmarked v were 0 (roots_of v) = subst (λ (w : TreeFacts). later ≡ drop 1 waiting ++ ready_unmarked w were 0 (roots_of w)) tree grown in

@@ -8,7 +8,7 @@ use Rattle.sysmem_tree.specs.declared.domain.Decision.TheVariants.{Undecided, Ch
 use Rattle.sysmem_tree.specs.declared.fate.Fate.TheVariants as fates
 use Rattle.sysmem_tree.specs.Domain.{TreeFacts, decision_of, fate_by, fate_of, has_failed, is_undecided}
 use Rattle.sysmem_alloc.specs.Book.{BookFacts, IsBook}
-use Rattle.sysmem_alloc.specs.Decision.{Decision, decision_for}
+use Rattle.sysmem_alloc.specs.Decision.{DomainVerdict, decision_for}
 use Rattle.sysmem_alloc.specs.Laws.{LegalAgrees}
 use Rattle.sysmem_alloc.specs.Sound.{AgreesWithTree}
 use Rattle.sysmem_alloc.specs.State.{State, verdict_of}
@@ -47,12 +47,12 @@ pub undecided_verdict : LegalAgrees → (b : BookFacts) (r : ℕ) → IsBook b �
 undecided_verdict agrees b r is undecided =
     let agreeing = subst (AgreesWithTree b.platform) (sym is.replayed) (agrees b.platform b.history is.legal) in
     let none = none_for b.platform b.state r agreeing (undecided_in b.state.tree r undecided) in
-    sym (other_verdict b.state r (λ e. (let two = sym undecided ∙ e in absurd (cc))) ∙ ap (option_map (λ (d : Decision). unwrap_or d.verdict verdicts.NoMemory)) none)
+    sym (other_verdict b.state r (λ e. (let two = sym undecided ∙ e in absurd (cc))) ∙ ap (option_map (λ (d : DomainVerdict). unwrap_or d.verdict verdicts.NoMemory)) none)
 
 -- of what was entered
 pub entered_verdict : (s : State) (r : ℕ) (o : Option (Option Verdict)) → o ≡ option_map (λ d. d.verdict) (decision_for s.decisions r) → fate_of s.tree r ≢ fates.Failed
     → option_map (λ v. unwrap_or v verdicts.NoMemory) o ≡ verdict_of s r
 entered_verdict s r o is other = ap (option_map (λ v. unwrap_or v verdicts.NoMemory)) is ∙ (by (decision_for s.decisions r) ∙ sym (other_verdict s r other)) where
-  by : (d : Option Decision) → option_map (λ v. unwrap_or v verdicts.NoMemory) (option_map (λ (x : Decision). x.verdict) d) ≡ option_map (λ (x : Decision). unwrap_or x.verdict verdicts.NoMemory) d
+  by : (d : Option DomainVerdict) → option_map (λ v. unwrap_or v verdicts.NoMemory) (option_map (λ (x : DomainVerdict). x.verdict) d) ≡ option_map (λ (x : DomainVerdict). unwrap_or x.verdict verdicts.NoMemory) d
   by None = refl
   by (Some d) = refl

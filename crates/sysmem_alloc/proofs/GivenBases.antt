@@ -21,7 +21,7 @@ use Rattle.sysmem_tree.specs.Nodes.{HasNode, IsTree}
 use Rattle.sysmem_tree.specs.Shape.{members_of, participants_of}
 use Rattle.sysmem_tree.specs.Sublist.{IsSublist, ended, taken, left_out}
 use Rattle.sysmem_alloc.specs.Book.{BookFacts, IsBook}
-use Rattle.sysmem_alloc.specs.Decision.{Decision, choices_of, decision_for, settings_for, settings_of}
+use Rattle.sysmem_alloc.specs.Decision.{DomainVerdict, choices_of, decision_for, settings_for, settings_of}
 use Rattle.sysmem_alloc.specs.History.{replay}
 use Rattle.sysmem_alloc.specs.Laws.{BaseIsGiven, LegalAgrees, LegalIsSound}
 use Rattle.sysmem_alloc.specs.Sound.{AgreesWithTree, AreDistinct, AreSettingsOn, IsDecisionOn, IsOfReady, IsSoundState, MayWait, standing_of}
@@ -77,7 +77,7 @@ host_chosen t r host ready some =
     (and_parts (is_chosen (decision_of t.domains host.domain)) (not host.is_left_out) (subst (λ o. is_host_selected t.domains o ≡ true) some selected)).0
 
 -- and what was chosen has settings
-chosen_settings : (o : Option Decision) → is_chosen (standing_of o) ≡ true → (t : Settings) × (option_and_then (λ (d : Decision). settings_of d.verdict) o ≡ Some t)
+chosen_settings : (o : Option DomainVerdict) → is_chosen (standing_of o) ≡ true → (t : Settings) × (option_and_then (λ (d : DomainVerdict). settings_of d.verdict) o ≡ Some t)
 chosen_settings None e = absurd (cc)
 chosen_settings (Some d) e = by d.verdict e where
   by : (v : Option Verdict) → is_chosen (if is_some (choices_of v) then Chosen else NoneChosen) ≡ true → (t : Settings) × (settings_of v ≡ Some t)
@@ -93,18 +93,18 @@ module _ (law : MembersStandOnce) (nodes : List NodeFacts) (tree : IsTree nodes)
   abbrev asks : ℕ → Bool
   asks i = is_some (option_and_then (λ (n : NodeFacts). n.constraints) (slice_get nodes i))
 
-  by_one : (P : List ℕ → Type 0) → P [] → (d : Decision) → ((cs : List ℕ) → P (participants_of nodes d.domain cs)) → P (chosen_by nodes d)
+  by_one : (P : List ℕ → Type 0) → P [] → (d : DomainVerdict) → ((cs : List ℕ) → P (participants_of nodes d.domain cs)) → P (chosen_by nodes d)
   by_one P none d each = by (choices_of d.verdict) where
     by : (o : Option (List ℕ)) → P (unwrap_or (option_map (participants_of nodes d.domain) o) [])
     by None = none
     by (Some cs) = each cs
 
-  own_nodes : (d : Decision) → HasDomain nodes d.domain → All (λ i. IsSomeAnd (slice_get nodes i) (λ (n : NodeFacts). n.domain ≡ d.domain)) (chosen_by nodes d)
+  own_nodes : (d : DomainVerdict) → HasDomain nodes d.domain → All (λ i. IsSomeAnd (slice_get nodes i) (λ (n : NodeFacts). n.domain ≡ d.domain)) (chosen_by nodes d)
   own_nodes d has = by_one (All Own) (All-nil Own) d (λ cs. All-filter asks Own (members_of nodes d.domain cs) (law nodes d.domain cs tree has).own) where
     Own : ℕ → Type 0
     Own i = IsSomeAnd (slice_get nodes i) (λ (n : NodeFacts). n.domain ≡ d.domain)
 
-  own_once : (d : Decision) → HasDomain nodes d.domain → AllPairs (λ i j. i ≢ j) (chosen_by nodes d)
+  own_once : (d : DomainVerdict) → HasDomain nodes d.domain → AllPairs (λ i j. i ≢ j) (chosen_by nodes d)
   own_once d has = by_one (AllPairs (λ i j. i ≢ j)) (λ i j x less small. absurd (omega (arith, small))) d
       (λ cs. AllPairs-filter (λ i j. i ≢ j) asks (members_of nodes d.domain cs) (law nodes d.domain cs tree has).once)
 
@@ -114,7 +114,7 @@ module _ (law : MembersStandOnce) (nodes : List NodeFacts) (tree : IsTree nodes)
     by None h = h
     by (Some n) h = λ same. other (sym h ∙ same)
 
-  pub all_elsewhere : (r : ℕ) (ds : List Decision) → AllByRecursion (λ (d : Decision). HasDomain nodes d.domain) ds → AllByRecursion (λ (d : Decision). d.domain ≢ r) ds → All (IsElsewhere nodes r) (chosen_in nodes ds)
+  pub all_elsewhere : (r : ℕ) (ds : List DomainVerdict) → AllByRecursion (λ (d : DomainVerdict). HasDomain nodes d.domain) ds → AllByRecursion (λ (d : DomainVerdict). d.domain ≢ r) ds → All (IsElsewhere nodes r) (chosen_in nodes ds)
   all_elsewhere r [] there other = All-nil (IsElsewhere nodes r)
   all_elsewhere r (d ∷ ds) there other = subst (All (IsElsewhere nodes r)) (sym (flat_map-cons (chosen_by nodes) d ds))
       (All-append (IsElsewhere nodes r) (chosen_by nodes d) (chosen_in nodes ds)
@@ -128,7 +128,7 @@ module _ (law : MembersStandOnce) (nodes : List NodeFacts) (tree : IsTree nodes)
     by None is h = absurd h
     by (Some n) is h = slice_get_within nodes i n is
 
-  pub all_there : (ds : List Decision) → AllByRecursion (λ (d : Decision). HasDomain nodes d.domain) ds → All (HasNode nodes) (chosen_in nodes ds)
+  pub all_there : (ds : List DomainVerdict) → AllByRecursion (λ (d : DomainVerdict). HasDomain nodes d.domain) ds → All (HasNode nodes) (chosen_in nodes ds)
   all_there [] there = All-nil (HasNode nodes)
   all_there (d ∷ ds) there = subst (All (HasNode nodes)) (sym (flat_map-cons (chosen_by nodes) d ds))
       (All-append (HasNode nodes) (chosen_by nodes d) (chosen_in nodes ds)
@@ -147,14 +147,14 @@ module _ (law : MembersStandOnce) (nodes : List NodeFacts) (tree : IsTree nodes)
       (All-append (λ j. x ≢ j) xs ys (λ k d small. a 0 (suc k) d (omega arith) (omega (arith, small))) (All-head (λ i. All (λ j. i ≢ j) ys) x xs c))
       (pairs_append xs ys (λ i j d less small. a (suc i) (suc j) d (omega (arith, less)) (omega (arith, small))) b (All-tail (λ i. All (λ j. i ≢ j) ys) x xs c))
 
-  pub all_once : (ds : List Decision) → AllByRecursion (λ (d : Decision). HasDomain nodes d.domain) ds → AreDistinct (map (λ (d : Decision). d.domain) ds) → AllPairs (λ i j. i ≢ j) (chosen_in nodes ds)
+  pub all_once : (ds : List DomainVerdict) → AllByRecursion (λ (d : DomainVerdict). HasDomain nodes d.domain) ds → AreDistinct (map (λ (d : DomainVerdict). d.domain) ds) → AllPairs (λ i j. i ≢ j) (chosen_in nodes ds)
   all_once [] there apart = λ i j x less small. absurd (omega (arith, small))
   all_once (d ∷ ds) there apart = subst (AllPairs (λ i j. i ≢ j)) (sym (flat_map-cons (chosen_by nodes) d ds))
       (pairs_append (chosen_by nodes d) (chosen_in nodes ds) (own_once d there.0) (all_once ds there.1 apart.1)
       (All-weaker (λ i. IsSomeAnd (slice_get nodes i) (λ (n : NodeFacts). n.domain ≡ d.domain)) (λ i. All (λ j. i ≢ j) (chosen_in nodes ds))
       (λ i h. All-weaker (IsElsewhere nodes d.domain) (λ j. i ≢ j) (λ j e. not_there d.domain i j h e) (chosen_in nodes ds) (all_elsewhere d.domain ds there.1 (others ds apart.0)))
       (chosen_by nodes d) (own_nodes d there.0))) where
-        others : (es : List Decision) → AllByRecursion (λ y. d.domain ≢ y) (map (λ (e : Decision). e.domain) es) → AllByRecursion (λ (e : Decision). e.domain ≢ d.domain) es
+        others : (es : List DomainVerdict) → AllByRecursion (λ y. d.domain ≢ y) (map (λ (e : DomainVerdict). e.domain) es) → AllByRecursion (λ (e : DomainVerdict). e.domain ≢ d.domain) es
         others [] a = tt
         others (e ∷ es) a = ((λ same. a.0 (sym same)), others es a.1)
 
@@ -169,10 +169,10 @@ pairs_sub _ _ (left_out x xs ys p) all = pairs_sub xs ys p (pairs_rest x ys all)
 
 -- what a state gives the first domain that waits is a base for it
 module _ (law : MembersStandOnce) (platform : PlatformFacts) (s : State) (r : ℕ) (sound : IsSoundState s) (agrees : AgreesWithTree platform s) (waits : MayWait s.tree r) where
-  there : AllByRecursion (λ (d : Decision). HasDomain s.tree.nodes d.domain) s.decisions
-  there = all_weaken (IsOfReady s.tree) (λ (d : Decision). HasDomain s.tree.nodes d.domain) s.decisions (λ d h. h.there) sound.decided
+  there : AllByRecursion (λ (d : DomainVerdict). HasDomain s.tree.nodes d.domain) s.decisions
+  there = all_weaken (IsOfReady s.tree) (λ (d : DomainVerdict). HasDomain s.tree.nodes d.domain) s.decisions (λ d h. h.there) sound.decided
 
-  others : AllByRecursion (λ (d : Decision). d.domain ≢ r) s.decisions
+  others : AllByRecursion (λ (d : DomainVerdict). d.domain ≢ r) s.decisions
   others = none_entered s.decisions r (none_for platform s r agrees waits.undecided)
 
   based : (t : Settings) → AreSettingsOn platform t → IsBase platform s.tree.nodes r (record { settings = t; accepted = s.accepted })

@@ -19,7 +19,7 @@ use Rattle.sysmem_tree.specs.Shape.{by_number, forest_of}
 use Rattle.sysmem_tree.specs.Tree.{Applied, applied, decided}
 use Rattle.sysmem_alloc.specs.Accepted.{IsChosenIn}
 use Rattle.sysmem_alloc.specs.Book.{BookFacts, IsBook, entered, kept_book}
-use Rattle.sysmem_alloc.specs.Decision.{Claimed, Decision, answer_of, choices_of}
+use Rattle.sysmem_alloc.specs.Decision.{Claimed, DomainVerdict, answer_of, choices_of}
 use Rattle.sysmem_alloc.specs.Entry.{Decided, decision_in}
 use Rattle.sysmem_alloc.specs.History.{Allows}
 use Rattle.sysmem_alloc.specs.Laws.{LegalIsSound, LegalAgrees}
@@ -36,8 +36,8 @@ use Rattle.sysmem_alloc.proofs.Stepping.{accepts}
 
 -- they are nodes of the tree, and at most 128
 module _ (sound : LegalIsSound) (law : MembersStandOnce) (b : BookFacts) (is : IsBook b) where
-  there : AllByRecursion (λ (d : Decision). HasDomain b.state.tree.nodes d.domain) b.state.decisions
-  there = all_weaken (IsOfReady b.state.tree) (λ (d : Decision). HasDomain b.state.tree.nodes d.domain) b.state.decisions (λ d h. h.there) (state_sound sound b is).decided
+  there : AllByRecursion (λ (d : DomainVerdict). HasDomain b.state.tree.nodes d.domain) b.state.decisions
+  there = all_weaken (IsOfReady b.state.tree) (λ (d : DomainVerdict). HasDomain b.state.tree.nodes d.domain) b.state.decisions (λ d h. h.there) (state_sound sound b is).decided
 
   pub chosen_there : All (HasNode b.state.tree.nodes) (chosen_in b.state.tree.nodes b.state.decisions)
   chosen_there = all_there law b.state.tree.nodes (state_sound sound b is).tree.tree b.state.decisions there
@@ -54,14 +54,14 @@ module _ (sound : LegalIsSound) (stays : ForestStays) (one : OneForest) (b : Boo
   pub decided_chosen : chosen_in (decided b.state.tree e.domain (choices_of (answer_of e).verdict)).nodes (b.state.decisions ++ answer_of e ∷ [])
       ≡ chosen_in b.state.tree.nodes b.state.decisions ++ chosen_by b.state.tree.nodes (answer_of e)
   decided_chosen =
-      let d : Decision = answer_of e in
+      let d : DomainVerdict = answer_of e in
       let s : State = b.state in
       let u : TreeFacts = decided s.tree d.domain (choices_of d.verdict) in
       let state = state_sound sound b is in
       let fine = accepts one b.platform s (Decided e) state ok in
       let same = decided_stay stays one b.platform s (trees.Decided d.domain (choices_of d.verdict)) u refl state fine in
       let own : IsSameDomain s.tree.nodes u.nodes d.domain = stays s.tree (trees.Decided d.domain (choices_of d.verdict)) d.domain state.tree.tree fine fine.there fine.ready in
-      same_chosen s.tree.nodes u.nodes (s.decisions ++ d ∷ []) (one s.tree.nodes) (all_append (λ (x : Decision). IsSameDomain s.tree.nodes u.nodes x.domain) s.decisions (d ∷ []) same (own, tt))
+      same_chosen s.tree.nodes u.nodes (s.decisions ++ d ∷ []) (one s.tree.nodes) (all_append (λ (x : DomainVerdict). IsSameDomain s.tree.nodes u.nodes x.domain) s.decisions (d ∷ []) same (own, tt))
       ∙ (flat_map-append (chosen_by s.tree.nodes) s.decisions (d ∷ []) ∙ ap (λ xs. chosen_in s.tree.nodes s.decisions ++ xs) (append-nil (chosen_by s.tree.nodes d)))
 
   -- for whom there is room

@@ -10,7 +10,7 @@ use Rattle.sysmem_tree.specs.Domain.{TreeFacts, HasDomain, has_failed, host_node
 use Rattle.sysmem_tree.specs.Laws.{FailedStays, OneForest, ReadyStays}
 use Rattle.sysmem_tree.specs.Tree.{Applied, applied}
 use Rattle.sysmem_sanitise.specs.Platform.{PlatformFacts}
-use Rattle.sysmem_alloc.specs.Decision.{Decision, answer_of, choices_of, decision_for}
+use Rattle.sysmem_alloc.specs.Decision.{DomainVerdict, answer_of, choices_of, decision_for}
 use Rattle.sysmem_alloc.specs.Entry.{BookEntry, Acted, Decided, tree_entry}
 use Rattle.sysmem_alloc.specs.History.{after_answer, after_entry, replay, Allows, IsLegal}
 use Rattle.sysmem_alloc.specs.Laws.{LegalIsSound, VerdictStays}
@@ -24,7 +24,7 @@ use Rattle.sysmem_alloc.proofs.Stepping.{accepts, tree_of_entry}
 use Rattle.sysmem_alloc.proofs.Trees.{acted_there, decided_there}
 
 -- the decision of a domain stays when another is entered
-entered_front : (ds : List Decision) (x : Decision) (r : ℕ) (d : Decision) → decision_for ds r ≡ Some d → decision_for (ds ++ x ∷ []) r ≡ Some d
+entered_front : (ds : List DomainVerdict) (x : DomainVerdict) (r : ℕ) (d : DomainVerdict) → decision_for ds r ≡ Some d → decision_for (ds ++ x ∷ []) r ≡ Some d
 entered_front [] x r d is = absurd (cc)
 entered_front (y ∷ ds) x r d is = by (y.domain == r) is (entered_front ds x r d) where
   by : (b : Bool) → (if b then Some y else decision_for ds r) ≡ Some d → (decision_for ds r ≡ Some d → decision_for (ds ++ x ∷ []) r ≡ Some d)
@@ -32,7 +32,7 @@ entered_front (y ∷ ds) x r d is = by (y.domain == r) is (entered_front ds x r 
   by true e rest = e
   by false e rest = rest e
 
-decision_stays : (s : State) (e : BookEntry) (r : ℕ) (d : Decision) → decision_for s.decisions r ≡ Some d → decision_for (after_entry s e).decisions r ≡ Some d
+decision_stays : (s : State) (e : BookEntry) (r : ℕ) (d : DomainVerdict) → decision_for s.decisions r ≡ Some d → decision_for (after_entry s e).decisions r ≡ Some d
 decision_stays s (Acted i deed) r d is = by (applied s.tree i deed) where
   by : (o : Result Applied Refusal) → decision_for (after_answer s o).decisions r ≡ Some d
   by (Ok made) = is
@@ -40,7 +40,7 @@ decision_stays s (Acted i deed) r d is = by (applied s.tree i deed) where
 decision_stays s (Decided c) r d is = entered_front s.decisions (answer_of c) r d is
 
 -- what was decided is ready
-decided_ready : (t : TreeFacts) (ds : List Decision) (r : ℕ) (d : Decision) → AllByRecursion (IsOfReady t) ds → decision_for ds r ≡ Some d → is_ready t r ≡ true
+decided_ready : (t : TreeFacts) (ds : List DomainVerdict) (r : ℕ) (d : DomainVerdict) → AllByRecursion (IsOfReady t) ds → decision_for ds r ≡ Some d → is_ready t r ≡ true
 decided_ready t [] r d all is = absurd (cc)
 decided_ready t (x ∷ ds) r d all is = by (x.domain == r) refl is (decided_ready t ds r d all.1) where
   by : (b : Bool) → (x.domain == r) ≡ b → (if b then Some x else decision_for ds r) ≡ Some d → (decision_for ds r ≡ Some d → is_ready t r ≡ true) → is_ready t r ≡ true
@@ -57,8 +57,8 @@ ready_unfailed t r ready =
       by false e = refl
 
 -- a verdict, by whether the domain failed and by what was entered
-abbrev shown : Bool → Option Decision → Option Verdict
-shown failed o = if failed then Some verdicts.Failed else option_map (λ (d : Decision). unwrap_or d.verdict verdicts.NoMemory) o
+abbrev shown : Bool → Option DomainVerdict → Option Verdict
+shown failed o = if failed then Some verdicts.Failed else option_map (λ (d : DomainVerdict). unwrap_or d.verdict verdicts.NoMemory) o
 
 -- a domain is there after an entry
 there_after : (s : State) (e : BookEntry) (r : ℕ) → HasDomain s.tree.nodes r → HasDomain (after_entry s e).tree.nodes r
@@ -77,14 +77,14 @@ verdict_after sound ready_stays failed_stays one platform es e r v legal ok has 
       let state = sound platform es legal in
       ap (λ (t : TreeFacts). has_failed t r) (tree_of_entry (replay es) e) ∙ failed_stays (replay es).tree (tree_entry e) r state.tree (accepts one platform (replay es) e state ok) has f
 
-  unfailed : (d : Decision) → decision_for (replay es).decisions r ≡ Some d → has_failed (after_entry (replay es) e).tree r ≡ false
+  unfailed : (d : DomainVerdict) → decision_for (replay es).decisions r ≡ Some d → has_failed (after_entry (replay es) e).tree r ≡ false
   unfailed d entered =
       let state = sound platform es legal in
       let now = decided_ready (replay es).tree (replay es).decisions r d state.decided entered in
       ap (λ (t : TreeFacts). has_failed t r) (tree_of_entry (replay es) e)
       ∙ ready_unfailed _ r (ready_stays (replay es).tree (tree_entry e) r state.tree (accepts one platform (replay es) e state ok) has now)
 
-  by : (b : Bool) → has_failed (replay es).tree r ≡ b → (o : Option Decision) → decision_for (replay es).decisions r ≡ o → shown b o ≡ Some v
+  by : (b : Bool) → has_failed (replay es).tree r ≡ b → (o : Option DomainVerdict) → decision_for (replay es).decisions r ≡ o → shown b o ≡ Some v
       → shown (has_failed (after_entry (replay es) e).tree r) (decision_for (after_entry (replay es) e).decisions r) ≡ Some v
   by true f o entered now = ap (λ b. shown b (decision_for (after_entry (replay es) e).decisions r)) (failed f) ∙ now
   by false f None entered now = absurd (cc)

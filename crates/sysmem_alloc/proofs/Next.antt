@@ -25,7 +25,7 @@ use Rattle.sysmem_tree.specs.Members.{MembersStay, shown_at}
 use Rattle.sysmem_tree.specs.Shape.{Member, members_of, participants_of, shape_of}
 use Rattle.sysmem_tree.specs.Sublist.{IsSublist, ended, taken, left_out}
 use Rattle.sysmem_tree.specs.Tree.{Applied, applied}
-use Rattle.sysmem_alloc.specs.Decision.{Decision, choices_of, settings_for}
+use Rattle.sysmem_alloc.specs.Decision.{DomainVerdict, choices_of, settings_for}
 use Rattle.sysmem_alloc.specs.Entry.{BookEntry, Acted, Decided}
 use Rattle.sysmem_alloc.specs.History.{after_answer, after_entry, replay, Allows, IsAction, IsLegal}
 use Rattle.sysmem_alloc.specs.Laws.{LegalAgrees, LegalIsSound, NextStays, StaysNext}
@@ -61,8 +61,8 @@ all_sub P _ _ (taken x xs ys p) all = All-cons P x xs (All-head P x ys all) (all
 all_sub P _ _ (left_out x xs ys p) all = all_sub P xs ys p (All-tail P x ys all)
 
 -- who was chosen shows what it did
-chosen_shown : MembersStay → (old new : List NodeFacts) → IsTree old → IsTree new → (ds : List Decision)
-    → AllByRecursion (λ (d : Decision). HasDomain old d.domain × HasDomain new d.domain × IsSameDomain old new d.domain) ds → All (λ i. shown_at new i ≡ shown_at old i) (chosen_in old ds)
+chosen_shown : MembersStay → (old new : List NodeFacts) → IsTree old → IsTree new → (ds : List DomainVerdict)
+    → AllByRecursion (λ (d : DomainVerdict). HasDomain old d.domain × HasDomain new d.domain × IsSameDomain old new d.domain) ds → All (λ i. shown_at new i ≡ shown_at old i) (chosen_in old ds)
 chosen_shown law old new tree tree' [] all = All-nil (λ i. shown_at new i ≡ shown_at old i)
 chosen_shown law old new tree tree' (d ∷ ds) all = subst (All (λ i. shown_at new i ≡ shown_at old i)) (sym (flat_map-cons (chosen_by old) d ds))
     (All-append (λ i. shown_at new i ≡ shown_at old i) (chosen_by old d) (chosen_in old ds) (by (choices_of d.verdict)) (chosen_shown law old new tree tree' ds all.1)) where
@@ -111,8 +111,8 @@ still_true platform s u r c base shape terms h = record {
 }
 
 -- of the decisions before an action and after it
-each_stays : (old new : TreeFacts) (ds : List Decision) → AllByRecursion (IsOfReady old) ds → AllByRecursion (IsOfReady new) ds → ((d : Decision) → IsOfReady old d → IsSameDomain old.nodes new.nodes d.domain)
-    → AllByRecursion (λ (d : Decision). HasDomain old.nodes d.domain × HasDomain new.nodes d.domain × IsSameDomain old.nodes new.nodes d.domain) ds
+each_stays : (old new : TreeFacts) (ds : List DomainVerdict) → AllByRecursion (IsOfReady old) ds → AllByRecursion (IsOfReady new) ds → ((d : DomainVerdict) → IsOfReady old d → IsSameDomain old.nodes new.nodes d.domain)
+    → AllByRecursion (λ (d : DomainVerdict). HasDomain old.nodes d.domain × HasDomain new.nodes d.domain × IsSameDomain old.nodes new.nodes d.domain) ds
 each_stays old new [] a b same = tt
 each_stays old new (d ∷ ds) a b same = ((a.0.there, b.0.there, same d a.0), each_stays old new ds a.1 b.1 same)
 

@@ -22,7 +22,7 @@ use Rattle.sysmem_tree.specs.Node.{NodeFacts}
 use Rattle.sysmem_tree.specs.Shape.{members_of}
 use Rattle.sysmem_tree.specs.Table.{allows, suits_node, makes}
 use Rattle.sysmem_tree.specs.Tree.{Applied, applied, tree_after, node_after, nodes_made, left_out_but, decided}
-use Rattle.sysmem_alloc.specs.Decision.{Decision, answer_of, choices_of}
+use Rattle.sysmem_alloc.specs.Decision.{DomainVerdict, answer_of, choices_of}
 use Rattle.sysmem_alloc.specs.Entry.{BookEntry, Acted, Decided, entry_in, deed_with}
 use Rattle.sysmem_alloc.specs.History.{after_answer, after_entry, replay_from, Allows, AreAllowed}
 use Rattle.sysmem_alloc.specs.State.{State}
@@ -98,7 +98,7 @@ entry_keeps s (Acted i deed) k c h = by (applied s.tree i deed) refl where
       (in_append (slice_set s.tree.nodes i (node_after deed n)) (nodes_made (length s.tree.nodes) i n (kind_of deed) (makes (kind_of deed))) k c
       (in_set s.tree.nodes i k n (node_after deed n) c ok.there (acted_keeps deed n ok.allowed) h))
 entry_keeps s (Decided e) k c h = by (choices_of d.verdict) where
-  d : Decision
+  d : DomainVerdict
   d = answer_of e
 
   by : (o : Option (List ℕ)) → IsSetTo (decided s.tree d.domain o).nodes k c

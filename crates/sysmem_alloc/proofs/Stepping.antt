@@ -20,7 +20,7 @@ use Rattle.sysmem_tree.specs.Selection.{IsSelection}
 use Rattle.sysmem_tree.specs.Shape.{by_number, forest_of}
 use Rattle.sysmem_tree.specs.Tree.{Applied, applied, decided}
 use Rattle.sysmem_alloc.specs.Claims.{IsRightClaim}
-use Rattle.sysmem_alloc.specs.Decision.{Decision, answer_of, choices_of, verdict_in}
+use Rattle.sysmem_alloc.specs.Decision.{DomainVerdict, answer_of, choices_of, verdict_in}
 use Rattle.sysmem_alloc.specs.Entry.{BookEntry, Acted, Decided, tree_entry}
 use Rattle.sysmem_alloc.specs.History.{after_answer, after_entry, replay_from, replay, Allows, AreAllowed, IsLegal}
 use Rattle.sysmem_alloc.specs.Sound.{AreDistinct, IsOfReady, IsSoundState, MayWait, roots_of}
@@ -82,7 +82,7 @@ module _ (sound_stays : SoundStays) (ready_stays : ReadyStays) where
         undecided = λ r _. subst (λ (x : TreeFacts). decision_of x.domains r ≡ decision_of t.domains r) ok.tree (decision_acted t n r (kind_of deed));
       }
 
-  still_ready : (t u : TreeFacts) (added : List ℕ) → Follows t u added → (d : Decision) → IsOfReady t d → IsOfReady u d
+  still_ready : (t u : TreeFacts) (added : List ℕ) → Follows t u added → (d : DomainVerdict) → IsOfReady t d → IsOfReady u d
   still_ready t u added f d r = record { there = f.there d.domain r.there; ready = f.ready d.domain r.there r.ready }
 
   acted_sound : (s : State) (i : ℕ) (deed : Deed) (made : Applied) → IsSoundState s → applied s.tree i deed ≡ Ok made → IsSoundState (after_action s made.tree)
@@ -115,7 +115,7 @@ module _ (sound_stays : SoundStays) (ready_stays : ReadyStays) where
     not_both : (b : Bool) → b ≡ true → b ≡ false → ⊥
     not_both b on off = absurd (cc)
 
-  decided_sound : (s : State) (d : Decision) (choices : Option (List ℕ)) (waiting accepted : List ℕ) → IsSoundState s → s.waiting ≡ waiting → slice_get waiting 0 ≡ Some d.domain
+  decided_sound : (s : State) (d : DomainVerdict) (choices : Option (List ℕ)) (waiting accepted : List ℕ) → IsSoundState s → s.waiting ≡ waiting → slice_get waiting 0 ≡ Some d.domain
       → trees.Accepts s.tree (trees.Decided d.domain choices)
       → IsSoundState (record { tree = decided s.tree d.domain choices; decisions = s.decisions ++ d ∷ []; waiting = drop 1 waiting ++ newly_ready s.tree (decided s.tree d.domain choices); accepted = accepted })
   decided_sound s d choices [] accepted sound is first ok = absurd (cc)
@@ -147,7 +147,7 @@ module _ (sound_stays : SoundStays) (ready_stays : ReadyStays) where
     by (Ok made) is h = acted_sound s i deed made sound is
     by (Err refusal) is h = absurd (cc)
   sound_step one platform s (Decided c) sound ok =
-      let d : Decision = answer_of c in
+      let d : DomainVerdict = answer_of c in
       decided_sound s d (choices_of d.verdict) s.waiting (open_in (decided s.tree d.domain (choices_of d.verdict)).nodes (s.decisions ++ d ∷ [])) sound refl ok.0
       (accepts one platform s (Decided c) sound ok)
 

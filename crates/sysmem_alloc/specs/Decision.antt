@@ -7,7 +7,7 @@ use Rattle.verdict_claims.specs.declared.verdict.Verdict.{Verdict}
 use Rattle.verdict_claims.specs.declared.verdict.Verdict.TheVariants as verdicts
 
 -- the decision of the domain that this node roots: its verdict, or none where memory was wanted
-pub record Decision : Type 0 where
+pub record DomainVerdict : Type 0 where
   pub domain : ℕ
   pub verdict : Option Verdict
 
@@ -22,7 +22,7 @@ abbrev pub verdict_in : Option Claim → Option Verdict
 verdict_in claim = option_map (λ c. c.verdict) claim
 
 -- the decision without what proves it
-abbrev pub answer_of : Claimed → Decision
+abbrev pub answer_of : Claimed → DomainVerdict
 answer_of c = record { domain = c.domain; verdict = verdict_in c.claim }
 
 -- the choices of a verdict that chose
@@ -36,10 +36,10 @@ settings_of (Some (verdicts.Chosen chosen)) = Some chosen.settings
 settings_of _ = None
 
 -- the decision of a domain
-abbrev pub decision_for : List Decision → ℕ → Option Decision
+abbrev pub decision_for : List DomainVerdict → ℕ → Option DomainVerdict
 decision_for [] r = None
 decision_for (d ∷ ds) r = if d.domain == r then Some d else decision_for ds r
 
 -- the settings that were chosen for a domain
-abbrev pub settings_for : List Decision → ℕ → Option Settings
+abbrev pub settings_for : List DomainVerdict → ℕ → Option Settings
 settings_for ds r = option_and_then (λ d. settings_of d.verdict) (decision_for ds r)

@@ -3,7 +3,7 @@ use Rattle.std.specs.Prelude.{ℕ, Option, Some, None, option_map, List}
 use Rattle.std.specs.Arc.{arc_value}
 use Rattle.sysmem_alloc.specs.declared.entry.Entry.{Entry}
 use Rattle.sysmem_alloc.specs.declared.entry.Entry.TheVariants as entries
-use Rattle.sysmem_alloc.specs.Decision.{Claimed, Decision, answer_of, choices_of}
+use Rattle.sysmem_alloc.specs.Decision.{Claimed, DomainVerdict, answer_of, choices_of}
 use Rattle.sysmem_sanitise.specs.Participant.{Participant}
 use Rattle.verdict_claims.specs.Asked.{asks_at}
 use Rattle.sysmem_tree.specs.declared.action.ActionKind.{ActionKind}
@@ -43,7 +43,7 @@ entry_in nodes (entries.Decided r claim) =
     Decided (record { domain = r; claim = option_map (λ shared. arc_value shared) claim })
 
 -- the decision that it is, if it is one, without what proves it
-abbrev pub decision_in : Entry → Option Decision
+abbrev pub decision_in : Entry → Option DomainVerdict
 decision_in (entries.Acted i _) = None
 decision_in (entries.Decided r claim) =
     Some (answer_of (record { domain = r; claim = option_map (λ shared. arc_value shared) claim }))

@@ -17,7 +17,7 @@ use Rattle.sysmem_tree.specs.Step.{IsInitial}
 use Rattle.sysmem_tree.specs.History.{log_at}
 use Rattle.sysmem_alloc.specs.Book.{BookFacts, book_of}
 use Rattle.sysmem_alloc.specs.Claims.{HasProof, IsRightClaim}
-use Rattle.sysmem_alloc.specs.Decision.{Decision, decision_for}
+use Rattle.sysmem_alloc.specs.Decision.{DomainVerdict, decision_for}
 use Rattle.sysmem_alloc.specs.Entry.{BookEntry, Decided, tree_entry}
 use Rattle.sysmem_alloc.specs.Frozen.{FrozenFacts, IsStill}
 use Rattle.sysmem_alloc.specs.History.{AreActions, IsLegal, NoEarlyClose, SameCalls, replay}
@@ -65,7 +65,7 @@ InitialShape = (p q : PlatformFacts) (es fs : List BookEntry) → IsLegal p es �
 -- both decided it with a verdict, the answer is the same
 pub record AreConfluent (es fs : List BookEntry) : Type 0 where
   pub ready : SameReady (replay es).tree (replay fs).tree
-  pub answer : (d e : Decision) (v w : Verdict) → decision_for (replay es).decisions 0 ≡ Some d
+  pub answer : (d e : DomainVerdict) (v w : Verdict) → decision_for (replay es).decisions 0 ≡ Some d
       → decision_for (replay fs).decisions 0 ≡ Some e → d.verdict ≡ Some v → e.verdict ≡ Some w
       → IsSameAnswer v w
 

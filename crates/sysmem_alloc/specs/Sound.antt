@@ -15,7 +15,7 @@ use Rattle.sysmem_tree.specs.Node.{NodeFacts}
 use Rattle.sysmem_tree.specs.Selection.{IsSelection}
 use Rattle.sysmem_tree.specs.Shape.{by_number, forest_of}
 use Rattle.sysmem_tree.specs.Sublist.{IsSublist}
-use Rattle.sysmem_alloc.specs.Decision.{Decision, choices_of, decision_for, settings_of}
+use Rattle.sysmem_alloc.specs.Decision.{DomainVerdict, choices_of, decision_for, settings_of}
 use Rattle.sysmem_alloc.specs.State.{State, chosen_in}
 
 -- no number is there twice
@@ -34,7 +34,7 @@ pub record MayWait (t : TreeFacts) (r : ℕ) : Type 0 where
   pub undecided : is_undecided (decision_of t.domains r) ≡ true
 
 -- what is decided is a domain of the tree that is ready
-pub record IsOfReady (t : TreeFacts) (d : Decision) : Type 0 where
+pub record IsOfReady (t : TreeFacts) (d : DomainVerdict) : Type 0 where
   pub there : HasDomain t.nodes d.domain
   pub ready : is_ready t d.domain ≡ true
 
@@ -49,7 +49,7 @@ pub record IsSoundState (s : State) : Type 0 where
       ≡ length (filter (is_ready s.tree) (roots_of s.tree))
 
 -- what the tree has of a domain by what was entered for it
-abbrev pub standing_of : Option Decision → Standing
+abbrev pub standing_of : Option DomainVerdict → Standing
 standing_of None = Undecided
 standing_of (Some d) = if is_some (choices_of d.verdict) then Chosen else NoneChosen
 
@@ -63,7 +63,7 @@ pub record AreSettingsOn (platform : PlatformFacts) (s : Settings) : Type 0 wher
 
 -- what a decision chose: such settings, for a selection of its domain
 pub record IsDecisionOn (platform : PlatformFacts) (nodes : List NodeFacts)
-    (d : Decision) : Type 0 where
+    (d : DomainVerdict) : Type 0 where
   pub settings : IfSome (settings_of d.verdict) (AreSettingsOn platform)
   pub selects : IfSome (choices_of d.verdict)
       (λ cs. (e : Forest ℕ) × IsSelection (forest_of by_number nodes d.domain []) cs e)

@@ -9,14 +9,14 @@ use Rattle.sysmem_tree.specs.Domain.{TreeFacts, has_failed, host_node, is_ready}
 use Rattle.sysmem_tree.specs.Node.{NodeFacts}
 use Rattle.sysmem_tree.specs.Shape.{participants_of}
 use Rattle.sysmem_tree.specs.Tree.{first_tree}
-use Rattle.sysmem_alloc.specs.Decision.{Decision, choices_of, decision_for, settings_for}
+use Rattle.sysmem_alloc.specs.Decision.{DomainVerdict, choices_of, decision_for, settings_for}
 
 -- the tree; the decisions in their order; the domains that wait for one, in the order in which
 -- they became ready; and the participants that are accepted for the first of them or, while none
 -- waits, those whose collection is open
 pub record State : Type 0 where
   pub tree : TreeFacts
-  pub decisions : List Decision
+  pub decisions : List DomainVerdict
   pub waiting : List ℕ
   pub accepted : List ℕ
 
@@ -45,16 +45,16 @@ abbrev pub is_open : List NodeFacts → ℕ → Bool
 is_open nodes i = unwrap_or (option_map (λ n. n.state.is_open) (slice_get nodes i)) false
 
 -- the participants of what a decision chose, in pre-order
-abbrev pub chosen_by : List NodeFacts → Decision → List ℕ
+abbrev pub chosen_by : List NodeFacts → DomainVerdict → List ℕ
 chosen_by nodes d =
     unwrap_or (option_map (participants_of nodes d.domain) (choices_of d.verdict)) []
 
 -- the participants of the collection's Chosen domains, in the order of the decisions
-abbrev pub chosen_in : List NodeFacts → List Decision → List ℕ
+abbrev pub chosen_in : List NodeFacts → List DomainVerdict → List ℕ
 chosen_in nodes ds = flat_map (chosen_by nodes) ds
 
 -- those of them whose collection is still open
-abbrev pub open_in : List NodeFacts → List Decision → List ℕ
+abbrev pub open_in : List NodeFacts → List DomainVerdict → List ℕ
 open_in nodes ds = filter (is_open nodes) (chosen_in nodes ds)
 
 -- as long as a domain waits, the participants that were accepted for the first one are kept
@@ -73,7 +73,7 @@ after_action s t = record {
 
 -- after a decision of the first domain that waits, which made this
 -- tree: what is accepted is taken anew
-abbrev pub after_decision : State → Decision → TreeFacts → State
+abbrev pub after_decision : State → DomainVerdict → TreeFacts → State
 after_decision s d t = record {
   tree = t;
   decisions = s.decisions ++ d ∷ [];

@@ -16,7 +16,7 @@ use Rattle.sysmem_tree.specs.Path.{node_at}
 use Rattle.sysmem_tree.specs.Tree.{Applied, applied}
 use Rattle.sysmem_tree.proofs.CallerLemmas.{node_within}
 use Rattle.sysmem_alloc.specs.Book.{BookFacts, IsBook}
-use Rattle.sysmem_alloc.specs.Decision.{Decision, decision_for}
+use Rattle.sysmem_alloc.specs.Decision.{DomainVerdict, decision_for}
 use Rattle.sysmem_alloc.specs.Entry.{BookEntry, Acted, Decided, tree_entry}
 use Rattle.sysmem_alloc.specs.History.{IsLegal, SameCalls, after_answer, after_entry, replay, replay_from}
 use Rattle.sysmem_alloc.specs.Laws.{AreConfluent, Confluence, LegalIsSound}
@@ -101,14 +101,14 @@ same_calls one sound b c ss ts a x is also audited other same path = log_of_book
   by None None here there = calls_nowhere b path here ∙ sym (calls_nowhere c path there)
 
 -- a verdict that a decision gave was entered
-entered_for : (s : State) (v : Verdict) → verdict_of s 0 ≡ Some v → IsDecision v → (d : Decision) × (decision_for s.decisions 0 ≡ Some d) × (d.verdict ≡ Some v)
+entered_for : (s : State) (v : Verdict) → verdict_of s 0 ≡ Some v → IsDecision v → (d : DomainVerdict) × (decision_for s.decisions 0 ≡ Some d) × (d.verdict ≡ Some v)
 entered_for s v is decided = by (has_failed s.tree 0) (decision_for s.decisions 0) refl is where
-  in_it : (d : Decision) (o : Option Verdict) → d.verdict ≡ o → Some (unwrap_or o verdicts.NoMemory) ≡ Some v → d.verdict ≡ Some v
+  in_it : (d : DomainVerdict) (o : Option Verdict) → d.verdict ≡ o → Some (unwrap_or o verdicts.NoMemory) ≡ Some v → d.verdict ≡ Some v
   in_it d None has e = absurd (subst IsDecision (sym (same_Some verdicts.NoMemory v e)) decided)
   in_it d (Some w) has e = has ∙ e
 
-  by : (failed : Bool) (o : Option Decision) → decision_for s.decisions 0 ≡ o → (if failed then Some verdicts.Failed else option_map (λ (d : Decision). unwrap_or d.verdict verdicts.NoMemory) o) ≡ Some v
-      → (d : Decision) × (decision_for s.decisions 0 ≡ Some d) × (d.verdict ≡ Some v)
+  by : (failed : Bool) (o : Option DomainVerdict) → decision_for s.decisions 0 ≡ o → (if failed then Some verdicts.Failed else option_map (λ (d : DomainVerdict). unwrap_or d.verdict verdicts.NoMemory) o) ≡ Some v
+      → (d : DomainVerdict) × (decision_for s.decisions 0 ≡ Some d) × (d.verdict ≡ Some v)
   by true o has e = absurd (subst IsDecision (sym (same_Some verdicts.Failed v e)) decided)
   by false None has e = absurd (cc)
   by false (Some d) has e = (d, has, in_it d d.verdict refl e)

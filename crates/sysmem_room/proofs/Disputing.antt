@@ -20,7 +20,7 @@ use Rattle.sysmem_tree.specs.Path.{node_at}
 use Rattle.sysmem_tree.specs.Table.{allows, makes, wants_child}
 use Rattle.sysmem_tree.specs.Tree.{applied, applied_at, is_barred, has_room}
 use Rattle.sysmem_alloc.specs.Book.{BookFacts, IsBook}
-use Rattle.sysmem_alloc.specs.Decision.{Decision, choices_of, decision_for}
+use Rattle.sysmem_alloc.specs.Decision.{DomainVerdict, choices_of, decision_for}
 use Rattle.sysmem_alloc.specs.Frozen.{FrozenFacts}
 use Rattle.sysmem_alloc.specs.Laws.{LegalAgrees}
 use Rattle.sysmem_alloc.specs.Sound.{AgreesWithTree, standing_of}
@@ -42,8 +42,8 @@ chose (Some v) chosen is = ap (λ w. if is_some (choices_of (Some w)) then stand
 -- actions in such a domain aren't refused for its failure
 unbarred : (platform : PlatformFacts) (s : State) (r : ℕ) (chosen : ChosenFacts) → AgreesWithTree platform s → verdict_of s r ≡ Some (verdicts.Chosen chosen) → is_barred s.tree r ≡ false
 unbarred platform s r chosen agrees is = by (has_failed s.tree r) (decision_for s.decisions r) (decision_of s.tree.domains r) (agrees.standing r) is where
-  by : (f : Bool) (d : Option Decision) (st : Standing) → st ≡ standing_of d
-      → ◌≡◌ {A = Option Verdict} (if f then Some verdicts.Failed else option_map (λ (x : Decision). unwrap_or x.verdict verdicts.NoMemory) d) (Some (verdicts.Chosen chosen))
+  by : (f : Bool) (d : Option DomainVerdict) (st : Standing) → st ≡ standing_of d
+      → ◌≡◌ {A = Option Verdict} (if f then Some verdicts.Failed else option_map (λ (x : DomainVerdict). unwrap_or x.verdict verdicts.NoMemory) d) (Some (verdicts.Chosen chosen))
       → (f || is_none_chosen st) ≡ false
   by true d st stands is = absurd (cc)
   by false None st stands is = absurd (cc)

@@ -4,7 +4,7 @@ use Rattle.std.specs.Prelude.{map}
 use Rattle.std.specs.List.{filter_map}
 use Rattle.verdict_claims.specs.declared.certificate.Claim.{Claim}
 use Rattle.sysmem_alloc.specs.Book.{kept_book}
-use Rattle.sysmem_alloc.specs.Decision.{Decision}
+use Rattle.sysmem_alloc.specs.Decision.{DomainVerdict}
 use Rattle.sysmem_alloc.specs.Entry.{decision_in}
 use Rattle.sysmem_alloc.specs.Sound.{AreDistinct}
 use Rattle.sysmem_alloc.specs.State.{verdict_of}
@@ -25,7 +25,7 @@ returns-then-is_undecided c =
     ∙ ap (λ b. verdict_of b.state c.args.domain) c.self.view_is
 
 pub entered_for-requires : goal.entered_for-requires
-entered_for-requires c = subst (λ h. AreDistinct (map (λ (d : Decision). d.domain) (filter_map decision_in h))) (sym c.deref.ensures.value) (entered_once c.legal_agrees.ensures _ c.self.invariant.0)
+entered_for-requires c = subst (λ h. AreDistinct (map (λ (d : DomainVerdict). d.domain) (filter_map decision_in h))) (sym c.deref.ensures.value) (entered_once c.legal_agrees.ensures _ c.self.invariant.0)
 
 pub returns-in_err-claim : goal.returns-in_err-claim
 returns-in_err-claim c =
