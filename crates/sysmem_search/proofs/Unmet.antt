@@ -1,5 +1,5 @@
 -- Where no settings meet what is settled.
-use Rattle.std.proofs.Common.{◌≡◌, ℕ, Bool, true, false, List, [], Option, Some, None, length, refl, subst}
+use Rattle.std.proofs.Common.{◌≡◌, ℕ, Bool, true, false, List, [], Option, Some, None, length, refl, sym, ap, subst}
 use Rattle.std.specs.Prelude.{◌↔◌, IfSome, IfNone, IsTrue, is_none, is_some, not, option_map}
 use Rattle.sysmem_merge.specs.declared.settings.Settings.{Settings}
 use Rattle.sysmem_merge.specs.Settings.{MeetsAs}
@@ -75,3 +75,7 @@ no_conflict m cs found prefix none unmet met =
     let (d, leads) = some_of (after (forest m) cs) prefix in
     let (t, meets) = subst (λ o. IfNone o ((t : Settings) × MeetsHere m d t)) none (met d leads) in
     of_some (λ x. (t : Settings) → ¬ (MeetsHere m x t)) (after (forest m) cs) d leads unmet t meets
+
+-- a selection leaves no group
+pub last_is_whole : (m : Matter) (cs : List ℕ) (d : Forest Member) → after (forest m) cs ≡ Some d → IfSome (after (forest m) cs) (λ e. option_map length (choices e) ≡ None) → true ≡ is_none (choices d)
+last_is_whole m cs d leads last = sym (ap is_none (none_many (choices d) (of_some (λ e. option_map length (choices e) ≡ None) (after (forest m) cs) d leads last)))

@@ -1,6 +1,6 @@
 //! What a search asks where it stands.
 
-ghost use Rattle.std.specs.Prelude.{◌≡◌, ◌≤◌, ◌<◌, ◌↔◌, ◌++◌, [], ◌∷◌, ℕ, List, length, is_some, option_map, Option, IfOk, IfSome, IsTrue, MatchOption, OnOk};
+ghost use Rattle.std.specs.Prelude.{◌≡◌, ◌≤◌, ◌<◌, ◌↔◌, ◌++◌, [], ◌∷◌, ℕ, List, length, is_some, option_map, None, Option, IfOk, IfSome, IsTrue, MatchOption, OnOk};
 ghost use Rattle.sysmem_merge.specs.declared.settings.Settings.{Settings as Settled};
 ghost use Rattle.sysmem_search.specs.Live.{SomeMeet};
 ghost use Rattle.verdict_claims.specs.Conflict.{IsConflictFor};
@@ -202,6 +202,57 @@ impl<'a> Question<'a> {
             &mut self.learnt,
         )?;
         match found {
+            Some(conflict) => Ok(conflict),
+            None => unreachable!(),
+        }
+    }
+
+    /// Whether the choices and this one are a selection.
+    pub(crate) fn is_last(&self, choice: u8) -> bool
+        requires { IsPrefix (forest self.now.matter) (self.now.choices ++ choice ∷ []) }
+        ensures { IsTrue result
+            → IfSome (after (forest self.now.matter) (self.now.choices ++ choice ∷ []))
+            (λ d. option_map length (choices d) ≡ None) }
+    {
+        none_open_is_selection();
+        let Some(group) = self.levels[self.prefix.choices().len()].group else {
+            return false;
+        };
+        let child = self.layout.child_at(group, choice);
+        self.layout.open_after(child).is_none()
+    }
+
+    /// The conflict of the participants of the selection that the choices and this one are which
+    /// comes first, where no settings meet them. What they ask together isn't kept.
+    pub(crate) fn last_conflict(&mut self, choice: u8) -> Result<Conflict, AllocError>
+        requires room { length self.old.choices < 128 }
+        requires prefix { IsPrefix (forest self.old.matter) (self.old.choices ++ choice ∷ []) }
+        requires last { IfSome (after (forest self.old.matter) (self.old.choices ++ choice ∷ []))
+            (λ d. option_map length (choices d) ≡ None) }
+        requires unmet { IfSome (after (forest self.old.matter) (self.old.choices ++ choice ∷ []))
+            (λ d. (t : Settled) → ¬ (MeetsHere self.old.matter d t)) }
+        ensures same { self.new ≡ self.old }
+        ensures conflict { IfOk result (λ conflict.
+            IfSome (after (forest self.old.matter) (self.old.choices ++ choice ∷ []))
+            (λ d. IsConflictFor self.old.matter.platform (terms self.old.matter) d conflict)) }
+        ensures first { IfOk result (λ conflict.
+            IfSome (after (forest self.old.matter) (self.old.choices ++ choice ∷ []))
+            (λ d. IsFirstConflictFor self.old.matter.platform (terms self.old.matter) d conflict)) }
+    {
+        self.prefix.push(choice);
+        let found = find_conflict_as(
+            self.alloc,
+            self.platform,
+            self.tree,
+            self.domain,
+            &self.layout,
+            self.base,
+            &self.prefix,
+            true,
+            &mut self.learnt,
+        );
+        self.prefix.pop();
+        match found? {
             Some(conflict) => Ok(conflict),
             None => unreachable!(),
         }

@@ -1,6 +1,6 @@
 //! Refutations of what can't be met, item by item.
 
-ghost use Rattle.std.specs.Prelude.{◌≡◌, ◌<◌, ◌≤◌, ◌++◌, [], ◌∷◌, length, IfOk, IfSome, OnOk};
+ghost use Rattle.std.specs.Prelude.{◌≡◌, ◌<◌, ◌≤◌, ◌++◌, [], ◌∷◌, length, option_map, None, IfOk, IfSome, OnOk};
 ghost use Rattle.sysmem_merge.specs.declared.settings.Settings.{Settings as Settled};
 ghost use Rattle.verdict_claims.specs.Certificate.{RefutesEarlier};
 ghost use Rattle.verdict_claims.specs.Conflict.{IsConflictFor};
@@ -9,6 +9,7 @@ ghost use Rattle.verdict_claims.specs.Verdict.{IsForestUnmet, IsUnmetBefore};
 ghost use Rattle.sysmem_search.specs.Cut.{AreCut};
 ghost use Rattle.sysmem_search.specs.Question.{MeetsOf, MeetsHere};
 ghost use Rattle.sysmem_search.specs.Refuting.{AddsRefutation, RefutesFirst};
+ghost use Rattle.sysmem_tree.specs.Forest.{choices};
 ghost use Rattle.sysmem_tree.specs.Selection.{IsPrefix, after};
 
 use crate::question::Question;
@@ -28,6 +29,28 @@ fn refute_here(question: &mut Question<'_>, items: &mut Vec<Item>) -> Result<(),
         (λ d. AddsRefutation question.old.matter d items.old.items items.new.items)) }
 {
     items.push(Item::Leaf(question.conflict()?))?;
+    Ok(())
+}
+
+/// Adds a conflict of the selection that the question's choices and this one are, where no
+/// settings meet it.
+fn refute_last(
+    question: &mut Question<'_>,
+    choice: u8,
+    items: &mut Vec<Item>,
+) -> Result<(), AllocError>
+    requires room { length question.old.choices < 128 }
+    requires prefix { IsPrefix (forest question.old.matter) (question.old.choices ++ choice ∷ []) }
+    requires last { IfSome (after (forest question.old.matter) (question.old.choices ++ choice ∷ []))
+        (λ d. option_map length (choices d) ≡ None) }
+    requires unmet { IfSome (after (forest question.old.matter) (question.old.choices ++ choice ∷ []))
+        (λ d. IsForestUnmet (MeetsOf question.old.matter) d) }
+    ensures same { question.new ≡ question.old }
+    ensures refuted { OnOk result
+        (IfSome (after (forest question.old.matter) (question.old.choices ++ choice ∷ []))
+        (λ d. AddsRefutation question.old.matter d items.old.items items.new.items)) }
+{
+    items.push(Item::Leaf(question.last_conflict(choice)?))?;
     Ok(())
 }
 
@@ -56,9 +79,13 @@ pub(crate) fn refute_from(
     }
     items.push(Item::Split(children as u64))?;
     for choice in 0..children {
-        question.enter(choice)?;
-        refute_from(question, items)?;
-        question.leave();
+        if question.is_last(choice) {
+            refute_last(question, choice, items)?;
+        } else {
+            question.enter(choice)?;
+            refute_from(question, items)?;
+            question.leave();
+        }
     }
     Ok(())
 }
