@@ -11,12 +11,14 @@ use Rattle.serde_json.specs.Data.{Items, array}
 use Rattle.serde_json.specs.View.{items_of}
 use Rattle.serde_json.specs.Written.{outline, items_outline, items_text}
 use Rattle.serde_json.proofs.Texts.{print-outline}
+use Rattle.verdict_claims.specs.declared.conflict.Conflict.{Conflict}
+use Rattle.verdict_claims.specs.declared.conflict.Conflict.TheVariants.{Count, Places, Offers, Fixed}
 use Rattle.verdict_claims.specs.Line.{LineFacts}
 use Rattle.certificate_text.specs.Certificate.{tokens_of}
 use Rattle.certificate_text.specs.Puts.{Adds}
 use Rattle.json.specs.Written.{Written, Writes}
 use Rattle.certificate_text.specs.Out.{out_view, IsOut}
-use Rattle.certificate_text.specs.Told.{line_data, lines_data, path_data, paths_data}
+use Rattle.certificate_text.specs.Told.{conflict_data, line_data, lines_data, path_data, paths_data}
 use Rattle.certificate_text.specs.declared.json_writer.Writer.TheInside.{Inside}
 
 pub shows_printed : (w : Inside) (h : IsOut w) → (out_view w).tokens ≡ h.printed
@@ -142,7 +144,7 @@ module _ (w v : Inside) (h : IsOut w) (ds : Items) (numbers : HasNumbers (outlin
   pub list_added : (self : Written) → out_view w ≡ self → Adds self (out_view v) (tokens_of (array ds))
   list_added self is = record { tokens = listed_tokens ∙ ap (λ s. s.tokens ++ tokens_of (array ds)) is; before = ap (λ s. s.before) is }
 
--- ---- lists of paths and of lines have no numbers
+-- ---- lists of paths and of lines, and conflicts, have no numbers
 
 paths_plain : (paths : List (List ℕ)) → ItemsHaveNumbers (items_outline (items_of (map path_data paths)))
 paths_plain [] = tt
@@ -157,3 +159,10 @@ lines_plain (line ∷ lines) = ((tt, (paths_have line.nodes, tt)), lines_plain l
 
 pub lines_have : (lines : List LineFacts) → HasNumbers (outline (lines_data lines))
 lines_have lines = lines_plain lines
+
+-- nor has a conflict
+pub conflict_has : (conflict : Conflict) → HasNumbers (outline (conflict_data conflict))
+conflict_has (Count line) = (tt, (paths_have line.nodes, tt))
+conflict_has (Fixed field node) = (tt, (paths_have (node ∷ []), tt))
+conflict_has (Places lines) = (lines_have lines, tt)
+conflict_has (Offers lines) = (lines_have lines, tt)

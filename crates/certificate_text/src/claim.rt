@@ -11,7 +11,8 @@ ghost use Rattle.certificate_text.specs.Told.{claim_data, decision_data, lines_d
 
 use crate::json_writer::Writer;
 use crate::member::put_text;
-use crate::part::{Part, put_list_at};
+use crate::part::{Part, Put, put_list_at};
+use crate::path::put_path;
 use crate::reading::{expect_object, list_at, list_of, number_to, text_at};
 use crate::settings::{put_settings, settings_of};
 use crate::unread::Unread;
@@ -22,14 +23,16 @@ use sysmem_sanitise::Platform;
 use sysmem_tree::{Path, Prefix};
 use verdict_claims::{Certificate, Chosen, Claim, Lines, Proof, Refutation, Verdict};
 
-impl Part for u8 {
+impl Put for u8 {
     ghost told = { count_data };
 
-    ghost said = { number_to 255 };
-
-    fn put(&self, out: &mut Writer, _text: &mut String) -> Result<(), AllocError> {
+    fn put(&self, out: &mut Writer) -> Result<(), AllocError> {
         out.u64(u64::from(*self))
     }
+}
+
+impl Part for u8 {
+    ghost said = { number_to 255 };
 
     fn read(_alloc: Global, value: &Value) -> Result<u8, Unread> {
         match number_to(value, u64::from(u8::MAX)) {
@@ -77,9 +80,9 @@ fn put_claim(
 {
     out.begin_object()?;
     out.key("domain")?;
-    path.put(out, text)?;
-    put_proof_members(out, text, proof)?;
-    put_verdict_members(out, text, platform, verdict)?;
+    put_path(out, text, path.ordinals())?;
+    put_proof_members(out, proof)?;
+    put_verdict_members(out, platform, verdict)?;
     put_text(out, "verdict", verdict_name(verdict))?;
     out.end_object()
 }
@@ -96,24 +99,20 @@ pub(crate) fn verdict_name(verdict: &Verdict) -> &'static str
     }
 }
 
-fn put_proof_members(out: &mut Writer, text: &mut String, proof: &Proof) -> Result<(), AllocError>
+fn put_proof_members(out: &mut Writer, proof: &Proof) -> Result<(), AllocError>
     ensures { PutsMembers result out.old out.new (proof_members proof.now) }
 {
     match proof {
-        Proof::Choice(certificate) => put_certificate(out, text, certificate),
-        Proof::Empty(refutation) => put_refutation(out, text, refutation),
+        Proof::Choice(certificate) => put_certificate(out, certificate),
+        Proof::Empty(refutation) => put_refutation(out, refutation),
         Proof::Nothing => Ok(()),
     }
 }
 
-fn put_certificate(
-    out: &mut Writer,
-    text: &mut String,
-    certificate: &Certificate,
-) -> Result<(), AllocError>
+fn put_certificate(out: &mut Writer, certificate: &Certificate) -> Result<(), AllocError>
     ensures { PutsMembers result out.old out.new (proof_members (Proof.Choice certificate.now)) }
 {
-    put_list_at(out, text, "earlier", certificate.earlier())?;
+    put_list_at(out, "earlier", certificate.earlier())?;
     put_lines_at(out, "offers", certificate.offers())?;
     put_lines_at(out, "places", certificate.places())
 }
@@ -125,40 +124,31 @@ fn put_lines_at(out: &mut Writer, key: &str, lines: &Lines) -> Result<(), AllocE
     out.lines(lines.as_slice())
 }
 
-fn put_refutation(
-    out: &mut Writer,
-    text: &mut String,
-    refutation: &Refutation,
-) -> Result<(), AllocError>
+fn put_refutation(out: &mut Writer, refutation: &Refutation) -> Result<(), AllocError>
     ensures { PutsMembers result out.old out.new (proof_members (Proof.Empty refutation.now)) }
 {
-    put_list_at(out, text, "refutation", refutation.items())
+    out.key("refutation")?;
+    out.refutation(refutation.items())
 }
 
 fn put_verdict_members(
     out: &mut Writer,
-    text: &mut String,
     platform: &Platform,
     verdict: &Verdict,
 ) -> Result<(), AllocError>
     ensures { PutsMembers result out.old out.new (verdict_members platform.now verdict.now) }
 {
     match verdict {
-        Verdict::Chosen(chosen) => put_chosen(out, text, platform, chosen),
+        Verdict::Chosen(chosen) => put_chosen(out, platform, chosen),
         _ => Ok(()),
     }
 }
 
-fn put_chosen(
-    out: &mut Writer,
-    text: &mut String,
-    platform: &Platform,
-    chosen: &Chosen,
-) -> Result<(), AllocError>
+fn put_chosen(out: &mut Writer, platform: &Platform, chosen: &Chosen) -> Result<(), AllocError>
     ensures { PutsMembers result out.old out.new
         (verdict_members platform.now (Verdict.Chosen chosen.now)) }
 {
-    put_list_at(out, text, "selection", chosen.selection().choices())?;
+    put_list_at(out, "selection", chosen.selection().choices())?;
     put_settings_at(out, "settings", platform, chosen.settings())
 }
 

@@ -1,16 +1,14 @@
 //! Items of refutations, and refutations.
 
 ghost use Rattle.std.specs.Prelude.{◌≡◌, IfOk};
-ghost use Rattle.certificate_text.specs.Puts.{PutsData};
 ghost use Rattle.certificate_text.specs.Reading.{Says};
 ghost use Rattle.certificate_text.specs.Said.{conflict_said, earlier_said, fixed_by, item_said, lines_said, refutation_said, split_said};
 ghost use Rattle.serde_json.specs.View.{view};
-ghost use Rattle.certificate_text.specs.Told.{conflict_data, earlier_data, item_data, refutation_data, lines_data};
-ghost use Rattle.serde_json.specs.Data.{object, member, no_members};
+ghost use Rattle.certificate_text.specs.Told.{earlier_data, refutation_data};
 
 use crate::json_writer::Writer;
-use crate::line::{put_named, read_named};
-use crate::part::{Part, put_list};
+use crate::line::read_named;
+use crate::part::{Part, Put, put_list};
 use crate::reading::{expect_object, has_key, list_at, list_of, number_at};
 use crate::unread::Unread;
 use serde_json::Value;
@@ -20,16 +18,7 @@ use sysmem_tree::Path;
 use verdict_claims::{Conflict, EarlierChoices, Item, Line, Lines, PathList, Refutation};
 
 impl Part for Item {
-    ghost told = { item_data };
-
     ghost said = { item_said };
-
-    fn put(&self, out: &mut Writer, text: &mut String) -> Result<(), AllocError> {
-        match self {
-            Item::Split(children) => put_split(out, *children),
-            Item::Leaf(conflict) => put_conflict(out, text, conflict),
-        }
-    }
 
     fn read(alloc: Global, value: &Value) -> Result<Item, Unread> {
         if has_key(value, "split") {
@@ -39,66 +28,36 @@ impl Part for Item {
     }
 }
 
-impl Part for Refutation {
+impl Put for Refutation {
     ghost told = { refutation_data };
 
-    ghost said = { refutation_said };
-
-    fn put(&self, out: &mut Writer, text: &mut String) -> Result<(), AllocError> {
-        put_list(out, text, self.items())
+    fn put(&self, out: &mut Writer) -> Result<(), AllocError> {
+        out.refutation(self.items())
     }
+}
+
+impl Part for Refutation {
+    ghost said = { refutation_said };
 
     fn read(alloc: Global, value: &Value) -> Result<Refutation, Unread> {
         Ok(Refutation::new(list_of(alloc, value)?))
     }
 }
 
-impl Part for EarlierChoices {
+impl Put for EarlierChoices {
     ghost told = { earlier_data };
 
-    ghost said = { earlier_said };
-
-    fn put(&self, out: &mut Writer, text: &mut String) -> Result<(), AllocError> {
-        put_list(out, text, self.refutations())
+    fn put(&self, out: &mut Writer) -> Result<(), AllocError> {
+        put_list(out, self.refutations())
     }
+}
+
+impl Part for EarlierChoices {
+    ghost said = { earlier_said };
 
     fn read(alloc: Global, value: &Value) -> Result<EarlierChoices, Unread> {
         Ok(EarlierChoices::new(list_of(alloc, value)?))
     }
-}
-
-fn put_split(out: &mut Writer, children: u64) -> Result<(), AllocError>
-    ensures { PutsData result out.old out.new (item_data (Item.Split children)) }
-{
-    out.begin_object()?;
-    out.key("split")?;
-    out.u64(children)?;
-    out.end_object()
-}
-
-fn put_conflict(out: &mut Writer, text: &mut String, conflict: &Conflict) -> Result<(), AllocError>
-    ensures { PutsData result out.old out.new (conflict_data conflict.now) }
-{
-    match conflict {
-        Conflict::Count(line) => put_named(out, text, "count", line.field(), line.nodes()),
-        Conflict::Fixed(field, node) => {
-            let nodes = PathList::new(*text.allocator()).with(node.ordinals())?;
-            put_named(out, text, "fixed", *field, &nodes)
-        }
-        Conflict::Places(lines) => put_lines(out, "places", lines),
-        Conflict::Offers(lines) => put_lines(out, "offers", lines),
-    }
-}
-
-/// Puts lines under a kind: `{"places":[..]}`.
-fn put_lines(out: &mut Writer, kind: &str, lines: &Lines) -> Result<(), AllocError>
-    ensures { PutsData result out.old out.new
-        (object (member kind.now (lines_data lines.now) no_members)) }
-{
-    out.begin_object()?;
-    out.key(kind)?;
-    out.lines(lines.as_slice())?;
-    out.end_object()
 }
 
 fn split_of(value: &Value) -> Option<Item>

@@ -1,22 +1,22 @@
-//! Writes the JSON of a certificate. Lists of paths and of lines, which are most of it, are put as
-//! text.
+//! Writes the JSON of a certificate. Refutations and lists of lines, which are most of it, are put
+//! as text.
 
 ghost use Rattle.std.specs.Prelude.{◌≡◌, ◌++◌, [], ◌∷◌, IfOk, OnOk};
 ghost use Rattle.certificate_text.specs.Certificate.{tokens_of};
 ghost use Rattle.certificate_text.specs.Puts.{Adds, PutsData};
-ghost use Rattle.certificate_text.specs.Told.{lines_data, paths_data};
+ghost use Rattle.certificate_text.specs.Told.{lines_data, refutation_data};
 ghost use Rattle.json.specs.Print.{IsPrintable, print};
 ghost use Rattle.json.specs.Reads.{token_of};
 ghost use Rattle.json.specs.Token.{begin_object, end_object, begin_array, end_array, key, string, number, null};
 ghost use Rattle.json.specs.Written.{Writes};
 ghost use Rattle.std.specs.Fmt.{decimal};
 
-use crate::text::{push_line_items, push_path_items};
+use crate::text::{push_items, push_line_items};
 use json::Token;
 use std::alloc::{AllocError, Global};
 use std::marker::Model;
 use std::mem;
-use verdict_claims::{Line, PathList};
+use verdict_claims::{Item, Line};
 
 /// JSON that is being written. It places the commas and the colons, and leaves the nesting to its
 /// caller.
@@ -119,13 +119,13 @@ impl Writer {
         self.token(Token::Null)
     }
 
-    /// Puts a list of paths.
-    pub(crate) fn paths(&mut self, paths: &PathList) -> Result<(), AllocError>
-        ensures { PutsData result self.old self.new (paths_data paths.now) }
+    /// Puts the items of a refutation, as a list.
+    pub(crate) fn refutation(&mut self, items: &[Item]) -> Result<(), AllocError>
+        ensures { PutsData result self.old self.new (refutation_data items.now) }
     {
         let alloc = *self.done.allocator();
         let whole = mem::replace(self, Writer::new(alloc));
-        *self = whole.with_paths(paths)?;
+        *self = whole.with_refutation(items)?;
         Ok(())
     }
 
@@ -139,12 +139,12 @@ impl Writer {
         Ok(())
     }
 
-    fn with_paths(self, paths: &PathList) -> Result<Writer, AllocError>
-        ensures { IfOk result (λ writer. Adds self writer (tokens_of (paths_data paths.now))) }
+    fn with_refutation(self, items: &[Item]) -> Result<Writer, AllocError>
+        ensures { IfOk result (λ writer. Adds self writer (tokens_of (refutation_data items.now))) }
     {
         let Writer { mut done, behind } = self;
         let empty = begin_list(&mut done, behind)?;
-        push_path_items(&mut done, paths)?;
+        push_items(&mut done, items)?;
         let behind = end_of_list(empty)?;
         Ok(Writer { done, behind })
     }

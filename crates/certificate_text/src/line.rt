@@ -1,31 +1,22 @@
 //! Lines of the conflict table.
 
-ghost use Rattle.certificate_text.specs.Puts.{PutsData};
 ghost use Rattle.std.specs.Prelude.{◌≡◌, codes};
 ghost use Rattle.certificate_text.specs.Fields.{field_named};
 ghost use Rattle.certificate_text.specs.Reading.{named_at, SaysAs};
 ghost use Rattle.certificate_text.specs.Said.{line_said, named_said};
-ghost use Rattle.certificate_text.specs.Told.{line_data, named_data};
 ghost use Rattle.serde_json.specs.View.{view};
 
-use crate::json_writer::Writer;
 use crate::part::Part;
 use crate::path_list::paths_at;
 use crate::reading::{expect_object, text_at};
 use crate::unread::Unread;
 use serde_json::Value;
-use std::alloc::{AllocError, Global};
+use std::alloc::Global;
 use sysmem_counts::Field;
 use verdict_claims::{Line, PathList};
 
 impl Part for Line {
-    ghost told = { line_data };
-
     ghost said = { line_said };
-
-    fn put(&self, out: &mut Writer, text: &mut String) -> Result<(), AllocError> {
-        put_named(out, text, "field", self.field(), self.nodes())
-    }
 
     fn read(alloc: Global, value: &Value) -> Result<Line, Unread> {
         Line::read_behind(alloc, &[], value)
@@ -37,24 +28,6 @@ impl Part for Line {
         let nodes = paths_at(alloc, value, "nodes")?;
         Ok(Line::behind(alloc, lines, field, nodes)?)
     }
-}
-
-/// Puts a field under a kind, and the paths of nodes: `{"field":"usage","nodes":["/0"]}`.
-pub(crate) fn put_named(
-    out: &mut Writer,
-    text: &mut String,
-    kind: &str,
-    field: Field,
-    nodes: &PathList,
-) -> Result<(), AllocError>
-    ensures { PutsData result out.old out.new (named_data kind.now field nodes.now) }
-{
-    out.begin_object()?;
-    out.key(kind)?;
-    out.string(field.name())?;
-    out.key("nodes")?;
-    nodes.put(out, text)?;
-    out.end_object()
 }
 
 /// The field of a line that stands after others. Most often it is that of the last of them, whose

@@ -1,4 +1,4 @@
-//! A part of a certificate.
+//! Parts of a certificate.
 
 ghost use Rattle.certificate_text.specs.Puts.{PutsData, PutsMember};
 ghost use Rattle.certificate_text.specs.Told.{list_data};
@@ -12,15 +12,18 @@ use crate::unread::Unread;
 use serde_json::Value;
 use std::alloc::{AllocError, Global};
 
-/// A part of a certificate, which stands for JSON data.
-pub(crate) trait Part: Sized + Drop {
+/// A part of a certificate that is put by its tokens.
+pub(crate) trait Put: Sized + Drop {
     ghost told: { Self → Data };
 
-    ghost said: { Data → Option Self };
-
-    /// Puts it after what is written. The text is one to write a path in.
-    fn put(&self, out: &mut Writer, text: &mut String) -> Result<(), AllocError>
+    /// Puts it after what is written.
+    fn put(&self, out: &mut Writer) -> Result<(), AllocError>
         ensures { PutsData result out.old out.new (told self.now) };
+}
+
+/// A part of a certificate that is read from JSON data.
+pub(crate) trait Part: Sized + Drop {
+    ghost said: { Data → Option Self };
 
     /// Reads it from a value.
     fn read(alloc: Global, value: &Value) -> Result<Self, Unread>
@@ -36,29 +39,24 @@ pub(crate) trait Part: Sized + Drop {
 }
 
 /// Puts a list of parts after what is written.
-pub(crate) fn put_list<T: Part>(
-    out: &mut Writer,
-    text: &mut String,
-    parts: &[T],
-) -> Result<(), AllocError>
+pub(crate) fn put_list<T: Put>(out: &mut Writer, parts: &[T]) -> Result<(), AllocError>
     ensures { PutsData result out.old out.new (list_data T.told parts.now) }
 {
     out.begin_array()?;
     for part in parts {
-        part.put(out, text)?;
+        part.put(out)?;
     }
     out.end_array()
 }
 
 /// Puts a list of parts under a key.
-pub(crate) fn put_list_at<T: Part>(
+pub(crate) fn put_list_at<T: Put>(
     out: &mut Writer,
-    text: &mut String,
     key: &str,
     parts: &[T],
 ) -> Result<(), AllocError>
     ensures { PutsMember result out.old out.new key.now (list_data T.told parts.now) }
 {
     out.key(key)?;
-    put_list(out, text, parts)
+    put_list(out, parts)
 }

@@ -18,13 +18,7 @@ use std::alloc::{AllocError, Global};
 use sysmem_tree::Path;
 
 impl Part for Path {
-    ghost told = { path_data };
-
     ghost said = { node_said };
-
-    fn put(&self, out: &mut Writer, text: &mut String) -> Result<(), AllocError> {
-        put_path(out, text, self.ordinals())
-    }
 
     fn read(alloc: Global, value: &Value) -> Result<Path, Unread> {
         let mut ordinals = Vec::new(alloc);
@@ -34,7 +28,11 @@ impl Part for Path {
 }
 
 /// Puts the path of these ordinals after what is written, and writes it in the text on the way.
-fn put_path(out: &mut Writer, text: &mut String, ordinals: &[u32]) -> Result<(), AllocError>
+pub(crate) fn put_path(
+    out: &mut Writer,
+    text: &mut String,
+    ordinals: &[u32],
+) -> Result<(), AllocError>
     ensures { PutsData result out.old out.new (path_data ordinals.now) }
 {
     text.clear();

@@ -2,25 +2,17 @@
 
 ghost use Rattle.certificate_text.specs.Reading.{at_key, each_said, list_said, Says};
 ghost use Rattle.certificate_text.specs.Said.{node_said};
-ghost use Rattle.certificate_text.specs.Told.{paths_data};
 ghost use Rattle.serde_json.specs.View.{items_view, view};
 
-use crate::json_writer::Writer;
 use crate::part::Part;
 use crate::path::read_path;
 use crate::unread::Unread;
 use serde_json::Value;
-use std::alloc::{AllocError, Global};
+use std::alloc::Global;
 use verdict_claims::PathList;
 
 impl Part for PathList {
-    ghost told = { paths_data };
-
     ghost said = { list_said node_said };
-
-    fn put(&self, out: &mut Writer, _text: &mut String) -> Result<(), AllocError> {
-        out.paths(self)
-    }
 
     fn read(alloc: Global, value: &Value) -> Result<PathList, Unread> {
         match value.as_array() {
@@ -34,7 +26,7 @@ impl Part for PathList {
 fn each_path(alloc: Global, values: &[Value]) -> Result<PathList, Unread>
     ensures { Says result (each_said node_said (items_view values.now)) }
 {
-    let mut paths = PathList::new(alloc);
+    let mut paths = PathList::with_room(alloc, values.len())?;
     let mut ordinals = Vec::new(alloc);
     for value in values {
         read_path(&mut ordinals, value)?;

@@ -10,5 +10,5 @@ use Rattle.certificate_text.proofs.part.put_list.Given as goal
 abbrev pub invariant-loop-part : goal.invariant-loop-part
 invariant-loop-part g l = record {
   before : l.out.before ≡ l.fn.out.before;
-  whole : l.out.tokens ++ items_tokens (items_outline (items_of (map g.T.Part.told (drop l.part-index l.parts)))) ≡ l.fn.out.tokens ++ tokens_of (list_data g.T.Part.told l.parts);
+  whole : l.out.tokens ++ items_tokens (items_outline (items_of (map g.T.Put.told (drop l.part-index l.parts)))) ≡ l.fn.out.tokens ++ tokens_of (list_data g.T.Put.told l.parts);
 }
