@@ -32,25 +32,25 @@ fn refute_here(question: &mut Question<'_>, items: &mut Vec<Item>) -> Result<(),
     Ok(())
 }
 
-/// Adds a conflict of the selection that the question's choices and this one are, where no
+/// Adds a conflict of the selection that the question's choices and this last one are, where no
 /// settings meet it.
 fn refute_last(
     question: &mut Question<'_>,
-    choice: u8,
+    last: u8,
     items: &mut Vec<Item>,
 ) -> Result<(), AllocError>
     requires room { length question.old.choices < 128 }
-    requires prefix { IsPrefix (forest question.old.matter) (question.old.choices ++ choice ∷ []) }
-    requires last { IfSome (after (forest question.old.matter) (question.old.choices ++ choice ∷ []))
+    requires prefix { IsPrefix (forest question.old.matter) (question.old.choices ++ last ∷ []) }
+    requires whole { IfSome (after (forest question.old.matter) (question.old.choices ++ last ∷ []))
         (λ d. option_map length (choices d) ≡ None) }
-    requires unmet { IfSome (after (forest question.old.matter) (question.old.choices ++ choice ∷ []))
+    requires unmet { IfSome (after (forest question.old.matter) (question.old.choices ++ last ∷ []))
         (λ d. IsForestUnmet (MeetsOf question.old.matter) d) }
     ensures same { question.new ≡ question.old }
     ensures refuted { OnOk result
-        (IfSome (after (forest question.old.matter) (question.old.choices ++ choice ∷ []))
+        (IfSome (after (forest question.old.matter) (question.old.choices ++ last ∷ []))
         (λ d. AddsRefutation question.old.matter d items.old.items items.new.items)) }
 {
-    items.push(Item::Leaf(question.last_conflict(choice)?))?;
+    items.push(Item::Leaf(question.last_conflict(last)?))?;
     Ok(())
 }
 

@@ -8,4 +8,4 @@ use Rattle.sysmem_search.proofs.refuting.refute_last.Goals as goal
 pub last_conflict-requires-clause-unmet : goal.last_conflict-requires-clause-unmet
 last_conflict-requires-clause-unmet c =
     let q = c.args.question.now in
-    unmet_selection q.matter (after (forest q.matter) (q.choices ++ c.args.choice ∷ [])) c.requires.last c.requires.unmet
+    unmet_selection q.matter (after (forest q.matter) (q.choices ++ c.args.last ∷ [])) c.requires.whole c.requires.unmet
