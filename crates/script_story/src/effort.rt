@@ -2,8 +2,8 @@
 
 use std::cell::Cell;
 
-/// From so many visited prefixes on nothing more is tried.
-const MOST_VISITS: u64 = 5_000_000;
+/// From so many visited prefixes on nothing more is tried. A visit takes 78 to 243 nanoseconds.
+const MOST_VISITS: u64 = 1_000_000;
 
 /// How many prefixes the searches of an explanation's runs visited so far.
 #[derive(Drop)]
