@@ -188,20 +188,25 @@ fn tell_in_the_way(
         return Ok(());
     };
     let others = people.len().saturating_sub(kept.len());
-    let text = unmet_text(alloc, "in the way", &kept, others);
+    let text = unmet_text(alloc, "in the way", platform, &kept, others);
     tell(items, depth, "", text)?;
     tell_others_in_the_way(items, depth, platform, people, &kept)
 }
 
-/// Who leave no settings by themselves, whatever so many others ask.
+/// Who leave no settings by themselves, whatever so many others ask; of one who is given no place
+/// that the platform lacks one.
 fn unmet_text(
     alloc: Global,
     start: &str,
+    platform: &Platform,
     people: &[Asked<'_>],
     others: usize,
 ) -> Result<String, AllocError> {
     let mut text = format!(in alloc; "{start}: ")?;
     put_unmet(&mut text, people, others)?;
+    if people.len() == 1 && has_no_place(platform, people) {
+        text.push_str(": the platform has no place for it")?;
+    }
     Ok(text)
 }
 
@@ -246,7 +251,7 @@ fn tell_next<'a>(
     let alloc = items.alloc();
     match without_one(alloc, platform, people, some)? {
         Some(others) if others.kept.len() <= MOST_NAMES => {
-            let text = unmet_text(alloc, "also in the way", &others.kept, 0);
+            let text = unmet_text(alloc, "also in the way", platform, &others.kept, 0);
             tell(items, depth, "", text)?;
             Ok(Some(others))
         }
