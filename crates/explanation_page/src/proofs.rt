@@ -112,7 +112,12 @@ fn put_empty(text: &mut String, decision: &Value) -> Result<(), AllocError> {
     let mut tally = Tally::default();
     tally.add(list_at(decision, "refutation"));
     put_tally(text, tally)?;
-    text.push_str(" leave no settings to any selection")
+    text.push_str(if tally.conflicts == 1 {
+        " leaves"
+    } else {
+        " leave"
+    })?;
+    text.push_str(" no settings to any selection")
 }
 
 fn put_tally(text: &mut String, tally: Tally) -> Result<(), AllocError> {
