@@ -13,7 +13,7 @@ use sysmem_sanitise::Platform;
 use sysmem_tree::{Path, Tree};
 
 /// The lines of all domains.
-#[derive(Debug, Drop)]
+#[derive(Drop)]
 pub(crate) struct Lines {
     pub(crate) text: String,
     /// Whether memory was refused to a decision.

@@ -8,7 +8,7 @@ use script_run::{Disagreement, RunFault};
 use sysmem_participants::AuditFault;
 
 /// Why a script isn't played to its end.
-#[derive(Clone, Copy, Debug, PartialEq, Eq)]
+#[derive(Clone, Copy)]
 pub(crate) enum PlayFault {
     /// It can't be read.
     Parse(ParseFault),

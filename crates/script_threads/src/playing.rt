@@ -24,7 +24,7 @@ use sysmem_sanitise::Platform;
 use sysmem_search::NoGate;
 
 /// What is told of a script that was played.
-#[derive(Debug, Drop)]
+#[derive(Drop)]
 pub(crate) struct Told {
     /// A line for each domain, and that of the audit.
     pub(crate) text: String,

@@ -3,7 +3,7 @@
 use std::sync::{Condvar, Mutex, Wait};
 
 /// Whether actors may begin.
-#[derive(Clone, Copy, Debug, PartialEq, Eq)]
+#[derive(Clone, Copy, PartialEq, Eq)]
 pub(crate) enum Signal {
     Begin,
     /// One of them isn't there, so none begins.
