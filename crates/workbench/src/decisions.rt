@@ -14,57 +14,41 @@
 //! | `serialise` | making the text of a `serde_json::Value` of the same, which is read once |
 //! | `rows` | nothing: plays the lines of standard input once (`rows.rt`) |
 //!
-//! Calls that the tree refuses, checks and waits are passed over.
+//! Calls that are refused, checks and waits are passed over.
 
 mod adding;
 mod deciding;
-mod playing;
 mod writing;
 
+use crate::failure;
+use crate::handles::{all_stated, book_after};
 use crate::rows::play_rows;
 pub(crate) use adding::choose;
 use adding::{add_again, settle_again};
-use anyhow::{Result, bail};
+use anyhow::Result;
 use deciding::{check_again, prove_again, search_again, search_together_again};
-use playing::play;
-use script_reading::{parse_script, read_script};
+use script_reading::Script;
 use serde_json::Value;
 use std::alloc::Global;
 use std::thread::Threads;
+use sysmem_alloc::Book;
 use sysmem_sanitise::Platform;
 use sysmem_tree::Tree;
 use writing::{serialise_again, write_again};
 
-/// Does the jobs for the script of these bytes, so many times.
+/// Does each of these jobs for a script of these bytes, so many times.
 pub(crate) fn repeat_jobs<T: Threads + Sync>(
     rt: &HostRuntime,
     threads: &T,
     bytes: &[u8],
+    script: Script<'_>,
     jobs: &str,
     times: u32,
 ) -> Result<()> {
-    if jobs == "read" {
-        return read_again(rt.alloc(), bytes, times);
-    }
-    repeat_of(rt, threads, bytes, jobs, times)
-}
-
-/// Does each of these jobs for the script of these bytes.
-fn repeat_of<T: Threads + Sync>(
-    rt: &HostRuntime,
-    threads: &T,
-    bytes: &[u8],
-    jobs: &str,
-    times: u32,
-) -> Result<()> {
-    let Ok(value) = parse_script(rt.alloc(), bytes) else {
-        bail!("the script is refused");
-    };
-    let Ok(script) = read_script(rt.alloc(), &value) else {
-        bail!("the script is refused");
-    };
-    let tree = play(rt.alloc(), &script.calls)?;
-    repeat_each(rt, threads, bytes, jobs, &script.platform, &tree, times)
+    let Script { platform, calls } = script;
+    let asked = all_stated(rt.alloc(), &calls)?;
+    let book = book_after(rt.alloc(), platform, &calls, &asked)?;
+    repeat_each(rt, threads, bytes, jobs, &book, times)
 }
 
 fn repeat_each<T: Threads + Sync>(
@@ -72,26 +56,32 @@ fn repeat_each<T: Threads + Sync>(
     threads: &T,
     bytes: &[u8],
     jobs: &str,
-    platform: &Platform,
-    tree: &Tree,
+    book: &Book,
     times: u32,
 ) -> Result<()> {
     for job in jobs.split(',') {
         match job {
             "read" => read_again(rt.alloc(), bytes, times)?,
             "rows" => play_rows(rt)?,
-            _ => repeat(threads, rt.alloc(), job, platform, tree, times)?,
+            _ => repeat(
+                threads,
+                rt.alloc(),
+                job,
+                book.platform(),
+                book.tree(),
+                times,
+            )?,
         }
     }
     Ok(())
 }
 
 /// Reads the bytes as a JSON value so many times.
-fn read_again(alloc: Global, bytes: &[u8], times: u32) -> Result<()> {
+pub(crate) fn read_again(alloc: Global, bytes: &[u8], times: u32) -> Result<()> {
     for _ in 0..times {
         match Value::from_slice(alloc, bytes) {
             Ok(_) => {}
-            Err(_) => bail!("the file is no JSON value"),
+            Err(_) => return Err(failure("the file is no JSON value")),
         }
     }
     Ok(())
@@ -115,6 +105,6 @@ fn repeat<R: Threads + Sync>(
         "check" => check_again(alloc, platform, tree, times),
         "write" => write_again(alloc, platform, tree, times),
         "serialise" => serialise_again(alloc, platform, tree, times),
-        _ => bail!("{job:?} is no job"),
+        _ => Err(failure("no such job")),
     }
 }

@@ -30,11 +30,14 @@ mod showing;
 mod taking;
 mod tokens;
 
-use anyhow::{Result, bail};
+use crate::failure;
+use anyhow::Result;
 use crowding::{Crowd, crowd_on};
+pub(crate) use repeating::book_after;
 use repeating::{repeat_book, repeat_handles};
-use script::{Played, all_stated};
-use script_reading::{Script, parse_script, read_script};
+use script::Played;
+pub(crate) use script::all_stated;
+use script_reading::Script;
 use std::alloc::Global;
 use std::sync::{Arc, Wait};
 use std::thread::Threads;
@@ -42,18 +45,12 @@ use std::time::Clock;
 use sysmem_sanitise::{Constraints, Platform};
 use taking::{all_asked, apply_again, take_again};
 
-/// Plays the script of these bytes, and prints what the handles answer.
+/// Plays a script, and prints what the handles answer.
 pub(crate) fn play_script<R: Threads + Wait + Sync>(
     host: &HostRuntime,
     rt: &R,
-    bytes: &[u8],
+    script: Script<'_>,
 ) -> Result<()> {
-    let Ok(value) = parse_script(host.alloc(), bytes) else {
-        bail!("the script is refused");
-    };
-    let Ok(script) = read_script(host.alloc(), &value) else {
-        bail!("the script is refused");
-    };
     let mut played = Played::new(host.alloc(), script)?;
     played.play(rt)?;
     let report = played.report();
@@ -61,25 +58,8 @@ pub(crate) fn play_script<R: Threads + Wait + Sync>(
     Ok(())
 }
 
-/// Does the job of this name for the script of these bytes, so many times.
+/// Does the job of this name for a script, so many times.
 pub(crate) fn repeat_job<R: Threads + Wait + Clock + Sync>(
-    host: &HostRuntime,
-    rt: &R,
-    bytes: &[u8],
-    job: &str,
-    times: u32,
-) -> Result<()> {
-    let Ok(value) = parse_script(host.alloc(), bytes) else {
-        bail!("the script is refused");
-    };
-    let Ok(script) = read_script(host.alloc(), &value) else {
-        bail!("the script is refused");
-    };
-    repeat(host, rt, script, job, times)
-}
-
-/// Does the job of this name so many times.
-fn repeat<R: Threads + Wait + Clock + Sync>(
     host: &HostRuntime,
     rt: &R,
     script: Script<'_>,
@@ -92,13 +72,13 @@ fn repeat<R: Threads + Wait + Clock + Sync>(
     match job {
         "handles" => return repeat_handles(rt, alloc, platform, &calls, &asked, false, times),
         "audited" => return repeat_handles(rt, alloc, platform, &calls, &asked, true, times),
-        "book" => return repeat_book(alloc, &platform, &calls, &asked, times),
+        "book" => return Ok(repeat_book(alloc, &platform, &calls, &asked, times)?),
         _ => {}
     }
     let asked = all_asked(alloc, asked)?;
     match job {
         "calls" => return take_again(rt, alloc, platform, &asked, times),
-        "applied" => return apply_again(alloc, &platform, &asked, times),
+        "applied" => return Ok(apply_again(alloc, &platform, &asked, times)?),
         _ => {}
     }
     let nanos = crowd(rt, alloc, platform, &asked, job, times)?;
@@ -116,14 +96,14 @@ fn crowd<R: Threads + Wait + Clock + Sync>(
     times: u32,
 ) -> Result<u64> {
     let Some(asked) = asked.first() else {
-        bail!("nobody asks for anything");
+        return Err(failure("nobody asks for anything"));
     };
     let (threads, collections, refused) = match job {
         "alone" => (1, times, 0),
         "crowd" => (16, times, 0),
         "refused_alone" => (1, 1, times),
         "refused_crowd" => (16, 1, times),
-        _ => bail!("{job:?} is no job"),
+        _ => return Err(failure("no such job")),
     };
     let crowd = Crowd {
         asked,

@@ -8,7 +8,8 @@ ghost use Rattle.sysmem_tree.specs.Selection.{IsPrefix};
 ghost use Rattle.sysmem_tree.specs.Shape.{by_number, forest_of};
 
 use super::deciding::found_in;
-use anyhow::{Result, bail};
+use crate::failure;
+use anyhow::Result;
 use std::alloc::Global;
 use sysmem_merge::Aggregate;
 use sysmem_proof::Verdict;
@@ -37,7 +38,7 @@ pub(crate) fn settle_again(
     let settings = aggregate.best_settings(true);
     for _ in 0..times {
         if aggregate.best_settings(true) != settings {
-            bail!("the best settings change");
+            return Err(failure("the best settings change"));
         }
     }
     Ok(())

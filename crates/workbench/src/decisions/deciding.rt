@@ -6,7 +6,8 @@ ghost use Rattle.sysmem_proof.specs.Base.{IsGivenBase};
 ghost use Rattle.sysmem_proof.specs.Verdict.{IsOptimalIn};
 ghost use Rattle.sysmem_tree.specs.Domain.{HasDomain};
 
-use anyhow::{Result, bail};
+use crate::failure;
+use anyhow::Result;
 use std::alloc::Global;
 use std::thread::Threads;
 use sysmem_proof::{Claim, check};
@@ -49,7 +50,7 @@ pub(crate) fn search_together_again<R: Threads + Sync>(
 ) -> Result<()> {
     let domain = tree.domain_of(tree.root());
     if !tree.is_ready(domain) || tree.host_of(domain).is_some() {
-        bail!("the initial domain isn't ready");
+        return Err(failure("the initial domain isn't ready"));
     }
     for _ in 0..times {
         search_wide(rt, alloc, platform, tree, domain, None, &NoGate, 2)?;
@@ -82,11 +83,11 @@ pub(crate) fn check_again(
     let claim = claim_of(alloc, platform, tree)?;
     let domain = tree.domain_of(tree.root());
     if tree.host_of(domain).is_some() {
-        bail!("the initial domain has a host");
+        return Err(failure("the initial domain has a host"));
     }
     for _ in 0..times {
-        if let Err(no) = check(platform, tree, domain, None, &claim) {
-            bail!("the claim isn't true: {no:?}");
+        if check(platform, tree, domain, None, &claim).is_err() {
+            return Err(failure("the claim isn't true"));
         }
     }
     Ok(())
@@ -105,7 +106,7 @@ pub(crate) fn found_in(
         (λ found. IsOptimalIn platform.now tree.now.nodes domain None found.verdict) }
 {
     if !tree.is_ready(domain) || tree.host_of(domain).is_some() {
-        bail!("the initial domain isn't ready");
+        return Err(failure("the initial domain isn't ready"));
     }
     Ok(search(alloc, platform, tree, domain, None, &NoGate)?)
 }

@@ -2,7 +2,8 @@
 //! value that this text spells.
 
 use super::deciding::claim_of;
-use anyhow::{Result, bail};
+use crate::failure;
+use anyhow::Result;
 use certificate_text::CertificateWriter;
 use serde_json::Value;
 use std::alloc::Global;
@@ -49,7 +50,7 @@ pub(crate) fn serialise_again(
     let path = tree.path_of(tree.root())?;
     let text = certificate_of(alloc, platform, &path, &claim)?;
     let Ok(value) = Value::from_slice(alloc, &text) else {
-        bail!("the certificate is no JSON value");
+        return Err(failure("the certificate is no JSON value"));
     };
     for _ in 0..times {
         value.to_vec(alloc)?;

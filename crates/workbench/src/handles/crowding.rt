@@ -3,8 +3,9 @@
 ghost use Rattle.std.specs.Prelude.{◌≡◌};
 ghost use Rattle.sysmem_room.specs.Counting.{all_parts};
 
-use super::tokens::release;
-use anyhow::{Result, bail};
+use super::tokens::{close_all, share_out, take_part};
+use crate::failure;
+use anyhow::Result;
 use std::alloc::Global;
 use std::marker::Brand;
 use std::sync::atomic::{AtomicUsize, Ordering};
@@ -16,9 +17,6 @@ use std::time::{Clock, Duration, Instant};
 use sysmem_participants::{Allocator, Token};
 use sysmem_sanitise::{Constraints, Platform};
 use sysmem_search::NoGate;
-
-/// Where a thread takes a token.
-type Slot<L> = Mutex<Option<Token<L, NoGate>>>;
 
 /// Each of them duplicates its token, so that there are 126 participants.
 const PAIRS: usize = 63;
@@ -65,55 +63,19 @@ fn gather<L: Ledger + Send + Sync, R: Threads + Wait + Clock + Sync>(
     requires parts { blank.parts ≡ all_parts }
 {
     let Ok(mut root) = allocator.allocate_shared::<L>(blank) else {
-        bail!("memory is refused to a collection");
+        return Err(failure("memory is refused to a collection"));
     };
-    let slots = lay_out(rt, alloc, &mut root);
-    let (there, next) = (AtomicUsize::new(0), AtomicUsize::new(0));
+    let tokens = Mutex::new(share_out(rt, alloc, &mut root, PAIRS));
+    let there = AtomicUsize::new(0);
     let spent = thread::map_indices(
         rt,
         alloc,
         crowd.threads,
-        &|_| { take_parts(rt, &slots, crowd, &there, &next) },
+        &|_| { take_parts(rt, &tokens, crowd, &there) },
     );
-    close_all(rt, slots);
+    close_all(rt, tokens.into_inner());
     let _stub = root.close(rt);
     longest(&spent?)
-}
-
-/// Duplicates of a token, each in a slot; fewer where one is refused.
-fn lay_out<L: Ledger, R: Threads + Wait + Sync>(
-    rt: &R,
-    alloc: Global,
-    root: &mut Token<L, NoGate>,
-) -> Vec<Slot<L>> {
-    let mut slots = Vec::new(alloc);
-    for _ in 0..PAIRS {
-        if let Ok(token) = root.duplicate(rt) {
-            keep(rt, &mut slots, Mutex::new(Some(token)));
-        }
-    }
-    slots
-}
-
-fn keep<L: Ledger, R: Threads + Wait + Sync>(rt: &R, slots: &mut Vec<Slot<L>>, slot: Slot<L>) {
-    if let Err(refused) = slots.push(slot) {
-        empty(rt, refused.value);
-    }
-}
-
-/// Closes the token that nobody took, if there is one.
-fn empty<L: Ledger, R: Threads + Wait + Sync>(rt: &R, slot: Slot<L>) {
-    if let Some(token) = slot.into_inner() {
-        let _stub = token.close(rt);
-    }
-}
-
-fn close_all<L: Ledger, R: Threads + Wait + Sync>(rt: &R, slots: Vec<Slot<L>>) {
-    let mut slots = slots;
-    while let Some(slot) = slots.pop() {
-        empty(rt, slot);
-    }
-    slots.destroy_empty();
 }
 
 /// The longest of these times.
@@ -121,33 +83,30 @@ fn longest(spent: &[Option<u64>]) -> Result<u64> {
     let mut most = 0;
     for one in spent {
         let Some(nanos) = *one else {
-            bail!("the clock can't be read");
+            return Err(failure("the clock can't be read"));
         };
         most = most.max(nanos);
     }
     Ok(most)
 }
 
-/// Once all threads are there, takes the tokens of the slots that no thread took, one after the
-/// other: how many nanoseconds it is until the last of these is spent, if there is a clock.
+/// Once all threads are there, takes the tokens that no thread took, one after the other: how many
+/// nanoseconds it is until the last of these is spent, if there is a clock.
 fn take_parts<L: Ledger, R: Threads + Wait + Clock + Sync>(
     rt: &R,
-    slots: &Vec<Slot<L>>,
+    tokens: &Mutex<Vec<Token<L, NoGate>>>,
     crowd: &Crowd<'_>,
     there: &AtomicUsize,
-    next: &AtomicUsize,
 ) -> Option<u64> {
     meet(there, crowd.threads);
     let start = Instant::now(rt).ok()?;
     let mut spent = Duration::ZERO;
     for _ in 0..PAIRS {
-        let Some(slot) = slots.get(next.fetch_add(1, Ordering::SeqCst)) else {
+        let taken = tokens.lock(rt).pop();
+        let Some(token) = taken else {
             break;
         };
-        let taken = slot.lock(rt).take();
-        if let Some(token) = taken {
-            take_two(rt, token, crowd);
-        }
+        take_two(rt, token, crowd);
         spent = start.elapsed(rt).ok()?;
     }
     u64::try_from(spent.as_nanos()).ok()
@@ -172,28 +131,8 @@ fn take_two<L: Ledger, R: Threads + Wait + Sync>(
 ) {
     let mut token = token;
     let second = token.duplicate(rt);
-    take_part(rt, token, crowd);
+    take_part(rt, token, crowd.asked, 1, crowd.refused);
     if let Ok(other) = second {
-        take_part(rt, other, crowd);
-    }
-}
-
-fn take_part<L: Ledger, R: Threads + Wait + Sync>(
-    rt: &R,
-    token: Token<L, NoGate>,
-    crowd: &Crowd<'_>,
-) {
-    match token.bind(rt) {
-        Ok(mut collection) => {
-            let _set = collection.set_constraints(rt, Arc::try_clone(crowd.asked).ok());
-            let _told = collection.check().err();
-            for _ in 0..crowd.refused {
-                let _refused = collection.set_constraints(rt, None);
-            }
-            if let Err((collection, _refusal)) = collection.release(rt) {
-                let _stub = collection.close(rt);
-            }
-        }
-        Err((token, _refusal)) => release(rt, token),
+        take_part(rt, other, crowd.asked, 1, crowd.refused);
     }
 }

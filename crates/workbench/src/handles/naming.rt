@@ -7,7 +7,7 @@ use sysmem_sanitise::Fault;
 use sysmem_tree::Refusal;
 
 /// What a call answers.
-#[derive(Clone, Copy, Debug, PartialEq, Eq)]
+#[derive(Clone, Copy)]
 pub(crate) enum Reply {
     Accepted,
     Refused(Refusal),

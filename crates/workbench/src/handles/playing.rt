@@ -24,11 +24,11 @@ pub(crate) fn play<L: Ledger, R: Threads + Wait + Sync>(
         };
         let mut reply = make(rt, hands, call, asked);
         put_call(text, index + 1, call, reply)?;
-        if reply == Reply::Refused(Refusal::NoMemory) && is_action(&call.act) {
+        if matches!(reply, Reply::Refused(Refusal::NoMemory)) && is_action(&call.act) {
             reply = make(rt, hands, call, asked);
             put_call(text, index + 1, call, reply)?;
         }
-        if reply != Reply::Accepted && call.act.name_made().is_some() {
+        if !matches!(reply, Reply::Accepted) && call.act.name_made().is_some() {
             keep(rt, hands, Hand::Nobody);
         }
     }

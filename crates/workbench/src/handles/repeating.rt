@@ -7,9 +7,10 @@ use super::ending::end;
 use super::hand::Hand;
 use super::playing::{keep, make};
 use super::script::Asked;
-use anyhow::{Result, bail};
+use crate::failure;
+use anyhow::Result;
 use script_reading::{Act, Call};
-use std::alloc::Global;
+use std::alloc::{AllocError, Global};
 use std::marker::Brand;
 use std::sync::ledger::{Blank, Ledger};
 use std::sync::{Arc, Wait};
@@ -63,7 +64,7 @@ fn play_once<L: Ledger, R: Threads + Wait + Sync>(
 {
     let stubs = Vec::with_capacity(alloc, 129)?;
     let Ok(root) = allocator.allocate_shared::<L>(blank) else {
-        bail!("memory is refused to a collection");
+        return Err(failure("memory is refused to a collection"));
     };
     let mut hands = Vec::new(alloc);
     let _room = hands.reserve(129);
@@ -77,7 +78,7 @@ fn play_once<L: Ledger, R: Threads + Wait + Sync>(
     }
     match audit(rt, left) {
         Ok(_found) => Ok(()),
-        Err((fault, _seen)) => bail!("the audit says {}", fault.name()),
+        Err((fault, _seen)) => Err(failure(fault.name())),
     }
 }
 
@@ -88,7 +89,7 @@ pub(crate) fn repeat_book(
     calls: &[Call<'_>],
     asked: &[Asked],
     times: u32,
-) -> Result<()> {
+) -> Result<(), AllocError> {
     for _ in 0..times {
         apply_once(alloc, platform.copy()?, calls, asked)?;
     }
@@ -100,20 +101,42 @@ fn apply_once(
     platform: Platform,
     calls: &[Call<'_>],
     asked: &[Asked],
-) -> Result<()> {
+) -> Result<(), AllocError> {
+    let mut book = book_after(alloc, platform, calls, asked)?;
+    let node = book.tree().root();
+    let action = Action::Close;
+    let _closed = book.apply(Event { node, action });
+    Ok(())
+}
+
+/// The book after these calls, of which nothing is decided. A call that is refused, or whose node
+/// isn't there, leaves it as it is.
+pub(crate) fn book_after(
+    alloc: Global,
+    platform: Platform,
+    calls: &[Call<'_>],
+    asked: &[Asked],
+) -> Result<Book, AllocError> {
     let mut book = Book::new(alloc, platform)?;
-    let root = book.tree().root();
-    let mut names = vec![in alloc; Some(root)]?;
+    match apply_all(alloc, &mut book, calls, asked) {
+        Ok(()) => Ok(book),
+        Err(error) => Err(error),
+    }
+}
+
+fn apply_all(
+    alloc: Global,
+    book: &mut Book,
+    calls: &[Call<'_>],
+    asked: &[Asked],
+) -> Result<(), AllocError> {
+    let mut names = vec![in alloc; Some(book.tree().root())]?;
     for (call, asked) in calls.iter().zip(asked) {
-        let made = apply(&mut book, &names, call, asked)?;
+        let made = apply(book, &names, call, asked)?;
         if call.act.name_made().is_some() {
             names.push(made)?;
         }
     }
-    let _closed = book.apply(Event {
-        node: root,
-        action: Action::Close,
-    });
     Ok(())
 }
 
@@ -123,7 +146,7 @@ fn apply(
     names: &[Option<NodeId>],
     call: &Call<'_>,
     asked: &Asked,
-) -> Result<Option<NodeId>> {
+) -> Result<Option<NodeId>, AllocError> {
     let Some(Some(node)) = names.get(call.place).copied() else {
         return Ok(None);
     };
@@ -145,7 +168,7 @@ fn apply(
     }
 }
 
-fn setting(asked: &Asked) -> Result<Action> {
+fn setting(asked: &Asked) -> Result<Action, AllocError> {
     match asked {
         Ok(Some(shared)) => Ok(Action::SetConstraints(Some(Arc::try_clone(shared)?))),
         _ => Ok(Action::SetConstraints(None)),

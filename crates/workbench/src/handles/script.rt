@@ -7,7 +7,8 @@ use super::ending::{end, put_audit};
 use super::hand::Hand;
 use super::playing::play;
 use super::showing::put_open;
-use anyhow::{Result, bail};
+use crate::failure;
+use anyhow::Result;
 use script_reading::{Act, Call, Script};
 use serde_json::Value;
 use std::alloc::{AllocError, Global};
@@ -44,7 +45,9 @@ fn stated(alloc: Global, act: &Act<'_>) -> Result<Asked> {
 fn read(alloc: Global, value: &Value) -> Result<Asked> {
     match read_constraints(alloc, value) {
         Ok(asked) => Ok(Ok(Some(Arc::new(alloc, asked)?))),
-        Err(fault) if fault.code == Code::WantOfMemory => bail!("memory is refused to a record"),
+        Err(fault) if fault.code == Code::WantOfMemory => Err(failure(
+            "memory is refused to a record",
+        )),
         Err(fault) => Ok(Err(fault)),
     }
 }

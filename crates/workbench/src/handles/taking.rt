@@ -6,15 +6,16 @@ ghost use Rattle.std.specs.Prelude.{◌≡◌};
 ghost use Rattle.sysmem_room.specs.Counting.{all_parts};
 
 use super::script::Asked;
-use super::tokens::{close_all, release, share_out};
-use anyhow::{Result, bail};
+use super::tokens::{close_all, share_out, take_part};
+use crate::failure;
+use anyhow::Result;
 use std::alloc::{AllocError, Global};
 use std::marker::Brand;
 use std::sync::ledger::{Blank, Ledger};
 use std::sync::{Arc, Wait};
 use std::thread::Threads;
 use sysmem_alloc::Book;
-use sysmem_participants::{Allocator, Token};
+use sysmem_participants::Allocator;
 use sysmem_sanitise::{Constraints, Platform};
 use sysmem_search::NoGate;
 use sysmem_tree::{Action, Event, NodeId};
@@ -61,7 +62,7 @@ fn take_once<L: Ledger, R: Threads + Wait + Sync>(
     requires parts { blank.parts ≡ all_parts }
 {
     let Ok(mut root) = allocator.allocate_shared::<L>(blank) else {
-        bail!("memory is refused to a collection");
+        return Err(failure("memory is refused to a collection"));
     };
     let mut tokens = share_out(rt, alloc, &mut root, asked.len());
     tokens.reverse();
@@ -69,28 +70,11 @@ fn take_once<L: Ledger, R: Threads + Wait + Sync>(
         let Some(token) = tokens.pop() else {
             break;
         };
-        take_part(rt, token, own);
+        take_part(rt, token, own, 0, 0);
     }
     close_all(rt, tokens);
     let _stub = root.close(rt);
     Ok(())
-}
-
-/// Binds a token, states what it asks for, and releases it.
-fn take_part<L: Ledger, R: Threads + Wait + Sync>(
-    rt: &R,
-    token: Token<L, NoGate>,
-    asked: &Arc<Constraints>,
-) {
-    match token.bind(rt) {
-        Ok(mut collection) => {
-            let _set = collection.set_constraints(rt, Arc::try_clone(asked).ok());
-            if let Err((collection, _refusal)) = collection.release(rt) {
-                let _stub = collection.close(rt);
-            }
-        }
-        Err((token, _refusal)) => release(rt, token),
-    }
 }
 
 /// The same on so many books.
@@ -99,14 +83,18 @@ pub(crate) fn apply_again(
     platform: &Platform,
     asked: &[Arc<Constraints>],
     times: u32,
-) -> Result<()> {
+) -> Result<(), AllocError> {
     for _ in 0..times {
         apply_once(alloc, platform.copy()?, asked)?;
     }
     Ok(())
 }
 
-fn apply_once(alloc: Global, platform: Platform, asked: &[Arc<Constraints>]) -> Result<()> {
+fn apply_once(
+    alloc: Global,
+    platform: Platform,
+    asked: &[Arc<Constraints>],
+) -> Result<(), AllocError> {
     let mut book = Book::new(alloc, platform)?;
     let root = book.tree().root();
     let mut nodes = Vec::with_capacity(alloc, asked.len())?;

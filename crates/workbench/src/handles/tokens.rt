@@ -1,10 +1,11 @@
-//! Tokens of a collection, in a list of their own.
+//! Tokens of a collection, in a list of their own, and what a participant does with one.
 
 use std::alloc::Global;
-use std::sync::Wait;
 use std::sync::ledger::Ledger;
+use std::sync::{Arc, Wait};
 use std::thread::Threads;
 use sysmem_participants::Token;
+use sysmem_sanitise::Constraints;
 use sysmem_search::NoGate;
 
 /// So many duplicates of a token; fewer where one is refused.
@@ -34,8 +35,34 @@ fn keep<L: Ledger, R: Threads + Wait + Sync>(
     }
 }
 
+/// Binds a token, states what it asks for, asks so often what was decided, says so often again that
+/// it asks for nothing, which is refused, and is released.
+pub(crate) fn take_part<L: Ledger, R: Threads + Wait + Sync>(
+    rt: &R,
+    token: Token<L, NoGate>,
+    asked: &Arc<Constraints>,
+    checks: u32,
+    refused: u32,
+) {
+    match token.bind(rt) {
+        Ok(mut collection) => {
+            let _set = collection.set_constraints(rt, Arc::try_clone(asked).ok());
+            for _ in 0..checks {
+                let _told = collection.check().err();
+            }
+            for _ in 0..refused {
+                let _refused = collection.set_constraints(rt, None);
+            }
+            if let Err((collection, _refusal)) = collection.release(rt) {
+                let _stub = collection.close(rt);
+            }
+        }
+        Err((token, _refusal)) => release(rt, token),
+    }
+}
+
 /// Releases a token, or closes it where that is refused.
-pub(crate) fn release<L: Ledger, R: Threads + Wait + Sync>(rt: &R, token: Token<L, NoGate>) {
+fn release<L: Ledger, R: Threads + Wait + Sync>(rt: &R, token: Token<L, NoGate>) {
     if let Err((token, _refusal)) = token.release(rt) {
         let _stub = token.close(rt);
     }

@@ -1,6 +1,7 @@
 //! Actions as words, and how the domains stand.
 
-use anyhow::{Result, bail};
+use crate::failure;
+use anyhow::Result;
 use serde_json::Value;
 use std::alloc::{AllocError, Global};
 use std::sync::Arc;
@@ -29,7 +30,7 @@ fn cpu(alloc: Global) -> Result<Constraints> {
     let record: Value = serde_json::from_str(alloc, r#"{"usage":["cpu"]}"#)?;
     match read_constraints(alloc, &record) {
         Ok(constraints) => Ok(constraints),
-        Err(fault) => bail!("the constraints are refused: {fault:?}"),
+        Err(_) => Err(failure("the constraints are refused")),
     }
 }
 

@@ -6,7 +6,8 @@ ghost use Rattle.sysmem_tree.specs.Selection.{IsPrefix};
 ghost use Rattle.sysmem_tree.specs.Shape.{by_number, forest_of};
 
 use crate::decisions::choose;
-use anyhow::{Result, bail};
+use crate::failure;
+use anyhow::Result;
 use sysmem_tree::{DomainId, Fate, Prefix, Tree};
 
 /// The prefix of a text such as `-` or `0.2`; `None` where the domain has no such prefix.
@@ -35,7 +36,7 @@ pub(super) fn choices_of(text: &str) -> Result<Prefix> {
     }
     for choice in text.split('.') {
         if choices.is_full() {
-            bail!("{text:?} has too many choices");
+            return Err(failure("a line has too many choices"));
         }
         choices.push(choice.parse::<u8>()?);
     }

@@ -11,14 +11,15 @@ use super::asking::{members, shape, write_of_nodes};
 use super::choosing::{choices_of, decide, prefix_of};
 use super::paths::node_at;
 use super::walking::walk;
-use anyhow::{Result, bail};
+use crate::failure;
+use anyhow::Result;
 use std::alloc::{AllocError, Global};
 use sysmem_tree::{DomainId, Event, NodeId, Prefix, Tree};
 
 /// Plays a line and writes what is answered.
 pub(super) fn answer(alloc: Global, text: &mut String, tree: &mut Tree, line: &str) -> Result<()> {
     let Some((path, words)) = line.split_once(' ') else {
-        bail!("{line:?} has no word behind a path");
+        return Err(failure("a line has no word behind a path"));
     };
     let Some(node) = node_at(alloc, tree, path)? else {
         text.push_str("no node")?;
@@ -58,7 +59,7 @@ fn chosen(
             told(text, tree, refusal)?;
         }
         "try" => try_in_copy(text, tree, domain, prefix)?,
-        _ => bail!("{word:?} is no word"),
+        _ => return Err(failure("no such word")),
     }
     Ok(())
 }
@@ -92,7 +93,7 @@ fn acted(alloc: Global, text: &mut String, tree: &mut Tree, node: NodeId, word: 
         }
         _ => {
             let Some(action) = action_of(alloc, word)? else {
-                bail!("{word:?} is no action");
+                return Err(failure("no such action"));
             };
             let refusal = tree.apply(Event { node, action }).err();
             told(text, tree, refusal.map(|refusal| refusal.name()))?;

@@ -3,7 +3,8 @@
 ghost use Rattle.std.specs.Prelude.{IfOk, IfSome};
 ghost use Rattle.sysmem_tree.specs.Nodes.{HasNode};
 
-use anyhow::{Result, bail};
+use crate::failure;
+use anyhow::Result;
 use std::alloc::{AllocError, Global};
 use sysmem_tree::{MOST_NODES, NodeId, Path, Tree};
 
@@ -12,7 +13,7 @@ pub(super) fn node_at(alloc: Global, tree: &Tree, text: &str) -> Result<Option<N
     ensures { IfOk result (λ found. IfSome found (HasNode tree.now.nodes)) }
 {
     let Some(steps) = text.strip_prefix("/") else {
-        bail!("{text:?} is no path");
+        return Err(failure("a line begins with no path"));
     };
     let mut ordinals = Vec::new(alloc);
     push_ordinals(&mut ordinals, steps)?;

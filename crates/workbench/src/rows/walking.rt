@@ -7,7 +7,8 @@ ghost use Rattle.sysmem_tree.specs.Node.{NodeFacts};
 ghost use Rattle.sysmem_tree.specs.OpenGroups.{HasChild, HasLeft, HoldsNodes, IsChildPlace, IsFirstOpen};
 
 use super::paths::push_path;
-use anyhow::{Result, bail};
+use crate::failure;
+use anyhow::Result;
 use std::alloc::AllocError;
 use sysmem_tree::{
     ChildPlace, DomainId, GroupPlace, Layout, MOST_NODES, Prefix, SettledNodes, Tree,
@@ -24,7 +25,7 @@ pub(super) fn walk(text: &mut String, tree: &Tree, domain: DomainId, prefix: &Pr
     let mut open = layout.first_open();
     for choice in prefix.choices() {
         let Some(group) = open else {
-            bail!("no group is left");
+            return Err(failure("no group is left"));
         };
         push_group(text, tree, &layout, group)?;
         let child = child(&layout, group, *choice)?;
@@ -84,7 +85,7 @@ fn child(layout: &Layout, group: GroupPlace, choice: u8) -> Result<ChildPlace>
 {
     let (_, children) = layout.group_at(group);
     if u32::from(choice) >= children {
-        bail!("no such child");
+        return Err(failure("no such child"));
     }
     Ok(layout.child_at(group, choice))
 }
