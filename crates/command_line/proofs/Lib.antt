@@ -1,5 +1,6 @@
 mod Asked
 mod Entries
 mod Filled
+mod Grown
 mod Plain
 mod Emptied

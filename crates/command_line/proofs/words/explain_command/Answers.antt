@@ -1,0 +1,13 @@
+use Rattle.std.proofs.Common.{◌≡◌, codes, rules}
+use Rattle.std.proofs.lemmas.Result.{IfOk-weaker}
+use Rattle.clap.specs.Words.{app_of, new_app}
+use Rattle.command_line.proofs.Grown.{grown}
+use Rattle.command_line.proofs.words.explain_command.Goals as goal
+
+pub returns-clause-app : goal.returns-clause-app
+returns-clause-app c =
+    let named : app_of c.about.result ≡ new_app (codes "explain") = search rules in
+    let with_file = grown c.in_ok-arg.ensures c.file_arg.ensures.local c.file_arg.ensures.rule named in
+    let with_json = grown c.in_ok-arg-2.ensures c.json_arg.ensures.local c.json_arg.ensures.rule with_file in
+    let with_strict = grown c.in_ok-arg-3.ensures c.strict_arg.ensures.local c.strict_arg.ensures.rule with_json in
+    IfOk-weaker c.arg-4.result _ _ (λ x added. grown added c.page_arg.ensures.local c.page_arg.ensures.rule with_strict) c.arg-4.ensures

@@ -1,0 +1,12 @@
+use Rattle.std.proofs.Common.{◌≡◌, codes, rules}
+use Rattle.std.proofs.lemmas.Result.{IfOk-weaker}
+use Rattle.clap.specs.Words.{app_of, new_app}
+use Rattle.command_line.proofs.Grown.{grown}
+use Rattle.command_line.proofs.words.run_command.Goals as goal
+
+pub returns-clause-app : goal.returns-clause-app
+returns-clause-app c =
+    let named : app_of c.about.result ≡ new_app (codes "run") = search rules in
+    let with_file = grown c.in_ok-arg.ensures c.file_arg.ensures.local c.file_arg.ensures.rule named in
+    let with_json = grown c.in_ok-arg-2.ensures c.json_arg.ensures.local c.json_arg.ensures.rule with_file in
+    IfOk-weaker c.arg-3.result _ _ (λ x added. grown added c.out_arg.ensures.local c.out_arg.ensures.rule with_json) c.arg-3.ensures
