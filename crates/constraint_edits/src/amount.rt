@@ -148,12 +148,19 @@ pub(crate) fn amount_in(value: &Value, edit: Edit) -> Option<Amount> {
     match edit {
         Edit::NoCount(field) => amount_of(value.get(field.name())?),
         Edit::NoMemory(field) => amount_of(value.get(MEMORY)?.get(field.name())?),
-        Edit::NoBound(field) => {
-            let name = field.name();
-            amount_of(entries_of(value).iter().find_map(|entry| entry.get(name))?)
-        }
+        Edit::NoBound(field) => amount_of(first_bound(value, field.name())?),
         _ => None,
     }
+}
+
+/// The value of a bound in the first entry that has it.
+fn first_bound<'a>(value: &'a Value, key: &str) -> Option<&'a Value> {
+    for entry in entries_of(value) {
+        if let Some(bound) = entry.get(key) {
+            return Some(bound);
+        }
+    }
+    None
 }
 
 /// The constraints with another value of the field that a change leaves out, of a bound in each

@@ -145,18 +145,22 @@ pub fn edited(
 }
 
 fn supporting(alloc: Global, value: &Value, key: &str) -> Result<Option<Changed>, AllocError> {
-    let memory = value.get(MEMORY);
-    let was = match memory.and_then(|memory| memory.get(key)) {
+    let was = match memory_of(value, key) {
         Some(Value::Bool(true)) => return Ok(None),
         Some(_) => "false",
         None if key == Field::CpuDomainSupported.name() => return Ok(None),
         None => "(absent, so false)",
     };
-    let object = with(alloc, memory, key, Value::Bool(true))?;
+    let object = with(alloc, value.get(MEMORY), key, Value::Bool(true))?;
     Ok(Some(Changed {
         value: with(alloc, Some(value), MEMORY, object)?,
         words: format!(in alloc; "{key} {was} becomes true")?,
     }))
+}
+
+/// What the memory of constraints states of a field.
+fn memory_of<'a>(value: &'a Value, key: &str) -> Option<&'a Value> {
+    value.get(MEMORY)?.get(key)
 }
 
 fn without(alloc: Global, value: &Value, key: &str) -> Result<Option<Changed>, AllocError> {

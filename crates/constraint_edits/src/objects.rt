@@ -59,9 +59,12 @@ pub(crate) fn entries_of(value: &Value) -> &[Value] {
 
 /// Whether an entry of constraints has a member.
 pub(crate) fn have(value: &Value, key: &str) -> bool {
-    entries_of(value)
-        .iter()
-        .any(|entry| entry.get(key).is_some())
+    for entry in entries_of(value) {
+        if entry.get(key).is_some() {
+            return true;
+        }
+    }
+    false
 }
 
 /// Puts a value in short after a text: a size as `1920x1080`.

@@ -12,10 +12,12 @@ const HEAPS: &str = "permitted_heaps";
 /// The heaps that constraints permit, where they name some and not this one.
 fn others_than<'a>(value: &'a Value, heap: &Heap) -> Option<&'a [Value]> {
     let list = value.get(MEMORY)?.get(HEAPS)?.as_array()?.as_slice();
-    if list.is_empty() || list.iter().any(|item| is_heap(item, heap)) {
-        return None;
+    for item in list {
+        if is_heap(item, heap) {
+            return None;
+        }
     }
-    Some(list)
+    if list.is_empty() { None } else { Some(list) }
 }
 
 fn type_in(item: &Value) -> &str {
@@ -33,7 +35,12 @@ fn is_heap(item: &Value, heap: &Heap) -> bool {
 /// Whether the heap that an item names is one of a platform's.
 fn is_among(item: &Value, heaps: &[HeapInfo]) -> bool {
     let (name, id) = (type_in(item), id_in(item));
-    heaps.iter().any(|info| info.heap.id == id && info.heap.heap_type.as_str() == name)
+    for info in heaps {
+        if info.heap.id == id && info.heap.heap_type.as_str() == name {
+            return true;
+        }
+    }
+    false
 }
 
 fn heap_value(alloc: Global, heap: &Heap) -> Result<Value, AllocError> {

@@ -35,7 +35,7 @@ pub(crate) fn taking_colour(
     let mut copy = Vec::new(alloc);
     for entry in entries_of(value) {
         let names = names_in(alloc, entry.get(COLOURS))?;
-        if names.iter().any(|name| *name == colour) {
+        if names.contains(&colour) {
             copy.push(entry.clone()?)?;
             continue;
         }
@@ -76,10 +76,7 @@ pub(crate) fn taking_pair(
 ) -> Result<Option<Changed>, AllocError> {
     let entries = entries_of(value);
     let format = pair.format.name();
-    let index = entries
-        .iter()
-        .position(|entry| names_format(entry, format))
-        .unwrap_or(0);
+    let index = first_naming(entries, format);
     let Some(like) = entries.get(index) else {
         return Ok(None);
     };
@@ -90,6 +87,16 @@ pub(crate) fn taking_pair(
     }
     let words = words_on(alloc, like, index, pair)?;
     with_entries(alloc, value, copy, words)
+}
+
+/// The index of the first entry that names a format as its own; 0 where none does.
+fn first_naming(entries: &[Value], format: &str) -> usize {
+    for (index, entry) in entries.iter().enumerate() {
+        if names_format(entry, format) {
+            return index;
+        }
+    }
+    0
 }
 
 /// Whether an entry names a format as its own.

@@ -36,7 +36,10 @@ pub(crate) fn without_cpu(alloc: Global, value: &Value) -> Result<Option<Changed
 }
 
 fn is_cpu(usage: &Value) -> bool {
-    usage.as_str().is_some_and(|name| name == "cpu")
+    match usage.as_str() {
+        Some(name) => name == "cpu",
+        None => false,
+    }
 }
 
 /// The constraints with so many buffers asked for at least; `None` where as many are.
