@@ -16,12 +16,8 @@ pub fn page_of(
     items: &[Item],
     drawing: Option<&Drawing<'_>>,
 ) -> Result<String, AllocError> {
-    let answer = match items.iter().find(|item| item.kind == Kind::Answer) {
-        Some(item) => item.text.as_str(),
-        None => "",
-    };
     let mut page = Page::new(alloc);
-    put_head(&mut page, answer);
+    put_head(&mut page, answer_in(items));
     if let Some(drawing) = drawing {
         put_tree(&mut page, drawing);
     }
@@ -32,6 +28,16 @@ pub fn page_of(
     }
     page.put("</main>\n</body>\n</html>\n");
     page.into_text()
+}
+
+/// The first answer among what is told.
+fn answer_in(items: &[Item]) -> &str {
+    for item in items {
+        if item.kind == Kind::Answer {
+            return item.text.as_str();
+        }
+    }
+    ""
 }
 
 fn put_head(page: &mut Page, answer: &str) {
