@@ -22,8 +22,7 @@ pub struct EntryPlace {
 /// names one, and then further ones.
 pub fn entry_place(stated: Option<&Value>, index: usize) -> EntryPlace {
     let mut before = 0usize;
-    let list = stated.and_then(|value| value.get(ENTRIES)?.as_array());
-    if let Some(entries) = list {
+    if let Some(entries) = stated_entries(stated) {
         for (item, entry) in entries.iter().enumerate() {
             let pairs = pairs_of(entry);
             before = before.saturating_add(pairs);
@@ -38,6 +37,12 @@ pub fn entry_place(stated: Option<&Value>, index: usize) -> EntryPlace {
     }
 }
 
+/// The entries that a record states.
+fn stated_entries<'a>(stated: Option<&'a Value>) -> Option<&'a [Value]> {
+    let entries = stated?.get(ENTRIES)?.as_array()?;
+    Some(entries.as_slice())
+}
+
 /// How many pairs an entry of a record names.
 fn pairs_of(entry: &Value) -> usize {
     let own = usize::from(entry.get("pixel_format").is_some());
@@ -49,10 +54,15 @@ fn pairs_of(entry: &Value) -> usize {
 
 /// Whether an entry takes a pair.
 pub fn takes(entry: &Entry, pair: Pair) -> bool {
-    entry.format.is_none_or(|format| format == pair.format)
-        && entry
-            .modifier
-            .is_none_or(|modifier| modifier == pair.modifier)
+    let has_format = match entry.format {
+        Some(format) => format == pair.format,
+        None => true,
+    };
+    let has_modifier = match entry.modifier {
+        Some(modifier) => modifier == pair.modifier,
+        None => true,
+    };
+    has_format && has_modifier
 }
 
 /// The entries of a participant's record, from 0, each of which takes a pair of a platform that an

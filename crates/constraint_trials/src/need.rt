@@ -117,9 +117,8 @@ pub(crate) fn need_in(
     people: &[Asked<'_>],
     place: Option<(&HeapInfo, CoherencyDomain)>,
 ) -> Result<Need, AllocError> {
-    let nodes = &group.story.nodes;
     let mut needs: Vec<Option<Need>> = Vec::new(alloc);
-    for _node in 0..nodes.len() {
+    for _node in 0..group.story.nodes.len() {
         needs.push(None)?;
     }
     for one in people {
@@ -133,17 +132,22 @@ pub(crate) fn need_in(
             Some(Some(need)) => *need,
             _ => Need::none(),
         };
-        let parent = nodes.get(node).and_then(|known| known.parent);
-        if let (Some(above), true) = (parent, group.is_inside(node)) {
-            add_below(group, &mut needs, above, total);
+        if group.is_inside(node) {
+            add_above(group, &mut needs, node, total);
         }
     }
     Ok(total)
 }
 
-/// Adds what a child and those below it need to what its parent and others below that do: to a
+/// Adds what a node and those below it need to what its parent and others below that do: to a
 /// group's where it needs less.
-fn add_below(group: Group<'_, '_>, needs: &mut [Option<Need>], above: usize, total: Need) {
+fn add_above(group: Group<'_, '_>, needs: &mut [Option<Need>], node: usize, total: Need) {
+    let Some(known) = group.story.nodes.get(node) else {
+        return;
+    };
+    let Some(above) = known.parent else {
+        return;
+    };
     if let Some(need) = needs.get_mut(above) {
         *need = Some(match *need {
             None => total,

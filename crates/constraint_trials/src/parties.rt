@@ -24,13 +24,23 @@ pub struct Party<'a> {
 impl Party<'_> {
     /// Whether somebody of those who leave no settings by themselves asks something else.
     pub(crate) fn is_changed(&self, read: &[Read<'_>]) -> bool {
-        read.iter().any(|other| self.needs(other.node))
+        for other in read {
+            if self.needs(other.node) {
+                return true;
+            }
+        }
+        false
     }
 
     /// Whether a participant, by its number among all, is one of those who leave no settings by
     /// themselves.
     pub(crate) fn needs(&self, node: usize) -> bool {
-        self.needed.iter().any(|one| one.node == node)
+        for one in &self.needed {
+            if one.node == node {
+                return true;
+            }
+        }
+        false
     }
 }
 
@@ -117,13 +127,23 @@ fn with_firsts(
             continue;
         }
         let children = story.children(alloc, node)?;
-        if !children.iter().any(|child| longer.contains(child)) {
+        if !has_one_of(&longer, &children) {
             if let Some(first) = children.first() {
                 longer.push(*first)?;
             }
         }
     }
     Ok(longer)
+}
+
+/// Whether one of some children is among those that are chosen.
+fn has_one_of(chosen: &[usize], children: &[usize]) -> bool {
+    for child in children {
+        if chosen.contains(child) {
+            return true;
+        }
+    }
+    false
 }
 
 /// The first group above a node of which these children have none, if there is one.
@@ -166,7 +186,10 @@ fn is_asked(group: Group<'_, '_>, chosen: &[usize], node: usize) -> bool {
         if at == group.root {
             return true;
         }
-        let Some(above) = group.story.nodes.get(at).and_then(|known| known.parent) else {
+        let Some(known) = group.story.nodes.get(at) else {
+            return false;
+        };
+        let Some(above) = known.parent else {
             return false;
         };
         if group.story.is_group(above) && !chosen.contains(&at) {

@@ -41,7 +41,12 @@ pub fn is_change(
 /// Whether other constraints of a participant, by its number among all, can leave settings: it is
 /// one of those who leave none by themselves in some party, or there are no parties.
 pub fn can_help(parties: &[Party<'_>], node: usize) -> bool {
-    parties.is_empty() || parties.iter().any(|party| party.needs(node))
+    for party in parties {
+        if party.needs(node) {
+            return true;
+        }
+    }
+    parties.is_empty()
 }
 
 /// What the memory of constraints states of a field.
@@ -51,10 +56,13 @@ fn memory_of<'a>(value: &'a Value, field: Field) -> Option<&'a Value> {
 
 /// Whether an entry of constraints has a field.
 fn is_in_entries(value: &Value, field: Field) -> bool {
-    match value.get(ENTRIES).and_then(Value::as_array) {
-        Some(entries) => entries
-            .iter()
-            .any(|entry| entry.get(field.name()).is_some()),
-        None => false,
+    let Some(entries) = value.get(ENTRIES).and_then(Value::as_array) else {
+        return false;
+    };
+    for entry in entries {
+        if entry.get(field.name()).is_some() {
+            return true;
+        }
     }
+    false
 }

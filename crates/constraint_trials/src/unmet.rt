@@ -24,7 +24,12 @@ pub struct Read<'a> {
 
 /// Whether the script has groups of tokens.
 pub fn has_groups(story: &Story<'_>) -> bool {
-    (0..story.nodes.len()).any(|node| story.is_group(node))
+    for node in 0..story.nodes.len() {
+        if story.is_group(node) {
+            return true;
+        }
+    }
+    false
 }
 
 /// Whether those of a group, whose parties these are, have no settings where calls state these

@@ -10,32 +10,45 @@ use value_sources::Asked;
 /// a colour space that it doesn't take, and that few others lack; or one that nobody names.
 pub fn is_worth(edit: Edit, one: &Asked<'_>, people: &[Asked<'_>], few: usize) -> bool {
     match edit {
-        Edit::TakesPair(pair) => {
-            let lacking = people
-                .iter()
-                .filter(|other| lacks_pair(other, pair))
-                .count();
-            if lacking == 0 {
-                return !is_named(people, pair);
-            }
-            lacking <= few && lacks_pair(one, pair)
-        }
-        Edit::TakesColour(colour) => {
-            let lacking = people
-                .iter()
-                .filter(|other| lacks_colour(other, colour))
-                .count();
-            if lacking == 0 {
-                return !is_colour_named(people, colour);
-            }
-            lacking <= few && lacks_colour(one, colour)
-        }
-        Edit::NoCpu => people.iter().any(|other| {
-            let memory = other.asked.memory();
-            memory.secure_required
-        }),
+        Edit::TakesPair(pair) => match lacking_pair(people, pair) {
+            0 => !is_named(people, pair),
+            lacking => lacking <= few && lacks_pair(one, pair),
+        },
+        Edit::TakesColour(colour) => match lacking_colour(people, colour) {
+            0 => !is_colour_named(people, colour),
+            lacking => lacking <= few && lacks_colour(one, colour),
+        },
+        Edit::NoCpu => is_secure_required(people),
         _ => true,
     }
+}
+
+/// How many participants have entries, and none for a pair.
+fn lacking_pair(people: &[Asked<'_>], pair: Pair) -> usize {
+    let mut lacking = 0usize;
+    for one in people {
+        lacking = lacking.saturating_add(usize::from(lacks_pair(one, pair)));
+    }
+    lacking
+}
+
+/// How many participants have entries, none of which takes a colour space.
+fn lacking_colour(people: &[Asked<'_>], colour: ColourSpace) -> usize {
+    let mut lacking = 0usize;
+    for one in people {
+        lacking = lacking.saturating_add(usize::from(lacks_colour(one, colour)));
+    }
+    lacking
+}
+
+/// Whether somebody needs secure memory.
+fn is_secure_required(people: &[Asked<'_>]) -> bool {
+    for one in people {
+        if one.asked.memory().secure_required {
+            return true;
+        }
+    }
+    false
 }
 
 /// A side that asks for so many pixels is of an image that is meant.
@@ -43,9 +56,14 @@ const SIZED: u32 = 16;
 
 /// Whether somebody asks for images of some size.
 pub fn are_sized(people: &[Asked<'_>]) -> bool {
-    people
-        .iter()
-        .any(|one| one.asked.entries().iter().any(is_sized))
+    for one in people {
+        for entry in one.asked.entries() {
+            if is_sized(entry) {
+                return true;
+            }
+        }
+    }
+    false
 }
 
 fn is_sized(entry: &Entry) -> bool {
@@ -58,26 +76,44 @@ fn is_sized(entry: &Entry) -> bool {
 /// Whether a participant has entries, and none for a pair.
 fn lacks_pair(one: &Asked<'_>, pair: Pair) -> bool {
     let entries = one.asked.entries();
-    !entries.is_empty() && !entries.iter().any(|entry| takes(entry, pair))
+    for entry in entries {
+        if takes(entry, pair) {
+            return false;
+        }
+    }
+    !entries.is_empty()
 }
 
 /// Whether a participant has entries, and none of them takes a colour space.
 fn lacks_colour(one: &Asked<'_>, colour: ColourSpace) -> bool {
     let entries = one.asked.entries();
-    !entries.is_empty() && !entries.iter().any(|entry| entry.colours.accepts(colour))
+    for entry in entries {
+        if entry.colours.accepts(colour) {
+            return false;
+        }
+    }
+    !entries.is_empty()
 }
 
 /// Whether somebody names a pair, and takes it not only as any.
 fn is_named(people: &[Asked<'_>], pair: Pair) -> bool {
-    people.iter().any(|one| one.asked.entries().iter().any(|entry| {
-        entry.format == Some(pair.format) && entry.modifier == Some(pair.modifier)
-    }))
+    for one in people {
+        for entry in one.asked.entries() {
+            if entry.format == Some(pair.format) && entry.modifier == Some(pair.modifier) {
+                return true;
+            }
+        }
+    }
+    false
 }
 
 fn is_colour_named(people: &[Asked<'_>], colour: ColourSpace) -> bool {
-    people.iter().any(|one| one
-        .asked
-        .entries()
-        .iter()
-        .any(|entry| entry.colours.lists(colour)))
+    for one in people {
+        for entry in one.asked.entries() {
+            if entry.colours.lists(colour) {
+                return true;
+            }
+        }
+    }
+    false
 }
