@@ -9,6 +9,7 @@ use Rattle.sysmem_memory.specs.Heap.{HeapFacts}
 use Rattle.sysmem_memory.specs.Place.{IsPlace}
 use Rattle.sysmem_merge.specs.declared.settings.Settings.{Settings}
 use Rattle.sysmem_sanitise.specs.Platform.{PlatformFacts, offers_of}
+use Rattle.sysmem_tree.specs.declared.tree.TheConstants.{MOST_NODES}
 use Rattle.verdict_claims.specs.declared.certificate.Claim.{Claim}
 use Rattle.verdict_claims.specs.declared.certificate.Proof.{Proof}
 use Rattle.verdict_claims.specs.declared.certificate.Proof.TheVariants as proves
@@ -66,7 +67,7 @@ pub record AreReadableSettings (platform : PlatformFacts) (s : Settings) : Type 
 -- at most 128 choices, each of one of at most 256 children
 pub record IsReadableChoice (platform : PlatformFacts) (chosen : ChosenFacts)
     (certificate : CertificateFacts) : Type 0 where
-  pub few : length chosen.selection ≤ 128
+  pub few : length chosen.selection ≤ MOST_NODES
   pub choices : All (λ n. n ≤ 255) chosen.selection
   pub settings : AreReadableSettings platform chosen.settings
   pub certified : IsReadableCertificate certificate

@@ -6,6 +6,7 @@ use Rattle.serde_json.specs.Data.{Data}
 use Rattle.serde_json.specs.Find.{get, as_str}
 use Rattle.sysmem_counts.specs.declared.field.Field.{Field}
 use Rattle.sysmem_sanitise.specs.Platform.{PlatformFacts}
+use Rattle.sysmem_tree.specs.declared.tree.TheConstants.{MOST_NODES}
 use Rattle.verdict_claims.specs.declared.certificate.Claim.{Claim}
 use Rattle.verdict_claims.specs.declared.certificate.Proof.TheVariants as proves
 use Rattle.verdict_claims.specs.declared.conflict.Conflict.{Conflict}
@@ -90,7 +91,7 @@ certificate_said d = do
 
 -- no domain has more choices than 128
 abbrev pub unless_many : List ℕ → Option (List ℕ)
-unless_many choices = if nat_le (length choices) 128 then Some choices else None
+unless_many choices = if nat_le (length choices) MOST_NODES then Some choices else None
 
 -- a choice is one of at most 256 children
 abbrev pub selection_said : Data → Option (List ℕ)

@@ -20,7 +20,7 @@ use serde_json::Value;
 use std::alloc::{AllocError, Global};
 use sysmem_merge::Settings;
 use sysmem_sanitise::Platform;
-use sysmem_tree::{Path, Prefix};
+use sysmem_tree::{MOST_NODES, Path, Prefix};
 use verdict_claims::{Certificate, Chosen, Claim, Lines, Proof, Refutation, Verdict};
 
 impl Put for u8 {
@@ -267,14 +267,14 @@ fn selection_of(alloc: Global, value: &Value) -> Result<Prefix, Unread>
 fn prefix_of(choices: &[u8]) -> Option<Prefix>
     ensures { result ≡ unless_many choices.now }
 {
-    if choices.len() > 128 {
+    if choices.len() > MOST_NODES {
         return None;
     }
     Some(few_choices(choices))
 }
 
 fn few_choices(choices: &[u8]) -> Prefix
-    requires { length choices.now ≤ 128 }
+    requires { length choices.now ≤ MOST_NODES }
     ensures { result ≡ choices.now }
 {
     let mut prefix = Prefix::new();

@@ -11,11 +11,11 @@ ghost use Rattle.sysmem_tree.specs.Domain.{HasDomain, TreeFacts};
 use crate::domain_line::put_domain;
 use script_reading::Act;
 use std::alloc::AllocError;
-use sysmem_tree::{DomainId, Tree};
+use sysmem_tree::{DomainId, MOST_NODES, Tree};
 
 /// The domains that have failed, marked in order of creation of their roots; `None` before an act
 /// that only asks for the verdict, as it makes none fail.
-pub(crate) fn failed_before(tree: &Tree, act: &Act<'_>) -> Option<[bool; 128]>
+pub(crate) fn failed_before(tree: &Tree, act: &Act<'_>) -> Option<[bool; MOST_NODES]>
     ensures marks { IfSome result
         (λ marks. (k : ℕ) → get_or marks k false ≡ failed_at tree.now k) }
     ensures asks { result ≡ None → AsksVerdict (act_seen act.now) }
@@ -30,11 +30,11 @@ pub(crate) fn failed_before(tree: &Tree, act: &Act<'_>) -> Option<[bool; 128]>
 /// The domain of this index, if it has failed and hadn't, both by marks.
 fn newly_failed_at(
     tree: &Tree,
-    have_failed: &[bool; 128],
-    had_failed: &[bool; 128],
+    have_failed: &[bool; MOST_NODES],
+    had_failed: &[bool; MOST_NODES],
     index: u32,
 ) -> Option<DomainId>
-    requires small { index < 128 }
+    requires small { index < MOST_NODES }
     requires marks { (k : ℕ) → get_or have_failed.now k false ≡ failed_at tree.now k }
     ensures domain { result ≡ failed_unmarked_at tree.now had_failed.now index }
     ensures there { IfSome result (HasDomain tree.now.nodes) }
@@ -48,7 +48,7 @@ fn newly_failed_at(
 pub(crate) fn put_failed(
     text: &mut String,
     tree: &Tree,
-    marks: &[bool; 128],
+    marks: &[bool; MOST_NODES],
 ) -> Result<(), AllocError>
     ensures { (old : TreeFacts) → AreMarksOf old tree.now marks.now
         → Puts result text.old text.new (failed_lines old tree.now) }
@@ -67,7 +67,7 @@ pub(crate) fn put_failed(
 pub(crate) fn put_failed_since(
     text: &mut String,
     tree: &Tree,
-    marks: &Option<[bool; 128]>,
+    marks: &Option<[bool; MOST_NODES]>,
 ) -> Result<(), AllocError>
     ensures some { IfSome marks.now (λ set. (old : TreeFacts) → AreMarksOf old tree.now set
         → Puts result text.old text.new (failed_lines old tree.now)) }

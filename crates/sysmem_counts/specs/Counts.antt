@@ -1,5 +1,6 @@
 -- How many buffers participants need, and which numbers of buffers suit all of them.
 use Rattle.std.specs.Prelude.{ℕ, ◌+◌, ◌≤◌, ◌<◌, max, List, [], ◌∷◌, All, Any, sum_by}
+use Rattle.sysmem_counts.specs.declared.bounds.TheConstants.{BUFFER_COUNT_LIMIT}
 use Rattle.sysmem_counts.specs.declared.constraints.CountConstraints.{CountConstraints}
 use Rattle.sysmem_counts.specs.declared.field.Field.{Field}
 use Rattle.sysmem_counts.specs.declared.field.Field.TheVariants.{MinBufferCount, MaxBufferCount}
@@ -24,7 +25,7 @@ pub record IsCounted (ps : List CountConstraints) (count : ℕ) : Type 0 where
   pub together : held_together ps ≤ count
   pub minimum : All (λ p. p.min_buffer_count ≤ count) ps
   pub maximum : All (λ p. count ≤ p.max_buffer_count) ps
-  pub limit : count ≤ 128
+  pub limit : count ≤ BUFFER_COUNT_LIMIT
 
 -- it suits them, and no smaller number does
 pub record IsLeastCount (ps : List CountConstraints) (count : ℕ) : Type 0 where
@@ -43,13 +44,13 @@ needed ps = max 1 (max (held_together ps) (greatest (λ p. p.min_buffer_count) p
 -- of theirs, or more than the limit
 abbrev pub IsCountLine : Field → List CountConstraints → Type 0
 IsCountLine MaxBufferCount ps = Any (λ p. p.max_buffer_count < needed ps) ps
-IsCountLine BufferCountLimit ps = 128 < needed ps
+IsCountLine BufferCountLimit ps = BUFFER_COUNT_LIMIT < needed ps
 IsCountLine _ ps = ⊥
 
 -- why participants have no count, with the first line that is true of
 -- them: a maximum before the limit
 abbrev pub IsCountFault : List CountConstraints → Field → Type 0
-IsCountFault ps BufferCountLimit = All (λ p. needed ps ≤ p.max_buffer_count) ps × (128 < needed ps)
+IsCountFault ps BufferCountLimit = All (λ p. needed ps ≤ p.max_buffer_count) ps × (BUFFER_COUNT_LIMIT < needed ps)
 IsCountFault ps field = IsCountLine field ps
 
 -- a line is true of participants where the count is fixed: they need more than it,

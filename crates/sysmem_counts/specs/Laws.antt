@@ -3,6 +3,7 @@ use Rattle.std.specs.Prelude.{ℕ, ◌≡◌, ◌≤◌, List}
 use Rattle.list_lemmas.specs.Some.{AreSomeOf}
 use Rattle.sysmem_counts.specs.Counts.{IsCounted, IsLeastCount, IsCountLine}
 use Rattle.sysmem_counts.specs.Counts.{IsFixedCountLine, HasNoCount}
+use Rattle.sysmem_counts.specs.declared.bounds.TheConstants.{BUFFER_COUNT_LIMIT}
 use Rattle.sysmem_counts.specs.declared.constraints.CountConstraints.{CountConstraints}
 use Rattle.sysmem_counts.specs.declared.field.Field.{Field}
 
@@ -31,4 +32,5 @@ FixedCountLineHolds = (count : ℕ) (field : Field) (some all : List CountConstr
 -- one of its two lines is true of participants whom a count up to the limit doesn't suit
 abbrev pub UnsuitedCountHasLine : Type 0
 UnsuitedCountHasLine = (count : ℕ) (ps : List CountConstraints)
-    → count ≤ 128 → ¬ IsCounted ps count → (field : Field) × IsFixedCountLine count field ps
+    → count ≤ BUFFER_COUNT_LIMIT → ¬ IsCounted ps count
+    → (field : Field) × IsFixedCountLine count field ps

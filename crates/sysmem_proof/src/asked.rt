@@ -7,6 +7,7 @@ ghost use Rattle.sysmem_memory.specs.PlaceTable.{refuses_by};
 ghost use Rattle.sysmem_merge.specs.Demands.{counts_asked, offer_demands};
 ghost use Rattle.sysmem_merge.specs.Failing.{FailsOn};
 ghost use Rattle.sysmem_merge.specs.OfferRead.{IsOfferRead};
+ghost use Rattle.sysmem_tree.specs.declared.tree.TheConstants.{MOST_NODES};
 ghost use Rattle.verdict_claims.specs.Roll.{asked_by, listed};
 
 use crate::roll::Roll;
@@ -19,7 +20,7 @@ use verdict_claims::{PathList, add_count, add_read};
 
 /// What they ask of the number of buffers.
 pub(crate) fn counts_of(roll: &Roll<'_>, paths: &PathList) -> CountBounds
-    requires few { length paths.now ≤ 128 }
+    requires few { length paths.now ≤ MOST_NODES }
     ensures { IsTallyOf result (counts_asked (asked_by (listed roll.now) paths.now)) }
 {
     let mut counts = CountBounds::new();

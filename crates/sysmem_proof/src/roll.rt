@@ -18,7 +18,7 @@ use std::marker::Model;
 use sysmem_sanitise::Constraints;
 use sysmem_tree::laws::{one_forest, one_path};
 use sysmem_tree::layout_laws::choices_leave_one_forest;
-use sysmem_tree::{DomainId, Layout, NodeId, Prefix, Tree};
+use sysmem_tree::{DomainId, Layout, MOST_NODES, NodeId, Prefix, Tree};
 use verdict_claims::PathList;
 
 /// The participants that choices settle in a domain of a tree, and those that were accepted
@@ -30,7 +30,7 @@ pub(crate) struct Roll<'a> {
     prefix: &'a Prefix,
     accepted: &'a [NodeId],
     /// Which nodes are on it, by their numbers.
-    marks: [bool; 128],
+    marks: [bool; MOST_NODES],
 }
 
 impl<'a> Model for Roll<'a> {
@@ -112,7 +112,7 @@ impl<'a> Roll<'a> {
     pub(crate) fn number_of(&self, path: &[u32]) -> Option<usize>
         ensures named { is_some result ≡ is_some (asked_at (listed self.now) path.now) }
         ensures at { IfSome result (λ n. IsOnlyPath self.now.nodes n path.now) }
-        ensures few { IfSome result (λ n. n < 128) }
+        ensures few { IfSome result (λ n. n < MOST_NODES) }
     {
         one_path();
         one_forest();
@@ -142,7 +142,7 @@ impl<'a> Roll<'a> {
     /// Participants that are named, each once, are at most as many as a tree has nodes.
     pub(crate) fn few_named(&self, paths: &PathList)
         requires { AreNamed (listed self.now) paths.now }
-        ensures { length paths.now ≤ 128 }
+        ensures { length paths.now ≤ MOST_NODES }
     {
         few_paths(self.tree, self.domain, self.prefix, self.accepted, paths);
     }
@@ -156,7 +156,7 @@ impl<'a> Roll<'a> {
 }
 
 /// Marks these nodes too.
-fn mark_all(tree: &Tree, nodes: &[NodeId], marks: &mut [bool; 128])
+fn mark_all(tree: &Tree, nodes: &[NodeId], marks: &mut [bool; MOST_NODES])
     requires { All (HasNode tree.now.nodes) nodes.now }
     ensures { (k : ℕ) → get_or marks.new k false
         ≡ (list_any (λ i. i == k) nodes.now || get_or marks.old k false) }
@@ -167,7 +167,7 @@ fn mark_all(tree: &Tree, nodes: &[NodeId], marks: &mut [bool; 128])
 }
 
 /// What a node asks, if it is marked and has constraints.
-fn marked<'a>(tree: &'a Tree, marks: &[bool; 128], node: NodeId) -> Option<&'a Constraints>
+fn marked<'a>(tree: &'a Tree, marks: &[bool; MOST_NODES], node: NodeId) -> Option<&'a Constraints>
     requires { HasNode tree.now.nodes node }
     ensures { option_map (λ asked. asked.now) result ≡ (if get_or marks.now node false
         then option_and_then (λ n. n.constraints) (slice_get tree.now.nodes node) else None) }
@@ -188,7 +188,7 @@ fn few_paths(tree: &Tree, domain: DomainId, prefix: &Prefix, accepted: &[NodeId]
       choices = prefix.now;
       accepted = accepted.now;
     })) paths.now }
-    ensures { length paths.now ≤ 128 }
+    ensures { length paths.now ≤ MOST_NODES }
 {
     one_path();
     one_forest();

@@ -6,6 +6,7 @@ ghost use Rattle.sysmem_tree.specs.Nodes.{HasNode};
 ghost use Rattle.sysmem_room.specs.Agreeing.{StandsAs};
 ghost use Rattle.sysmem_room.specs.Log.{begun_as, shown_by};
 ghost use Rattle.sysmem_tree.specs.ActionKind.{deed_of, duplicates};
+ghost use Rattle.sysmem_tree.specs.declared.tree.TheConstants.{MOST_NODES};
 
 use crate::agreeing::{has_set, lent};
 use std::alloc::{AllocError, Global};
@@ -103,7 +104,7 @@ impl Log {
     /// Enters an action, where there is room for one beside the last.
     pub fn push(&mut self, action: Action)
         requires room { length self.old.deeds + 2 ≤ self.old.places }
-        requires few { (shown_by self.old).state.children < 128 }
+        requires few { (shown_by self.old).state.children < MOST_NODES }
         ensures begun { self.new.begun ≡ self.old.begun }
         ensures entered { self.new.deeds ≡ self.old.deeds ++ deed_of action ∷ [] }
     {

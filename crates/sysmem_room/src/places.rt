@@ -3,7 +3,7 @@
 ghost use Rattle.std.specs.Prelude.{◌≡◌, ◌≢◌, ◌<◌, ◌≤◌, ◌+◌, [], IfSome, get_or, slice_set};
 ghost use Rattle.sysmem_room.specs.Places.{ArePlaces};
 
-use sysmem_tree::ActionKind;
+use sysmem_tree::{ActionKind, MOST_NODES};
 
 /// The places of the actions on each node in a history, from the last one back. A place is the
 /// number of entries up to an action and with it; it is 0 where there is none. The `Duplicate`s at
@@ -11,13 +11,13 @@ use sysmem_tree::ActionKind;
 #[derive(Drop)]
 pub(crate) struct Places {
     /// For each node the place of the last action on it.
-    last: [u16; 128],
+    last: [u16; MOST_NODES],
     /// For each action, by its index in the history, the place of the one before it on its node.
     before: [u16; 640],
     /// For each node the place of the last action on it that is no `Duplicate`.
-    other: [u16; 128],
+    other: [u16; MOST_NODES],
     /// For each node how many `Duplicate`s come after that.
-    duplicates: [u16; 128],
+    duplicates: [u16; MOST_NODES],
 }
 
 impl Places {
@@ -26,16 +26,16 @@ impl Places {
         ensures { ArePlaces [] result }
     {
         Places {
-            last: [0; 128],
+            last: [0; MOST_NODES],
             before: [0; 640],
-            other: [0; 128],
-            duplicates: [0; 128],
+            other: [0; MOST_NODES],
+            duplicates: [0; MOST_NODES],
         }
     }
 
     /// Notes an action of this kind on a node that was entered after so many entries.
     pub(crate) fn add(&mut self, node: u32, entries: usize, kind: ActionKind)
-        requires node { node < 128 }
+        requires node { node < MOST_NODES }
         requires few { entries < 640 }
         requires duplicates { get_or self.old.duplicates node 0 ≤ entries }
         ensures last { self.new.last ≡ slice_set self.old.last node (entries + 1) }
@@ -62,7 +62,7 @@ impl Places {
 
     /// The place of the last action on a node that is no `Duplicate`.
     pub(crate) fn other(&self, node: u32) -> usize
-        requires { node < 128 }
+        requires { node < MOST_NODES }
         ensures { result ≡ get_or self.now.other node 0 }
     {
         self.other[node as usize] as usize
@@ -70,7 +70,7 @@ impl Places {
 
     /// How many `Duplicate`s come after that.
     pub(crate) fn duplicates(&self, node: u32) -> usize
-        requires { node < 128 }
+        requires { node < MOST_NODES }
         ensures { result ≡ get_or self.now.duplicates node 0 }
     {
         self.duplicates[node as usize] as usize

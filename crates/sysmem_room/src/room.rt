@@ -69,7 +69,7 @@ impl<L: Ledger> Model for Room<L> {
         × (r.spare.parts + length r.book.state.tree.nodes ≡ all_parts)
         × (L.parts ≡ all_parts)
         × (vec_len r.cells ≡ length r.book.state.tree.domains)
-        × (128 ≤ vec_capacity r.cells)
+        × (MOST_NODES ≤ vec_capacity r.cells)
         × ArePlaces r.book.history r.places.value };
 }
 
@@ -278,7 +278,7 @@ impl<L: Ledger> Room<L> {
             → IsOwn self.old path.now log.now (option_map (λ o. o.now) known.entry) node
             → IsDisputed self.old path.now (option_map (λ o. o.now) known.entry) node) }
         ensures unchanged { OnErr result (self.new ≡ self.old) }
-        ensures few { OnOk result ((shown_by log.now).state.children < 128) }
+        ensures few { OnOk result ((shown_by log.now).state.children < MOST_NODES) }
         ensures foreseen { OnOk result (due (option_map (λ o. o.now) known.entry) path.now
             (shown_by log.now).state (kind_of (deed_of action)) ≡ None) }
         ensures answers { IfErr result (λ refusal. refusal ≢ Refusal.Strange

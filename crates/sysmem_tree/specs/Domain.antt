@@ -11,6 +11,7 @@ use Rattle.sysmem_tree.specs.declared.fate.Fate.TheVariants as fates
 use Rattle.sysmem_tree.specs.Node.{NodeFacts, is_awaited}
 use Rattle.sysmem_tree.specs.Nodes.{IsTree, AreProper}
 use Rattle.sysmem_tree.specs.Path.{birth_of}
+use Rattle.sysmem_tree.specs.declared.tree.TheConstants.{MOST_NODES}
 
 -- the nodes in order of creation, the root first, and the domains in order of their roots
 pub record TreeFacts : Type 0 where
@@ -83,7 +84,7 @@ fails t r = was_closed_early t.domains r || is_host_lost t.domains (host_node t.
 
 -- a domain has failed where it, or one above it, fails by itself
 abbrev pub has_failed : TreeFacts → ℕ → Bool
-has_failed t r = list_any (fails t) (up_from 128 t.nodes r)
+has_failed t r = list_any (fails t) (up_from MOST_NODES t.nodes r)
 
 -- what a decision makes of its domain
 abbrev pub fate_by : Decision → Fate

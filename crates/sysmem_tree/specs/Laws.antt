@@ -17,6 +17,7 @@ use Rattle.sysmem_tree.specs.Shape.{Member, Labels, by_number, by_path}
 use Rattle.sysmem_tree.specs.Shape.{forest_of, shape_of, members_of}
 use Rattle.sysmem_tree.specs.Step.{IsStep, IsMapOf, IsInitial}
 use Rattle.sysmem_tree.specs.Tree.{first_tree, Applied, applied}
+use Rattle.sysmem_tree.specs.declared.tree.TheConstants.{MOST_NODES}
 
 -- a path leads to node i, and no other path does
 pub record IsOnlyPath (nodes : List NodeFacts) (i : ℕ) (path : List ℕ) : Type 0 where
@@ -182,7 +183,7 @@ PathsInShapesDiffer = (nodes : List NodeFacts) (r : ℕ) → IsTree nodes → Ha
 -- in a shape at most 128 groups stand within each other
 abbrev pub FewGroupsNest : Type 0
 FewGroupsNest = (nodes : List NodeFacts) (r : ℕ) → IsTree nodes → HasDomain nodes r
-    → nesting (shape_of nodes r) ≤ 128
+    → nesting (shape_of nodes r) ≤ MOST_NODES
 
 -- a history makes a sound tree, and the map that goes with the actions at each path
 pub record IsMade (es : List HistoryEntry) : Type 0 where

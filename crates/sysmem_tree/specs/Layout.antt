@@ -9,6 +9,7 @@ use Rattle.sysmem_tree.specs.declared.state.NodeKind.{NodeKind}
 use Rattle.sysmem_tree.specs.declared.state.NodeKind.TheVariants.{Token, Group, Collection}
 use Rattle.sysmem_tree.specs.Forest.{Forest, Empty, Plain, each, relabel, count, count_each}
 use Rattle.sysmem_tree.specs.Forest as forest
+use Rattle.sysmem_tree.specs.declared.tree.TheConstants.{MOST_NODES}
 
 -- whether a node's children are alternatives
 abbrev pub is_group : NodeKind → Bool
@@ -98,6 +99,6 @@ pub record Lays (alternatives : Bool) (places : List Place) (d : Forest ℕ) (la
 pub record IsLayout (layout : Layout) (d : Forest ℕ) : Type 0 where
   pub spots : Forest Spot
   pub numbers : relabel (λ (s : Spot). s.node) spots ≡ d
-  pub starts : start spots 128 ≡ layout.start
-  pub within : layout.start < 128
-  pub laid : AreLaid false layout.places spots 128 None
+  pub starts : start spots MOST_NODES ≡ layout.start
+  pub within : layout.start < MOST_NODES
+  pub laid : AreLaid false layout.places spots MOST_NODES None

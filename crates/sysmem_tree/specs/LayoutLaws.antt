@@ -15,6 +15,7 @@ use Rattle.sysmem_tree.specs.Selection.{after, IsPrefix, IsSelection}
 use Rattle.sysmem_tree.specs.Shape.{Member, by_number, forest_of, shape_of}
 use Rattle.sysmem_tree.specs.Table.{makes}
 use Rattle.sysmem_tree.specs.Tree.{Applied, applied}
+use Rattle.sysmem_tree.specs.declared.tree.TheConstants.{MOST_NODES}
 
 -- a choice leads on, and settles the share of the child at this place beside
 -- what was settled, whatever the order
@@ -52,13 +53,13 @@ FirstGroupIsSettled = (d : Forest ℕ) (group children : ℕ) → first_group d 
 -- a domain has at most 128 choices, one after the other
 abbrev pub FewChoices : Type 0
 FewChoices = (nodes : List NodeFacts) (r : ℕ) (cs : List ℕ) → IsTree nodes
-    → IsPrefix (forest_of by_number nodes r []) cs → length cs ≤ 128
+    → IsPrefix (forest_of by_number nodes r []) cs → length cs ≤ MOST_NODES
 
 -- a group of a domain has at most 128 children
 abbrev pub FewChildren : Type 0
 FewChildren = (nodes : List NodeFacts) (r : ℕ) (cs : List ℕ) (e : Forest ℕ) (group children : ℕ)
     → IsTree nodes → after (forest_of by_number nodes r []) cs ≡ Some e
-    → first_group e ≡ Some (group, children) → children ≤ 128
+    → first_group e ≡ Some (group, children) → children ≤ MOST_NODES
 
 -- a number and a member of a shape, for one node
 abbrev pub Both : Type 0

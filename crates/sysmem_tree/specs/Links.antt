@@ -6,6 +6,7 @@ use Rattle.sysmem_tree.specs.declared.node.Birth.{Birth}
 use Rattle.sysmem_tree.specs.Forest.{Forest, Empty}
 use Rattle.sysmem_tree.specs.Node.{NodeFacts}
 use Rattle.sysmem_tree.specs.Shape.{by_number, kid_of, kids_from}
+use Rattle.sysmem_tree.specs.declared.tree.TheConstants.{MOST_NODES}
 
 -- the parent of a node of the domain that r roots
 abbrev pub parent_in : ℕ → NodeFacts → Option ℕ
@@ -19,7 +20,7 @@ first_kid r p i (n ∷ nodes) = if is_some (kid_of r p n) then Some i else first
 -- for each node its first child in the domain that r roots, and for each child its next sibling
 -- there, among the nodes from number i on
 pub record AreLinks (nodes : List NodeFacts) (r i : ℕ) (links : Links) : Type 0 where
-  pub first : (p : ℕ) → p < 128 → slice_get links.first p ≡ Some (first_kid r p i (drop i nodes))
+  pub first : (p : ℕ) → p < MOST_NODES → slice_get links.first p ≡ Some (first_kid r p i (drop i nodes))
   pub next : (k p : ℕ) (n : NodeFacts) → i ≤ k → slice_get nodes k ≡ Some n
       → is_some (kid_of r p n) ≡ true
       → slice_get links.next k ≡ Some (first_kid r p (k + 1) (drop (k + 1) nodes))

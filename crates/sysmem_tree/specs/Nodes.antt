@@ -5,6 +5,7 @@ use Rattle.std.specs.Prelude.{slice_get, filter_map, if◌then◌else◌}
 use Rattle.sysmem_tree.specs.declared.node.Birth.{Birth}
 use Rattle.sysmem_tree.specs.declared.state.NodeKind.TheVariants.{Group, Collection}
 use Rattle.sysmem_tree.specs.Node.{NodeFacts}
+use Rattle.sysmem_tree.specs.declared.tree.TheConstants.{MOST_NODES}
 
 -- the number is one of the nodes'
 abbrev pub HasNode : List NodeFacts → ℕ → Type 0
@@ -33,7 +34,7 @@ IsPlaced k n parent =
 -- 1 to 128 nodes: first the root, which is nobody's child; each other is a child, made after its
 -- parent. A node's children are numbered 0, 1, 2 .. in order of creation, as many as it made.
 pub record IsTree (nodes : List NodeFacts) : Type 0 where
-  pub few : length nodes ≤ 128
+  pub few : length nodes ≤ MOST_NODES
   pub root : IsSomeAnd (slice_get nodes 0) (λ n. (n.birth ≡ None) × (n.domain ≡ 0))
   pub child : (k : ℕ) (n : NodeFacts) → slice_get nodes (suc k) ≡ Some n
       → IsSomeAnd n.birth (λ b. b.parent ≤ k)

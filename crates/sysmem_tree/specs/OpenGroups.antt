@@ -10,6 +10,7 @@ use Rattle.sysmem_tree.specs.Layout.{Spot, start, first_place, HoldNumbers}
 use Rattle.sysmem_tree.specs.Node.{NodeFacts}
 use Rattle.sysmem_tree.specs.Prefix.{Alternatives, AreAlternatives, next_alternatives, AreOpen}
 use Rattle.sysmem_tree.specs.Selection.{after}
+use Rattle.sysmem_tree.specs.declared.tree.TheConstants.{MOST_NODES}
 
 -- the layout names none but these nodes
 abbrev pub HoldsNodes : Layout → List NodeFacts → Type 0
@@ -72,7 +73,7 @@ end_of (Some p) = p.end
 
 -- the tree that stands at a place, alone
 abbrev pub tree_at : Layout → ℕ → Forest ℕ
-tree_at layout at = forest_between 128 layout.places at (end_of (slice_get layout.places at))
+tree_at layout at = forest_between MOST_NODES layout.places at (end_of (slice_get layout.places at))
 
 -- the nodes that the choice of the child at this place settles, in
 -- pre-order, whatever was chosen elsewhere

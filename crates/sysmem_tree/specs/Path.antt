@@ -7,6 +7,7 @@ use Rattle.negotiation_inputs.specs.Participant.{Participant}
 use Rattle.sysmem_tree.specs.declared.node.Birth.{Birth}
 use Rattle.sysmem_tree.specs.declared.state.NodeState.{NodeState}
 use Rattle.sysmem_tree.specs.Node.{NodeFacts}
+use Rattle.sysmem_tree.specs.declared.tree.TheConstants.{MOST_NODES}
 
 -- whether a node of this birth is this child of this parent
 abbrev pub is_born : ℕ → ℕ → Option Birth → Bool
@@ -39,7 +40,7 @@ path_within (suc steps) nodes i = unwrap_or
 
 -- a node's path: no tree has more than 128 nodes
 abbrev pub path_of : List NodeFacts → ℕ → List ℕ
-path_of nodes i = path_within 128 nodes i
+path_of nodes i = path_within MOST_NODES nodes i
 
 -- what the map shows of a node: its state, its constraints, and whether it
 -- roots a domain; no numbers of nodes

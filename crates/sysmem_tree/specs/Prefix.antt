@@ -4,6 +4,7 @@ use Rattle.std.specs.Option.{option_or}
 use Rattle.sysmem_tree.specs.declared.layout.Place.{Place}
 use Rattle.sysmem_tree.specs.Forest.{Forest, Empty, Plain, Group}
 use Rattle.sysmem_tree.specs.Layout.{Spot, start, first_place, IsLaidPlace, AreLaid}
+use Rattle.sysmem_tree.specs.declared.tree.TheConstants.{MOST_NODES}
 
 -- a group and its alternatives
 pub record Alternatives (A : Type 0) : Type 0 where
@@ -22,7 +23,7 @@ AreOpen places Empty next = Unit {0}
 AreOpen places (Plain s kids rest) next =
     AreOpen places kids (option_or (first_place rest) next) × AreOpen places rest next
 AreOpen places (Group s kids rest) next =
-    ((to : ℕ) × (to ≤ 128) × IsLaidPlace places s true kids to (Some s.place)
+    ((to : ℕ) × (to ≤ MOST_NODES) × IsLaidPlace places s true kids to (Some s.place)
     × AreLaid true places kids to (option_or (first_place rest) next))
     × AreOpen places rest next
 
@@ -30,6 +31,6 @@ AreOpen places (Group s kids rest) next =
 pub record AreAlternatives (places : List Place) (at : ℕ) (kids : Forest Spot) : Type 0 where
   pub to : ℕ
   pub next : Option ℕ
-  pub small : to ≤ 128
+  pub small : to ≤ MOST_NODES
   pub starts : start kids to ≡ at
   pub laid : AreLaid true places kids to next

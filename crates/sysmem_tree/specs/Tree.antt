@@ -20,6 +20,7 @@ use Rattle.sysmem_tree.specs.Node.{fresh, NodeFacts}
 use Rattle.sysmem_tree.specs.Shape.{members_of}
 use Rattle.sysmem_tree.specs.Table.{allows, wants_child, state_after}
 use Rattle.sysmem_tree.specs.Table.{constraints_after, makes, makes_root}
+use Rattle.sysmem_tree.specs.declared.tree.TheConstants.{MOST_NODES}
 
 -- the domain of a node that roots it
 abbrev pub new_domain : ℕ → Domain
@@ -92,7 +93,7 @@ is_barred t r = has_failed t r || is_none_chosen (decision_of t.domains r)
 
 -- a collection has at most 128 nodes
 abbrev pub has_room : List NodeFacts → ActionKind → Bool
-has_room nodes kind = not (is_some (makes kind)) || nat_le (length nodes + 1) 128
+has_room nodes kind = not (is_some (makes kind)) || nat_le (length nodes + 1) MOST_NODES
 
 -- an accepted action: the tree afterwards, and the node made or acted on
 pub record Applied : Type 0 where

@@ -37,9 +37,9 @@ fn copied_node(node: &Node) -> Result<Node, AllocError>
 
 /// A copy of nodes, with room for as many as there may be.
 pub(crate) fn copied_nodes(alloc: Global, nodes: &[Node]) -> Result<Vec<Node>, AllocError>
-    requires { length nodes.now ≤ 128 }
+    requires { length nodes.now ≤ MOST_NODES }
     ensures items { IfOk result (λ copy. copy.items ≡ nodes.now) }
-    ensures reserved { IfOk result (λ copy. 128 ≤ vec_capacity copy) }
+    ensures reserved { IfOk result (λ copy. MOST_NODES ≤ vec_capacity copy) }
 {
     let mut copy = Vec::with_capacity(alloc, MOST_NODES)?;
     for node in nodes {
@@ -50,9 +50,9 @@ pub(crate) fn copied_nodes(alloc: Global, nodes: &[Node]) -> Result<Vec<Node>, A
 
 /// A copy of domains, with room for as many as there may be.
 pub(crate) fn copied_domains(alloc: Global, domains: &[Domain]) -> Result<Vec<Domain>, AllocError>
-    requires { length domains.now ≤ 128 }
+    requires { length domains.now ≤ MOST_NODES }
     ensures items { IfOk result (λ copy. copy.items ≡ domains.now) }
-    ensures reserved { IfOk result (λ copy. 128 ≤ vec_capacity copy) }
+    ensures reserved { IfOk result (λ copy. MOST_NODES ≤ vec_capacity copy) }
 {
     let mut copy = Vec::with_capacity(alloc, MOST_NODES)?;
     for domain in domains {

@@ -9,9 +9,7 @@ ghost use Rattle.sysmem_tree.specs.Links.{AreLinks, IsBelow, siblings_from};
 use crate::links::Links;
 use crate::node::Node;
 use crate::state::NodeKind;
-
-/// How many places there are: as many as nodes.
-pub(crate) const PLACES: usize = 128;
+use crate::tree::MOST_NODES;
 
 /// The place of a node in a domain's layout. Places are in pre-order, so that what is below a node
 /// comes just behind it. Its numbers are bytes, so that a layout is small: there are at most 128
@@ -79,11 +77,11 @@ fn either(test: bool, yes: Option<u8>, no: Option<u8>) -> Option<u8>
 }
 
 /// Lays out children of a node, the last one first.
-fn lay(nodes: &[Node], links: &Links, what: Children, places: &mut [Place; 128]) -> Laid
+fn lay(nodes: &[Node], links: &Links, what: Children, places: &mut [Place; MOST_NODES]) -> Laid
     requires tree { IsTree nodes.now }
     requires links { (root : ℕ) × AreLinks nodes.now root (root + 1) links.now
         × IfSome what.first (IsBelow nodes.now root) }
-    requires end { what.end ≤ 128 }
+    requires end { what.end ≤ MOST_NODES }
     requires room { size (siblings_from nodes.now what.first) ≤ what.end }
     ensures laid { Lays what.is_group places.new (siblings_from nodes.now what.first) result
         what.end what.next }
@@ -135,7 +133,7 @@ fn lay(nodes: &[Node], links: &Links, what: Children, places: &mut [Place; 128])
 /// stands for the tree as it was: later actions and decisions don't reach it.
 #[derive(Clone, Copy, Debug)]
 pub struct Layout {
-    pub(crate) places: [Place; 128],
+    pub(crate) places: [Place; MOST_NODES],
     /// The place of the domain's root.
     pub(crate) start: usize,
 }
@@ -159,10 +157,10 @@ impl Layout {
         let below = Children {
             first: links.first[root],
             is_group,
-            end: 128,
+            end: MOST_NODES as u8,
             next: None,
         };
-        let mut places = [NO_PLACE; 128];
+        let mut places = [NO_PLACE; MOST_NODES];
         let kids = lay(nodes, &links, below, &mut places);
         let start = kids.start - 1;
         let next = either(is_group, Some(start), kids.next);
@@ -170,7 +168,7 @@ impl Layout {
             node: root as u8,
             is_group,
             children: kids.children,
-            end: 128,
+            end: MOST_NODES as u8,
             next,
         };
         Layout {
@@ -185,7 +183,7 @@ impl Layout {
             × (choice < length (each kids)) }
         ensures place { (kids kid : Forest Spot) → AreAlternatives self.now.places (group + 1) kids
             → slice_get (each kids) choice ≡ Some kid → start kid 0 ≡ result }
-        ensures within { result < 128 }
+        ensures within { result < MOST_NODES }
     {
         let mut at = group + 1;
         let mut left = choice;

@@ -5,14 +5,15 @@ ghost use Rattle.sysmem_tree.specs.Links.{AreLinks, parent_in};
 ghost use Rattle.sysmem_tree.specs.Nodes.{IsTree};
 
 use crate::node::Node;
+use crate::tree::MOST_NODES;
 
 /// Which of a domain's nodes are children of one node, each by its number, a byte.
 #[derive(Drop)]
 pub(crate) struct Links {
     /// For each node the first of its children.
-    pub(crate) first: [Option<u8>; 128],
+    pub(crate) first: [Option<u8>; MOST_NODES],
     /// For each child the one that was made next.
-    pub(crate) next: [Option<u8>; 128],
+    pub(crate) next: [Option<u8>; MOST_NODES],
 }
 
 /// The parent of a node, where that node is of the domain.
@@ -35,8 +36,8 @@ impl Links {
         ensures { AreLinks nodes.now root (root + 1) result }
     {
         let mut links = Links {
-            first: [None; 128],
-            next: [None; 128],
+            first: [None; MOST_NODES],
+            next: [None; MOST_NODES],
         };
         let mut number = nodes.len();
         while number > root + 1 {

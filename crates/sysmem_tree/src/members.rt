@@ -12,13 +12,14 @@ use crate::layout::Layout;
 use crate::node::Node;
 use crate::prefix::Prefix;
 use crate::settled::past;
+use crate::tree::MOST_NODES;
 
 /// Marks the nodes between two places that no group there has yet to choose.
-fn mark(layout: &Layout, from: usize, to: usize, marks: &mut [bool; 128])
+fn mark(layout: &Layout, from: usize, to: usize, marks: &mut [bool; MOST_NODES])
     requires laid { (w : Forest Spot) × (g : Bool) × (next : Option ℕ)
         × AreLaid g layout.now.places w to next × (start w to ≡ from) }
-    requires numbers { HoldNumbers 128 layout.now.places }
-    requires to { to ≤ 128 }
+    requires numbers { HoldNumbers MOST_NODES layout.now.places }
+    requires to { to ≤ MOST_NODES }
     ensures { (w : Forest Spot) (g : Bool) (next : Option ℕ)
         → AreLaid g layout.now.places w to next → start w to ≡ from → (k : ℕ)
         → get_or marks.new k false
@@ -33,16 +34,16 @@ fn mark(layout: &Layout, from: usize, to: usize, marks: &mut [bool; 128])
 }
 
 /// The nodes that choices settle, marked by their numbers.
-pub(crate) fn marks_after(layout: &Layout, choices: &[u8]) -> [bool; 128]
-    requires numbers { HoldNumbers 128 layout.now.places }
+pub(crate) fn marks_after(layout: &Layout, choices: &[u8]) -> [bool; MOST_NODES]
+    requires numbers { HoldNumbers MOST_NODES layout.now.places }
     requires prefix { (d : Forest ℕ) × (laid : IsLayout layout.now d)
         × IsPrefix laid.spots choices.now }
     ensures { (d : Forest ℕ) → (laid : IsLayout layout.now d) → (k : ℕ)
         → IfSome (after laid.spots choices.now)
         (λ e. get_or result k false ≡ list_any (λ s. s.node == k) (settled e)) }
 {
-    let mut marks = [false; 128];
-    mark(layout, layout.start, 128, &mut marks);
+    let mut marks = [false; MOST_NODES];
+    mark(layout, layout.start, MOST_NODES, &mut marks);
     let mut group = layout.places[layout.start].next;
     for choice in choices {
         let Some(at) = group else {
@@ -61,7 +62,7 @@ impl Layout {
 
     /// Which nodes of the domain these choices settle, with constraints or without, marked by their
     /// numbers.
-    pub fn settled_marks(&self, prefix: &Prefix) -> [bool; 128]
+    pub fn settled_marks(&self, prefix: &Prefix) -> [bool; MOST_NODES]
         requires nodes { (nodes : List NodeFacts) × IsTree nodes × HoldsNodes self.now nodes }
         requires prefix { (d : Forest ℕ) × IsLayout self.now d × IsPrefix d prefix.now }
         ensures { (nodes : List NodeFacts) (r : ℕ)
@@ -76,7 +77,7 @@ impl Layout {
 
 /// The members of the selection that the choices make in the domain of this root, marked by their
 /// numbers.
-pub(crate) fn members(nodes: &[Node], root: usize, choices: &[u8]) -> [bool; 128]
+pub(crate) fn members(nodes: &[Node], root: usize, choices: &[u8]) -> [bool; MOST_NODES]
     requires tree { IsTree nodes.now }
     requires there { root < length nodes.now }
     requires prefix { IsPrefix (forest_of by_number nodes.now root []) choices.now }

@@ -5,6 +5,7 @@ ghost use Rattle.sysmem_tree.specs.ActionKind.{deed_of};
 ghost use Rattle.sysmem_tree.specs.Path.{is_born};
 ghost use Rattle.sysmem_tree.specs.Table.{makes};
 ghost use Rattle.sysmem_tree.specs.Tree.{first_node, new_node, node_after};
+ghost use Rattle.sysmem_tree.specs.declared.tree.TheConstants.{MOST_NODES};
 
 use crate::action::{Action, ActionKind};
 use crate::state::{NodeKind, NodeState};
@@ -121,7 +122,7 @@ impl Node {
 
     /// What the action makes of it.
     pub(crate) fn act(&mut self, action: Action)
-        requires { self.old.state.children < 128 }
+        requires { self.old.state.children < MOST_NODES }
         ensures { self.new ≡ node_after (deed_of action) self.old }
     {
         self.state.act(action.kind());

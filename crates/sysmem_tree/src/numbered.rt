@@ -2,6 +2,7 @@
 
 ghost use Rattle.std.specs.Prelude.{◌≡◌, ◌<◌, IfSome, IsSome, length};
 ghost use Rattle.sysmem_tree.specs.Nodes.{HasNode};
+ghost use Rattle.sysmem_tree.specs.declared.tree.TheConstants.{MOST_NODES};
 
 use crate::id::NodeId;
 use crate::tree::Tree;
@@ -23,7 +24,7 @@ impl Tree {
     pub fn number_of(&self, node: NodeId) -> u32
         requires { HasNode self.now.nodes node }
         ensures number { result ≡ node }
-        ensures few { result < 128 }
+        ensures few { result < MOST_NODES }
     {
         let _ = &self.nodes;
         node.0 as u32

@@ -11,6 +11,7 @@ ghost use Rattle.sysmem_tree.specs.Selection.{IsPrefix, after};
 use crate::id::NodeId;
 use crate::layout::Layout;
 use crate::settled::past;
+use crate::tree::MOST_NODES;
 use std::marker::Model;
 
 /// A group, by its place in a layout.
@@ -90,7 +91,7 @@ impl Layout {
         ensures child { (d : Forest ℕ) (cs : List ℕ) → IsFirstOpen self.now d cs (Some group)
             → IsPrefix d (cs ++ choice ∷ []) → IsChildPlace self.now d cs choice result }
         ensures there { HasChild self.now result }
-        ensures within { result < 128 }
+        ensures within { result < MOST_NODES }
     {
         ChildPlace(self.child(group.0, choice))
     }
@@ -112,7 +113,7 @@ impl Layout {
     {
         SettledNodes {
             at: self.start,
-            end: 128,
+            end: MOST_NODES,
         }
     }
 

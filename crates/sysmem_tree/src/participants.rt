@@ -13,7 +13,7 @@ ghost use Rattle.sysmem_tree.specs.Selection.{IsPrefix};
 ghost use Rattle.sysmem_tree.specs.Shape.{by_number, forest_of, participants_of};
 
 use crate::id::{DomainId, NodeId};
-use crate::layout::{Layout, PLACES};
+use crate::layout::Layout;
 use crate::members::marks_after;
 use crate::tree::{MOST_NODES, Tree};
 use std::alloc::AllocError;
@@ -84,9 +84,9 @@ impl Tree {
     }
 
     /// Adds the nodes of a layout that are marked and set constraints, in its order.
-    fn add_marked(&self, layout: &Layout, marks: &[bool; 128], nodes: &mut Vec<NodeId>)
-        requires few { length self.now.nodes ≤ 128 }
-        requires start { layout.now.start ≤ 128 }
+    fn add_marked(&self, layout: &Layout, marks: &[bool; MOST_NODES], nodes: &mut Vec<NodeId>)
+        requires few { length self.now.nodes ≤ MOST_NODES }
+        requires start { layout.now.start ≤ MOST_NODES }
         requires numbers { HoldNumbers (length self.now.nodes) layout.now.places }
         requires room { (d : Forest ℕ) × (laid : IsLayout layout.now d)
             × (length nodes.old.items + length (filter (is_marked self.now.nodes marks.now) (labels d))
@@ -95,7 +95,7 @@ impl Tree {
             ≡ nodes.old.items ++ filter (is_marked self.now.nodes marks.now) (labels d) }
         ensures reserved { vec_capacity nodes.new ≡ vec_capacity nodes.old }
     {
-        for at in layout.start..PLACES {
+        for at in layout.start..MOST_NODES {
             let node = NodeId(layout.places[at].node as usize);
             if self.is_marked(marks, node) {
                 nodes.push_reserved(node);
@@ -104,8 +104,8 @@ impl Tree {
     }
 
     /// Whether a node of the tree is marked and set constraints.
-    fn is_marked(&self, marks: &[bool; 128], node: NodeId) -> bool
-        requires few { length self.now.nodes ≤ 128 }
+    fn is_marked(&self, marks: &[bool; MOST_NODES], node: NodeId) -> bool
+        requires few { length self.now.nodes ≤ MOST_NODES }
         requires node { HasNode self.now.nodes node }
         ensures { result ≡ is_marked self.now.nodes marks.now node }
     {

@@ -2,13 +2,14 @@
 
 ghost use Rattle.std.specs.Prelude.{◌≡◌, ◌≤◌, ◌<◌, ◌++◌, [], ◌∷◌, length, MatchOption, true, false};
 
+use crate::tree::MOST_NODES;
 use std::marker::Model;
 
 /// The choices for the first groups in effect of a domain, at most 128: for each the number of the
 /// chosen child.
 #[derive(Debug, Drop)]
 pub struct Prefix {
-    choices: [u8; 128],
+    choices: [u8; MOST_NODES],
     many: usize,
 }
 
@@ -19,7 +20,7 @@ impl Model for Prefix {
 
     ghost view = { λ p. take p.many p.choices };
 
-    ghost invariant = { λ p. p.many ≤ 128 };
+    ghost invariant = { λ p. p.many ≤ MOST_NODES };
 }
 
 impl Prefix {
@@ -28,7 +29,7 @@ impl Prefix {
         ensures { result ≡ [] }
     {
         Prefix {
-            choices: [0; 128],
+            choices: [0; MOST_NODES],
             many: 0,
         }
     }
@@ -42,15 +43,15 @@ impl Prefix {
 
     /// Whether 128 choices are there, so that no further one fits.
     pub fn is_full(&self) -> bool
-        ensures room { result ≡ false → length self.now < 128 }
-        ensures full { result ≡ true → length self.now ≡ 128 }
+        ensures room { result ≡ false → length self.now < MOST_NODES }
+        ensures full { result ≡ true → length self.now ≡ MOST_NODES }
     {
-        self.many == 128
+        self.many == MOST_NODES
     }
 
     /// Chooses this child for the next group.
     pub fn push(&mut self, choice: u8)
-        requires { length self.old < 128 }
+        requires { length self.old < MOST_NODES }
         ensures { self.new ≡ self.old ++ choice ∷ [] }
     {
         self.choices[self.many] = choice;

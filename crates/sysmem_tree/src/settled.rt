@@ -11,10 +11,11 @@ ghost use Rattle.sysmem_tree.specs.Shape.{by_number, forest_of, members_of};
 use crate::layout::{Layout, Place};
 use crate::node::Node;
 use crate::prefix::Prefix;
+use crate::tree::MOST_NODES;
 
 /// The place that follows one, past what is below it where that is alternatives.
 pub(crate) fn past(place: &Place, at: usize) -> usize
-    requires { at < 128 }
+    requires { at < MOST_NODES }
     ensures { result ≡ (if place.now.is_group then place.now.end else at + 1) }
 {
     if place.is_group {
@@ -28,7 +29,7 @@ pub(crate) fn past(place: &Place, at: usize) -> usize
 fn settles(layout: &Layout, from: usize, to: usize, node: usize) -> bool
     requires laid { (w : Forest Spot) × (g : Bool) × (next : Option ℕ)
         × AreLaid g layout.now.places w to next × (start w to ≡ from) }
-    requires to { to ≤ 128 }
+    requires to { to ≤ MOST_NODES }
     ensures { (w : Forest Spot) (g : Bool) (next : Option ℕ)
         → AreLaid g layout.now.places w to next → start w to ≡ from
         → result ≡ list_any (λ s. s.node == node) (settled_of w) }
@@ -52,7 +53,7 @@ fn settles_after(layout: &Layout, choices: &[u8], node: usize) -> bool
         → IfSome (after laid.spots choices.now)
         (λ e. result ≡ list_any (λ s. s.node == node) (settled_of e)) }
 {
-    let mut is_settled = settles(layout, layout.start, 128, node);
+    let mut is_settled = settles(layout, layout.start, MOST_NODES, node);
     let mut group = layout.places[layout.start].next;
     for choice in choices {
         let Some(at) = group else {

@@ -12,9 +12,9 @@ ghost use Rattle.sysmem_tree.specs.Path.{path_of};
 ghost use Rattle.sysmem_tree.specs.Shape.{shape_of};
 
 use crate::id::{DomainId, NodeId};
-use crate::layout::{Layout, PLACES};
+use crate::layout::Layout;
 use crate::node::Node;
-use crate::tree::Tree;
+use crate::tree::{MOST_NODES, Tree};
 use negotiation_inputs::Constraints;
 use std::sync::Arc;
 
@@ -76,8 +76,8 @@ fn show_same(nodes: &[Node], node: usize, others: &[Node], other: usize) -> bool
 fn lay_out_same(nodes: &[Node], layout: &Layout, others: &[Node], other: &Layout) -> bool
     requires own_tree { IsTree nodes.now }
     requires other_tree { IsTree others.now }
-    requires own_start { layout.now.start ≤ 128 }
-    requires other_start { other.now.start ≤ 128 }
+    requires own_start { layout.now.start ≤ MOST_NODES }
+    requires other_start { other.now.start ≤ MOST_NODES }
     requires own_numbers { HoldNumbers (length nodes.now) layout.now.places }
     requires other_numbers { HoldNumbers (length others.now) other.now.places }
     ensures { (d e : Forest ℕ) → IsLayout layout.now d → IsLayout other.now e → IsTrue result
@@ -86,7 +86,7 @@ fn lay_out_same(nodes: &[Node], layout: &Layout, others: &[Node], other: &Layout
     if layout.start != other.start {
         return false;
     }
-    for at in layout.start..PLACES {
+    for at in layout.start..MOST_NODES {
         let node = layout.places[at].node as usize;
         let its = other.places[at].node as usize;
         if !show_same(nodes, node, others, its) {

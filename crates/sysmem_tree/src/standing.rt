@@ -144,7 +144,7 @@ pub(crate) fn decide(domains: &mut [Domain], root: usize, decision: Decision)
 /// Leaves all nodes of the domain of this root out, but its members; each node is marked by its
 /// number.
 pub(crate) fn leave_out(nodes: &mut [Node], root: usize, members: &[bool; MOST_NODES])
-    requires { length nodes.old ≤ 128 }
+    requires { length nodes.old ≤ MOST_NODES }
     ensures { (numbers : List ℕ)
         → ((k : ℕ) → get_or members.now k false ≡ list_any (λ m. m == k) numbers)
         → nodes.new ≡ left_out_but numbers root 0 nodes.old }

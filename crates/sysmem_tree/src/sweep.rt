@@ -17,7 +17,7 @@ fn fails_with(
     failed: &[bool; MOST_NODES],
     decisions: &[Decision; MOST_NODES],
 ) -> bool
-    requires { IfSome host (λ one. one.now.domain < 128) }
+    requires { IfSome host (λ one. one.now.domain < MOST_NODES) }
     ensures { result
         ≡ fails_with failed.now decisions.now (option_map (λ one. one.now) host.entry) }
 {

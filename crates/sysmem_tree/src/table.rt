@@ -4,6 +4,7 @@
 ghost use Rattle.std.specs.Prelude.{◌≡◌, ◌<◌};
 ghost use Rattle.sysmem_tree.specs.Node as node;
 ghost use Rattle.sysmem_tree.specs.Table as table;
+ghost use Rattle.sysmem_tree.specs.declared.tree.TheConstants.{MOST_NODES};
 
 use crate::action::ActionKind;
 use crate::state::{NodeKind, NodeState};
@@ -53,7 +54,7 @@ impl NodeState {
     /// Makes of it what the action does, whether it is allowed or not. The constraints that an
     /// action sets are no part of it.
     pub fn act(&mut self, action: ActionKind)
-        requires room { self.old.children < 128 }
+        requires room { self.old.children < MOST_NODES }
         ensures { self.new ≡ table.state_after action self.old }
     {
         match action {

@@ -46,7 +46,7 @@ impl Model for Tree {
 
     ghost invariant = { λ t.
         IsSoundTree (record { nodes = t.nodes.items; domains = t.domains.items })
-        × (128 ≤ vec_capacity t.nodes) × (128 ≤ vec_capacity t.domains) };
+        × (MOST_NODES ≤ vec_capacity t.nodes) × (MOST_NODES ≤ vec_capacity t.domains) };
 }
 
 impl Tree {
@@ -85,7 +85,7 @@ impl Tree {
     pub fn node_count(&self) -> u32
         ensures number { result ≡ length self.now.nodes }
         ensures some { 1 ≤ result }
-        ensures few { result ≤ 128 }
+        ensures few { result ≤ MOST_NODES }
         ensures sound { IsSoundTree self.now }
     {
         self.nodes.len() as u32
@@ -180,7 +180,7 @@ impl Tree {
     pub fn domain_count(&self) -> u32
         ensures number { result ≡ length self.now.domains }
         ensures some { 1 ≤ result }
-        ensures few { result ≤ 128 }
+        ensures few { result ≤ MOST_NODES }
     {
         self.domains.len() as u32
     }
@@ -311,12 +311,12 @@ fn note(nodes: &[Node], domains: &mut Vec<Domain>, number: usize, kind: ActionKi
     requires tree { IsTree nodes.now }
     requires rising { AreDomains (record { nodes = nodes.now; domains = domains.old.items }) }
     requires there { number < length nodes.now }
-    requires reserved { 128 ≤ vec_capacity domains.old }
-    requires room { makes_root kind ≡ true → length domains.old.items < 128 }
+    requires reserved { MOST_NODES ≤ vec_capacity domains.old }
+    requires room { makes_root kind ≡ true → length domains.old.items < MOST_NODES }
     ensures domains { IfSome (slice_get nodes.now number)
         (λ n. domains.new.items
         ≡ domains_after (record { nodes = nodes.now; domains = domains.old.items }) n kind) }
-    ensures reserved { 128 ≤ vec_capacity domains.new }
+    ensures reserved { MOST_NODES ≤ vec_capacity domains.new }
 {
     let root = nodes[number].domain();
     match kind {
@@ -330,13 +330,13 @@ fn note(nodes: &[Node], domains: &mut Vec<Domain>, number: usize, kind: ActionKi
 /// itself.
 fn act(nodes: &mut Vec<Node>, number: usize, action: Action) -> usize
     requires tree { IsTree nodes.old.items }
-    requires reserved { 128 ≤ vec_capacity nodes.old }
+    requires reserved { MOST_NODES ≤ vec_capacity nodes.old }
     requires there { number < length nodes.old.items }
     requires room { has_room nodes.old.items (kind_of (deed_of action)) ≡ true }
     ensures nodes { IfSome (slice_get nodes.old.items number)
         (λ n. nodes.new.items ≡ nodes_after nodes.old.items number n (deed_of action)) }
     ensures node { result ≡ number_after nodes.old.items number (kind_of (deed_of action)) }
-    ensures reserved { 128 ≤ vec_capacity nodes.new }
+    ensures reserved { MOST_NODES ≤ vec_capacity nodes.new }
 {
     let kind = action.kind();
     let made = nodes.len();

@@ -8,6 +8,7 @@ ghost use Rattle.sysmem_counts.specs.declared.constraints.CountConstraints.{Coun
 ghost use Rattle.sysmem_merge.specs.Demands.{counts_asked, offer_demands};
 ghost use Rattle.sysmem_merge.specs.OfferRead.{IsOfferRead};
 ghost use Rattle.sysmem_merge.specs.Settings.{CoversOn};
+ghost use Rattle.sysmem_tree.specs.declared.tree.TheConstants.{MOST_NODES};
 ghost use Rattle.verdict_claims.specs.Asked.{asked_in};
 ghost use Rattle.sysmem_tree.specs.Nodes.{HasNode};
 
@@ -21,8 +22,8 @@ use verdict_claims::{add_count, add_read};
 /// Adds what the participants among these nodes ask of the number of buffers.
 fn add_counts(tree: &Tree, nodes: &[NodeId], counts: &mut CountBounds)
     requires there { All (HasNode tree.now.nodes) nodes.now }
-    requires few { length nodes.now ≤ 128 }
-    requires room { sum_of counts.old ≤ 128 * 2 ^ 33 }
+    requires few { length nodes.now ≤ MOST_NODES }
+    requires room { sum_of counts.old ≤ MOST_NODES * 2 ^ 33 }
     ensures added { (ps : List Counted) → IsTallyOf counts.old ps
         → IsTallyOf counts.new (ps ++ counts_asked (asked_in tree.now.nodes nodes.now)) }
     ensures grows { sum_of counts.new ≤ sum_of counts.old + length nodes.now * 2 ^ 33 }
@@ -35,9 +36,9 @@ fn add_counts(tree: &Tree, nodes: &[NodeId], counts: &mut CountBounds)
 /// What the participants among nodes ask of the number of buffers, behind those accepted before.
 pub(crate) fn count_nodes(tree: &Tree, accepted: &[NodeId], nodes: &[NodeId]) -> CountBounds
     requires accepted { All (HasNode tree.now.nodes) accepted.now }
-    requires few_accepted { length accepted.now ≤ 128 }
+    requires few_accepted { length accepted.now ≤ MOST_NODES }
     requires there { All (HasNode tree.now.nodes) nodes.now }
-    requires few { length nodes.now ≤ 128 }
+    requires few { length nodes.now ≤ MOST_NODES }
     ensures { IsTallyOf result
         (counts_asked (asked_in tree.now.nodes (accepted.now ++ nodes.now))) }
 {

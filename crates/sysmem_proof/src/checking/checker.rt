@@ -1,6 +1,7 @@
 //! What a verdict is checked against.
 
 ghost use Rattle.std.specs.Prelude.{◌≡◌, ◌≤◌, ◌++◌, ℕ, List, Some, length, option_map};
+ghost use Rattle.sysmem_tree.specs.declared.tree.TheConstants.{MOST_NODES};
 ghost use Rattle.verdict_claims.specs.Base.{IsGivenBase};
 ghost use Rattle.verdict_claims.specs.Matter.{forest};
 ghost use Rattle.verdict_claims.specs.Members.{members_at};
@@ -112,7 +113,7 @@ impl<'a> Checker<'a> {
 
     /// A domain has at most 128 choices, one after the other.
     pub(crate) fn few_choices(&self)
-        ensures { (cs : List ℕ) → IsPrefix (forest self.now) cs → length cs ≤ 128 }
+        ensures { (cs : List ℕ) → IsPrefix (forest self.now) cs → length cs ≤ MOST_NODES }
     {
         few_choices();
         choices_leave_one_forest();

@@ -15,7 +15,7 @@ use sysmem_tree::{DomainId, Layout, MOST_NODES, NodeId, Prefix, SettledNodes, Tr
 /// Some nodes of a tree, at most 128.
 #[derive(Drop)]
 pub(crate) struct Members {
-    nodes: [NodeId; 128],
+    nodes: [NodeId; MOST_NODES],
     many: usize,
 }
 
@@ -26,7 +26,7 @@ impl Model for Members {
 
     ghost view = { λ m. take m.many m.nodes };
 
-    ghost invariant = { λ m. m.many ≤ 128 };
+    ghost invariant = { λ m. m.many ≤ MOST_NODES };
 }
 
 impl Members {
@@ -35,7 +35,7 @@ impl Members {
         ensures { result ≡ [] }
     {
         Members {
-            nodes: [node; 128],
+            nodes: [node; MOST_NODES],
             many: 0,
         }
     }
@@ -49,7 +49,7 @@ impl Members {
 
     /// Adds a node.
     fn push(&mut self, node: NodeId)
-        requires { length self.old < 128 }
+        requires { length self.old < MOST_NODES }
         ensures { self.new ≡ self.old ++ node ∷ [] }
     {
         self.nodes[self.many] = node;
@@ -60,7 +60,7 @@ impl Members {
 /// Adds the nodes that a walk over the layout gives.
 fn gather(layout: &Layout, walk: SettledNodes, members: &mut Members)
     requires { (ns : List ℕ) × HasLeft layout.now walk ns
-        × (length members.old + length ns ≤ 128) }
+        × (length members.old + length ns ≤ MOST_NODES) }
     ensures { (ns : List ℕ) → HasLeft layout.now walk ns → members.new ≡ members.old ++ ns }
 {
     let mut left = walk;

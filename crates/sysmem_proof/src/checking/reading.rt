@@ -1,6 +1,7 @@
 //! What a checker reads of its domain.
 
 ghost use Rattle.std.specs.Prelude.{◌≡◌, ◌≤◌, ◌↔◌, Some, All, IsPermutation, IsTrue, length};
+ghost use Rattle.sysmem_tree.specs.declared.tree.TheConstants.{MOST_NODES};
 ghost use Rattle.verdict_claims.specs.Asked.{asked_in};
 ghost use Rattle.verdict_claims.specs.Base.{BaseFacts};
 ghost use Rattle.verdict_claims.specs.Matter.{forest};
@@ -46,7 +47,7 @@ impl<'a> Checker<'a> {
         ensures asks { (d : Forest Member) → after (forest self.now) prefix.now ≡ Some d
             → IsPermutation (asked_in self.now.nodes result) (participants (settled d)) }
         ensures there { All (HasNode self.now.nodes) result }
-        ensures few { length result ≤ 128 }
+        ensures few { length result ≤ MOST_NODES }
     {
         choices_leave_one_forest();
         one_forest();
@@ -59,7 +60,7 @@ impl<'a> Checker<'a> {
     pub(crate) fn few_accepted(&self)
         ensures there { (b : BaseFacts) → self.now.base ≡ Some b
             → All (HasNode self.now.nodes) b.accepted }
-        ensures few { (b : BaseFacts) → self.now.base ≡ Some b → length b.accepted ≤ 128 }
+        ensures few { (b : BaseFacts) → self.now.base ≡ Some b → length b.accepted ≤ MOST_NODES }
     {
         self.tree.recall_sound();
     }

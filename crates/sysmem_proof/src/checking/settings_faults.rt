@@ -7,6 +7,7 @@ ghost use Rattle.sysmem_merge.specs.Demands.{OfferDemand, counts_asked};
 ghost use Rattle.sysmem_merge.specs.OfferRead.{IsOfferRead};
 ghost use Rattle.sysmem_merge.specs.Offers.{is_named};
 ghost use Rattle.sysmem_merge.specs.Settings.{CoversOn, Meets};
+ghost use Rattle.sysmem_tree.specs.declared.tree.TheConstants.{MOST_NODES};
 ghost use Rattle.verdict_claims.specs.Asked.{asked_in};
 ghost use Rattle.verdict_claims.specs.Base.{Terms};
 ghost use Rattle.verdict_claims.specs.Check.{IsLeastAt};
@@ -38,7 +39,7 @@ fn is_named(read: &OfferRead) -> bool
 /// Whether the settings meet the participants among these nodes.
 fn is_met(tree: &Tree, nodes: &[NodeId], platform: &Platform, settings: &Settings) -> bool
     requires there { All (HasNode tree.now.nodes) nodes.now }
-    requires few { length nodes.now ≤ 128 }
+    requires few { length nodes.now ≤ MOST_NODES }
     ensures { IsTrue result
         ↔ Meets platform.now (asked_in tree.now.nodes nodes.now) settings.now }
 {
@@ -52,7 +53,7 @@ fn is_met(tree: &Tree, nodes: &[NodeId], platform: &Platform, settings: &Setting
 /// least of their offer in their place.
 fn is_least(tree: &Tree, nodes: &[NodeId], platform: &Platform, settings: &Settings) -> bool
     requires there { All (HasNode tree.now.nodes) nodes.now }
-    requires few { length nodes.now ≤ 128 }
+    requires few { length nodes.now ≤ MOST_NODES }
     requires met { Meets platform.now (asked_in tree.now.nodes nodes.now) settings.now }
     ensures { IsTrue result
         ↔ IsLeastAt platform.now (asked_in tree.now.nodes nodes.now) settings.now }
@@ -85,7 +86,7 @@ pub(crate) fn initial_fault(
     settings: &Settings,
 ) -> Result<(), No>
     requires there { All (HasNode tree.now.nodes) nodes.now }
-    requires few { length nodes.now ≤ 128 }
+    requires few { length nodes.now ≤ MOST_NODES }
     ensures { (ms : List Member)
         → IsPermutation (asked_in tree.now.nodes nodes.now) (participants ms) → MatchResult result
         (λ _. IsLeastAt platform.now (participants ms) settings.now)
@@ -111,9 +112,9 @@ fn is_kept(
     settings: &Settings,
 ) -> bool
     requires accepted { All (HasNode tree.now.nodes) accepted.now }
-    requires few_accepted { length accepted.now ≤ 128 }
+    requires few_accepted { length accepted.now ≤ MOST_NODES }
     requires there { All (HasNode tree.now.nodes) nodes.now }
-    requires few { length nodes.now ≤ 128 }
+    requires few { length nodes.now ≤ MOST_NODES }
     ensures { IsTrue result ↔ ((settings.now ≡ given.now)
         × All (CoversOn platform.now settings.now) (asked_in tree.now.nodes nodes.now)
         × IsCounted (counts_asked (asked_in tree.now.nodes (accepted.now ++ nodes.now)))
@@ -137,9 +138,9 @@ pub(crate) fn attached_fault(
     settings: &Settings,
 ) -> Result<(), No>
     requires accepted { All (HasNode tree.now.nodes) accepted.now }
-    requires few_accepted { length accepted.now ≤ 128 }
+    requires few_accepted { length accepted.now ≤ MOST_NODES }
     requires there { All (HasNode tree.now.nodes) nodes.now }
-    requires few { length nodes.now ≤ 128 }
+    requires few { length nodes.now ≤ MOST_NODES }
     ensures { (terms : Terms) (ms : List Member) → terms.settings ≡ given.now
         → participants terms.accepted ≡ asked_in tree.now.nodes accepted.now
         → IsPermutation (asked_in tree.now.nodes nodes.now) (participants ms) → MatchResult result
