@@ -7,6 +7,7 @@ use Rattle.sysmem_tree.specs.Node.{NodeFacts}
 use Rattle.sysmem_tree.specs.Nodes.{HasNode}
 use Rattle.sysmem_tree.specs.Selection.{IsSelection}
 use Rattle.sysmem_tree.specs.Shape.{Member}
+use Rattle.sysmem_tree.specs.declared.tree.TheConstants.{MOST_NODES}
 use Rattle.verdict_claims.specs.Base.{Terms}
 use Rattle.verdict_claims.specs.Members.{members_at, StandFor}
 use Rattle.verdict_claims.specs.Verdict.{IsBestFor}
@@ -22,6 +23,6 @@ pub record IsBestChoice (platform : PlatformFacts) (terms : Option Terms) (d : F
 pub record AreSettledAt (nodes : List NodeFacts) (d : Forest Member)
     (accepted found : List ℕ) : Type 0 where
   pub there : All (HasNode nodes) (accepted ++ found)
-  pub few : length (accepted ++ found) ≤ 128
+  pub few : length (accepted ++ found) ≤ MOST_NODES
   pub stand : StandFor (members_at nodes (accepted ++ found))
       (members_at nodes accepted ++ settled d)

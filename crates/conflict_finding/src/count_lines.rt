@@ -3,10 +3,12 @@
 ghost use Rattle.std.specs.Prelude.{◌≡◌, ◌≤◌, List, [], ◌∷◌, All, IfSome, IfNone, length};
 ghost use Rattle.sysmem_counts.specs.Bounds.{IsTallyOf};
 ghost use Rattle.sysmem_counts.specs.Counts.{IsCounted, IsFixedCountLine};
+ghost use Rattle.sysmem_counts.specs.declared.bounds.TheConstants.{BUFFER_COUNT_LIMIT};
 ghost use Rattle.sysmem_counts.specs.declared.constraints.CountConstraints.{CountConstraints as Counted};
 ghost use Rattle.sysmem_counts.specs.declared.field.Field.TheVariants.{MinBufferCount, MaxBufferCount};
 ghost use Rattle.sysmem_merge.specs.Demands.{counts_asked};
 ghost use Rattle.sysmem_merge.specs.First.{IsFirstOf};
+ghost use Rattle.sysmem_tree.specs.declared.tree.TheConstants.{MOST_NODES};
 ghost use Rattle.verdict_claims.specs.Members.{members_at, participants};
 ghost use Rattle.sysmem_tree.specs.Nodes.{HasNode};
 
@@ -18,7 +20,7 @@ use verdict_claims::add_count;
 /// What the participants at these nodes ask of the number of buffers.
 pub(crate) fn counts_at(tree: &Tree, nodes: &[NodeId]) -> CountBounds
     requires there { All (HasNode tree.now.nodes) nodes.now }
-    requires few { length nodes.now ≤ 128 }
+    requires few { length nodes.now ≤ MOST_NODES }
     ensures { IsTallyOf result
         (counts_asked (participants (members_at tree.now.nodes nodes.now))) }
 {
@@ -32,7 +34,7 @@ pub(crate) fn counts_at(tree: &Tree, nodes: &[NodeId]) -> CountBounds
 /// The first line of a fixed count, up to 128, that is true of the participants: they need more
 /// than it, or a maximum of theirs is below it. `None` where it suits them.
 pub(crate) fn fixed_line(counts: &CountBounds, count: u32) -> Option<Field>
-    requires { count ≤ 128 }
+    requires { count ≤ BUFFER_COUNT_LIMIT }
     ensures line { (ps : List Counted) → IsTallyOf counts.now ps
         → IfSome result (λ field. IsFixedCountLine count field ps) }
     ensures first { (ps : List Counted) → IsTallyOf counts.now ps

@@ -1,7 +1,9 @@
 //! Why no settings meet what is settled, and what is refused before what was chosen.
 
 ghost use Rattle.std.specs.Prelude.{◌≡◌, ◌≢◌, ◌≤◌, ◌<◌, ◌++◌, ℕ, List, [], All, AllPairs, Some, None, is_none, length, option_map, IfOk, IfSome, IfNone};
+ghost use Rattle.sysmem_counts.specs.declared.bounds.TheConstants.{BUFFER_COUNT_LIMIT};
 ghost use Rattle.sysmem_merge.specs.declared.settings.Settings.{Settings as Settled};
+ghost use Rattle.sysmem_tree.specs.declared.tree.TheConstants.{MOST_NODES};
 ghost use Rattle.verdict_claims.specs.Base.{IsElsewhere, IsGivenBase, terms_of};
 ghost use Rattle.verdict_claims.specs.Certificate.{RefuseBeforeFor};
 ghost use Rattle.verdict_claims.specs.Conflict.{IsConflict, IsConflictFor, IsFixedConflict};
@@ -91,7 +93,7 @@ fn find_initial(
     learnt: &mut Learnt,
 ) -> Result<Option<Conflict>, AllocError>
     requires there { All (HasNode tree.now.nodes) nodes.now }
-    requires few { length nodes.now ≤ 128 }
+    requires few { length nodes.now ≤ MOST_NODES }
     requires learnt { IsLearnt tree.now.nodes platform.now.heaps learnt.old }
     ensures learnt { IsLearnt tree.now.nodes platform.now.heaps learnt.new }
     ensures conflict { (d : Forest Member)
@@ -135,10 +137,10 @@ fn find_on_base(
     learnt: &mut Learnt,
 ) -> Result<Option<Conflict>, AllocError>
     requires there { All (HasNode tree.now.nodes) (base.now.accepted ++ nodes.now) }
-    requires few { length (base.now.accepted ++ nodes.now) ≤ 128 }
+    requires few { length (base.now.accepted ++ nodes.now) ≤ MOST_NODES }
     requires heap { base.now.settings.place.heap < length platform.now.heaps }
     requires some { 1 ≤ base.now.settings.count }
-    requires limit { base.now.settings.count ≤ 128 }
+    requires limit { base.now.settings.count ≤ BUFFER_COUNT_LIMIT }
     requires learnt { IsLearnt tree.now.nodes platform.now.heaps learnt.old }
     ensures learnt { IsLearnt tree.now.nodes platform.now.heaps learnt.new }
     ensures conflict { (d : Forest Member)

@@ -10,7 +10,7 @@ ghost use Rattle.sysmem_tree.specs.Nodes.{HasNode};
 
 use std::alloc::{AllocError, Global};
 use sysmem_counts::Field;
-use sysmem_memory::{CoherencyDomain, HeapInfo, Place, refuses};
+use sysmem_memory::{CoherencyDomain, HeapInfo, MOST_HEAPS, Place, refuses};
 use sysmem_sanitise::{Constraints, Platform};
 use sysmem_tree::{NodeId, Tree};
 
@@ -146,7 +146,7 @@ fn refused_place(
 fn slots_for(platform: &Platform) -> usize
     ensures { 0 < result }
 {
-    MANY * platform.heaps().len().min(64).max(1)
+    MANY * platform.heaps().len().min(MOST_HEAPS).max(1)
 }
 
 /// The slot for what this participant says of the place.

@@ -1,4 +1,5 @@
 -- Why structs have no settings.
+use Rattle.flat_negotiation.specs.declared.negotiating.TheConstants.{MOST_PARTICIPANTS}
 use Rattle.std.specs.Prelude.{◌<◌, List, length, true, IsSomeAnd, slice_get}
 use Rattle.std.specs.List.{AllZip}
 use Rattle.negotiation_inputs.specs.Participant.{Participant}
@@ -52,7 +53,7 @@ pub record AreRefused (flat : FlatPlatform) (flats : List FlatParticipant)
 -- why there are no settings, where memory wasn't refused
 abbrev pub AreUnsettled : FlatPlatform → List FlatParticipant → Unsettled → Type 0
 AreUnsettled flat flats why.NoMemory = Unit {0}
-AreUnsettled flat flats why.TooMany = 1024 < length flats
+AreUnsettled flat flats why.TooMany = MOST_PARTICIPANTS < length flats
 AreUnsettled flat flats (why.Platform amiss) = IsPlatformAmiss flat amiss
 AreUnsettled flat flats (why.Participant who amiss) =
     IsSomeAnd (slice_get flats who) (λ p. IsParticipantAmiss p amiss)

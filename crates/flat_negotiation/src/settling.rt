@@ -1,5 +1,6 @@
 //! The best settings of a list, or where it stops having some.
 
+ghost use Rattle.flat_negotiation.specs.declared.negotiating.TheConstants.{MOST_PARTICIPANTS};
 ghost use Rattle.std.specs.Prelude.{◌≡◌, ◌≤◌, length, true, false, IfErr, IfOk, IfSome};
 ghost use Rattle.sysmem_merge.specs.Aggregate.{StandsFor};
 ghost use Rattle.sysmem_merge.specs.Best.{IsBest, IsUnmet};
@@ -19,7 +20,7 @@ fn aggregate_of<'p>(
     platform: &'p Platform,
     asked: &[Constraints],
 ) -> Result<Aggregate<'p>, AllocError>
-    requires { length asked.now ≤ 1024 }
+    requires { length asked.now ≤ MOST_PARTICIPANTS }
     ensures { IfOk result (λ aggregate. StandsFor aggregate platform.now asked.now) }
 {
     let mut aggregate = Aggregate::new(alloc, platform)?;
@@ -36,7 +37,7 @@ fn stop_of(
     asked: &[Constraints],
     reason: Reason,
 ) -> Result<Stop, AllocError>
-    requires few { length asked.now ≤ 1024 }
+    requires few { length asked.now ≤ MOST_PARTICIPANTS }
     requires unmet { IsUnmet true platform.now asked.now }
     requires reason { IsFirstReason true platform.now asked.now reason }
     ensures { IfOk result (IsStop platform.now asked.now) }
@@ -72,7 +73,7 @@ pub(crate) fn settled(
     platform: &Platform,
     asked: &[Constraints],
 ) -> Result<Settings, Unsettled>
-    requires { length asked.now ≤ 1024 }
+    requires { length asked.now ≤ MOST_PARTICIPANTS }
     ensures best { IfOk result (IsBest true platform.now asked.now) }
     ensures unmet { IfErr result (AreUnmet platform.now asked.now) }
 {
@@ -85,7 +86,7 @@ pub(crate) fn settled(
 
 /// Who is in the way of a list that has no settings, for this reason.
 fn refused(alloc: Global, platform: &Platform, asked: &[Constraints], reason: Reason) -> Unsettled
-    requires few { length asked.now ≤ 1024 }
+    requires few { length asked.now ≤ MOST_PARTICIPANTS }
     requires unmet { IsUnmet true platform.now asked.now }
     requires reason { IsFirstReason true platform.now asked.now reason }
     ensures { AreUnmet platform.now asked.now result }
@@ -104,7 +105,7 @@ fn blame_of(
     asked: &[Constraints],
     reason: Reason,
 ) -> Result<Option<Refusal>, AllocError>
-    requires few { length asked.now ≤ 1024 }
+    requires few { length asked.now ≤ MOST_PARTICIPANTS }
     requires unmet { IsUnmet true platform.now asked.now }
     requires reason { IsFirstReason true platform.now asked.now reason }
     ensures { IfOk result (λ found. IfSome found (IsBlamed platform.now asked.now)) }

@@ -1,4 +1,5 @@
 -- What is amiss with the parts of a platform or of a participant, by the field that has it.
+use Rattle.negotiation_inputs.specs.declared.constraints.TheConstants.{MOST_ENTRIES}
 use Rattle.std.specs.Prelude.{◌≡◌, ◌≢◌, ◌<◌, ◌≤◌, List, length, true, false}
 use Rattle.std.specs.Prelude.{Some, All, AllPairs, Any}
 use Rattle.sysmem_counts.specs.declared.field.Field.{Field}
@@ -21,10 +22,11 @@ use Rattle.sysmem_memory.specs.Heap.{HeapName, HeapFacts, same_heap}
 use Rattle.sysmem_memory.specs.Wishes.{MemoryWishes}
 use Rattle.negotiation_inputs.specs.Participant.{IsUsage, HasSidesUpTo, AreApart}
 use Rattle.negotiation_inputs.specs.Heaps.{IsHeapName, has_domains}
+use Rattle.sysmem_memory.specs.declared.bounds.TheConstants.{MOST_HEAPS}
 
 -- 1 to 64 heaps, none of them twice
 abbrev pub AreHeaps : List HeapFacts → Type 0
-AreHeaps heaps = (1 ≤ length heaps) × (length heaps ≤ 64)
+AreHeaps heaps = (1 ≤ length heaps) × (length heaps ≤ MOST_HEAPS)
     × AllPairs (λ a b. same_heap a.heap b.heap ≡ false) heaps
 
 -- some items, none of them twice
@@ -44,11 +46,11 @@ PlatformAmiss _ _ _ _ = ⊥
 
 -- at most 64 heaps, none of them twice
 abbrev pub ArePermitted : List HeapName → Type 0
-ArePermitted heaps = (length heaps ≤ 64) × AllPairs (λ a b. same_heap a b ≡ false) heaps
+ArePermitted heaps = (length heaps ≤ MOST_HEAPS) × AllPairs (λ a b. same_heap a b ≡ false) heaps
 
 -- at most 64 entries, no two of one format and modifier
 abbrev pub AreEntries : List Entry → Type 0
-AreEntries entries = (length entries ≤ 64) × AllPairs AreApart entries
+AreEntries entries = (length entries ≤ MOST_ENTRIES) × AllPairs AreApart entries
 
 -- the entry asks for a tiled misfit
 abbrev pub AsksMisfit : Entry → Type 0

@@ -1,4 +1,5 @@
 -- What a participant asks of the buffers.
+use Rattle.negotiation_inputs.specs.declared.constraints.TheConstants.{MOST_ENTRIES}
 use Rattle.std.specs.Prelude.{◌≡◌, ◌≢◌, ℕ, ◌^◌, ◌<◌, ◌≤◌, List, length, false, Some, All, AllPairs}
 use Rattle.std.specs.Int.RustNames.{bit_and}
 use Rattle.sysmem_counts.specs.declared.constraints.CountConstraints.{CountConstraints}
@@ -13,6 +14,7 @@ use Rattle.sysmem_image.specs.Colours.{no_colours}
 use Rattle.sysmem_memory.specs.Heap.{same_heap}
 use Rattle.sysmem_memory.specs.Wishes.{MemoryWishes}
 use Rattle.negotiation_inputs.specs.Heaps.{IsHeapName}
+use Rattle.sysmem_memory.specs.declared.bounds.TheConstants.{MOST_HEAPS}
 
 -- the constraints of one node; without entries it takes every offer
 pub record Participant : Type 0 where
@@ -54,9 +56,9 @@ AreApart a b = a.format ≡ b.format → a.modifier ≢ b.modifier
 pub record IsParticipant (usage : Usage) (memory : MemoryWishes)
     (entries : List Entry) : Type 0 where
   pub families : IsUsage usage
-  pub few_heaps : length memory.permitted_heaps ≤ 64
+  pub few_heaps : length memory.permitted_heaps ≤ MOST_HEAPS
   pub distinct_heaps : AllPairs (λ a b. same_heap a b ≡ false) memory.permitted_heaps
   pub each_heap : All IsHeapName memory.permitted_heaps
-  pub few_entries : length entries ≤ 64
+  pub few_entries : length entries ≤ MOST_ENTRIES
   pub distinct_entries : AllPairs AreApart entries
   pub each_entry : All IsEntry entries

@@ -7,6 +7,7 @@ use Rattle.sysmem_formats.specs.Layout.{IsTiledMisfit}
 use Rattle.sysmem_formats.specs.Offers.{offers}
 use Rattle.sysmem_memory.specs.Heap.{HeapFacts, same_heap}
 use Rattle.negotiation_inputs.specs.Heaps.{IsHeapName, has_domains}
+use Rattle.sysmem_memory.specs.declared.bounds.TheConstants.{MOST_HEAPS}
 
 -- a platform's heaps, its pairs of a format and a modifier, and its
 -- colour spaces, each in its order
@@ -24,7 +25,7 @@ IsHeap h = IsHeapName h.heap × (has_domains h.domains ≡ true)
 pub record IsPlatform (heaps : List HeapFacts) (pairs : List Pair)
     (colours : List ColourSpace) : Type 0 where
   pub some_heaps : 1 ≤ length heaps
-  pub few_heaps : length heaps ≤ 64
+  pub few_heaps : length heaps ≤ MOST_HEAPS
   pub distinct_heaps : AllPairs (λ a b. same_heap a.heap b.heap ≡ false) heaps
   pub each_heap : All IsHeap heaps
   pub some_pairs : 1 ≤ length pairs

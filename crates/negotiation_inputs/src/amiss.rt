@@ -14,7 +14,7 @@ ghost use Rattle.negotiation_inputs.specs.Heaps.{has_domains, is_heap_type};
 ghost use Rattle.negotiation_inputs.specs.Pairs.{is_tiled_misfit, same_colour, same_pair};
 
 use crate::asked::{asks_misfit, pair_asked};
-use crate::constraints::MOST_MULTIPLE;
+use crate::constraints::{MOST_ENTRIES, MOST_MULTIPLE};
 use crate::distinct::are_distinct;
 use crate::heaps::{has_domains, is_heap_type};
 use crate::pairs::is_tiled_misfit;
@@ -23,7 +23,7 @@ use bitflags::Flags;
 use sysmem_counts::{Field, Usage};
 use sysmem_formats::{ColourSpace, Pair};
 use sysmem_image::{ColourSet, Entry, Size};
-use sysmem_memory::{Heap, HeapInfo, MemoryConstraints};
+use sysmem_memory::{Heap, HeapInfo, MOST_HEAPS, MemoryConstraints};
 
 fn is_heap_name(heap: &Heap) -> bool
     ensures { result ≡ is_heap_type heap.now.heap_type }
@@ -34,7 +34,7 @@ fn is_heap_name(heap: &Heap) -> bool
 fn are_heaps(heaps: &[HeapInfo]) -> bool
     ensures { IsTrue result ↔ AreHeaps heaps.now }
 {
-    !heaps.is_empty() && heaps.len() <= 64 && are_distinct(heaps)
+    !heaps.is_empty() && heaps.len() <= MOST_HEAPS && are_distinct(heaps)
 }
 
 fn have_names(heaps: &[HeapInfo]) -> bool
@@ -109,7 +109,7 @@ fn is_of_families(usage: Usage) -> bool
 fn are_permitted(heaps: &[Heap]) -> bool
     ensures { IsTrue result ↔ ArePermitted heaps.now }
 {
-    heaps.len() <= 64 && are_distinct(heaps)
+    heaps.len() <= MOST_HEAPS && are_distinct(heaps)
 }
 
 fn are_heap_names(heaps: &[Heap]) -> bool
@@ -133,10 +133,10 @@ fn permits_named(memory: &MemoryConstraints) -> bool
 }
 
 fn are_entries(entries: &[Entry]) -> bool
-    ensures { IsTrue result ↔ ((length entries.now ≤ 64)
+    ensures { IsTrue result ↔ ((length entries.now ≤ MOST_ENTRIES)
         × AllPairs (λ a b. same_asked (pair_asked a) (pair_asked b) ≡ false) entries.now) }
 {
-    entries.len() <= 64 && are_distinct(entries)
+    entries.len() <= MOST_ENTRIES && are_distinct(entries)
 }
 
 fn is_small(number: u32) -> bool

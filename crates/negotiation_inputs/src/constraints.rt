@@ -7,6 +7,7 @@ ghost use Rattle.negotiation_inputs.specs.Equal.{same_participant};
 ghost use Rattle.negotiation_inputs.specs.EqualLaws.{participant_laws};
 ghost use Rattle.negotiation_inputs.specs.Participant.{IsParticipant, IsUsage, IsEntry, AreApart};
 ghost use Rattle.negotiation_inputs.specs.Heaps.{IsHeapName};
+ghost use Rattle.sysmem_memory.specs.declared.bounds.TheConstants.{MOST_HEAPS};
 
 use crate::amiss::amiss_in_participant;
 use crate::equal::is_same_memory;
@@ -17,6 +18,9 @@ use sysmem_memory::MemoryConstraints;
 
 /// The greatest alignment or divisor that an entry may have.
 pub const MOST_MULTIPLE: u64 = 65_536;
+
+/// How many entries a participant has at most: formats that it asks for, each with a modifier.
+pub const MOST_ENTRIES: usize = 64;
 
 /// The constraints of one participant. Its usage is `none` alone or some other families. It permits
 /// at most 64 heaps and has at most 64 entries, none of them twice. In an entry alignments and
@@ -119,7 +123,7 @@ impl Constraints {
     /// of one type and id.
     pub fn memory(&self) -> &MemoryConstraints
         ensures memory { result.now ≡ self.now.memory }
-        ensures few { length result.now.permitted_heaps ≤ 64 }
+        ensures few { length result.now.permitted_heaps ≤ MOST_HEAPS }
         ensures distinct { AllPairs (λ a b. same_heap a b ≡ false) result.now.permitted_heaps }
         ensures named { All IsHeapName result.now.permitted_heaps }
     {
@@ -130,7 +134,7 @@ impl Constraints {
     /// 64, no two of one format and modifier. A participant without entries takes every offer.
     pub fn entries(&self) -> &[Entry]
         ensures entries { result.now ≡ self.now.entries }
-        ensures few { length result.now ≤ 64 }
+        ensures few { length result.now ≤ MOST_ENTRIES }
         ensures distinct { AllPairs AreApart result.now }
         ensures each { All IsEntry result.now }
     {

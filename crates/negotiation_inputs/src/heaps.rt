@@ -6,6 +6,9 @@ ghost use Rattle.negotiation_inputs.specs.Heaps.{is_heap_byte, is_heap_type, has
 
 use sysmem_memory::{CoherencyDomains, Heap, HeapInfo};
 
+/// How many bytes the type of a heap has at most.
+pub const LONGEST_HEAP_TYPE: usize = 128;
+
 fn is_heap_byte(byte: u8) -> bool
     ensures { result ≡ is_heap_byte byte }
 {
@@ -22,7 +25,7 @@ fn has_only_heap_bytes(text: &str) -> bool
 pub fn is_heap_type(text: &str) -> bool
     ensures { result ≡ is_heap_type text.now }
 {
-    1 <= text.len() && text.len() <= 128 && has_only_heap_bytes(text)
+    1 <= text.len() && text.len() <= LONGEST_HEAP_TYPE && has_only_heap_bytes(text)
 }
 
 /// Whether there is some domain.

@@ -20,8 +20,8 @@ mod platform;
 mod usage;
 
 pub use asked::{AskedPair, asks_misfit, is_asked_already, is_same_asked, pair_asked};
-pub use constraints::{Constraints, MOST_MULTIPLE};
-pub use heaps::{has_domains, has_heap, has_permitted, is_heap_type};
+pub use constraints::{Constraints, MOST_ENTRIES, MOST_MULTIPLE};
+pub use heaps::{LONGEST_HEAP_TYPE, has_domains, has_heap, has_permitted, is_heap_type};
 pub use pairs::{has_pair, is_tiled_misfit, lists_colour};
 pub use platform::Platform;
 pub use usage::is_usage;

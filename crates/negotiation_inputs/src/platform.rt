@@ -7,6 +7,7 @@ ghost use Rattle.negotiation_inputs.specs.Amiss.{PlatformAmiss};
 ghost use Rattle.negotiation_inputs.specs.Equal.{same_platform};
 ghost use Rattle.negotiation_inputs.specs.EqualLaws.{platform_laws};
 ghost use Rattle.negotiation_inputs.specs.Platform.{IsPlatform, IsHeap};
+ghost use Rattle.sysmem_memory.specs.declared.bounds.TheConstants.{MOST_HEAPS};
 
 use crate::amiss::amiss_in_platform;
 use crate::copying::copied_heaps;
@@ -92,7 +93,7 @@ impl Platform {
     pub fn heaps(&self) -> &[HeapInfo]
         ensures heaps { result.now ≡ self.now.heaps }
         ensures some { 1 ≤ length result.now }
-        ensures few { length result.now ≤ 64 }
+        ensures few { length result.now ≤ MOST_HEAPS }
         ensures distinct { AllPairs (λ a b. same_heap a.heap b.heap ≡ false) result.now }
         ensures each { All IsHeap result.now }
     {

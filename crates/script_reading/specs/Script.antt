@@ -1,4 +1,5 @@
 -- The script that a value stands for, or its first fault.
+use Rattle.script_reading.specs.declared.script.TheConstants.{MOST_CALLS}
 use Rattle.std.specs.Prelude.{ℕ, ◌+◌, ◌∷◌, ◌++◌, [], ◌&&◌, ◌||◌, not, Bool, List, length, nat_le}
 use Rattle.std.specs.Prelude.{position, bytes_eq, codes, Option, Some, None, option_and_then}
 use Rattle.std.specs.Prelude.{option_map, ok_or, unwrap_or, Result, Ok, Err, if◌then◌else◌}
@@ -113,7 +114,7 @@ parts_of script =
 
 -- the calls of a script, which are 4,096 at most
 abbrev pub few_calls : Items → Option Items
-few_calls calls = if nat_le (items_len calls) 4096 then Some calls else None
+few_calls calls = if nat_le (items_len calls) MOST_CALLS then Some calls else None
 
 -- the script that a value stands for, where its calls are read so
 abbrev pub script_by : (Items → Result (List CallFacts) ScriptFault) → Data

@@ -3,6 +3,7 @@ use Rattle.std.specs.Prelude.{◌≡◌, ◌⊎◌, ℕ, ◌<◌, ◌≤◌, Boo
 use Rattle.std.specs.Prelude.{All, is_none, slice_get}
 use Rattle.std.specs.List.{list_all}
 use Rattle.sysmem_counts.specs.declared.field.Field.{Field}
+use Rattle.sysmem_memory.specs.declared.bounds.TheConstants.{MOST_HEAPS}
 use Rattle.sysmem_memory.specs.declared.domain.CoherencyDomain.{CoherencyDomain}
 use Rattle.sysmem_memory.specs.declared.domain.CoherencyDomains.{CoherencyDomains}
 use Rattle.sysmem_memory.specs.declared.place.Place.{Place}
@@ -43,6 +44,6 @@ is_left h ps d =
 -- what is kept of each heap is the domains that nobody of the list refuses
 pub record AreDomainsLeft (kept : List CoherencyDomains) (heaps : List HeapFacts)
     (ps : List PlaceDemand) : Type 0 where
-  pub limit : length heaps ≤ 64
+  pub limit : length heaps ≤ MOST_HEAPS
   pub exactly : (k : ℕ) (h : HeapFacts) (s : CoherencyDomains) (d : CoherencyDomain)
       → slice_get heaps k ≡ Some h → slice_get kept k ≡ Some s → has_domain s d ≡ is_left h ps d

@@ -14,22 +14,25 @@ use crate::refusal::{domain_refuses, heap_refuses};
 use std::marker::Model;
 use sysmem_counts::Usage;
 
+/// How many heaps a platform has at most.
+pub const MOST_HEAPS: usize = 64;
+
 /// The coherency domains of each heap that nobody who was added refuses.
-/// A platform has at most 64 heaps.
 #[derive(Clone, Copy, Debug)]
 pub struct MemoryBounds {
-    left: [CoherencyDomains; 64],
+    left: [CoherencyDomains; MOST_HEAPS],
 }
 
 impl Model for MemoryBounds {
     ghost use Rattle.std.specs.Prelude.{◌≡◌, List, length};
+    ghost use Rattle.sysmem_memory.specs.declared.bounds.TheConstants.{MOST_HEAPS};
     ghost use Rattle.sysmem_memory.specs.declared.domain.CoherencyDomains.{CoherencyDomains as Domains};
 
     ghost Value = { List Domains };
 
     ghost view = { λ b. b.left };
 
-    ghost invariant = { λ b. length b.left ≡ 64 };
+    ghost invariant = { λ b. length b.left ≡ MOST_HEAPS };
 
     ghost inverse = { λ left. record { left = left } };
 }
@@ -41,10 +44,10 @@ impl MemoryBounds {
 
     /// The bounds to which nobody was added: each domain of each heap is left.
     pub fn new(heaps: &[HeapInfo]) -> MemoryBounds
-        requires { length heaps.now ≤ 64 }
+        requires { length heaps.now ≤ MOST_HEAPS }
         ensures { AreDomainsLeft result heaps.now [] }
     {
-        let mut left = [CoherencyDomains::NONE; 64];
+        let mut left = [CoherencyDomains::NONE; MOST_HEAPS];
         for (index, heap) in heaps.iter().enumerate() {
             left[index] = heap.domains;
         }
@@ -54,7 +57,7 @@ impl MemoryBounds {
     /// Adds a participant: what it refuses is no longer left. The
     /// heaps are those that `new` was given.
     pub fn add(&mut self, heaps: &[HeapInfo], memory: &MemoryConstraints, usage: Usage)
-        requires { length heaps.now ≤ 64 }
+        requires { length heaps.now ≤ MOST_HEAPS }
         ensures { (ps : List PlaceDemand) → AreDomainsLeft self.old heaps.now ps
             → AreDomainsLeft self.new heaps.now
             (ps ++ record { memory = memory.now; usage = usage } ∷ []) }
@@ -67,7 +70,7 @@ impl MemoryBounds {
     /// Joins the bounds of more participants: what any of both refuses is no longer left. The heaps
     /// are those that `new` was given, of both.
     pub fn join(&mut self, heaps: &[HeapInfo], more: &MemoryBounds)
-        requires { length heaps.now ≤ 64 }
+        requires { length heaps.now ≤ MOST_HEAPS }
         ensures { (ps qs : List PlaceDemand) → AreDomainsLeft self.old heaps.now ps
             → AreDomainsLeft more.now heaps.now qs → AreDomainsLeft self.new heaps.now (ps ++ qs) }
     {
@@ -79,7 +82,7 @@ impl MemoryBounds {
     /// The first place that nobody who was added refuses, or `None` where each place is refused by
     /// somebody. The heaps are those that `new` was given.
     pub fn first_place(&self, heaps: &[HeapInfo]) -> Option<Place>
-        requires { length heaps.now ≤ 64 }
+        requires { length heaps.now ≤ MOST_HEAPS }
         ensures first { (ps : List PlaceDemand) → AreDomainsLeft self.now heaps.now ps
             → IfSome result (IsFirstPlace heaps.now ps) }
         ensures none { (ps : List PlaceDemand) → AreDomainsLeft self.now heaps.now ps

@@ -16,7 +16,7 @@ pub mod laws;
 mod place;
 mod refusal;
 
-pub use bounds::MemoryBounds;
+pub use bounds::{MOST_HEAPS, MemoryBounds};
 pub use constraints::MemoryConstraints;
 pub use domain::{CoherencyDomain, CoherencyDomains};
 pub use heap::{Heap, HeapInfo};

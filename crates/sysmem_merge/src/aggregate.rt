@@ -6,6 +6,7 @@ ghost use Rattle.sysmem_merge.specs.Best.{IsBest, IsUnmet};
 ghost use Rattle.negotiation_inputs.specs.Participant.{Participant};
 ghost use Rattle.negotiation_inputs.specs.Platform.{PlatformFacts};
 ghost use Rattle.sysmem_merge.specs.Reasons.{IsFirstReason};
+ghost use Rattle.sysmem_merge.specs.declared.sum.TheConstants.{MOST_ADDED};
 
 use crate::joined::copied_offers;
 use crate::kept::KeptOffer;
@@ -35,6 +36,7 @@ impl<'p> Model for Aggregate<'p> {
     ghost use Rattle.std.specs.Prelude.{◌*◌, ◌^◌, ◌≤◌};
     ghost use Rattle.sysmem_counts.specs.Tally.{sum_of};
     ghost use Rattle.sysmem_merge.specs.Kept.{Kept};
+    ghost use Rattle.sysmem_merge.specs.declared.sum.TheConstants.{MOST_ADDED};
 
     ghost Value = { Kept };
 
@@ -48,7 +50,7 @@ impl<'p> Model for Aggregate<'p> {
       added = a.added;
     } };
 
-    ghost invariant = { λ a. (sum_of a.counts ≤ a.added * 2 ^ 33) × (a.added ≤ 1024) };
+    ghost invariant = { λ a. (sum_of a.counts ≤ a.added * 2 ^ 33) × (a.added ≤ MOST_ADDED) };
 }
 
 impl<'p> Aggregate<'p> {
@@ -95,7 +97,7 @@ impl<'p> Aggregate<'p> {
     /// Adds one more participant, where fewer than 1,024 were added. It
     /// takes no memory, so it isn't refused.
     pub fn add(&mut self, asked: &Constraints) -> Result<(), AllocError>
-        requires { self.old.added < 1024 }
+        requires { self.old.added < MOST_ADDED }
         ensures ok { (platform : PlatformFacts) (ps : List Participant)
             → StandsFor self.old platform ps
             → OnOk result (StandsFor self.new platform (ps ++ asked.now ∷ [])) }

@@ -38,4 +38,4 @@ pub use reason::Reason;
 pub use settings::Settings;
 pub use share::Share;
 pub use sound::is_sound;
-pub use sum::Sum;
+pub use sum::{MOST_ADDED, Sum};

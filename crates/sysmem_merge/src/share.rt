@@ -3,6 +3,7 @@
 ghost use Rattle.std.specs.Prelude.{◌≡◌, ◌+◌, ◌<◌, ◌++◌, List, [], ◌∷◌, IfOk};
 ghost use Rattle.sysmem_merge.specs.Share.{IsShareOf};
 ghost use Rattle.negotiation_inputs.specs.Participant.{Participant};
+ghost use Rattle.sysmem_merge.specs.declared.sum.TheConstants.{MOST_ADDED};
 
 use crate::sum::Sum;
 use negotiation_inputs::{Constraints, Platform};
@@ -35,7 +36,7 @@ impl Share {
     /// Adds one more participant, where fewer than 1,024 were added. The platform is
     /// that of `new`. It takes no memory.
     pub fn add(&mut self, platform: &Platform, asked: &Constraints)
-        requires { self.old.sum.added < 1024 }
+        requires { self.old.sum.added < MOST_ADDED }
         ensures asks { (ps : List Participant) → IsShareOf self.old platform.now ps
             → IsShareOf self.new platform.now (ps ++ asked.now ∷ []) }
         ensures grows { self.new.sum.added ≡ self.old.sum.added + 1 }

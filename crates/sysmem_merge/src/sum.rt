@@ -23,6 +23,9 @@ use sysmem_formats::Offer;
 use sysmem_image::FirstMatches;
 use sysmem_memory::MemoryBounds;
 
+/// How many participants are added at most, each with counts of 33 bits together.
+pub const MOST_ADDED: u64 = 1024;
+
 /// What participants ask for together. A search reserves one for each level of choices,
 /// so that a prefix takes no memory.
 #[derive(Debug, Drop)]
@@ -40,6 +43,7 @@ impl Model for Sum {
     ghost use Rattle.std.specs.Prelude.{◌*◌, ◌^◌, ◌≤◌};
     ghost use Rattle.sysmem_counts.specs.Tally.{sum_of};
     ghost use Rattle.sysmem_merge.specs.Sum.{SumFacts};
+    ghost use Rattle.sysmem_merge.specs.declared.sum.TheConstants.{MOST_ADDED};
 
     ghost Value = { SumFacts };
 
@@ -53,7 +57,7 @@ impl Model for Sum {
       added = s.added;
     } };
 
-    ghost invariant = { λ s. (sum_of s.counts ≤ s.added * 2 ^ 33) × (s.added ≤ 1024) };
+    ghost invariant = { λ s. (sum_of s.counts ≤ s.added * 2 ^ 33) × (s.added ≤ MOST_ADDED) };
 }
 
 impl Sum {
@@ -75,7 +79,7 @@ impl Sum {
 
     /// Adds one more participant, where fewer than 1,024 were added.
     pub(crate) fn add(&mut self, platform: &Platform, asked: &Constraints)
-        requires { self.old.added < 1024 }
+        requires { self.old.added < MOST_ADDED }
         ensures sums { (ps : List Participant) → SumsUp self.old platform.now ps
             → SumsUp self.new platform.now (ps ++ asked.now ∷ []) }
         ensures grows { self.new.added ≡ self.old.added + 1 }
@@ -96,7 +100,7 @@ impl Sum {
     /// was the sum of. All three were made for this platform, and the participants are
     /// at most 1,024. It takes no memory.
     pub fn join_of(&mut self, platform: &Platform, above: &Sum, share: &Share)
-        requires { above.now.added + share.now.sum.added ≤ 1024 }
+        requires { above.now.added + share.now.sum.added ≤ MOST_ADDED }
         ensures sums { (others ps qs : List Participant) → SumsUp self.old platform.now others
             → SumsUp above.now platform.now ps → IsShareOf share.now platform.now qs
             → SumsUp self.new platform.now (ps ++ qs) }

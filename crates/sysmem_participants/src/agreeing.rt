@@ -13,7 +13,7 @@ use std::sync::ledger::Ledger;
 use sysmem_alloc::laws::few_entries;
 use sysmem_alloc::{Book, Entry};
 use sysmem_room::{has_actions, has_verdict};
-use sysmem_tree::NodeId;
+use sysmem_tree::{MOST_NODES, NodeId};
 
 /// What a stub and its node have in common.
 #[derive(Clone, Copy)]
@@ -86,8 +86,8 @@ fn counted(book: &Book) -> Audit
 }
 
 /// Whether the node with each of these numbers is marked.
-fn are_marked(marks: &[bool; 128], nodes: u32) -> bool
-    requires { nodes ≤ 128 }
+fn are_marked(marks: &[bool; MOST_NODES], nodes: u32) -> bool
+    requires { nodes ≤ MOST_NODES }
     ensures all { result ≡ true → (i : ℕ) → i < nodes → get_or marks.now i false ≡ true }
     ensures one { result ≡ false → (i : ℕ) × (i < nodes) × (get_or marks.now i false ≡ false) }
 {
@@ -111,7 +111,7 @@ pub fn stubs_agree<L: Ledger>(book: &Book, stubs: &mut [Stub<L>]) -> Result<Audi
     if stubs.len() != nodes as usize {
         return Err(AuditFault::Stubs);
     }
-    let mut marks = [false; 128];
+    let mut marks = [false; MOST_NODES];
     let mut all = Agreement {
         calls: true,
         verdict: true,

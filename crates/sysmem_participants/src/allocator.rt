@@ -4,6 +4,7 @@ ghost use Rattle.std.specs.Prelude.{◌≡◌, ◌≤◌, IfErr, IfOk};
 ghost use Rattle.std.specs.Arc.{arc_value};
 ghost use Rattle.sysmem_participants.specs.Held.{root_of};
 ghost use Rattle.sysmem_room.specs.Counting.{all_parts};
+ghost use Rattle.sysmem_search.specs.declared.wide.TheConstants.{MOST_WORKERS};
 
 use crate::seat::Seat;
 use crate::shared::{Rules, Shared};
@@ -95,7 +96,7 @@ impl<G: Gate + Drop + Sync> Allocator<G> {
         workers: u32,
     ) -> Result<Allocator<G>, AllocError>
         requires some { 1 ≤ workers }
-        requires few { workers ≤ 64 }
+        requires few { workers ≤ MOST_WORKERS }
         ensures { IfOk result (λ allocator. allocator ≡ platform) }
     {
         let rules = Rules {

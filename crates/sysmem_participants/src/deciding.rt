@@ -5,6 +5,7 @@ ghost use Rattle.std.specs.Arc.{arc_value};
 ghost use Rattle.sysmem_alloc.specs.Frozen.{frozen_of};
 ghost use Rattle.sysmem_alloc.specs.State.{next_ready};
 ghost use Rattle.sysmem_proof.specs.Claim.{IsTrueClaim};
+ghost use Rattle.sysmem_search.specs.declared.wide.TheConstants.{MOST_WORKERS};
 
 use crate::shared::{Rules, Shared};
 use std::alloc::{AllocError, Global};
@@ -34,7 +35,7 @@ fn longest_search(frozen: &Frozen) -> u64 {
 /// How many workers search what was frozen.
 fn workers_for<G: Gate + Drop>(rules: &Rules<G>, frozen: &Frozen) -> u32
     ensures some { 1 ≤ result }
-    ensures few { result ≤ 64 }
+    ensures few { result ≤ MOST_WORKERS }
 {
     if let Some(workers) = rules.workers {
         return workers;
@@ -68,7 +69,7 @@ fn claim_of<G: Gate + Sync, R: Threads + Sync>(
     workers: u32,
 ) -> Result<Claim, AllocError>
     requires some { 1 ≤ workers }
-    requires few { workers ≤ 64 }
+    requires few { workers ≤ MOST_WORKERS }
     ensures { IfOk result (λ claim. IsTrueClaim frozen.now.platform frozen.now.tree.nodes
         frozen.now.domain frozen.now.base claim) }
 {

@@ -9,6 +9,7 @@ ghost use Rattle.sysmem_room.specs.Log.{shown_by};
 ghost use Rattle.sysmem_room.specs.Refusals.{IsAnswer, IsDisputed, due};
 ghost use Rattle.sysmem_tree.specs.ActionKind.{deed_of, kind_of};
 ghost use Rattle.sysmem_tree.specs.Table.{makes_root};
+ghost use Rattle.sysmem_tree.specs.declared.tree.TheConstants.{MOST_NODES};
 
 use crate::shared::Shared;
 use std::sync::Wait;
@@ -52,7 +53,7 @@ pub(crate) fn in_hold<L: Ledger, R: Wait>(
         → due (option_map (λ o. o.now) known.entry) path.now (shown_by log.now).state
         (kind_of (deed_of action)) ≡ None → IsRefusedByBook result.1.found path.now log.now
         (option_map (λ o. o.now) known.entry) (deed_of action) refusal) }
-    ensures few { OnOk result.0 ((shown_by log.now).state.children < 128) }
+    ensures few { OnOk result.0 ((shown_by log.now).state.children < MOST_NODES) }
     ensures foreseen { OnOk result.0 (due (option_map (λ o. o.now) known.entry) path.now
         (shown_by log.now).state (kind_of (deed_of action)) ≡ None) }
     ensures answers { IfErr result.0 (λ refusal. refusal ≢ Refusal.Strange

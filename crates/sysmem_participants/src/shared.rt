@@ -2,6 +2,7 @@
 
 ghost use Rattle.std.specs.Prelude.{◌≤◌};
 ghost use Rattle.std.specs.Option.{ForSome};
+ghost use Rattle.sysmem_search.specs.declared.wide.TheConstants.{MOST_WORKERS};
 
 use std::alloc::Global;
 use std::sync::ledger::Ledger;
@@ -28,5 +29,5 @@ pub(crate) struct Rules<G: Gate + Drop> {
     pub(crate) gate: G,
     /// How many workers a search gets; `None` where that goes by how long it may take.
     pub(crate) workers: Option<u32>,
-    ghost few: { ForSome workers (λ many. (1 ≤ many) × (many ≤ 64)) },
+    ghost few: { ForSome workers (λ many. (1 ≤ many) × (many ≤ MOST_WORKERS)) },
 }

@@ -8,6 +8,7 @@ use Rattle.sysmem_merge.specs.Demands.{counts_asked}
 use Rattle.sysmem_merge.specs.Settings.{CoversOn}
 use Rattle.sysmem_merge.specs.Share.{IsShareOf}
 use Rattle.sysmem_merge.specs.Sum.{SumsUp}
+use Rattle.sysmem_merge.specs.declared.sum.TheConstants.{MOST_ADDED}
 use Rattle.verdict_claims.specs.Base.{BaseFacts}
 use Rattle.sysmem_sanitise.specs.Participant.{Participant}
 use Rattle.sysmem_sanitise.specs.Platform.{PlatformFacts}
@@ -44,12 +45,12 @@ IsPart platform _ _ ps = ⊥
 
 -- one participant more fits
 abbrev pub HasRoom : Part → Type 0
-HasRoom (part_as.Share share) = share.sum.added < 1024
+HasRoom (part_as.Share share) = share.sum.added < MOST_ADDED
 HasRoom (part_as.OnBase kept) = sum_of kept.counts < 2 ^ 62
 
 -- the participants of both fit together
 abbrev pub HaveRoom : Kept → Part → Type 0
-HaveRoom (kept_as.Sum sum) (part_as.Share share) = sum.added + share.sum.added ≤ 1024
+HaveRoom (kept_as.Sum sum) (part_as.Share share) = sum.added + share.sum.added ≤ MOST_ADDED
 HaveRoom (kept_as.OnBase above) (part_as.OnBase kept) =
     sum_of above.counts + sum_of kept.counts < 2 ^ 62
 HaveRoom _ _ = Unit {0}

@@ -102,7 +102,7 @@ pub(crate) fn reserve_level(
 ) -> Result<(), AllocError>
     requires base { IsGivenBase platform.now tree.now.nodes domain (option_map (λ b. b.now) base) }
     requires there { depth < length levels.old.items }
-    requires small { depth ≤ 128 }
+    requires small { depth ≤ MOST_NODES }
     ensures there { OnOk result (depth + 1 < length levels.new.items) }
     ensures kept { (k : ℕ) → k ≤ depth
         → slice_get levels.new.items k ≡ slice_get levels.old.items k }
@@ -121,7 +121,7 @@ pub(crate) fn reserve_level(
 /// The slot in which what is kept of a child stands. The places of a domain are the last ones, so
 /// that those of its children need few slots.
 pub(crate) fn slot_of(child: ChildPlace) -> usize
-    requires { child < 128 }
+    requires { child < MOST_NODES }
     ensures { IsSlot child result }
 {
     MOST_NODES - 1 - child.number()
@@ -129,7 +129,7 @@ pub(crate) fn slot_of(child: ChildPlace) -> usize
 
 /// Has this slot, whatever is kept there; in a new one nothing is.
 fn reserve_slot(parts: &mut Vec<Option<Part>>, slot: usize) -> Result<(), AllocError>
-    requires { slot < 128 }
+    requires { slot < MOST_NODES }
     ensures there { OnOk result (slot < length parts.new.items) }
     ensures kept { (at : ℕ) (part : APart) → slice_get parts.new.items at ≡ Some (Some part)
         → slice_get parts.old.items at ≡ Some (Some part) }
@@ -154,9 +154,9 @@ pub(crate) fn keep_part(
     base: Option<&Base>,
     layout: &Layout,
 ) -> Result<(), AllocError>
-    requires within { child < 128 }
+    requires within { child < MOST_NODES }
     requires child { HasChild layout.now child }
-    requires few { length (share_of layout.now child) ≤ 128 }
+    requires few { length (share_of layout.now child) ≤ MOST_NODES }
     requires nodes { HoldsNodes layout.now tree.now.nodes }
     ensures parts { AreParts platform.now tree.now.nodes (option_map (λ b. b.now) base.entry)
         layout.now parts.old.items → AreParts platform.now tree.now.nodes
@@ -186,11 +186,11 @@ fn read_part(
     base: Option<&Base>,
     layout: &Layout,
 ) -> Result<(), AllocError>
-    requires within { child < 128 }
+    requires within { child < MOST_NODES }
     requires slot { IsSlot child slot }
     requires room { slot < length parts.old.items }
     requires child { HasChild layout.now child }
-    requires few { length (share_of layout.now child) ≤ 128 }
+    requires few { length (share_of layout.now child) ≤ MOST_NODES }
     requires nodes { HoldsNodes layout.now tree.now.nodes }
     ensures parts { AreParts platform.now tree.now.nodes (option_map (λ b. b.now) base.entry)
         layout.now parts.old.items → AreParts platform.now tree.now.nodes

@@ -22,4 +22,4 @@ mod wide;
 pub use deciding::{Found, search};
 pub use gate::{Gate, NoGate};
 pub use proving::prove;
-pub use wide::search_wide;
+pub use wide::{MOST_WORKERS, search_wide};

@@ -12,6 +12,7 @@ ghost use Rattle.sysmem_merge.specs.declared.settings.Settings.{Settings as Sett
 ghost use Rattle.sysmem_sanitise.specs.Participant.{Participant};
 ghost use Rattle.sysmem_sanitise.specs.Platform.{PlatformFacts};
 ghost use Rattle.sysmem_search.specs.Kept.{TakesBase};
+ghost use Rattle.sysmem_tree.specs.declared.tree.TheConstants.{MOST_NODES};
 ghost use Rattle.verdict_claims.specs.Asked.{asked_in};
 ghost use Rattle.sysmem_tree.specs.Nodes.{HasNode};
 
@@ -43,7 +44,7 @@ impl OnBase {
     /// Of no participant behind those that were accepted before.
     pub(crate) fn behind(tree: &Tree, accepted: &[NodeId]) -> OnBase
         requires there { All (HasNode tree.now.nodes) accepted.now }
-        requires few { length accepted.now ≤ 128 }
+        requires few { length accepted.now ≤ MOST_NODES }
         ensures { (platform : PlatformFacts) (settings : Settled)
             → TakesBase platform settings (asked_in tree.now.nodes accepted.now) result [] }
     {
@@ -109,8 +110,8 @@ fn count_asked(counts: &mut CountBounds, asked: Option<&Constraints>)
 /// Adds what the participants among these nodes of a tree ask of the number of buffers.
 fn add_counts(tree: &Tree, nodes: &[NodeId], counts: &mut CountBounds)
     requires there { All (HasNode tree.now.nodes) nodes.now }
-    requires few { length nodes.now ≤ 128 }
-    requires room { sum_of counts.old ≤ 128 * 2 ^ 33 }
+    requires few { length nodes.now ≤ MOST_NODES }
+    requires room { sum_of counts.old ≤ MOST_NODES * 2 ^ 33 }
     ensures added { (ps : List Counted) → IsTallyOf counts.old ps
         → IsTallyOf counts.new (ps ++ counts_asked (asked_in tree.now.nodes nodes.now)) }
     ensures grows { sum_of counts.new

@@ -3,6 +3,7 @@
 ghost use Rattle.std.specs.Prelude.{◌≡◌, ◌≤◌, ◌<◌, ◌↔◌, ◌++◌, [], ◌∷◌, ℕ, List, length, is_some, option_map, None, Option, IfOk, IfSome, IsTrue, MatchOption, OnOk};
 ghost use Rattle.sysmem_merge.specs.declared.settings.Settings.{Settings as Settled};
 ghost use Rattle.sysmem_search.specs.Live.{SomeMeet};
+ghost use Rattle.sysmem_tree.specs.declared.tree.TheConstants.{MOST_NODES};
 ghost use Rattle.verdict_claims.specs.Conflict.{IsConflictFor};
 ghost use Rattle.verdict_claims.specs.FirstConflict.{IsFirstConflictFor};
 ghost use Rattle.sysmem_search.specs.Question.{MeetsOf, MeetsHere, MeetsSoFar, IsBestOf};
@@ -133,8 +134,8 @@ impl<'a> Question<'a> {
         requires prefix { IsPrefix (forest self.now.matter) self.now.choices }
         ensures number { IfSome (after (forest self.now.matter) self.now.choices)
             (λ d. option_map length (choices d) ≡ result) }
-        ensures room { IfSome result (λ _. length self.now.choices < 128) }
-        ensures few { IfSome result (λ many. many ≤ 128) }
+        ensures room { IfSome result (λ _. length self.now.choices < MOST_NODES) }
+        ensures few { IfSome result (λ many. many ≤ MOST_NODES) }
     {
         none_open_is_selection();
         match self.levels[self.prefix.choices().len()].group {
@@ -225,7 +226,7 @@ impl<'a> Question<'a> {
     /// The conflict of the participants of the selection that the choices and this one are which
     /// comes first, where no settings meet them. What they ask together isn't kept.
     pub(crate) fn last_conflict(&mut self, choice: u8) -> Result<Conflict, AllocError>
-        requires room { length self.old.choices < 128 }
+        requires room { length self.old.choices < MOST_NODES }
         requires prefix { IsPrefix (forest self.old.matter) (self.old.choices ++ choice ∷ []) }
         requires last { IfSome (after (forest self.old.matter) (self.old.choices ++ choice ∷ []))
             (λ d. option_map length (choices d) ≡ None) }
@@ -261,7 +262,7 @@ impl<'a> Question<'a> {
     /// Makes one choice more. It takes memory where a choice of this child, or so many
     /// choices, are made for the first time.
     pub(crate) fn enter(&mut self, choice: u8) -> Result<(), AllocError>
-        requires room { length self.old.choices < 128 }
+        requires room { length self.old.choices < MOST_NODES }
         requires prefix { IsPrefix (forest self.old.matter) (self.old.choices ++ choice ∷ []) }
         ensures { OnOk result (self.new
             ≡ record { matter = self.old.matter; choices = self.old.choices ++ choice ∷ [] }) }

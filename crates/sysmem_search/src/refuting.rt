@@ -2,6 +2,7 @@
 
 ghost use Rattle.std.specs.Prelude.{◌≡◌, ◌<◌, ◌≤◌, ◌++◌, [], ◌∷◌, length, option_map, None, IfOk, IfSome, OnOk};
 ghost use Rattle.sysmem_merge.specs.declared.settings.Settings.{Settings as Settled};
+ghost use Rattle.sysmem_tree.specs.declared.tree.TheConstants.{MOST_NODES};
 ghost use Rattle.verdict_claims.specs.Certificate.{RefutesEarlier};
 ghost use Rattle.verdict_claims.specs.Conflict.{IsConflictFor};
 ghost use Rattle.verdict_claims.specs.Matter.{forest, terms};
@@ -39,7 +40,7 @@ fn refute_last(
     last: u8,
     items: &mut Vec<Item>,
 ) -> Result<(), AllocError>
-    requires room { length question.old.choices < 128 }
+    requires room { length question.old.choices < MOST_NODES }
     requires prefix { IsPrefix (forest question.old.matter) (question.old.choices ++ last ∷ []) }
     requires whole { IfSome (after (forest question.old.matter) (question.old.choices ++ last ∷ []))
         (λ d. option_map length (choices d) ≡ None) }
@@ -63,7 +64,7 @@ pub(crate) fn refute_from(
     items: &mut Vec<Item>,
 ) -> Result<(), AllocError>
     requires prefix { IsPrefix (forest question.old.matter) question.old.choices }
-    requires room { length question.old.choices ≤ 128 }
+    requires room { length question.old.choices ≤ MOST_NODES }
     requires unmet { IfSome (after (forest question.old.matter) question.old.choices)
         (λ d. IsForestUnmet (MeetsOf question.old.matter) d) }
     ensures same { OnOk result (question.new ≡ question.old) }
@@ -97,7 +98,7 @@ fn refute_before(
     question: &mut Question<'_>,
     choice: u8,
 ) -> Result<EarlierChoices, AllocError>
-    requires room { length question.old.choices < 128 }
+    requires room { length question.old.choices < MOST_NODES }
     requires prefix { IsPrefix (forest question.old.matter) (question.old.choices ++ choice ∷ []) }
     requires unmet { IfSome (after (forest question.old.matter) question.old.choices)
         (λ d. IsUnmetBefore (MeetsOf question.old.matter) d (choice ∷ [])) }
@@ -125,7 +126,7 @@ pub(crate) fn refute_earlier(
     selection: &Prefix,
 ) -> Result<Vec<EarlierChoices>, AllocError>
     requires start { question.old.choices ≡ [] }
-    requires room { length selection.now ≤ 128 }
+    requires room { length selection.now ≤ MOST_NODES }
     requires prefix { IsPrefix (forest question.old.matter) selection.now }
     requires unmet { IsUnmetBefore (MeetsOf question.old.matter) (forest question.old.matter)
         selection.now }

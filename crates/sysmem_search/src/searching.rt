@@ -2,6 +2,7 @@
 
 ghost use Rattle.std.specs.Prelude.{◌≡◌, ◌<◌, ◌≤◌, length, is_some, Option, IfOk, IfSome, OnOk};
 ghost use Rattle.sysmem_merge.specs.declared.settings.Settings.{Settings as Settled};
+ghost use Rattle.sysmem_tree.specs.declared.tree.TheConstants.{MOST_NODES};
 ghost use Rattle.verdict_claims.specs.Matter.{forest};
 ghost use Rattle.sysmem_search.specs.Searching.{IsFoundOf};
 ghost use Rattle.sysmem_tree.specs.Selection.{IsPrefix, after};
@@ -21,7 +22,7 @@ pub(crate) fn search_from<G: Gate>(
     visits: &mut u64,
 ) -> Result<bool, AllocError>
     requires prefix { IsPrefix (forest question.old.matter) question.old.choices }
-    requires room { length question.old.choices ≤ 128 }
+    requires room { length question.old.choices ≤ MOST_NODES }
     ensures matter { OnOk result (question.new.matter ≡ question.old.matter) }
     ensures found { IfOk result (λ found.
         (best : Option Settled) × (found ≡ is_some best)

@@ -35,7 +35,7 @@ pub(crate) fn add_settled(
     walk: SettledNodes,
 )
     requires none { IsPart platform.now (option_map (λ b. b.now) base) part.old [] }
-    requires few { (ns : List ℕ) × HasLeft layout.now walk ns × (length ns ≤ 128) }
+    requires few { (ns : List ℕ) × HasLeft layout.now walk ns × (length ns ≤ MOST_NODES) }
     requires there { HoldsNodes layout.now tree.now.nodes }
     ensures { (ns : List ℕ) → HasLeft layout.now walk ns
         → IsPart platform.now (option_map (λ b. b.now) base.entry) part.new

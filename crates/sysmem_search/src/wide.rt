@@ -23,6 +23,9 @@ use sysmem_tree::{DomainId, Tree};
 use verdict_claims::laws::{cuts_lose_nothing, one_answer};
 use verdict_claims::{Base, Chosen, MOST_SELECTIONS, Verdict};
 
+/// How many workers share a search at most.
+pub const MOST_WORKERS: usize = 64;
+
 /// A domain of a tree on a platform, with its base where it is an attached one.
 #[derive(Drop)]
 struct Subject<'a> {
@@ -155,7 +158,7 @@ fn search_choice<G: Gate>(
 /// many choices there are.
 fn first_choice(workers: usize, many: u8, worker: usize) -> u8
     requires some { 0 < workers }
-    requires few { workers ≤ 64 }
+    requires few { workers ≤ MOST_WORKERS }
     requires worker { worker ≤ workers }
     ensures start { result ≡ share_start workers many worker }
     ensures within { result ≤ many }
@@ -171,7 +174,7 @@ fn search_share<G: Gate>(
     many: u8,
     worker: usize,
 ) -> Result<Share, AllocError>
-    requires few { workers ≤ 64 }
+    requires few { workers ≤ MOST_WORKERS }
     requires worker { worker < workers }
     requires prefixes { (c : ℕ) → c < many → IsPrefix (forest subject.now) (c ∷ []) }
     ensures { IfOk result (λ share. IsFirstIn subject.now
@@ -204,14 +207,14 @@ fn search_shares<G: Gate + Sync, R: Threads + Sync>(
     workers: usize,
     many: u8,
 ) -> Result<Vec<Result<Share, AllocError>>, AllocError>
-    requires few { workers ≤ 64 }
+    requires few { workers ≤ MOST_WORKERS }
     requires prefixes { (c : ℕ) → c < many → IsPrefix (forest subject.now) (c ∷ []) }
     ensures len { IfOk result (λ shares. vec_len shares ≡ workers) }
     ensures each { IfOk result (λ shares.
         AreFirstIn subject.now (share_start workers many) shares.items) }
 {
     let work = |worker: usize| -> Result<Share, AllocError>
-        requires { (workers ≤ 64) × (worker < workers)
+        requires { (workers ≤ MOST_WORKERS) × (worker < workers)
             × ((c : ℕ) → c < many → IsPrefix (forest subject.now) (c ∷ [])) }
         ensures { IfOk result (λ share. IsFirstIn subject.entry.now
             (share_start workers many worker) (share_start workers many (worker + 1))
@@ -244,7 +247,7 @@ fn search_together<G: Gate + Sync, R: Threads + Sync>(
     workers: usize,
 ) -> Result<Option<Share>, AllocError>
     requires some { 0 < workers }
-    requires few { workers ≤ 64 }
+    requires few { workers ≤ MOST_WORKERS }
     ensures { IfOk result (λ found. IfSome found (λ all. IsFirstOfAll subject.now all.chosen)) }
 {
     let question = subject.question()?;
@@ -288,7 +291,7 @@ pub fn search_wide<'a, G: Gate + Sync, R: Threads + Sync>(
     requires base { IsGivenBase platform.now tree.now.nodes domain
         (option_map (λ b. b.now) base) }
     requires some { 1 ≤ workers }
-    requires few { workers ≤ 64 }
+    requires few { workers ≤ MOST_WORKERS }
     ensures optimal { IfOk result (λ found.
         IsOptimalIn platform.now tree.now.nodes domain (option_map (λ b. b.now) base.entry)
         found.verdict) }

@@ -2,6 +2,7 @@
 
 ghost use Rattle.std.specs.Prelude.{◌≡◌, ◌≤◌, ◌↔◌, ◌++◌, All, Some, IsTrue, MatchResult, length};
 ghost use Rattle.sysmem_memory.specs.Listed.{places_of};
+ghost use Rattle.sysmem_memory.specs.declared.bounds.TheConstants.{MOST_HEAPS};
 ghost use Rattle.verdict_claims.specs.Base.{Terms};
 ghost use Rattle.verdict_claims.specs.Conflict.{IsFixedConflict};
 ghost use Rattle.sysmem_proof.specs.EachLine.{many_in};
@@ -47,7 +48,7 @@ fn places_in(domains: CoherencyDomains) -> usize
 
 /// How many places heaps have.
 pub(crate) fn count_places(heaps: &[HeapInfo]) -> usize
-    requires { length heaps.now ≤ 64 }
+    requires { length heaps.now ≤ MOST_HEAPS }
     ensures { result ≡ length (places_of heaps.now) }
 {
     let mut many = 0;

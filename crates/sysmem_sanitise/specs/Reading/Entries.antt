@@ -1,4 +1,5 @@
 -- The image entries of a participant's record. One with further pairs stands for several.
+use Rattle.negotiation_inputs.specs.declared.constraints.TheConstants.{MOST_ENTRIES}
 use Rattle.std.specs.Prelude.{◌+◌, ◌||◌, ◌++◌, List, [], ◌∷◌, length, map, Bool, false}
 use Rattle.std.specs.Prelude.{not, Option, Some, None, Result, Ok, nat_lt, option_map}
 use Rattle.std.specs.Prelude.{option_and_then, is_some, if◌then◌else◌}
@@ -55,7 +56,7 @@ abbrev pub with_asked : Option Field → Field → List Entry → List AskedPair
 with_asked lack field entries pairs asked = do
   fitting ← passing (wrong code.TiledMisfit field)
       (λ pair. not (asks_misfit pair.format pair.modifier)) asked
-  roomy ← passing (wrong code.TooMany field) (λ _. nat_lt (length entries + length pairs) 64)
+  roomy ← passing (wrong code.TooMany field) (λ _. nat_lt (length entries + length pairs) MOST_ENTRIES)
       fitting
   new ← passing (wrong code.RepeatedPair field)
       (λ pair. not (is_asked_already entries pair || has_asked pairs pair)) roomy

@@ -4,6 +4,7 @@ use Rattle.std.specs.Prelude.{true, false, not, Option, Result, Ok, nat_lt}
 use Rattle.serde_json.specs.Data.{Data}
 use Rattle.sysmem_counts.specs.declared.field.Field.{Field}
 use Rattle.sysmem_counts.specs.declared.field.Field.TheVariants as field
+use Rattle.sysmem_memory.specs.declared.bounds.TheConstants.{MOST_HEAPS}
 use Rattle.sysmem_memory.specs.declared.domain.CoherencyDomain.{CoherencyDomain}
 use Rattle.sysmem_memory.specs.declared.domain.CoherencyDomain.TheVariants.{Cpu, Ram, Inaccessible}
 use Rattle.sysmem_memory.specs.declared.domain.CoherencyDomains.{CoherencyDomains}
@@ -77,7 +78,7 @@ heap_of lack d = do
 abbrev pub with_heap : Option Field → List HeapFacts → Data → Result (List HeapFacts) Fault
 with_heap lack heaps d = do
   heap ← heap_of lack d
-  roomy ← passing (wrong code.TooMany field.Heaps) (λ _. nat_lt (length heaps) 64) heap
+  roomy ← passing (wrong code.TooMany field.Heaps) (λ _. nat_lt (length heaps) MOST_HEAPS) heap
   new ← passing (wrong code.BadPlatformList field.Heaps) (λ heap. not (has_heap heaps heap)) roomy
   kept lack field.Heaps (heaps ++ new ∷ [])
 
@@ -102,7 +103,7 @@ permitted_heap lack d = do
 abbrev pub with_permitted : Option Field → List HeapName → Data → Result (List HeapName) Fault
 with_permitted lack heaps d = do
   heap ← permitted_heap lack d
-  roomy ← passing (wrong code.TooMany field.PermittedHeaps) (λ _. nat_lt (length heaps) 64) heap
+  roomy ← passing (wrong code.TooMany field.PermittedHeaps) (λ _. nat_lt (length heaps) MOST_HEAPS) heap
   new ← passing (wrong code.RepeatedHeap field.PermittedHeaps)
       (λ heap. not (has_permitted heaps heap)) roomy
   kept lack field.PermittedHeaps (heaps ++ new ∷ [])

@@ -9,7 +9,7 @@ ghost use Rattle.sysmem_sanitise.specs.Reading.Fields.{Reads, read_each, seen_by
 use super::field::{add, expect_object, list_of, stated};
 use super::name::choice_of;
 use crate::fault::{Code, Fault, FaultPlace};
-use negotiation_inputs::{AskedPair, asks_misfit, is_asked_already, is_same_asked};
+use negotiation_inputs::{AskedPair, MOST_ENTRIES, asks_misfit, is_asked_already, is_same_asked};
 use serde_json::Value;
 use std::alloc::Global;
 use sysmem_counts::Field;
@@ -55,7 +55,7 @@ fn add_asked(
     if asks_misfit(new) {
         return Err(Fault::of(Code::TiledMisfit, field));
     }
-    if 64 <= entries.len() + pairs.len() {
+    if MOST_ENTRIES <= entries.len() + pairs.len() {
         return Err(Fault::of(Code::TooMany, field));
     }
     if is_asked_already(entries, new) || has_asked(pairs, new) {

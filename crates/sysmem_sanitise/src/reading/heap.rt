@@ -12,7 +12,7 @@ use negotiation_inputs::{has_permitted, is_heap_type};
 use serde_json::Value;
 use std::alloc::Global;
 use sysmem_counts::Field;
-use sysmem_memory::Heap;
+use sysmem_memory::{Heap, MOST_HEAPS};
 
 fn heap_type_of(alloc: Global, value: &Value) -> Result<String, Fault>
     ensures { Reads (λ lack. heap_type_of lack (view value.now))
@@ -50,7 +50,7 @@ impl Listed for Heap {
 
     fn add(alloc: Global, heaps: &mut Vec<Heap>, value: &Value) -> Result<(), Fault> {
         let heap = permitted_heap(alloc, value)?;
-        if 64 <= heaps.len() {
+        if MOST_HEAPS <= heaps.len() {
             return Err(Fault::of(Code::TooMany, Field::PermittedHeaps));
         }
         if has_permitted(heaps, &heap) {

@@ -15,7 +15,7 @@ use negotiation_inputs::{has_domains, has_heap};
 use serde_json::Value;
 use std::alloc::Global;
 use sysmem_counts::Field;
-use sysmem_memory::{CoherencyDomain, CoherencyDomains, HeapInfo};
+use sysmem_memory::{CoherencyDomain, CoherencyDomains, HeapInfo, MOST_HEAPS};
 
 fn with_domain(mut domains: CoherencyDomains, domain: CoherencyDomain) -> CoherencyDomains
     ensures { result ≡ with_domain domains domain }
@@ -94,7 +94,7 @@ impl Listed for HeapInfo {
 
     fn add(alloc: Global, heaps: &mut Vec<HeapInfo>, value: &Value) -> Result<(), Fault> {
         let heap = heap_of(alloc, value)?;
-        if 64 <= heaps.len() {
+        if MOST_HEAPS <= heaps.len() {
             return Err(Fault::of(Code::TooMany, Field::Heaps));
         }
         if has_heap(heaps, &heap) {
