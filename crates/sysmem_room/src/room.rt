@@ -59,6 +59,7 @@ impl<L: Ledger> Model for Room<L> {
     ghost use Rattle.sysmem_alloc.specs.Book.{BookFacts};
     ghost use Rattle.sysmem_room.specs.Counting.{actions_in, all_parts};
     ghost use Rattle.sysmem_room.specs.Places.{ArePlaces};
+    ghost use Rattle.sysmem_tree.specs.declared.tree.TheConstants.{MOST_NODES};
 
     ghost Value = { BookFacts };
 

@@ -15,6 +15,7 @@ pub struct Prefix {
 
 impl Model for Prefix {
     ghost use Rattle.std.specs.Prelude.{◌≡◌, ◌≤◌, ℕ, List, take};
+    ghost use Rattle.sysmem_tree.specs.declared.tree.TheConstants.{MOST_NODES};
 
     ghost Value = { List ℕ };
 

@@ -39,6 +39,7 @@ impl Model for Tree {
     ghost use Rattle.std.specs.Prelude.{◌≤◌};
     ghost use Rattle.std.specs.Vec.{vec_capacity};
     ghost use Rattle.sysmem_tree.specs.Domain.{IsSoundTree, TreeFacts};
+    ghost use Rattle.sysmem_tree.specs.declared.tree.TheConstants.{MOST_NODES};
 
     ghost Value = { TreeFacts };
 

@@ -21,6 +21,7 @@ pub(crate) struct Members {
 
 impl Model for Members {
     ghost use Rattle.std.specs.Prelude.{◌≤◌, ℕ, List, take};
+    ghost use Rattle.sysmem_tree.specs.declared.tree.TheConstants.{MOST_NODES};
 
     ghost Value = { List ℕ };
 
