@@ -31,6 +31,11 @@ pub kept_for : (nodes : List NodeFacts) (one : Alone) (node number : ℕ) (field
 kept_for nodes one node number field line kept same names is = is
     ∙ (ap (λ (l : LineFacts). record { field = field; nodes = l.nodes }) names ∙ ap (λ n. line_on nodes (n ∷ []) field whom.All) (kept ∙ same))
 
+-- and its path is his under any field
+pub path_kept : (nodes : List NodeFacts) (one : Alone) (node number : ℕ) (field : Field) → one.number ≡ number → number ≡ node → NamesOne nodes one
+    → one.line.nodes ≡ (line_on nodes (node ∷ []) field whom.All).nodes
+path_kept nodes one node number field kept same names = ap (λ (l : LineFacts). l.nodes) names ∙ ap (λ n. (line_on nodes (n ∷ []) field whom.All).nodes) (kept ∙ same)
+
 -- a line that is made for a node can be kept
 pub is_kept : (nodes : List NodeFacts) (node number : ℕ) (field : Field) (line again : LineFacts) → number ≡ node → line ≡ line_on nodes (node ∷ []) field whom.All → again ≡ line
     → again ≡ line_on nodes (number ∷ []) again.field whom.All

@@ -8,7 +8,7 @@ ghost use Rattle.verdict_claims.specs.Finder.{has_count};
 ghost use Rattle.conflict_finding.specs.Whom.{NamesThose, line_on, names};
 ghost use Rattle.sysmem_tree.specs.Nodes.{HasNode};
 
-use crate::alone_lines::{AloneLines, line_alone};
+use crate::alone_lines::{AloneLines, with_alone};
 use std::alloc::{AllocError, Global};
 use sysmem_counts::{CountConstraints, Field};
 use sysmem_sanitise::Constraints;
@@ -83,8 +83,7 @@ pub(crate) fn line_of(
     let mut paths = PathList::with_room(alloc, nodes.len())?;
     for node in nodes {
         if is_named(whom, tree.constraints_of(*node)) {
-            let one = line_alone(alloc, tree, *node, field, alone)?;
-            paths = paths.joined(one.nodes())?;
+            paths = with_alone(alloc, tree, *node, field, paths, alone)?;
         }
     }
     Line::behind(alloc, before, field, paths)
