@@ -9,5 +9,7 @@ pub mod FirstWithout
 pub mod FirstLines
 pub mod FirstKinds
 pub mod KeptLines
+pub mod PairsTaken
+pub mod ThoseAsking
 pub mod AskedOnce
 pub mod FoundNodes

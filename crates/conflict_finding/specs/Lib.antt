@@ -3,6 +3,7 @@ pub mod Whom
 pub mod AloneLines
 pub mod Learnt
 pub mod Refusals
+pub mod Askers
 pub mod Reading
 pub mod OpenPairs
 pub mod PlacesAsked

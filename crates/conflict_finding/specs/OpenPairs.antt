@@ -1,13 +1,18 @@
--- Pairs that participants take in every colour space.
-use Rattle.std.specs.Prelude.{◌≡◌, Bool, true, List, All}
+-- Pairs that participants take, and those that they take in every colour space.
+use Rattle.std.specs.Prelude.{◌≡◌, Bool, true, List, All, Option, Some, None}
 use Rattle.std.specs.Option.{option_map_or}
+use Rattle.sysmem_counts.specs.declared.field.Field.TheVariants.{PixelFormat}
 use Rattle.sysmem_formats.specs.declared.colour_space.ColourSpace.{ColourSpace}
-use Rattle.sysmem_formats.specs.declared.offer.Offer.TheVariants.{Image}
+use Rattle.sysmem_formats.specs.declared.offer.Offer.{Offer}
+use Rattle.sysmem_formats.specs.declared.offer.Offer.TheVariants.{NoImage, Image}
 use Rattle.sysmem_formats.specs.declared.offer.Pair.{Pair}
 use Rattle.sysmem_image.specs.declared.entry.Entry.{Entry}
 use Rattle.sysmem_image.specs.Entries.{first_match, takes_colour}
+use Rattle.sysmem_merge.specs.Demands.{offer_demand, offer_demands}
+use Rattle.sysmem_merge.specs.Reasons.{IsOfferLine}
 use Rattle.sysmem_sanitise.specs.Participant.{Participant}
 use Rattle.conflict_finding.specs.declared.open_pairs.OpenPair.{OpenPair}
+use Rattle.conflict_finding.specs.Reading.{TakesIn}
 
 -- who has these entries takes images of the pair in the colour space, if an entry is for them
 abbrev pub takes_in : Pair → ColourSpace → List Entry → Bool
@@ -17,6 +22,17 @@ takes_in pair colour entries =
 -- the participant takes the pair in every colour space
 abbrev pub TakesEach : Pair → Participant → Type 0
 TakesEach pair p = (colour : ColourSpace) → takes_in pair colour p.entries ≡ true
+
+-- the participant takes the offer's pair in every colour space
+abbrev pub TakesAny : Offer → Participant → Type 0
+TakesAny NoImage p = Unit {0}
+TakesAny (Image pair _) p = TakesEach pair p
+
+-- some of these don't take the offer's pair; or all do, and if so in every colour space
+abbrev pub AreTaking : Offer → List Participant → Option Bool → Type 0
+AreTaking o ps None = IsOfferLine PixelFormat o (offer_demands ps)
+AreTaking o ps (Some each) = All (λ p. TakesIn PixelFormat o (offer_demand p)) ps
+    × (each ≡ true → All (TakesAny o) ps)
 
 -- if it is said so of the pair, each of these takes it in every colour space
 abbrev pub IsOpenFor : List Participant → OpenPair → Type 0

@@ -2,22 +2,24 @@
 
 ghost use Rattle.std.specs.Prelude.{◌≡◌, ◌<◌, true, false, List, [], ◌∷◌, Some, All, Any, Contains, IfSome, IfNone, IsSomeAnd, IsTrue, length, option_map, slice_get};
 ghost use Rattle.std.specs.List.{cons_option};
+ghost use Rattle.sysmem_counts.specs.declared.field.Field.TheVariants.{ColorSpaces};
 ghost use Rattle.sysmem_memory.specs.PlaceTable.{AllowsPlace, first_refusing, refuses_by};
 ghost use Rattle.sysmem_merge.specs.Demands.{OfferDemand, offer_demand, offer_demands};
 ghost use Rattle.sysmem_merge.specs.Failing.{FailsOn, IsFirstUncovered};
 ghost use Rattle.sysmem_merge.specs.OfferRead.{IsOfferRead};
-ghost use Rattle.sysmem_merge.specs.Offers.{has_colour, has_format};
+ghost use Rattle.sysmem_merge.specs.Offers.{has_colour};
 ghost use Rattle.sysmem_merge.specs.Reasons.{IsOfferLine};
 ghost use Rattle.sysmem_merge.specs.Settings.{CoversOn};
 ghost use Rattle.verdict_claims.specs.FirstConflict.{IsFirstWithout};
 ghost use Rattle.verdict_claims.specs.Members.{members_at, participants};
+ghost use Rattle.conflict_finding.specs.Askers.{AreAskers};
 ghost use Rattle.conflict_finding.specs.OpenPairs.{IsOpenFor};
 ghost use Rattle.conflict_finding.specs.PlacesAsked.{AreAsked};
 ghost use Rattle.conflict_finding.specs.Reading.{IsReading, TakesIn};
 ghost use Rattle.sysmem_tree.specs.Nodes.{HasNode};
 ghost use Rattle.sysmem_tree.specs.Path.{path_of};
 
-use crate::open_pairs::{OpenPair, first_without_colour};
+use crate::open_pairs::{OpenPair, first_without_colour, first_without_format};
 use crate::places_asked::PlacesAsked;
 use sysmem_counts::Field;
 use sysmem_formats::Offer;
@@ -44,13 +46,6 @@ pub(crate) enum Reading {
     Read(OfferRead),
 }
 
-/// Whether a participant with these entries takes the offer's format.
-fn has_format(entries: &[Entry], offer: &Offer) -> bool
-    ensures { (d : OfferDemand) → d.entries ≡ entries.now → result ≡ has_format offer.now d }
-{
-    entries.is_empty() || entry_for(entries, offer).is_some()
-}
-
 /// Whether a participant's entry for the offer, if these have one, takes the offer's colour space.
 fn has_colour(entries: &[Entry], offer: &Offer) -> bool
     ensures { (d : OfferDemand) → d.entries ≡ entries.now → result ≡ has_colour offer.now d }
@@ -61,41 +56,30 @@ fn has_colour(entries: &[Entry], offer: &Offer) -> bool
     }
 }
 
-/// Whether a participant, if there is one, doesn't take the offer, by this
-/// field: its format or its colour space.
-fn lacks_offer(field: Field, asked: Option<&Constraints>, offer: &Offer) -> bool
-    ensures line { IsTrue result → IsOfferLine field offer.now
+/// Whether a participant, if there is one, doesn't take the offer's colour space.
+fn lacks_colour(asked: Option<&Constraints>, offer: &Offer) -> bool
+    ensures line { IsTrue result → IsOfferLine ColorSpaces offer.now
         (offer_demands (cons_option (option_map (λ one. one.now) asked.entry) [])) }
-    ensures takes { result ≡ false → All (λ p. TakesIn field offer.now (offer_demand p))
+    ensures takes { result ≡ false → All (λ p. TakesIn ColorSpaces offer.now (offer_demand p))
         (cons_option (option_map (λ one. one.now) asked.entry) []) }
 {
-    let Some(one) = asked else {
-        return false;
-    };
-    let entries = one.entries();
-    match field {
-        Field::PixelFormat => !has_format(entries, offer),
-        Field::ColorSpaces => !has_colour(entries, offer),
-        _ => false,
+    match asked {
+        Some(one) => !has_colour(one.entries(), offer),
+        None => false,
     }
 }
 
-/// The first of the participants at these nodes who doesn't take the offer, by this field.
-pub(crate) fn first_lacking(
-    tree: &Tree,
-    nodes: &[NodeId],
-    field: Field,
-    offer: &Offer,
-) -> Option<NodeId>
+/// The first of the participants at these nodes who doesn't take the offer's colour space.
+pub(crate) fn first_lacking(tree: &Tree, nodes: &[NodeId], offer: &Offer) -> Option<NodeId>
     requires { All (HasNode tree.now.nodes) nodes.now }
     ensures there { IfSome result (Contains nodes.now) }
-    ensures line { IfSome result (λ node. IsOfferLine field offer.now
+    ensures line { IfSome result (λ node. IsOfferLine ColorSpaces offer.now
         (offer_demands (participants (members_at tree.now.nodes (node ∷ []))))) }
-    ensures none { IfNone result (All (λ p. TakesIn field offer.now (offer_demand p))
+    ensures none { IfNone result (All (λ p. TakesIn ColorSpaces offer.now (offer_demand p))
         (participants (members_at tree.now.nodes nodes.now))) }
 {
     for node in nodes {
-        if lacks_offer(field, tree.constraints_of(*node), offer) {
+        if lacks_colour(tree.constraints_of(*node), offer) {
             return Some(*node);
         }
     }
@@ -115,29 +99,32 @@ fn read_all(tree: &Tree, nodes: &[NodeId], offer: &Offer) -> OfferRead
     read
 }
 
-/// Reads what the participants at these nodes ask of an offer. The first who doesn't
-/// take its format ends it; where nobody is that, the first who doesn't take its colour
-/// space; neither's bounds are read.
+/// Reads what the participants at these nodes ask of an offer, of whom some are given who alone
+/// ask something. The first who doesn't take its format ends it; where nobody is that, the first
+/// who doesn't take its colour space; neither's bounds are read.
 pub(crate) fn read_offer(
     tree: &Tree,
     nodes: &[NodeId],
+    askers: &[NodeId],
     offer: &Offer,
     known: &mut Option<OpenPair>,
 ) -> Reading
     requires there { All (HasNode tree.now.nodes) nodes.now }
+    requires askers { AreAskers tree.now.nodes nodes.now askers.now }
     requires known { IfSome known.old
-        (IsOpenFor (participants (members_at tree.now.nodes nodes.now))) }
+        (IsOpenFor (participants (members_at tree.now.nodes askers.now))) }
     ensures known { IfSome known.new
-        (IsOpenFor (participants (members_at tree.now.nodes nodes.now))) }
+        (IsOpenFor (participants (members_at tree.now.nodes askers.now))) }
     ensures reading { IsReading tree.now.nodes nodes.now offer.now result }
 {
-    if let Some(node) = first_lacking(tree, nodes, Field::PixelFormat, offer) {
+    let _ = nodes;
+    if let Some(node) = first_without_format(tree, askers, offer, known) {
         return Reading::Refused(Field::PixelFormat, node);
     }
-    if let Some(node) = first_without_colour(tree, nodes, offer, known) {
+    if let Some(node) = first_without_colour(tree, askers, offer, *known) {
         return Reading::Refused(Field::ColorSpaces, node);
     }
-    Reading::Read(read_all(tree, nodes, offer))
+    Reading::Read(read_all(tree, askers, offer))
 }
 
 /// The first of the participants at these nodes to whom the place is refused,

@@ -6,6 +6,7 @@
 #![tactic(auto)]
 
 mod alone_lines;
+mod askers;
 mod count_lines;
 mod finder;
 mod first_refusing;

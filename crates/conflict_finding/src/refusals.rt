@@ -10,6 +10,7 @@ ghost use Rattle.sysmem_merge.specs.Demands.{offer_demand, offer_demands};
 ghost use Rattle.sysmem_merge.specs.OfferRead.{IsRefusingLine};
 ghost use Rattle.sysmem_merge.specs.Reasons.{IsOfferLine, IsUnnamedLine};
 ghost use Rattle.conflict_finding.specs.AloneLines.{AreAlone};
+ghost use Rattle.conflict_finding.specs.Askers.{AreAskers};
 ghost use Rattle.verdict_claims.specs.FirstConflict.{IsOfferLineGiven, IsPlaceLineGiven};
 ghost use Rattle.verdict_claims.specs.Members.{members_at, participants, StandFor};
 ghost use Rattle.conflict_finding.specs.OpenPairs.{IsOpenFor};
@@ -23,6 +24,7 @@ ghost use Rattle.sysmem_tree.specs.Nodes.{HasNode};
 ghost use Rattle.sysmem_tree.specs.Shape.{Member};
 
 use crate::alone_lines::{AloneLines, line_alone};
+use crate::askers::those_asking;
 use crate::first_refusing::{Reading, first_refused, read_offer};
 use crate::open_pairs::{OpenPair, all_take_colour};
 use crate::places_asked::PlacesAsked;
@@ -76,17 +78,17 @@ fn whom_for(field: Field) -> Whom
 fn line_again(
     tree: &Tree,
     nodes: &[NodeId],
+    askers: &[NodeId],
     earlier: &Offer,
     offer: &Offer,
     before: &[Line],
-    known: &mut Option<OpenPair>,
+    known: Option<OpenPair>,
 ) -> Result<Option<Line>, AllocError>
     requires there { All (HasNode tree.now.nodes) nodes.now }
-    requires known { IfSome known.old
-        (IsOpenFor (participants (members_at tree.now.nodes nodes.now))) }
-    ensures known { IfSome known.new
-        (IsOpenFor (participants (members_at tree.now.nodes nodes.now))) }
-    ensures again { (whole : _) (ms : List Member)
+    requires askers { AreAskers tree.now.nodes nodes.now askers.now }
+    requires known { IfSome known
+        (IsOpenFor (participants (members_at tree.now.nodes askers.now))) }
+    ensures { (whole : _) (ms : List Member)
         → StandFor (members_at tree.now.nodes nodes.now) ms
         → RefusesLast (IsOfferLineGiven whole ms) earlier.now before.now
         → IfOk result (λ line. IfSome line (IsOfferLineGiven whole ms offer.now)) }
@@ -98,7 +100,7 @@ fn line_again(
     if !is_shared(field, earlier, offer) {
         return Ok(None);
     }
-    if !is_before_colour(tree, nodes, field, offer, known) {
+    if !is_before_colour(tree, nodes, askers, field, offer, known) {
         return Ok(None);
     }
     let line = last.again()?;
@@ -110,22 +112,23 @@ fn line_again(
 fn is_before_colour(
     tree: &Tree,
     nodes: &[NodeId],
+    askers: &[NodeId],
     field: Field,
     offer: &Offer,
-    known: &mut Option<OpenPair>,
+    known: Option<OpenPair>,
 ) -> bool
     requires there { All (HasNode tree.now.nodes) nodes.now }
-    requires known { IfSome known.old
-        (IsOpenFor (participants (members_at tree.now.nodes nodes.now))) }
-    ensures known { IfSome known.new
-        (IsOpenFor (participants (members_at tree.now.nodes nodes.now))) }
-    ensures before { IsTrue result → (field ≡ PixelFormat)
+    requires askers { AreAskers tree.now.nodes nodes.now askers.now }
+    requires known { IfSome known
+        (IsOpenFor (participants (members_at tree.now.nodes askers.now))) }
+    ensures { IsTrue result → (field ≡ PixelFormat)
         ⊎ All (λ p. TakesIn ColorSpaces offer.now (offer_demand p))
         (participants (members_at tree.now.nodes nodes.now)) }
 {
+    let _ = nodes;
     match field {
         Field::PixelFormat => true,
-        _ => all_take_colour(tree, nodes, offer, known),
+        _ => all_take_colour(tree, askers, offer, known),
     }
 }
 
@@ -135,6 +138,7 @@ fn offer_line(
     alloc: Global,
     tree: &Tree,
     nodes: &[NodeId],
+    askers: &[NodeId],
     offer: &Offer,
     whole: bool,
     before: &[Line],
@@ -143,20 +147,21 @@ fn offer_line(
     alone: &mut AloneLines,
 ) -> Result<Option<Line>, AllocError>
     requires there { All (HasNode tree.now.nodes) nodes.now }
+    requires askers { AreAskers tree.now.nodes nodes.now askers.now }
     requires named { IfSome kept.old (NamesThose tree.now.nodes nodes.now) }
     requires known { IfSome known.old
-        (IsOpenFor (participants (members_at tree.now.nodes nodes.now))) }
+        (IsOpenFor (participants (members_at tree.now.nodes askers.now))) }
     requires alone { AreAlone tree.now.nodes alone.old }
     ensures named { IfSome kept.new (NamesThose tree.now.nodes nodes.now) }
     ensures known { IfSome known.new
-        (IsOpenFor (participants (members_at tree.now.nodes nodes.now))) }
+        (IsOpenFor (participants (members_at tree.now.nodes askers.now))) }
     ensures alone { AreAlone tree.now.nodes alone.new }
     ensures line { (ms : List Member) → StandFor (members_at tree.now.nodes nodes.now) ms
         → IfOk result (λ line. IfSome line (IsOfferLineGiven whole ms offer.now)) }
     ensures share { (ms : List Member) → StandFor (members_at tree.now.nodes nodes.now) ms
         → IfOk result (λ line. IfNone line (ShareOffer whole ms offer.now)) }
 {
-    match read_offer(tree, nodes, offer, known) {
+    match read_offer(tree, nodes, askers, offer, known) {
         Reading::Refused(field, node) => {
             let line = line_alone(alloc, tree, node, field, alone)?;
             Ok(Some(line))
@@ -178,6 +183,7 @@ fn next_line(
     alloc: Global,
     tree: &Tree,
     nodes: &[NodeId],
+    askers: &[NodeId],
     earlier: &Offer,
     offer: &Offer,
     whole: bool,
@@ -187,26 +193,29 @@ fn next_line(
     alone: &mut AloneLines,
 ) -> Result<Option<Line>, AllocError>
     requires there { All (HasNode tree.now.nodes) nodes.now }
+    requires askers { AreAskers tree.now.nodes nodes.now askers.now }
     requires named { IfSome kept.old (NamesThose tree.now.nodes nodes.now) }
     requires known { IfSome known.old
-        (IsOpenFor (participants (members_at tree.now.nodes nodes.now))) }
+        (IsOpenFor (participants (members_at tree.now.nodes askers.now))) }
     requires last { (ms : List Member) → StandFor (members_at tree.now.nodes nodes.now) ms
         → RefusesLast (IsOfferLineGiven whole ms) earlier.now before.now }
     requires alone { AreAlone tree.now.nodes alone.old }
     ensures named { IfSome kept.new (NamesThose tree.now.nodes nodes.now) }
     ensures known { IfSome known.new
-        (IsOpenFor (participants (members_at tree.now.nodes nodes.now))) }
+        (IsOpenFor (participants (members_at tree.now.nodes askers.now))) }
     ensures alone { AreAlone tree.now.nodes alone.new }
     ensures line { (ms : List Member) → StandFor (members_at tree.now.nodes nodes.now) ms
         → IfOk result (λ line. IfSome line (IsOfferLineGiven whole ms offer.now)) }
     ensures share { (ms : List Member) → StandFor (members_at tree.now.nodes nodes.now) ms
         → IfOk result (λ line. IfNone line (ShareOffer whole ms offer.now)) }
 {
-    let again = line_again(tree, nodes, earlier, offer, before, known)?;
+    let again = line_again(tree, nodes, askers, earlier, offer, before, *known)?;
     if again.is_some() {
         return Ok(again);
     }
-    offer_line(alloc, tree, nodes, offer, whole, before, kept, known, alone)
+    offer_line(
+        alloc, tree, nodes, askers, offer, whole, before, kept, known, alone,
+    )
 }
 
 /// Lines that refuse each offer of the platform to the participants at these nodes, or each before
@@ -228,6 +237,8 @@ pub(crate) fn refused_offers(
         → IfOk result (AreRefusals (IsOfferLineGiven whole ms)
         (Ends until (λ (o : Offered). o) (ShareOffer whole ms)) (offers_of platform.now)) }
 {
+    let asking = those_asking(alloc, tree, nodes)?;
+    let askers = asking.as_slice();
     let mut lines = Vec::new(alloc);
     let mut earlier = Offer::NoImage;
     let mut kept = None;
@@ -237,7 +248,8 @@ pub(crate) fn refused_offers(
             return Ok(Refusals::UpTo(Lines::new(lines)));
         }
         let Some(line) = next_line(
-            alloc, tree, nodes, &earlier, &offer, whole, &lines, &mut kept, &mut known, alone,
+            alloc, tree, nodes, askers, &earlier, &offer, whole, &lines, &mut kept, &mut known,
+            alone,
         )?
         else {
             return Ok(Refusals::UpTo(Lines::new(lines)));

@@ -2,5 +2,5 @@
 use Rattle.conflict_finding.proofs.FirstLines.{if_none}
 use Rattle.conflict_finding.proofs.open_pairs.all_take_colour.Goals as goal
 
-pub returns-clause-takes : goal.returns-clause-takes
-returns-clause-takes c = λ none. if_none c.first_without_colour.result _ c.is_none.result c.is_none.ensures none c.first_without_colour.ensures.none
+pub returns : goal.returns
+returns c = λ none. if_none c.first_without_colour.result _ c.is_none.result c.is_none.ensures none c.first_without_colour.ensures.none

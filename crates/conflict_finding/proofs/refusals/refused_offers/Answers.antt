@@ -6,6 +6,7 @@ use Rattle.std.proofs.lemmas.Option.{slice_get_within}
 use Rattle.sysmem_formats.specs.declared.offer.Offer.{Offer}
 use Rattle.sysmem_sanitise.specs.Platform.{offers_of}
 use Rattle.verdict_claims.specs.FirstConflict.{IsOfferLineGiven}
+use Rattle.conflict_finding.specs.Askers.{AreAskers}
 use Rattle.conflict_finding.specs.Refusals.{Ends, EndsAt, RefusesLast, ShareOffer}
 use Rattle.verdict_claims.proofs.SameOffer.{is_before, is_until}
 use Rattle.conflict_finding.proofs.Sofar.{all_offers, ends_at_offer, last_pushed, of_none, offer_read, one_offer}
@@ -27,6 +28,9 @@ returns-in_default-2-clause-lines c = λ ms stand.
     subst (EndsAt (IsOfferLineGiven c.args.whole ms) (Ends c.args.until (λ (o : Offer). o) (ShareOffer c.args.whole ms)) (offers_of c.args.platform.now)) (sym c.new-in_default-2.ensures)
     (ends_at_offer (IsOfferLineGiven c.args.whole ms) (Ends c.args.until (λ (o : Offer). o) (ShareOffer c.args.whole ms)) (offers_of c.args.platform.now) c.loop-offer.lines.items c.in-Some.offer
     (sym here) (c.loop-offer.invariant.so_far ms stand) (inr (other, of_none _ c.in_ok-line.field-0 c.in_default-2.is (c.in_ok-line.ensures.share ms stand))))
+
+pub next_line-requires-clause-askers : goal.next_line-requires-clause-askers
+next_line-requires-clause-askers c = subst (AreAskers c.args.tree.now.nodes c.args.nodes.now) (sym c.as_slice-askers.ensures.value) c.in_ok-asking.ensures
 
 pub next_line-requires-clause-last : goal.next_line-requires-clause-last
 next_line-requires-clause-last c = λ ms stand. subst (RefusesLast (IsOfferLineGiven c.args.whole ms) c.loop-offer.earlier) (sym c.deref.ensures.value) (c.loop-offer.invariant.last ms stand)

@@ -17,7 +17,7 @@ invariant-loop-offer l = record {
       → AreSoFar (IsOfferLineGiven l.whole ms) (offers_of l.platform) l.lines.items (drop (length l.lines.items) (offers_of l.platform));
   alone : AreAlone l.tree.nodes l.alone;
   named : IfSome l.kept (NamesThose l.tree.nodes l.nodes);
-  known : IfSome l.known (IsOpenFor (participants (members_at l.tree.nodes l.nodes)));
+  known : IfSome l.known (IsOpenFor (participants (members_at l.tree.nodes l.askers)));
   last : (ms : List Member) → StandFor (members_at l.tree.nodes l.nodes) ms → RefusesLast (IsOfferLineGiven l.whole ms) l.earlier l.lines.items;
 }
 
