@@ -1,3 +1,4 @@
+pub mod Subject
 pub mod Found
 pub mod Whom
 pub mod AloneLines

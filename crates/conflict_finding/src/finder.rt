@@ -10,6 +10,7 @@ ghost use Rattle.verdict_claims.specs.Conflict.{IsConflict, IsConflictFor, IsFix
 ghost use Rattle.verdict_claims.specs.FirstConflict.{IsFirstConflict, IsFirstConflictFor, IsFirstFixedConflict};
 ghost use Rattle.conflict_finding.specs.Learnt.{IsLearnt};
 ghost use Rattle.conflict_finding.specs.Found.{AreSettledAt, IsBestChoice};
+ghost use Rattle.verdict_claims.specs.Matter.{forest, terms};
 ghost use Rattle.verdict_claims.specs.Members.{members_at, StandFor};
 ghost use Rattle.verdict_claims.specs.Verdict.{MeetsFixed, MeetsSettled};
 ghost use Rattle.verdict_claims.specs.declared.refutation.Item.{Item};
@@ -25,6 +26,7 @@ use crate::count_lines::{counts_at, fixed_line};
 use crate::first_refusing::first_failing;
 use crate::learnt::Learnt;
 use crate::refusals::{Refusals, refused_offers, refused_places};
+use crate::subject::Subject;
 use crate::whom::{Whom, line_of};
 use std::alloc::{AllocError, Global};
 use sysmem_merge::Settings;
@@ -210,60 +212,42 @@ pub fn find_conflict(
 {
     choices_leave_one_forest();
     let whole = tree.next_group(domain, prefix).is_none();
-    let layout = tree.layout(domain);
+    let subject = Subject::new(alloc, platform, tree, domain, base);
+    let layout = subject.layout();
     let mut learnt = Learnt::new(alloc);
-    find_conflict_as(
-        alloc,
-        platform,
-        tree,
-        domain,
-        &layout,
-        base,
-        prefix,
-        whole,
-        &mut learnt,
-    )
+    find_conflict_as(&subject, &layout, prefix, whole, &mut learnt)
 }
 
 /// As `find_conflict`, for a caller who has the domain's layout, knows whether the choices are a
 /// selection, so that no group is left (`whole`), and keeps what is learnt of participants.
 pub fn find_conflict_as(
-    alloc: Global,
-    platform: &Platform,
-    tree: &Tree,
-    domain: DomainId,
+    subject: &Subject<'_>,
     layout: &Layout,
-    base: Option<&Base>,
     prefix: &Prefix,
     whole: bool,
     learnt: &mut Learnt,
 ) -> Result<Option<Conflict>, AllocError>
-    requires domain { HasDomain tree.now.nodes domain }
-    requires lays { IsLayout layout.now (forest_of by_number tree.now.nodes domain []) }
-    requires nodes { HoldsNodes layout.now tree.now.nodes }
-    requires base { IsGivenBase platform.now tree.now.nodes domain
-        (option_map (λ b. b.now) base) }
-    requires prefix { IsPrefix (shape_of tree.now.nodes domain) prefix.now }
-    requires whole { (d : Forest Member)
-        → after (shape_of tree.now.nodes domain) prefix.now ≡ Some d
+    requires lays { IsLayout layout.now
+        (forest_of by_number subject.now.nodes subject.now.domain []) }
+    requires nodes { HoldsNodes layout.now subject.now.nodes }
+    requires prefix { IsPrefix (forest subject.now) prefix.now }
+    requires whole { (d : Forest Member) → after (forest subject.now) prefix.now ≡ Some d
         → whole ≡ is_none (choices d) }
-    requires learnt { IsLearnt tree.now.nodes platform.now.heaps learnt.old }
-    ensures learnt { IsLearnt tree.now.nodes platform.now.heaps learnt.new }
-    ensures conflict { (d : Forest Member)
-        → after (shape_of tree.now.nodes domain) prefix.now ≡ Some d
-        → IfOk result (λ found. IfSome found (IsConflictFor platform.now
-        (option_map (terms_of tree.now.nodes) (option_map (λ b. b.now) base.entry)) d)) }
-    ensures first { (d : Forest Member)
-        → after (shape_of tree.now.nodes domain) prefix.now ≡ Some d
-        → IfOk result (λ found. IfSome found (IsFirstConflictFor platform.now
-        (option_map (terms_of tree.now.nodes) (option_map (λ b. b.now) base.entry)) d)) }
-    ensures none { (d : Forest Member)
-        → after (shape_of tree.now.nodes domain) prefix.now ≡ Some d
-        → IfOk result (λ found. IfNone found ((t : Settled) × MeetsSettled platform.now
-        (option_map (terms_of tree.now.nodes) (option_map (λ b. b.now) base.entry)) d t)) }
+    requires learnt { IsLearnt subject.now.nodes subject.now.platform.heaps learnt.old }
+    ensures learnt { IsLearnt subject.now.nodes subject.now.platform.heaps learnt.new }
+    ensures conflict { (d : Forest Member) → after (forest subject.now) prefix.now ≡ Some d
+        → IfOk result (λ found. IfSome found
+        (IsConflictFor subject.now.platform (terms subject.now) d)) }
+    ensures first { (d : Forest Member) → after (forest subject.now) prefix.now ≡ Some d
+        → IfOk result (λ found. IfSome found
+        (IsFirstConflictFor subject.now.platform (terms subject.now) d)) }
+    ensures none { (d : Forest Member) → after (forest subject.now) prefix.now ≡ Some d
+        → IfOk result (λ found. IfNone found
+        ((t : Settled) × MeetsSettled subject.now.platform (terms subject.now) d t)) }
 {
-    let nodes = settled_at(tree, domain, layout, prefix)?;
-    match base {
+    let (alloc, platform, tree) = (subject.alloc, subject.platform, subject.tree);
+    let nodes = settled_at(tree, subject.domain, layout, prefix)?;
+    match subject.base {
         Some(base) => find_on_base(alloc, platform, tree, base, &nodes, learnt),
         None => find_initial(alloc, platform, tree, &nodes, whole, learnt),
     }
@@ -273,37 +257,30 @@ pub fn find_conflict_as(
 /// selection for which they are the best; none in an attached domain, whose settings are given.
 /// `AllocError` where memory is refused.
 pub fn lines_before(
-    alloc: Global,
-    platform: &Platform,
-    tree: &Tree,
-    domain: DomainId,
-    base: Option<&Base>,
+    subject: &Subject<'_>,
     selection: &Prefix,
     settings: &Settings,
 ) -> Result<LinesBefore, AllocError>
-    requires domain { HasDomain tree.now.nodes domain }
-    requires best { IsBestChoice platform.now
-        (option_map (terms_of tree.now.nodes) (option_map (λ b. b.now) base))
-        (shape_of tree.now.nodes domain) selection.now settings.now }
-    ensures { (members : Forest Member)
-        → IsSelection (shape_of tree.now.nodes domain) selection.now members
-        → IfOk result (λ lines. (earlier : List (List (List Item))) → RefuseBeforeFor platform.now
-        (option_map (terms_of tree.now.nodes) (option_map (λ b. b.now) base.entry))
-        (settled members) settings.now
+    requires { IsBestChoice subject.now.platform (terms subject.now) (forest subject.now)
+        selection.now settings.now }
+    ensures { (members : Forest Member) → IsSelection (forest subject.now) selection.now members
+        → IfOk result (λ lines. (earlier : List (List (List Item)))
+        → RefuseBeforeFor subject.now.platform (terms subject.now) (settled members) settings.now
         (record { earlier = earlier; offers = lines.offers; places = lines.places })) }
 {
     offer_line_leaves_none();
     place_line_leaves_none();
     count_line_leaves_none();
     unnamed_line_leaves_none();
-    if base.is_some() {
+    let (alloc, platform, tree) = (subject.alloc, subject.platform, subject.tree);
+    if subject.base.is_some() {
         return Ok(LinesBefore {
             offers: Lines::new(Vec::new(alloc)),
             places: Lines::new(Vec::new(alloc)),
         });
     }
-    let layout = tree.layout(domain);
-    let nodes = settled_at(tree, domain, &layout, selection)?;
+    let layout = tree.layout(subject.domain);
+    let nodes = settled_at(tree, subject.domain, &layout, selection)?;
     let (offer, place) = (settings.offer, settings.place);
     let mut learnt = Learnt::new(alloc);
     let (asked, alone) = (&mut learnt.asked, &mut learnt.alone);

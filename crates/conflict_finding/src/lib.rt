@@ -14,7 +14,9 @@ mod learnt;
 mod open_pairs;
 mod places_asked;
 mod refusals;
+mod subject;
 mod whom;
 
 pub use finder::{LinesBefore, find_conflict, find_conflict_as, lines_before};
 pub use learnt::Learnt;
+pub use subject::Subject;

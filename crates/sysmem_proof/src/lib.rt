@@ -13,7 +13,9 @@ mod roll;
 mod selecting;
 
 pub use claims::check;
-pub use conflict_finding::{Learnt, LinesBefore, find_conflict, find_conflict_as, lines_before};
+pub use conflict_finding::{
+    Learnt, LinesBefore, Subject, find_conflict, find_conflict_as, lines_before,
+};
 pub use verdict_claims::{
     Base, Certificate, Chosen, Claim, Conflict, EarlierChoices, Item, Line, Lines, MOST_SELECTIONS,
     No, PathList, Paths, Proof, Refutation, Verdict, laws,
