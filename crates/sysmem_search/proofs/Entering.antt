@@ -8,13 +8,11 @@ use Rattle.std.proofs.lemmas.List.Sorted.{length_permutation}
 use Rattle.std.proofs.lemmas.Option.{same_Some, slice_get_within}
 use Rattle.list_lemmas.proofs.CallerLemmas.{slice_get-set_same, slice_get-set_other, of_some}
 use Rattle.sysmem_merge.specs.Sum.{SumsInAnyOrder}
-use Rattle.verdict_claims.specs.Base.{BaseFacts}
 use Rattle.verdict_claims.specs.Members.{participants}
 use Rattle.sysmem_sanitise.specs.Participant.{Participant}
-use Rattle.sysmem_sanitise.specs.Platform.{PlatformFacts}
 use Rattle.sysmem_search.specs.declared.kept.Part.{Part}
 use Rattle.sysmem_search.specs.declared.levels.Level.{Level}
-use Rattle.sysmem_search.specs.Kept.{IsKeptOf, IsPart, HaveRoom}
+use Rattle.sysmem_search.specs.Kept.{IsKeptFor, IsPartFor, HaveRoom}
 use Rattle.verdict_claims.specs.Matter.{Matter, forest}
 use Rattle.verdict_claims.specs.Asked.{asks_at, asked_in}
 use Rattle.sysmem_search.specs.Standing.{IsLevel, AreLevels, AreMade, AreParts, IsSlot, StandsAt, numbers}
@@ -25,12 +23,9 @@ use Rattle.sysmem_search.proofs.Shapes.{few_settled}
 use Rattle.sysmem_search.proofs.Taking.{few_asked_of}
 use Rattle.sysmem_search.proofs.Walking.{few_accepted}
 use Rattle.sysmem_tree.specs.declared.layout.Layout.{Layout}
-use Rattle.sysmem_tree.specs.Domain.{HasDomain}
 use Rattle.sysmem_tree.specs.Forest.{Forest, choices, settled, first_group}
 use Rattle.sysmem_tree.proofs.CallerLemmas.{first_many}
 use Rattle.sysmem_tree.specs.LayoutLaws.{ChoiceSettlesShare, NoneOpenIsSelection}
-use Rattle.sysmem_tree.specs.Node.{NodeFacts}
-use Rattle.sysmem_tree.specs.Nodes.{IsTree}
 use Rattle.sysmem_tree.specs.OpenGroups.{IsChildPlace, IsFirstOpen, share_of}
 use Rattle.sysmem_tree.specs.Selection.{after, IsPrefix}
 use Rattle.sysmem_tree.specs.Shape.{Member}
@@ -77,12 +72,12 @@ module _ (m : Matter) (layout : Layout) where
       subst (λ xs. length xs < length levels) (sym same) (slice_get_within levels (length cs) l here)
 
   -- what is kept there is of what the choices settle
-  pub kept_at : (cs : List ℕ) (level : Level) → IsLevel m layout cs level → (d : Forest Member) → after (forest m) cs ≡ Some d → IsKeptOf m.platform m.nodes m.base level.kept (participants (settled d))
-  kept_at cs level is d leads = subst (λ x. IsKeptOf m.platform m.nodes m.base level.kept (participants (settled x))) (same_Some is.left d (sym is.leads ∙ leads)) is.kept
+  pub kept_at : (cs : List ℕ) (level : Level) → IsLevel m layout cs level → (d : Forest Member) → after (forest m) cs ≡ Some d → IsKeptFor m level.kept (participants (settled d))
+  kept_at cs level is d leads = subst (λ x. IsKeptFor m level.kept (participants (settled x))) (same_Some is.left d (sym is.leads ∙ leads)) is.kept
 
   -- with more parts, and with more levels
   pub more_kept : (parts parts' : List (Option Part)) (levels levels' : List Level) (items cs : List ℕ) → items ≡ cs → StandsAt m layout parts levels cs
-      → AreParts m.platform m.nodes m.base layout parts' → ((k : ℕ) → k ≤ length items → slice_get levels' k ≡ slice_get levels k) → AreMade m.platform m.nodes m.base levels' → StandsAt m layout parts' levels' cs
+      → AreParts m layout parts' → ((k : ℕ) → k ≤ length items → slice_get levels' k ≡ slice_get levels k) → AreMade m levels' → StandsAt m layout parts' levels' cs
   more_kept parts parts' levels levels' items cs at keeps are same made = record {
     given = keeps.given;
     laid = keeps.laid;
@@ -104,8 +99,8 @@ module _ (m : Matter) (layout : Layout) where
 
   -- with one choice more, below whose level nothing changed
   pub entered_keeps : (parts parts' : List (Option Part)) (levels between levels' : List Level) (cs longer : List ℕ) (c : ℕ) → longer ≡ cs ++ c ∷ [] → StandsAt m layout parts levels cs
-      → AreParts m.platform m.nodes m.base layout parts' → ((k : ℕ) → k ≤ length cs → slice_get between k ≡ slice_get levels k)
-      → AreMade m.platform m.nodes m.base between → ((k : ℕ) → k ≢ length cs + 1 → slice_get levels' k ≡ slice_get between k)
+      → AreParts m layout parts' → ((k : ℕ) → k ≤ length cs → slice_get between k ≡ slice_get levels k)
+      → AreMade m between → ((k : ℕ) → k ≢ length cs + 1 → slice_get levels' k ≡ slice_get between k)
       → IsSomeAnd (slice_get levels' (length cs + 1)) (IsLevel m layout longer) → StandsAt m layout parts' levels' longer
   entered_keeps parts parts' levels between levels' cs longer c is keeps are kept between_made same last = record {
     given = keeps.given;
@@ -114,12 +109,12 @@ module _ (m : Matter) (layout : Layout) where
     made = made;
     fronts = each;
   } where
-    made : AreMade m.platform m.nodes m.base levels'
+    made : AreMade m levels'
     made k level at = elim (cases_eq k (length cs + 1)) [
       | inl here ↦
           let (l, one, is') = there (IsLevel m layout longer) (slice_get levels' (length cs + 1)) last in (
             participants (settled is'.left),
-            subst (λ x. IsKeptOf m.platform m.nodes m.base x.kept (participants (settled is'.left))) (same_Some l level (sym one ∙ (ap (slice_get levels') (sym here) ∙ at))) is'.kept,
+            subst (λ x. IsKeptFor m x.kept (participants (settled is'.left))) (same_Some l level (sym one ∙ (ap (slice_get levels') (sym here) ∙ at))) is'.kept,
           )
       | inr other ↦ between_made k level (sym (same k other) ∙ at)
     ]
@@ -153,7 +148,7 @@ module _ (m : Matter) (layout : Layout) where
 
     -- so the level of one choice more is joined
     pub joined_level : SumsInAnyOrder → (longer : List ℕ) (level : Level) (next : Option ℕ) → longer ≡ cs ++ c ∷ [] → IsPrefix (forest m) (cs ++ c ∷ [])
-        → (level.group ≡ next) × IsKeptOf m.platform m.nodes m.base level.kept (participants (settled is.left) ++ asked_in m.nodes (share_of layout at))
+        → (level.group ≡ next) × IsKeptFor m level.kept (participants (settled is.left) ++ asked_in m.nodes (share_of layout at))
         → IsFirstOpen layout (numbers m) (cs ++ c ∷ []) next → IsLevel m layout longer level
     joined_level sums longer level next long prefix made open' =
         let (d, leads) = some_of (after (forest m) (cs ++ c ∷ [])) prefix in
@@ -165,11 +160,11 @@ module _ (m : Matter) (layout : Layout) where
         })
 
 -- a level of one choice more was joined, from that above it and from a part
-abbrev pub IsJoined : PlatformFacts → List Level → List Level → ℕ → Part → Option ℕ → Type 0
-IsJoined platform between levels' depth part next = (nodes : List NodeFacts) (base : Option BaseFacts) (ps qs : List Participant) (above old : Level)
-    → slice_get between depth ≡ Some above → slice_get between (depth + 1) ≡ Some old → IsKeptOf platform nodes base above.kept ps → IsPart platform base part qs
-    → (others : List Participant) → IsKeptOf platform nodes base old.kept others
-    → IsSomeAnd (slice_get levels' (depth + 1)) (λ level. (level.group ≡ next) × IsKeptOf platform nodes base level.kept (ps ++ qs))
+abbrev pub IsJoined : Matter → List Level → List Level → ℕ → Part → Option ℕ → Type 0
+IsJoined m between levels' depth part next = (ps qs : List Participant) (above old : Level)
+    → slice_get between depth ≡ Some above → slice_get between (depth + 1) ≡ Some old → IsKeptFor m above.kept ps → IsPartFor m part qs
+    → (others : List Participant) → IsKeptFor m old.kept others
+    → IsSomeAnd (slice_get levels' (depth + 1)) (λ level. (level.group ≡ next) × IsKeptFor m level.kept (ps ++ qs))
 
 at_length : {X : Type 0} (xs : List X) (k : ℕ) → k < length xs → (x : X) × (slice_get xs k ≡ Some x)
 at_length [] k less = absurd (omega (arith, less))
@@ -181,9 +176,9 @@ some_weaker P Q None h p = absurd p
 some_weaker P Q (Some x) h p = h x p
 
 module _ (m : Matter) (layout : Layout) (parts parts' : List (Option Part)) (levels between levels' : List Level) (cs longer : List ℕ) (c at slot : ℕ) (part : Part) (next : Option ℕ) where
-  entered_at : longer ≡ cs ++ c ∷ [] → StandsAt m layout parts levels cs → AreParts m.platform m.nodes m.base layout parts'
-      → ((k : ℕ) → k ≤ length cs → slice_get between k ≡ slice_get levels k) → AreMade m.platform m.nodes m.base between → length cs + 1 < length between
-      → ((k : ℕ) → k ≢ length cs + 1 → slice_get levels' k ≡ slice_get between k) → IsJoined m.platform between levels' (length cs) part next → IsSlot at slot
+  entered_at : longer ≡ cs ++ c ∷ [] → StandsAt m layout parts levels cs → AreParts m layout parts'
+      → ((k : ℕ) → k ≤ length cs → slice_get between k ≡ slice_get levels k) → AreMade m between → length cs + 1 < length between
+      → ((k : ℕ) → k ≢ length cs + 1 → slice_get levels' k ≡ slice_get between k) → IsJoined m between levels' (length cs) part next → IsSlot at slot
       → slice_get parts' slot ≡ Some (Some part) → SumsInAnyOrder → ChoiceSettlesShare → IsChildPlace layout (numbers m) cs c at → (e : Forest ℕ) × (after (numbers m) cs ≡ Some e) → IsPrefix (forest m) (cs ++ c ∷ [])
       → IsFirstOpen layout (numbers m) (cs ++ c ∷ []) next → StandsAt m layout parts' levels' longer
   entered_at long keeps are kept made room others joined own here sums law child numbers_here prefix open' =
@@ -193,17 +188,17 @@ module _ (m : Matter) (layout : Layout) (parts parts' : List (Option Part)) (lev
       entered_keeps m layout parts parts' levels between levels' cs longer c long keeps are kept made others
       (some_weaker _ (IsLevel m layout longer) (slice_get levels' (length cs + 1))
       (λ l h. joined_level m layout cs c at above level law child numbers_here sums longer l next long prefix h open')
-      (joined m.nodes m.base (participants (settled level.left)) (asked_in m.nodes (share_of layout at)) above old (kept (length cs) (omega arith) ∙ is) old_is level.kept (are at slot part own here) ps old_kept))
+      (joined (participants (settled level.left)) (asked_in m.nodes (share_of layout at)) above old (kept (length cs) (omega arith) ∙ is) old_is level.kept (are at slot part own here) ps old_kept))
 
   -- where a search stands after one choice more
-  pub entered : (items : List ℕ) → items ≡ cs → longer ≡ cs ++ c ∷ [] → StandsAt m layout parts levels cs → AreParts m.platform m.nodes m.base layout parts'
-      → ((k : ℕ) → k ≤ length items → slice_get between k ≡ slice_get levels k) → AreMade m.platform m.nodes m.base between → length items + 1 < length between
-      → ((k : ℕ) → k ≢ length items + 1 → slice_get levels' k ≡ slice_get between k) → IsJoined m.platform between levels' (length items) part next → IsSlot at slot
+  pub entered : (items : List ℕ) → items ≡ cs → longer ≡ cs ++ c ∷ [] → StandsAt m layout parts levels cs → AreParts m layout parts'
+      → ((k : ℕ) → k ≤ length items → slice_get between k ≡ slice_get levels k) → AreMade m between → length items + 1 < length between
+      → ((k : ℕ) → k ≢ length items + 1 → slice_get levels' k ≡ slice_get between k) → IsJoined m between levels' (length items) part next → IsSlot at slot
       → slice_get parts' slot ≡ Some (Some part) → SumsInAnyOrder → ChoiceSettlesShare → IsChildPlace layout (numbers m) cs c at → (e : Forest ℕ) × (after (numbers m) cs ≡ Some e) → IsPrefix (forest m) (cs ++ c ∷ [])
       → IsFirstOpen layout (numbers m) (cs ++ c ∷ []) next → StandsAt m layout parts' levels' longer
   entered items same long keeps are kept made room others joined = entered_at long keeps are
       (subst (λ xs. (k : ℕ) → k ≤ length xs → slice_get between k ≡ slice_get levels k) same kept) made (subst (λ xs. length xs + 1 < length between) same room)
-      (subst (λ xs. (k : ℕ) → k ≢ length xs + 1 → slice_get levels' k ≡ slice_get between k) same others) (subst (λ xs. IsJoined m.platform between levels' (length xs) part next) same joined)
+      (subst (λ xs. (k : ℕ) → k ≢ length xs + 1 → slice_get levels' k ≡ slice_get between k) same others) (subst (λ xs. IsJoined m between levels' (length xs) part next) same joined)
 
 -- what is kept beside a slot for nothing more was kept before
 pub kept_before : (xs : List (Option Part)) (at : ℕ) (part : Part) → slice_get (xs ++ None ∷ []) at ≡ Some (Some part) → slice_get xs at ≡ Some (Some part)
@@ -224,14 +219,14 @@ some_there None b is yes' = absurd (cc)
 some_there (Some x) b is yes' = (x, refl)
 
 -- a part that is kept now, beside those of before
-pub part_kept : (platform : PlatformFacts) (nodes : List NodeFacts) (base : Option BaseFacts) (layout : Layout) (parts : List (Option Part)) (place slot : ℕ) (part : Part) → IsSlot place slot
-    → IsPart platform base part (asked_in nodes (share_of layout place)) → AreParts platform nodes base layout parts → AreParts platform nodes base layout (slice_set parts slot (Some part))
-part_kept platform nodes base layout parts place slot part own is are at s other here there' = elim (cases_eq s slot) [
+pub part_kept : (m : Matter) (layout : Layout) (parts : List (Option Part)) (place slot : ℕ) (part : Part) → IsSlot place slot → IsPartFor m part (asked_in m.nodes (share_of layout place))
+    → AreParts m layout parts → AreParts m layout (slice_set parts slot (Some part))
+part_kept m layout parts place slot part own is are at s other here there' = elim (cases_eq s slot) [
   | inl equal ↦
       let same = slice_get-set_same parts slot (Some part) (Some other) (within parts slot s other equal there') (ap (slice_get (slice_set parts slot (Some part))) (sym equal) ∙ there') in
       let places : place ≡ at = omega (arith, own, here, equal) in
-      subst (λ k. IsPart platform base other (asked_in nodes (share_of layout k))) places
-      (subst (λ p. IsPart platform base p (asked_in nodes (share_of layout place))) (same_Some part other same) is)
+      subst (λ k. IsPartFor m other (asked_in m.nodes (share_of layout k))) places
+      (subst (λ p. IsPartFor m p (asked_in m.nodes (share_of layout place))) (same_Some part other same) is)
   | inr elsewhere ↦ are at s other here (slice_get-set_other parts slot s (Some part) (Some other) elsewhere there')
 ] where
   within : (parts : List (Option Part)) (slot s : ℕ) (other : Part) → s ≡ slot → slice_get (slice_set parts slot (Some part)) s ≡ Some (Some other) → slot < length parts
@@ -272,15 +267,16 @@ share_few layout d cs c at law child here few =
 -- where a search stands, a choice's participants fit beside those of before
 pub room_for : (m : Matter) (layout : Layout) (parts : List (Option Part)) (levels between : List Level) (items cs : List ℕ) (above : Level) (part : Part) (share : List ℕ) → items ≡ cs
     → StandsAt m layout parts levels cs → ((k : ℕ) → k ≤ length items → slice_get between k ≡ slice_get levels k) → slice_get between (length items) ≡ Some above
-    → IsPart m.platform m.base part (asked_in m.nodes share) → length share ≤ 128 → IsTree m.nodes → HasDomain m.nodes m.domain → HaveRoom above.kept part
-room_for m layout parts levels between items cs above part share same keeps kept is part_is few tree domain =
+    → IsPartFor m part (asked_in m.nodes share) → length share ≤ 128 → HaveRoom above.kept part
+room_for m layout parts levels between items cs above part share same keeps kept is part_is few =
+    let tree = keeps.given.tree in
     let (l, here, level) = there (IsLevel m layout cs) (slice_get levels (length cs)) (level_here m layout cs levels keeps.fronts) in
     let is_above : l ≡ above = same_Some l above (sym here ∙ subst (λ xs. slice_get levels (length xs) ≡ Some above) same (sym (kept (length items) (omega arith)) ∙ is)) in
-    let root = root_there m.nodes m.domain domain in
+    let root = root_there m.nodes m.domain keeps.given.domain in
     let (e, leads) = numbers_left m.nodes m.domain cs tree root (ap is_some level.leads) in
     let long = ap length (same_asked m.nodes m.domain cs e level.left leads level.leads) in
     have_room m.platform m.nodes m.base above.kept part (participants (settled level.left)) (asked_in m.nodes share)
-    (subst (λ x. IsKeptOf m.platform m.nodes m.base x.kept (participants (settled level.left))) is_above level.kept) part_is
-    (few_accepted m.platform m.nodes m.domain m.base tree.few keeps.given)
+    (subst (λ x. IsKeptFor m x.kept (participants (settled level.left))) is_above level.kept) part_is
+    (few_accepted m.platform m.nodes m.domain m.base tree.few keeps.given.base)
     (omega (arith, long, few_asked_of m.nodes (settled e), few_settled m.nodes m.domain cs e tree root leads))
     (omega (arith, few_asked_of m.nodes share, few))

@@ -82,13 +82,18 @@ module _ (platform : PlatformFacts) (nodes : List NodeFacts) (base : Option Base
           never true e t = absurd (cc)
           never false e t = absurd (cc)
 
+-- a sum was asked whether more may meet it
+pub record SumAsked (platform : PlatformFacts) (kept : SumFacts) (r : Result Unit Reason) : Type 0 where
+  pub met : (ps : List Participant) → SumsUp kept platform ps → OnOk r (sum.IsMet false platform ps)
+  pub none : (ps : List Participant) → SumsUp kept platform ps → IfErr r (λ _. best.IsUnmet false platform ps)
+
 -- a sum of the members of an initial domain
 pub sum_met : (platform : PlatformFacts) (nodes : List NodeFacts) (base : Option BaseFacts) (ms : List Member) (kept : SumFacts) (r : Result Unit Reason) (met : Bool) → met ≡ is_ok r
-    → ((ps : List Participant) → SumsUp kept platform ps → OnOk r (sum.IsMet false platform ps)) → ((ps : List Participant) → SumsUp kept platform ps → IfErr r (λ _. best.IsUnmet false platform ps))
+    → SumAsked platform kept r
     → IsKeptOf platform nodes base (kept_as.Sum kept) (participants ms) → IsTrue met ↔ ((t : Settings) × MeetsLooselyFor platform (option_map (terms_of nodes) base) ms t)
-sum_met platform nodes (Some b) ms kept r met is ok err keeps = absurd keeps
-sum_met platform nodes None ms kept r met is ok err keeps = subst (λ x. IsTrue x ↔ ((t : Settings) × MeetsLooselyFor platform None ms t)) (sym is)
-    (by r (ok (participants ms) keeps) (err (participants ms) keeps)) where
+sum_met platform nodes (Some b) ms kept r met is asked keeps = absurd keeps
+sum_met platform nodes None ms kept r met is asked keeps = subst (λ x. IsTrue x ↔ ((t : Settings) × MeetsLooselyFor platform None ms t)) (sym is)
+    (by r (asked.met (participants ms) keeps) (asked.none (participants ms) keeps)) where
       by : (r : Result Unit Reason) → OnOk r (sum.IsMet false platform (participants ms)) → IfErr r (λ _. best.IsUnmet false platform (participants ms))
           → IsTrue (is_ok r) ↔ ((t : Settings) × MeetsLooselyFor platform None ms t)
       by (Ok u) m n = (λ _. m, λ _. refl)

@@ -10,6 +10,7 @@ use Rattle.sysmem_merge.specs.Share.{IsShareOf}
 use Rattle.sysmem_merge.specs.Sum.{SumsUp}
 use Rattle.sysmem_merge.specs.declared.sum.TheConstants.{MOST_ADDED}
 use Rattle.verdict_claims.specs.Base.{BaseFacts}
+use Rattle.verdict_claims.specs.Matter.{Matter}
 use Rattle.sysmem_sanitise.specs.Participant.{Participant}
 use Rattle.sysmem_sanitise.specs.Platform.{PlatformFacts}
 use Rattle.sysmem_search.specs.declared.kept.Kept.{Kept}
@@ -37,11 +38,19 @@ IsKeptOf platform nodes (Some base) (kept_as.OnBase kept) ps =
     TakesBase platform base.settings (asked_in nodes base.accepted) kept ps
 IsKeptOf platform nodes _ _ ps = ⊥
 
+-- of a matter
+abbrev pub IsKeptFor : Matter → Kept → List Participant → Type 0
+IsKeptFor m = IsKeptOf m.platform m.nodes m.base
+
 -- what is kept of one choice stands for these participants, whatever was accepted before
 abbrev pub IsPart : PlatformFacts → Option BaseFacts → Part → List Participant → Type 0
 IsPart platform None (part_as.Share share) ps = IsShareOf share platform ps
 IsPart platform (Some base) (part_as.OnBase kept) ps = TakesBase platform base.settings [] kept ps
 IsPart platform _ _ ps = ⊥
+
+-- of a matter
+abbrev pub IsPartFor : Matter → Part → List Participant → Type 0
+IsPartFor m = IsPart m.platform m.base
 
 -- one participant more fits
 abbrev pub HasRoom : Part → Type 0

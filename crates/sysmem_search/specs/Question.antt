@@ -1,8 +1,11 @@
 -- What a search asks, of which domain.
 use Rattle.sysmem_merge.specs.declared.settings.Settings.{Settings}
-use Rattle.verdict_claims.specs.Base.{IsGivenBase}
+use Rattle.verdict_claims.specs.Claim.{IsProofIn}
 use Rattle.verdict_claims.specs.Matter.{Matter, terms}
 use Rattle.verdict_claims.specs.Verdict.{Meeting, MeetsFor, MeetsLooselyFor, MeetsSettled, IsBestFor}
+use Rattle.verdict_claims.specs.Verdict.{IsOptimalIn}
+use Rattle.verdict_claims.specs.declared.certificate.Proof.{Proof}
+use Rattle.verdict_claims.specs.declared.verdict.Verdict.{Verdict}
 use Rattle.sysmem_tree.specs.Forest.{Forest}
 use Rattle.sysmem_tree.specs.Shape.{Member}
 
@@ -22,6 +25,10 @@ MeetsHere m = MeetsSettled m.platform (terms m)
 abbrev pub IsBestOf : Matter → Meeting
 IsBestOf m = IsBestFor m.platform (terms m)
 
--- a base is given exactly where the domain is an attached one
-abbrev pub HasBase : Matter → Type 0
-HasBase m = IsGivenBase m.platform m.nodes m.domain m.base
+-- a verdict is optimal
+abbrev pub IsOptimalOf : Matter → Verdict → Type 0
+IsOptimalOf m = IsOptimalIn m.platform m.nodes m.domain m.base
+
+-- what proves a verdict of its kind
+abbrev pub IsProofOf : Matter → Verdict → Proof → Type 0
+IsProofOf m = IsProofIn m.platform m.nodes m.domain m.base

@@ -1,20 +1,17 @@
 -- Where a search stands, and what it keeps there.
 use Rattle.std.specs.Prelude.{◌≡◌, ◌≤◌, ◌+◌, ℕ, List, [], Option, Some, IsSomeAnd}
 use Rattle.std.specs.Prelude.{length, slice_get, take}
-use Rattle.verdict_claims.specs.Base.{BaseFacts}
+use Rattle.conflict_finding.specs.Subject.{IsSubject}
 use Rattle.verdict_claims.specs.Members.{participants}
 use Rattle.sysmem_sanitise.specs.Participant.{Participant}
-use Rattle.sysmem_sanitise.specs.Platform.{PlatformFacts}
 use Rattle.sysmem_search.specs.declared.kept.Part.{Part}
 use Rattle.sysmem_search.specs.declared.levels.Level.{Level}
-use Rattle.sysmem_search.specs.Kept.{IsKeptOf, IsPart}
-use Rattle.sysmem_search.specs.Question.{HasBase}
+use Rattle.sysmem_search.specs.Kept.{IsKeptFor, IsPartFor}
 use Rattle.verdict_claims.specs.Matter.{Matter, forest}
 use Rattle.verdict_claims.specs.Asked.{asked_in}
 use Rattle.sysmem_tree.specs.declared.layout.Layout.{Layout}
 use Rattle.sysmem_tree.specs.Forest.{Forest, settled}
 use Rattle.sysmem_tree.specs.Layout.{IsLayout}
-use Rattle.sysmem_tree.specs.Node.{NodeFacts}
 use Rattle.sysmem_tree.specs.OpenGroups.{HoldsNodes, IsFirstOpen, share_of}
 use Rattle.sysmem_tree.specs.Selection.{after}
 use Rattle.sysmem_tree.specs.Shape.{Member, by_number, forest_of}
@@ -38,7 +35,7 @@ pub record LaysOut (m : Matter) (layout : Layout) : Type 0 where
 pub record IsLevel (m : Matter) (layout : Layout) (cs : List ℕ) (level : Level) : Type 0 where
   pub left : Forest Member
   pub leads : after (forest m) cs ≡ Some left
-  pub kept : IsKeptOf m.platform m.nodes m.base level.kept (participants (settled left))
+  pub kept : IsKeptFor m level.kept (participants (settled left))
   pub group : IsFirstOpen layout (numbers m) cs level.group
 
 -- there is a level for each front of the choices
@@ -47,9 +44,9 @@ AreLevels m layout cs levels = (k : ℕ) → k ≤ length cs
     → IsSomeAnd (slice_get levels k) (IsLevel m layout (take k cs))
 
 -- each level stands for some participants
-abbrev pub AreMade : PlatformFacts → List NodeFacts → Option BaseFacts → List Level → Type 0
-AreMade platform nodes base levels = (k : ℕ) (level : Level) → slice_get levels k ≡ Some level
-    → (ps : List Participant) × IsKeptOf platform nodes base level.kept ps
+abbrev pub AreMade : Matter → List Level → Type 0
+AreMade m levels = (k : ℕ) (level : Level) → slice_get levels k ≡ Some level
+    → (ps : List Participant) × IsKeptFor m level.kept ps
 
 -- what is kept of the child at a place stands in this slot: the last place has the first slot
 abbrev pub IsSlot : ℕ → ℕ → Type 0
@@ -57,17 +54,16 @@ IsSlot place slot = slot + place ≡ 127
 
 -- what is kept in a slot is of the child whose slot it is: of the
 -- participants that the choice of it settles
-abbrev pub AreParts : PlatformFacts → List NodeFacts → Option BaseFacts → Layout
-    → List (Option Part) → Type 0
-AreParts platform nodes base layout parts = (place slot : ℕ) (part : Part) → IsSlot place slot
+abbrev pub AreParts : Matter → Layout → List (Option Part) → Type 0
+AreParts m layout parts = (place slot : ℕ) (part : Part) → IsSlot place slot
     → slice_get parts slot ≡ Some (Some part)
-    → IsPart platform base part (asked_in nodes (share_of layout place))
+    → IsPartFor m part (asked_in m.nodes (share_of layout place))
 
 -- what a search keeps where it stands
 pub record StandsAt (m : Matter) (layout : Layout) (parts : List (Option Part))
     (levels : List Level) (cs : List ℕ) : Type 0 where
-  pub given : HasBase m
+  pub given : IsSubject m
   pub laid : LaysOut m layout
-  pub shares : AreParts m.platform m.nodes m.base layout parts
-  pub made : AreMade m.platform m.nodes m.base levels
+  pub shares : AreParts m layout parts
+  pub made : AreMade m levels
   pub fronts : AreLevels m layout cs levels

@@ -9,6 +9,7 @@ ghost use Rattle.sysmem_tree.specs.Domain.{HasDomain, is_ready};
 use crate::gate::Gate;
 use crate::question::Question;
 use crate::searching::search_from;
+use conflict_finding::Subject;
 use std::alloc::{AllocError, Global};
 use sysmem_sanitise::Platform;
 use sysmem_tree::{DomainId, Tree};
@@ -55,7 +56,8 @@ pub fn search<G: Gate>(
             visits: 0,
         });
     }
-    let mut question = Question::new(alloc, platform, tree, domain, base)?;
+    let subject = Subject::new(alloc, platform, tree, domain, base);
+    let mut question = Question::new(&subject)?;
     let mut visits = 0;
     if !search_from(&mut question, gate, &mut visits)? {
         return Ok(Found {

@@ -1,24 +1,21 @@
 //! What a search keeps of participants, so that each is read once and not
 //! again at each prefix that settles it.
 
-ghost use Rattle.std.specs.Prelude.{◌≡◌, ◌↔◌, ◌++◌, List, [], ◌∷◌, IfOk, IsTrue, MatchOption, Option, is_some, option_map};
+ghost use Rattle.std.specs.Prelude.{◌≡◌, ◌↔◌, ◌++◌, List, [], ◌∷◌, IfOk, IsTrue, MatchOption, Option, is_some};
 ghost use Rattle.sysmem_merge.specs.declared.settings.Settings.{Settings as Settled};
-ghost use Rattle.verdict_claims.specs.Base.{BaseFacts, IsGivenBase, terms_of};
+ghost use Rattle.verdict_claims.specs.Matter.{Matter};
 ghost use Rattle.verdict_claims.specs.Members.{participants};
-ghost use Rattle.verdict_claims.specs.Verdict.{MeetsFor, MeetsLooselyFor, IsBestFor};
 ghost use Rattle.sysmem_sanitise.specs.Participant.{Participant};
-ghost use Rattle.sysmem_sanitise.specs.Platform.{PlatformFacts};
-ghost use Rattle.sysmem_search.specs.Kept.{IsKeptOf, IsPart, TakesBase, HasRoom, HaveRoom};
+ghost use Rattle.sysmem_search.specs.Kept.{IsKeptFor, IsPartFor, HasRoom, HaveRoom};
+ghost use Rattle.sysmem_search.specs.Question.{MeetsOf, MeetsSoFar, IsBestOf};
 ghost use Rattle.sysmem_search.specs.declared.kept.Kept.TheVariants as kept_as;
-ghost use Rattle.sysmem_tree.specs.Node.{NodeFacts};
 ghost use Rattle.sysmem_tree.specs.Shape.{Member};
 
 use crate::on_base::OnBase;
-use std::alloc::{AllocError, Global};
+use conflict_finding::Subject;
+use std::alloc::AllocError;
 use sysmem_merge::{Settings, Share, Sum};
-use sysmem_sanitise::{Constraints, Platform};
-use sysmem_tree::{DomainId, Tree};
-use verdict_claims::Base;
+use sysmem_sanitise::Constraints;
 
 /// What is kept of the participants that one choice settles, made once for a search.
 #[derive(Drop)]
@@ -40,33 +37,26 @@ pub(crate) enum Kept {
 
 impl Part {
     /// Of no participant at all.
-    pub(crate) fn new(
-        alloc: Global,
-        platform: &Platform,
-        base: Option<&Base>,
-    ) -> Result<Part, AllocError>
-        ensures { IfOk result (λ made.
-            IsPart platform.now (option_map (λ b. b.now) base.entry) made []) }
+    pub(crate) fn new(subject: &Subject<'_>) -> Result<Part, AllocError>
+        ensures { IfOk result (λ made. IsPartFor subject.now made []) }
     {
-        match base {
-            None => Ok(Part::Share(Share::new(alloc, platform)?)),
+        match subject.base() {
+            None => Ok(Part::Share(Share::new(subject.alloc(), subject.platform())?)),
             Some(_) => Ok(Part::OnBase(OnBase::new())),
         }
     }
 
     /// Adds one more participant.
-    pub(crate) fn add(&mut self, platform: &Platform, base: Option<&Base>, asked: &Constraints)
+    pub(crate) fn add(&mut self, subject: &Subject<'_>, asked: &Constraints)
         requires { HasRoom self.old }
-        ensures { (ps : List Participant)
-            → IsPart platform.now (option_map (λ b. b.now) base.entry) self.old ps
-            → IsPart platform.now (option_map (λ b. b.now) base.entry) self.new
-            (ps ++ asked.now ∷ []) }
+        ensures { (ps : List Participant) → IsPartFor subject.now self.old ps
+            → IsPartFor subject.now self.new (ps ++ asked.now ∷ []) }
     {
         match self {
-            Part::Share(share) => share.add(platform, asked),
+            Part::Share(share) => share.add(subject.platform(), asked),
             Part::OnBase(part) => {
-                if let Some(base) = base {
-                    part.add(platform, &base.settings(), asked);
+                if let Some(base) = subject.base() {
+                    part.add(subject.platform(), &base.settings(), asked);
                 }
             }
         }
@@ -75,51 +65,39 @@ impl Part {
 
 impl Kept {
     /// Of no participant at all, behind those that the base names as accepted.
-    pub(crate) fn new(
-        alloc: Global,
-        platform: &Platform,
-        tree: &Tree,
-        domain: DomainId,
-        base: Option<&Base>,
-    ) -> Result<Kept, AllocError>
-        requires { IsGivenBase platform.now tree.now.nodes domain (option_map (λ b. b.now) base) }
-        ensures { IfOk result (λ made.
-            IsKeptOf platform.now tree.now.nodes (option_map (λ b. b.now) base.entry) made []) }
+    pub(crate) fn new(subject: &Subject<'_>) -> Result<Kept, AllocError>
+        ensures { IfOk result (λ made. IsKeptFor subject.now made []) }
     {
-        tree.recall_sound();
-        match base {
-            None => Ok(Kept::Sum(Sum::new(alloc, platform)?)),
-            Some(base) => Ok(Kept::OnBase(OnBase::behind(tree, base.accepted()))),
+        subject.recall();
+        match subject.base() {
+            None => Ok(Kept::Sum(Sum::new(subject.alloc(), subject.platform())?)),
+            Some(base) => Ok(Kept::OnBase(OnBase::behind(subject.tree(), base.accepted()))),
         }
     }
 
     /// Becomes what is kept of the participants above, then those of a part,
     /// whatever it was. It takes no memory.
-    pub(crate) fn join_of(&mut self, platform: &Platform, above: &Kept, part: &Part)
+    pub(crate) fn join_of(&mut self, subject: &Subject<'_>, above: &Kept, part: &Part)
         requires { HaveRoom above.now part.now }
-        ensures { (nodes : List NodeFacts) (base : Option BaseFacts)
-            (others ps qs : List Participant)
-            → IsKeptOf platform.now nodes base self.old others
-            → IsKeptOf platform.now nodes base above.now ps → IsPart platform.now base part.now qs
-            → IsKeptOf platform.now nodes base self.new (ps ++ qs) }
+        ensures { (others ps qs : List Participant) → IsKeptFor subject.now self.old others
+            → IsKeptFor subject.now above.now ps → IsPartFor subject.now part.now qs
+            → IsKeptFor subject.now self.new (ps ++ qs) }
     {
         match self {
-            Kept::Sum(sum) => join_sum(sum, platform, above, part),
+            Kept::Sum(sum) => join_sum(sum, subject, above, part),
             Kept::OnBase(kept) => join_on_base(kept, above, part),
         }
     }
 
     /// Whether some settings meet the participants, as long as more may come. It takes no memory.
-    pub(crate) fn is_met(&self, platform: &Platform, base: Option<&Base>) -> bool
-        ensures { (nodes : List NodeFacts) (ms : List Member) → IsKeptOf platform.now nodes
-            (option_map (λ b. b.now) base.entry) self.now (participants ms)
-            → IsTrue result ↔ ((t : Settled) × MeetsLooselyFor platform.now
-            (option_map (terms_of nodes) (option_map (λ b. b.now) base.entry)) ms t) }
+    pub(crate) fn is_met(&self, subject: &Subject<'_>) -> bool
+        ensures { (ms : List Member) → IsKeptFor subject.now self.now (participants ms)
+            → IsTrue result ↔ ((t : Settled) × MeetsSoFar subject.now ms t) }
     {
         match self {
-            Kept::Sum(sum) => sum.ask(platform, false).is_ok(),
+            Kept::Sum(sum) => sum.ask(subject.platform(), false).is_ok(),
             Kept::OnBase(kept) => {
-                match base {
+                match subject.base() {
                     Some(base) => kept.suits(&base.settings()),
                     None => false,
                 }
@@ -131,18 +109,15 @@ impl Kept {
     /// none meet them. It takes no memory.
     // In line, a caller that asks only whether there are any copies no settings.
     #[inline(always)]
-    pub(crate) fn best(&self, platform: &Platform, base: Option<&Base>) -> Option<Settings>
-        ensures { (nodes : List NodeFacts) (ms : List Member) → IsKeptOf platform.now nodes
-            (option_map (λ b. b.now) base.entry) self.now (participants ms) → MatchOption result
-            ((t : Settled) → ¬ (MeetsFor platform.now
-            (option_map (terms_of nodes) (option_map (λ b. b.now) base.entry)) ms t))
-            (IsBestFor platform.now
-            (option_map (terms_of nodes) (option_map (λ b. b.now) base.entry)) ms) }
+    pub(crate) fn best(&self, subject: &Subject<'_>) -> Option<Settings>
+        ensures { (ms : List Member) → IsKeptFor subject.now self.now (participants ms)
+            → MatchOption result ((t : Settled) → ¬ (MeetsOf subject.now ms t))
+            (IsBestOf subject.now ms) }
     {
         match self {
-            Kept::Sum(sum) => sum.best_settings(platform, true).ok(),
+            Kept::Sum(sum) => sum.best_settings(subject.platform(), true).ok(),
             Kept::OnBase(kept) => {
-                let settings = base?.settings();
+                let settings = subject.base()?.settings();
                 if kept.suits(&settings) {
                     Some(settings)
                 } else {
@@ -154,30 +129,27 @@ impl Kept {
 
     /// Whether there are best settings for the participants, who are all
     /// that there are. It takes no memory.
-    pub(crate) fn has_best(&self, platform: &Platform, base: Option<&Base>) -> bool
+    pub(crate) fn has_best(&self, subject: &Subject<'_>) -> bool
         ensures { (best : Option Settled) × (result ≡ is_some best)
-            × ((nodes : List NodeFacts) (ms : List Member) → IsKeptOf platform.now nodes
-            (option_map (λ b. b.now) base.entry) self.now (participants ms) → MatchOption best
-            ((t : Settled) → ¬ (MeetsFor platform.now
-            (option_map (terms_of nodes) (option_map (λ b. b.now) base.entry)) ms t))
-            (IsBestFor platform.now
-            (option_map (terms_of nodes) (option_map (λ b. b.now) base.entry)) ms)) }
+            × ((ms : List Member) → IsKeptFor subject.now self.now (participants ms)
+            → MatchOption best ((t : Settled) → ¬ (MeetsOf subject.now ms t))
+            (IsBestOf subject.now ms)) }
     {
-        self.best(platform, base).is_some()
+        self.best(subject).is_some()
     }
 }
 
 /// Joins a sum of the participants above and a share.
-fn join_sum(sum: &mut Sum, platform: &Platform, above: &Kept, part: &Part)
+fn join_sum(sum: &mut Sum, subject: &Subject<'_>, above: &Kept, part: &Part)
     requires { HaveRoom above.now part.now }
-    ensures { (nodes : List NodeFacts) (base : Option BaseFacts) (others ps qs : List Participant)
-        → IsKeptOf platform.now nodes base (kept_as.Sum sum.old) others
-        → IsKeptOf platform.now nodes base above.now ps → IsPart platform.now base part.now qs
-        → IsKeptOf platform.now nodes base (kept_as.Sum sum.new) (ps ++ qs) }
+    ensures { (others ps qs : List Participant)
+        → IsKeptFor subject.now (kept_as.Sum sum.old) others
+        → IsKeptFor subject.now above.now ps → IsPartFor subject.now part.now qs
+        → IsKeptFor subject.now (kept_as.Sum sum.new) (ps ++ qs) }
 {
     if let Kept::Sum(above) = above {
         if let Part::Share(share) = part {
-            sum.join_of(platform, above, share);
+            sum.join_of(subject.platform(), above, share);
         }
     }
 }
@@ -185,11 +157,10 @@ fn join_sum(sum: &mut Sum, platform: &Platform, above: &Kept, part: &Part)
 /// Joins how the participants above take a base, and those of a part.
 fn join_on_base(kept: &mut OnBase, above: &Kept, part: &Part)
     requires { HaveRoom above.now part.now }
-    ensures { (platform : PlatformFacts) (nodes : List NodeFacts) (base : Option BaseFacts)
-        (others ps qs : List Participant)
-        → IsKeptOf platform nodes base (kept_as.OnBase kept.old) others
-        → IsKeptOf platform nodes base above.now ps → IsPart platform base part.now qs
-        → IsKeptOf platform nodes base (kept_as.OnBase kept.new) (ps ++ qs) }
+    ensures { (m : Matter) (others ps qs : List Participant)
+        → IsKeptFor m (kept_as.OnBase kept.old) others
+        → IsKeptFor m above.now ps → IsPartFor m part.now qs
+        → IsKeptFor m (kept_as.OnBase kept.new) (ps ++ qs) }
 {
     if let Kept::OnBase(above) = above {
         if let Part::OnBase(part) = part {

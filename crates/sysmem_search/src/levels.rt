@@ -1,24 +1,18 @@
 //! What a search keeps at each prefix from no choice on to where it stands.
 
-ghost use Rattle.std.specs.Prelude.{◌≡◌, ◌≢◌, ◌<◌, ◌≤◌, ◌+◌, ◌++◌, ℕ, List, [], Option, Some, IfOk, IsSomeAnd, OnOk, length, option_map, slice_get};
-ghost use Rattle.verdict_claims.specs.Base.{BaseFacts, IsGivenBase};
+ghost use Rattle.std.specs.Prelude.{◌≡◌, ◌≢◌, ◌<◌, ◌≤◌, ◌+◌, ◌++◌, ℕ, List, [], Option, Some, IfOk, IsSomeAnd, OnOk, length, slice_get};
 ghost use Rattle.sysmem_sanitise.specs.Participant.{Participant};
-ghost use Rattle.sysmem_search.specs.Kept.{IsKeptOf, IsPart, HaveRoom};
-ghost use Rattle.sysmem_search.specs.Standing.{AreMade, AreParts, IsLevel, IsSlot};
+ghost use Rattle.sysmem_search.specs.Kept.{IsKeptFor, IsPartFor, HaveRoom};
+ghost use Rattle.sysmem_search.specs.Standing.{AreMade, AreParts, IsLevel, IsSlot, LaysOut};
 ghost use Rattle.sysmem_search.specs.declared.kept.Part.{Part as APart};
 ghost use Rattle.sysmem_search.specs.declared.levels.Level.{Level as ALevel};
-ghost use Rattle.sysmem_tree.specs.Domain.{HasDomain};
-ghost use Rattle.sysmem_tree.specs.Layout.{IsLayout};
-ghost use Rattle.sysmem_tree.specs.Node.{NodeFacts};
 ghost use Rattle.sysmem_tree.specs.OpenGroups.{HasChild, HoldsNodes, share_of};
-ghost use Rattle.sysmem_tree.specs.Shape.{by_number, forest_of};
 
 use crate::kept::{Kept, Part};
 use crate::settling::add_settled;
-use std::alloc::{AllocError, Global};
-use sysmem_sanitise::Platform;
-use sysmem_tree::{ChildPlace, DomainId, GroupPlace, Layout, MOST_NODES, Tree};
-use verdict_claims::Base;
+use conflict_finding::Subject;
+use std::alloc::AllocError;
+use sysmem_tree::{ChildPlace, GroupPlace, Layout, MOST_NODES};
 
 /// What is kept at a prefix. Those of longer prefixes are written over,
 /// so that a visit takes no memory.
@@ -34,7 +28,7 @@ pub(crate) struct Level {
 /// part and leaves this group open.
 pub(crate) fn join_level(
     levels: &mut Vec<Level>,
-    platform: &Platform,
+    subject: &Subject<'_>,
     depth: usize,
     part: &Part,
     group: Option<GroupPlace>,
@@ -44,48 +38,32 @@ pub(crate) fn join_level(
         → HaveRoom above.kept part.now }
     ensures same { (k : ℕ) → k ≢ depth + 1
         → slice_get levels.new.items k ≡ slice_get levels.old.items k }
-    ensures joined { (nodes : List NodeFacts) (base : Option BaseFacts) (ps qs : List Participant)
-        (above old : ALevel)
+    ensures joined { (ps qs : List Participant) (above old : ALevel)
         → slice_get levels.old.items depth ≡ Some above
         → slice_get levels.old.items (depth + 1) ≡ Some old
-        → IsKeptOf platform.now nodes base above.kept ps → IsPart platform.now base part.now qs
-        → (others : List Participant) → IsKeptOf platform.now nodes base old.kept others
+        → IsKeptFor subject.now above.kept ps → IsPartFor subject.now part.now qs
+        → (others : List Participant) → IsKeptFor subject.now old.kept others
         → IsSomeAnd (slice_get levels.new.items (depth + 1)) (λ level. (level.group ≡ group)
-        × IsKeptOf platform.now nodes base level.kept (ps ++ qs)) }
+        × IsKeptFor subject.now level.kept (ps ++ qs)) }
 {
     let (above, below) = levels.split_at_mut(depth + 1);
     let level = &mut below[0];
-    level.kept.join_of(platform, &above[depth].kept, part);
+    level.kept.join_of(subject, &above[depth].kept, part);
     level.group = group;
 }
 
 /// The level of no choice.
-pub(crate) fn first_level(
-    alloc: Global,
-    platform: &Platform,
-    tree: &Tree,
-    domain: DomainId,
-    base: Option<&Base>,
-    layout: &Layout,
-) -> Result<Level, AllocError>
-    requires domain { HasDomain tree.now.nodes domain }
-    requires base { IsGivenBase platform.now tree.now.nodes domain (option_map (λ b. b.now) base) }
-    requires lays { IsLayout layout.now (forest_of by_number tree.now.nodes domain []) }
-    requires nodes { HoldsNodes layout.now tree.now.nodes }
-    ensures { IfOk result (λ level. IsLevel (record {
-      platform = platform.now;
-      nodes = tree.now.nodes;
-      domain = domain;
-      base = option_map (λ b. b.now) base.entry;
-    }) layout.now [] level) }
+pub(crate) fn first_level(subject: &Subject<'_>, layout: &Layout) -> Result<Level, AllocError>
+    requires { LaysOut subject.now layout.now }
+    ensures { IfOk result (λ level. IsLevel subject.now layout.now [] level) }
 {
-    tree.recall_sound();
-    let none = Kept::new(alloc, platform, tree, domain, base)?;
-    let mut part = Part::new(alloc, platform, base)?;
+    subject.recall();
+    let none = Kept::new(subject)?;
+    let mut part = Part::new(subject)?;
     let walk = layout.settled_first();
-    add_settled(&mut part, platform, tree, base, layout, walk);
-    let mut kept = Kept::new(alloc, platform, tree, domain, base)?;
-    kept.join_of(platform, &none, &part);
+    add_settled(&mut part, subject, layout, walk);
+    let mut kept = Kept::new(subject)?;
+    kept.join_of(subject, &none, &part);
     let group = layout.first_open();
     Ok(Level { group, kept })
 }
@@ -94,26 +72,19 @@ pub(crate) fn first_level(
 pub(crate) fn reserve_level(
     levels: &mut Vec<Level>,
     depth: usize,
-    alloc: Global,
-    platform: &Platform,
-    tree: &Tree,
-    domain: DomainId,
-    base: Option<&Base>,
+    subject: &Subject<'_>,
 ) -> Result<(), AllocError>
-    requires base { IsGivenBase platform.now tree.now.nodes domain (option_map (λ b. b.now) base) }
     requires there { depth < length levels.old.items }
     requires small { depth ≤ MOST_NODES }
     ensures there { OnOk result (depth + 1 < length levels.new.items) }
     ensures kept { (k : ℕ) → k ≤ depth
         → slice_get levels.new.items k ≡ slice_get levels.old.items k }
-    ensures made { AreMade platform.now tree.now.nodes
-        (option_map (λ b. b.now) base.entry) levels.old.items → AreMade platform.now tree.now.nodes
-        (option_map (λ b. b.now) base.entry) levels.new.items }
+    ensures made { AreMade subject.now levels.old.items → AreMade subject.now levels.new.items }
 {
     if depth + 1 < levels.len() {
         return Ok(());
     }
-    let kept = Kept::new(alloc, platform, tree, domain, base)?;
+    let kept = Kept::new(subject)?;
     levels.push(Level { group: None, kept })?;
     Ok(())
 }
@@ -148,19 +119,15 @@ fn reserve_slot(parts: &mut Vec<Option<Part>>, slot: usize) -> Result<(), AllocE
 pub(crate) fn keep_part(
     parts: &mut Vec<Option<Part>>,
     child: ChildPlace,
-    alloc: Global,
-    platform: &Platform,
-    tree: &Tree,
-    base: Option<&Base>,
+    subject: &Subject<'_>,
     layout: &Layout,
 ) -> Result<(), AllocError>
     requires within { child < MOST_NODES }
     requires child { HasChild layout.now child }
     requires few { length (share_of layout.now child) ≤ MOST_NODES }
-    requires nodes { HoldsNodes layout.now tree.now.nodes }
-    ensures parts { AreParts platform.now tree.now.nodes (option_map (λ b. b.now) base.entry)
-        layout.now parts.old.items → AreParts platform.now tree.now.nodes
-        (option_map (λ b. b.now) base.entry) layout.now parts.new.items }
+    requires nodes { HoldsNodes layout.now subject.now.nodes }
+    ensures parts { AreParts subject.now layout.now parts.old.items
+        → AreParts subject.now layout.now parts.new.items }
     ensures there { OnOk result ((slot : ℕ) → IsSlot child slot → (part : APart)
         × (slice_get parts.new.items slot ≡ Some (Some part))) }
 {
@@ -169,7 +136,7 @@ pub(crate) fn keep_part(
     if parts[slot].is_some() {
         return Ok(());
     }
-    read_part(parts, slot, child, alloc, platform, tree, base, layout)
+    read_part(parts, slot, child, subject, layout)
 }
 
 /// Reads what the choice of a child settles, and keeps it in its slot. A visit that needn't read it
@@ -180,10 +147,7 @@ fn read_part(
     parts: &mut Vec<Option<Part>>,
     slot: usize,
     child: ChildPlace,
-    alloc: Global,
-    platform: &Platform,
-    tree: &Tree,
-    base: Option<&Base>,
+    subject: &Subject<'_>,
     layout: &Layout,
 ) -> Result<(), AllocError>
     requires within { child < MOST_NODES }
@@ -191,17 +155,16 @@ fn read_part(
     requires room { slot < length parts.old.items }
     requires child { HasChild layout.now child }
     requires few { length (share_of layout.now child) ≤ MOST_NODES }
-    requires nodes { HoldsNodes layout.now tree.now.nodes }
-    ensures parts { AreParts platform.now tree.now.nodes (option_map (λ b. b.now) base.entry)
-        layout.now parts.old.items → AreParts platform.now tree.now.nodes
-        (option_map (λ b. b.now) base.entry) layout.now parts.new.items }
+    requires nodes { HoldsNodes layout.now subject.now.nodes }
+    ensures parts { AreParts subject.now layout.now parts.old.items
+        → AreParts subject.now layout.now parts.new.items }
     ensures there { OnOk result ((own : ℕ) → IsSlot child own → (part : APart)
         × (slice_get parts.new.items own ≡ Some (Some part))) }
 {
-    parts[slot] = Some(Part::new(alloc, platform, base)?);
+    parts[slot] = Some(Part::new(subject)?);
     if let Some(part) = &mut parts[slot] {
         let walk = layout.settled_with(child);
-        add_settled(part, platform, tree, base, layout, walk);
+        add_settled(part, subject, layout, walk);
     }
     Ok(())
 }

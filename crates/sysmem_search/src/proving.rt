@@ -7,11 +7,12 @@ ghost use Rattle.verdict_claims.specs.Verdict.{IsOptimalIn};
 ghost use Rattle.verdict_claims.specs.declared.certificate.Proof.TheVariants as proves;
 ghost use Rattle.verdict_claims.specs.declared.verdict.Verdict.TheVariants as verdicts;
 ghost use Rattle.sysmem_search.specs.Cut.{IsCutProof};
+ghost use Rattle.sysmem_search.specs.Question.{IsOptimalOf, IsProofOf};
 ghost use Rattle.sysmem_tree.specs.Domain.{HasDomain};
 
 use crate::question::Question;
 use crate::refuting::{refute_earlier, refute_from};
-use conflict_finding::lines_before;
+use conflict_finding::{Subject, lines_before};
 use std::alloc::{AllocError, Global};
 use sysmem_sanitise::Platform;
 use sysmem_tree::layout_laws::few_choices;
@@ -47,78 +48,42 @@ pub fn prove(
       base = option_map (λ b. b.now) base.entry;
     }) verdict.now proof) }
 {
+    let subject = Subject::new(alloc, platform, tree, domain, base);
     match verdict {
-        Verdict::Chosen(chosen) => {
-            let certificate = certify(alloc, platform, tree, domain, base, chosen)?;
-            Ok(Proof::Choice(certificate))
-        }
-        Verdict::IntersectionEmpty => {
-            let refutation = refute(alloc, platform, tree, domain, base)?;
-            Ok(Proof::Empty(refutation))
-        }
+        Verdict::Chosen(chosen) => Ok(Proof::Choice(certify(&subject, chosen)?)),
+        Verdict::IntersectionEmpty => Ok(Proof::Empty(refute(&subject)?)),
         Verdict::TooMany | Verdict::Failed | Verdict::NoMemory => Ok(Proof::Nothing),
     }
 }
 
 /// What shows that a choice is the first that can be met, and its settings the best.
-fn certify(
-    alloc: Global,
-    platform: &Platform,
-    tree: &Tree,
-    domain: DomainId,
-    base: Option<&Base>,
-    chosen: &Chosen,
-) -> Result<Certificate, AllocError>
-    requires domain { HasDomain tree.now.nodes domain }
-    requires base { IsGivenBase platform.now tree.now.nodes domain
-        (option_map (λ b. b.now) base) }
-    requires optimal { IsOptimalIn platform.now tree.now.nodes domain
-        (option_map (λ b. b.now) base) (verdicts.Chosen chosen.now) }
+fn certify(subject: &Subject<'_>, chosen: &Chosen) -> Result<Certificate, AllocError>
+    requires { IsOptimalOf subject.now (verdicts.Chosen chosen.now) }
     ensures proved { IfOk result (λ certificate.
-        IsProofIn platform.now tree.now.nodes domain (option_map (λ b. b.now) base.entry)
-        (verdicts.Chosen chosen.now) (proves.Choice certificate)) }
-    ensures cut { IfOk result (λ certificate. IsCutProof (record {
-      platform = platform.now;
-      nodes = tree.now.nodes;
-      domain = domain;
-      base = option_map (λ b. b.now) base.entry;
-    }) (verdicts.Chosen chosen.now) (proves.Choice certificate)) }
+        IsProofOf subject.now (verdicts.Chosen chosen.now) (proves.Choice certificate)) }
+    ensures cut { IfOk result (λ certificate.
+        IsCutProof subject.now (verdicts.Chosen chosen.now) (proves.Choice certificate)) }
 {
     few_choices();
-    tree.recall_sound();
-    let mut question = Question::new(alloc, platform, tree, domain, base)?;
+    subject.recall();
+    let mut question = Question::new(subject)?;
     let selection = chosen.selection();
     let settings = chosen.settings();
-    let earlier = refute_earlier(alloc, &mut question, selection)?;
-    let lines = lines_before(alloc, platform, tree, domain, base, selection, &settings)?;
+    let earlier = refute_earlier(subject.alloc(), &mut question, selection)?;
+    let lines = lines_before(subject, selection, &settings)?;
     Ok(Certificate::new(earlier, lines.offers, lines.places))
 }
 
 /// What shows that no settings meet any selection of a domain.
-fn refute(
-    alloc: Global,
-    platform: &Platform,
-    tree: &Tree,
-    domain: DomainId,
-    base: Option<&Base>,
-) -> Result<Refutation, AllocError>
-    requires domain { HasDomain tree.now.nodes domain }
-    requires base { IsGivenBase platform.now tree.now.nodes domain
-        (option_map (λ b. b.now) base) }
-    requires optimal { IsOptimalIn platform.now tree.now.nodes domain
-        (option_map (λ b. b.now) base) verdicts.IntersectionEmpty }
+fn refute(subject: &Subject<'_>) -> Result<Refutation, AllocError>
+    requires { IsOptimalOf subject.now verdicts.IntersectionEmpty }
     ensures proved { IfOk result (λ refutation.
-        IsProofIn platform.now tree.now.nodes domain (option_map (λ b. b.now) base.entry)
-        verdicts.IntersectionEmpty (proves.Empty refutation)) }
-    ensures cut { IfOk result (λ refutation. IsCutProof (record {
-      platform = platform.now;
-      nodes = tree.now.nodes;
-      domain = domain;
-      base = option_map (λ b. b.now) base.entry;
-    }) verdicts.IntersectionEmpty (proves.Empty refutation)) }
+        IsProofOf subject.now verdicts.IntersectionEmpty (proves.Empty refutation)) }
+    ensures cut { IfOk result (λ refutation.
+        IsCutProof subject.now verdicts.IntersectionEmpty (proves.Empty refutation)) }
 {
-    let mut question = Question::new(alloc, platform, tree, domain, base)?;
-    let mut items = Vec::new(alloc);
+    let mut question = Question::new(subject)?;
+    let mut items = Vec::new(subject.alloc());
     refute_from(&mut question, &mut items)?;
     Ok(Refutation::new(items))
 }

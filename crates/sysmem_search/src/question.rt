@@ -14,26 +14,21 @@ ghost use Rattle.sysmem_tree.specs.Selection.{IsPrefix, after};
 
 use crate::kept::Part;
 use crate::levels::{Level, first_level, join_level, keep_part, reserve_level, slot_of};
-use conflict_finding::{Learnt, find_conflict_as};
-use std::alloc::{AllocError, Global};
+use conflict_finding::{Learnt, Subject, find_conflict_as};
+use std::alloc::AllocError;
 use std::marker::Model;
 use sysmem_merge::Settings;
 use sysmem_merge::laws::sums_in_any_order;
-use sysmem_sanitise::Platform;
 use sysmem_tree::layout_laws::{choice_settles_share, none_open_is_selection};
-use sysmem_tree::{DomainId, Layout, Prefix, Tree};
-use verdict_claims::{Base, Conflict};
+use sysmem_tree::{Layout, Prefix};
+use verdict_claims::Conflict;
 
-/// A domain of a tree on a platform, with its base where it is an attached one, and a prefix of
-/// choices at which a search stands. What a choice settles is read once, when the choice is first
-/// made; each prefix on the way is kept by what its participants ask together.
+/// What a search is about, and a prefix of choices at which it stands. What a choice settles is read
+/// once, when the choice is first made; each prefix on the way is kept by what its participants ask
+/// together.
 #[derive(Drop)]
 pub(crate) struct Question<'a> {
-    alloc: Global,
-    platform: &'a Platform,
-    tree: &'a Tree,
-    domain: DomainId,
-    base: Option<&'a Base>,
+    subject: &'a Subject<'a>,
     layout: Layout,
     prefix: Prefix,
     /// By the slot of the child that is chosen; none before the first choice.
@@ -45,73 +40,34 @@ pub(crate) struct Question<'a> {
 }
 
 impl<'a> Model for Question<'a> {
-    ghost use Rattle.std.specs.Prelude.{option_map};
     ghost use Rattle.conflict_finding.specs.Learnt.{IsLearnt};
     ghost use Rattle.sysmem_search.specs.Standing.{Standing, StandsAt};
-    ghost use Rattle.sysmem_tree.specs.Domain.{HasDomain, IsSoundTree};
 
     ghost Value = { Standing };
 
-    ghost view = { λ q. record {
-      matter = record {
-        platform = q.platform.now;
-        nodes = q.tree.now.nodes;
-        domain = q.domain;
-        base = option_map (λ b. b.now) q.base;
-      };
-      choices = q.prefix;
-    } };
+    ghost view = { λ q. record { matter = q.subject.now; choices = q.prefix } };
 
-    ghost invariant = { λ q. HasDomain q.tree.now.nodes q.domain × IsSoundTree q.tree.now
-        × StandsAt (record {
-          platform = q.platform.now;
-          nodes = q.tree.now.nodes;
-          domain = q.domain;
-          base = option_map (λ b. b.now) q.base;
-        }) q.layout q.parts.items q.levels.items q.prefix
-        × IsLearnt q.tree.now.nodes q.platform.now.heaps q.learnt };
+    ghost invariant = { λ q. StandsAt q.subject.now q.layout q.parts.items q.levels.items q.prefix
+        × IsLearnt q.subject.now.nodes q.subject.now.platform.heaps q.learnt };
 }
 
 impl<'a> Question<'a> {
-    ghost use Rattle.verdict_claims.specs.Base.{IsGivenBase};
-    ghost use Rattle.sysmem_tree.specs.Domain.{HasDomain};
-
-    /// Of this domain of the tree, at no choice.
-    pub(crate) fn new(
-        alloc: Global,
-        platform: &'a Platform,
-        tree: &'a Tree,
-        domain: DomainId,
-        base: Option<&'a Base>,
-    ) -> Result<Question<'a>, AllocError>
-        requires domain { HasDomain tree.now.nodes domain }
-        requires base { IsGivenBase platform.now tree.now.nodes domain
-            (option_map (λ b. b.now) base) }
-        ensures { IfOk result (λ question. question ≡ record {
-          matter = record {
-            platform = platform.now;
-            nodes = tree.now.nodes;
-            domain = domain;
-            base = option_map (λ b. b.now) base.entry;
-          };
-          choices = [];
-        }) }
+    /// Of this subject, at no choice.
+    pub(crate) fn new(subject: &'a Subject<'a>) -> Result<Question<'a>, AllocError>
+        ensures { IfOk result (λ question. question
+            ≡ record { matter = subject.now; choices = [] }) }
     {
-        tree.recall_sound();
-        let layout = tree.layout(domain);
-        let first = first_level(alloc, platform, tree, domain, base, &layout)?;
-        let levels = Vec::from_array(alloc, [first])?;
+        subject.recall();
+        let layout = subject.layout();
+        let first = first_level(subject, &layout)?;
+        let levels = Vec::from_array(subject.alloc(), [first])?;
         Ok(Question {
-            alloc,
-            platform,
-            tree,
-            domain,
-            base,
+            subject,
             layout,
             prefix: Prefix::new(),
-            parts: Vec::new(alloc),
+            parts: Vec::new(subject.alloc()),
             levels,
-            learnt: Learnt::new(alloc),
+            learnt: Learnt::new(subject.alloc()),
         })
     }
 
@@ -151,7 +107,7 @@ impl<'a> Question<'a> {
             (λ d. IsTrue result ↔ SomeMeet (MeetsSoFar self.now.matter) d) }
     {
         let level = &self.levels[self.prefix.choices().len()];
-        level.kept.is_met(self.platform, self.base)
+        level.kept.is_met(self.subject)
     }
 
     /// The best settings for the participants of a selection; `None` where
@@ -162,7 +118,7 @@ impl<'a> Question<'a> {
             (IsBestOf self.now.matter (settled d))) }
     {
         let level = &self.levels[self.prefix.choices().len()];
-        level.kept.best(self.platform, self.base)
+        level.kept.best(self.subject)
     }
 
     /// Whether there are best settings for the participants of a selection. It takes no memory.
@@ -173,7 +129,7 @@ impl<'a> Question<'a> {
             (IsBestOf self.now.matter (settled d))) }
     {
         let level = &self.levels[self.prefix.choices().len()];
-        level.kept.has_best(self.platform, self.base)
+        level.kept.has_best(self.subject)
     }
 
     /// The conflict of the participants that the choices settle which comes
@@ -192,12 +148,8 @@ impl<'a> Question<'a> {
     {
         let whole = self.children().is_none();
         let found = find_conflict_as(
-            self.alloc,
-            self.platform,
-            self.tree,
-            self.domain,
+            self.subject,
             &self.layout,
-            self.base,
             &self.prefix,
             whole,
             &mut self.learnt,
@@ -242,12 +194,8 @@ impl<'a> Question<'a> {
     {
         self.prefix.push(choice);
         let found = find_conflict_as(
-            self.alloc,
-            self.platform,
-            self.tree,
-            self.domain,
+            self.subject,
             &self.layout,
-            self.base,
             &self.prefix,
             true,
             &mut self.learnt,
@@ -275,29 +223,13 @@ impl<'a> Question<'a> {
             return Ok(());
         };
         let child = self.layout.child_at(group, choice);
-        keep_part(
-            &mut self.parts,
-            child,
-            self.alloc,
-            self.platform,
-            self.tree,
-            self.base,
-            &self.layout,
-        )?;
-        reserve_level(
-            &mut self.levels,
-            depth,
-            self.alloc,
-            self.platform,
-            self.tree,
-            self.domain,
-            self.base,
-        )?;
+        keep_part(&mut self.parts, child, self.subject, &self.layout)?;
+        reserve_level(&mut self.levels, depth, self.subject)?;
         let Some(part) = &self.parts[slot_of(child)] else {
             return Ok(());
         };
         let next = self.layout.open_after(child);
-        join_level(&mut self.levels, self.platform, depth, part, next);
+        join_level(&mut self.levels, self.subject, depth, part, next);
         self.prefix.push(choice);
         Ok(())
     }

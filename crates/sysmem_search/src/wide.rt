@@ -13,8 +13,8 @@ use crate::deciding::{Found, search};
 use crate::gate::Gate;
 use crate::question::Question;
 use crate::searching::search_from;
+use conflict_finding::Subject;
 use std::alloc::{AllocError, Global};
-use std::marker::Model;
 use std::thread;
 use std::thread::Threads;
 use sysmem_merge::Settings;
@@ -25,72 +25,6 @@ use verdict_claims::{Base, Chosen, MOST_SELECTIONS, Verdict};
 
 /// How many workers share a search at most.
 pub const MOST_WORKERS: usize = 64;
-
-/// A domain of a tree on a platform, with its base where it is an attached one.
-#[derive(Drop)]
-struct Subject<'a> {
-    alloc: Global,
-    platform: &'a Platform,
-    tree: &'a Tree,
-    domain: DomainId,
-    base: Option<&'a Base>,
-}
-
-impl<'a> Model for Subject<'a> {
-    ghost use Rattle.std.specs.Prelude.{option_map};
-    ghost use Rattle.verdict_claims.specs.Base.{IsGivenBase};
-    ghost use Rattle.verdict_claims.specs.Matter.{Matter};
-    ghost use Rattle.sysmem_tree.specs.Domain.{HasDomain};
-
-    ghost Value = { Matter };
-
-    ghost view = { λ s. record {
-      platform = s.platform.now;
-      nodes = s.tree.now.nodes;
-      domain = s.domain;
-      base = option_map (λ b. b.now) s.base;
-    } };
-
-    ghost invariant = { λ s. HasDomain s.tree.now.nodes s.domain
-        × IsGivenBase s.platform.now s.tree.now.nodes s.domain (option_map (λ b. b.now) s.base) };
-}
-
-impl<'a> Subject<'a> {
-    /// This domain of the tree.
-    fn new(
-        alloc: Global,
-        platform: &'a Platform,
-        tree: &'a Tree,
-        domain: DomainId,
-        base: Option<&'a Base>,
-    ) -> Subject<'a>
-        requires domain { HasDomain tree.now.nodes domain }
-        requires base { IsGivenBase platform.now tree.now.nodes domain
-            (option_map (λ b. b.now) base) }
-        ensures { result ≡ record {
-          platform = platform.now;
-          nodes = tree.now.nodes;
-          domain = domain;
-          base = option_map (λ b. b.now) base.entry;
-        } }
-    {
-        Subject {
-            alloc,
-            platform,
-            tree,
-            domain,
-            base,
-        }
-    }
-
-    /// What a search asks of it, at no choice.
-    fn question(&self) -> Result<Question<'a>, AllocError>
-        ensures { IfOk result (λ question. question
-            ≡ record { matter = self.now; choices = [] }) }
-    {
-        Question::new(self.alloc, self.platform, self.tree, self.domain, self.base)
-    }
-}
 
 /// What was found among some choices for the first group.
 #[derive(Drop)]
@@ -182,7 +116,7 @@ fn search_share<G: Gate>(
 {
     let from = first_choice(workers, many, worker);
     let to = first_choice(workers, many, worker + 1);
-    let mut question = subject.question()?;
+    let mut question = Question::new(subject)?;
     let mut visits = 0;
     for choice in from..to {
         if let Some(settings) = search_choice(&mut question, gate, &mut visits, choice)? {
@@ -220,7 +154,7 @@ fn search_shares<G: Gate + Sync, R: Threads + Sync>(
             (share_start workers many worker) (share_start workers many (worker + 1))
             share.chosen) }
     { search_share(subject, gate, workers, many, worker) };
-    thread::map_indices(rt, subject.alloc, workers, &work)
+    thread::map_indices(rt, subject.alloc(), workers, &work)
 }
 
 /// What was found in all shares, one behind another.
@@ -250,7 +184,7 @@ fn search_together<G: Gate + Sync, R: Threads + Sync>(
     requires few { workers ≤ MOST_WORKERS }
     ensures { IfOk result (λ found. IfSome found (λ all. IsFirstOfAll subject.now all.chosen)) }
 {
-    let question = subject.question()?;
+    let question = Question::new(subject)?;
     let Some(many) = question.children() else {
         return Ok(None);
     };

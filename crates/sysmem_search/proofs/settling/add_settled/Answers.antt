@@ -1,9 +1,9 @@
 -- One node more of the walk.
-use Rattle.std.proofs.Common.{◌≡◌, [], ◌∷◌, ◌++◌, length, length-append, refl, sym, ◌∙◌, ap, subst, arith}
-use Rattle.std.specs.Prelude.{option_map}
+use Rattle.std.proofs.Common.{◌≡◌, [], ◌∷◌, ◌++◌, length, slice_get, length-append, refl, sym, ◌∙◌, ap, subst, arith}
 use Rattle.std.specs.List.{cons_option}
+use Rattle.std.specs.Prelude.{IfSome, option_map}
 use Rattle.std.proofs.lemmas.List.Elements.{filter_map-append}
-use Rattle.sysmem_search.specs.Kept.{IsPart}
+use Rattle.sysmem_search.specs.Kept.{IsPartFor}
 use Rattle.verdict_claims.specs.Asked.{asks_at, asked_in}
 use Rattle.sysmem_search.proofs.Keeping.{has_room}
 use Rattle.sysmem_search.proofs.Taking.{told, few_asked_of}
@@ -25,18 +25,19 @@ loop-step-init c = (
 pub add_asked-requires : goal.add_asked-requires
 add_asked-requires c =
     let (taken, few, is, walk) = c.loop-step.invariant in
-    has_room c.args.platform.now (option_map (λ b. b.now) c.args.base) c.loop-step.part (asked_in c.args.tree.now.nodes taken) is
-    (omega (arith, few_asked_of c.args.tree.now.nodes taken, few, c.loop-step-test.true))
+    let m = c.args.subject.now in
+    has_room m.platform m.base c.loop-step.part (asked_in m.nodes taken) is (omega (arith, few_asked_of m.nodes taken, few, c.loop-step-test.true))
 
 pub loop-step-preserved : goal.loop-step-preserved
 loop-step-preserved c =
     let (taken, few, is, walk) = c.loop-step.invariant in
-    let nodes = c.args.tree.now.nodes in
+    let m = c.args.subject.now in
+    let nodes = m.nodes in
     let node = c.in-Some.node in
-    let asked = told nodes node _ (c.in-Some.ensures.there nodes c.requires.there) c.constraints_of.ensures in
+    let asked = told nodes node _ (c.in-Some.ensures.there nodes c.requires.there) (subst (λ xs. IfSome (slice_get xs node) (λ n. option_map (λ asked. asked.now) c.constraints_of.result ≡ n.constraints)) c.tree-tree.ensures c.constraints_of.ensures) in
     let more : asked_in nodes (taken ++ node ∷ []) ≡ asked_in nodes taken ++ cons_option (asks_at nodes node) [] = filter_map-append (asks_at nodes) taken (node ∷ []) in (
       taken ++ node ∷ [],
       omega (arith, few, length-append taken (node ∷ [])),
-      subst (IsPart c.args.platform.now (option_map (λ b. b.now) c.args.base) c.add_asked.new.part) (ap (λ o. asked_in nodes taken ++ cons_option o []) asked ∙ sym more) (c.add_asked.ensures (asked_in nodes taken) is),
+      subst (IsPartFor m c.add_asked.new.part) (ap (λ o. asked_in nodes taken ++ cons_option o []) asked ∙ sym more) (c.add_asked.ensures (asked_in nodes taken) is),
       λ ns has. take_one c.args.layout.now [] taken c.loop-step.left c.next_settled.new.walk c.next_settled.result node c.loop-step._step ns (walk ns has) c.next_settled.ensures.next c.in-Some.is,
     )

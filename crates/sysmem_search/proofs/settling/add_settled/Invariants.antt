@@ -1,12 +1,11 @@
 -- What the nodes that were taken of the walk ask.
 use Rattle.std.proofs.Common.{ℕ, List, [], ◌≤◌, length}
-use Rattle.std.specs.Prelude.{option_map}
-use Rattle.sysmem_search.specs.Kept.{IsPart}
+use Rattle.sysmem_search.specs.Kept.{IsPartFor}
 use Rattle.verdict_claims.specs.Asked.{asked_in}
 use Rattle.sysmem_search.proofs.Walking.{IsTaken}
 use Rattle.sysmem_tree.specs.OpenGroups.{HasLeft}
 use Rattle.sysmem_search.proofs.settling.add_settled.Given as goal
 
 abbrev pub invariant-loop-step : goal.invariant-loop-step
-invariant-loop-step l = (taken : List ℕ) × (length taken ≤ l._step) × IsPart l.platform (option_map (λ b. b.now) l.base) l.part (asked_in l.tree.nodes taken)
+invariant-loop-step l = (taken : List ℕ) × (length taken ≤ l._step) × IsPartFor l.subject l.part (asked_in l.subject.nodes taken)
     × ((ns : List ℕ) → HasLeft l.layout l.fn.walk ns → IsTaken l.layout [] taken l.left l._step ns)

@@ -5,6 +5,6 @@ use Rattle.sysmem_search.proofs.wide.search_share.Given as goal
 
 abbrev pub invariant-loop-choice : goal.invariant-loop-choice
 invariant-loop-choice g l = record {
-  same : l.question ≡ record { matter = l.subject; choices = [] };
-  unmet : (c : ℕ) → l.from ≤ c → c < l.choice → IsUnmetAt l.subject c;
+  same : l.question ≡ record { matter = l.fn.subject; choices = [] };
+  unmet : (c : ℕ) → l.from ≤ c → c < l.choice → IsUnmetAt l.fn.subject c;
 }

@@ -1,12 +1,16 @@
 -- With a base the participant is asked how it takes that.
-use Rattle.std.proofs.Common.{[], ap, subst}
+use Rattle.std.proofs.Common.{[], ◌∷◌, ◌++◌, sym, ◌∙◌, ap, subst}
 use Rattle.std.specs.Prelude.{option_map}
-use Rattle.sysmem_search.specs.Kept.{IsPart}
+use Rattle.sysmem_search.specs.Kept.{IsPartFor, TakesBase}
 use Rattle.sysmem_search.proofs.Keeping.{part_taken, taken_part}
 use Rattle.sysmem_search.proofs.kept.Part.add.Goals as goal
 
 pub returns-in-Some : goal.returns-in-Some
 returns-in-Some c = λ ps is.
-    let some = ap (option_map (λ b. b.now)) c.in-Some.is in
-    taken_part c.args.platform.now _ c.in-Some.base.now c.settings.result c.add-in-Some.new.self _ some c.settings.ensures
-    (c.add-in-Some.ensures [] ps (part_taken c.args.platform.now _ c.in-Some.base.now c.settings.result c.in-OnBase.part ps some c.settings.ensures (subst (λ p. IsPart c.args.platform.now (option_map (λ b. b.now) c.args.base) p ps) c.in-OnBase.is is)))
+    let m = c.args.subject.now in
+    let base = c.in-Some.base.now in
+    let some = sym c.base.ensures ∙ ap (option_map (λ b. b.now)) c.in-Some.is in
+    let taken = part_taken m.platform m.base base c.settings.result c.in-OnBase.part ps some c.settings.ensures (subst (λ p. IsPartFor m p ps) c.in-OnBase.is is) in
+    taken_part m.platform m.base base c.settings.result c.add-in-Some.new.self _ some c.settings.ensures
+    (subst (λ p. TakesBase p c.settings.result [] c.add-in-Some.new.self (ps ++ c.args.asked.now ∷ [])) c.platform-in-Some.ensures
+    (c.add-in-Some.ensures [] ps (subst (λ p. TakesBase p c.settings.result [] c.in-OnBase.part ps) (sym c.platform-in-Some.ensures) taken)))

@@ -1,7 +1,7 @@
 -- Where no group is open behind a choice, the choices with it are a selection.
-use Rattle.std.proofs.Common.{◌≡◌, ◌∷◌, ◌++◌, [], Bool, true, false, not, Option, Some, None, length, is_some, refl, sym, subst}
+use Rattle.std.proofs.Common.{◌≡◌, ◌∷◌, ◌++◌, [], Bool, true, not, Option, Some, None, length, is_some, refl, sym, subst}
 use Rattle.std.specs.Prelude.{IfSome, option_map}
-use Rattle.verdict_claims.specs.Matter.{Matter, forest}
+use Rattle.verdict_claims.specs.Matter.{forest}
 use Rattle.sysmem_search.specs.Standing.{numbers}
 use Rattle.sysmem_search.proofs.AskedMembers.{root_there, children_told}
 use Rattle.sysmem_search.proofs.Entering.{level_at, none_next}
@@ -17,9 +17,9 @@ none_told (Some x) t is yes' = absurd (cc)
 
 pub child_at-child-requires : goal.child_at-child-requires
 child_at-child-requires c =
-    let m : Matter = record { platform = c.self.inside.platform.now; nodes = c.self.inside.tree.now.nodes; domain = c.self.inside.domain; base = option_map (λ b. b.now) c.self.inside.base } in
+    let m = c.self.inside.subject.now in
     let cs = c.self.inside.prefix in
-    let level = level_at m c.self.inside.layout c.self.inside.parts.items c.self.inside.levels.items c.choices.result.now cs c.index.result.now c.choices.ensures c.self.invariant.2 c.index.ensures in
+    let level = level_at m c.self.inside.layout c.self.inside.parts.items c.self.inside.levels.items c.choices.result.now cs c.index.result.now c.choices.ensures c.self.invariant.0 c.index.ensures in
     let shape_prefix = subst (λ s. IsPrefix (forest s.matter) (s.choices ++ c.args.choice ∷ [])) (sym c.self.view_is) c.requires in
     let prefix = prefix_of_numbers m.nodes m.domain (cs ++ c.args.choice ∷ []) shape_prefix in
     let first = subst (IsFirstOpen c.self.inside.layout (numbers m) cs) c.in-Some.is level.group in
@@ -27,9 +27,9 @@ child_at-child-requires c =
 
 pub open_after-requires : goal.open_after-requires
 open_after-requires c =
-    let m : Matter = record { platform = c.self.inside.platform.now; nodes = c.self.inside.tree.now.nodes; domain = c.self.inside.domain; base = option_map (λ b. b.now) c.self.inside.base } in
+    let m = c.self.inside.subject.now in
     let cs = c.self.inside.prefix in
-    let level = level_at m c.self.inside.layout c.self.inside.parts.items c.self.inside.levels.items c.choices.result.now cs c.index.result.now c.choices.ensures c.self.invariant.2 c.index.ensures in
+    let level = level_at m c.self.inside.layout c.self.inside.parts.items c.self.inside.levels.items c.choices.result.now cs c.index.result.now c.choices.ensures c.self.invariant.0 c.index.ensures in
     let shape_prefix = subst (λ s. IsPrefix (forest s.matter) (s.choices ++ c.args.choice ∷ [])) (sym c.self.view_is) c.requires in
     let prefix = prefix_of_numbers m.nodes m.domain (cs ++ c.args.choice ∷ []) shape_prefix in
     let first = subst (IsFirstOpen c.self.inside.layout (numbers m) cs) c.in-Some.is level.group in
@@ -37,14 +37,14 @@ open_after-requires c =
 
 pub returns : goal.returns
 returns c = λ last.
-    let m : Matter = record { platform = c.self.inside.platform.now; nodes = c.self.inside.tree.now.nodes; domain = c.self.inside.domain; base = option_map (λ b. b.now) c.self.inside.base } in
+    let m = c.self.inside.subject.now in
     let cs = c.self.inside.prefix in
-    let level = level_at m c.self.inside.layout c.self.inside.parts.items c.self.inside.levels.items c.choices.result.now cs c.index.result.now c.choices.ensures c.self.invariant.2 c.index.ensures in
+    let level = level_at m c.self.inside.layout c.self.inside.parts.items c.self.inside.levels.items c.choices.result.now cs c.index.result.now c.choices.ensures c.self.invariant.0 c.index.ensures in
     let shape_prefix = subst (λ s. IsPrefix (forest s.matter) (s.choices ++ c.args.choice ∷ [])) (sym c.self.view_is) c.requires in
     let prefix = prefix_of_numbers m.nodes m.domain (cs ++ c.args.choice ∷ []) shape_prefix in
     let first = subst (IsFirstOpen c.self.inside.layout (numbers m) cs) c.in-Some.is level.group in
     let open' = c.open_after.ensures (numbers m) cs c.args.choice (c.child_at-child.ensures.child (numbers m) cs first prefix) in
     let none = subst (IsFirstOpen c.self.inside.layout (numbers m) (cs ++ c.args.choice ∷ [])) (none_told c.open_after.result c.is_none.result c.is_none.ensures last) open' in
     subst (λ s. IfSome (after (forest s.matter) (s.choices ++ c.args.choice ∷ [])) (λ d. option_map length (choices d) ≡ None)) c.self.view_is
-    (children_told m.nodes m.domain (cs ++ c.args.choice ∷ []) c.self.invariant.1.tree (root_there m.nodes m.domain c.self.invariant.0) shape_prefix None
+    (children_told m.nodes m.domain (cs ++ c.args.choice ∷ []) c.self.invariant.0.given.tree (root_there m.nodes m.domain c.self.invariant.0.given.domain) shape_prefix None
     (none_next c.self.inside.layout (numbers m) (cs ++ c.args.choice ∷ []) c.none_open_is_selection.ensures none))

@@ -1,9 +1,9 @@
 -- What is kept where the question stands is asked.
 use Rattle.std.proofs.Common.{subst}
-use Rattle.std.specs.Prelude.{◌↔◌, IfSome, IsTrue, option_map}
+use Rattle.std.specs.Prelude.{◌↔◌, IfSome, IsTrue}
 use Rattle.sysmem_search.specs.Live.{SomeMeet}
 use Rattle.sysmem_search.specs.Question.{MeetsSoFar}
-use Rattle.verdict_claims.specs.Matter.{Matter, forest}
+use Rattle.verdict_claims.specs.Matter.{forest}
 use Rattle.sysmem_search.proofs.AskedMembers.{if_some}
 use Rattle.sysmem_search.proofs.Entering.{level_at, kept_at}
 use Rattle.sysmem_tree.specs.Forest.{settled}
@@ -12,8 +12,8 @@ use Rattle.sysmem_search.proofs.question.Question.is_met.Goals as goal
 
 pub returns : goal.returns
 returns c =
-    let m : Matter = record { platform = c.self.inside.platform.now; nodes = c.self.inside.tree.now.nodes; domain = c.self.inside.domain; base = option_map (λ b. b.now) c.self.inside.base } in
+    let m = c.self.inside.subject.now in
     let cs = c.self.inside.prefix in
-    let level = level_at m c.self.inside.layout c.self.inside.parts.items c.self.inside.levels.items c.choices.result.now cs c.index-level.result.now c.choices.ensures c.self.invariant.2 c.index-level.ensures in
+    let level = level_at m c.self.inside.layout c.self.inside.parts.items c.self.inside.levels.items c.choices.result.now cs c.index-level.result.now c.choices.ensures c.self.invariant.0 c.index-level.ensures in
     subst (λ s. IfSome (after (forest s.matter) s.choices) (λ d. IsTrue c.is_met.result ↔ SomeMeet (MeetsSoFar s.matter) d)) c.self.view_is
-    (if_some _ (after (forest m) cs) (λ d leads. c.is_met.ensures m.nodes (settled d) (kept_at m c.self.inside.layout cs c.index-level.result.now level d leads)))
+    (if_some _ (after (forest m) cs) (λ d leads. c.is_met.ensures (settled d) (kept_at m c.self.inside.layout cs c.index-level.result.now level d leads)))

@@ -5,7 +5,7 @@ use Rattle.sysmem_merge.specs.declared.settings.Settings.{Settings}
 use Rattle.verdict_claims.specs.Conflict.{IsConflictFor}
 use Rattle.verdict_claims.specs.FirstConflict.{IsFirstConflictFor}
 use Rattle.sysmem_search.specs.Question.{MeetsHere}
-use Rattle.verdict_claims.specs.Matter.{Matter, forest, terms}
+use Rattle.verdict_claims.specs.Matter.{forest, terms}
 use Rattle.sysmem_search.proofs.AskedMembers.{if_some}
 use Rattle.sysmem_search.proofs.Unmet.{last_is_whole, no_conflict}
 use Rattle.sysmem_tree.specs.Forest.{choices}
@@ -13,25 +13,25 @@ use Rattle.sysmem_tree.specs.Selection.{IsPrefix, after}
 use Rattle.sysmem_search.proofs.question.Question.last_conflict.Goals as goal
 
 pub find_conflict_as-found-requires-clause-lays : goal.find_conflict_as-found-requires-clause-lays
-find_conflict_as-found-requires-clause-lays c = c.self.invariant.2.laid.lays
+find_conflict_as-found-requires-clause-lays c = c.self.invariant.0.laid.lays
 
 pub find_conflict_as-found-requires-clause-nodes : goal.find_conflict_as-found-requires-clause-nodes
-find_conflict_as-found-requires-clause-nodes c = c.self.invariant.2.laid.nodes
+find_conflict_as-found-requires-clause-nodes c = c.self.invariant.0.laid.nodes
 
 pub find_conflict_as-found-requires-clause-prefix : goal.find_conflict_as-found-requires-clause-prefix
 find_conflict_as-found-requires-clause-prefix c =
-    let m : Matter = record { platform = c.self.inside.platform.now; nodes = c.self.inside.tree.now.nodes; domain = c.self.inside.domain; base = option_map (λ b. b.now) c.self.inside.base } in
+    let m = c.self.inside.subject.now in
     subst (λ cs. IsPrefix (forest m) cs) (sym c.push.ensures) (subst (λ s. IsPrefix (forest s.matter) (s.choices ++ c.args.choice ∷ [])) (sym c.self.view_is) c.requires.prefix)
 
 pub find_conflict_as-found-requires-clause-whole : goal.find_conflict_as-found-requires-clause-whole
 find_conflict_as-found-requires-clause-whole c = λ d leads.
-    let m : Matter = record { platform = c.self.inside.platform.now; nodes = c.self.inside.tree.now.nodes; domain = c.self.inside.domain; base = option_map (λ b. b.now) c.self.inside.base } in
+    let m = c.self.inside.subject.now in
     last_is_whole m (c.self.inside.prefix ++ c.args.choice ∷ []) d (subst (λ cs. after (forest m) cs ≡ Some d) c.push.ensures leads)
     (subst (λ s. IfSome (after (forest s.matter) (s.choices ++ c.args.choice ∷ [])) (λ e. option_map length (choices e) ≡ None)) (sym c.self.view_is) c.requires.last)
 
 pub unreachable-requires : goal.unreachable-requires
 unreachable-requires c =
-    let m : Matter = record { platform = c.self.inside.platform.now; nodes = c.self.inside.tree.now.nodes; domain = c.self.inside.domain; base = option_map (λ b. b.now) c.self.inside.base } in
+    let m = c.self.inside.subject.now in
     let prefix = subst (λ s. IsPrefix (forest s.matter) (s.choices ++ c.args.choice ∷ [])) (sym c.self.view_is) c.requires.prefix in
     let unmet = subst (λ s. IfSome (after (forest s.matter) (s.choices ++ c.args.choice ∷ [])) (λ d. (t : Settings) → ¬ (MeetsHere s.matter d t))) (sym c.self.view_is) c.requires.unmet in
     no_conflict m c.push.new.self c.in_ok-conflict.field-0 (subst (IsPrefix (forest m)) (sym c.push.ensures) prefix) c.in-None.is
@@ -39,7 +39,7 @@ unreachable-requires c =
 
 pub returns-clause-conflict : goal.returns-clause-conflict
 returns-clause-conflict c =
-    let m : Matter = record { platform = c.self.inside.platform.now; nodes = c.self.inside.tree.now.nodes; domain = c.self.inside.domain; base = option_map (λ b. b.now) c.self.inside.base } in
+    let m = c.self.inside.subject.now in
     subst (λ s. IfSome (after (forest s.matter) (s.choices ++ c.args.choice ∷ [])) (λ d. IsConflictFor s.matter.platform (terms s.matter) d c.in-Some.conflict)) c.self.view_is
     (subst (λ cs. IfSome (after (forest m) cs) (λ d. IsConflictFor m.platform (terms m) d c.in-Some.conflict)) c.push.ensures
     (if_some (λ d. IsConflictFor m.platform (terms m) d c.in-Some.conflict) (after (forest m) c.push.new.self) (λ d leads.
@@ -47,7 +47,7 @@ returns-clause-conflict c =
 
 pub returns-clause-first : goal.returns-clause-first
 returns-clause-first c =
-    let m : Matter = record { platform = c.self.inside.platform.now; nodes = c.self.inside.tree.now.nodes; domain = c.self.inside.domain; base = option_map (λ b. b.now) c.self.inside.base } in
+    let m = c.self.inside.subject.now in
     subst (λ s. IfSome (after (forest s.matter) (s.choices ++ c.args.choice ∷ [])) (λ d. IsFirstConflictFor s.matter.platform (terms s.matter) d c.in-Some.conflict)) c.self.view_is
     (subst (λ cs. IfSome (after (forest m) cs) (λ d. IsFirstConflictFor m.platform (terms m) d c.in-Some.conflict)) c.push.ensures
     (if_some (λ d. IsFirstConflictFor m.platform (terms m) d c.in-Some.conflict) (after (forest m) c.push.new.self) (λ d leads.

@@ -5,7 +5,7 @@ use Rattle.std.proofs.lemmas.Option.{slice_get_within, same_Some}
 use Rattle.verdict_claims.specs.Members.{participants}
 use Rattle.sysmem_search.specs.declared.kept.Part.{Part}
 use Rattle.sysmem_search.specs.declared.levels.Level.{Level}
-use Rattle.sysmem_search.specs.Kept.{IsKeptOf}
+use Rattle.sysmem_search.specs.Kept.{IsKeptFor}
 use Rattle.verdict_claims.specs.Matter.{Matter}
 use Rattle.sysmem_search.specs.Standing.{AreLevels, AreMade, IsLevel}
 use Rattle.sysmem_tree.specs.declared.layout.Layout.{Layout}
@@ -18,10 +18,10 @@ module _ (m : Matter) (layout : Layout) (first : Level) (is : IsLevel m layout [
   only (suc k) level here = absurd (omega (arith, slice_get_within (first ∷ []) (suc k) level here))
 
   -- one level stands for some participants
-  one_made : (levels : List Level) → levels ≡ first ∷ [] → AreMade m.platform m.nodes m.base levels
+  one_made : (levels : List Level) → levels ≡ first ∷ [] → AreMade m levels
   one_made levels same k level here = (
     participants (settled is.left),
-    subst (λ (l : Level). IsKeptOf m.platform m.nodes m.base l.kept (participants (settled is.left)))
+    subst (λ (l : Level). IsKeptFor m l.kept (participants (settled is.left)))
         (only k level (subst (λ (ls : List Level). slice_get ls k ≡ Some level) same here)) is.kept,
   )
 
@@ -38,16 +38,17 @@ none_kept : {X : Type 0} (parts : List (Option Part)) (slot : ℕ) (part : Part)
 none_kept [] slot part none here = absurd (cc)
 none_kept (x ∷ parts) slot part none here = absurd (cc)
 
+pub first_level-requires : goal.first_level-requires
+first_level-requires c = record { lays = c.layout-layout.ensures.lays; nodes = c.layout-layout.ensures.nodes }
+
 pub invariant_of-result : goal.invariant_of-result
 invariant_of-result c = (
-  c.requires.domain,
-  c.recall_sound.ensures,
   record {
-    given = c.requires.base;
+    given = c.recall.ensures;
     laid = record { lays = c.layout-layout.ensures.lays; nodes = c.layout-layout.ensures.nodes };
     shares = λ place slot part own here. none_kept c.new-2.result.items slot part c.new-2.ensures.items here;
     made = one_made _ c.layout-layout.result c.in_ok-first.first c.in_ok-first.ensures c.in_ok-levels.levels.items c.in_ok-levels.ensures.items;
     fronts = one_front _ c.layout-layout.result c.in_ok-first.first c.in_ok-first.ensures c.in_ok-levels.levels.items _ c.in_ok-levels.ensures.items c.new.ensures;
   },
-  c.new-3.ensures c.args.tree.now.nodes c.args.platform.now.heaps,
+  c.new-3.ensures c.args.subject.now.nodes c.args.subject.now.platform.heaps,
 )
