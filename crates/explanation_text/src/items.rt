@@ -55,13 +55,24 @@ impl Items {
         label: &'static str,
         text: String,
     ) -> Result<(), AllocError> {
-        self.list.push(Item {
+        self.add(Item {
             label,
             text,
             depth,
             kind,
-        })?;
+        })
+    }
+
+    /// Puts an item after the list.
+    pub fn add(&mut self, item: Item) -> Result<(), AllocError> {
+        self.list.push(item)?;
         Ok(())
+    }
+
+    /// Puts the title of a section after the list.
+    pub fn title(&mut self, text: &str) -> Result<(), AllocError> {
+        let text = String::from_str(self.alloc, text)?;
+        self.push(Kind::Title, 0, "", text)
     }
 
     /// Puts words with a label after the list.
@@ -90,6 +101,10 @@ impl Items {
     /// Whether there are none.
     pub fn is_empty(&self) -> bool {
         self.list.is_empty()
+    }
+
+    pub fn list(&self) -> &[Item] {
+        &self.list
     }
 
     pub fn into_list(self) -> Vec<Item> {

@@ -26,6 +26,15 @@ fn put_listed(text: &mut String, names: &[&str]) -> Result<(), AllocError> {
     Ok(())
 }
 
+/// What stands after the item of an index in a list of so many: `, `, ` and ` or nothing.
+pub fn mark_after(index: usize, count: usize) -> &'static str {
+    match count.saturating_sub(index) {
+        0 | 1 => "",
+        2 => " and ",
+        _ => ", ",
+    }
+}
+
 /// Puts at most so many of the names after the text, and counts the others: `a, b and 3 more`.
 pub fn put_few(text: &mut String, names: &[&str], most: usize) -> Result<(), AllocError> {
     if names.len() <= most.saturating_add(1) {
