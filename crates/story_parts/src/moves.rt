@@ -49,11 +49,12 @@ fn needs_token(call: &Made<'_>) -> bool {
 
 /// Whether no call after that of a number was refused since it needs the same token.
 fn is_last(story: &Story<'_>, call: &Made<'_>, number: usize) -> bool {
-    !story
-        .calls
-        .iter()
-        .skip(number)
-        .any(|later| later.node == call.node && needs_token(later))
+    for later in story.calls.iter().skip(number) {
+        if later.node == call.node && needs_token(later) {
+            return false;
+        }
+    }
+    true
 }
 
 /// Adds the call that bound the token on which the call of a number was refused, and those made on

@@ -1,8 +1,8 @@
 //! Why calls were refused.
 
 use crate::story::{Deed, Made, Story};
-use explanation_text::wording::{MOST_NAMES, put_few, put_joined};
-use explanation_text::{Items, Kind};
+use explanation_text::Items;
+use explanation_text::wording::{MOST_NAMES, mark_after, put_few, put_joined};
 use json_places::Step;
 use record_faults::{Document, tell_record_fault};
 use script_reading::Act;
@@ -10,10 +10,12 @@ use std::alloc::{AllocError, Global};
 use std::fmt::Write;
 use sysmem_sanitise::{Code, Fault, read_constraints};
 use sysmem_tree::NodeKind;
-use value_sources::put_texts;
 
 /// How many rows of refused calls are told.
 const MOST_ROWS: usize = 12;
+
+/// How many numbers of calls are told; one more is shown rather than counted.
+const MOST_NUMBERS: usize = 8;
 
 /// Calls that have one reply and one cause.
 #[derive(Drop)]
@@ -28,7 +30,13 @@ struct Row {
 /// How many calls were refused: those whose reply isn't `ok`, the answers of `check` and `wait`
 /// left out.
 pub fn refused_calls(story: &Story<'_>) -> usize {
-    story.calls.iter().filter(|call| is_refused(call)).count()
+    let mut count = 0usize;
+    for call in &story.calls {
+        if is_refused(call) {
+            count = count.saturating_add(1);
+        }
+    }
+    count
 }
 
 fn is_refused(call: &Made<'_>) -> bool {
@@ -73,16 +81,11 @@ fn tell_rows(
     } else {
         MOST_ROWS
     };
-    put_title(items)?;
+    items.title("calls to look at")?;
     for row in rows.iter().take(most) {
         tell_row(items, document, story, row)?;
     }
     tell_more(items, rows.len().saturating_sub(most))
-}
-
-fn put_title(items: &mut Items) -> Result<(), AllocError> {
-    let title = String::from_str(items.alloc(), "calls to look at")?;
-    items.push(Kind::Title, 0, "", title)
 }
 
 /// Tells how many rows aren't told, if there are any.
@@ -97,13 +100,8 @@ fn tell_more(items: &mut Items, more: usize) -> Result<(), AllocError> {
 /// What is told of the calls that were refused, those with one cause together; where their
 /// constraints have a fault only its field and its code.
 pub fn refused_words(alloc: Global, story: &Story<'_>) -> Result<Vec<String>, AllocError> {
-    let rows = rows_of(alloc, story)?;
-    words_of(alloc, story, &rows)
-}
-
-fn words_of(alloc: Global, story: &Story<'_>, rows: &[Row]) -> Result<Vec<String>, AllocError> {
     let mut words: Vec<String> = Vec::new(alloc);
-    for row in rows {
+    for row in &rows_of(alloc, story)? {
         if let Some(call) = story.call(number_of(row)) {
             words.push(row_text(alloc, call, row)?)?;
         }
@@ -141,7 +139,8 @@ fn row_of(
     number: usize,
 ) -> Result<Row, AllocError> {
     let fault = fault_of(alloc, call)?;
-    let cause = cause_of(alloc, story, call, number)?;
+    let mut cause = String::new(alloc);
+    put_cause(&mut cause, story, call, number)?;
     Ok(Row {
         numbers: vec![in alloc; number]?,
         cause,
@@ -207,7 +206,8 @@ fn tell_row(
     let Some(call) = story.call(number) else {
         return Ok(());
     };
-    say_row(items, call, row)?;
+    let text = row_text(items.alloc(), call, row)?;
+    items.say(1, "", text)?;
     let Some(fault) = row.fault else {
         return Ok(());
     };
@@ -219,28 +219,19 @@ fn tell_row(
     tell_record_fault(items, 2, document, &base, fault, false)
 }
 
-fn say_row(items: &mut Items, call: &Made<'_>, row: &Row) -> Result<(), AllocError> {
-    let text = row_text(items.alloc(), call, row)?;
-    items.say(1, "", text)
-}
-
+/// Calls and why they were refused, and behind it their reply; of a fault only its field and its
+/// code, for it is told below.
 fn row_text(alloc: Global, call: &Made<'_>, row: &Row) -> Result<String, AllocError> {
     let mut text = String::new(alloc);
-    put_row(&mut text, call, row)?;
-    Ok(text)
-}
-
-/// Puts calls and why they were refused after a text, and behind it their reply; of a fault only
-/// its field and its code, for it is told below.
-fn put_row(text: &mut String, call: &Made<'_>, row: &Row) -> Result<(), AllocError> {
-    put_calls(text, call, &row.numbers)?;
+    put_calls(&mut text, call, &row.numbers)?;
     let (code, reply) = (call.code(), call.reply);
     let (cause, field, answer) = match row.fault {
         None => (row.cause.as_str(), "", reply),
         Some(_) if code == "S2" => ("a key that isn't known", "", code),
         Some(_) => ("a fault in ", faulty_field(reply), code),
     };
-    write!(text, ": {cause}{field} ({answer})")
+    write!(text, ": {cause}{field} ({answer})")?;
+    Ok(text)
 }
 
 /// The field of a reply that names a fault: `S4 usage`.
@@ -273,25 +264,23 @@ fn put_call(text: &mut String, call: &Made<'_>, number: usize) -> Result<(), All
     write!(text, "call {number}, {name} {on}{space}{made}")
 }
 
+/// Puts the numbers of calls after a text: `3, 4 and 5`.
 fn put_numbers(text: &mut String, numbers: &[usize]) -> Result<(), AllocError> {
-    let alloc = *text.allocator();
-    let mut texts: Vec<String> = Vec::new(alloc);
-    for number in numbers {
-        texts.push(format!(in alloc; "{number}")?)?;
+    let most = if numbers.len() > MOST_NUMBERS.saturating_add(1) {
+        MOST_NUMBERS
+    } else {
+        numbers.len()
+    };
+    let more = numbers.len().saturating_sub(most);
+    let parts = most.saturating_add(usize::from(more > 0));
+    for (k, number) in numbers.iter().take(most).enumerate() {
+        let mark = mark_after(k, parts);
+        write!(text, "{number}{mark}")?;
     }
-    put_texts(text, &texts, 8)
-}
-
-/// Why a call was refused.
-fn cause_of(
-    alloc: Global,
-    story: &Story<'_>,
-    call: &Made<'_>,
-    number: usize,
-) -> Result<String, AllocError> {
-    let mut text = String::new(alloc);
-    put_cause(&mut text, story, call, number)?;
-    Ok(text)
+    if more == 0 {
+        return Ok(());
+    }
+    write!(text, "{more} more")
 }
 
 /// Puts why a call was refused after a text.
@@ -326,17 +315,13 @@ fn plain_cause(code: &str) -> &'static str {
 
 /// Puts why a call on a name was skipped after a text: the call that makes the name wasn't made.
 fn put_unmade(text: &mut String, story: &Story<'_>, on: &str) -> Result<(), AllocError> {
-    let maker = story
-        .calls
-        .iter()
-        .position(|other| other.act.name_made() == Some(on));
-    match maker {
-        Some(index) => {
+    for (index, other) in story.calls.iter().enumerate() {
+        if other.act.name_made() == Some(on) {
             let number = index.saturating_add(1);
-            write!(text, "call {number}, which makes {on}, wasn't made")
+            return write!(text, "call {number}, which makes {on}, wasn't made");
         }
-        None => write!(text, "{on} wasn't made"),
     }
+    write!(text, "{on} wasn't made")
 }
 
 /// Puts a domain with its root's name after a text: `domain /0 (camera)`.
@@ -383,14 +368,14 @@ fn put_left_out(text: &mut String, story: &Story<'_>, node: usize) -> Result<(),
 /// The next selected node above a node, with its child above the node or the node itself.
 fn chooser(story: &Story<'_>, node: usize) -> Option<(usize, usize)> {
     let mut below = node;
-    let mut above = parent_of(story, node);
+    let mut above = story.parent(node);
     for _level in 0..128 {
         let group = above?;
         if story.is_selected(group) {
             break;
         }
         below = group;
-        above = parent_of(story, group);
+        above = story.parent(group);
     }
     Some((above?, below))
 }
@@ -401,16 +386,12 @@ fn chosen_child(
     story: &Story<'_>,
     group: usize,
 ) -> Result<Option<usize>, AllocError> {
-    let children = story.children(alloc, group)?;
-    let chosen = children.iter().find(|child| story.is_selected(**child));
-    Ok(chosen.copied())
-}
-
-fn parent_of(story: &Story<'_>, node: usize) -> Option<usize> {
-    match story.nodes.get(node) {
-        Some(node) => node.parent,
-        None => None,
+    for child in &story.children(alloc, group)? {
+        if story.is_selected(*child) {
+            return Ok(Some(*child));
+        }
     }
+    Ok(None)
 }
 
 /// Puts who was still awaited when a verdict was asked for, and when it came, after a text.
@@ -648,7 +629,12 @@ fn put_set_before(
 
 /// Whether a node has this name.
 fn is_name(story: &Story<'_>, name: &str) -> bool {
-    story.nodes.iter().any(|node| node.name == name)
+    for node in &story.nodes {
+        if node.name == name {
+            return true;
+        }
+    }
+    false
 }
 
 /// Puts who may be meant after a text.

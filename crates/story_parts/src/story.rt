@@ -201,6 +201,16 @@ impl<'a> Story<'a> {
         }
     }
 
+    /// The parent of a node, by number.
+    pub fn parent(&self, node: usize) -> Option<usize> {
+        self.nodes.get(node)?.parent
+    }
+
+    /// The number of the call that made a node.
+    pub fn maker(&self, node: usize) -> Option<usize> {
+        self.nodes.get(node)?.made_by
+    }
+
     /// Whether a node is a group.
     pub fn is_group(&self, node: usize) -> bool {
         match self.nodes.get(node) {
@@ -323,6 +333,14 @@ impl<'a> Story<'a> {
             names.push(self.name(*node))?;
         }
         Ok(names)
+    }
+
+    /// The root of the domain of an index, by number.
+    pub fn root_of(&self, index: usize) -> usize {
+        match self.domains.get(index) {
+            Some(domain) => domain.root,
+            None => 0,
+        }
     }
 
     /// The domain of a node.
