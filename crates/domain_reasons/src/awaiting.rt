@@ -51,22 +51,11 @@ fn tell_host(
     domain: &Domain<'_>,
     above: usize,
 ) -> Result<(), AllocError> {
-    let text = host_text(items.alloc(), story, domain, above);
-    tell(items, 1, "awaits", text)
-}
-
-/// That a domain was attached to that of a root.
-fn host_text(
-    alloc: Global,
-    story: &Story<'_>,
-    domain: &Domain<'_>,
-    above: usize,
-) -> Result<String, AllocError> {
     let name = story.name(domain.root);
-    let mut text = String::new(alloc);
+    let mut text = String::new(items.alloc());
     put_domain(&mut text, story, above)?;
     write!(text, ", to which {name} was attached")?;
-    Ok(text)
+    items.say(1, "awaits", text)
 }
 
 /// The root of the domain to which this one was attached, where that has no verdict.
@@ -217,9 +206,9 @@ fn put_what(
     kind: NodeKind,
 ) -> Result<(), AllocError> {
     let (what, origin) = match kind {
-        NodeKind::Token => ("token", maker(story, node)),
+        NodeKind::Token => ("token", story.maker(node)),
         NodeKind::Collection => ("collection", story.deed(node, Deed::Bind)),
-        NodeKind::Group => ("group", maker(story, node)),
+        NodeKind::Group => ("group", story.maker(node)),
     };
     write!(text, "{what} of ")?;
     put_origin(text, story, origin)?;
@@ -227,11 +216,6 @@ fn put_what(
         NodeKind::Group => put_children(text, story, node),
         _ => Ok(()),
     }
-}
-
-/// The call that made a node, by number.
-fn maker(story: &Story<'_>, node: usize) -> Option<usize> {
-    story.nodes.get(node)?.made_by
 }
 
 /// Puts how many children a group has after a text.

@@ -2,7 +2,6 @@
 
 use crate::passed_over::tell_passed_over;
 use crate::selecting::{Empty, tell_left_out};
-use crate::short::tell;
 use explanation_text::Items;
 use settings_reasons::tell_settings;
 use std::alloc::{AllocError, Global};
@@ -41,18 +40,12 @@ pub(crate) fn tell_choice(
 
 /// Tells from which domain an attached one has its settings.
 fn tell_from(items: &mut Items, story: &Story<'_>, host: usize) -> Result<(), AllocError> {
-    let text = from_text(items.alloc(), story, host);
-    tell(items, 1, "from", text)
-}
-
-/// From which domain settings are.
-fn from_text(alloc: Global, story: &Story<'_>, host: usize) -> Result<String, AllocError> {
-    let mut text = String::new(alloc);
+    let mut text = String::new(items.alloc());
     if let Some(above) = story.domain_of(host) {
         put_domain(&mut text, story, above.root)?;
     }
     text.push_str(", unchanged: these accept its settings")?;
-    Ok(text)
+    items.say(1, "from", text)
 }
 
 /// Tells which child was chosen of each group that is selected.

@@ -49,17 +49,13 @@ fn tell_shortly(
     let mut section = Items::new(items.alloc());
     tell_reasons(&mut section, &*platform, &*story, index)?;
     let mut told = 0usize;
-    for item in section.into_list() {
+    for mut item in section.into_list() {
         if item.kind == Kind::Title || item.label == "who" || told >= MOST {
             continue;
         }
         told = told.saturating_add(1);
-        items.push(
-            item.kind,
-            item.depth.saturating_add(1),
-            item.label,
-            item.text,
-        )?;
+        item.depth = item.depth.saturating_add(1);
+        items.add(item)?;
     }
     Ok(())
 }
