@@ -50,7 +50,15 @@ fn tell_derived(
     label: &'static str,
     derived: Result<Derived, AllocError>,
 ) -> Result<(), AllocError> {
-    let derived = derived?;
+    tell_number(items, label, &derived?)
+}
+
+/// Tells a number, and where it comes from.
+fn tell_number(
+    items: &mut Items,
+    label: &'static str,
+    derived: &Derived,
+) -> Result<(), AllocError> {
     let words = format!(in items.alloc(); "{}: {}", derived.value, derived.why);
     tell(items, 1, label, words)
 }
@@ -188,16 +196,16 @@ fn tell_sides(items: &mut Items, wishes: Wishes<'_, '_>) -> Result<(), AllocErro
     };
     let alloc = items.alloc();
     let width = wishes.side(alloc, Side::Width)?;
-    tell_width(items, width, wishes.side(alloc, Side::Height)?)?;
+    tell_width(items, &width, &wishes.side(alloc, Side::Height)?)?;
     tell_derived(items, "row", wishes.row(alloc, false))
 }
 
 /// Tells where an image's width and height come from: both at once, if from the same.
-fn tell_width(items: &mut Items, width: Derived, height: Derived) -> Result<(), AllocError> {
+fn tell_width(items: &mut Items, width: &Derived, height: &Derived) -> Result<(), AllocError> {
     if width.why == height.why {
         let words = format!(in items.alloc(); "{}x{}: {}", width.value, height.value, width.why);
         return tell(items, 1, "pixels", words);
     }
-    tell_derived(items, "width", Ok(width))?;
-    tell_derived(items, "height", Ok(height))
+    tell_number(items, "width", width)?;
+    tell_number(items, "height", height)
 }

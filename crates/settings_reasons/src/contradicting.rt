@@ -2,9 +2,8 @@
 
 use crate::amounts::{Amount, amount_at};
 use crate::offer_words::pair_name;
-use crate::rows::tell;
 use explanation_text::Items;
-use std::alloc::{AllocError, Global};
+use std::alloc::AllocError;
 use sysmem_counts::Field;
 use sysmem_image::{Entry, ImageBounds};
 use sysmem_sanitise::Constraints;
@@ -61,18 +60,7 @@ fn tell_clash(
     clash: Clash,
     entry: Option<&Entry>,
 ) -> Result<(), AllocError> {
-    let text = clash_text(items.alloc(), name, clash, entry);
-    tell(items, depth, "", text)
-}
-
-/// A contradiction in words.
-fn clash_text(
-    alloc: Global,
-    name: &str,
-    clash: Clash,
-    entry: Option<&Entry>,
-) -> Result<String, AllocError> {
-    let mut text = format!(in alloc;
+    let mut text = format!(in items.alloc();
         "{name} contradicts itself: {} {} is above its own {} {}",
         clash.least.name(),
         clash.low,
@@ -82,7 +70,7 @@ fn clash_text(
     if let Some(entry) = entry {
         put_entry(&mut text, entry)?;
     }
-    Ok(text)
+    items.say(depth, "", text)
 }
 
 /// Puts in which entry it is after a text.

@@ -146,28 +146,23 @@ fn tell_lacked(
     let mut rows: Vec<Row> = Vec::new(alloc);
     for named in lacked {
         let far = people.saturating_sub(named.people.len());
-        let text = has_text(alloc, &named.people, one, many)?;
-        add_text(&mut rows, &named.name, text, far)?;
+        add_lacked_row(&mut rows, named, far, one, many)?;
     }
     let below = depth.saturating_add(1);
     tell_rows(items, below, "", &rows, usize::MAX, "aren't there either")
 }
 
-/// What participants do, in words.
-fn has_text(
-    alloc: Global,
-    people: &[Asked<'_>],
+/// Adds a name with what those do who name it to the rows.
+fn add_lacked_row(
+    rows: &mut Vec<Row>,
+    named: &Named<'_>,
+    far: usize,
     one: &str,
     many: &str,
-) -> Result<String, AllocError> {
-    let mut text = String::new(alloc);
-    put_has(&mut text, people, one, many)?;
-    Ok(text)
-}
-
-/// Adds a name with one reason to the rows.
-fn add_text(rows: &mut Vec<Row>, name: &str, text: String, far: usize) -> Result<(), AllocError> {
+) -> Result<(), AllocError> {
     let alloc = *rows.allocator();
+    let mut text = String::new(alloc);
+    put_has(&mut text, &named.people, one, many)?;
     let reasons = vec![in alloc; text]?;
-    add(rows, String::from_str(alloc, name)?, reasons, far, 1)
+    add(rows, String::from_str(alloc, &named.name)?, reasons, far, 1)
 }

@@ -6,6 +6,7 @@ use crate::placing::{place_name, place_reasons, put_place_reason};
 use crate::rows::{Reason, Row, add, tell_rows};
 use explanation_text::Items;
 use std::alloc::{AllocError, Global};
+use std::mem;
 use sysmem_formats::Offer;
 use sysmem_memory::Place;
 use sysmem_sanitise::Platform;
@@ -95,12 +96,11 @@ pub(crate) fn offer_rows(
     let mut pair: Vec<Refused> = Vec::new(alloc);
     for offer in offers {
         if is_next_pair(&pair, offer) {
-            add_pair(&mut rows, pair, colours)?;
-            pair = Vec::new(alloc);
+            add_pair(&mut rows, &mut pair, colours)?;
         }
         pair.push(refused_by(alloc, offer, people, whole, all)?)?;
     }
-    add_pair(&mut rows, pair, colours)?;
+    add_pair(&mut rows, &mut pair, colours)?;
     Ok(rows)
 }
 
@@ -162,20 +162,21 @@ fn are_one_pair(a: &Offer, b: &Offer) -> bool {
     }
 }
 
-/// Adds the offers of one pair to the rows: as one, where they fail in all of so many colour
+/// Moves the offers of one pair to the rows: as one, where they fail in all of so many colour
 /// spaces for the same reasons.
 fn add_pair(
     rows: &mut Vec<Row>,
-    mut offers: Vec<Refused>,
+    offers: &mut Vec<Refused>,
     colours: usize,
 ) -> Result<(), AllocError> {
-    let is_one = is_one_row(&offers, colours);
+    let alloc = *rows.allocator();
+    let is_one = is_one_row(offers, colours);
     let count = if is_one { colours } else { 1 };
     if is_one {
         offers.truncate(1);
     }
-    for refused in offers {
-        let name = name_of(*rows.allocator(), &refused.offer, is_one)?;
+    for refused in mem::replace(offers, Vec::new(alloc)) {
+        let name = name_of(alloc, &refused.offer, is_one)?;
         add(rows, name, refused.texts, refused.distance, count)?;
     }
     Ok(())
