@@ -296,12 +296,16 @@ fn hint_of_key(alloc: Global, key: &str, keys: &[&'static str]) -> Result<String
 
 /// Whether a text is 1 to 32 ASCII letters, digits, `_` and `-`.
 fn is_name(text: &str) -> bool {
-    !text.is_empty()
-        && text.len() <= 32
-        && text
-            .as_bytes()
-            .iter()
-            .all(|b| b.is_ascii_alphanumeric() || *b == b'_' || *b == b'-')
+    !text.is_empty() && text.len() <= 32 && has_name_letters(text)
+}
+
+fn has_name_letters(text: &str) -> bool {
+    for byte in text.as_bytes() {
+        if !byte.is_ascii_alphanumeric() && *byte != b'_' && *byte != b'-' {
+            return false;
+        }
+    }
+    true
 }
 
 /// Tells a bad name, a name that no earlier call made, or one that is made again.
@@ -348,12 +352,7 @@ fn tell_shared(items: &mut Items, faulty: Faulty<'_, '_>) -> Result<(), AllocErr
     let alloc = items.alloc();
     let on = faulty.text("on").unwrap_or("");
     let actor = actor_of(faulty.call);
-    let earlier = faulty
-        .calls
-        .iter()
-        .take(faulty.index)
-        .position(|call| is_by_another(call, on, actor));
-    let help = match earlier {
+    let help = match another_on(faulty, on, actor) {
         Some(index) => {
             let number = index.saturating_add(1);
             format!(in alloc; "call {number} is made on it by another actor")
@@ -363,6 +362,16 @@ fn tell_shared(items: &mut Items, faulty: Faulty<'_, '_>) -> Result<(), AllocErr
     faulty.point(items, "on", "another actor's name", help)
 }
 
+/// The index of the earlier call that is made on a name by another actor.
+fn another_on(faulty: Faulty<'_, '_>, on: &str, actor: &str) -> Option<usize> {
+    for (index, call) in faulty.calls.iter().take(faulty.index).enumerate() {
+        if is_by_another(call, on, actor) {
+            return Some(index);
+        }
+    }
+    None
+}
+
 /// Whether a call is made on a name, and not by this actor.
 fn is_by_another(call: &Value, on: &str, actor: &str) -> bool {
     call.get("on").and_then(Value::as_str) == Some(on) && actor_of(call) != actor
@@ -370,11 +379,20 @@ fn is_by_another(call: &Value, on: &str, actor: &str) -> bool {
 
 /// The index of the earlier call that makes a name.
 fn maker_of(faulty: Faulty<'_, '_>, name: &str) -> Option<usize> {
-    faulty
-        .calls
-        .iter()
-        .take(faulty.index)
-        .position(|call| makes(call, name))
+    match first_maker(faulty.calls, name) {
+        Some(index) if index < faulty.index => Some(index),
+        _ => None,
+    }
+}
+
+/// The index of the first of some calls that makes a name.
+fn first_maker(calls: &[Value], name: &str) -> Option<usize> {
+    for (index, call) in calls.iter().enumerate() {
+        if makes(call, name) {
+            return Some(index);
+        }
+    }
+    None
 }
 
 fn makes(call: &Value, name: &str) -> bool {
@@ -385,15 +403,12 @@ fn makes(call: &Value, name: &str) -> bool {
 fn tell_unmade(items: &mut Items, faulty: Faulty<'_, '_>, on: &str) -> Result<(), AllocError> {
     let alloc = items.alloc();
     let note = "no earlier call makes this name";
-    let later = faulty
-        .calls
-        .iter()
-        .skip(faulty.index)
-        .position(|call| makes(call, on));
-    let help = match later {
-        Some(0) => String::from_str(alloc, "this call itself makes it"),
-        Some(more) => {
-            let number = faulty.index.saturating_add(more).saturating_add(1);
+    let help = match first_maker(faulty.calls, on) {
+        Some(index) if index == faulty.index => {
+            String::from_str(alloc, "this call itself makes it")
+        }
+        Some(index) => {
+            let number = index.saturating_add(1);
             format!(in alloc; "call {number} makes it, and that comes later")
         }
         None => hint_of_made(alloc, faulty, on),

@@ -53,8 +53,8 @@ fn tell_length(items: &mut Items) -> Result<(), AllocError> {
 fn tell_calls(items: &mut Items, document: &Document<'_>) -> Result<(), AllocError> {
     let alloc = items.alloc();
     let count = match document.at(&[Step::Key("calls")]) {
-        Some(calls) => calls.as_array().map_or(0, |list| list.len()),
-        None => 0,
+        Some(Value::Array(calls)) => calls.len(),
+        _ => 0,
     };
     let text = format!(in alloc; "the script has {count} calls, at most 4096 are made")?;
     items.say(1, "", text)
@@ -63,7 +63,7 @@ fn tell_calls(items: &mut Items, document: &Document<'_>) -> Result<(), AllocErr
 /// Tells where a text stops being JSON.
 pub fn tell_no_json(items: &mut Items, file: &str, bytes: &[u8]) -> Result<(), AllocError> {
     put_answer(items, ScriptFault::NotJson)?;
-    if bytes.iter().all(|byte| byte.is_ascii_whitespace()) {
+    if is_blank(bytes) {
         let text = String::from_str(
             items.alloc(),
             "the file is empty: a script is an object with platform and calls",
@@ -71,6 +71,15 @@ pub fn tell_no_json(items: &mut Items, file: &str, bytes: &[u8]) -> Result<(), A
         return items.say(1, "", text);
     }
     tell_break(items, file, bytes)
+}
+
+fn is_blank(bytes: &[u8]) -> bool {
+    for byte in bytes {
+        if !byte.is_ascii_whitespace() {
+            return false;
+        }
+    }
+    true
 }
 
 /// Tells where a text that isn't empty stops being UTF-8 or JSON.
