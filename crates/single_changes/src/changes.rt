@@ -16,7 +16,7 @@ use explanation_text::{Items, Kind};
 use script_story::Effort;
 use std::alloc::{AllocError, Global};
 use std::slice::from_ref;
-use story_parts::{Deed, asked_in};
+use story_parts::{Deed, Story, asked_in};
 use value_sources::Asked;
 
 /// How many changes are told.
@@ -72,19 +72,29 @@ pub fn tell_changes(
         absurd: 0,
         is_sized: are_sized(group.people),
     };
-    try_exchanges(&mut search, group, index, true)?;
-    try_room(&mut search, group, index)?;
-    for one in group.people {
-        try_entries(&mut search, group, one)?;
-    }
-    for edit in edits {
-        try_edit(&mut search, group, *edit)?;
-    }
-    try_exchanges(&mut search, group, index, false)?;
+    try_all(&mut search, group, index, edits)?;
     put_head(items, &search, group.setting.effort)?;
     let count = search.count;
     items.append(search.found)?;
     Ok(count > 0)
+}
+
+/// Tries all changes, those first that are likely meant.
+fn try_all(
+    search: &mut Search<'_, '_>,
+    group: Group<'_, '_>,
+    index: usize,
+    edits: &[Edit],
+) -> Result<(), AllocError> {
+    try_exchanges(search, group, index, true)?;
+    try_room(search, group, index)?;
+    for one in group.people {
+        try_entries(search, group, one)?;
+    }
+    for edit in edits {
+        try_edit(search, group, *edit)?;
+    }
+    try_exchanges(search, group, index, false)
 }
 
 /// Tries that more buffers are asked for in the domain to which one was attached, where those that
@@ -99,19 +109,43 @@ fn try_room(
     let Some(count) = room_needed(alloc, story, index)? else {
         return Ok(());
     };
-    let Some(host) = story.domains.get(index).and_then(|domain| domain.host) else {
+    let Some(host) = host_of(story, index) else {
         return Ok(());
     };
-    let above = story.nodes.get(host).map_or(0, |node| node.domain);
+    let above = match story.nodes.get(host) {
+        Some(node) => node.domain,
+        None => 0,
+    };
+    let people = asked_in(alloc, story, above, true)?;
     let before = search.count;
-    for is_host in [true, false] {
-        for one in &asked_in(alloc, story, above, true)? {
-            if search.count == before && (one.node == host) == is_host {
-                try_one(search, group, one, Edit::LeastCount(count))?;
-            }
+    try_count(search, group, &people, host, true, count)?;
+    if search.count == before {
+        try_count(search, group, &people, host, false, count)?;
+    }
+    Ok(())
+}
+
+/// Tries that the participant at a node, or another one, asks for so many buffers, until one helps.
+fn try_count(
+    search: &mut Search<'_, '_>,
+    group: Group<'_, '_>,
+    people: &[Asked<'_>],
+    node: usize,
+    is_there: bool,
+    count: u32,
+) -> Result<(), AllocError> {
+    let before = search.count;
+    for one in people {
+        if search.count == before && (one.node == node) == is_there {
+            try_one(search, group, one, Edit::LeastCount(count))?;
         }
     }
     Ok(())
+}
+
+/// The node to which the domain of an index was attached.
+fn host_of(story: &Story<'_>, index: usize) -> Option<usize> {
+    story.domains.get(index)?.host
 }
 
 /// Tries to put an entry of a participant first, behind another that takes a pair of the platform
@@ -123,9 +157,9 @@ fn try_entries(
 ) -> Result<(), AllocError> {
     let alloc = search.found.alloc();
     let before = search.count;
-    for index in entries_behind(alloc, group.setting.platform, one)? {
+    for index in &entries_behind(alloc, group.setting.platform, one)? {
         if search.count == before && !search.is_done(group.setting.effort) {
-            try_one(search, group, one, Edit::EntryFirst(index))?;
+            try_one(search, group, one, Edit::EntryFirst(*index))?;
         }
     }
     Ok(())
@@ -210,14 +244,31 @@ fn try_change(
         value: stated.value,
     };
     let least = trial.least(alloc, group, search.parties, value, edit, found)?;
-    if is_absurd(&least.line, search.is_sized) {
+    tell_found(search, group, trial, one, edit, least)
+}
+
+/// Tells a change that helps, if it may be meant.
+fn tell_found(
+    search: &mut Search<'_, '_>,
+    group: Group<'_, '_>,
+    trial: Trial<'_, '_>,
+    one: &Asked<'_>,
+    edit: Edit,
+    found: Found,
+) -> Result<(), AllocError>
+    requires { IsPromised trial.setting.now.platform.now
+        (map call_seen trial.setting.now.calls.now) trial.place trial.path.now
+        (string_bytes found.line) }
+{
+    if is_absurd(&found.line, search.is_sized) {
         search.absurd = search.absurd.saturating_add(1);
         return Ok(());
     }
-    let who = group.who_changes(alloc, one, edit, &least.value)?;
-    let choice = choices_in(alloc, group.story, group.root, &least.line)?;
+    let alloc = search.found.alloc();
+    let choice = choices_in(alloc, group.story, group.root, &found.line)?;
+    let who = group.who_changes(alloc, one, edit, &found.value)?;
     let label = search.label();
-    put_change(&mut search.found, trial, label, &who, least)?;
+    put_change(&mut search.found, trial, label, &who, found)?;
     put_choice(&mut search.found, 3, choice)
 }
 

@@ -9,6 +9,7 @@ use crate::changes::Search;
 use constraint_trials::{Group, Stated, chosen_with, leaves_none, put_choice, put_line, restated};
 use domain_reasons::{are_exchanged, choices_in};
 use script_story::Setting;
+use serde_json::Value;
 use std::alloc::{AllocError, Global};
 use story_parts::{Deed, Story, asked_in};
 use value_sources::Asked;
@@ -55,8 +56,8 @@ pub(crate) fn try_exchanges(
 fn partners_in<'a>(alloc: Global, story: &Story<'a>) -> Result<Vec<Partner<'a>>, AllocError> {
     let mut partners = Vec::new(alloc);
     for domain in 0..story.domains.len() {
-        for one in asked_in(alloc, story, domain, false)? {
-            partners.push(Partner { one, domain })?;
+        for one in &asked_in(alloc, story, domain, false)? {
+            partners.push(Partner { one: *one, domain })?;
         }
     }
     Ok(partners)
@@ -73,15 +74,15 @@ fn can_matter(story: &Story<'_>, one: Asked<'_>, partner: Partner<'_>, index: us
 
 /// Whether a node lies below a group.
 fn is_below_group(story: &Story<'_>, node: usize) -> bool {
-    let mut at = Some(node);
+    let mut at = node;
     for _level in 0..story.nodes.len() {
-        let Some(known) = at.and_then(|number| story.nodes.get(number)) else {
-            break;
+        let Some(parent) = story.parent(at) else {
+            return false;
         };
-        at = known.parent;
-        if at.is_some_and(|parent| story.is_group(parent)) {
+        if story.is_group(parent) {
             return true;
         }
+        at = parent;
     }
     false
 }
@@ -99,22 +100,36 @@ fn try_exchange(
         return Ok(());
     };
     search.tried = search.tried.saturating_add(1);
-    if leaves_none(alloc, group, search.parties, &stated)? {
-        return Ok(());
+    match outcome_of(alloc, search, group, partner, &stated)? {
+        Some(line) => tell_exchange(search, group, one, partner.one, line),
+        None => Ok(()),
     }
-    let Some(line) = outcome(alloc, group.setting, &stated, group.path)? else {
-        return Ok(());
+}
+
+/// What the group's domain becomes where calls state these constraints, if it is chosen then, and
+/// the other participant's domain too.
+fn outcome_of(
+    alloc: Global,
+    search: &Search<'_, '_>,
+    group: Group<'_, '_>,
+    partner: Partner<'_>,
+    stated: &[Stated],
+) -> Result<Option<String>, AllocError>
+    ensures { IfOk result (λ said. IfSome said (λ what. IsPromisedSo
+        group.entry.setting.now.platform.now (map call_seen group.entry.setting.now.calls.now)
+        group.entry.path.now (string_bytes what))) }
+{
+    if leaves_none(alloc, group, search.parties, stated)? {
+        return Ok(None);
+    }
+    let Some(line) = outcome(alloc, group.setting, stated, group.path)? else {
+        return Ok(None);
     };
-    let root = group
-        .story
-        .domains
-        .get(partner.domain)
-        .map_or(0, |known| known.root);
-    let path = group.story.path(root);
-    if outcome(alloc, group.setting, &stated, path)?.is_none() {
-        return Ok(());
+    let path = group.story.path(group.story.root_of(partner.domain));
+    match outcome(alloc, group.setting, stated, path)? {
+        Some(_) => Ok(Some(line)),
+        None => Ok(None),
     }
-    tell_exchange(search, group, one, partner.one, line)
 }
 
 /// Tells that two participants' constraints exchanged help, and the decision that comes so.
@@ -129,14 +144,24 @@ fn tell_exchange(
         (map call_seen group.setting.now.calls.now) group.path.now (string_bytes line) }
 {
     let alloc = search.found.alloc();
+    let choice = choices_in(alloc, group.story, group.root, &line)?;
+    say_exchange(search, group, one, other)?;
+    put_line(&mut search.found, group, 3, line)?;
+    put_choice(&mut search.found, 3, choice)
+}
+
+fn say_exchange(
+    search: &mut Search<'_, '_>,
+    group: Group<'_, '_>,
+    one: Asked<'_>,
+    other: Asked<'_>,
+) -> Result<(), AllocError> {
+    let alloc = search.found.alloc();
     let who = group.who(alloc, &one)?;
     let whom = group.who(alloc, &other)?;
     let text = format!(in alloc; "{who} and {whom}: their constraints exchanged")?;
-    let choice = choices_in(alloc, group.story, group.root, &line)?;
     let label = search.label();
-    search.found.say(2, label, text)?;
-    put_line(&mut search.found, group, 3, line)?;
-    put_choice(&mut search.found, 3, choice)
+    search.found.say(2, label, text)
 }
 
 /// What two participants' calls state once their constraints are exchanged; `None` where they are
@@ -159,15 +184,17 @@ fn exchanged(
         return Ok(None);
     }
     let mut stated = Vec::new(alloc);
-    stated.push(Stated {
-        place: first.saturating_sub(1),
-        value: its.clone()?,
-    })?;
-    stated.push(Stated {
-        place: second.saturating_sub(1),
-        value: mine.clone()?,
-    })?;
+    add_stated(&mut stated, first, its)?;
+    add_stated(&mut stated, second, mine)?;
     Ok(Some(stated))
+}
+
+/// Adds that the call of a number states constraints.
+fn add_stated(stated: &mut Vec<Stated>, number: usize, value: &Value) -> Result<(), AllocError> {
+    let place = number.saturating_sub(1);
+    let value = value.clone()?;
+    stated.push(Stated { place, value })?;
+    Ok(())
 }
 
 /// What the domain at a path becomes where calls state these constraints, if it is chosen then.
