@@ -52,9 +52,9 @@ impl Shelf {
         Ok(place)
     }
 
-    /// What is kept at a place.
-    pub(crate) fn asked(&self, place: usize) -> Option<&Constraints> {
-        let row = self.rows.get(place)?;
+    /// What is kept at a place, if one is given.
+    pub(crate) fn asked(&self, place: Option<usize>) -> Option<&Constraints> {
+        let row = self.rows.get(place?)?;
         Some(&row.asked)
     }
 }
@@ -89,10 +89,11 @@ impl Known {
     }
 
     /// Learns what some participants ask by now.
-    pub(crate) fn learn(&mut self, others: Known) {
-        for (one, other) in self.people.iter_mut().zip(others.people) {
-            if other.is_some() {
-                *one = other;
+    pub(crate) fn learn(&mut self, others: &Known) {
+        for (person, place) in others.people.iter().enumerate() {
+            match self.people.get_mut(person) {
+                Some(one) if place.is_some() => *one = *place,
+                _ => {}
             }
         }
     }

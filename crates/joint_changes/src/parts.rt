@@ -2,7 +2,7 @@
 
 use crate::walk::Run;
 use constraint_edits::{Amount, Changed, Edit, edited, edited_to, leave_out};
-use serde_json::Value;
+use serde_json::{Value, put};
 use std::alloc::{AllocError, Global};
 use sysmem_memory::HeapInfo;
 
@@ -46,6 +46,37 @@ pub(crate) fn all_but(alloc: Global, parts: &[Part], run: Run) -> Result<Vec<Par
     Ok(others)
 }
 
+/// The parts without those that take the use by a CPU away.
+pub(crate) fn with_cpu(alloc: Global, parts: &[Part]) -> Result<Vec<Part>, AllocError> {
+    let mut plain = Vec::new(alloc);
+    for part in parts {
+        if part.edit != Edit::NoCpu {
+            plain.push(*part)?;
+        }
+    }
+    Ok(plain)
+}
+
+/// Whether one of some parts takes the use by a CPU away.
+pub(crate) fn takes_cpu(parts: &[Part]) -> bool {
+    for part in parts {
+        if part.edit == Edit::NoCpu {
+            return true;
+        }
+    }
+    false
+}
+
+/// Whether one of some parts is a participant's own.
+pub(crate) fn has_own(parts: &[Part], person: usize) -> bool {
+    for part in parts {
+        if part.person == person {
+            return true;
+        }
+    }
+    false
+}
+
 /// Those of some parts that are a participant's own.
 pub(crate) fn own_of(
     alloc: Global,
@@ -71,17 +102,25 @@ pub(crate) fn after(
 ) -> Result<Value, AllocError> {
     let mut now = value.clone()?;
     for part in parts {
-        if part.person != person || (part.amount.is_none() && leave_out(&mut now, part.edit)) {
-            continue;
-        }
-        if support(alloc, &mut now, part.edit)? {
-            continue;
-        }
-        if let Some(change) = part.changed(alloc, &now, heaps)? {
-            now = change.value;
+        if part.person == person {
+            make(alloc, &mut now, *part, heaps)?;
         }
     }
     Ok(now)
+}
+
+/// Makes a change of constraints.
+fn make(alloc: Global, now: &mut Value, part: Part, heaps: &[HeapInfo]) -> Result<(), AllocError> {
+    if part.amount.is_none() && leave_out(now, part.edit) {
+        return Ok(());
+    }
+    if support(alloc, now, part.edit)? {
+        return Ok(());
+    }
+    if let Some(change) = part.changed(alloc, now, heaps)? {
+        *now = change.value;
+    }
+    Ok(())
 }
 
 /// Has a domain supported by constraints in their place, if an edit says that and they have some of
@@ -90,14 +129,10 @@ fn support(alloc: Global, value: &mut Value, edit: Edit) -> Result<bool, AllocEr
     let Edit::Supports(field) = edit else {
         return Ok(false);
     };
-    let Some(memory) = value.get_mut(MEMORY) else {
+    let Some(Value::Object(members)) = value.get_mut(MEMORY) else {
         return Ok(false);
     };
-    let Some(members) = memory.as_object_mut() else {
-        return Ok(false);
-    };
-    let key = String::from_str(alloc, field.name())?;
-    let _before = members.insert(key, Value::Bool(true))?;
+    put(members, alloc, field.name(), Value::Bool(true))?;
     Ok(true)
 }
 

@@ -6,7 +6,7 @@ ghost use Rattle.script_reading.specs.Seen.{call_seen};
 ghost use Rattle.constraint_trials.specs.Edited.{IsPromisedSo};
 
 use crate::known::{Known, Shelf};
-use crate::parts::{Part, after, all_but, own_of, set_amount};
+use crate::parts::{Part, after, all_but, has_own, own_of, set_amount, takes_cpu, with_cpu};
 use crate::walk::Walk;
 use constraint_edits::{Amount, Edit, Halving, is_absurd};
 use constraint_trials::{
@@ -14,7 +14,7 @@ use constraint_trials::{
     leave_none, leaves_none, parties_of, put_choice, put_line, read_asked, restated,
 };
 use domain_reasons::choices_in;
-use explanation_text::{Items, Kind};
+use explanation_text::Items;
 use serde_json::Value;
 use std::alloc::{AllocError, Global};
 use story_parts::Deed;
@@ -43,24 +43,9 @@ pub fn tell_together(
         parties: &parties,
     };
     let all = joint.parts(alloc, edits)?;
-    let mut plain: Vec<Part> = Vec::new(alloc);
-    for part in &all {
-        if part.edit != Edit::NoCpu {
-            plain.push(*part)?;
-        }
-    }
     let mut shelf = Shelf::new(alloc);
-    if let Some(fewest) = joint.fewest(&mut shelf, alloc, &plain)? {
-        tell_parts(items, joint, &mut shelf, &fewest, "")?;
-    }
-    if plain.len() == all.len() || joint.outcome(alloc, &all)?.is_none() {
-        return Ok(());
-    }
-    let others = joint.needed(&mut shelf, alloc, &all, false)?;
-    if others.iter().any(|part| part.edit == Edit::NoCpu) {
-        tell_parts(items, joint, &mut shelf, &others, "or ")?;
-    }
-    Ok(())
+    joint.tell_plain(items, &mut shelf, &all)?;
+    joint.tell_others(items, &mut shelf, &all)
 }
 
 /// Tells changes that help together, each as small as it can be.
@@ -95,6 +80,38 @@ struct Joint<'a, 'b> {
 }
 
 impl Joint<'_, '_> {
+    /// Tells the fewest of some changes that help without taking the use by a CPU away.
+    fn tell_plain(
+        &self,
+        items: &mut Items,
+        shelf: &mut Shelf,
+        all: &[Part],
+    ) -> Result<(), AllocError> {
+        let plain = with_cpu(items.alloc(), all)?;
+        if !self.does(items.alloc(), &plain)? {
+            return Ok(());
+        }
+        let fewest = self.fewest(shelf, items.alloc(), &plain)?;
+        tell_parts(items, *self, shelf, &fewest, "")
+    }
+
+    /// Tells the fewest of all changes that help, where they take the use by a CPU away.
+    fn tell_others(
+        &self,
+        items: &mut Items,
+        shelf: &mut Shelf,
+        all: &[Part],
+    ) -> Result<(), AllocError> {
+        if !takes_cpu(all) || !self.does(items.alloc(), all)? {
+            return Ok(());
+        }
+        let others = self.needed(shelf, items.alloc(), all, false)?;
+        if takes_cpu(&others) {
+            tell_parts(items, *self, shelf, &others, "or ")?;
+        }
+        Ok(())
+    }
+
     /// Each change of each participant that is worth a try, of the first where there are very many.
     fn parts(&self, alloc: Global, edits: &[Edit]) -> Result<Vec<Part>, AllocError> {
         let mut parts: Vec<Part> = Vec::new(alloc);
@@ -125,28 +142,24 @@ impl Joint<'_, '_> {
         Ok(())
     }
 
-    /// Of changes that help together some without each of which the others don't; `None` where all
-    /// together don't help.
+    /// Of changes that help together some without each of which the others don't.
     fn fewest(
         &self,
         shelf: &mut Shelf,
         alloc: Global,
         all: &[Part],
-    ) -> Result<Option<Vec<Part>>, AllocError> {
-        if self.outcome(alloc, all)?.is_none() {
-            return Ok(None);
-        }
+    ) -> Result<Vec<Part>, AllocError> {
         let likely = self.needed(shelf, alloc, all, true)?;
         let others = self.needed(shelf, alloc, all, false)?;
         if others.len() < likely.len() {
-            return Ok(Some(others));
+            return Ok(others);
         }
-        Ok(Some(likely))
+        Ok(likely)
     }
 
     /// What is left of changes that help together, once each is taken back without which the rest
-    /// do: from the last on, or from the first. Several are taken back at once as long as that
-    /// goes. That the rest do is run once for all, and each time only where that isn't so.
+    /// do: from the last on, or from the first. That the rest do is run once for all, and each time
+    /// only where that isn't so.
     fn needed(
         &self,
         shelf: &mut Shelf,
@@ -154,38 +167,26 @@ impl Joint<'_, '_> {
         all: &[Part],
         from_last: bool,
     ) -> Result<Vec<Part>, AllocError> {
-        if let Some(mut known) = self.known_of(shelf, alloc, all, all)? {
-            let kept = self.needed_unrun(shelf, alloc, all, from_last, &mut known)?;
-            if self.outcome(alloc, &kept)?.is_some() {
+        let mut known = self.known_of(shelf, alloc, all, all)?;
+        if known.is_some() {
+            let kept = self.left_of(shelf, alloc, all, from_last, &mut known)?;
+            if self.does(alloc, &kept)? {
                 return Ok(kept);
             }
         }
-        let mut kept = Vec::from_slice(alloc, all)?;
-        let mut walk = Walk::over(all.len(), from_last);
-        for _step in 0..MOST_STEPS {
-            let Some(run) = walk.next(kept.len()) else {
-                break;
-            };
-            let others = all_but(alloc, &kept, run)?;
-            let does = self.outcome(alloc, &others)?.is_some();
-            walk.learn(run, does);
-            if does {
-                kept = others;
-            }
-        }
-        Ok(kept)
+        self.left_of(shelf, alloc, all, from_last, &mut None)
     }
 
-    /// The same, where the rest do if they aren't known to leave no settings: what participants
-    /// ask after all the parts is known, and once some are taken back is read anew of those whose
-    /// parts they are.
-    fn needed_unrun(
+    /// The same, of which several are taken back at once as long as that goes. Where it is known
+    /// what participants ask after all the parts, the rest do if they aren't known to leave no
+    /// settings; else that is run.
+    fn left_of(
         &self,
         shelf: &mut Shelf,
         alloc: Global,
         all: &[Part],
         from_last: bool,
-        known: &mut Known,
+        known: &mut Option<Known>,
     ) -> Result<Vec<Part>, AllocError> {
         let mut kept = Vec::from_slice(alloc, all)?;
         let mut walk = Walk::over(all.len(), from_last);
@@ -195,10 +196,7 @@ impl Joint<'_, '_> {
             };
             let others = all_but(alloc, &kept, run)?;
             let back = kept.get(run.start..run.end).unwrap_or(&[]);
-            let does = match self.known_of(shelf, alloc, back, &others)? {
-                Some(changed) => self.are_kept(shelf, alloc, known, changed)?,
-                None => false,
-            };
+            let does = self.do_others(shelf, alloc, known, back, &others)?;
             walk.learn(run, does);
             if does {
                 kept = others;
@@ -207,21 +205,41 @@ impl Joint<'_, '_> {
         Ok(kept)
     }
 
+    /// Whether the rest of some parts do once some are taken back: where it is known what
+    /// participants ask, that is read anew of those whose parts are taken back, and known then if
+    /// they do.
+    fn do_others(
+        &self,
+        shelf: &mut Shelf,
+        alloc: Global,
+        known: &mut Option<Known>,
+        back: &[Part],
+        others: &[Part],
+    ) -> Result<bool, AllocError> {
+        let Some(known) = known else {
+            return self.does(alloc, others);
+        };
+        let Some(changed) = self.known_of(shelf, alloc, back, others)? else {
+            return Ok(false);
+        };
+        let does = self.are_kept(shelf, alloc, known, &changed)?;
+        if does {
+            known.learn(&changed);
+        }
+        Ok(does)
+    }
+
     /// Whether participants aren't known to leave no settings where some ask otherwise than is
-    /// known; that is known then.
+    /// known.
     fn are_kept(
         &self,
         shelf: &Shelf,
         alloc: Global,
-        known: &mut Known,
-        changed: Known,
+        known: &Known,
+        changed: &Known,
     ) -> Result<bool, AllocError> {
-        let read = self.read(shelf, alloc, known, &changed)?;
-        let does = !leave_none(alloc, self.group, self.parties, &read)?;
-        if does {
-            known.learn(changed);
-        }
-        Ok(does)
+        let read = self.read(shelf, alloc, known, changed)?;
+        Ok(!leave_none(alloc, self.group, self.parties, &read)?)
     }
 
     /// What participants ask, of whom some ask otherwise than is known.
@@ -235,7 +253,7 @@ impl Joint<'_, '_> {
         let mut read = Vec::new(alloc);
         for (person, one) in self.group.people.iter().enumerate() {
             let place = changed.place(person).or(known.place(person));
-            if let Some(asked) = place.and_then(|place| shelf.asked(place)) {
+            if let Some(asked) = shelf.asked(place) {
                 let node = one.node;
                 read.push(Read { node, asked })?;
             }
@@ -255,10 +273,7 @@ impl Joint<'_, '_> {
         let mut known = Known::new(alloc);
         for (person, one) in self.group.people.iter().enumerate() {
             let mut place = None;
-            if let (true, Some(value)) = (
-                others.iter().any(|part| part.person == person),
-                one.stated,
-            ) {
+            if let (true, Some(value)) = (has_own(others, person), one.stated) {
                 place = self.place_after(shelf, alloc, person, value, parts)?;
                 if place.is_none() {
                     return Ok(None);
@@ -328,11 +343,7 @@ impl Joint<'_, '_> {
         others: Option<&Known>,
     ) -> Result<Option<Amount>, AllocError> {
         let mut best = None;
-        let halving = parts.get(index).and_then(|part| {
-            let value = self.group.people.get(part.person)?.stated?;
-            Halving::of(value, part.edit, line)
-        });
-        let Some(mut halving) = halving else {
+        let Some(mut halving) = self.halving(parts.get(index), line) else {
             return Ok(best);
         };
         for _halving in 0..MOST_HALVINGS {
@@ -342,7 +353,7 @@ impl Joint<'_, '_> {
             set_amount(parts, index, Some(amount));
             let does = match others {
                 Some(known) => self.does_unrun(shelf, alloc, parts, index, known)?,
-                None => self.outcome(alloc, parts)?.is_some(),
+                None => self.does(alloc, parts)?,
             };
             halving.learn(amount, does);
             if does {
@@ -350,6 +361,13 @@ impl Joint<'_, '_> {
             }
         }
         Ok(best)
+    }
+
+    /// The values that a part leaves between, where leaving its field out gives this line.
+    fn halving(&self, part: Option<&Part>, line: &str) -> Option<Halving> {
+        let part = part?;
+        let value = self.group.people.get(part.person)?.stated?;
+        Halving::of(value, part.edit, line)
     }
 
     /// Whether participants aren't known to leave no settings with the part of an index, where it
@@ -364,12 +382,14 @@ impl Joint<'_, '_> {
     ) -> Result<bool, AllocError> {
         let own = parts.get(index..index.saturating_add(1)).unwrap_or(&[]);
         match self.known_of(shelf, alloc, own, parts)? {
-            Some(changed) => {
-                let read = self.read(shelf, alloc, known, &changed)?;
-                Ok(!leave_none(alloc, self.group, self.parties, &read)?)
-            }
+            Some(changed) => self.are_kept(shelf, alloc, known, &changed),
             None => Ok(false),
         }
+    }
+
+    /// Whether the domain is chosen by some changes, with a row that may be meant.
+    fn does(&self, alloc: Global, parts: &[Part]) -> Result<bool, AllocError> {
+        Ok(self.outcome(alloc, parts)?.is_some())
     }
 
     /// What the domain becomes by some changes, if it is chosen then with a row that may be meant.
@@ -382,7 +402,16 @@ impl Joint<'_, '_> {
         if leaves_none(alloc, self.group, self.parties, &stated)? {
             return Ok(None);
         }
-        let calls = restated(alloc, self.group.setting.calls, &stated)?;
+        self.outcome_of(alloc, &stated)
+    }
+
+    /// The same where participants state this.
+    fn outcome_of(&self, alloc: Global, stated: &[Stated]) -> Result<Option<String>, AllocError>
+        ensures { IfOk result (λ said. IfSome said (λ what. IsPromisedSo
+            self.now.group.setting.now.platform.now (map call_seen self.now.group.setting.now.calls.now)
+            self.now.group.path.now (string_bytes what))) }
+    {
+        let calls = restated(alloc, self.group.setting.calls, stated)?;
         match chosen_with(alloc, self.group.setting, &calls, self.group.path)? {
             Some(line) if !is_absurd(&line, false) => Ok(Some(line)),
             _ => Ok(None),
@@ -392,21 +421,33 @@ impl Joint<'_, '_> {
     /// The constraints of each participant after some changes.
     fn stated(&self, alloc: Global, parts: &[Part]) -> Result<Vec<Stated>, AllocError> {
         let mut stated = Vec::new(alloc);
-        for (person, one) in self.group.people.iter().enumerate() {
-            let Some(number) = self.group.story.deed(one.node, Deed::SetConstraints) else {
-                continue;
-            };
-            let Some(value) = one.stated else {
-                continue;
-            };
-            if parts.iter().any(|part| part.person == person) {
-                let place = number.saturating_sub(1);
-                let heaps = self.group.setting.platform.heaps();
-                let value = after(alloc, value, person, parts, heaps)?;
-                stated.push(Stated { place, value })?;
+        for person in 0..self.group.people.len() {
+            if has_own(parts, person) {
+                self.add_stated(&mut stated, person, parts)?;
             }
         }
         Ok(stated)
+    }
+
+    /// Adds the constraints of a participant after some changes, if it has stated some.
+    fn add_stated(
+        &self,
+        stated: &mut Vec<Stated>,
+        person: usize,
+        parts: &[Part],
+    ) -> Result<(), AllocError> {
+        let Some(one) = self.group.people.get(person) else {
+            return Ok(());
+        };
+        let number = self.group.story.deed(one.node, Deed::SetConstraints);
+        let (Some(number), Some(value)) = (number, one.stated) else {
+            return Ok(());
+        };
+        let place = number.saturating_sub(1);
+        let heaps = self.group.setting.platform.heaps();
+        let value = after(*stated.allocator(), value, person, parts, heaps)?;
+        stated.push(Stated { place, value })?;
+        Ok(())
     }
 
     /// Tells changes, and the decision that comes by them.
@@ -418,17 +459,23 @@ impl Joint<'_, '_> {
         if is_absurd(&line, are_sized(self.group.people)) {
             return Ok(());
         }
+        self.put_parts(items, parts, before)?;
+        let choice = choices_in(alloc, self.group.story, self.group.root, &line)?;
+        put_line(items, self.group, 2, line)?;
+        put_choice(items, 2, choice)
+    }
+
+    /// Puts changes that help together.
+    fn put_parts(&self, items: &mut Items, parts: &[Part], before: &str) -> Result<(), AllocError> {
         let count = parts.len();
-        let head = format!(in alloc;
+        let head = format!(in items.alloc();
             "{before}these {count} together suffice (fewer weren't found):"
         )?;
         items.say(1, "change", head)?;
         for part in parts {
             self.put_part(items, *part)?;
         }
-        let choice = choices_in(alloc, self.group.story, self.group.root, &line)?;
-        put_line(items, self.group, 2, line)?;
-        put_choice(items, 2, choice)
+        Ok(())
     }
 
     /// Puts a change of a participant.
@@ -447,8 +494,12 @@ impl Joint<'_, '_> {
         let who = self
             .group
             .who_changes(alloc, one, part.edit, &change.value)?;
-        let words = change.words.as_str();
-        let text = format!(in alloc; "{who}: {words}")?;
-        items.say(2, "and", text)
+        say_change(items, &who, &change.words)
     }
+}
+
+/// Tells a participant, and what it changes.
+fn say_change(items: &mut Items, who: &str, words: &str) -> Result<(), AllocError> {
+    let text = format!(in items.alloc(); "{who}: {words}")?;
+    items.say(2, "and", text)
 }
