@@ -9,7 +9,7 @@ use explanation_text::{Items, Kind};
 use script_reading::Call;
 use script_story::Setting;
 use std::alloc::{AllocError, Global};
-use story_parts::{Story, first_word};
+use story_parts::{Made, Story, first_word};
 
 /// How many children are tried.
 const MOST: usize = 2;
@@ -32,20 +32,36 @@ pub fn tell_later_children(
     index: usize,
     path: &str,
 ) -> Result<(), AllocError> {
-    let alloc = items.alloc();
-    let pairs = siblings_in(alloc, story, index)?;
+    let pairs = siblings_in(items.alloc(), story, index)?;
     for pair in pairs.iter().take(MOST) {
-        if let Some(line) = outcome_with(alloc, setting, story, *pair, path)? {
-            let (later, chosen) = (story.name(pair.later), story.name(pair.chosen));
-            let (first, second) = (pair.first, pair.second);
-            let text = format!(in alloc;
-                "{later} would do too, but is created after {chosen}, and the first child that does is chosen; with their names exchanged in calls {first} and {second} it would be:"
-            )?;
-            items.say(1, "then", text)?;
-            put_promised(items, setting, path, line)?;
-        }
+        tell_exchanged(items, setting, story, *pair, path)?;
     }
     Ok(())
+}
+
+/// Tells what would be decided if the later of two children stood in the other's place, if it would
+/// be chosen then.
+fn tell_exchanged(
+    items: &mut Items,
+    setting: &Setting<'_>,
+    story: &Story<'_>,
+    pair: Siblings,
+    path: &str,
+) -> Result<(), AllocError> {
+    let Some(line) = outcome_with(items.alloc(), setting, story, pair, path)? else {
+        return Ok(());
+    };
+    say_exchanged(items, story, pair)?;
+    put_promised(items, setting, path, line)
+}
+
+fn say_exchanged(items: &mut Items, story: &Story<'_>, pair: Siblings) -> Result<(), AllocError> {
+    let (later, chosen) = (story.name(pair.later), story.name(pair.chosen));
+    let (first, second) = (pair.first, pair.second);
+    let text = format!(in items.alloc();
+        "{later} would do too, but is created after {chosen}, and the first child that does is chosen; with their names exchanged in calls {first} and {second} it would be:"
+    )?;
+    items.say(1, "then", text)
 }
 
 /// The chosen child of each group of a domain that isn't attached, with each later child.
@@ -55,10 +71,10 @@ fn siblings_in(
     index: usize,
 ) -> Result<Vec<Siblings>, AllocError> {
     let mut pairs = Vec::new(alloc);
-    let is_first = story
-        .domains
-        .get(index)
-        .is_some_and(|domain| domain.host.is_none());
+    let is_first = match story.domains.get(index) {
+        Some(domain) => domain.host.is_none(),
+        None => false,
+    };
     for (group, known) in story.nodes.iter().enumerate() {
         if is_first && known.domain == index && story.is_group(group) && known.is_selected {
             add_siblings(&mut pairs, story, group)?;
@@ -73,8 +89,9 @@ fn add_siblings(
     group: usize,
 ) -> Result<(), AllocError> {
     let mut known = None;
-    for later in story.children(*pairs.allocator(), group)? {
-        let Some(second) = story.nodes.get(later).and_then(|node| node.made_by) else {
+    for later in &story.children(*pairs.allocator(), group)? {
+        let later = *later;
+        let Some(second) = story.maker(later) else {
             continue;
         };
         if let Some((chosen, first)) = known {
@@ -107,18 +124,46 @@ fn outcome_with(
     let a = place_of(story, Some(pair.first));
     let b = place_of(story, Some(pair.second));
     let between = story.calls.get(pair.first..pair.second).unwrap_or(&[]);
-    if between.iter().any(|call| call.place == a) {
+    if is_called(between, a) {
         return Ok(None);
     }
-    let now = match story.domain_of(pair.chosen) {
-        Some(domain) => choices_of(domain.told),
-        None => "",
-    };
-    let calls = exchanged(alloc, setting.calls, a, b)?;
-    match setting.outcome(alloc, &calls, path)? {
-        Some(line) if !now.is_empty() && choices_of(&line) == now => Ok(Some(line)),
+    match outcome_exchanged(alloc, setting, a, b, path)? {
+        Some(line) if is_now(story, pair, choices_of(&line)) => Ok(Some(line)),
         _ => Ok(None),
     }
+}
+
+/// The same of two names, whatever it is.
+fn outcome_exchanged(
+    alloc: Global,
+    setting: &Setting<'_>,
+    a: usize,
+    b: usize,
+    path: &str,
+) -> Result<Option<String>, AllocError>
+    ensures { IfOk result (λ said. IfSome said (λ what. IsPromisedExchanged
+        setting.now.platform.now setting.now.calls.now path.now (string_bytes what))) }
+{
+    let calls = exchanged(alloc, setting.calls, a, b)?;
+    setting.outcome(alloc, &calls, path)
+}
+
+/// Whether these are the choices of the domain of two children, if that is chosen.
+fn is_now(story: &Story<'_>, pair: Siblings, choices: &str) -> bool {
+    match story.domain_of(pair.chosen) {
+        Some(domain) => !choices.is_empty() && choices == choices_of(domain.told),
+        None => false,
+    }
+}
+
+/// Whether one of some calls is made on the name at a place.
+fn is_called(calls: &[Made<'_>], place: usize) -> bool {
+    for call in calls {
+        if call.place == place {
+            return true;
+        }
+    }
+    false
 }
 
 /// The choices that a line on a domain that is chosen names, as a text; empty where it isn't.

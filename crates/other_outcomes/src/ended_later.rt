@@ -7,13 +7,14 @@ ghost use Rattle.other_outcomes.specs.Moved.{IsMoved, IsPromisedMoved};
 
 use crate::moved::step;
 use domain_reasons::{accepted_before, room_needed};
-use explanation_text::wording::{MOST_NAMES, put_few};
+use explanation_text::wording::{MOST_NAMES, mark_after, put_few};
 use explanation_text::{Items, Kind};
-use script_reading::Call;
+use script_reading::{Act, Call};
 use script_story::Setting;
 use std::alloc::{AllocError, Global};
 use std::fmt::Write;
 use story_parts::{Deed, Story};
+use value_sources::Asked;
 
 /// Over how many calls one is moved at most: for each of these the calls are gone through.
 const FARTHEST: usize = 256;
@@ -38,27 +39,55 @@ pub fn tell_ended_later(
     path: &str,
 ) -> Result<(), AllocError> {
     let alloc = items.alloc();
-    let decided = story.domains.get(index).and_then(|domain| domain.ended);
+    let decided = match story.domains.get(index) {
+        Some(domain) => domain.ended,
+        None => None,
+    };
     let (Some(decided), Some(_)) = (decided, room_needed(alloc, story, index)?) else {
         return Ok(());
     };
     let ends = later_ends(alloc, story, index, decided)?;
-    for end in &ends {
-        if let Some(line) = outcome_before(alloc, setting, &[*end], decided, path)? {
-            put_head(items, story, &[*end], decided)?;
-            return put_promised(items, setting, path, line);
+    tell_ends(items, setting, story, &ends, decided, path)
+}
+
+/// Tells what the domain at a path would be if one of those ended before the call of a number; or
+/// else all; or else that they still count.
+fn tell_ends(
+    items: &mut Items,
+    setting: &Setting<'_>,
+    story: &Story<'_>,
+    ends: &[End],
+    decided: usize,
+    path: &str,
+) -> Result<(), AllocError> {
+    for end in ends {
+        if tell_before(items, setting, story, &[*end], decided, path)? {
+            return Ok(());
         }
     }
-    if ends.is_empty() {
+    if ends.is_empty() || tell_before(items, setting, story, ends, decided, path)? {
         return Ok(());
     }
-    if let Some(line) = outcome_before(alloc, setting, &ends, decided, path)? {
-        put_head(items, story, &ends, decided)?;
-        return put_promised(items, setting, path, line);
-    }
-    let mut text = String::new(alloc);
-    put_still(&mut text, story, &ends, decided)?;
+    let text = still_text(items.alloc(), story, ends)?;
     items.say(1, "note", text)
+}
+
+/// Tells what the domain at a path would be if those ended before the call of a number, if it would
+/// be chosen, and says whether it would.
+fn tell_before(
+    items: &mut Items,
+    setting: &Setting<'_>,
+    story: &Story<'_>,
+    ends: &[End],
+    decided: usize,
+    path: &str,
+) -> Result<bool, AllocError> {
+    let Some(line) = outcome_before(items.alloc(), setting, ends, decided, path)? else {
+        return Ok(false);
+    };
+    put_head(items, story, ends, decided)?;
+    put_promised(items, setting, path, line)?;
+    Ok(true)
 }
 
 /// Those who were accepted before the domain of an index, and whom a call ends after the one that
@@ -71,19 +100,28 @@ fn later_ends(
 ) -> Result<Vec<End>, AllocError> {
     let people = accepted_before(alloc, story, index)?;
     let mut ends = Vec::new(alloc);
-    for (place, made) in story.calls.iter().enumerate() {
-        let call = place.saturating_add(1);
-        let far = call.saturating_sub(decided);
-        let Some(node) = made.node else {
-            continue;
-        };
-        let holds = people.iter().any(|one| one.node == node);
-        let is_end = story.deed(node, Deed::End) == Some(call);
-        if holds && is_end && 0 < far && far <= FARTHEST && ends.len() < MOST {
-            ends.push(End { node, call })?;
+    for later in 0..FARTHEST {
+        let call = decided.saturating_add(later).saturating_add(1);
+        match ended_by(story, &people, call) {
+            Some(node) if ends.len() < MOST => ends.push(End { node, call })?,
+            _ => {}
         }
     }
     Ok(ends)
+}
+
+/// The one of some participants whom the call of a number ends.
+fn ended_by(story: &Story<'_>, people: &[Asked<'_>], call: usize) -> Option<usize> {
+    let node = story.call(call)?.node?;
+    if story.deed(node, Deed::End) != Some(call) {
+        return None;
+    }
+    for one in people {
+        if one.node == node {
+            return Some(node);
+        }
+    }
+    None
 }
 
 /// Puts what is tried:
@@ -94,28 +132,36 @@ fn put_head(
     ends: &[End],
     decided: usize,
 ) -> Result<(), AllocError> {
-    let alloc = items.alloc();
-    let mut text = String::new(alloc);
-    put_still(&mut text, story, ends, decided)?;
-    text.push_str("; with ")?;
-    put_calls(&mut text, ends)?;
-    write!(text, " before call {decided} it would be:")?;
+    let mut text = still_text(items.alloc(), story, ends)?;
+    put_tried(&mut text, ends, decided)?;
     items.say(1, "then", text)
 }
 
-/// Puts that those still count after a text.
-fn put_still(
-    text: &mut String,
-    story: &Story<'_>,
-    ends: &[End],
-    decided: usize,
-) -> Result<(), AllocError> {
-    let alloc = *text.allocator();
-    let mut names: Vec<&str> = Vec::new(alloc);
+/// Puts that those are to end before the call of a number after a text.
+fn put_tried(text: &mut String, ends: &[End], decided: usize) -> Result<(), AllocError> {
+    text.push_str("; with ")?;
+    put_calls(text, ends)?;
+    write!(text, " before call {decided} it would be:")
+}
+
+/// That those still count.
+fn still_text(alloc: Global, story: &Story<'_>, ends: &[End]) -> Result<String, AllocError> {
+    let mut text = String::new(alloc);
+    put_names(&mut text, story, ends)?;
+    put_still(&mut text, story, ends)?;
+    Ok(text)
+}
+
+fn put_names(text: &mut String, story: &Story<'_>, ends: &[End]) -> Result<(), AllocError> {
+    let mut names: Vec<&str> = Vec::new(*text.allocator());
     for end in ends {
         names.push(story.name(end.node))?;
     }
-    put_few(text, &names, MOST_NAMES)?;
+    put_few(text, &names, MOST_NAMES)
+}
+
+/// Puts that those still count after their names.
+fn put_still(text: &mut String, story: &Story<'_>, ends: &[End]) -> Result<(), AllocError> {
     let (counts, is) = if ends.len() == 1 {
         ("counts", "is")
     } else {
@@ -131,12 +177,13 @@ fn put_still(
 
 /// How those end: released, closed, or some so and some so.
 fn ending(story: &Story<'_>, ends: &[End]) -> &'static str {
-    let closes = ends
-        .iter()
-        .filter(|end| story
-            .call(end.call)
-            .is_some_and(|call| call.name() == "close"))
-        .count();
+    let mut closes = 0usize;
+    for end in ends {
+        match story.call(end.call) {
+            Some(call) if matches!(call.act, Act::Close) => closes = closes.saturating_add(1),
+            _ => {}
+        }
+    }
     match closes {
         0 => "released",
         some if some == ends.len() => "closed",
@@ -146,17 +193,12 @@ fn ending(story: &Story<'_>, ends: &[End]) -> &'static str {
 
 /// Puts the numbers of the calls after a text: `call 18`, `calls 18 and 20`.
 fn put_calls(text: &mut String, ends: &[End]) -> Result<(), AllocError> {
-    let alloc = *text.allocator();
     text.push_str(if ends.len() == 1 { "call " } else { "calls " })?;
-    let mut numbers: Vec<String> = Vec::new(alloc);
-    for end in ends {
-        numbers.push(format!(in alloc; "{}", end.call)?)?;
+    for (k, end) in ends.iter().enumerate() {
+        let mark = mark_after(k, ends.len());
+        write!(text, "{}{mark}", end.call)?;
     }
-    let mut words: Vec<&str> = Vec::new(alloc);
-    for number in &numbers {
-        words.push(number.as_str())?;
-    }
-    put_few(text, &words, MOST)
+    Ok(())
 }
 
 /// What the domain at a path becomes once these calls, in their order, stand before the call of a

@@ -4,10 +4,11 @@ use crate::platforms::{heaps_of, outcome_on};
 use explanation_text::{Items, Kind};
 use script_story::Setting;
 use std::alloc::{AllocError, Global};
+use sysmem_memory::Heap;
 use value_sources::Asked;
 
 /// What memory may be.
-#[derive(Clone, Copy, PartialEq, Eq)]
+#[derive(Clone, Copy)]
 enum Trait {
     Contiguous,
     Secure,
@@ -29,6 +30,16 @@ impl Trait {
             Trait::Secure => memory.secure_required,
         }
     }
+
+    /// Whether one of some participants needs memory to be so.
+    fn is_needed_by_one(self, people: &[Asked<'_>]) -> bool {
+        for one in people {
+            if self.is_needed(one) {
+                return true;
+            }
+        }
+        false
+    }
 }
 
 /// Tells the first heap with which the domain at a path would have settings if it were contiguous,
@@ -41,7 +52,7 @@ pub fn tell_heaps(
     people: &[Asked<'_>],
 ) -> Result<(), AllocError> {
     for wanted in [Trait::Contiguous, Trait::Secure] {
-        if people.iter().any(|one| wanted.is_needed(one)) {
+        if wanted.is_needed_by_one(people) {
             tell_first(items, setting, path, wanted)?;
         }
     }
@@ -57,19 +68,22 @@ fn tell_first(
 ) -> Result<(), AllocError> {
     let alloc = items.alloc();
     for (index, info) in setting.platform.heaps().iter().enumerate() {
-        let Some(line) = outcome_so(alloc, setting, path, index, wanted)? else {
-            continue;
-        };
-        let heap = info.heap.heap_type.as_str();
-        let id = info.heap.id;
-        let word = wanted.name();
-        let text = format!(in alloc;
-            "with {heap}#{id} {word} on the platform, which doesn't say so, it would be:"
-        )?;
-        items.say(1, "then", text)?;
-        return items.push(Kind::Decision, 2, "->", line);
+        if let Some(line) = outcome_so(alloc, setting, path, index, wanted)? {
+            say_heap(items, &info.heap, wanted)?;
+            return items.push(Kind::Decision, 2, "->", line);
+        }
     }
     Ok(())
+}
+
+fn say_heap(items: &mut Items, heap: &Heap, wanted: Trait) -> Result<(), AllocError> {
+    let name = heap.heap_type.as_str();
+    let id = heap.id;
+    let word = wanted.name();
+    let text = format!(in items.alloc();
+        "with {name}#{id} {word} on the platform, which doesn't say so, it would be:"
+    )?;
+    items.say(1, "then", text)
 }
 
 /// What the domain at a path would be if the heap of an index were so that isn't, if it would be

@@ -7,6 +7,7 @@ use settings_reasons::listed_before;
 use std::alloc::{AllocError, Global};
 use story_parts::{Story, asked_in};
 use sysmem_formats::{Offer, Pair};
+use sysmem_sanitise::Platform;
 
 /// How many pairs are tried.
 const MOST: usize = 3;
@@ -24,16 +25,39 @@ pub fn tell_later_pairs(
     let Some(chosen) = pair_of(story, index) else {
         return Ok(());
     };
-    let people = asked_in(alloc, story, index, true)?;
-    let listed = listed_before(alloc, setting.platform, &people, chosen)?;
+    let listed = listed_in(alloc, setting, story, index, chosen)?;
     for pair in listed.iter().take(MOST) {
-        if let Some(line) = outcome_first(alloc, setting, path, *pair)? {
-            let words = words_of(alloc, *pair, chosen)?;
-            items.say(1, "then", words)?;
-            items.push(Kind::Decision, 2, "->", line)?;
-        }
+        tell_pair(items, setting, path, *pair, chosen)?;
     }
     Ok(())
+}
+
+/// The pairs that participants of a domain list before the chosen one.
+fn listed_in(
+    alloc: Global,
+    setting: &Setting<'_>,
+    story: &Story<'_>,
+    index: usize,
+    chosen: Pair,
+) -> Result<Vec<Pair>, AllocError> {
+    let people = asked_in(alloc, story, index, true)?;
+    listed_before(alloc, setting.platform, &people, chosen)
+}
+
+/// Tells what the domain at a path would be if a pair stood first on the platform, if that would be
+/// chosen.
+fn tell_pair(
+    items: &mut Items,
+    setting: &Setting<'_>,
+    path: &str,
+    pair: Pair,
+    chosen: Pair,
+) -> Result<(), AllocError> {
+    let Some(line) = outcome_first(items.alloc(), setting, path, pair)? else {
+        return Ok(());
+    };
+    say_pair(items, pair, chosen)?;
+    items.push(Kind::Decision, 2, "->", line)
 }
 
 /// The pair that was chosen for a domain that isn't attached.
@@ -48,12 +72,13 @@ fn pair_of(story: &Story<'_>, index: usize) -> Option<Pair> {
     }
 }
 
-fn words_of(alloc: Global, pair: Pair, chosen: Pair) -> Result<String, AllocError> {
+fn say_pair(items: &mut Items, pair: Pair, chosen: Pair) -> Result<(), AllocError> {
     let (format, modifier) = (pair.format.name(), pair.modifier.name());
     let (first, its) = (chosen.format.name(), chosen.modifier.name());
-    format!(in alloc;
+    let text = format!(in items.alloc();
         "{format} {modifier} would do too, but stands after {first} {its} on the platform, whose order decides, not the entries'; with it first there it would be:"
-    )
+    )?;
+    items.say(1, "then", text)
 }
 
 /// What the domain at a path would be if a pair stood first on the platform, if that would be
@@ -64,16 +89,27 @@ fn outcome_first(
     path: &str,
     pair: Pair,
 ) -> Result<Option<String>, AllocError> {
-    let mut pairs = vec![in alloc; pair]?;
-    for other in setting.platform.pairs() {
-        if *other != pair {
+    let pairs = pairs_from(alloc, setting.platform, pair)?;
+    let heaps = heaps_of(alloc, setting.platform)?;
+    match outcome_on(alloc, setting, heaps, pairs, path)? {
+        Some(line) => if_of(alloc, line, pair),
+        None => Ok(None),
+    }
+}
+
+/// The pairs of a platform with one of them first.
+fn pairs_from(alloc: Global, platform: &Platform, first: Pair) -> Result<Vec<Pair>, AllocError> {
+    let mut pairs = vec![in alloc; first]?;
+    for other in platform.pairs() {
+        if *other != first {
             pairs.push(*other)?;
         }
     }
-    let heaps = heaps_of(alloc, setting.platform)?;
-    let Some(line) = outcome_on(alloc, setting, heaps, pairs, path)? else {
-        return Ok(None);
-    };
+    Ok(pairs)
+}
+
+/// What was chosen, if that is an image of a pair.
+fn if_of(alloc: Global, line: String, pair: Pair) -> Result<Option<String>, AllocError> {
     let (format, modifier) = (pair.format.name(), pair.modifier.name());
     let image = format!(in alloc; " image {format} {modifier} ")?;
     if line.as_str().contains(image.as_str()) {

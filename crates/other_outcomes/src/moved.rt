@@ -23,13 +23,23 @@ pub fn tell_moved(
     value: &Value,
     story: &Story<'_>,
 ) -> Result<(), AllocError> {
-    let alloc = items.alloc();
-    let moves = moves_in(alloc, story)?;
+    let moves = moves_in(items.alloc(), story)?;
     if moves.is_empty() {
         return Ok(());
     }
-    let other = reordered(alloc, value, &moves)?;
-    let script = match read_script(alloc, &other) {
+    let other = reordered(items.alloc(), value, &moves)?;
+    tell_reordered(items, setting, &moves, &other)
+}
+
+/// Tells what a script does that is another one with some calls moved, if it isn't refused.
+fn tell_reordered(
+    items: &mut Items,
+    setting: &Setting<'_>,
+    moves: &[Move],
+    value: &Value,
+) -> Result<(), AllocError> {
+    let alloc = items.alloc();
+    let script = match read_script(alloc, value) {
         Ok(script) => script,
         Err(ParseFault::NoMemory) => return Err(AllocError),
         Err(ParseFault::Refused(_)) => return Ok(()),
@@ -43,7 +53,7 @@ pub fn tell_moved(
     if told.report.starved {
         return Err(AllocError);
     }
-    tell_replayed(items, setting, &moves, &other, &script.calls, &told)
+    tell_replayed(items, setting, moves, value, &script.calls, &told)
 }
 
 /// Tells what calls do that are those of a script with some moved.
@@ -67,22 +77,24 @@ fn tell_story(
     moves: &[Move],
     then: &Story<'_>,
 ) -> Result<(), AllocError> {
-    let alloc = items.alloc();
-    let mut text = String::from_str(alloc, "with ")?;
-    put_moves(&mut text, moves)?;
-    text.push_str(" the script has, its calls numbered anew:")?;
-    items.say(1, "then", text)?;
+    say_moves(items, moves, " the script has, its calls numbered anew:")?;
     tell_in_short(items, setting.platform, then)
+}
+
+/// Tells that calls are moved, with words after that.
+fn say_moves(items: &mut Items, moves: &[Move], end: &str) -> Result<(), AllocError> {
+    let mut text = String::from_str(items.alloc(), "with ")?;
+    put_moves(&mut text, moves)?;
+    text.push_str(end)?;
+    items.say(1, "then", text)
 }
 
 /// Puts which calls are moved after a text: `call 5 moved after call 6`.
 fn put_moves(text: &mut String, moves: &[Move]) -> Result<(), AllocError> {
     for (k, one) in moves.iter().enumerate() {
-        if k > 0 {
-            text.push_str(" and ")?;
-        }
+        let mark = if k > 0 { " and " } else { "" };
         let (call, after) = (one.call, one.after);
-        write!(text, "call {call} moved after call {after}")?;
+        write!(text, "{mark}call {call} moved after call {after}")?;
     }
     Ok(())
 }
@@ -91,16 +103,22 @@ fn put_moves(text: &mut String, moves: &[Move]) -> Result<(), AllocError> {
 fn reordered(alloc: Global, value: &Value, moves: &[Move]) -> Result<Value, AllocError> {
     let mut copy = value.clone()?;
     if let Some(Value::Array(calls)) = copy.get_mut("calls") {
-        let order = order_of(alloc, calls.len(), moves)?;
-        let mut list = Vec::new(alloc);
-        for place in order {
-            if let Some(call) = calls.get(place) {
-                list.push(call.clone()?)?;
-            }
-        }
+        let list = in_order(alloc, calls, moves)?;
         *calls = list;
     }
     Ok(copy)
+}
+
+/// Calls in the order that they have once some are moved.
+fn in_order(alloc: Global, calls: &[Value], moves: &[Move]) -> Result<Vec<Value>, AllocError> {
+    let order = order_of(alloc, calls.len(), moves)?;
+    let mut list = Vec::new(alloc);
+    for place in &order {
+        if let Some(call) = calls.get(*place) {
+            list.push(call.clone()?)?;
+        }
+    }
+    Ok(list)
 }
 
 /// The places of so many calls, from 0, in the order that they have once some are moved, from the
@@ -133,10 +151,12 @@ fn order_after(alloc: Global, order: &[usize], one: Move) -> Result<Vec<usize>, 
 /// Where the call of a number stands.
 fn place_in(order: &[usize], number: usize) -> usize {
     let place = number.saturating_sub(1);
-    order
-        .iter()
-        .position(|other| *other == place)
-        .unwrap_or(usize::MAX)
+    for (k, other) in order.iter().enumerate() {
+        if *other == place {
+            return k;
+        }
+    }
+    usize::MAX
 }
 
 /// The calls, of which that at a place stands right after that at a later one.
@@ -215,30 +235,28 @@ pub fn tell_then(
     story: &Story<'_>,
     path: &str,
 ) -> Result<(), AllocError> {
-    let alloc = items.alloc();
-    let moves = moves_in(alloc, story)?;
-    if moves.is_empty() || moves.iter().any(|one| makes_name(story, *one)) {
+    let moves = moves_in(items.alloc(), story)?;
+    if moves.is_empty() || make_name(story, &moves) {
         return Ok(());
     }
-    let Some(line) = outcome_moved(alloc, setting, &moves, path)? else {
-        return Ok(());
-    };
-    if line.as_str() == "pending" {
-        return Ok(());
+    match outcome_moved(items.alloc(), setting, &moves, path)? {
+        Some(line) if line.as_str() != "pending" => {
+            say_moves(items, &moves, " it would be:")?;
+            put_promised(items, setting, path, line)
+        }
+        _ => Ok(()),
     }
-    let mut text = String::from_str(alloc, "with ")?;
-    put_moves(&mut text, &moves)?;
-    text.push_str(" it would be:")?;
-    items.say(1, "then", text)?;
-    put_promised(items, setting, path, line)
 }
 
-/// Whether the call that is moved makes a name: then the names stand in another order.
-fn makes_name(story: &Story<'_>, one: Move) -> bool {
-    match story.call(one.call) {
-        Some(call) => call.act.name_made().is_some(),
-        None => false,
+/// Whether a call that is moved makes a name: then the names stand in another order.
+fn make_name(story: &Story<'_>, moves: &[Move]) -> bool {
+    for one in moves {
+        match story.call(one.call) {
+            Some(call) if call.act.name_made().is_some() => return true,
+            _ => {}
+        }
     }
+    false
 }
 
 /// Puts the decision that comes once calls are moved.

@@ -6,7 +6,6 @@ use explanation_text::{Items, Kind};
 use script_reading::{Act, Call};
 use script_story::Setting;
 use std::alloc::{AllocError, Global};
-use std::fmt::Write;
 use story_parts::Story;
 
 /// Tells what the domain of an index would be if nobody who is awaited stated anything. Groups
@@ -18,49 +17,72 @@ pub fn tell_without(
     index: usize,
     path: &str,
 ) -> Result<(), AllocError> {
-    let alloc = items.alloc();
-    let awaited = who_holds_up(alloc, story, index)?;
+    let awaited = who_holds_up(items.alloc(), story, index)?;
     if awaited.is_empty() || setting.effort.is_spent() {
         return Ok(());
     }
-    let Some(calls) = without(alloc, setting, story, &awaited)? else {
-        return Ok(());
-    };
-    let outcome = setting.outcome(alloc, &calls, path)?;
-    let mut text = String::from_str(alloc, "with ")?;
-    put_ended(&mut text, story, &awaited)?;
-    tell_outcome(items, text, outcome)
+    match without(items.alloc(), setting, story, &awaited)? {
+        Some(calls) => tell_with(items, setting, story, &awaited, &calls, path),
+        None => Ok(()),
+    }
 }
 
-/// Tells what would be, after words on what is changed.
-fn tell_outcome(
+/// Tells what the domain at a path would be with these calls, by which nobody is awaited.
+fn tell_with(
     items: &mut Items,
-    text: String,
-    outcome: Option<String>,
+    setting: &Setting<'_>,
+    story: &Story<'_>,
+    awaited: &[usize],
+    calls: &[Call<'_>],
+    path: &str,
 ) -> Result<(), AllocError> {
-    let mut text = text;
-    match outcome {
+    match setting.outcome(items.alloc(), calls, path)? {
         Some(line) if line.as_str() != "pending" => {
-            text.push_str(" it would be:")?;
-            items.say(1, "then", text)?;
+            say_ended(items, story, awaited, " it would be:")?;
             items.push(Kind::Decision, 2, "->", line)
         }
-        _ => {
-            text.push_str(" it would wait still")?;
-            items.say(1, "then", text)
-        }
+        _ => say_ended(items, story, awaited, " it would wait still"),
     }
+}
+
+/// Tells who would be released and what would be complete, with words after that.
+fn say_ended(
+    items: &mut Items,
+    story: &Story<'_>,
+    awaited: &[usize],
+    end: &str,
+) -> Result<(), AllocError> {
+    let mut text = String::from_str(items.alloc(), "with ")?;
+    put_ended(&mut text, story, awaited)?;
+    text.push_str(end)?;
+    items.say(1, "then", text)
 }
 
 /// Puts who would be released and what would be complete after a text.
 fn put_ended(text: &mut String, story: &Story<'_>, awaited: &[usize]) -> Result<(), AllocError> {
-    let gone = names_of(*text.allocator(), story, awaited, false)?;
-    let full = names_of(*text.allocator(), story, awaited, true)?;
-    put_part(text, &gone, "released")?;
-    if !gone.is_empty() && !full.is_empty() {
-        text.push_str(" and ")?;
+    let is_one_gone = put_those(text, story, awaited, false, "")?;
+    let mark = if is_one_gone { " and " } else { "" };
+    let _is_one_full = put_those(text, story, awaited, true, mark)?;
+    Ok(())
+}
+
+/// Puts those that are groups and would be complete, or the others, which would be released, after
+/// a text with a mark, and says whether there are some.
+fn put_those(
+    text: &mut String,
+    story: &Story<'_>,
+    awaited: &[usize],
+    are_groups: bool,
+    mark: &str,
+) -> Result<bool, AllocError> {
+    let names = names_of(*text.allocator(), story, awaited, are_groups)?;
+    if names.is_empty() {
+        return Ok(false);
     }
-    put_part(text, &full, "complete")
+    text.push_str(mark)?;
+    put_few(text, &names, MOST_NAMES)?;
+    text.push_str(if are_groups { " complete" } else { " released" })?;
+    Ok(true)
 }
 
 /// The names of those that are groups, or of the others.
@@ -77,14 +99,6 @@ fn names_of<'a>(
         }
     }
     Ok(names)
-}
-
-fn put_part(text: &mut String, names: &[&str], word: &str) -> Result<(), AllocError> {
-    if names.is_empty() {
-        return Ok(());
-    }
-    put_few(text, names, MOST_NAMES)?;
-    write!(text, " {word}")
 }
 
 /// The script's calls with those after them that end what is awaited: tokens and collections are
@@ -143,13 +157,11 @@ fn call_on<'a>(story: &Story<'a>, node: usize, act: Act<'a>) -> Call<'a> {
 
 /// The place of the name that the call of a number makes; the root's where there is none.
 pub(crate) fn place_of(story: &Story<'_>, number: Option<usize>) -> usize {
-    match number {
-        Some(number) => story
-            .calls
-            .iter()
-            .take(number)
-            .filter(|call| call.act.name_made().is_some())
-            .count(),
-        None => 0,
+    let mut place = 0usize;
+    for call in story.calls.iter().take(number.unwrap_or(0)) {
+        if call.act.name_made().is_some() {
+            place = place.saturating_add(1);
+        }
     }
+    place
 }

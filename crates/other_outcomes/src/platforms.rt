@@ -22,16 +22,19 @@ pub fn tell_platform(
     let alloc = items.alloc();
     let lacked = lacked_pairs(alloc, setting.platform, people)?;
     for pair in lacked.iter().take(MOST) {
-        let Some(line) = outcome_with(alloc, setting, path, *pair)? else {
-            continue;
-        };
-        let format = pair.format.name();
-        let modifier = pair.modifier.name();
-        let text = format!(in alloc; "with {format} {modifier} on the platform it would be:")?;
-        items.say(1, "then", text)?;
-        return items.push(Kind::Decision, 2, "->", line);
+        if let Some(line) = outcome_with(alloc, setting, path, *pair)? {
+            say_pair(items, *pair)?;
+            return items.push(Kind::Decision, 2, "->", line);
+        }
     }
     Ok(())
+}
+
+fn say_pair(items: &mut Items, pair: Pair) -> Result<(), AllocError> {
+    let format = pair.format.name();
+    let modifier = pair.modifier.name();
+    let text = format!(in items.alloc(); "with {format} {modifier} on the platform it would be:")?;
+    items.say(1, "then", text)
 }
 
 /// What the domain at a path would be on the platform with one pair more, if it would be chosen.
