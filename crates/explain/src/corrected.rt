@@ -1,7 +1,7 @@
 //! What a script means once each text in it is corrected that nearly is a known one.
 
 use domain_reasons::tell_in_short;
-use explanation_text::wording::{put_joined, put_visible};
+use explanation_text::wording::{mark_after, put_visible};
 use explanation_text::{Item, Items, Kind};
 use json_places::{begins_character, line_of};
 use record_faults::Document;
@@ -55,15 +55,22 @@ fn meant_by(
     };
     let start = at.saturating_add(1);
     let rest = bytes.get(start..).unwrap_or(&[]);
-    let Some(length) = rest.iter().position(|byte| *byte == b'"' || *byte == b'\\') else {
-        return Ok(None);
-    };
-    let end = start.saturating_add(length);
+    let end = start.saturating_add(plain_length(rest));
     if bytes.get(at).copied() != Some(b'"') || bytes.get(end).copied() != Some(b'"') {
         return Ok(None);
     }
     let is = String::from_str(alloc, is)?;
     Ok(Some(Meant { start, end, is }))
+}
+
+/// How many bytes stand before the first quote or backslash.
+fn plain_length(bytes: &[u8]) -> usize {
+    for (k, byte) in bytes.iter().enumerate() {
+        if *byte == b'"' || *byte == b'\\' {
+            return k;
+        }
+    }
+    bytes.len()
 }
 
 /// The known text that a line on what helps names: `did you mean camera?`, `it is vulkan here`.
@@ -90,9 +97,12 @@ fn known_of<'a>(shown: &'a str) -> Option<&'a str> {
 }
 
 fn is_name(text: &str) -> bool {
-    text.as_bytes().iter().all(|byte| byte.is_ascii_alphanumeric()
-        || *byte == b'_'
-        || *byte == b'-')
+    for byte in text.as_bytes() {
+        if !byte.is_ascii_alphanumeric() && *byte != b'_' && *byte != b'-' {
+            return false;
+        }
+    }
+    true
 }
 
 /// Where the fault begins whose line and column are shown after the name of the file: `  -->
@@ -134,28 +144,43 @@ pub(crate) fn tell_corrected(
     document: &Document<'_>,
     meant: &[Meant],
 ) -> Result<(), AllocError> {
-    let alloc = items.alloc();
     if meant.is_empty() {
         return Ok(());
     }
-    let Some(bytes) = corrected(alloc, document.bytes, meant)? else {
-        return Ok(());
-    };
-    let value = match parse_script(alloc, &bytes) {
-        Ok(value) => value,
-        Err(ParseFault::NoMemory) => return Err(AllocError),
-        Err(ParseFault::Refused(_)) => return Ok(()),
-    };
-    let mut text = String::from_str(alloc, "with ")?;
-    put_meant(&mut text, document.bytes, meant)?;
+    match corrected(items.alloc(), document.bytes, meant)? {
+        Some(bytes) => tell_bytes(items, document, meant, &bytes),
+        None => Ok(()),
+    }
+}
+
+/// Tells what the script has with these bytes, in which some texts are corrected.
+fn tell_bytes(
+    items: &mut Items,
+    document: &Document<'_>,
+    meant: &[Meant],
+    bytes: &[u8],
+) -> Result<(), AllocError> {
+    match parse_script(items.alloc(), bytes) {
+        Ok(value) => {
+            say_meant(items, document.bytes, meant)?;
+            let other = Document {
+                file: document.file,
+                bytes,
+                value: &value,
+            };
+            tell_answer(items, &other)
+        }
+        Err(ParseFault::NoMemory) => Err(AllocError),
+        Err(ParseFault::Refused(_)) => Ok(()),
+    }
+}
+
+/// Tells which texts are corrected.
+fn say_meant(items: &mut Items, bytes: &[u8], meant: &[Meant]) -> Result<(), AllocError> {
+    let mut text = String::from_str(items.alloc(), "with ")?;
+    put_meant(&mut text, bytes, meant)?;
     text.push_str(" the script has:")?;
-    items.say(1, "then", text)?;
-    let other = Document {
-        file: document.file,
-        bytes: &bytes,
-        value: &value,
-    };
-    tell_answer(items, &other)
+    items.say(1, "then", text)
 }
 
 /// The script with what is meant; `None` where that doesn't stand in the order of the text.
@@ -176,22 +201,21 @@ fn corrected(alloc: Global, bytes: &[u8], meant: &[Meant]) -> Result<Option<Vec<
 
 /// Puts what stands in the place of what after a text: `vulkan in the place of gpu (line 13)`.
 fn put_meant(text: &mut String, bytes: &[u8], meant: &[Meant]) -> Result<(), AllocError> {
-    let alloc = *text.allocator();
-    let mut texts: Vec<String> = Vec::new(alloc);
-    for one in meant {
-        let line = line_of(bytes, one.start.min(bytes.len()));
-        let was = String::from_utf8_lossy(alloc, bytes.get(one.start..one.end).unwrap_or(&[]))?;
-        let is = one.is.as_str();
-        let mut part = format!(in alloc; "{is} in the place of ")?;
-        put_visible(&mut part, &was)?;
-        write!(part, " (line {line})")?;
-        texts.push(part)?;
+    for (k, one) in meant.iter().enumerate() {
+        put_one(text, bytes, one)?;
+        text.push_str(mark_after(k, meant.len()))?;
     }
-    let mut words: Vec<&str> = Vec::new(alloc);
-    for part in &texts {
-        words.push(part.as_str())?;
-    }
-    put_joined(text, &words, "and")
+    Ok(())
+}
+
+fn put_one(text: &mut String, bytes: &[u8], one: &Meant) -> Result<(), AllocError> {
+    let line = line_of(bytes, one.start.min(bytes.len()));
+    let is = one.is.as_str();
+    write!(text, "{is} in the place of ")?;
+    let was = bytes.get(one.start..one.end).unwrap_or(&[]);
+    let was = String::from_utf8_lossy(*text.allocator(), was)?;
+    put_visible(text, &was)?;
+    write!(text, " (line {line})")
 }
 
 /// Tells the answer of a script, and which of its calls are refused; or that it is refused itself.

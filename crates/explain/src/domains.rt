@@ -24,8 +24,7 @@ pub(crate) fn tell_domains(
     story: &Story<'_>,
 ) -> Result<(), AllocError> {
     for (k, index) in story.order.iter().enumerate() {
-        let is_again = story.order.iter().take(k).any(|before| before == index);
-        if !is_again {
+        if !story.order.get(..k).unwrap_or(&[]).contains(index) {
             tell_domain(items, setting.platform, story, *index)?;
             tell_unused(items, document, setting, story, *index)?;
             tell_help(items, document, setting, story, *index)?;
@@ -80,7 +79,7 @@ fn tell_edits(
         platform.pairs(),
         platform.colours(),
     )?;
-    let root = story.domains.get(index).map_or(0, |domain| domain.root);
+    let root = story.root_of(index);
     let group = Group {
         document,
         setting,

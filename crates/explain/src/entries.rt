@@ -13,6 +13,7 @@ use explanation_text::{Items, Kind};
 use json_places::Step;
 use record_faults::{Document, Part};
 use script_story::Setting;
+use serde_json::Value;
 use settings_reasons::{holder_of, unused_entries};
 use std::alloc::{AllocError, Global};
 use std::fmt::Write;
@@ -82,11 +83,6 @@ fn told_of<'a>(story: &Story<'a>, index: usize) -> &'a str {
     }
 }
 
-/// The root of a domain, by index.
-fn root_of(story: &Story<'_>, index: usize) -> usize {
-    story.domains.get(index).map_or(0, |domain| domain.root)
-}
-
 /// A participant of the domain of an index, with the number of the call that states its
 /// constraints.
 #[derive(Clone, Copy)]
@@ -112,12 +108,12 @@ impl Teller<'_, '_> {
         let entries = self.one.asked.entries();
         let mut tried: Vec<usize> = Vec::new(alloc);
         let mut told = 0usize;
-        for index in unused_entries(alloc, self.setting.platform, entries)? {
-            let Some(holder) = self.holder_of(index) else {
+        for index in &unused_entries(alloc, self.setting.platform, entries)? {
+            let Some(holder) = self.holder_of(*index) else {
                 continue;
             };
             if told < MOST {
-                self.tell_one(items, &mut tried, index, holder)?;
+                self.tell_one(items, &mut tried, *index, holder)?;
             }
             told = told.saturating_add(1);
         }
@@ -148,48 +144,57 @@ impl Teller<'_, '_> {
 
     /// Tells what would be decided with an entry of the record, from 0, before the others.
     fn tell_first(&self, items: &mut Items, item: usize) -> Result<(), AllocError> {
-        let alloc = items.alloc();
-        let root = root_of(self.story, self.index);
         let Some(value) = self.one.stated else {
             return Ok(());
         };
         let heaps = self.setting.platform.heaps();
-        let Some(change) = edited(alloc, value, Edit::EntryFirst(item), heaps)? else {
-            return Ok(());
-        };
+        match edited(items.alloc(), value, Edit::EntryFirst(item), heaps)? {
+            Some(change) => self.tell_then(items, item, &change.value),
+            None => Ok(()),
+        }
+    }
+
+    /// Tells what would be decided with these constraints, in which an entry of the record stands
+    /// first.
+    fn tell_then(&self, items: &mut Items, item: usize, value: &Value) -> Result<(), AllocError> {
+        let root = self.story.root_of(self.index);
         let trial = Trial {
             setting: self.setting,
             path: self.story.path(root),
             place: self.number.saturating_sub(1),
         };
-        let (name, number) = (self.one.name, self.number);
-        let shown = item.saturating_add(1);
-        let mut text = format!(in alloc;
-            "with entry {shown} of {name} (call {number}) put first "
-        )?;
-        let Some(line) = trial.outcome(alloc, &change.value)? else {
-            text.push_str("nothing would be chosen")?;
-            return items.say(1, "then", text);
+        let Some(line) = trial.outcome(items.alloc(), value)? else {
+            return self.say_first(items, item, "nothing would be chosen");
         };
         if line.as_str() == told_of(self.story, self.index) {
-            text.push_str("the decision would be the same")?;
-            return items.say(1, "then", text);
+            return self.say_first(items, item, "the decision would be the same");
         }
-        text.push_str("it would be:")?;
-        items.say(1, "then", text)?;
-        let choice = choices_in(alloc, self.story, root, &line)?;
+        self.say_first(items, item, "it would be:")?;
+        let choice = choices_in(items.alloc(), self.story, root, &line)?;
         put_promised(items, trial, line)?;
         put_choice(items, 2, choice)
+    }
+
+    fn say_first(&self, items: &mut Items, item: usize, end: &str) -> Result<(), AllocError> {
+        let (name, number) = (self.one.name, self.number);
+        let shown = item.saturating_add(1);
+        let text = format!(in items.alloc();
+            "with entry {shown} of {name} (call {number}) put first {end}"
+        )?;
+        items.say(1, "then", text)
     }
 
     /// The first pair of the platform that the entry of an index takes, and which entry holds for
     /// it.
     fn holder_of(&self, index: usize) -> Option<Holder> {
         let entry = self.one.asked.entries().get(index)?;
-        let pairs = self.setting.platform.pairs();
-        let pair = pairs.iter().copied().find(|pair| takes(entry, *pair))?;
-        let index = holder_of(self.one.asked.entries(), pair)?;
-        Some(Holder { index, pair })
+        for pair in self.setting.platform.pairs() {
+            if takes(entry, *pair) {
+                let index = holder_of(self.one.asked.entries(), *pair)?;
+                return Some(Holder { index, pair: *pair });
+            }
+        }
+        None
     }
 
     /// `camera (call 5): entry 2 (NV12 LINEAR, line 18) is never used: entry 1 (any format DO_NOT_CARE, line 17) comes before it and holds for ..`.
@@ -214,11 +219,9 @@ impl Teller<'_, '_> {
             return Ok(());
         };
         let place = entry_place(self.one.stated, index);
-        if place.pairs > 1 {
-            text.push_str("a pair of ")?;
-        }
+        let part = if place.pairs > 1 { "a pair of " } else { "" };
         let shown = place.item.saturating_add(1);
-        write!(text, "entry {shown} (")?;
+        write!(text, "{part}entry {shown} (")?;
         put_pair(text, entry.format, entry.modifier)?;
         let path = [
             Step::Key("calls"),
@@ -227,10 +230,10 @@ impl Teller<'_, '_> {
             Step::Key(ENTRIES),
             Step::Item(place.item),
         ];
-        if let Some(line) = line_at(alloc, self.document, &path, Part::Value)? {
-            write!(text, ", line {line}")?;
+        match line_at(alloc, self.document, &path, Part::Value)? {
+            Some(line) => write!(text, ", line {line})"),
+            None => text.push_str(")"),
         }
-        text.push_str(")")
     }
 }
 
@@ -249,7 +252,7 @@ fn put_pair(
     format: Option<PixelFormat>,
     modifier: Option<Modifier>,
 ) -> Result<(), AllocError> {
-    text.push_str(format.map_or("any format", PixelFormat::name))?;
-    text.push_str(" ")?;
-    text.push_str(modifier.map_or("DO_NOT_CARE", Modifier::name))
+    let format = format.map_or("any format", PixelFormat::name);
+    let modifier = modifier.map_or("DO_NOT_CARE", Modifier::name);
+    write!(text, "{format} {modifier}")
 }

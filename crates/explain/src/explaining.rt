@@ -80,38 +80,45 @@ fn explain_value(
     match read_script(alloc, value) {
         Ok(script) => explain_script(alloc, &document, &script),
         Err(ParseFault::NoMemory) => Err(AllocError),
-        Err(ParseFault::Refused(fault)) => {
-            let mut told = Items::new(alloc);
-            tell_fault(&mut told, &document, fault)?;
-            let shown = told.into_list();
-            let meant = meant_in(alloc, &document, &shown)?;
-            let mut items = with_repeats(alloc, &document, shown)?;
-            tell_corrected(&mut items, &document, &meant)?;
-            Ok(refusal(items))
-        }
+        Err(ParseFault::Refused(fault)) => explain_fault(alloc, &document, fault),
     }
+}
+
+/// Explains a script that is refused.
+fn explain_fault(
+    alloc: Global,
+    document: &Document<'_>,
+    fault: ScriptFault,
+) -> Result<Explanation, AllocError> {
+    let mut told = Items::new(alloc);
+    tell_fault(&mut told, document, fault)?;
+    let meant = meant_in(alloc, document, told.list())?;
+    let mut items = with_repeats(alloc, document, told)?;
+    tell_corrected(&mut items, document, &meant)?;
+    Ok(refusal(items))
 }
 
 /// What is told of a fault, with the keys that are given twice before where it stands: one of them
 /// may be what is meant.
-fn with_repeats(
-    alloc: Global,
-    document: &Document<'_>,
-    told: Vec<Item>,
-) -> Result<Items, AllocError> {
+fn with_repeats(alloc: Global, document: &Document<'_>, told: Items) -> Result<Items, AllocError> {
     let mut items = Items::new(alloc);
-    for item in told {
+    for item in told.into_list() {
         let is_answer = item.kind == Kind::Answer;
-        items.push(item.kind, item.depth, item.label, item.text)?;
+        items.add(item)?;
         if is_answer {
-            tell_repeats(&mut items, document)?;
-            if items.len() > 1 {
-                let title = String::from_str(alloc, "where the script is refused")?;
-                items.push(Kind::Title, 0, "", title)?;
-            }
+            tell_repeats_first(&mut items, document)?;
         }
     }
     Ok(items)
+}
+
+/// Tells the keys that an object has twice, before where the script is refused.
+fn tell_repeats_first(items: &mut Items, document: &Document<'_>) -> Result<(), AllocError> {
+    tell_repeats(items, document)?;
+    if items.len() > 1 {
+        items.title("where the script is refused")?;
+    }
+    Ok(())
 }
 
 /// Explains what a script's calls do.
@@ -131,11 +138,21 @@ fn explain_script<'a>(
         return Err(AllocError);
     }
     let story = story_of(alloc, document.value, &script.calls, &told)?;
+    explain_story(alloc, document, &setting, &story)
+}
+
+/// Explains what calls did.
+fn explain_story(
+    alloc: Global,
+    document: &Document<'_>,
+    setting: &Setting<'_>,
+    story: &Story<'_>,
+) -> Result<Explanation, AllocError> {
     let mut items = Items::new(alloc);
-    tell_story(&mut items, document, &setting, &story)?;
+    tell_story(&mut items, document, setting, story)?;
     Ok(Explanation {
-        outcome: outcome_of(&story),
-        items: with_lines(alloc, document, &story, items.into_list())?,
+        outcome: outcome_of(story),
+        items: with_lines(alloc, document, story, items.into_list())?,
     })
 }
 
@@ -160,23 +177,20 @@ fn tell_calls(
     document: &Document<'_>,
     story: &Story<'_>,
 ) -> Result<(), AllocError> {
-    let alloc = items.alloc();
-    let mut refused = Items::new(alloc);
+    let mut refused = Items::new(items.alloc());
     tell_refused(&mut refused, document, story)?;
-    let shown = refused.into_list();
-    let meant = meant_in(alloc, document, &shown)?;
-    for item in shown {
-        items.push(item.kind, item.depth, item.label, item.text)?;
-    }
+    let meant = meant_in(items.alloc(), document, refused.list())?;
+    items.append(refused)?;
     tell_corrected(items, document, &meant)
 }
 
 fn outcome_of(story: &Story<'_>) -> Outcome {
-    let is_fine = story
-        .domains
-        .iter()
-        .all(|domain| domain.verdict() == "chosen");
-    if refused_calls(story) == 0 && is_fine {
+    for domain in &story.domains {
+        if domain.verdict() != "chosen" {
+            return Outcome::Faulty;
+        }
+    }
+    if refused_calls(story) == 0 {
         Outcome::Fine
     } else {
         Outcome::Faulty
@@ -196,8 +210,7 @@ fn tell_repeats(items: &mut Items, document: &Document<'_>) -> Result<(), AllocE
     if repeats.is_empty() {
         return Ok(());
     }
-    let title = String::from_str(alloc, "note: keys that are given twice")?;
-    items.push(Kind::Title, 0, "", title)?;
+    items.title("note: keys that are given twice")?;
     for (first, again) in &repeats {
         tell_repeat(items, document, *first, *again)?;
     }

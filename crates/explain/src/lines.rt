@@ -255,13 +255,10 @@ fn put_line(
     };
     let within = line_of(record.bytes, span.start.min(record.bytes.len()));
     let line = begin.saturating_add(within).saturating_sub(1);
-    if !text.is_empty() {
-        text.push_str(", ")?;
+    let mark = if text.is_empty() { "" } else { ", " };
+    if entry == 0 {
+        return write!(text, "{mark}{field} in line {line}");
     }
-    write!(text, "{field} in line {line}")?;
-    if entry > 0 {
-        let place = entry.saturating_add(1);
-        write!(text, " (entry {place})")?;
-    }
-    Ok(())
+    let place = entry.saturating_add(1);
+    write!(text, "{mark}{field} in line {line} (entry {place})")
 }
