@@ -30,7 +30,12 @@ pub(crate) fn in_the_way_of(
 }
 
 fn has_groups(story: &Story<'_>, index: usize) -> bool {
-    story.nodes.iter().any(|node| node.domain == index && node.state.kind == NodeKind::Group)
+    for node in &story.nodes {
+        if node.domain == index && node.state.kind == NodeKind::Group {
+            return true;
+        }
+    }
+    false
 }
 
 /// The settings that were decided before, of a domain that was attached.

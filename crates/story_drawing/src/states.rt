@@ -117,8 +117,7 @@ fn put_counts(text: &mut String, asked: &Constraints) -> Result<(), AllocError> 
 fn put_usage(text: &mut String, usage: Usage) -> Result<(), AllocError> {
     for (name, family) in FAMILIES {
         if usage.contains(family) {
-            text.push_str(" ")?;
-            text.push_str(name)?;
+            write!(text, " {name}")?;
         }
     }
     Ok(())

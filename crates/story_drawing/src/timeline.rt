@@ -3,7 +3,6 @@
 use crate::joints::add_joints;
 use explanation_markup::{Drawing, Line, Standing};
 use std::alloc::{AllocError, Global};
-use std::fmt::Write;
 use story_parts::{Domain, Made, Story};
 use sysmem_sanitise::Platform;
 
@@ -54,7 +53,7 @@ fn add_decisions(
     after: Option<usize>,
 ) -> Result<(), AllocError> {
     for (k, index) in story.order.iter().enumerate() {
-        let is_again = story.order.iter().take(k).any(|before| before == index);
+        let is_again = story.order.get(..k).unwrap_or(&[]).contains(index);
         let Some(domain) = story.domains.get(*index) else {
             continue;
         };
@@ -85,13 +84,14 @@ fn line_of(alloc: Global, story: &Story<'_>, domain: &Domain<'_>) -> Result<Line
 fn words_of(alloc: Global, call: &Made<'_>) -> Result<String, AllocError> {
     let name = call.name();
     let on = call.on;
-    let mut text = format!(in alloc; "{name} {on}")?;
-    if let Some(made) = call.act.name_made() {
-        write!(text, " {made}")?;
-    }
-    if !call.is_accepted() {
-        let reply = call.reply;
-        write!(text, ": {reply}")?;
-    }
-    Ok(text)
+    let (space, made) = match call.act.name_made() {
+        Some(made) => (" ", made),
+        None => ("", ""),
+    };
+    let (mark, reply) = if call.is_accepted() {
+        ("", "")
+    } else {
+        (": ", call.reply)
+    };
+    format!(in alloc; "{name} {on}{space}{made}{mark}{reply}")
 }
