@@ -113,11 +113,10 @@ fn put_empty(text: &mut String, decision: &Value) -> Result<(), AllocError> {
     tally.add(list_at(decision, "refutation"));
     put_tally(text, tally)?;
     text.push_str(if tally.conflicts == 1 {
-        " leaves"
+        " leaves no settings to any selection"
     } else {
-        " leave"
-    })?;
-    text.push_str(" no settings to any selection")
+        " leave no settings to any selection"
+    })
 }
 
 fn put_tally(text: &mut String, tally: Tally) -> Result<(), AllocError> {
@@ -133,9 +132,7 @@ fn put_chosen(
     path: &str,
     decision: &Value,
 ) -> Result<(), AllocError> {
-    let is_late = story.domains.iter().any(|domain| domain.host.is_some()
-        && story.path(domain.root) == path);
-    if is_late {
+    if is_attached(story, path) {
         text.push_str("the settings decided before suit all")?;
     } else {
         put_count(text, length_of(decision, "offers"), "line", "lines")?;
@@ -144,6 +141,16 @@ fn put_chosen(
         text.push_str(" for the places before the chosen ones")?;
     }
     put_earlier(text, decision)
+}
+
+/// Whether the domain at a path is an attached one.
+fn is_attached(story: &Story<'_>, path: &str) -> bool {
+    for domain in &story.domains {
+        if domain.host.is_some() && story.path(domain.root) == path {
+            return true;
+        }
+    }
+    false
 }
 
 /// Puts what refutes the children before the chosen ones after a text.
