@@ -87,12 +87,10 @@ fn helps_in(alloc: Global, lines: &[&str]) -> Result<Vec<Value>, AllocError> {
         match told.strip_prefix("= ") {
             Some(begun) => {
                 add_help(&mut helps, &help)?;
-                help = String::from_str(alloc, begun)?;
+                help.clear();
+                help.push_str(begun)?;
             }
-            None => {
-                help.push_str(" ")?;
-                help.push_str(told)?;
-            }
+            None => write!(help, " {told}")?,
         }
     }
     add_help(&mut helps, &help)?;
