@@ -51,11 +51,14 @@ fn calls_of<'a>(
     told: &'a Replayed,
 ) -> Result<Vec<Made<'a>>, AllocError> {
     let mut made = Vec::new(alloc);
-    let values = value.get("calls").and_then(Value::as_array);
+    let values = match value.get("calls") {
+        Some(Value::Array(values)) => values.as_slice(),
+        _ => &[],
+    };
     let mut lines = told.report.text.lines();
     for (index, call) in calls.iter().enumerate() {
         let line = lines.find(|line| !is_domain_line(line)).unwrap_or("");
-        let actor = match values.and_then(|list| list.get(index)) {
+        let actor = match values.get(index) {
             Some(value) => actor_of(value),
             None => "",
         };
@@ -64,7 +67,10 @@ fn calls_of<'a>(
             on: call.on,
             place: call.place,
             actor,
-            node: told.node_named(call.place).map(|number| number as usize),
+            node: match told.node_named(call.place) {
+                Some(number) => Some(number as usize),
+                None => None,
+            },
             reply: reply_in(line, call.act.name_made().is_some()),
         })?;
     }
@@ -141,10 +147,10 @@ fn name_nodes<'a>(nodes: &mut [Node<'a>], calls: &[Call<'a>], told: &Replayed) {
 /// Keeps at each node which calls did something to it.
 fn note_deeds(nodes: &mut [Node<'_>], calls: &[Made<'_>]) {
     for (index, call) in calls.iter().enumerate() {
-        if !call.is_accepted() {
+        let (true, Some(number)) = (call.is_accepted(), call.node) else {
             continue;
-        }
-        if let Some(node) = call.node.and_then(|number| nodes.get_mut(number)) {
+        };
+        if let Some(node) = nodes.get_mut(number) {
             node.deeds.note(&call.act, index.saturating_add(1));
         }
     }
