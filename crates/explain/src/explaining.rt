@@ -206,7 +206,7 @@ fn put_answer(items: &mut Items, story: &Story<'_>) -> Result<(), AllocError> {
 /// Tells the keys that an object has twice.
 fn tell_repeats(items: &mut Items, document: &Document<'_>) -> Result<(), AllocError> {
     let alloc = items.alloc();
-    let repeats = repeated_keys(alloc, document.bytes, MOST_KEYS)?;
+    let repeats = repeated_keys(alloc, document.bytes, document.value, MOST_KEYS)?;
     if repeats.is_empty() {
         return Ok(());
     }

@@ -7,144 +7,113 @@ ghost use Rattle.serde_json.specs.View.{view};
 ghost use Rattle.json_places.specs.Places.{IsPlaceOf, IsSpelling};
 
 use crate::keys::{Span, Step, is_spelled};
-use crate::machine::Machine;
 use crate::path::value_at;
-use crate::taken::{Halt, Mark};
+use crate::skipping::{after_space, end_of_text, end_of_value};
 use serde_json::Value;
 use std::alloc::{AllocError, Global};
 
-/// Where a value was found, with its key.
+/// Where a value begins, with its key.
 #[derive(Clone, Copy)]
-struct Found {
+struct Member {
     key: Span,
-    value: Span,
+    start: usize,
 }
 
-/// Looks for the value at a path.
-#[derive(Drop)]
-struct Finder<'a> {
+/// Where the value at a path begins in a text of JSON, with its key, if the text has one. Of a key
+/// that an object has twice the last counts.
+fn found_at(alloc: Global, bytes: &[u8], path: &[Step<'_>]) -> Result<Option<Member>, AllocError> {
+    let start = after_space(bytes, 0);
+    let mut found = Member {
+        key: Span { start, end: start },
+        start,
+    };
+    for step in path {
+        match member_at(alloc, bytes, found.start, *step)? {
+            Some(member) => found = member,
+            None => return Ok(None),
+        }
+    }
+    Ok(Some(found))
+}
+
+/// Where the value begins to which a step leads from the value that begins at a place.
+fn member_at(
     alloc: Global,
-    bytes: &'a [u8],
-    path: &'a [Step<'a>],
-    machine: Machine,
-    /// How many of the lists and objects that are open, from the outermost on, lie on the path.
-    on_path: usize,
-    /// Where the value at the path begins, while it isn't complete.
-    begun: Option<usize>,
-    found: Option<Found>,
-}
-
-impl<'a> Finder<'a> {
-    fn new(alloc: Global, bytes: &'a [u8], path: &'a [Step<'a>]) -> Finder<'a> {
-        Finder {
-            alloc,
-            bytes,
-            path,
-            machine: Machine::new(alloc),
-            on_path: 0,
-            begun: None,
-            found: None,
-        }
-    }
-
-    /// Takes all bytes of the text.
-    fn read(&mut self) -> Result<(), Halt> {
-        for (at, byte) in self.bytes.iter().enumerate() {
-            self.take(at, *byte)?;
-        }
-        let end = self.bytes.len();
-        if let Ok(true) = self.machine.finish(end) {
-            self.ended(end);
-        }
-        Ok(())
-    }
-
-    /// Takes the byte at this place. Of a key that an object has twice the last counts.
-    fn take(&mut self, at: usize, byte: u8) -> Result<(), Halt> {
-        if self.machine.end_number(at, byte) {
-            self.ended(at);
-        }
-        let mark = self.machine.take(at, byte)?;
-        self.marked(at, mark)?;
-        Ok(())
-    }
-
-    fn marked(&mut self, at: usize, mark: Mark) -> Result<(), AllocError> {
-        let around = self.machine.open().len();
-        match mark {
-            Mark::Begins => self.began(at, around, false),
-            Mark::Opens => self.began(at, around.saturating_sub(1), true),
-            Mark::Ends => {
-                self.ended(at.saturating_add(1));
-                Ok(())
-            }
-            _ => Ok(()),
-        }
-    }
-
-    /// A value began with so many lists and objects around it.
-    fn began(&mut self, at: usize, around: usize, opens: bool) -> Result<(), AllocError> {
-        if self.on_path != around || around > self.path.len() || !self.is_next(around)? {
-            return Ok(());
-        }
-        self.found = None;
-        if around == self.path.len() {
-            self.begun = Some(at);
-        } else if opens {
-            self.on_path = around.saturating_add(1);
-        }
-        Ok(())
-    }
-
-    /// Whether the value that began in the innermost of so many is the one at the path's next step.
-    fn is_next(&self, around: usize) -> Result<bool, AllocError> {
-        let Some(last) = around.checked_sub(1) else {
-            return Ok(true);
-        };
-        let (Some(open), Some(step)) = (self.machine.open().get(last), self.path.get(last)) else {
-            return Ok(false);
-        };
-        match step {
-            Step::Item(index) => Ok(open.is_list && open.index == *index),
-            Step::Key(_) if open.is_list => Ok(false),
-            Step::Key(key) => is_spelled(self.alloc, open.key.within(self.bytes), key),
-        }
-    }
-
-    /// A value ended before this place.
-    fn ended(&mut self, at: usize) {
-        let around = self.machine.open().len();
-        self.on_path = self.on_path.min(around);
-        if around != self.path.len() {
-            return;
-        }
-        let Some(start) = self.begun else {
-            return;
-        };
-        self.begun = None;
-        let key = match self.machine.open().last() {
-            Some(open) => open.key,
-            None => Span { start, end: start },
-        };
-        self.found = Some(Found {
-            key,
-            value: Span { start, end: at },
-        });
+    bytes: &[u8],
+    at: usize,
+    step: Step<'_>,
+) -> Result<Option<Member>, AllocError> {
+    match step {
+        Step::Key(key) => member_with(alloc, bytes, at, key),
+        Step::Item(index) => Ok(item_at(bytes, at, index)),
     }
 }
 
-/// Where the value at a path stands, with its key, if the text is JSON that has one.
-fn found_at<'a>(
+/// The last member of a key, of the object that begins at a place.
+fn member_with(
     alloc: Global,
-    bytes: &'a [u8],
-    path: &'a [Step<'a>],
-) -> Result<Option<Found>, AllocError> {
-    let mut finder = Finder::new(alloc, bytes, path);
-    match finder.read() {
-        Ok(()) => Ok(finder.found),
-        Err(Halt::NoMemory) => Err(AllocError),
-        Err(Halt::Wrong(_)) => Ok(None),
+    bytes: &[u8],
+    at: usize,
+    key: &str,
+) -> Result<Option<Member>, AllocError> {
+    let mut found = None;
+    let Some(mut next) = after_byte(bytes, at, b'{') else {
+        return Ok(found);
+    };
+    for _member in 0..bytes.len() {
+        let Some(member) = member_from(bytes, next) else {
+            break;
+        };
+        if is_spelled(alloc, member.key.within(bytes), key)? {
+            found = Some(member);
+        }
+        match after_comma(bytes, member.start) {
+            Some(more) => next = more,
+            None => break,
+        }
     }
+    Ok(found)
+}
+
+/// The member whose key begins at a place.
+fn member_from(bytes: &[u8], at: usize) -> Option<Member> {
+    if bytes.get(at) != Some(&b'"') {
+        return None;
+    }
+    let end = end_of_text(bytes, at);
+    Some(Member {
+        key: Span { start: at, end },
+        start: after_byte(bytes, after_space(bytes, end), b':')?,
+    })
+}
+
+/// The item of an index, of the list that begins at a place. It has no key.
+fn item_at(bytes: &[u8], at: usize, index: usize) -> Option<Member> {
+    let mut start = after_byte(bytes, at, b'[')?;
+    for _item in 0..index {
+        start = after_comma(bytes, start)?;
+    }
+    if bytes.get(start) == Some(&b']') {
+        return None;
+    }
+    Some(Member {
+        key: Span { start: 0, end: 0 },
+        start,
+    })
+}
+
+/// What comes after a byte and spaces, if the byte stands at a place.
+fn after_byte(bytes: &[u8], at: usize, byte: u8) -> Option<usize> {
+    if bytes.get(at) != Some(&byte) {
+        return None;
+    }
+    Some(after_space(bytes, at.saturating_add(1)))
+}
+
+/// What comes after the value that begins at a place and a comma, if one stands there.
+fn after_comma(bytes: &[u8], at: usize) -> Option<usize> {
+    let end = after_space(bytes, end_of_value(bytes, at));
+    after_byte(bytes, end, b',')
 }
 
 /// Where the value at a path stands in a text that spells this value. `None`: there is none at the
@@ -163,7 +132,10 @@ pub fn span_of<'a>(
     let Some(found) = found_at(alloc, bytes, path)? else {
         return Ok(None);
     };
-    let span = found.value;
+    let span = Span {
+        start: found.start,
+        end: end_of_value(bytes, found.start),
+    };
     let Some(text) = bytes.get(span.start..span.end) else {
         return Ok(None);
     };
@@ -174,7 +146,7 @@ pub fn span_of<'a>(
     }
 }
 
-/// Where the key of the value at a path stands, its quotes among it.
+/// Where the key of the value at a path stands in a text of JSON, its quotes among it.
 pub fn key_span_of<'a>(
     alloc: Global,
     bytes: &'a [u8],

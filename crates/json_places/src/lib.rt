@@ -15,6 +15,7 @@ mod lines;
 mod machine;
 mod path;
 mod repeats;
+mod skipping;
 mod stopping;
 mod taken;
 

@@ -94,7 +94,7 @@ pub(crate) struct Machine {
     last_end: usize,
 }
 
-fn is_space(byte: u8) -> bool {
+pub(crate) fn is_space(byte: u8) -> bool {
     byte == b' ' || byte == b'\t' || byte == b'\n' || byte == b'\r'
 }
 

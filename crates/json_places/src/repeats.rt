@@ -2,7 +2,9 @@
 
 use crate::keys::Span;
 use crate::machine::Machine;
+use crate::skipping::keys_in;
 use crate::taken::{Halt, Mark};
+use serde_json::Value;
 use std::alloc::{AllocError, Global};
 
 /// How many keys of one object are compared with the next.
@@ -18,17 +20,59 @@ struct Key {
 
 /// The first keys, up to a number, that stand in their object before, each as it is written first
 /// and again: of these values the last counts. Of one object the first 64 keys are compared with
-/// those that follow.
+/// those that follow. The text spells this value.
 pub fn repeated_keys(
     alloc: Global,
     bytes: &[u8],
+    whole: &Value,
     most: usize,
 ) -> Result<Vec<(Span, Span)>, AllocError> {
+    let mut repeats = Vec::new(alloc);
+    if keys_in(bytes) == members_in(alloc, whole, bytes.len())? {
+        return Ok(repeats);
+    }
     let mut machine = Machine::new(alloc);
     let mut keys = Vec::new(alloc);
-    let mut repeats = Vec::new(alloc);
     note_all(&mut machine, bytes, most, &mut keys, &mut repeats)?;
     Ok(repeats)
+}
+
+/// How many members the objects of a value have, of so many lists and objects at most.
+fn members_in(alloc: Global, whole: &Value, most: usize) -> Result<usize, AllocError> {
+    let mut left: Vec<&Value> = Vec::new(alloc);
+    left.push(whole)?;
+    let mut members = 0usize;
+    for _value in 0..most {
+        match left.pop() {
+            Some(value) => members = members.saturating_add(take_apart(&mut left, value)?),
+            None => break,
+        }
+    }
+    Ok(members)
+}
+
+/// Adds the lists and objects in a value to others; says how many members it has itself.
+fn take_apart<'a>(left: &mut Vec<&'a Value>, value: &'a Value) -> Result<usize, AllocError> {
+    if let Value::Array(items) = value {
+        for item in items {
+            add_inner(left, item)?;
+        }
+    }
+    let Value::Object(members) = value else {
+        return Ok(0);
+    };
+    for (_, member) in members.iter() {
+        add_inner(left, member)?;
+    }
+    Ok(members.len())
+}
+
+/// Adds a value to others if it is a list or an object.
+fn add_inner<'a>(left: &mut Vec<&'a Value>, value: &'a Value) -> Result<(), AllocError> {
+    if let Value::Array(_) | Value::Object(_) = value {
+        left.push(value)?;
+    }
+    Ok(())
 }
 
 /// Reads the text up to its end, to where it is no JSON, or to so many repeats.
