@@ -1,10 +1,10 @@
 //! Constraints with one field changed.
 
-use crate::exchanging::exchanged;
+use crate::exchanging::{exchanged, exchanges};
 use crate::objects::{ENTRIES, MEMORY, entries_of, have, lacking, values_in, with, words_without};
-use crate::permitting::{meaning, permitting};
-use crate::taking::{putting_first, taking_colour, taking_pair};
-use crate::using::{asking_for, without_cpu};
+use crate::permitting::{meaning, means, permits_more, permitting};
+use crate::taking::{lacks_colour, putting_first, taking_colour, taking_pair};
+use crate::using::{asking_for, asks_for, has_cpu, without_cpu};
 use serde_json::Value;
 use std::alloc::{AllocError, Global};
 use sysmem_counts::Field;
@@ -141,6 +141,37 @@ pub fn edited(
         Edit::NoCpu => without_cpu(alloc, value),
         Edit::LeastCount(count) => asking_for(alloc, value, count),
         Edit::EntryFirst(index) => putting_first(alloc, value, index),
+    }
+}
+
+/// Whether a change makes constraints other ones, on a platform with these heaps.
+pub fn changes(
+    alloc: Global,
+    value: &Value,
+    edit: Edit,
+    heaps: &[HeapInfo],
+) -> Result<bool, AllocError> {
+    Ok(match edit {
+        Edit::MeansHeap(index) => return means(alloc, value, heaps, index),
+        Edit::Exchanges(least, most) => exchanges(value, least.name(), most.name()),
+        Edit::Supports(field) => is_unsupported(value, field),
+        Edit::NoCount(field) => value.get(field.name()).is_some(),
+        Edit::NoMemory(field) => memory_of(value, field.name()).is_some(),
+        Edit::NoBound(field) => have(value, field.name()),
+        Edit::TakesColour(colour) => lacks_colour(alloc, value, colour.name())?,
+        Edit::TakesPair(_) => !entries_of(value).is_empty(),
+        Edit::PermitsHeap(index) => permits_more(value, heaps.get(index)),
+        Edit::NoCpu => has_cpu(value),
+        Edit::LeastCount(count) => !asks_for(value, count),
+        Edit::EntryFirst(index) => 0 < index && index < entries_of(value).len(),
+    })
+}
+
+/// Whether constraints don't support a coherency domain.
+fn is_unsupported(value: &Value, field: Field) -> bool {
+    match memory_of(value, field.name()) {
+        Some(stated) => stated.as_bool() != Some(true),
+        None => field != Field::CpuDomainSupported,
     }
 }
 

@@ -64,3 +64,31 @@ fn exchanged_in(
         words: format!(in alloc; "{least} {a} and {most} {b} exchanged")?,
     }))
 }
+
+/// Whether the first field is somewhere above the second.
+pub(crate) fn exchanges(value: &Value, least: &str, most: &str) -> bool {
+    let in_memory = match value.get(MEMORY) {
+        Some(memory) => is_above(memory, least, most),
+        None => false,
+    };
+    if in_memory || is_above(value, least, most) {
+        return true;
+    }
+    for entry in entries_of(value) {
+        if is_above(entry, least, most) {
+            return true;
+        }
+    }
+    false
+}
+
+/// Whether in one object the first field is above the second.
+fn is_above(object: &Value, least: &str, most: &str) -> bool {
+    let (Some(low), Some(high)) = (object.get(least), object.get(most)) else {
+        return false;
+    };
+    match (amount_of(low), amount_of(high)) {
+        (Some(a), Some(b)) => a.is_above(b),
+        _ => false,
+    }
+}

@@ -8,14 +8,22 @@ pub(crate) const MEMORY: &str = "buffer_memory_constraints";
 
 pub(crate) const ENTRIES: &str = "image_format_constraints";
 
-/// The members of an object; none where there is no object.
-fn members_of(alloc: Global, object: Option<&Value>) -> Result<Map<String, Value>, AllocError> {
-    if let Some(object) = object {
-        if let Value::Object(members) = object.clone()? {
-            return Ok(members);
+/// The members of an object without that of a key; none where there is no object.
+fn members_but(
+    alloc: Global,
+    object: Option<&Value>,
+    key: &str,
+) -> Result<Map<String, Value>, AllocError> {
+    let mut members = Map::new(alloc);
+    let Some(Value::Object(others)) = object else {
+        return Ok(members);
+    };
+    for (name, member) in others.iter() {
+        if name.as_str() != key {
+            let _before = members.insert(name.clone()?, member.clone()?)?;
         }
     }
-    Ok(Map::new(alloc))
+    Ok(members)
 }
 
 /// An object with a member, in the place of one with that key.
@@ -25,7 +33,7 @@ pub(crate) fn with(
     key: &str,
     member: Value,
 ) -> Result<Value, AllocError> {
-    let mut members = members_of(alloc, object)?;
+    let mut members = members_but(alloc, object, key)?;
     let name = String::from_str(alloc, key)?;
     let _before = members.insert(name, member)?;
     Ok(Value::Object(members))
@@ -33,9 +41,7 @@ pub(crate) fn with(
 
 /// An object without a member.
 pub(crate) fn lacking(alloc: Global, object: &Value, key: &str) -> Result<Value, AllocError> {
-    let mut members = members_of(alloc, Some(object))?;
-    let _gone = members.remove(key);
-    Ok(Value::Object(members))
+    Ok(Value::Object(members_but(alloc, Some(object), key)?))
 }
 
 pub(crate) fn number_value(number: u64) -> Value {

@@ -49,6 +49,31 @@ fn heap_value(alloc: Global, heap: &Heap) -> Result<Value, AllocError> {
     with(alloc, Some(&typed), "id", number_value(heap.id))
 }
 
+/// Whether constraints name some heaps and not this one.
+pub(crate) fn permits_more(value: &Value, info: Option<&HeapInfo>) -> bool {
+    match info {
+        Some(info) => others_than(value, &info.heap).is_some(),
+        None => false,
+    }
+}
+
+/// Whether constraints name a heap that isn't there and nearly has the name of that of an index,
+/// which they don't name.
+pub(crate) fn means(
+    alloc: Global,
+    value: &Value,
+    heaps: &[HeapInfo],
+    index: usize,
+) -> Result<bool, AllocError> {
+    let Some(info) = heaps.get(index) else {
+        return Ok(false);
+    };
+    match others_than(value, &info.heap) {
+        Some(list) => Ok(near_in(alloc, list, &info.heap, heaps)?.is_some()),
+        None => Ok(false),
+    }
+}
+
 /// The constraints with a heap more that they permit; `None` where they permit it.
 pub(crate) fn permitting(
     alloc: Global,

@@ -47,6 +47,16 @@ pub(crate) fn taking_colour(
     with_entries(alloc, value, copy, words)
 }
 
+/// Whether an entry lacks a colour space.
+pub(crate) fn lacks_colour(alloc: Global, value: &Value, colour: &str) -> Result<bool, AllocError> {
+    for entry in entries_of(value) {
+        if !names_in(alloc, entry.get(COLOURS))?.contains(&colour) {
+            return Ok(true);
+        }
+    }
+    Ok(false)
+}
+
 /// `color_spaces SRGB, with REC709 too`.
 fn words_beside(alloc: Global, colour: &str, names: &[&str]) -> Result<String, AllocError> {
     let mut words = String::from_str(alloc, "color_spaces ")?;

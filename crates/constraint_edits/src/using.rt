@@ -35,9 +35,33 @@ pub(crate) fn without_cpu(alloc: Global, value: &Value) -> Result<Option<Changed
     }))
 }
 
+/// Whether a CPU is to use the buffers.
+pub(crate) fn has_cpu(value: &Value) -> bool {
+    let Some(usages) = value.get(USAGE).and_then(Value::as_array) else {
+        return false;
+    };
+    for usage in usages {
+        if is_cpu(usage) {
+            return true;
+        }
+    }
+    false
+}
+
 fn is_cpu(usage: &Value) -> bool {
     match usage.as_str() {
         Some(name) => name == "cpu",
+        None => false,
+    }
+}
+
+/// Whether so many buffers are asked for at least.
+pub(crate) fn asks_for(value: &Value, count: u32) -> bool {
+    match value
+        .get(Field::MinBufferCount.name())
+        .and_then(Value::as_u64)
+    {
+        Some(least) => least >= u64::from(count),
         None => false,
     }
 }
