@@ -38,9 +38,18 @@ impl Group<'_, '_> {
     /// The number among all of the participant whose constraints the call at a place, from 0,
     /// states, if it is one of them.
     pub(crate) fn stating(&self, place: usize) -> Option<usize> {
+        Some(self.one_stating(place)?.node)
+    }
+
+    /// The same participant.
+    pub(crate) fn one_stating(&self, place: usize) -> Option<&Asked<'_>> {
         let number = Some(place.saturating_add(1));
-        let is_it = |one: &&Asked<'_>| self.story.deed(one.node, Deed::SetConstraints) == number;
-        Some(self.people.iter().find(is_it)?.node)
+        for one in self.people {
+            if self.story.deed(one.node, Deed::SetConstraints) == number {
+                return Some(one);
+            }
+        }
+        None
     }
 
     /// A participant, with the call that states its constraints and its line: `camera (call 5, line 14)`.

@@ -44,6 +44,17 @@ impl Party<'_> {
     }
 }
 
+/// Whether other constraints of a participant, by its number among all, can leave settings: it is
+/// one of those who leave none by themselves in some party, or there are no parties.
+pub fn can_help(parties: &[Party<'_>], node: usize) -> bool {
+    for party in parties {
+        if party.needs(node) {
+            return true;
+        }
+    }
+    parties.is_empty()
+}
+
 /// Parties of those of a group, of which one is asked whatever is selected, and each of which leaves
 /// no settings; none where that isn't so, or they would be too many, or where the count of buffers
 /// tells it. Without groups of tokens it is one of all.

@@ -1,11 +1,12 @@
 //! Other constraints of participants that leave no settings, as is seen without a run.
 
+use crate::drafting::{Change, asked_after};
 use crate::group::Group;
 use crate::need::need_too_many;
 use crate::parties::Party;
 use crate::restating::Stated;
 use crate::trying::MOST_HALVINGS;
-use constraint_edits::{Changed, Edit, Halving};
+use constraint_edits::{Amount, Changed, Edit, Halving};
 use serde_json::Value;
 use settings_reasons::is_unmet;
 use std::alloc::{AllocError, Global};
@@ -85,14 +86,28 @@ pub fn leave_none(
         }
     }
     for party in parties {
-        if party.is_changed(read) {
-            let people = all_with(alloc, &party.people, read)?;
-            if !is_unmet(alloc, group.setting.platform, &people)? {
-                return Ok(false);
-            }
+        if party.is_changed(read) && !leaves_none_with(alloc, group, party, read)? {
+            return Ok(false);
         }
     }
     Ok(!parties.is_empty())
+}
+
+/// Whether a party has no settings, of which some ask what was read: often it is those alone who
+/// had none before that have none still.
+fn leaves_none_with(
+    alloc: Global,
+    group: Group<'_, '_>,
+    party: &Party<'_>,
+    read: &[Read<'_>],
+) -> Result<bool, AllocError> {
+    let platform = group.setting.platform;
+    let few = all_with(alloc, &party.needed, read)?;
+    if is_unmet(alloc, platform, &few)? {
+        return Ok(true);
+    }
+    let people = all_with(alloc, &party.people, read)?;
+    is_unmet(alloc, platform, &people)
 }
 
 /// Participants, of whom some ask what was read.
@@ -114,6 +129,27 @@ fn all_with<'a>(
     Ok(others)
 }
 
+/// Whether those of a group, whose parties these are, have no settings after a change of one of
+/// them; `None` where that isn't told without the record that would state it.
+pub fn change_leaves_none(
+    alloc: Global,
+    group: Group<'_, '_>,
+    parties: &[Party<'_>],
+    one: &Asked<'_>,
+    change: Change,
+) -> Result<Option<bool>, AllocError> {
+    match asked_after(alloc, one, &[change])? {
+        Some(asked) => {
+            let read = Read {
+                node: one.node,
+                asked: &asked,
+            };
+            Ok(Some(leave_none(alloc, group, parties, &[read])?))
+        }
+        None => Ok(None),
+    }
+}
+
 /// The least change of the field that an edit of the constraints of the call at a place, from 0,
 /// leaves out with which those of a group have settings; `None` where leaving it out is the least, or
 /// isn't lessened. What is chosen once it is left out is `line`.
@@ -128,22 +164,61 @@ pub(crate) fn least_met(
 ) -> Result<Option<Changed>, AllocError> {
     let mut best = None;
     let Some(mut halving) = Halving::of(value, edit, line) else {
-        return Ok(best);
+        return Ok(None);
     };
     for _halving in 0..MOST_HALVINGS {
         let Some(amount) = halving.next() else {
             break;
         };
-        let Changed { value, words } = halving.changed(alloc, value, amount)?;
-        let stated = Stated { place, value };
-        let does = !leaves_none(alloc, group, parties, from_ref(&stated))?;
+        let tried = Tried {
+            place,
+            value,
+            edit,
+            amount,
+        };
+        let does = tried.does(alloc, group, parties, halving)?;
         halving.learn(amount, does);
         if does {
-            best = Some(Changed {
-                value: stated.value,
-                words,
-            });
+            best = Some(amount);
         }
     }
-    Ok(best)
+    match best {
+        Some(amount) => Ok(Some(halving.changed(alloc, value, amount)?)),
+        None => Ok(None),
+    }
+}
+
+/// An amount in the place of what the call at a place states.
+#[derive(Clone, Copy)]
+struct Tried<'a> {
+    place: usize,
+    value: &'a Value,
+    edit: Edit,
+    amount: Amount,
+}
+
+impl Tried<'_> {
+    /// Whether those of a group aren't known to have no settings then.
+    fn does(
+        &self,
+        alloc: Global,
+        group: Group<'_, '_>,
+        parties: &[Party<'_>],
+        halving: Halving,
+    ) -> Result<bool, AllocError> {
+        let change = Change {
+            edit: self.edit,
+            amount: Some(self.amount),
+        };
+        if let Some(one) = group.one_stating(self.place) {
+            if let Some(none) = change_leaves_none(alloc, group, parties, one, change)? {
+                return Ok(!none);
+            }
+        }
+        let stated = Stated {
+            place: self.place,
+            value: halving.changed(alloc, self.value, self.amount)?.value,
+        };
+        Ok(!leaves_none(alloc, group, parties, from_ref(&stated))?)
+    }
 }

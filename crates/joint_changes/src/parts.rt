@@ -2,9 +2,12 @@
 
 use crate::walk::Run;
 use constraint_edits::{Amount, Changed, Edit, edited, edited_to, leave_out};
+use constraint_trials::{Change, asked_after, read_asked};
 use serde_json::{Value, put};
 use std::alloc::{AllocError, Global};
 use sysmem_memory::HeapInfo;
+use sysmem_sanitise::Constraints;
+use value_sources::Asked;
 
 const MEMORY: &str = "buffer_memory_constraints";
 
@@ -90,6 +93,33 @@ pub(crate) fn own_of(
         }
     }
     Ok(own)
+}
+
+/// What a participant asks after changes of its own; `None` where that has a fault.
+pub(crate) fn asked_with(
+    alloc: Global,
+    one: &Asked<'_>,
+    own: &[Part],
+    heaps: &[HeapInfo],
+) -> Result<Option<Constraints>, AllocError> {
+    let mut changes: Vec<Change> = Vec::new(alloc);
+    for part in own {
+        changes.push(Change {
+            edit: part.edit,
+            amount: part.amount,
+        })?;
+    }
+    if let Some(asked) = asked_after(alloc, one, &changes)? {
+        return Ok(Some(asked));
+    }
+    let Some(value) = one.stated else {
+        return Ok(None);
+    };
+    let mut now = value.clone()?;
+    for part in own {
+        make(alloc, &mut now, *part, heaps)?;
+    }
+    read_asked(alloc, &now)
 }
 
 /// A participant's constraints after those of some changes that are its own.

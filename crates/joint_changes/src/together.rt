@@ -6,18 +6,20 @@ ghost use Rattle.script_reading.specs.Seen.{call_seen};
 ghost use Rattle.constraint_trials.specs.Edited.{IsPromisedSo};
 
 use crate::known::{Known, Shelf};
-use crate::parts::{Part, after, all_but, has_own, own_of, set_amount, takes_cpu, with_cpu};
+use crate::parts::{
+    Part, after, all_but, asked_with, has_own, own_of, set_amount, takes_cpu, with_cpu,
+};
 use crate::walk::Walk;
-use constraint_edits::{Amount, Edit, Halving, is_absurd};
+use constraint_edits::{Amount, Edit, Halving, changes, is_absurd};
 use constraint_trials::{
-    Group, MOST_HALVINGS, Party, Read, Stated, are_sized, chosen_with, is_change, is_worth,
-    leave_none, leaves_none, parties_of, put_choice, put_line, read_asked, restated,
+    Group, MOST_HALVINGS, Party, Read, Stated, are_sized, chosen_with, is_worth, leave_none,
+    parties_of, put_choice, put_line, restated,
 };
 use domain_reasons::choices_in;
-use explanation_text::Items;
-use serde_json::Value;
+use explanation_text::{Items, Kind};
 use std::alloc::{AllocError, Global};
 use story_parts::Deed;
+use value_sources::Asked;
 
 /// How many changes are made at once at most.
 const MOST: usize = 96;
@@ -130,7 +132,7 @@ impl Joint<'_, '_> {
             };
             if parts.len() < MOST
                 && is_worth(edit, one, self.group.people, FEW)
-                && is_change(alloc, value, edit, heaps)?
+                && changes(alloc, value, edit, heaps)?
             {
                 parts.push(Part {
                     person,
@@ -273,8 +275,8 @@ impl Joint<'_, '_> {
         let mut known = Known::new(alloc);
         for (person, one) in self.group.people.iter().enumerate() {
             let mut place = None;
-            if let (true, Some(value)) = (has_own(others, person), one.stated) {
-                place = self.place_after(shelf, alloc, person, value, parts)?;
+            if one.stated.is_some() && has_own(others, person) {
+                place = self.place_after(shelf, alloc, person, one, parts)?;
                 if place.is_none() {
                     return Ok(None);
                 }
@@ -291,7 +293,7 @@ impl Joint<'_, '_> {
         shelf: &mut Shelf,
         alloc: Global,
         person: usize,
-        value: &Value,
+        one: &Asked<'_>,
         parts: &[Part],
     ) -> Result<Option<usize>, AllocError> {
         let own = own_of(alloc, parts, person)?;
@@ -299,8 +301,7 @@ impl Joint<'_, '_> {
             return Ok(Some(place));
         }
         let heaps = self.group.setting.platform.heaps();
-        let changed = after(alloc, value, person, &own, heaps)?;
-        match read_asked(alloc, &changed)? {
+        match asked_with(alloc, one, &own, heaps)? {
             Some(asked) => Ok(Some(shelf.keep(person, own, asked)?)),
             None => Ok(None),
         }
@@ -398,10 +399,10 @@ impl Joint<'_, '_> {
             self.now.group.setting.now.platform.now (map call_seen self.now.group.setting.now.calls.now)
             self.now.group.path.now (string_bytes what))) }
     {
-        let stated = self.stated(alloc, parts)?;
-        if leaves_none(alloc, self.group, self.parties, &stated)? {
+        if self.leave_none_after(alloc, parts)? {
             return Ok(None);
         }
+        let stated = self.stated(alloc, parts)?;
         self.outcome_of(alloc, &stated)
     }
 
@@ -415,6 +416,18 @@ impl Joint<'_, '_> {
         match chosen_with(alloc, self.group.setting, &calls, self.group.path)? {
             Some(line) if !is_absurd(&line, false) => Ok(Some(line)),
             _ => Ok(None),
+        }
+    }
+
+    /// Whether participants have no settings after some changes; only a yes says something.
+    fn leave_none_after(&self, alloc: Global, parts: &[Part]) -> Result<bool, AllocError> {
+        let mut shelf = Shelf::new(alloc);
+        match self.known_of(&mut shelf, alloc, parts, parts)? {
+            Some(changed) => {
+                let read = self.read(&shelf, alloc, &changed, &changed)?;
+                leave_none(alloc, self.group, self.parties, &read)
+            }
+            None => Ok(false),
         }
     }
 

@@ -6,10 +6,10 @@ ghost use Rattle.script_reading.specs.Seen.{call_seen};
 ghost use Rattle.constraint_trials.specs.Edited.{IsPromised};
 
 use crate::exchanges::try_exchanges;
-use constraint_edits::{Edit, edited, is_absurd};
+use constraint_edits::{Edit, changes, edited, is_absurd};
 use constraint_trials::{
-    Found, Group, Party, Stated, Trial, are_sized, can_help, entries_behind, has_groups,
-    is_plain_change, is_worth, leaves_none, parties_of, put_choice,
+    Change, Found, Group, Party, Stated, Trial, are_sized, can_help, change_leaves_none,
+    entries_behind, has_groups, is_worth, leaves_none, parties_of, put_choice,
 };
 use domain_reasons::{choices_in, room_needed};
 use explanation_text::{Items, Kind};
@@ -217,22 +217,23 @@ fn try_change(
     let Some(value) = one.stated else {
         return Ok(());
     };
-    if let (Some(does), false) = (
-        is_plain_change(value, edit),
-        can_help(search.parties, one.node),
-    ) {
-        search.tried = search.tried.saturating_add(usize::from(does));
+    let heaps = trial.setting.platform.heaps();
+    if !changes(alloc, value, edit, heaps)? {
         return Ok(());
     }
-    let Some(change) = edited(alloc, value, edit, trial.setting.platform.heaps())? else {
+    search.tried = search.tried.saturating_add(1);
+    let known = leaves_none_unstated(alloc, search, group, one, edit)?;
+    if known == Some(true) {
+        return Ok(());
+    }
+    let Some(change) = edited(alloc, value, edit, heaps)? else {
         return Ok(());
     };
-    search.tried = search.tried.saturating_add(1);
     let stated = Stated {
         place: trial.place,
         value: change.value,
     };
-    if leaves_none(alloc, group, search.parties, from_ref(&stated))? {
+    if known.is_none() && leaves_none(alloc, group, search.parties, from_ref(&stated))? {
         return Ok(());
     }
     let Some(line) = trial.outcome(alloc, &stated.value)? else {
@@ -270,6 +271,22 @@ fn tell_found(
     let label = search.label();
     put_change(&mut search.found, trial, label, &who, found)?;
     put_choice(&mut search.found, 3, choice)
+}
+
+/// Whether those of a group have no settings after an edit of a participant, where that is told
+/// without the record that would state it.
+fn leaves_none_unstated(
+    alloc: Global,
+    search: &Search<'_, '_>,
+    group: Group<'_, '_>,
+    one: &Asked<'_>,
+    edit: Edit,
+) -> Result<Option<bool>, AllocError> {
+    if !can_help(search.parties, one.node) {
+        return Ok(Some(true));
+    }
+    let change = Change { edit, amount: None };
+    change_leaves_none(alloc, group, search.parties, one, change)
 }
 
 fn put_head(items: &mut Items, search: &Search<'_, '_>, effort: &Effort) -> Result<(), AllocError> {
