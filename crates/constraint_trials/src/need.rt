@@ -109,6 +109,15 @@ pub(crate) fn need_too_many(
     Ok(true)
 }
 
+/// Whether participants who are all asked need more buffers than they take or than there can be.
+pub(crate) fn together_need_too_many(people: &[Asked<'_>]) -> bool {
+    let mut total = Need::none();
+    for one in people {
+        total = total.with(Need::of(one, None));
+    }
+    total.is_too_great()
+}
+
 /// What those of a group need, in a place if one is given, whichever children of groups are
 /// selected: of a group at least as much as the child that needs the least.
 pub(crate) fn need_in(

@@ -2,7 +2,7 @@
 
 use crate::drafting::{Change, asked_after};
 use crate::group::Group;
-use crate::need::need_too_many;
+use crate::need::{need_too_many, together_need_too_many};
 use crate::parties::Party;
 use crate::restating::Stated;
 use crate::trying::MOST_HALVINGS;
@@ -103,7 +103,7 @@ fn leaves_none_with(
 ) -> Result<bool, AllocError> {
     let platform = group.setting.platform;
     let few = all_with(alloc, &party.needed, read)?;
-    if is_unmet(alloc, platform, &few)? {
+    if together_need_too_many(&few) || is_unmet(alloc, platform, &few)? {
         return Ok(true);
     }
     let people = all_with(alloc, &party.people, read)?;
