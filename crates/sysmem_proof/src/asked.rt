@@ -1,34 +1,20 @@
 //! What the participants whom paths name ask together.
 
-ghost use Rattle.std.specs.Prelude.{◌≡◌, ◌≤◌, ◌↔◌, true, [], ◌∷◌, Any, IsTrue, length, option_map};
+ghost use Rattle.std.specs.Prelude.{◌≡◌, ◌↔◌, true, [], ◌∷◌, Any, IsTrue, option_map};
 ghost use Rattle.std.specs.List.{cons_option};
-ghost use Rattle.sysmem_counts.specs.Bounds.{IsTallyOf};
 ghost use Rattle.sysmem_memory.specs.PlaceTable.{refuses_by};
-ghost use Rattle.sysmem_merge.specs.Demands.{counts_asked, offer_demands};
+ghost use Rattle.sysmem_merge.specs.Demands.{offer_demands};
 ghost use Rattle.sysmem_merge.specs.Failing.{FailsOn};
 ghost use Rattle.sysmem_merge.specs.OfferRead.{IsOfferRead};
-ghost use Rattle.sysmem_tree.specs.declared.tree.TheConstants.{MOST_NODES};
 ghost use Rattle.verdict_claims.specs.Roll.{asked_by, listed};
 
 use crate::roll::Roll;
-use sysmem_counts::{CountBounds, Field};
+use sysmem_counts::Field;
 use sysmem_formats::Offer;
 use sysmem_memory::{CoherencyDomain, HeapInfo, refuses_in};
 use sysmem_merge::{OfferRead, Settings, fails_in};
 use sysmem_sanitise::{Constraints, Platform};
-use verdict_claims::{PathList, add_count, add_read};
-
-/// What they ask of the number of buffers.
-pub(crate) fn counts_of(roll: &Roll<'_>, paths: &PathList) -> CountBounds
-    requires few { length paths.now ≤ MOST_NODES }
-    ensures { IsTallyOf result (counts_asked (asked_by (listed roll.now) paths.now)) }
-{
-    let mut counts = CountBounds::new();
-    for path in paths.iter() {
-        add_count(&mut counts, roll.at(path));
-    }
-    counts
-}
+use verdict_claims::{PathList, add_read};
 
 /// What they ask of an offer.
 pub(crate) fn read_of(roll: &Roll<'_>, offer: &Offer, paths: &PathList) -> OfferRead

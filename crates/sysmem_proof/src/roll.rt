@@ -1,6 +1,6 @@
 //! Whom a line may name.
 
-ghost use Rattle.std.specs.Prelude.{◌≡◌, ◌≤◌, ◌<◌, ◌==◌, ◌||◌, ◌++◌, ℕ, [], false, None, All, IfSome, get_or, is_some, length, option_and_then, option_map, slice_get, if◌then◌else◌};
+ghost use Rattle.std.specs.Prelude.{◌≡◌, ◌≤◌, ◌<◌, ◌==◌, ◌||◌, ◌++◌, ℕ, List, [], false, None, All, IfSome, get_or, is_some, length, option_and_then, option_map, slice_get, if◌then◌else◌};
 ghost use Rattle.std.specs.List.{filter_map, list_any};
 ghost use Rattle.verdict_claims.specs.Fault.{AreNamed};
 ghost use Rattle.verdict_claims.specs.Members.{participants};
@@ -19,7 +19,6 @@ use sysmem_sanitise::Constraints;
 use sysmem_tree::laws::{one_forest, one_path};
 use sysmem_tree::layout_laws::choices_leave_one_forest;
 use sysmem_tree::{DomainId, Layout, MOST_NODES, NodeId, Prefix, Tree};
-use verdict_claims::PathList;
 
 /// The participants that choices settle in a domain of a tree, and those that were accepted
 /// before where they may be named too.
@@ -121,6 +120,20 @@ impl<'a> Roll<'a> {
         Some(self.tree.number_of(node) as usize)
     }
 
+    /// The number of the participant at the path, and what it asks, if it is one of them.
+    pub(crate) fn named_at(&self, path: &[u32]) -> Option<(usize, &'a Constraints)>
+        ensures asks { option_map (λ one. one.1.now) result
+            ≡ asked_at (listed self.now) path.now }
+        ensures at { IfSome result (λ one. IsOnlyPath self.now.nodes one.0 path.now) }
+        ensures few { IfSome result (λ one. one.0 < MOST_NODES) }
+    {
+        one_path();
+        one_forest();
+        let node = self.tree.node_at(path)?;
+        let asked = marked(self.tree, &self.marks, node)?;
+        Some((self.tree.number_of(node) as usize, asked))
+    }
+
     /// What all of them ask is what the nodes of their numbers ask.
     pub(crate) fn by_numbers(&self)
         ensures { participants (listed self.now)
@@ -140,11 +153,11 @@ impl<'a> Roll<'a> {
     }
 
     /// Participants that are named, each once, are at most as many as a tree has nodes.
-    pub(crate) fn few_named(&self, paths: &PathList)
-        requires { AreNamed (listed self.now) paths.now }
-        ensures { length paths.now ≤ MOST_NODES }
+    pub(crate) fn few_named(&self)
+        ensures { (paths : List (List ℕ)) → AreNamed (listed self.now) paths
+            → length paths ≤ MOST_NODES }
     {
-        few_paths(self.tree, self.domain, self.prefix, self.accepted, paths);
+        few_paths(self.tree, self.domain, self.prefix, self.accepted);
     }
 
     /// Whether the path is that of one of them.
@@ -179,16 +192,15 @@ fn marked<'a>(tree: &'a Tree, marks: &[bool; MOST_NODES], node: NodeId) -> Optio
 }
 
 /// Paths that name participants, each once, are at most as many as a tree has nodes.
-fn few_paths(tree: &Tree, domain: DomainId, prefix: &Prefix, accepted: &[NodeId], paths: &PathList)
+fn few_paths(tree: &Tree, domain: DomainId, prefix: &Prefix, accepted: &[NodeId])
     requires domain { HasDomain tree.now.nodes domain }
     requires there { All (HasNode tree.now.nodes) accepted.now }
-    requires named { AreNamed (listed (record {
+    ensures { (paths : List (List ℕ)) → AreNamed (listed (record {
       nodes = tree.now.nodes;
       domain = domain;
       choices = prefix.now;
       accepted = accepted.now;
-    })) paths.now }
-    ensures { length paths.now ≤ MOST_NODES }
+    })) paths → length paths ≤ MOST_NODES }
 {
     one_path();
     one_forest();

@@ -11,7 +11,7 @@ ghost use Rattle.verdict_claims.specs.Naming.{IsTrueOf};
 ghost use Rattle.verdict_claims.specs.Roll.{listed};
 
 use super::line_tests::{is_count_line, is_failed_at, is_fixed_count_line, is_place_line};
-use super::names::{are_named, is_named};
+use super::names::{are_named, counts_named, is_named};
 use crate::roll::Roll;
 use sysmem_counts::Field;
 use sysmem_memory::{HeapInfo, Place};
@@ -27,10 +27,10 @@ pub(crate) fn count_fault(roll: &Roll<'_>, line: &Line) -> Result<(), No>
         (LineFaults (listed roll.now) (IsTrueOf (listed roll.now) line.now.nodes
         (λ ps. IsCountLine line.now.field (counts_asked ps))) line.now) }
 {
-    if !are_named(roll, line.nodes()) {
+    let Some(counts) = counts_named(roll, line.nodes()) else {
         return Err(No::WrongNode);
-    }
-    if !is_count_line(roll, line) {
+    };
+    if !is_count_line(roll, &counts, line) {
         return Err(No::NoConflict);
     }
     Ok(())
@@ -44,10 +44,10 @@ pub(crate) fn fixed_count_fault(roll: &Roll<'_>, count: u32, line: &Line) -> Res
         (LineFaults (listed roll.now) (IsTrueOf (listed roll.now) line.now.nodes
         (λ ps. IsFixedCountLine count line.now.field (counts_asked ps))) line.now) }
 {
-    if !are_named(roll, line.nodes()) {
+    let Some(counts) = counts_named(roll, line.nodes()) else {
         return Err(No::WrongNode);
-    }
-    if !is_fixed_count_line(roll, count, line) {
+    };
+    if !is_fixed_count_line(roll, &counts, count, line) {
         return Err(No::NoConflict);
     }
     Ok(())

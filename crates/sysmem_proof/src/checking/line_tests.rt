@@ -1,6 +1,7 @@
 //! Whether a line is true of the participants that it names.
 
-ghost use Rattle.std.specs.Prelude.{◌≡◌, ◌↔◌, ◌≤◌, [], ◌∷◌, Any, IsTrue, length};
+ghost use Rattle.std.specs.Prelude.{◌↔◌, [], ◌∷◌, Any, IsTrue};
+ghost use Rattle.sysmem_counts.specs.Bounds.{IsTallyOf};
 ghost use Rattle.sysmem_counts.specs.Counts.{IsCountLine, IsFixedCountLine};
 ghost use Rattle.sysmem_memory.specs.PlaceTable.{IsPlaceLine};
 ghost use Rattle.sysmem_merge.specs.Demands.{counts_asked, offer_demands, place_demands};
@@ -8,37 +9,46 @@ ghost use Rattle.sysmem_merge.specs.Failing.{FailsOn};
 ghost use Rattle.sysmem_merge.specs.Reasons.{IsOfferLine};
 ghost use Rattle.verdict_claims.specs.Fault.{AreNamed};
 ghost use Rattle.verdict_claims.specs.Naming.{IsTrueOf};
-ghost use Rattle.verdict_claims.specs.Roll.{listed};
+ghost use Rattle.verdict_claims.specs.Roll.{asked_by, listed};
 
-use crate::asked::{counts_of, fail_at, read_of, refuse_place};
+use crate::asked::{fail_at, read_of, refuse_place};
 use crate::roll::Roll;
-use sysmem_counts::Field;
+use sysmem_counts::{CountBounds, Field};
 use sysmem_formats::Offer;
 use sysmem_memory::{CoherencyDomain, HeapInfo};
 use sysmem_merge::Settings;
 use sysmem_sanitise::Platform;
 use verdict_claims::Line;
 
-/// Whether no count suits the participants whom the line names, by its field.
-pub(crate) fn is_count_line(roll: &Roll<'_>, line: &Line) -> bool
-    requires { AreNamed (listed roll.now) line.now.nodes }
+/// Whether no count suits the participants whom the line names, by its field, where this is what
+/// they ask of the number of buffers.
+pub(crate) fn is_count_line(roll: &Roll<'_>, counts: &CountBounds, line: &Line) -> bool
+    requires named { AreNamed (listed roll.now) line.now.nodes }
+    requires counts { IsTallyOf counts.now
+        (counts_asked (asked_by (listed roll.now) line.now.nodes)) }
     ensures { IsTrue result ↔ IsTrueOf (listed roll.now) line.now.nodes
         (λ ps. IsCountLine line.now.field (counts_asked ps)) }
 {
-    let nodes = line.nodes();
-    roll.few_named(nodes);
-    counts_of(roll, nodes).is_line(line.field())
+    let _ = roll;
+    counts.is_line(line.field())
 }
 
-/// Whether a count that is fixed doesn't suit the participants whom the line names, by its field.
-pub(crate) fn is_fixed_count_line(roll: &Roll<'_>, count: u32, line: &Line) -> bool
-    requires { AreNamed (listed roll.now) line.now.nodes }
+/// Whether a count that is fixed doesn't suit the participants whom the line names, by its field,
+/// where this is what they ask of the number of buffers.
+pub(crate) fn is_fixed_count_line(
+    roll: &Roll<'_>,
+    counts: &CountBounds,
+    count: u32,
+    line: &Line,
+) -> bool
+    requires named { AreNamed (listed roll.now) line.now.nodes }
+    requires counts { IsTallyOf counts.now
+        (counts_asked (asked_by (listed roll.now) line.now.nodes)) }
     ensures { IsTrue result ↔ IsTrueOf (listed roll.now) line.now.nodes
         (λ ps. IsFixedCountLine count line.now.field (counts_asked ps)) }
 {
-    let nodes = line.nodes();
-    roll.few_named(nodes);
-    counts_of(roll, nodes).is_fixed_line(count, line.field())
+    let _ = roll;
+    counts.is_fixed_line(count, line.field())
 }
 
 /// Whether the line's field refuses the coherency domain of the heap

@@ -1,4 +1,5 @@
 -- What is tested of those named.
+use Rattle.std.proofs.Common.{refl}
 use Rattle.sysmem_counts.specs.Counts.{IsCountLine}
 use Rattle.sysmem_merge.specs.Demands.{counts_asked}
 use Rattle.verdict_claims.specs.Roll.{listed}
@@ -6,5 +7,5 @@ use Rattle.verdict_claims.proofs.OnRoll.{true_of}
 use Rattle.sysmem_proof.proofs.checking.line_tests.is_count_line.Goals as goal
 
 pub returns : goal.returns
-returns c = true_of (listed c.args.roll.now) c.nodes-nodes.result.now c.args.line.now.nodes c.field.result c.args.line.now.field (λ f ps. IsCountLine f (counts_asked ps)) c.is_line.result
-    c.nodes-nodes.ensures c.field.ensures c.requires (c.is_line.ensures _ c.counts_of.ensures)
+returns c = true_of (listed c.args.roll.now) c.args.line.now.nodes c.args.line.now.nodes c.field.result c.args.line.now.field (λ f ps. IsCountLine f (counts_asked ps)) c.is_line.result
+    refl c.field.ensures c.requires.named (c.is_line.ensures _ c.requires.counts)

@@ -4,5 +4,5 @@ use Rattle.verdict_claims.specs.Fault.{AreNamed}
 use Rattle.verdict_claims.specs.Roll.{listed}
 use Rattle.sysmem_proof.proofs.roll.Roll.few_named.Goals as goal
 
-pub few_paths-requires-clause-named : goal.few_paths-requires-clause-named
-few_paths-requires-clause-named c = subst (λ r. AreNamed (listed r) c.args.paths.now) (sym c.self.view_is) c.requires
+pub returns : goal.returns
+returns c = λ paths named. c.few_paths.ensures paths (subst (λ r. AreNamed (listed r) paths) (sym c.self.view_is) named)
