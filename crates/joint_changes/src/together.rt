@@ -16,7 +16,8 @@ use constraint_trials::{
     parties_of, put_choice, put_line, restated,
 };
 use domain_reasons::choices_in;
-use explanation_text::{Items, Kind};
+use explanation_text::Items;
+use serde_json::Value;
 use std::alloc::{AllocError, Global};
 use story_parts::Deed;
 use value_sources::Asked;
@@ -478,22 +479,25 @@ impl Joint<'_, '_> {
         put_choice(items, 2, choice)
     }
 
-    /// Puts changes that help together.
+    /// Puts changes that help together, each by what those before it leave.
     fn put_parts(&self, items: &mut Items, parts: &[Part], before: &str) -> Result<(), AllocError> {
         let count = parts.len();
         let head = format!(in items.alloc();
             "{before}these {count} together suffice (fewer weren't found):"
         )?;
         items.say(1, "change", head)?;
-        for part in parts {
-            self.put_part(items, *part)?;
+        for index in 0..count {
+            self.put_part(items, parts, index)?;
         }
         Ok(())
     }
 
-    /// Puts a change of a participant.
-    fn put_part(&self, items: &mut Items, part: Part) -> Result<(), AllocError> {
+    /// Puts the change of an index, as it is once those before it were made.
+    fn put_part(&self, items: &mut Items, parts: &[Part], index: usize) -> Result<(), AllocError> {
         let alloc = items.alloc();
+        let (Some(part), Some(earlier)) = (parts.get(index), parts.get(..index)) else {
+            return Ok(());
+        };
         let Some(one) = self.group.people.get(part.person) else {
             return Ok(());
         };
@@ -501,13 +505,32 @@ impl Joint<'_, '_> {
             return Ok(());
         };
         let heaps = self.group.setting.platform.heaps();
-        let Some(change) = part.changed(alloc, value, heaps)? else {
+        let now = after(alloc, value, part.person, earlier, heaps)?;
+        let Some(change) = part.changed(alloc, &now, heaps)? else {
             return Ok(());
         };
-        let who = self
-            .group
-            .who_changes(alloc, one, part.edit, &change.value)?;
+        let who = match part.changed(alloc, value, heaps)? {
+            Some(alone) if alone.words == change.words => {
+                self.group.who_changes(alloc, one, part.edit, &alone.value)?
+            }
+            _ => {
+                let then = stating(one, &now);
+                self.group
+                    .who_changes(alloc, &then, part.edit, &change.value)?
+            }
+        };
         say_change(items, &who, &change.words)
+    }
+}
+
+/// A participant as it states something else.
+fn stating<'a>(one: &Asked<'a>, value: &'a Value) -> Asked<'a> {
+    let stated = Some(value);
+    Asked {
+        node: one.node,
+        name: one.name,
+        asked: one.asked,
+        stated,
     }
 }
 
