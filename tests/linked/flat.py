@@ -311,6 +311,20 @@ def rows():
     yield "none and cpu", on, [Participant(usage=3)], REFUSED, (PARTICIPANT, 0, 0, "usage")
     yield "no heaps", Platform(pairs=pairs, n_pairs=2, colors=colors, n_colors=2), [video], REFUSED, (PLATFORM, NOBODY, 0, "heaps")
     yield "a pair's format", wrong, [video], REFUSED, (PLATFORM, NOBODY, 1, "pixel_format")
+    yield "a bit of no family", on, [Participant(usage=34)], REFUSED, (PARTICIPANT, 0, 0, "usage")
+    x_code, nv12 = MODIFIERS["INTEL_I915_X_TILED"], Entry(format=code("NV12"), colors=32)
+    yield "tiles in an entry", on, [Participant(usage=16, **one_entry(modifier=x_code))], REFUSED, (PARTICIPANT, 0, 0, "pixel_format_modifier")
+    twice = Participant(usage=16, entries=array(Entry, [nv12, nv12]), n_entries=2)
+    yield "an entry twice", on, [video, twice], REFUSED, (PARTICIPANT, 1, 0, "image_format_constraints")
+
+    def offering(*pairs, colors=(1,)):
+        pairs, colors = array(Pair, pairs), array(U32, colors)
+        return Platform(heaps=heaps, n_heaps=2, pairs=pairs, n_pairs=len(pairs), colors=colors, n_colors=len(colors))
+
+    one, tiles = Pair(format=code("AB24")), Pair(format=code("NV12"), modifier=x_code)
+    yield "a pair twice", offering(one, one), [video], REFUSED, (PLATFORM, NOBODY, 0, "pairs")
+    yield "tiles in a pair", offering(tiles), [video], REFUSED, (PLATFORM, NOBODY, 0, "pixel_format_modifier")
+    yield "no colours offered", offering(one, colors=()), [video], REFUSED, (PLATFORM, NOBODY, 0, "color_spaces")
     yield "too many", on, [video] * 1025, REFUSED, (TOO_MANY, NOBODY, 0, "?")
     yield "as many as may be", on, [video] * 1024, DONE, (0, 0, 0, "?")
     yield "nobody", on, [], DONE, (0, 0, 0, "?")

@@ -4,7 +4,7 @@
 use std::alloc::{AllocError, Global};
 use std::cell::Cell;
 use sysmem_alloc::Frozen;
-use sysmem_proof::{Claim, No, Proof, Verdict, check};
+use sysmem_proof::Verdict;
 use sysmem_search::{Gate, search};
 
 // Counts the visits of which it is told, and keeps how many choices there were at most.
@@ -21,11 +21,11 @@ impl Gate for Counted {
     }
 }
 
-/// A verdict without what proves it, the number of visits, and what the gate was told: how many
-/// visits, and of how many choices at most.
+/// A verdict, the number of visits, and what the gate was told: how many visits, and of how many
+/// choices at most.
 #[derive(Drop)]
 pub(crate) struct Searched {
-    pub(crate) claim: Claim,
+    pub(crate) verdict: Verdict,
     pub(crate) visits: u64,
     pub(crate) told: u64,
     most_choices: u32,
@@ -43,18 +43,14 @@ pub(crate) fn search_frozen(alloc: Global, frozen: &Frozen) -> Result<Searched, 
     let base = frozen.base();
     let found = search(alloc, platform, tree, domain, base, &gate)?;
     Ok(Searched {
-        claim: Claim {
-            verdict: found.verdict,
-            proof: Proof::Nothing,
-        },
+        verdict: found.verdict,
         visits: found.visits,
         told: gate.visits.get(),
         most_choices: gate.most_choices.get(),
     })
 }
 
-/// What was decided, with the choices and the number of buffers.
-pub(crate) fn tell_verdict(text: &mut String, verdict: &Verdict) -> Result<(), AllocError> {
+fn tell_verdict(text: &mut String, verdict: &Verdict) -> Result<(), AllocError> {
     match verdict {
         Verdict::Chosen(chosen) => {
             let choices = chosen.selection().choices();
@@ -66,36 +62,15 @@ pub(crate) fn tell_verdict(text: &mut String, verdict: &Verdict) -> Result<(), A
     }
 }
 
-// What a checker says of a claim for what is frozen.
-fn checked(frozen: &Frozen, claim: &Claim) -> &'static str {
-    let domain = frozen.domain();
-    match check(
-        frozen.platform(),
-        frozen.tree(),
-        domain,
-        frozen.base(),
-        claim,
-    ) {
-        Ok(()) => "accepted",
-        Err(No::WrongShape) => "wrong_shape",
-        Err(_) => "refused",
-    }
-}
-
-fn tell_found(text: &mut String, frozen: &Frozen, found: &Searched) -> Result<(), AllocError> {
-    tell_verdict(text, &found.claim.verdict)?;
-    let (visits, told, most) = (found.visits, found.told, found.most_choices);
-    let said = checked(frozen, &found.claim);
-    write!(text, " visits {visits} told {told} most {most}; {said}")
-}
-
-/// What is found of what is frozen: the verdict, the visits, those of which the gate is told with
-/// the most choices of one, and what a checker says to the verdict without what proves it.
+/// What is found of what is frozen: the verdict with the choices and the number of buffers, the
+/// visits, and those of which the gate is told with the most choices of one.
 pub(crate) fn tell_search(
     text: &mut String,
     alloc: Global,
     frozen: &Frozen,
 ) -> Result<(), AllocError> {
     let found = search_frozen(alloc, frozen)?;
-    tell_found(text, frozen, &found)
+    tell_verdict(text, &found.verdict)?;
+    let (visits, told, most) = (found.visits, found.told, found.most_choices);
+    write!(text, " visits {visits} told {told} most {most}")
 }

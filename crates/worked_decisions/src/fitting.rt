@@ -1,6 +1,5 @@
 //! What was frozen of a book, and which books it fits.
 
-use crate::attached::RELEASED;
 use crate::equal::is_equal;
 use crate::playing::{frozen_after, played};
 use std::alloc::Global;
@@ -29,6 +28,12 @@ const OTHER: [&str; 5] = [
     "/ duplicate duplicate duplicate /0 duplicate bind cpu /1 bind camps_on_2 /0/0 bind cpu /2 release / release",
     "/ duplicate duplicate /1 duplicate bind camps_on_2 /0 bind cpu /1/0 bind cpu / release",
 ];
+
+// Two participants a and b, who need 8 buffers, of which b wants 9; a token x attached to a, who
+// takes the ninth; a token attached to b, duplicated for two, of whom one wants another; then a is
+// released, and the domain of those two waits.
+const RELEASED: &str =
+    "/ duplicate duplicate release /0 bind camps_on_2_and_slack /1 bind camps_on_3 decide /0 attach_token /0/0 bind camps_on_1 decide /1 attach_token /1/0 duplicate duplicate release /1/0/1 bind cpu /1/0/0 bind camps_on_1 /0 release";
 
 // As the books of an attached domain, but a participant who was accepted asks less, though all have
 // the same settings.

@@ -50,14 +50,6 @@ fn asked(tree: usize, participant: usize) -> &'static str {
     WORDS[first.wrapping_add(second).wrapping_add(participant) % 7]
 }
 
-// The number of a group's child among all participants; the root has 0.
-fn number_of(index: usize, child: u8) -> usize {
-    index
-        .wrapping_mul(4)
-        .wrapping_add(child as usize)
-        .wrapping_add(1)
-}
-
 fn tell_group(script: &mut String, (below, at, children): Group) -> Result<(), AllocError> {
     write!(script, "{below} create_group {at}")?;
     for _child in 0..children {
@@ -66,7 +58,8 @@ fn tell_group(script: &mut String, (below, at, children): Group) -> Result<(), A
     script.push_str(" all_children_present ")
 }
 
-// Each child of the group of this index asks something.
+// Each child of the group of this index asks something; the root has the number 0 among all
+// participants.
 fn tell_asked(
     script: &mut String,
     index: usize,
@@ -75,7 +68,8 @@ fn tell_asked(
 ) -> Result<(), AllocError> {
     let (_, at, children) = group;
     for child in 0..children {
-        let word = asked(tree, number_of(index, child));
+        let number = index.wrapping_mul(4).wrapping_add(child as usize);
+        let word = asked(tree, number.wrapping_add(1));
         write!(script, "{at}/{child} bind {word} ")?;
     }
     Ok(())
@@ -92,25 +86,21 @@ fn tell_tree(script: &mut String, shape: &[Group], tree: usize) -> Result<(), Al
     write!(script, "/ bind {}", asked(tree, 0))
 }
 
-fn frozen_tree(alloc: Global, shape: &[Group], tree: usize) -> Result<Frozen, Fail> {
-    let mut script = String::new(alloc);
-    tell_tree(&mut script, shape, tree)?;
-    frozen_after(alloc, &script)
-}
-
 // What of one search was visited: the visits of which its gate was told, its visits, and whether it
 // chose.
 type Visited = (u64, u64, bool);
 
-fn visited(alloc: Global, shape: &[Group], tree: usize) -> Result<Visited, Fail> {
-    let frozen = frozen_tree(alloc, shape, tree)?;
-    Ok(visited_of(alloc, &frozen)?)
+fn visited(alloc: Global, frozen: &Frozen) -> Result<Visited, AllocError> {
+    let found = search_frozen(alloc, frozen)?;
+    let is_chosen = matches!(found.verdict, Verdict::Chosen(_));
+    Ok((found.told, found.visits, is_chosen))
 }
 
-fn visited_of(alloc: Global, frozen: &Frozen) -> Result<Visited, AllocError> {
-    let found = search_frozen(alloc, frozen)?;
-    let is_chosen = matches!(found.claim.verdict, Verdict::Chosen(_));
-    Ok((found.told, found.visits, is_chosen))
+fn visited_in(alloc: Global, shape: &[Group], tree: usize) -> Result<Visited, Fail> {
+    let mut script = String::new(alloc);
+    tell_tree(&mut script, shape, tree)?;
+    let frozen = frozen_after(alloc, &script)?;
+    Ok(visited(alloc, &frozen)?)
 }
 
 // How many of the 49 trees of a shape have a choice, and the visits of all; the gate of each search
@@ -118,7 +108,7 @@ fn visited_of(alloc: Global, frozen: &Frozen) -> Result<Visited, AllocError> {
 fn tally(rt: &impl Abort, alloc: Global, shape: &[Group]) -> Result<(u64, u64), Fail> {
     let (mut chosen, mut visits) = (0u64, 0u64);
     for tree in 0..49 {
-        let (told, more, is_chosen) = visited(alloc, shape, tree)?;
+        let (told, more, is_chosen) = visited_in(alloc, shape, tree)?;
         is_equal(rt, "told of", &told, &more);
         chosen = chosen.wrapping_add(is_chosen as u64);
         visits = visits.wrapping_add(more);

@@ -1,11 +1,11 @@
 //! The words of scripts, and what they do: actions on a node, and constraints to set.
 
-use crate::records::{asked, had};
+use serde_json::Value;
 use std::alloc::Global;
 use std::sync::Arc;
 use std::test::Fail;
-use sysmem_sanitise::{Constraints, Platform};
-use sysmem_tree::{Action, Path};
+use sysmem_sanitise::{Constraints, Platform, read_constraints, read_platform};
+use sysmem_tree::Action;
 
 const PLATFORM: &str =
     r#"{"heaps":[{"heap_type":"ram","domains":["cpu","ram"]},{"heap_type":"cma","contiguous":true,"domains":["cpu","ram"]},{"heap_type":"vault","contiguous":true,"secure":true,"domains":["inaccessible"]}],"pairs":[{"pixel_format":"B8G8R8A8"},{"pixel_format":"B8G8R8A8","pixel_format_modifier":"INTEL_I915_X_TILED"},{"pixel_format":"NV12"},{"pixel_format":"R8"},{"pixel_format":"R8G8B8A8"}],"color_spaces":["SRGB","REC709"]}"#;
@@ -70,23 +70,8 @@ const ASKED: &[(&str, &str)] = &[
 
 /// The platform of all scripts: three heaps, five pairs, two colour spaces.
 pub(crate) fn platform(alloc: Global) -> Result<Platform, Fail> {
-    had(alloc, PLATFORM)
-}
-
-fn read_ordinals(ordinals: &mut Vec<u32>, text: &str) -> Result<(), Fail> {
-    for part in text.split('/') {
-        if !part.is_empty() {
-            ordinals.push(part.parse::<u32>()?)?;
-        }
-    }
-    Ok(())
-}
-
-/// The path that is written so, as `/0/12`.
-pub(crate) fn path(alloc: Global, text: &str) -> Result<Path, Fail> {
-    let mut ordinals = Vec::new(alloc);
-    read_ordinals(&mut ordinals, text)?;
-    Ok(Path::new(ordinals))
+    let record = Value::from_str(alloc, PLATFORM)?;
+    Ok(read_platform(alloc, &record)?)
 }
 
 fn record_for(word: &str) -> Option<&'static str> {
@@ -98,18 +83,17 @@ fn record_for(word: &str) -> Option<&'static str> {
     None
 }
 
-// The constraints for which the word stands.
-fn constraints(alloc: Global, word: &str) -> Result<Constraints, Fail> {
+fn read(alloc: Global, text: &str) -> Result<Constraints, Fail> {
+    let record = Value::from_str(alloc, text)?;
+    Ok(read_constraints(alloc, &record)?)
+}
+
+/// The constraints for which the word stands.
+pub(crate) fn asked(alloc: Global, word: &str) -> Result<Arc<Constraints>, Fail> {
     let Some(text) = record_for(word) else {
         return Err(Fail::new("no such word"));
     };
-    asked(alloc, text)
-}
-
-// Sets the constraints for which the word stands.
-fn setting(alloc: Global, word: &str) -> Result<Action, Fail> {
-    let asked = Arc::new(alloc, constraints(alloc, word)?)?;
-    Ok(Action::SetConstraints(Some(asked)))
+    Ok(Arc::new(alloc, read(alloc, text)?)?)
 }
 
 /// What a word does to a node; one that names no action names the constraints that are set.
@@ -123,6 +107,6 @@ pub(crate) fn action(alloc: Global, word: &str) -> Result<Action, Fail> {
         "attach_token" => Action::AttachToken,
         "release" => Action::Release,
         "close" => Action::Close,
-        _ => return setting(alloc, word),
+        _ => Action::SetConstraints(Some(asked(alloc, word)?)),
     })
 }

@@ -4,6 +4,7 @@ ghost use Rattle.std.specs.Prelude.{◌≡◌};
 ghost use Rattle.sysmem_room.specs.Counting.{all_parts};
 
 use crate::equal::is_equal;
+use std::alloc::Global;
 use std::process::Abort;
 use std::sync::ledger::{Blank, Ledger};
 use std::sync::{Arc, Wait};
@@ -92,7 +93,14 @@ pub(crate) fn closed<L: Ledger, G: Gate + Drop + Sync, R: Threads + Wait + Abort
 }
 
 /// What an audit of the stubs counts.
-pub(crate) fn counted<L: Ledger>(rt: &impl Wait, stubs: Vec<Stub<L>>) -> Result<Audit, AuditFault> {
+pub(crate) fn counted<L: Ledger, R: Wait + Abort, const MANY: usize>(
+    rt: &R,
+    alloc: Global,
+    stubs: [Stub<L>; MANY],
+) -> Result<Audit, AuditFault> {
+    let Ok(stubs) = Vec::from_array(alloc, stubs) else {
+        panic!(rt; "memory is refused to an audit");
+    };
     match audit(rt, stubs) {
         Ok((found, _seen)) => Ok(found),
         Err((fault, _seen)) => Err(fault),

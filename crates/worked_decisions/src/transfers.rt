@@ -1,6 +1,6 @@
 //! How much is taken from a reader.
 
-use crate::runs::equal::is_equal;
+use crate::equal::is_equal;
 use byte_transfer::{Counted, ReadFault, read_up_to_limit};
 use std::alloc::Global;
 use std::io::{self, Read};
@@ -37,6 +37,6 @@ fn reads_to_the_end_or_one_byte_further(rt: HostRuntime) {
         (5_000, 9_000, usize::MAX, (5_000, 0)),
     ] {
         let answered = taken(rt.alloc(), Spring { left, step }, limit);
-        is_equal(&rt, limit, &answered, &Ok(wanted));
+        is_equal(&rt, "bytes, left", &answered, &Ok(wanted));
     }
 }
