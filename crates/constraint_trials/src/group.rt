@@ -52,7 +52,8 @@ impl Group<'_, '_> {
         None
     }
 
-    /// A participant, with the call that states its constraints and its line: `camera (call 5, line 14)`.
+    /// A participant, with the call that states its constraints and its line: `camera (call 5, line
+    /// 14)`.
     pub fn who(&self, alloc: Global, one: &Asked<'_>) -> Result<String, AllocError> {
         let number = self.story.deed(one.node, Deed::SetConstraints).unwrap_or(0);
         let name = one.name;

@@ -55,9 +55,9 @@ pub fn can_help(parties: &[Party<'_>], node: usize) -> bool {
     parties.is_empty()
 }
 
-/// Parties of those of a group, of which one is asked whatever is selected, and each of which leaves
-/// no settings; none where that isn't so, or they would be too many, or where the count of buffers
-/// tells it. Without groups of tokens it is one of all.
+/// Parties of those of a group, of which one is asked whatever is selected, and each of which
+/// leaves no settings; none where that isn't so, or they would be too many, or where the count of
+/// buffers tells it. Without groups of tokens it is one of all.
 pub fn parties_of<'a>(alloc: Global, group: Group<'a, '_>) -> Result<Vec<Party<'a>>, AllocError> {
     let mut parties = Vec::new(alloc);
     if has_groups(group.story) && need_in(alloc, group, group.people, None)?.is_too_great() {
@@ -100,9 +100,9 @@ fn selections(alloc: Global, group: Group<'_, '_>) -> Result<Vec<Vec<usize>>, Al
     Ok(Vec::new(alloc))
 }
 
-/// The group of which a child is to be selected next: where those who are asked leave some settings,
-/// one of those on which it hangs who is in the way once the first children of all others are
-/// selected; `None` where those leave none, or nobody is in the way then.
+/// The group of which a child is to be selected next: where those who are asked leave some
+/// settings, one of those on which it hangs who is in the way once the first children of all others
+/// are selected; `None` where those leave none, or nobody is in the way then.
 fn next_group(
     alloc: Global,
     group: Group<'_, '_>,

@@ -38,7 +38,8 @@ pub struct Trial<'a, 'b> {
 }
 
 impl Trial<'_, '_> {
-    /// What the domain becomes where the participant states these constraints, if it is chosen then.
+    /// What the domain becomes where the participant states these constraints, if it is chosen
+    /// then.
     pub fn outcome(&self, alloc: Global, value: &Value) -> Result<Option<String>, AllocError>
         ensures { IfOk result (λ said. IfSome said (λ what. IsReportedOn
             self.now.setting.now.platform.now (stating (map call_seen

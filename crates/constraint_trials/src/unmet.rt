@@ -34,8 +34,8 @@ pub fn has_groups(story: &Story<'_>) -> bool {
 }
 
 /// Whether those of a group, whose parties these are, have no settings where calls state these
-/// constraints, so that no run is needed to tell that their domain isn't chosen then. Only a yes says
-/// something: there is none where such constraints have a fault.
+/// constraints, so that no run is needed to tell that their domain isn't chosen then. Only a yes
+/// says something: there is none where such constraints have a fault.
 pub fn leaves_none(
     alloc: Global,
     group: Group<'_, '_>,
@@ -71,8 +71,8 @@ pub fn read_asked(alloc: Global, value: &Value) -> Result<Option<Constraints>, A
 }
 
 /// Whether those of a group, whose parties these are, have no settings, of whom some ask what was
-/// read: whatever is selected one party of them is asked, each of which leaves none, or, where there
-/// are no parties, they need too many buffers in each place. Only a yes says something.
+/// read: whatever is selected one party of them is asked, each of which leaves none, or, where
+/// there are no parties, they need too many buffers in each place. Only a yes says something.
 pub fn leave_none(
     alloc: Global,
     group: Group<'_, '_>,
@@ -151,8 +151,8 @@ pub fn change_leaves_none(
 }
 
 /// The least change of the field that an edit of the constraints of the call at a place, from 0,
-/// leaves out with which those of a group have settings; `None` where leaving it out is the least, or
-/// isn't lessened. What is chosen once it is left out is `line`.
+/// leaves out with which those of a group have settings; `None` where leaving it out is the least,
+/// or isn't lessened. What is chosen once it is left out is `line`.
 pub(crate) fn least_met(
     alloc: Global,
     group: Group<'_, '_>,

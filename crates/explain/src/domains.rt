@@ -33,7 +33,8 @@ pub(crate) fn tell_domains(
     Ok(())
 }
 
-/// Tells what would help a domain that is pending or empty, and what else one could be that is chosen.
+/// Tells what would help a domain that is pending or empty, and what else one could be that is
+/// chosen.
 fn tell_help(
     items: &mut Items,
     document: &Document<'_>,
@@ -62,7 +63,8 @@ fn tell_help(
     }
 }
 
-/// Tells what would help an empty domain: one change of a participant, or else some together, and a pair that the platform lacks.
+/// Tells what would help an empty domain: one change of a participant, or else some together, and a
+/// pair that the platform lacks.
 fn tell_edits(
     items: &mut Items,
     document: &Document<'_>,

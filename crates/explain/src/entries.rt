@@ -197,7 +197,8 @@ impl Teller<'_, '_> {
         None
     }
 
-    /// `camera (call 5): entry 2 (NV12 LINEAR, line 18) is never used: entry 1 (any format DO_NOT_CARE, line 17) comes before it and holds for ..`.
+    /// `camera (call 5): entry 2 (NV12 LINEAR, line 18) is never used: entry 1 (any format
+    /// DO_NOT_CARE, line 17) comes before it and holds for ..`.
     fn sentence(&self, alloc: Global, index: usize, holder: Holder) -> Result<String, AllocError> {
         let name = self.one.name;
         let number = self.number;

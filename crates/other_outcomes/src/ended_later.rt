@@ -124,8 +124,8 @@ fn ended_by(story: &Story<'_>, people: &[Asked<'_>], call: usize) -> Option<usiz
     None
 }
 
-/// Puts what is tried:
-/// `recorder still counts here, since call 18 releases it only after call 16; with call 18 before call 16 it would be:`.
+/// Puts what is tried: `recorder still counts here, since call 18 releases it only after call 16;
+/// with call 18 before call 16 it would be:`.
 fn put_head(
     items: &mut Items,
     story: &Story<'_>,

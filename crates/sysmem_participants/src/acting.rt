@@ -131,8 +131,8 @@ impl<L: Ledger, G: Gate + Drop> Prepared<L, G> {
 }
 
 impl<L: Ledger, G: Gate + Drop + Sync> Seat<L, G> {
-    /// Enters an action that leaves the handle there: what the node gets of the count that it makes.
-    /// `copy` is the same action, for the log.
+    /// Enters an action that leaves the handle there: what the node gets of the count that it
+    /// makes. `copy` is the same action, for the log.
     fn step<R: Threads + Wait + Sync>(
         &mut self,
         rt: &R,

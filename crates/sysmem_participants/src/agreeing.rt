@@ -100,8 +100,9 @@ fn are_marked(marks: &[bool; MOST_NODES], nodes: u32) -> bool
 }
 
 /// Reads the stubs' cells: whether there is one stub for each node of a book, with the node's
-/// actions and, where the stub knows a verdict then, that of the node's domain; and what there is to
-/// count in the book. Else the first fault, of all stubs, in the order `Stubs`, `Calls`, `Verdicts`.
+/// actions and, where the stub knows a verdict then, that of the node's domain; and what there is
+/// to count in the book. Else the first fault, of all stubs, in the order `Stubs`, `Calls`,
+/// `Verdicts`.
 pub fn stubs_agree<L: Ledger>(book: &Book, stubs: &mut [Stub<L>]) -> Result<Audit, AuditFault>
     ensures agree { IfOk result (IsAudited book.now stubs.new) }
     ensures fault { IfErr result (IsFirstFault book.now stubs.new) }

@@ -35,9 +35,9 @@ fn at_end(refusal: Refusal) -> Refusal
     }
 }
 
-/// Enters the last action on a node in one hold and logs it, and decides where that is this thread's
-/// turn: all actions, what is logged being what was entered; or the log as it was, and why not.
-/// Beside that the book as the action found and left it.
+/// Enters the last action on a node in one hold and logs it, and decides where that is this
+/// thread's turn: all actions, what is logged being what was entered; or the log as it was, and why
+/// not. Beside that the book as the action found and left it.
 fn end<L: Ledger, G: Gate + Drop + Sync, R: Threads + Wait + Sync>(
     rt: &R,
     shared: &Shared<L>,
@@ -111,8 +111,8 @@ impl<L: Ledger, G: Gate + Drop> Seat<L, G> {
 
 impl<L: Ledger, G: Gate + Drop + Sync> Seat<L, G> {
     /// Ends the node by an action: what is left of the handle, or the handle as it was, and why.
-    /// `copy` is the same action, for the log. Beside that the book as the action found and left it,
-    /// and what it saw in the cell before.
+    /// `copy` is the same action, for the log. Beside that the book as the action found and left
+    /// it, and what it saw in the cell before.
     fn spend<R: Threads + Wait + Sync>(
         self,
         rt: &R,

@@ -26,8 +26,8 @@ pub(crate) struct Hold<L: Ledger> {
 }
 
 /// Enters an action in one hold, and says whether it is this thread's turn to decide. Beside that
-/// stands the book: an accepted action is one more on the handle's own node, and nothing else; and a
-/// refused one leaves it as it was.
+/// stands the book: an accepted action is one more on the handle's own node, and nothing else; and
+/// a refused one leaves it as it was.
 pub(crate) fn in_hold<L: Ledger, R: Wait>(
     rt: &R,
     shared: &Shared<L>,

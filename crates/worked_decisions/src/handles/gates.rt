@@ -43,7 +43,7 @@ impl<'a, C: Clock> Gate for First<'a, C> {
 }
 
 // Another collection of the allocator is decided from its beginning to its end: both who take part
-// know one verdict, and an audit misses the stub of the second.
+// know one verdict, and an audit misses the stub of the second, as it does with no stubs at all.
 fn decided_apart<L: Ledger, G: Gate + Drop + Sync, R: Threads + Wait + Abort + Sync>(
     rt: &R,
     alloc: Global,
@@ -68,6 +68,13 @@ fn decided_apart<L: Ledger, G: Gate + Drop + Sync, R: Threads + Wait + Abort + S
         rt,
         "too few",
         &counted(rt, alloc, too_few),
+        &Err(AuditFault::Stubs),
+    );
+    let none: [Stub<L>; 0] = [];
+    is_equal(
+        rt,
+        "none",
+        &counted(rt, alloc, none),
         &Err(AuditFault::Stubs),
     );
 }
