@@ -71,8 +71,6 @@ pub(crate) struct Open {
     /// Where its bracket stands.
     pub(crate) start: usize,
     pub(crate) is_list: bool,
-    /// How many of its values are complete.
-    pub(crate) index: usize,
     /// Where the latest key stands.
     pub(crate) key: Span,
 }
@@ -190,9 +188,6 @@ impl Machine {
     fn complete(&mut self, at: usize) {
         self.state = State::After;
         self.last_end = at;
-        if let Some(open) = self.open.last_mut() {
-            open.index = open.index.saturating_add(1);
-        }
     }
 
     /// What is due.
@@ -253,7 +248,7 @@ impl Machine {
             b'f' => State::Word(Word::False, 1),
             _ => return Err(Halt::Wrong(Expected::Value)),
         };
-        self.go(next, Mark::Begins)
+        self.go(next, Mark::Nothing)
     }
 
     fn open_at(&mut self, at: usize, is_list: bool) -> Result<Mark, Halt> {
@@ -263,14 +258,14 @@ impl Machine {
         self.open.push(Open {
             start: at,
             is_list,
-            index: 0,
             key: Span { start: 0, end: 0 },
         })?;
-        if is_list {
-            self.go(State::FirstItem, Mark::Opens)
+        let next = if is_list {
+            State::FirstItem
         } else {
-            self.go(State::FirstKey, Mark::Opens)
-        }
+            State::FirstKey
+        };
+        self.go(next, Mark::Nothing)
     }
 
     /// The bracket that ends what was opened last.
@@ -290,7 +285,7 @@ impl Machine {
         }
         self.in_key = true;
         self.begin = at;
-        self.go(State::Text, Mark::KeyBegins)
+        self.go(State::Text, Mark::Nothing)
     }
 
     fn colon(&mut self, byte: u8) -> Result<Mark, Halt> {

@@ -94,17 +94,12 @@ impl<T: Drop> From<AllocFailed<T>> for Halt {
     }
 }
 
-/// What begins or ends with a byte.
+/// What ends with a byte.
 #[derive(Clone, Copy)]
 pub(crate) enum Mark {
     Nothing,
-    /// A value that is no list and no object begins.
-    Begins,
-    /// A list or an object begins.
-    Opens,
-    /// A value ends with this byte.
+    /// A value.
     Ends,
-    KeyBegins,
-    /// A key ends with this byte.
+    /// A key.
     KeyEnds,
 }
