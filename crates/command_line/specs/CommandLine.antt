@@ -50,8 +50,8 @@ page_rule = record (new_rule (codes "page")) { long = Some (codes "page"); value
 
 -- explain FILE [--json] [--strict] [--page OUT]
 abbrev pub explain_app : App
-explain_app =
-    with_rule (with_rule (with_rule (with_rule (new_app (codes "explain")) file_rule) json_rule) strict_rule) page_rule
+explain_app = with_rule (with_rule (with_rule (with_rule (new_app (codes "explain")) file_rule)
+    json_rule) strict_rule) page_rule
 
 -- PROOF, which has to be there
 abbrev pub certificate_rule : Rule
@@ -93,7 +93,8 @@ replay_app = with_subcommand tellers_app check_app.top
 abbrev pub flag_of : Text → List Row → Bool
 flag_of name rows = option_map_or (λ t. bytes_eq t (codes "true")) (first_of name rows) false
 
--- a subcommand's name and entries are `run`, this FILE, whether JSON is asked for, and this OUT or none
+-- a subcommand's name and entries are `run`, this FILE, whether JSON is asked for, and this OUT or
+-- none
 abbrev pub IsRunOf : Text × List Row → Text → Bool → Option Text → Type 0
 IsRunOf entries file is_json proof =
     (entries.0 ≡ codes "run") × (first_of (codes "FILE") entries.1 ≡ Some file)
@@ -102,9 +103,11 @@ IsRunOf entries file is_json proof =
 
 -- they are `threads` and this FILE
 abbrev pub IsThreadsOf : Text × List Row → Text → Type 0
-IsThreadsOf entries file = (entries.0 ≡ codes "threads") × (first_of (codes "FILE") entries.1 ≡ Some file)
+IsThreadsOf entries file =
+    (entries.0 ≡ codes "threads") × (first_of (codes "FILE") entries.1 ≡ Some file)
 
--- they are `explain`, this FILE, whether JSON is asked for, this OUT or none, and whether the status is to tell
+-- they are `explain`, this FILE, whether JSON is asked for, this OUT or none, and whether the
+-- status is to tell
 abbrev pub IsExplainOf : Text × List Row → Text → Bool → Option Text → Bool → Type 0
 IsExplainOf entries file is_json page is_strict =
     (entries.0 ≡ codes "explain") × (first_of (codes "FILE") entries.1 ≡ Some file)
@@ -120,7 +123,8 @@ IsCheckOf entries file proof =
 
 -- they are this job, its files and its flags
 abbrev pub AsksForJob : Text × List Row → Job → Type 0
-AsksForJob entries (Run file is_json proof) = IsRunOf entries file.now is_json (option_map (λ s. s.now) proof)
+AsksForJob entries (Run file is_json proof) =
+    IsRunOf entries file.now is_json (option_map (λ s. s.now) proof)
 AsksForJob entries (Threads file) = IsThreadsOf entries file.now
 AsksForJob entries (Explain file is_json page is_strict) =
     IsExplainOf entries file.now is_json (option_map (λ s. s.now) page) is_strict
@@ -128,7 +132,8 @@ AsksForJob entries (Check file proof) = IsCheckOf entries file.now proof.now
 
 -- they are no job's
 pub record AsksForNone (entries : Text × List Row) : Type 0 where
-  pub run : (file : Text) (is_json : Bool) (proof : Option Text) → ¬ IsRunOf entries file is_json proof
+  pub run : (file : Text) (is_json : Bool) (proof : Option Text)
+      → ¬ IsRunOf entries file is_json proof
   pub threads : (file : Text) → ¬ IsThreadsOf entries file
   pub explain : (file : Text) (is_json : Bool) (page : Option Text) (is_strict : Bool)
       → ¬ IsExplainOf entries file is_json page is_strict

@@ -21,8 +21,8 @@ IsLineOf words line = (others : Members) × IsLine (put (codes "text") (string w
 -- a line for each of some words, in their order
 pub data AreLinesOf : List (List ℕ) → List ℕ → Type 0 where
   no_line : AreLinesOf [] []
-  one_more : (said : List (List ℕ)) (words lines line : List ℕ) → AreLinesOf said lines → IsLineOf words line
-      → AreLinesOf (said ++ words ∷ []) (lines ++ line)
+  one_more : (said : List (List ℕ)) (words lines line : List ℕ) → AreLinesOf said lines
+      → IsLineOf words line → AreLinesOf (said ++ words ∷ []) (lines ++ line)
 
 -- such lines, and one that ends them
 pub record IsToldBy (said : List (List ℕ)) (text : List ℕ) : Type 0 where

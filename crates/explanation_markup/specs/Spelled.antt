@@ -4,8 +4,9 @@ use Rattle.std.specs.Str.{NoCharPasses}
 
 -- a character: & < > " and ' by their names
 abbrev pub spelling : ℕ → List ℕ
-spelling c = if c == 38 then codes "&amp;" else (if c == 60 then codes "&lt;" else (if c == 62 then codes "&gt;"
-    else (if c == 34 then codes "&quot;" else (if c == 39 then codes "&#39;" else encode_utf8 c))))
+spelling c = if c == 38 then codes "&amp;" else (if c == 60 then codes "&lt;"
+    else (if c == 62 then codes "&gt;" else (if c == 34 then codes "&quot;"
+    else (if c == 39 then codes "&#39;" else encode_utf8 c))))
 
 -- characters, each in turn
 abbrev pub spelled : List ℕ → List ℕ

@@ -42,14 +42,18 @@ pub record IsStop (platform : PlatformFacts) (ps : List Participant) (stop : Sto
   pub reason : IsFirstReason stop.whole platform (up_to stop.who ps) stop.reason
 
 -- no settings meet them, for this reason first
-pub record IsUnmetFor (platform : PlatformFacts) (ps : List Participant) (reason : Reason) : Type 0 where
+pub record IsUnmetFor (platform : PlatformFacts) (ps : List Participant)
+    (reason : Reason) : Type 0 where
   pub unmet : IsUnmet false platform ps
   pub first : IsFirstReason false platform ps reason
 
--- why the participant can't be met even by itself; none where it can, or where nobody is in the way alone
+-- why the participant can't be met even by itself; none where it can, or where nobody is in the way
+-- alone
 abbrev pub IsLone : PlatformFacts → List Participant → Stop → Option Reason → Type 0
-IsLone platform ps stop None = (stop.whole ≡ true) ⊎ ((s : Settings) × IsBest false platform (alone stop.who ps) s)
-IsLone platform ps stop (Some reason) = (stop.whole ≡ false) × IsUnmetFor platform (alone stop.who ps) reason
+IsLone platform ps stop None =
+    (stop.whole ≡ true) ⊎ ((s : Settings) × IsBest false platform (alone stop.who ps) s)
+IsLone platform ps stop (Some reason) =
+    (stop.whole ≡ false) × IsUnmetFor platform (alone stop.who ps) reason
 
 -- those of whom is told: the participant by itself, where it can't be met so, and else all up to it
 abbrev pub told_of : Stop → Option Reason → List Participant → List Participant
@@ -57,13 +61,15 @@ told_of stop None ps = up_to stop.who ps
 told_of stop (Some reason) ps = alone stop.who ps
 
 -- the field refuses the participant the place of these settings
-pub record IsPlaceField (platform : PlatformFacts) (p : Participant) (s : Settings) (field : Field) : Type 0 where
+pub record IsPlaceField (platform : PlatformFacts) (p : Participant) (s : Settings)
+    (field : Field) : Type 0 where
   pub heap : HeapFacts
   pub has : slice_get platform.heaps s.place.heap ≡ Some heap
   pub refuses : refuses_by field p.memory p.usage heap s.place.coherency ≡ true
 
 -- the field is told of the first line that is true of them for the offer
-pub record IsOfferField (whole : Bool) (ps : List Participant) (o : Offer) (field : Field) : Type 0 where
+pub record IsOfferField (whole : Bool) (ps : List Participant) (o : Offer)
+    (field : Field) : Type 0 where
   pub line : Field
   pub first : IsFirstOf (IsRefusingLine whole o (offer_demands ps)) offer_lines line
   pub told : field ≡ told_line (take_format o ps) line
@@ -72,19 +78,22 @@ pub record IsOfferField (whole : Bool) (ps : List Participant) (o : Offer) (fiel
 abbrev pub shared_offer : Stop → Option Offer
 shared_offer stop = option_map (λ s. s.offer) stop.shared
 
--- the offer of which is told: the image that the participant comes nearest to, where it gets none even by itself;
--- else, and where there is no such image, that which those before share
-abbrev pub IsToldOffer : PlatformFacts → List Participant → Stop → Option Reason → Option Offer → Type 0
-IsToldOffer platform ps stop (Some NoOffer) offer = (own : Option Offer) × IsOwnOffer platform (alone stop.who ps) own
+-- the offer of which is told: the image that the participant comes nearest to, where it gets none
+-- even by itself; else, and where there is no such image, that which those before share
+abbrev pub IsToldOffer : PlatformFacts → List Participant → Stop → Option Reason → Option Offer
+    → Type 0
+IsToldOffer platform ps stop (Some NoOffer) offer = (own : Option Offer)
+    × IsOwnOffer platform (alone stop.who ps) own
     × (offer ≡ or_else own (shared_offer stop))
 IsToldOffer platform ps stop why offer = offer ≡ shared_offer stop
 
--- what the field says, by the reason: it is the count's own; or the participant's, which refuses it the place that
--- those before share; or it is told of the first line that is true of the offer
+-- what the field says, by the reason: it is the count's own; or the participant's, which refuses it
+-- the place that those before share; or it is told of the first line that is true of the offer
 abbrev pub IsFieldOf : PlatformFacts → List Participant → Refusal → Reason → Type 0
 IsFieldOf platform ps r (Count own) = r.field ≡ own
 IsFieldOf platform ps r NoPlace =
-    IsSomeAnd (slice_get ps r.stop.who) (λ p. IsSomeAnd r.stop.shared (λ s. IsPlaceField platform p s r.field))
+    IsSomeAnd (slice_get ps r.stop.who)
+    (λ p. IsSomeAnd r.stop.shared (λ s. IsPlaceField platform p s r.field))
 IsFieldOf platform ps r NoOffer =
     IsSomeAnd r.offer (λ o. IsOfferField r.stop.whole (told_of r.stop r.lone ps) o r.field)
 
@@ -92,9 +101,10 @@ IsFieldOf platform ps r NoOffer =
 abbrev pub told_reason : Refusal → Reason
 told_reason r = unwrap_or r.lone r.stop.reason
 
--- no settings meet them; where they stop having some, whether the participant can be met by itself, and the offer and
--- the field
-pub record IsBlamed (platform : PlatformFacts) (ps : List Participant) (refusal : Refusal) : Type 0 where
+-- no settings meet them; where they stop having some, whether the participant can be met by itself,
+-- and the offer and the field
+pub record IsBlamed (platform : PlatformFacts) (ps : List Participant)
+    (refusal : Refusal) : Type 0 where
   pub unmet : IsUnmet true platform ps
   pub stop : IsStop platform ps refusal.stop
   pub lone : IsLone platform ps refusal.stop refusal.lone

@@ -45,24 +45,29 @@ abbrev pub InSome : (Pair → ColourSpace → Type 0) → List ColourSpace → P
 InSome P colours pair = (colour : ColourSpace) × IsFirstAt (P pair) colours colour
 
 -- the first image of some pairs in some colour spaces that has the property, pair by pair, or none
-abbrev pub IsFirstImage : List Pair → List ColourSpace → (Pair → ColourSpace → Type 0) → Option Offer → Type 0
+abbrev pub IsFirstImage : List Pair → List ColourSpace → (Pair → ColourSpace → Type 0)
+    → Option Offer → Type 0
 IsFirstImage pairs colours P None = HoldsNowhere (InSome P colours) pairs
 IsFirstImage pairs colours P (Some offer.NoImage) = ⊥
-IsFirstImage pairs colours P (Some (offer.Image pair colour)) = IsFirstAt (InSome P colours) pairs pair
-    × IsFirstAt (P pair) colours colour
+IsFirstImage pairs colours P (Some (offer.Image pair colour)) =
+    IsFirstAt (InSome P colours) pairs pair × IsFirstAt (P pair) colours colour
 
 -- the first if there is one, and else the second
 abbrev pub or_else : Option Offer → Option Offer → Option Offer
 or_else (Some o) other = Some o
 or_else None other = other
 
--- the image that they come nearest to: the first that they take, or else the first whose pair they take, or else the
--- first whose format they take; or none
-pub record IsOwnOffer (platform : PlatformFacts) (ps : List Participant) (own : Option Offer) : Type 0 where
+-- the image that they come nearest to: the first that they take, or else the first whose pair they
+-- take, or else the first whose format they take; or none
+pub record IsOwnOffer (platform : PlatformFacts) (ps : List Participant)
+    (own : Option Offer) : Type 0 where
   pub whole : Option Offer
-  pub whole_is : IsFirstImage platform.pairs platform.colours (λ pair colour. TakeImage ps pair colour) whole
+  pub whole_is : IsFirstImage platform.pairs platform.colours
+      (λ pair colour. TakeImage ps pair colour) whole
   pub pair : Option Offer
-  pub pair_is : IsFirstImage platform.pairs platform.colours (λ pair colour. TakePair ps pair colour) pair
+  pub pair_is : IsFirstImage platform.pairs platform.colours
+      (λ pair colour. TakePair ps pair colour) pair
   pub format : Option Offer
-  pub format_is : IsFirstImage platform.pairs platform.colours (λ pair colour. TakeItsFormat ps pair colour) format
+  pub format_is : IsFirstImage platform.pairs platform.colours
+      (λ pair colour. TakeItsFormat ps pair colour) format
   pub nearest : own ≡ or_else whole (or_else pair format)

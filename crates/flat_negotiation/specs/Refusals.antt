@@ -112,8 +112,9 @@ lone_number (Some reason) = 1
 -- what is told of who is in the way
 abbrev pub told_refusal : ℕ → Refusal → FlatRefusal
 told_refusal size r =
-    record (refusal_with size (kind_of (told_reason r)) (if r.stop.whole then nobody else r.stop.who) 0
-    (field_number r.field)) { alone = lone_number r.lone }
+    record (refusal_with size (kind_of (told_reason r))
+    (if r.stop.whole then nobody else r.stop.who) 0 (field_number r.field))
+    { alone = lone_number r.lone }
 
 -- what is told where no settings meet them
 abbrev pub unmet_refusal : ℕ → Refusal → FlatRefusal
@@ -124,7 +125,9 @@ unmet_refusal size r =
 -- what is told of why there are no settings
 abbrev pub flat_refusal : ℕ → Unsettled → FlatRefusal
 flat_refusal size why.NoMemory = refusal_with size 0 nobody 0 0
-flat_refusal size (why.Platform amiss) = refusal_with size 1 nobody amiss.index (field_number amiss.field)
-flat_refusal size (why.Participant who amiss) = refusal_with size 2 who amiss.index (field_number amiss.field)
+flat_refusal size (why.Platform amiss) =
+    refusal_with size 1 nobody amiss.index (field_number amiss.field)
+flat_refusal size (why.Participant who amiss) =
+    refusal_with size 2 who amiss.index (field_number amiss.field)
 flat_refusal size why.TooMany = refusal_with size 3 nobody 0 0
 flat_refusal size (why.Unmet r) = unmet_refusal size r

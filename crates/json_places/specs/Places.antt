@@ -24,4 +24,5 @@ IsSpelling bytes value = depth value ≤ max_depth → read bytes ≡ Some value
 -- the bytes of the span are JSON of the value to which the path leads, which there is
 abbrev pub IsPlaceOf : List ℕ → List Step → Data → Span → Type 0
 IsPlaceOf bytes path root span =
-    (value : Data) × (value_on path root ≡ Some value) × IsSpelling (slice_range bytes span.start span.end) value
+    (value : Data) × (value_on path root ≡ Some value)
+    × IsSpelling (slice_range bytes span.start span.end) value

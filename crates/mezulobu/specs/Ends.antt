@@ -1,18 +1,20 @@
--- How a call ends that has texts for its caller: what its buffers hold then, and what its sizes say.
+-- How a call ends that has texts for its caller: what its buffers hold then, and what its sizes
+-- say.
 use Rattle.std.specs.Prelude.{◌≡◌, ℕ, ◌<◌, ◌≤◌, ◌++◌, ◌⊎◌, List, length, drop}
 
--- a text is at the front of a buffer, which has room for it, and after the text the buffer is as it was
+-- a text is at the front of a buffer, which has room for it, and after the text the buffer is as it
+-- was
 pub record IsFilled (text before after : List ℕ) : Type 0 where
   pub room : length text ≤ length before
   pub bytes : after ≡ text ++ drop (length text) before
 
--- a call with one text: it is handed out; or (5) it has no room, and its size is said; or (4) memory was refused.
--- Else than where it is handed out the buffer is as it was.
+-- a call with one text: it is handed out; or (5) it has no room, and its size is said; or (4)
+-- memory was refused. Else than where it is handed out the buffer is as it was.
 pub data Ends (Says : ℕ → List ℕ → Type 0) (before after : List ℕ) (size : ℕ) : ℕ → Type 0 where
-  handed_out : (status : ℕ) (text : List ℕ) → Says status text → size ≡ length text → IsFilled text before after
-      → Ends Says before after size status
-  too_small : (status : ℕ) (text : List ℕ) → Says status text → size ≡ length text → length before < length text
-      → after ≡ before → Ends Says before after size 5
+  handed_out : (status : ℕ) (text : List ℕ) → Says status text → size ≡ length text
+      → IsFilled text before after → Ends Says before after size status
+  too_small : (status : ℕ) (text : List ℕ) → Says status text → size ≡ length text
+      → length before < length text → after ≡ before → Ends Says before after size 5
   no_memory : size ≡ 0 → after ≡ before → Ends Says before after size 4
 
 -- a call with two: where one of them has no room, neither is handed out

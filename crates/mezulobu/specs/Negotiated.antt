@@ -12,7 +12,8 @@ use Rattle.flat_negotiation.specs.Refusals.{flat_refusal}
 use Rattle.flat_negotiation.specs.Unsettled.{AreSettled, AreUnsettled}
 use Rattle.flat_negotiation.specs.Written.{IsWritten}
 
--- the status of why there are no settings: nobody can have any (6), memory was refused (4), or a struct is amiss (3)
+-- the status of why there are no settings: nobody can have any (6), memory was refused (4), or a
+-- struct is amiss (3)
 abbrev pub status_of : Unsettled → ℕ
 status_of NoMemory = 4
 status_of TooMany = 3
@@ -20,11 +21,12 @@ status_of (Platform amiss) = 3
 status_of (Participant who amiss) = 3
 status_of (Unmet refusal) = 6
 
--- the best settings are told (0), and the refusal stays as it was; or the settings stay, and the refusal and the
--- status say why there are none
+-- the best settings are told (0), and the refusal stays as it was; or the settings stay, and the
+-- refusal and the status say why there are none
 pub data Negotiates (platform : FlatPlatform) (participants : List FlatParticipant)
     (settings told : FlatSettings) (refusal why : FlatRefusal) : ℕ → Type 0 where
-  settles : (s : Settings) → AreSettled platform participants s → IsWritten settings.struct_size s told → why ≡ refusal
+  settles : (s : Settings) → AreSettled platform participants s
+      → IsWritten settings.struct_size s told → why ≡ refusal
       → Negotiates platform participants settings told refusal why 0
   refuses_them : (unsettled : Unsettled) → AreUnsettled platform participants unsettled
       → why ≡ flat_refusal refusal.struct_size unsettled → told ≡ settings

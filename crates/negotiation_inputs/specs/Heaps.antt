@@ -12,7 +12,8 @@ is_heap_byte b = (nat_le 97 b && nat_le b 122) || (nat_le 65 b && nat_le b 90)
 
 -- 1 to 128 of them
 abbrev pub is_heap_type : List ℕ → Bool
-is_heap_type text = nat_le 1 (length text) && nat_le (length text) LONGEST_HEAP_TYPE && list_all is_heap_byte text
+is_heap_type text = nat_le 1 (length text) && nat_le (length text) LONGEST_HEAP_TYPE
+    && list_all is_heap_byte text
 
 -- a heap's name, whose type is 1 to 128 ASCII letters, digits, `.`, `_` or `-`
 abbrev pub IsHeapName : HeapName → Type 0

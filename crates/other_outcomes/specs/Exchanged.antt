@@ -7,10 +7,14 @@ use Rattle.script_story.specs.Told.{IsReportedOn}
 
 -- the call, on the other of two names where it is on one of them
 abbrev pub on_other : ℕ → ℕ → Call → Call
-on_other a b call = record call { place = if call.place == a then b else if call.place == b then a else call.place }
+on_other a b call = record call {
+  place = if call.place == a then b else if call.place == b then a else call.place;
+}
 
--- with two names exchanged wherever calls are made on them, the report says this of the domain at a path
-pub record IsPromisedExchanged (platform : PlatformFacts) (calls : List Call) (path what : List ℕ) : Type 0 where
+-- with two names exchanged wherever calls are made on them, the report says this of the domain at a
+-- path
+pub record IsPromisedExchanged (platform : PlatformFacts) (calls : List Call)
+    (path what : List ℕ) : Type 0 where
   pub a : ℕ
   pub b : ℕ
   pub reported : IsReportedOn platform (map call_seen (map (on_other a b) calls)) path what

@@ -5,10 +5,12 @@ use Rattle.script_reading.specs.Seen.{call_seen}
 use Rattle.script_reading.specs.declared.call.Call.{Call}
 use Rattle.script_story.specs.Told.{IsReportedOn}
 
--- the calls, of which that at the first place, from 0, stands right after that at the second, a later one
+-- the calls, of which that at the first place, from 0, stands right after that at the second, a
+-- later one
 abbrev pub moving : List Call → ℕ → ℕ → List Call
 moving calls from to =
-    ((take from calls ++ slice_range calls (from + 1) (to + 1)) ++ slice_range calls from (from + 1))
+    ((take from calls ++ slice_range calls (from + 1) (to + 1))
+    ++ slice_range calls from (from + 1))
     ++ drop (to + 1) calls
 
 -- some of the calls stand later, each right after a call that was a later one
@@ -18,7 +20,8 @@ pub data IsMoved (calls : List Call) : List Call → Type 0 where
       → IsMoved calls others → IsMoved calls (moving others from to)
 
 -- with some calls later, the report says this of the domain at a path
-pub record IsPromisedMoved (platform : PlatformFacts) (calls : List Call) (path what : List ℕ) : Type 0 where
+pub record IsPromisedMoved (platform : PlatformFacts) (calls : List Call)
+    (path what : List ℕ) : Type 0 where
   pub others : List Call
   pub moved : IsMoved calls others
   pub reported : IsReportedOn platform (map call_seen others) path what

@@ -15,7 +15,8 @@ line_on path what = codes "domain " ++ path ++ codes " " ++ what
 
 -- the report of these calls on a new collection, to which no memory was refused, has a line that
 -- says this of the domain at a path
-pub record IsReportedOn (platform : PlatformFacts) (rs : List CallFacts) (path what : List ℕ) : Type 0 where
+pub record IsReportedOn (platform : PlatformFacts) (rs : List CallFacts)
+    (path what : List ℕ) : Type 0 where
   pub text : List ℕ
   pub decisions : List Certified
   pub report : IsReport platform rs text decisions false
@@ -27,7 +28,8 @@ IsOn nodes domain line what = line ≡ line_on (path_at nodes domain.root) what
 
 -- a domain's line is one of these, or there was none
 abbrev pub IsTold : List (List ℕ) → List Node → Domain → Type 0
-IsTold said nodes domain = (domain.told.now ≡ []) ⊎ Contains said (line_on (path_at nodes domain.root) domain.told.now)
+IsTold said nodes domain = (domain.told.now ≡ [])
+    ⊎ Contains said (line_on (path_at nodes domain.root) domain.told.now)
 
 -- those of all domains are
 abbrev pub AreTold : List (List ℕ) → Story → Type 0

@@ -73,8 +73,10 @@ pub record WritesPart (before after : Option (List ℕ)) : Type 0 where
   pub is_text : IsText text
   pub front : WritesFront before after text
 
--- what the reader had, where it tells it, and what the writer held before and after, where it tells that
-pub record Played (result : Result Ended RunFault) (had before after : Option (List ℕ)) : Type 0 where
+-- what the reader had, where it tells it, and what the writer held before and after, where it tells
+-- that
+pub record Played (result : Result Ended RunFault)
+    (had before after : Option (List ℕ)) : Type 0 where
   pub played : (ended : Ended) → result ≡ Ok ended → IfSome had IsPlayable
   pub written : (ended : Ended) → result ≡ Ok ended → Writes before after
   pub unchecked : result ≢ Ok CheckedNo

@@ -1,4 +1,5 @@
--- The text that a run on threads writes: a line for each domain, and that of an audit. Each ends with a newline.
+-- The text that a run on threads writes: a line for each domain, and that of an audit. Each ends
+-- with a newline.
 use Rattle.std.specs.Prelude.{◌≡◌, ℕ, ◌++◌, List, [], codes}
 use Rattle.std.specs.Fmt.{decimal}
 use Rattle.sysmem_image.specs.declared.size.Corner.{Corner}
@@ -22,7 +23,8 @@ pub data Says : List ℕ → Type 0 where
 -- lines of domains, and nothing else
 pub data AreLines : List ℕ → Type 0 where
   no_lines : AreLines []
-  one_more : (text path what : List ℕ) → AreLines text → Says what → AreLines (text ++ domain_line path what)
+  one_more : (text path what : List ℕ) → AreLines text → Says what
+      → AreLines (text ++ domain_line path what)
 
 -- `audit nodes 3 actions 5 decisions 1`
 abbrev pub audit_line : Audit → List ℕ

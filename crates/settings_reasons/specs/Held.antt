@@ -19,7 +19,9 @@ pub record IsHolder (entries : List Entry) (pair : Pair) (index : ℕ) : Type 0 
 abbrev pub is_taken_before : List Entry → List Entry → Pair → Bool
 is_taken_before before with pair = not (takes with pair) || takes before pair
 
--- the entry of this index holds for none of the pairs: each that those up to it take, those before it take
+-- the entry of this index holds for none of the pairs: each that those up to it take, those before
+-- it take
 abbrev pub IsNeverUsed : List Pair → List Entry → ℕ → Type 0
 IsNeverUsed pairs entries index =
-    All (λ pair. IsTrue (is_taken_before (take index entries) (take (index + 1) entries) pair)) pairs
+    All (λ pair. IsTrue (is_taken_before (take index entries) (take (index + 1) entries) pair))
+    pairs

@@ -16,7 +16,8 @@ use Rattle.value_sources.specs.Sources.{all_asked}
 
 -- the field refuses the coherency domain of the heap to the participant
 abbrev pub Refuses : Field → HeapFacts → CoherencyDomain → Asked → Type 0
-Refuses field heap domain one = refuses_by field one.asked.now.memory one.asked.now.usage heap domain ≡ true
+Refuses field heap domain one =
+    refuses_by field one.asked.now.memory one.asked.now.usage heap domain ≡ true
 
 -- the reason's field refuses the coherency domain of the heap to each whom it names
 abbrev pub IsPlaceReason : HeapFacts → CoherencyDomain → Reason → Type 0

@@ -50,7 +50,8 @@ IsCountLine _ ps = ⊥
 -- why participants have no count, with the first line that is true of
 -- them: a maximum before the limit
 abbrev pub IsCountFault : List CountConstraints → Field → Type 0
-IsCountFault ps BufferCountLimit = All (λ p. needed ps ≤ p.max_buffer_count) ps × (BUFFER_COUNT_LIMIT < needed ps)
+IsCountFault ps BufferCountLimit =
+    All (λ p. needed ps ≤ p.max_buffer_count) ps × (BUFFER_COUNT_LIMIT < needed ps)
 IsCountFault ps field = IsCountLine field ps
 
 -- a line is true of participants where the count is fixed: they need more than it,

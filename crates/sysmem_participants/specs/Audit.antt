@@ -26,7 +26,8 @@ decisions_in [] = 0
 decisions_in (Acted i deed ∷ es) = decisions_in es
 decisions_in (Decided c ∷ es) = 1 + decisions_in es
 
--- stubs and a book agree: each stub is of a node, each node has a stub, and there are as many of one as of the other
+-- stubs and a book agree: each stub is of a node, each node has a stub, and there are as many of
+-- one as of the other
 pub record IsAudited (b : BookFacts) (stubs : List Left) (a : Audit) : Type 0 where
   pub each : (k : ℕ) (d : Left) → k < length stubs → (i : ℕ) × IsOf b (slice_index_or stubs k d) i
   pub all : (i : ℕ) → i < length b.state.tree.nodes → IsAmong b stubs (length stubs) i
@@ -44,16 +45,19 @@ abbrev pub IsAmongPaths : BookFacts → List Left → ℕ → ℕ → Type 0
 IsAmongPaths b stubs many i = (k : ℕ) × (k < many)
     × ((d : Left) → node_at b.state.tree.nodes (slice_index_or stubs k d).path ≡ Some i)
 
--- there is one stub for each node: each is at a node, each node has one, and there are as many of one as of the other
+-- there is one stub for each node: each is at a node, each node has one, and there are as many of
+-- one as of the other
 pub record AreMatched (b : BookFacts) (stubs : List Left) : Type 0 where
-  pub each : (k : ℕ) (d : Left) → k < length stubs → HasAt b (slice_index_or stubs k d) (λ _. Unit {0})
+  pub each : (k : ℕ) (d : Left) → k < length stubs
+      → HasAt b (slice_index_or stubs k d) (λ _. Unit {0})
   pub all : (i : ℕ) → i < length b.state.tree.nodes → IsAmongPaths b stubs (length stubs) i
   pub many : length stubs ≡ length b.state.tree.nodes
 
 -- each stub has the calls of its node
 abbrev pub HaveCalls : BookFacts → List Left → Type 0
 HaveCalls b stubs = (k : ℕ) (d : Left) → k < length stubs
-    → HasAt b (slice_index_or stubs k d) (λ i. book_log b.history i ≡ (slice_index_or stubs k d).deeds)
+    → HasAt b (slice_index_or stubs k d)
+    (λ i. book_log b.history i ≡ (slice_index_or stubs k d).deeds)
 
 -- each stub has the verdict of its node's domain, where it knows one
 abbrev pub HaveVerdicts : BookFacts → List Left → Type 0
@@ -64,7 +68,8 @@ HaveVerdicts b stubs = (k : ℕ) (d : Left) → k < length stubs
 abbrev pub IsFirstFault : BookFacts → List Left → AuditFault → Type 0
 IsFirstFault b stubs faults.Stubs = AreMatched b stubs → ⊥
 IsFirstFault b stubs faults.Calls = AreMatched b stubs × (HaveCalls b stubs → ⊥)
-IsFirstFault b stubs faults.Verdicts = AreMatched b stubs × HaveCalls b stubs × (HaveVerdicts b stubs → ⊥)
+IsFirstFault b stubs faults.Verdicts =
+    AreMatched b stubs × HaveCalls b stubs × (HaveVerdicts b stubs → ⊥)
 IsFirstFault b stubs faults.NoMemory = ⊥
 
 -- a stub once its cell was read: what it knew it still knows
@@ -78,7 +83,8 @@ pub record IsRead (old new : Left) : Type 0 where
 -- stubs once their cells were read
 pub record AreRead (old new : List Left) : Type 0 where
   pub many : length new ≡ length old
-  pub each : (k : ℕ) (d : Left) → k < length old → IsRead (slice_index_or old k d) (slice_index_or new k d)
+  pub each : (k : ℕ) (d : Left) → k < length old
+      → IsRead (slice_index_or old k d) (slice_index_or new k d)
 
 -- the stubs are of collections for this platform
 abbrev pub AreFor : PlatformFacts → List Left → Type 0
@@ -96,7 +102,8 @@ pub record AgreesWith (b : BookFacts) (stubs : List Left) (a : Audit) : Type 0 w
 -- for the book's, and once their cells were read the fault is the first one
 abbrev pub IsFaultOf : BookFacts → List Left → AuditFault → Type 0
 IsFaultOf b stubs fault = ((fault ≡ faults.Stubs) × (AreFor b.platform stubs → ⊥))
-    ⊎ (AreFor b.platform stubs × ((read : List Left) × AreRead stubs read × IsFirstFault b read fault))
+    ⊎ (AreFor b.platform stubs
+    × ((read : List Left) × AreRead stubs read × IsFirstFault b read fault))
 
 -- faults as the program prints them; a want of memory is told as that refusal
 abbrev pub fault_text : AuditFault → List ℕ

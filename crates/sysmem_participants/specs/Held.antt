@@ -76,7 +76,8 @@ left_of h = record {
 abbrev pub MayEnter : Held → Deed → Type 0
 MayEnter h deed = due h.known h.path (state_of h) (kind_of deed) ≡ None
 
--- how a handle refuses an action: for want of memory, because it and the collection disagree, or for what is due
+-- how a handle refuses an action: for want of memory, because it and the collection disagree, or
+-- for what is due
 abbrev pub Answers : Held → Deed → Refusal → Type 0
 Answers h deed r = r ≢ Strange → r ≢ NoMemory
     → MayAnswer (due h.known h.path (state_of h) (kind_of deed)) h.known (kind_of deed) r
@@ -93,7 +94,8 @@ log_of h = record { begun = h.begun; deeds = h.deeds; places = 0 }
 -- a handle that saw this in its cell and a book disagree: the book has no node that is the handle's
 -- own, or left it out though by what was seen it is a member
 abbrev pub IsStrangeTo : BookFacts → Held → Option Outcome → Type 0
-IsStrangeTo b h seen = (node : ℕ) → IsOwn b h.path (log_of h) seen node → IsDisputed b h.path seen node
+IsStrangeTo b h seen = (node : ℕ) → IsOwn b h.path (log_of h) seen node
+    → IsDisputed b h.path seen node
 
 -- the same but for what it knows of the cell
 abbrev pub IsSameBut : Held → Held → Type 0

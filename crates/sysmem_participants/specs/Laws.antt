@@ -25,7 +25,8 @@ pub record IsLike (s t : Left) : Type 0 where
 -- each of these stubs has one like it among those
 abbrev pub AreAmong : List Left → List Left → Type 0
 AreAmong ss ts = (k : ℕ) (d : Left) → k < length ss
-    → (j : ℕ) × (j < length ts) × ((e : Left) → IsLike (slice_index_or ss k d) (slice_index_or ts j e))
+    → (j : ℕ) × (j < length ts)
+    × ((e : Left) → IsLike (slice_index_or ss k d) (slice_index_or ts j e))
 
 -- the stubs of two collections have the same calls at each path
 pub record HaveSameCalls (ss ts : List Left) : Type 0 where
@@ -43,8 +44,8 @@ abbrev pub IsInitial : BookFacts → Left → Type 0
 IsInitial b s = HasAt b s (λ i. IfSome (slice_get b.state.tree.nodes i) (λ n. n.domain ≡ 0))
 
 -- one verdict for the initial domains of two collections: both are ready or neither is, and of one
--- shape; where both were decided, with memory, the answer is the same, and so is what two stubs know
--- of it
+-- shape; where both were decided, with memory, the answer is the same, and so is what two stubs
+-- know of it
 pub record GotOneVerdict (b c : BookFacts) (ss ts : List Left) : Type 0 where
   pub ready : SameReady b.state.tree c.state.tree
   pub answer : (v w : Verdict) → verdict_of b.state 0 ≡ Some v → verdict_of c.state 0 ≡ Some w
@@ -53,7 +54,8 @@ pub record GotOneVerdict (b c : BookFacts) (ss ts : List Left) : Type 0 where
       → IsInitial b (slice_index_or ss k d) → IsInitial c (slice_index_or ts j e)
       → (slice_index_or ss k d).known ≡ Some (outcomes.Decided r)
       → (slice_index_or ts j e).known ≡ Some (outcomes.Decided q)
-      → IsDecision r.claim.verdict → IsDecision q.claim.verdict → IsSameAnswer r.claim.verdict q.claim.verdict
+      → IsDecision r.claim.verdict → IsDecision q.claim.verdict
+      → IsSameAnswer r.claim.verdict q.claim.verdict
 
 -- two collections for one platform, whose stubs agree with their books and have the same calls at
 -- each path, and in which no node was closed before the initial domain's decision, got one verdict

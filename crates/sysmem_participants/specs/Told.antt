@@ -24,7 +24,8 @@ IsChosenFor path f _ = ⊥
 
 -- the node at the path is there, with these constraints
 abbrev pub Asks : FrozenFacts → List ℕ → Option Participant → Type 0
-Asks f path asked = (i : ℕ) × (node_at f.tree.nodes path ≡ Some i) × (asks_at f.tree.nodes i ≡ asked)
+Asks f path asked =
+    (i : ℕ) × (node_at f.tree.nodes path ≡ Some i) × (asks_at f.tree.nodes i ≡ asked)
 
 -- the handle of a path that asks for this may be shown a ruling: a true claim for its platform, by
 -- which its node is a member, over a tree with the constraints that it set
@@ -67,11 +68,13 @@ pub record IsRulingFor (platform : PlatformFacts) (r : RulingFacts) : Type 0 whe
 -- or its node is a member over a tree without the constraints that it set
 abbrev pub Disagree : PlatformFacts → List ℕ → Option Participant → RulingFacts → Type 0
 Disagree platform path asked r =
-    (r.frozen.platform ≢ platform) ⊎ (IsChosenFor path r.frozen r.claim.verdict × (Asks r.frozen path asked → ⊥))
+    (r.frozen.platform ≢ platform)
+    ⊎ (IsChosenFor path r.frozen r.claim.verdict × (Asks r.frozen path asked → ⊥))
 
 -- how the handle of a path that asks for this is refused a view of a ruling: by a true claim for
 -- its platform, or because the two disagree
-abbrev pub IsRefusedBy : PlatformFacts → List ℕ → Option Participant → RulingFacts → Refusal → Type 0
+abbrev pub IsRefusedBy : PlatformFacts → List ℕ → Option Participant → RulingFacts → Refusal
+    → Type 0
 IsRefusedBy platform path asked r refusals.ConstraintsIntersectionEmpty =
     IsRulingFor platform r × (r.claim.verdict ≡ verdicts.IntersectionEmpty)
 IsRefusedBy platform path asked r refusals.TooManyGroupChildCombinations =
@@ -81,7 +84,8 @@ IsRefusedBy platform path asked r refusals.NotSelected =
 IsRefusedBy platform path asked r refusals.Strange = Disagree platform path asked r
 IsRefusedBy platform path asked r _ = ⊥
 
--- what the handle of a path that asks for this is told by what became of its domain, where it is shown nothing
+-- what the handle of a path that asks for this is told by what became of its domain, where it is
+-- shown nothing
 abbrev pub IsTold : PlatformFacts → List ℕ → Option Participant → Outcome → Refusal → Type 0
 IsTold platform path asked (outcomes.Decided r) refusal = IsRefusedBy platform path asked r refusal
 IsTold platform path asked outcomes.Failed refusal = refusal ≡ refusals.DomainFailed

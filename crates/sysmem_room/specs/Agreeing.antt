@@ -39,7 +39,8 @@ IsKnown b i known = IfSome known (λ o. verdict_at b i ≡ Some (verdict_by o))
 
 -- node i is what a handle is of: it is at the handle's path, the history has the handle's actions
 -- on it, and its domain has the verdict that the handle knows, if it knows one
-pub record AgreesAt (b : BookFacts) (path : List ℕ) (deeds : List Deed) (known : Option Outcome) (i : ℕ) : Type 0 where
+pub record AgreesAt (b : BookFacts) (path : List ℕ) (deeds : List Deed) (known : Option Outcome)
+    (i : ℕ) : Type 0 where
   pub at : node_at b.state.tree.nodes path ≡ Some i
   pub log : book_log b.history i ≡ deeds
   pub verdict : IsKnown b i known
@@ -52,13 +53,17 @@ pub record StandsAs (nodes : List NodeFacts) (log : LogFacts) (i : ℕ) : Type 0
 -- node i is as a handle knows its own: the history has the handle's actions on it, it was made, and
 -- stands, as the handle's log says, and its domain has the verdict that the handle knows, if it
 -- knows one
-pub record IsAsKnown (b : BookFacts) (log : LogFacts) (known : Option Outcome) (i : ℕ) : Type 0 where
+pub record IsAsKnown (b : BookFacts) (log : LogFacts) (known : Option Outcome)
+    (i : ℕ) : Type 0 where
   pub actions : book_log b.history i ≡ log.deeds
   pub stands : StandsAs b.state.tree.nodes log i
   pub verdict : IsKnown b i known
 
--- node i is a handle's own: it agrees with what the handle knows, and it was made, and stands, as the handle's log says
-pub record IsOwn (b : BookFacts) (path : List ℕ) (log : LogFacts) (known : Option Outcome) (i : ℕ) : Type 0 where
+-- node i is a handle's own: it agrees with what the handle knows, and it was made, and stands, as
+-- the handle's log says
+pub record IsOwn (b : BookFacts) (path : List ℕ) (log : LogFacts) (known : Option Outcome)
+    (i : ℕ) : Type 0 where
   pub agrees : AgreesAt b path log.deeds known i
   pub state : IfSome (slice_get b.state.tree.nodes i) (λ n. n.state ≡ (shown_by log).state)
-  pub root : IfSome (slice_get b.state.tree.nodes i) (λ n. (n.domain == i) ≡ log.begun.is_domain_root)
+  pub root : IfSome (slice_get b.state.tree.nodes i)
+      (λ n. (n.domain == i) ≡ log.begun.is_domain_root)

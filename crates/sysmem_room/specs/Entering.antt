@@ -15,6 +15,7 @@ HasEntered old new path log known deed =
     (i : ℕ) × IsOwn old path log known i × (new ≡ entered old (Acted i deed))
 
 -- a book refuses an action on a handle's own node for this
-abbrev pub IsRefusedByBook : BookFacts → List ℕ → LogFacts → Option Outcome → Deed → Refusal → Type 0
+abbrev pub IsRefusedByBook : BookFacts → List ℕ → LogFacts → Option Outcome → Deed → Refusal
+    → Type 0
 IsRefusedByBook b path log known deed refusal =
     (i : ℕ) × IsOwn b path log known i × (applied b.state.tree i deed ≡ Err refusal)

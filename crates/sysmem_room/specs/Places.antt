@@ -28,4 +28,5 @@ pub record ArePlaces (es : List BookEntry) (places : Places) : Type 0 where
   pub last : (i : ℕ) → i < MOST_NODES → HasAllOf es i (get_or places.last i 0)
   pub before : (k i : ℕ) (deed : Deed) → slice_get es k ≡ Some (Acted i deed)
       → HasAllOf (take k es) i (get_or places.before k 0)
-  pub end : (i : ℕ) → i < MOST_NODES → EndsWith es i (get_or places.other i 0) (get_or places.duplicates i 0)
+  pub end : (i : ℕ) → i < MOST_NODES
+      → EndsWith es i (get_or places.other i 0) (get_or places.duplicates i 0)

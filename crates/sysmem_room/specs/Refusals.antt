@@ -24,11 +24,13 @@ is_among f selection i = list_any (λ k. k == i) (members_of f.tree.nodes f.doma
 
 -- the node at the path is a member of the selection
 abbrev pub is_member : FrozenFacts → List ℕ → List ℕ → Bool
-is_member f selection path = unwrap_or (option_map (is_among f selection) (node_at f.tree.nodes path)) false
+is_member f selection path =
+    unwrap_or (option_map (is_among f selection) (node_at f.tree.nodes path)) false
 
 -- what a verdict refuses the actions on a node for
 abbrev pub refusal_by : FrozenFacts → List ℕ → Verdict → Option Refusal
-refusal_by f path (verdicts.Chosen chosen) = if is_member f chosen.selection path then None else Some NotSelected
+refusal_by f path (verdicts.Chosen chosen) =
+    if is_member f chosen.selection path then None else Some NotSelected
 refusal_by f path _ = Some DomainFailed
 
 -- what became of the domain
@@ -45,12 +47,13 @@ abbrev pub first_of : Option Refusal → Option Refusal → Option Refusal
 first_of None b = b
 first_of (Some a) b = Some a
 
--- the refusal that is due by what a handle knows: by the verdict, then by what its log makes of its node
+-- the refusal that is due by what a handle knows: by the verdict, then by what its log makes of its
+-- node
 abbrev pub due : Option Outcome → List ℕ → NodeState → ActionKind → Option Refusal
 due known path state kind = first_of (known_refusal known path kind) (log_refusal state kind)
 
--- a refusal that a handle can't foresee: too many nodes, of an action that makes one; and by a verdict
--- that it doesn't know, of an action that doesn't end its node
+-- a refusal that a handle can't foresee: too many nodes, of an action that makes one; and by a
+-- verdict that it doesn't know, of an action that doesn't end its node
 abbrev pub IsUnforeseen : Option Outcome → ActionKind → Refusal → Type 0
 IsUnforeseen known act TooManyNodes = is_some (makes act) ≡ true
 IsUnforeseen None act DomainFailed = ends_node act ≡ false
@@ -62,7 +65,8 @@ abbrev pub IsAnswer : Option Refusal → Option Outcome → ActionKind → Refus
 IsAnswer (Some q) known act r = r ≡ q
 IsAnswer None known act r = IsUnforeseen known act r
 
--- the same by what a handle knew before a call: a verdict that it hadn't known may come before what is due
+-- the same by what a handle knew before a call: a verdict that it hadn't known may come before what
+-- is due
 abbrev pub MayAnswer : Option Refusal → Option Outcome → ActionKind → Refusal → Type 0
 MayAnswer None known act r = IsUnforeseen known act r
 MayAnswer (Some q) None act DomainFailed = Unit {0}
@@ -73,4 +77,5 @@ MayAnswer (Some q) known act r = r ≡ q
 abbrev pub IsDisputed : BookFacts → List ℕ → Option Outcome → ℕ → Type 0
 IsDisputed b path None i = ⊥
 IsDisputed b path (Some o) i =
-    (outcome_refusal o path ≡ None) × IfSome (slice_get b.state.tree.nodes i) (λ n. n.is_left_out ≡ true)
+    (outcome_refusal o path ≡ None)
+    × IfSome (slice_get b.state.tree.nodes i) (λ n. n.is_left_out ≡ true)

@@ -20,7 +20,8 @@ first_kid r p i (n ∷ nodes) = if is_some (kid_of r p n) then Some i else first
 -- for each node its first child in the domain that r roots, and for each child its next sibling
 -- there, among the nodes from number i on
 pub record AreLinks (nodes : List NodeFacts) (r i : ℕ) (links : Links) : Type 0 where
-  pub first : (p : ℕ) → p < MOST_NODES → slice_get links.first p ≡ Some (first_kid r p i (drop i nodes))
+  pub first : (p : ℕ) → p < MOST_NODES
+      → slice_get links.first p ≡ Some (first_kid r p i (drop i nodes))
   pub next : (k p : ℕ) (n : NodeFacts) → i ≤ k → slice_get nodes k ≡ Some n
       → is_some (kid_of r p n) ≡ true
       → slice_get links.next k ≡ Some (first_kid r p (k + 1) (drop (k + 1) nodes))

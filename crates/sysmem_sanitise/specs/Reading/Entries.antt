@@ -56,8 +56,8 @@ abbrev pub with_asked : Option Field → Field → List Entry → List AskedPair
 with_asked lack field entries pairs asked = do
   fitting ← passing (wrong code.TiledMisfit field)
       (λ pair. not (asks_misfit pair.format pair.modifier)) asked
-  roomy ← passing (wrong code.TooMany field) (λ _. nat_lt (length entries + length pairs) MOST_ENTRIES)
-      fitting
+  roomy ← passing (wrong code.TooMany field)
+      (λ _. nat_lt (length entries + length pairs) MOST_ENTRIES) fitting
   new ← passing (wrong code.RepeatedPair field)
       (λ pair. not (is_asked_already entries pair || has_asked pairs pair)) roomy
   kept lack field (pairs ++ new ∷ [])

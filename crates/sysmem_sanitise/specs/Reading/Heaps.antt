@@ -103,7 +103,8 @@ permitted_heap lack d = do
 abbrev pub with_permitted : Option Field → List HeapName → Data → Result (List HeapName) Fault
 with_permitted lack heaps d = do
   heap ← permitted_heap lack d
-  roomy ← passing (wrong code.TooMany field.PermittedHeaps) (λ _. nat_lt (length heaps) MOST_HEAPS) heap
+  roomy ← passing (wrong code.TooMany field.PermittedHeaps)
+      (λ _. nat_lt (length heaps) MOST_HEAPS) heap
   new ← passing (wrong code.RepeatedHeap field.PermittedHeaps)
       (λ heap. not (has_permitted heaps heap)) roomy
   kept lack field.PermittedHeaps (heaps ++ new ∷ [])
