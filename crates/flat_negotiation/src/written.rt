@@ -9,7 +9,7 @@ use crate::flat::{FlatImage, FlatSettings};
 use flat_parts::{code_of, colour_bit, layout_in, modifier_code, no_layout};
 use sysmem_formats::{ColourSpace, Offer, Pair};
 use sysmem_image::laws::no_corner;
-use sysmem_image::{Corner, ImageBounds, corner};
+use sysmem_image::{Corner, corner};
 use sysmem_memory::CoherencyDomain;
 use sysmem_merge::Settings;
 

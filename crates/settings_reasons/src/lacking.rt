@@ -4,7 +4,7 @@ use crate::listed::is_taken;
 use crate::offer_words::pair_name;
 use crate::rows::{Row, add, tell, tell_rows};
 use explanation_text::Items;
-use std::alloc::{AllocError, Global};
+use std::alloc::AllocError;
 use sysmem_image::{ColourSet, Entry};
 use sysmem_memory::Heap;
 use sysmem_sanitise::Platform;

@@ -8,7 +8,7 @@ ghost use Rattle.sysmem_merge.specs.Pairs.{ArePairsKept, IsPairKept};
 use crate::pair::KeptPair;
 use std::alloc::{AllocError, Global};
 use sysmem_formats::Pair;
-use sysmem_image::{Entry, FirstMatches};
+use sysmem_image::FirstMatches;
 
 /// What is kept of each pair before any participant, in the order of the pairs.
 pub(crate) fn kept_pairs(alloc: Global, pairs: &[Pair]) -> Result<Vec<KeptPair>, AllocError>
