@@ -111,7 +111,8 @@ fn permitted(
     }))
 }
 
-/// The index of the first heap of a list that the platform lacks and that nearly has the name of this one.
+/// The index of the first heap of a list that the platform lacks and that nearly has the name of
+/// this one.
 fn near_in(
     alloc: Global,
     list: &[Value],
@@ -127,7 +128,8 @@ fn near_in(
     Ok(None)
 }
 
-/// The constraints with the heap of an index in the place of one that nearly has its name and isn't there; `None` where none is.
+/// The constraints with the heap of an index in the place of one that nearly has its name and isn't
+/// there; `None` where none is.
 pub(crate) fn meaning(
     alloc: Global,
     value: &Value,

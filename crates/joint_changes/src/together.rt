@@ -397,7 +397,8 @@ impl Joint<'_, '_> {
     /// What the domain becomes by some changes, if it is chosen then with a row that may be meant.
     fn outcome(&self, alloc: Global, parts: &[Part]) -> Result<Option<String>, AllocError>
         ensures { IfOk result (λ said. IfSome said (λ what. IsPromisedSo
-            self.now.group.setting.now.platform.now (map call_seen self.now.group.setting.now.calls.now)
+            self.now.group.setting.now.platform.now
+            (map call_seen self.now.group.setting.now.calls.now)
             self.now.group.path.now (string_bytes what))) }
     {
         if self.leave_none_after(alloc, parts)? {
@@ -410,7 +411,8 @@ impl Joint<'_, '_> {
     /// The same where participants state this.
     fn outcome_of(&self, alloc: Global, stated: &[Stated]) -> Result<Option<String>, AllocError>
         ensures { IfOk result (λ said. IfSome said (λ what. IsPromisedSo
-            self.now.group.setting.now.platform.now (map call_seen self.now.group.setting.now.calls.now)
+            self.now.group.setting.now.platform.now
+            (map call_seen self.now.group.setting.now.calls.now)
             self.now.group.path.now (string_bytes what))) }
     {
         let calls = restated(alloc, self.group.setting.calls, stated)?;

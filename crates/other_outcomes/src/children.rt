@@ -133,7 +133,8 @@ fn outcome_with(
     }
 }
 
-/// The same of two names, whatever it is.
+/// What the report would say last of the domain at a path if each call on one of two names were made
+/// on the other; `None` where it would say nothing, and where nothing more is to be tried.
 fn outcome_exchanged(
     alloc: Global,
     setting: &Setting<'_>,

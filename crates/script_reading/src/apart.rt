@@ -15,8 +15,8 @@ use std::alloc::Global;
 
 /// Whether another actor made a call on the same name before.
 fn is_shared(before: &[Call<'_>], call: &Call<'_>) -> bool
-    ensures { result
-        ≡ list_any (λ c. (c.place == call.now.place) && not (c.actor == call.now.actor)) before.now }
+    ensures { result ≡ list_any (λ c. (c.place == call.now.place)
+        && not (c.actor == call.now.actor)) before.now }
 {
     before.iter().any(|other| other.place == call.place && other.actor != call.actor)
 }

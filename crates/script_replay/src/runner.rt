@@ -94,10 +94,12 @@ impl Runner {
         requires idle { next_ready (state_of self.old).book ≡ None }
         ensures goes { OnOk result (GoesIn number (state_of self.old) (call_seen call.now ∷ [])
             (state_of self.new) (string_bytes text.old) (string_bytes text.new)
-            (D.gave decider.old self.old.book.platform) (D.gave decider.new self.old.book.platform)) }
+            (D.gave decider.old self.old.book.platform)
+            (D.gave decider.new self.old.book.platform)) }
         ensures idle { OnOk result (next_ready (state_of self.new).book ≡ None) }
         ensures stops { IfErr result (λ stop. IfObjects stop (StopsIn number (state_of self.old)
-            (call_seen call.now ∷ []) (state_of self.new) (D.gave decider.old self.old.book.platform)
+            (call_seen call.now ∷ []) (state_of self.new)
+            (D.gave decider.old self.old.book.platform)
             (D.gave decider.new self.old.book.platform) (D.objects decider.new))) }
         ensures given { D.given decider.new ≡ D.given decider.old }
     {
@@ -142,7 +144,8 @@ impl Runner {
     ) -> Result<(), Stop>
         ensures goes { OnOk result ((number : ℕ) → GoesIn number (state_of self.old) []
             (state_of self.new) (string_bytes text.old) (string_bytes text.new)
-            (D.gave decider.old self.old.book.platform) (D.gave decider.new self.old.book.platform)) }
+            (D.gave decider.old self.old.book.platform)
+            (D.gave decider.new self.old.book.platform)) }
         ensures idle { OnOk result (next_ready (state_of self.new).book ≡ None) }
         ensures stops { IfErr result (λ stop. IfObjects stop (λ objection. (number : ℕ)
             → StopsIn number (state_of self.old) [] (state_of self.new)
@@ -168,7 +171,8 @@ impl Runner {
         requires waits { MayWait (state_of self.old).book.tree domain }
         ensures lines { OnOk result (DecidesIn (state_of self.old) (state_of self.new)
             (string_bytes text.old) (string_bytes text.new)
-            (D.gave decider.old self.old.book.platform) (D.gave decider.new self.old.book.platform)) }
+            (D.gave decider.old self.old.book.platform)
+            (D.gave decider.new self.old.book.platform)) }
         ensures grows { OnOk result (length self.new.book.history
             ≡ length self.old.book.history + 1) }
         ensures few { OnOk result (length self.new.book.history ≤ 639) }

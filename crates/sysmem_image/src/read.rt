@@ -46,12 +46,16 @@ pub struct BoundsRead {
     ghost min_width_some: { 1 ≤ min_size.width },
     ghost min_height_some: { 1 ≤ min_size.height },
     ghost min_row_some: { 1 ≤ min_bytes_per_row },
-    ghost width_alignment_some: { IfSome size_alignment (λ s. 1 ≤ s.width) } by { Prim.hlevel props },
-    ghost height_alignment_some: { IfSome size_alignment (λ s. 1 ≤ s.height) } by { Prim.hlevel props },
+    ghost width_alignment_some: { IfSome size_alignment
+        (λ s. 1 ≤ s.width) } by { Prim.hlevel props },
+    ghost height_alignment_some: { IfSome size_alignment
+        (λ s. 1 ≤ s.height) } by { Prim.hlevel props },
     ghost row_divisor_some: { IfSome bytes_per_row_divisor (λ n. 1 ≤ n) } by { Prim.hlevel props },
     ghost start_divisor_some: { IfSome start_offset_divisor (λ n. 1 ≤ n) } by { Prim.hlevel props },
-    ghost display_width_some: { IfSome display_rect_alignment (λ s. 1 ≤ s.width) } by { Prim.hlevel props },
-    ghost display_height_some: { IfSome display_rect_alignment (λ s. 1 ≤ s.height) } by { Prim.hlevel props },
+    ghost display_width_some: { IfSome display_rect_alignment
+        (λ s. 1 ≤ s.width) } by { Prim.hlevel props },
+    ghost display_height_some: { IfSome display_rect_alignment
+        (λ s. 1 ≤ s.height) } by { Prim.hlevel props },
 }
 
 macro_rules! own_read {

@@ -89,7 +89,8 @@ impl Tree {
         requires start { layout.now.start ≤ MOST_NODES }
         requires numbers { HoldNumbers (length self.now.nodes) layout.now.places }
         requires room { (d : Forest ℕ) × (laid : IsLayout layout.now d)
-            × (length nodes.old.items + length (filter (is_marked self.now.nodes marks.now) (labels d))
+            × (length nodes.old.items
+            + length (filter (is_marked self.now.nodes marks.now) (labels d))
             ≤ vec_capacity nodes.old) }
         ensures nodes { (d : Forest ℕ) → IsLayout layout.now d → nodes.new.items
             ≡ nodes.old.items ++ filter (is_marked self.now.nodes marks.now) (labels d) }
